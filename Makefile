@@ -1,0 +1,5 @@
+# `make run` tries the sample, `make test` proves and tests everything.
+.PHONY: test
+
+test:
+	@rt ci
