@@ -1,0 +1,46 @@
+-- What each key of a feature map enables, and the keys that serve an at-least-one group, as tables of texts.
+use Rattle.std.specs.Prelude.{◌≡◌, ◌≢◌, ℕ, List, [], ◌∷◌, ◌++◌, Option, IfSome, IsSome, Bool, IsTrue, ◌↔◌}
+use Rattle.std.specs.BTreeSet.{BTreeSet, contains_by}
+use Rattle.std.specs.BTreeMap.{BTreeMap, get_by}
+use Rattle.std.specs.Cmp.Lexicographic.{slice_cmp}
+use Rattle.std.specs.Ordering.{nat_cmp}
+use Rattle.std.specs.Borrow.{Bor}
+use Rattle.hack_features.specs.Names.{Name}
+use Rattle.hack_features.specs.FeatureMap.{FeatureMap, IsKey, Enables, EnablesOneOf}
+
+-- a set of texts
+abbrev pub NameSet : Type 0
+NameSet = BTreeSet (Bor Name)
+
+-- the set has the name
+abbrev pub has_name : NameSet → Name → Bool
+has_name s x = contains_by (λ (k : Bor Name). slice_cmp nat_cmp x k.now) s
+
+-- what a map from texts has at a name
+abbrev pub get_at : {V : Type 0} → BTreeMap (Bor Name) V → Name → Option V
+get_at m x = get_by (λ (k : Bor Name). slice_cmp nat_cmp x k.now) m
+
+-- the set has exactly what x enables, without x
+abbrev pub IsDepsOf : FeatureMap → Name → NameSet → Type 0
+IsDepsOf m x s = (y : Name) → IsTrue (has_name s y) ↔ ((y ≢ x) × Enables m x y)
+
+-- each key has what it enables without it, and no other name is there
+pub record AreDepsOf (m : FeatureMap) (deps : BTreeMap (Bor Name) NameSet) : Type 0 where
+  pub keys : (x : Name) → IsSome (get_at deps x) ↔ IsKey m x
+  pub each : (x : Name) → IfSome (get_at deps x) (IsDepsOf m x)
+
+-- the set has exactly the keys that enable a name of the group
+abbrev pub AreServers : FeatureMap → List Name → NameSet → Type 0
+AreServers m group s = (x : Name) → IsTrue (has_name s x) ↔ EnablesOneOf m group x
+
+-- no key enables a name of the group
+abbrev pub IsDropped : FeatureMap → List Name → Type 0
+IsDropped m group = (x : Name) → ¬ EnablesOneOf m group x
+
+-- for each group that isn't dropped, in their order, the set of its keys, which is not empty
+pub data ServeGroups (m : FeatureMap) : List (List Name) → List NameSet → Type 0 where
+  none : ServeGroups m [] []
+  dropped : {group : List Name} {groups : List (List Name)} {sets : List NameSet}
+      → ServeGroups m groups sets → IsDropped m group → ServeGroups m (groups ++ group ∷ []) sets
+  kept : {group : List Name} {groups : List (List Name)} {sets : List NameSet} {server : Name} {set : NameSet}
+      → ServeGroups m groups sets → EnablesOneOf m group server → AreServers m group set → ServeGroups m (groups ++ group ∷ []) (sets ++ set ∷ [])

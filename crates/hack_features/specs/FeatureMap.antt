@@ -1,0 +1,60 @@
+-- What a package's feature map says: which names enable a name, and which reach it.
+use Rattle.std.specs.Prelude.{◌≡◌, ◌==◌, ℕ, List, map, String, Vec, string_bytes, unwrap_or, is_some, IsTrue, Contains, codes, nat_eq, ◌↔◌}
+use Rattle.std.specs.List.{starts_with, before_first}
+use Rattle.std.specs.BTreeMap.{BTreeMap}
+use Rattle.std.specs.Map.{lookup}
+use Rattle.std.specs.Str.{bytes_eq}
+use Rattle.hack_features.specs.Names.{Name, names_of}
+
+-- a feature map: names, each with its values
+abbrev pub FeatureMap : Type 0
+FeatureMap = List (Name × List Name)
+
+-- the feature map that a map of texts is
+abbrev pub feature_map : {Y Z : Type 0} → BTreeMap (String Y) (Vec (String Y) Z) → FeatureMap
+feature_map m = map (λ e. (string_bytes e.0, names_of e.1.items)) m.entries
+
+-- the values of a name, none where it is no key
+abbrev pub values_at : FeatureMap → Name → List Name
+values_at m x = unwrap_or (lookup (bytes_eq x) m) []
+
+-- the name is a key of the map
+abbrev pub IsKey : FeatureMap → Name → Type 0
+IsKey m x = IsTrue (is_some (lookup (bytes_eq x) m))
+
+-- the value names a dependency, and no feature
+abbrev pub IsDependency : Name → Type 0
+IsDependency v = IsTrue (starts_with nat_eq v (codes "dep:"))
+
+-- a chain of edges from one name to another, also the empty one
+pub data Chain (edge : Name → Name → Type 0) : Name → Name → Type 0 where
+  here : {x : Name} → Chain edge x x
+  step : {x y z : Name} → edge x y → Chain edge y z → Chain edge x z
+
+-- v is a value of x, taken whole, and no dependency
+pub record HasEdge (m : FeatureMap) (x v : Name) : Type 0 where
+  pub value : Contains (values_at m x) v
+  pub feature : ¬ IsDependency v
+
+-- x enables y: y is x, or a chain of values leads from x to y
+abbrev pub Enables : FeatureMap → Name → Name → Type 0
+Enables m x y = Chain (HasEdge m) x y
+
+-- v is a value of x, cut before its first slash; a dependency is one too
+pub record HasCutEdge (m : FeatureMap) (x v : Name) : Type 0 where
+  pub value : Name
+  pub listed : Contains (values_at m x) value
+  pub cut : before_first (λ b. b == 47) value ≡ v
+
+-- x reaches the group: a chain of cut values, also the empty one, leads from x to a name of the group
+pub record Reaches (m : FeatureMap) (group : List Name) (x : Name) : Type 0 where
+  pub name : Name
+  pub member : Contains group name
+  pub chain : Chain (HasCutEdge m) x name
+
+-- x is a key that enables a name of the group
+pub record EnablesOneOf (m : FeatureMap) (group : List Name) (x : Name) : Type 0 where
+  pub key : IsKey m x
+  pub name : Name
+  pub member : Contains group name
+  pub chain : Enables m x name

@@ -1,0 +1,15 @@
+-- The sets that an enumeration by questions finds, and how many questions it may ask.
+use Rattle.std.specs.Prelude.{◌≢◌, ℕ, ◌*◌, ◌≤◌, List, [], length, Bool, IsTrue}
+use Rattle.hack_features.specs.Sets.{IsListing}
+
+-- a nonempty set that passes both tests
+pub record IsWhole (may complete : List ℕ → Bool) (s : List ℕ) : Type 0 where
+  pub nonempty : s ≢ []
+  pub allowed : IsTrue (may s)
+  pub completed : IsTrue (complete s)
+
+-- at most n questions for each set that passes the first test, the empty one included
+pub record IsCheap (may : List ℕ → Bool) (n asked : ℕ) : Type 0 where
+  pub sets : List (List ℕ)
+  pub all : IsListing n (λ s. IsTrue (may s)) sets
+  pub few : asked ≤ n * length sets

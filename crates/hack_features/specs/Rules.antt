@@ -1,0 +1,108 @@
+-- Which sets of features a package's powerset lists. A set is an increasing list of positions in the list of candidates.
+use Rattle.std.specs.Prelude.{◌≡◌, ◌≢◌, ◌<◌, ◌≤◌, ℕ, List, [], ◌∷◌, flat_map, length, Option, All, Contains, ◌↔◌, ◌⊎◌, Bool, not, cond}
+use Rattle.std.specs.List.{slice_index_or}
+use Rattle.hack_features.specs.Names.{Name}
+use Rattle.hack_features.specs.FeatureMap.{FeatureMap, IsKey, Enables, Reaches, EnablesOneOf}
+use Rattle.hack_features.specs.Sets.{IsSelection, IsBefore, IsWithin, Pairwise}
+
+-- what the sets of a package are chosen from, and by which rules; a candidate is the names that it stands for
+pub record Choice : Type 0 where
+  pub map : FeatureMap
+  pub candidates : List (List Name)
+  pub depth : Option ℕ
+  pub at_least_one_of : List (List Name)
+  pub exclusive : List (List Name)
+
+-- the groups that are not lifted
+abbrev pub unlifted : List (List Name) → List Bool → List (List Name)
+unlifted [] lifted = []
+unlifted (group ∷ groups) [] = group ∷ unlifted groups []
+unlifted (group ∷ groups) (lift ∷ lifted) = cond lift (unlifted groups lifted) (group ∷ unlifted groups lifted)
+
+-- the names of the candidate at a position
+abbrev pub names_at : Choice → ℕ → List Name
+names_at c p = slice_index_or c.candidates p []
+
+-- the names of a set's members, one after another
+abbrev pub names_in : Choice → List ℕ → List Name
+names_in c s = flat_map (names_at c) s
+
+-- some name of the set enables y
+pub record IsEnabledBy (c : Choice) (s : List ℕ) (y : Name) : Type 0 where
+  pub by : Name
+  pub named : Contains (names_in c s) by
+  pub chain : Enables c.map by y
+
+-- both sets enable the same names
+abbrev pub EnableTheSame : Choice → List ℕ → List ℕ → Type 0
+EnableTheSame c s t = (y : Name) → IsEnabledBy c s y ↔ IsEnabledBy c t y
+
+-- a name of the candidate at p is a key that differs from every name of the one at q and enables each of them
+pub record Spares (c : Choice) (p q : ℕ) : Type 0 where
+  pub by : Name
+  pub named : Contains (names_at c p) by
+  pub key : IsKey c.map by
+  pub enabled : All (λ y. (y ≢ by) × Enables c.map by y) (names_at c q)
+
+-- the set is redundant: a member spares a member
+pub record IsRedundant (c : Choice) (s : List ℕ) : Type 0 where
+  pub keeper : ℕ
+  pub spared : ℕ
+  pub kept : Contains s keeper
+  pub member : Contains s spared
+  pub spares : Spares c keeper spared
+
+-- not both names reach the group
+abbrev pub NotBothReach : FeatureMap → List Name → Name → Name → Type 0
+NotBothReach m group x y = Reaches m group x → Reaches m group y → ⊥
+
+-- the set is exclusive: of each group at most one of its names, repeats counted, reaches the group
+abbrev pub IsExclusive : Choice → List ℕ → Type 0
+IsExclusive c s = All (λ group. Pairwise (NotBothReach c.map group) (names_in c s)) c.exclusive
+
+-- some name of the set is a key that enables a name of the group
+pub record Serves (c : Choice) (group : List Name) (s : List ℕ) : Type 0 where
+  pub name : Name
+  pub named : Contains (names_in c s) name
+  pub enables : EnablesOneOf c.map group name
+
+-- the set is required to serve each at-least-one group that some key serves
+abbrev pub IsRequired : Choice → List ℕ → Type 0
+IsRequired c s = All (λ group. (key : Name) → EnablesOneOf c.map group key → Serves c group s) c.at_least_one_of
+
+-- the set is permitted: it keeps the depth, and is exclusive and not redundant
+pub record IsPermitted (c : Choice) (s : List ℕ) : Type 0 where
+  pub within : IsWithin c.depth s
+  pub lean : ¬ IsRedundant c s
+  pub exclusive : IsExclusive c s
+
+-- the set is listed: it isn't empty, is permitted, and serves the groups
+pub record IsListed (c : Choice) (s : List ℕ) : Type 0 where
+  pub nonempty : s ≢ []
+  pub permitted : IsPermitted c s
+  pub required : IsRequired c s
+
+-- the set has to be covered: it passes all but redundancy
+pub record IsWanted (c : Choice) (s : List ℕ) : Type 0 where
+  pub nonempty : s ≢ []
+  pub within : IsWithin c.depth s
+  pub exclusive : IsExclusive c s
+  pub required : IsRequired c s
+
+-- t covers s: it is listed, inside s, and enables the same names
+pub record Covers (c : Choice) (s t : List ℕ) : Type 0 where
+  pub selection : IsSelection (length c.candidates) t
+  pub listed : IsListed c t
+  pub inside : All (Contains s) t
+  pub same : EnableTheSame c s t
+
+-- t is the first, in the order of sets, of those that cover s
+pub record IsFirstCover (c : Choice) (s t : List ℕ) : Type 0 where
+  pub covers : Covers c s t
+  pub first : (u : List ℕ) → Covers c s u → IsBefore t u ⊎ (t ≡ u)
+
+-- each candidate has one name, and no two candidates' names are the same or enable each other
+pub record AreSingle (c : Choice) : Type 0 where
+  pub one : (p : ℕ) → p < length c.candidates → length (names_at c p) ≡ 1
+  pub apart : (p q : ℕ) → p < length c.candidates → q < length c.candidates → p ≢ q → (x y : Name)
+      → Contains (names_at c p) x → Contains (names_at c q) y → (x ≢ y) × (Enables c.map x y → Enables c.map y x → ⊥)

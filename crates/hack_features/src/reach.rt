@@ -1,0 +1,78 @@
+//! A search through a feature map: all names that chains of values lead to from one name.
+
+use std::alloc::{AllocError, Global};
+use std::collections::{BTreeMap, BTreeSet};
+
+/// Which values of a name lead on, and to what name.
+#[derive(Clone, Copy)]
+pub(crate) enum Edges {
+    /// Whole values that don't begin with `dep:`: what a name enables.
+    Enabling,
+    /// Values cut before their first `/`: what a name reaches.
+    Reaching,
+}
+
+impl Edges {
+    /// The name that a value leads to.
+    fn target(self, value: &str) -> Option<&str> {
+        match self {
+            Edges::Enabling if value.starts_with("dep:") => None,
+            Edges::Enabling => Some(value),
+            Edges::Reaching => match value.split_once('/') {
+                Some((name, _)) => Some(name),
+                None => Some(value),
+            },
+        }
+    }
+}
+
+/// The names found so far, in the order in which they were found, each once.
+#[derive(Drop)]
+struct Found<'a> {
+    order: Vec<&'a str>,
+    seen: BTreeSet<&'a str>,
+}
+
+impl<'a> Found<'a> {
+    /// Adds a name unless it was found before.
+    fn add(&mut self, name: &'a str) -> Result<(), AllocError> {
+        if !self.seen.contains(name) {
+            self.seen.insert(name)?;
+            self.order.push(name)?;
+        }
+        Ok(())
+    }
+
+    /// Adds what the values lead to.
+    fn add_targets(&mut self, values: &'a [String], edges: Edges) -> Result<(), AllocError> {
+        for value in values {
+            if let Some(name) = edges.target(value.as_str()) {
+                self.add(name)?;
+            }
+        }
+        Ok(())
+    }
+}
+
+/// The names to which a chain of values leads from `name`, `name` itself first, each once.
+pub(crate) fn names_from<'a>(
+    alloc: Global,
+    map: &'a BTreeMap<String, Vec<String>>,
+    name: &'a str,
+    edges: Edges,
+) -> Result<Vec<&'a str>, AllocError> {
+    let mut found = Found {
+        order: Vec::new(alloc),
+        seen: BTreeSet::new(alloc),
+    };
+    found.add(name)?;
+    let mut next = 0;
+    while next < found.order.len() {
+        let from = found.order[next];
+        if let Some(values) = map.get(from) {
+            found.add_targets(values.as_slice(), edges)?;
+        }
+        next += 1;
+    }
+    Ok(found.order)
+}
