@@ -5,3 +5,6 @@ pub mod Feature
 pub mod Sets
 pub mod Rules
 pub mod Questions
+pub mod Tables
+pub mod View
+pub mod Closed

@@ -1,5 +1,5 @@
 -- The sets that an enumeration by questions finds, and how many questions it may ask.
-use Rattle.std.specs.Prelude.{◌≢◌, ℕ, ◌*◌, ◌≤◌, List, [], length, Bool, IsTrue}
+use Rattle.std.specs.Prelude.{◌≢◌, ℕ, ◌*◌, ◌≤◌, List, [], ◌∷◌, ◌++◌, map, filter, length, Bool, IsTrue, ◌&&◌, ◌==◌, not}
 use Rattle.hack_features.specs.Sets.{IsListing}
 
 -- a nonempty set that passes both tests
@@ -13,3 +13,11 @@ pub record IsCheap (may : List ℕ → Bool) (n asked : ℕ) : Type 0 where
   pub sets : List (List ℕ)
   pub all : IsListing n (λ s. IsTrue (may s)) sets
   pub few : asked ≤ n * length sets
+
+-- the sets that may have the next position behind them, with it
+abbrev pub with_next : (List ℕ → Bool) → ℕ → List (List ℕ) → List (List ℕ)
+with_next may next sets = map (λ s. s ++ next ∷ []) (filter (λ s. may (s ++ next ∷ [])) sets)
+
+-- the set is not empty and complete
+abbrev pub is_whole : (List ℕ → Bool) → List ℕ → Bool
+is_whole complete s = not (length s == 0) && complete s

@@ -13,6 +13,7 @@ pub struct Rules<'a> {
     given: Given<'a>,
     tables: Tables,
     asked: u128,
+    ghost capped: { asked ≤ 2 ^ 128 - 1 },
 }
 
 impl<'a> Rules<'a> {
@@ -132,6 +133,20 @@ fn is_spare(
 }
 
 impl Questions for Rules<'_> {
+    ghost use Rattle.std.specs.Prelude.{◌≡◌, ◌≤◌, ◌-◌, ◌^◌, ℕ, List, length};
+    ghost use Rattle.hack_features.specs.View.{choice_of, may_of, whole_of};
+    ghost use Rattle.hack_features.specs.Closed.{may_of-empty, may_of-remove};
+
+    ghost choice = { choice_of };
+
+    ghost size = { λ r. length r.given.features.now };
+
+    ghost may = { may_of };
+
+    ghost whole = { whole_of };
+
+    ghost count = { λ r. r.asked };
+
     fn may_extend(&mut self, positions: &[usize], next: usize) -> bool {
         self.asked = self.asked.saturating_add(1);
         keeps_depth(self.given.depth, positions.len() + 1)
@@ -146,6 +161,12 @@ impl Questions for Rules<'_> {
     fn asked(&self) -> u128 {
         self.asked
     }
+
+    ghost empty = { may_of-empty };
+
+    ghost capped = { λ r. r.capped };
+
+    ghost closed = { may_of-remove };
 }
 
 /// The candidates at the positions.

@@ -1,0 +1,6 @@
+pub mod Members
+pub mod Listing
+pub mod Permitted
+pub mod Coverage
+pub mod Single
+pub mod Passes

@@ -1,0 +1,89 @@
+use Rattle.std.proofs.Common.{◌≡◌, ◌≢◌, ℕ, zero, suc, ◌+◌, ◌<◌, ◌≤◌, List, [], ◌∷◌, ◌++◌, length, get_or, refl, sym, ◌∙◌, ap, subst, arith, Option, None, Some, Bool, true, false, cond, ◌⊎◌, inl, inr, ◌↔◌, All, Contains, IsTrue, is_some, unwrap_or}
+use Rattle.std.specs.Map.{lookup}
+use Rattle.std.specs.Str.{bytes_eq}
+use Rattle.std.proofs.lemmas.Bool.Decides.{eqb_tells, leb_tells}
+use Rattle.std.proofs.lemmas.List.Elements.{All-contains, All-cons, All-nil, Contains-append_cases, Contains-append_left, Contains-append_right}
+use Rattle.hack_features.proofs.Members.{Contains-nil, Contains-cons_cases, Contains-head, Contains-tail}
+use Rattle.hack_features.proofs.Coverage.{Chain-append, named_in}
+use Rattle.hack_features.specs.Names.{Name}
+use Rattle.hack_features.specs.FeatureMap.{FeatureMap, values_at, IsKey, HasEdge, Chain, here, step, Enables}
+use Rattle.hack_features.specs.Sets.{IsSelection, IsBefore}
+use Rattle.hack_features.specs.Rules.{Choice, names_at, names_in, IsEnabledBy, Spares, IsRedundant}
+
+-- each candidate has one name, no two the same and no two that enable each other
+pub record AreSingle (c : Choice) : Type 0 where
+  pub name : ℕ → Name
+  pub one : (p : ℕ) → p < length c.candidates → names_at c p ≡ name p ∷ []
+  pub apart : (p q : ℕ) → p < length c.candidates → q < length c.candidates → Enables c.map (name p) (name q) → Enables c.map (name q) (name p) → p ≡ q
+
+-- a name of the set is a name of a member
+member_of : (c : Choice) (s : List ℕ) (x : Name) → Contains (names_in c s) x → (p : ℕ) × Contains s p × Contains (names_at c p) x
+member_of c [] x h = absurd (Contains-nil x h)
+member_of c (p ∷ s) x h =
+    elim (Contains-append_cases (names_at c p) (names_in c s) x h) [
+      | inl w ↦ (p, Contains-head p s, w)
+      | inr w ↦ let r = member_of c s x w in (r.0, Contains-tail p s r.0 r.1, r.2)
+    ]
+
+key-go : (m : FeatureMap) (x v : Name) (o : Option (List Name)) → lookup (bytes_eq x) m ≡ o → Contains (unwrap_or o []) v → is_some o ≡ true
+key-go m x v None e h = absurd (Contains-nil v h)
+key-go m x v (Some vs) e h = refl
+
+-- what enables another name is a key
+key_from : (m : FeatureMap) {x y : Name} → Enables m x y → x ≢ y → IsKey m x
+key_from m here ne = absurd (ne refl)
+key_from m (step {x} {y} {z} e c) ne = key-go m x y (lookup (bytes_eq x) m) refl e.value
+
+module _ (c : Choice) (h : AreSingle c) (s t : List ℕ) (hs : IsSelection (length c.candidates) s) (ht : IsSelection (length c.candidates) t)
+    (lean : ¬ IsRedundant c s) (same : (y : Name) → IsEnabledBy c s y ↔ IsEnabledBy c t y) where
+  -- the name of a member
+  named : (p : ℕ) (x : Name) → p < length c.candidates → Contains (names_at c p) x → h.name p ≡ x
+  named p x lt n = elim (Contains-cons_cases (h.name p) [] x (subst (λ l. Contains l x) (h.one p lt) n)) [ inl e ↦ e | inr w ↦ absurd (Contains-nil x w) ]
+
+  has : (p : ℕ) → p < length c.candidates → Contains (names_at c p) (h.name p)
+  has p lt = subst (λ l. Contains l (h.name p)) (sym (h.one p lt)) (Contains-head (h.name p) [])
+
+  -- each position of s is one of t
+  pub inside : (p : ℕ) → Contains s p → Contains t p
+  inside p ps =
+      let pl : p < length c.candidates = All-contains (λ p. p < length c.candidates) s p hs.below ps in
+      let e = (same (h.name p)).0 (record { by = h.name p; named = named_in c s p (h.name p) ps (has p pl); chain = here }) in
+      let q = member_of c t e.by e.named in
+      let ql : q.0 < length c.candidates = All-contains (λ p. p < length c.candidates) t q.0 ht.below q.1 in
+      let f = (same e.by).1 (record { by = e.by; named = e.named; chain = here }) in
+      let r = member_of c s f.by f.named in
+      let rl : r.0 < length c.candidates = All-contains (λ p. p < length c.candidates) s r.0 hs.below r.1 in
+      let qp : Enables c.map (h.name q.0) (h.name p) = subst (λ y. Enables c.map y (h.name p)) (sym (named q.0 e.by ql q.2)) e.chain in
+      let rq : Enables c.map (h.name r.0) (h.name q.0) = subst (λ z. Enables c.map z (h.name q.0)) (sym (named r.0 f.by rl r.2)) (subst (λ y. Enables c.map f.by y) (sym (named q.0 e.by ql q.2)) f.chain) in
+      elim (eqb_tells r.0 p) [
+        | inl w ↦ subst (λ i. Contains t i) (h.apart q.0 p ql pl qp (subst (λ i. Enables c.map (h.name i) (h.name q.0)) w.1 rq)) q.1
+        | inr w ↦
+            let rp = Chain-append rq qp in
+            let ne : h.name p ≢ h.name r.0 = λ e. w.1 (h.apart r.0 p rl pl rp (subst (λ y. Enables c.map (h.name p) y) e here)) in
+            absurd (lean (record {
+              keeper = r.0;
+              spared = p;
+              kept = r.1;
+              member = ps;
+              spares = record {
+                by = h.name r.0;
+                named = has r.0 rl;
+                key = key_from c.map rp (λ e. ne (sym e));
+                enabled = subst (λ l. All (λ y. (y ≢ h.name r.0) × Enables c.map (h.name r.0) y) l) (sym (h.one p pl)) (All-cons (λ y. (y ≢ h.name r.0) × Enables c.map (h.name r.0) y) (h.name p) [] (ne, rp) (All-nil (λ y. (y ≢ h.name r.0) × Enables c.map (h.name r.0) y)));
+              };
+            }))
+      ]
+
+-- the order is strict
+pub before_strict : (s : List ℕ) → IsBefore s s → ⊥
+before_strict s h = h.absent h.present
+
+-- one set before another isn't behind it
+pub before_apart : (s t : List ℕ) → IsBefore s t → IsBefore t s → ⊥
+before_apart s t a b = elim (eqb_tells a.greatest b.greatest) [
+  | inl e ↦ b.absent (subst (λ p. Contains t p) e.1 a.present)
+  | inr e ↦ elim (leb_tells a.greatest b.greatest) [
+    | inl l ↦ b.absent ((a.above b.greatest (let ne : a.greatest ≢ b.greatest = e.1 in let le : a.greatest ≤ b.greatest = l.1 in omega arith)).0 b.present)
+    | inr g ↦ a.absent ((b.above a.greatest g.1).0 a.present)
+  ]
+]
