@@ -4,3 +4,5 @@ pub mod Permitted
 pub mod Coverage
 pub mod Single
 pub mod Passes
+pub mod Steps
+pub mod TableLemmas

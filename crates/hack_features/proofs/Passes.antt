@@ -42,7 +42,8 @@ any_passes p (y ∷ xs) x c e =
 
 -- a member of the list without a place is a member of the list
 pub removed_member : {X : Type 0} (xs : List X) (i : ℕ) (x : X) → Contains (remove xs i) x → Contains xs x
-removed_member [] i x c = absurd (Contains-nil x c)
+removed_member [] zero x c = absurd (Contains-nil x c)
+removed_member [] (suc i) x c = absurd (Contains-nil x c)
 removed_member (y ∷ xs) zero x c = Contains-tail y xs x c
 removed_member (y ∷ xs) (suc i) x c =
     elim (Contains-cons_cases y (remove xs i) x c) [
@@ -52,6 +53,7 @@ removed_member (y ∷ xs) (suc i) x c =
 
 -- a sum without a place is no greater
 pub sum_by-remove-le : {X : Type 0} (f : X → ℕ) (xs : List X) (i : ℕ) → sum_by f (remove xs i) ≤ sum_by f xs
-sum_by-remove-le f [] i = omega arith
+sum_by-remove-le f [] zero = omega arith
+sum_by-remove-le f [] (suc i) = omega arith
 sum_by-remove-le f (x ∷ xs) zero = omega (arith, sum_by-cons f x xs)
 sum_by-remove-le f (x ∷ xs) (suc i) = omega (arith, sum_by-cons f x xs, sum_by-cons f x (remove xs i), sum_by-remove-le f xs i)

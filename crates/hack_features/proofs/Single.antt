@@ -17,7 +17,7 @@ pub record AreSingle (c : Choice) : Type 0 where
   pub apart : (p q : ℕ) → p < length c.candidates → q < length c.candidates → Enables c.map (name p) (name q) → Enables c.map (name q) (name p) → p ≡ q
 
 -- a name of the set is a name of a member
-member_of : (c : Choice) (s : List ℕ) (x : Name) → Contains (names_in c s) x → (p : ℕ) × Contains s p × Contains (names_at c p) x
+pub member_of : (c : Choice) (s : List ℕ) (x : Name) → Contains (names_in c s) x → (p : ℕ) × Contains s p × Contains (names_at c p) x
 member_of c [] x h = absurd (Contains-nil x h)
 member_of c (p ∷ s) x h =
     elim (Contains-append_cases (names_at c p) (names_in c s) x h) [
@@ -30,7 +30,7 @@ key-go m x v None e h = absurd (Contains-nil v h)
 key-go m x v (Some vs) e h = refl
 
 -- what enables another name is a key
-key_from : (m : FeatureMap) {x y : Name} → Enables m x y → x ≢ y → IsKey m x
+pub key_from : (m : FeatureMap) {x y : Name} → Enables m x y → x ≢ y → IsKey m x
 key_from m here ne = absurd (ne refl)
 key_from m (step {x} {y} {z} e c) ne = key-go m x y (lookup (bytes_eq x) m) refl e.value
 

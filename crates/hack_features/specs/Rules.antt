@@ -37,12 +37,16 @@ pub record IsEnabledBy (c : Choice) (s : List ℕ) (y : Name) : Type 0 where
 abbrev pub EnableTheSame : Choice → List ℕ → List ℕ → Type 0
 EnableTheSame c s t = (y : Name) → IsEnabledBy c s y ↔ IsEnabledBy c t y
 
--- a name of the candidate at p is a key that differs from every name of the one at q and enables each of them
-pub record Spares (c : Choice) (p q : ℕ) : Type 0 where
+-- a name of the first candidate is a key that differs from every name of the second and enables each of them
+pub record SparesNames (m : FeatureMap) (names others : List Name) : Type 0 where
   pub by : Name
-  pub named : Contains (names_at c p) by
-  pub key : IsKey c.map by
-  pub enabled : All (λ y. (y ≢ by) × Enables c.map by y) (names_at c q)
+  pub named : Contains names by
+  pub key : IsKey m by
+  pub enabled : All (λ y. (y ≢ by) × Enables m by y) others
+
+-- the candidate at p spares the one at q
+abbrev pub Spares : Choice → ℕ → ℕ → Type 0
+Spares c p q = SparesNames c.map (names_at c p) (names_at c q)
 
 -- the set is redundant: a member spares a member
 pub record IsRedundant (c : Choice) (s : List ℕ) : Type 0 where

@@ -1,6 +1,13 @@
 -- What tables answer on sets, entry by entry.
-use Rattle.std.specs.Prelude.{ℕ, List, [], Bool, false, true, not, nat_le, sum_by, length, Option, None, Some}
-use Rattle.std.specs.List.{slice_index_or, list_all, list_any}
+use Rattle.std.specs.Prelude.{◌≡◌, ◌<◌, ◌+◌, ℕ, List, [], ◌∷◌, ◌++◌, Bool, false, true, not, nat_le, sum_by, length, Option, None, Some, IsTrue, ◌↔◌}
+use Rattle.std.specs.List.{slice_index_or, list_all, list_any, filter_map}
+use Rattle.std.specs.BTreeMap.{BTreeMap}
+use Rattle.std.specs.Borrow.{Bor}
+use Rattle.hack_features.specs.Names.{Name}
+use Rattle.hack_features.specs.FeatureMap.{FeatureMap, Reaches}
+use Rattle.hack_features.specs.Deps.{NameSet, has_name, get_at}
+use Rattle.hack_features.specs.Sets.{IsSelection}
+use Rattle.hack_features.specs.Rules.{Choice, Spares, IsExclusive, IsRequired}
 
 -- the entry of a row, false past its end
 abbrev pub bit : List Bool → ℕ → Bool
@@ -30,3 +37,32 @@ is_exclusive rows s = list_all (λ row. nat_le (sum_by (count_at row) s) 1) rows
 -- in each row some member has an entry
 abbrev pub is_required : List (List Bool) → List ℕ → Bool
 is_required rows s = list_all (λ row. list_any (bit row) s) rows
+
+-- the deps of some name have all of the other names
+abbrev pub spares_test : BTreeMap (Bor Name) NameSet → List Name → List Name → Bool
+spares_test deps names others = list_any (λ set. list_all (has_name set) others) (filter_map (get_at deps) names)
+
+-- so many of the elements have the property
+pub data Counts {X : Type 0} (P : X → Type 0) : List X → ℕ → Type 0 where
+  none : Counts P [] 0
+  one_more : {xs : List X} {x : X} {n : ℕ} → Counts P xs n → P x → Counts P (xs ++ x ∷ []) (n + 1)
+  no_more : {xs : List X} {x : X} {n : ℕ} → Counts P xs n → ¬ P x → Counts P (xs ++ x ∷ []) n
+
+-- the relation holds of the lists' elements, place by place
+pub data Matched {X Y : Type 0} (R : X → Y → Type 0) : List X → List Y → Type 0 where
+  nothing : Matched R [] []
+  next : {xs : List X} {ys : List Y} {x : X} {y : Y} → Matched R xs ys → R x y → Matched R (xs ++ x ∷ []) (ys ++ y ∷ [])
+
+-- the row counts, for each candidate, its names that reach the group
+abbrev pub CountsHits : FeatureMap → List (List Name) → List Name → List ℕ → Type 0
+CountsHits m candidates group row = (q : ℕ) → q < length candidates → Counts (Reaches m group) (slice_index_or candidates q []) (count_at row q)
+
+-- the row says, for each candidate, whether one of its names is in the set
+abbrev pub SaysServes : List (List Name) → NameSet → List Bool → Type 0
+SaysServes candidates set row = (q : ℕ) → q < length candidates → bit row q ≡ list_any (has_name set) (slice_index_or candidates q [])
+
+-- the tables say what the rules of the choice say
+pub record AreTables (c : Choice) (spares : List (List Bool)) (hits : List (List ℕ)) (serves : List (List Bool)) : Type 0 where
+  pub spared : (p q : ℕ) → p < length c.candidates → q < length c.candidates → IsTrue (cell spares p q) ↔ Spares c p q
+  pub exclusive : (s : List ℕ) → IsSelection (length c.candidates) s → IsTrue (is_exclusive hits s) ↔ IsExclusive c s
+  pub required : (s : List ℕ) → IsSelection (length c.candidates) s → IsTrue (is_required serves s) ↔ IsRequired c s

@@ -4,7 +4,7 @@ use Rattle.std.specs.BTreeMap.{BTreeMap}
 use Rattle.std.specs.Borrow.{Bor}
 use Rattle.hack_features.specs.declared.feature.Feature.{Feature}
 use Rattle.hack_features.specs.declared.rules.Rules.{Rules}
-use Rattle.hack_features.specs.declared.tables.Tables.{Tables}
+use Rattle.hack_features.specs.declared.tables.Given.{Given}
 use Rattle.hack_features.specs.FeatureMap.{feature_map}
 use Rattle.hack_features.specs.Feature.{groups_of, candidates_of}
 use Rattle.hack_features.specs.Sets.{rows_of}
@@ -21,9 +21,13 @@ choice features depth at_least_one_of exclusive m lifted = record {
   exclusive = unlifted (groups_of exclusive) lifted;
 }
 
+-- the choice that is given
+abbrev pub choice_in : Given → Choice
+choice_in g = choice g.features.now g.depth g.at_least_one_of.now g.exclusive.now g.map.now g.lifted.now
+
 -- the choice that the rules were made for
 abbrev pub choice_of : Rules → Choice
-choice_of r = choice r.given.features.now r.given.depth r.given.at_least_one_of.now r.given.exclusive.now r.given.map.now r.given.lifted.now
+choice_of r = choice_in r.given
 
 -- whether a set is permitted, as the tables answer it
 abbrev pub may_of : Rules → List ℕ → Bool

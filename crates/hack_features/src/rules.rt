@@ -1,5 +1,9 @@
 //! The rules by which sets of features are listed, and the list of a package's sets.
 
+ghost use Rattle.std.specs.Prelude.{◌≡◌, ◌≢◌, ◌≤◌, ◌-◌, ◌^◌, ◌+◌, ◌<◌, ◌++◌, ◌∷◌, ◌↔◌, ◌⊎◌, ℕ, List, [], length, All, IsTrue, IfOk, MatchOption, Contains};
+ghost use Rattle.hack_features.specs.Sets.{IsSelection, ListsSelections, rows_of};
+ghost use Rattle.hack_features.specs.Rules.{Choice, IsPermitted, IsRequired, IsExclusive, IsListed, IsFirstCover, IsWanted, Covers, AreSingle, EnableTheSame};
+
 use crate::deps::feature_deps;
 use crate::feature::Feature;
 use crate::questions::{Questions, pruned};

@@ -1,6 +1,15 @@
 //! The tables that answer questions on sets: who spares whom, how many names of a candidate reach an exclusion
 //! group, and which candidates serve an at-least-one group.
 
+ghost use Rattle.std.specs.Prelude.{◌≡◌, ◌<◌, ◌++◌, ◌∷◌, [], ℕ, List, length, map, not, nat_le, sum_by, IfOk};
+ghost use Rattle.std.specs.List.{list_all, list_any, filter_map, slice_index_or};
+ghost use Rattle.hack_features.specs.FeatureMap.{feature_map, FeatureMap, Reaches};
+ghost use Rattle.hack_features.specs.Deps.{AreDepsOf, ServeGroups, has_name, get_at, NameSet};
+ghost use Rattle.hack_features.specs.Feature.{group_of, groups_of, candidates_of};
+ghost use Rattle.hack_features.specs.Sets.{rows_of};
+ghost use Rattle.hack_features.specs.Rules.{unlifted};
+ghost use Rattle.hack_features.specs.Tables.{bit, count_at, cell, is_lean, is_exclusive, is_required, spares_test, Counts, Matched, CountsHits, SaysServes};
+
 use crate::deps::at_least_one_of_for_package;
 use crate::feature::Feature;
 use std::alloc::{AllocError, Global};
@@ -28,44 +37,41 @@ pub(crate) struct Tables {
     pub serves: Vec<Vec<bool>>,
 }
 
-/// A key that is a name of a candidate, with what it enables.
-#[derive(Clone, Copy)]
-struct Key<'a> {
-    name: &'a str,
-    deps: &'a BTreeSet<&'a str>,
-}
-
-/// The names of a candidate that are keys.
-fn keys_of<'a>(
+/// The deps of the candidate's names that are keys.
+fn deps_of_names<'a, 'b>(
     alloc: Global,
-    feature: &'a Feature,
-    deps: &'a BTreeMap<&'a str, BTreeSet<&'a str>>,
-) -> Result<Vec<Key<'a>>, AllocError> {
-    let mut keys = Vec::new(alloc);
+    feature: &Feature,
+    deps: &'a BTreeMap<&'b str, BTreeSet<&'b str>>,
+) -> Result<Vec<&'a BTreeSet<&'b str>>, AllocError>
+    ensures { IfOk result (λ sets. map (λ set. set.now) sets.items ≡ filter_map (get_at deps.now) (group_of feature.now)) }
+{
+    let mut sets = Vec::new(alloc);
     for name in feature.as_group() {
-        if let Some(deps) = deps.get(name.as_str()) {
-            let name = name.as_str();
-            keys.push(Key { name, deps })?;
+        if let Some(set) = deps.get(name.as_str()) {
+            sets.push(set)?;
         }
     }
-    Ok(keys)
+    Ok(sets)
 }
 
-/// Whether the key differs from every name of the candidate and enables each of them.
-fn spares_all(key: Key<'_>, feature: &Feature) -> bool {
+/// Whether the set has each name of the candidate.
+fn has_all(set: &BTreeSet<&str>, feature: &Feature) -> bool
+    ensures { result ≡ list_all (has_name set.now) (group_of feature.now) }
+{
     for name in feature.as_group() {
-        let name = name.as_str();
-        if name == key.name || !key.deps.contains(name) {
+        if !set.contains(name.as_str()) {
             return false;
         }
     }
     true
 }
 
-/// Whether some key spares the candidate.
-fn some_spares(keys: &[Key<'_>], feature: &Feature) -> bool {
-    for key in keys {
-        if spares_all(*key, feature) {
+/// Whether some set has each name of the candidate.
+fn some_has_all(sets: &[&BTreeSet<&str>], feature: &Feature) -> bool
+    ensures { result ≡ list_any (λ set. list_all (has_name set) (group_of feature.now)) (map (λ set. set.now) sets.now) }
+{
+    for set in sets {
+        if has_all(*set, feature) {
             return true;
         }
     }
@@ -73,17 +79,19 @@ fn some_spares(keys: &[Key<'_>], feature: &Feature) -> bool {
 }
 
 /// The candidates that `feature` spares; no entries where it spares none, so that most questions skip the row.
-fn spare_row(
+fn spare_row<'a>(
     alloc: Global,
     feature: &Feature,
     features: &[&Feature],
-    deps: &BTreeMap<&str, BTreeSet<&str>>,
-) -> Result<Vec<bool>, AllocError> {
-    let keys = keys_of(alloc, feature, deps)?;
+    deps: &BTreeMap<&'a str, BTreeSet<&'a str>>,
+) -> Result<Vec<bool>, AllocError>
+    ensures { IfOk result (λ row. (q : ℕ) → q < length (candidates_of features.now) → bit row.items q ≡ spares_test deps.now (group_of feature.now) (slice_index_or (candidates_of features.now) q [])) }
+{
+    let sets = deps_of_names(alloc, feature, deps)?;
     let mut row = Vec::new(alloc);
     let mut some = false;
     for other in features {
-        let spares = some_spares(keys.as_slice(), *other);
+        let spares = some_has_all(sets.as_slice(), *other);
         some = some || spares;
         row.push(spares)?;
     }
@@ -91,11 +99,13 @@ fn spare_row(
 }
 
 /// For each candidate the candidates that it spares.
-fn spare_rows(
+fn spare_rows<'a>(
     alloc: Global,
     features: &[&Feature],
-    deps: &BTreeMap<&str, BTreeSet<&str>>,
-) -> Result<Vec<Vec<bool>>, AllocError> {
+    deps: &BTreeMap<&'a str, BTreeSet<&'a str>>,
+) -> Result<Vec<Vec<bool>>, AllocError>
+    ensures { IfOk result (λ rows. (p q : ℕ) → p < length (candidates_of features.now) → q < length (candidates_of features.now) → cell (rows_of rows.items) p q ≡ spares_test deps.now (slice_index_or (candidates_of features.now) p []) (slice_index_or (candidates_of features.now) q [])) }
+{
     let mut rows = Vec::new(alloc);
     for feature in features {
         rows.push(spare_row(alloc, *feature, features, deps)?)?;
@@ -109,7 +119,9 @@ fn reaching(
     group: &Feature,
     feature: &Feature,
     map: &BTreeMap<String, Vec<String>>,
-) -> Result<usize, AllocError> {
+) -> Result<usize, AllocError>
+    ensures { IfOk result (Counts (Reaches (feature_map map.now) (group_of group.now)) (group_of feature.now)) }
+{
     let mut count = 0;
     for name in feature.as_group() {
         if group.matches_recursive(alloc, name.as_str(), map)? {
@@ -125,7 +137,9 @@ fn hit_row(
     group: &Feature,
     features: &[&Feature],
     map: &BTreeMap<String, Vec<String>>,
-) -> Result<Vec<usize>, AllocError> {
+) -> Result<Vec<usize>, AllocError>
+    ensures { IfOk result (λ row. CountsHits (feature_map map.now) (candidates_of features.now) (group_of group.now) row.items) }
+{
     let mut row = Vec::new(alloc);
     for feature in features {
         row.push(reaching(alloc, group, *feature, map)?)?;
@@ -134,7 +148,9 @@ fn hit_row(
 }
 
 /// For each group that isn't lifted, how many names of each candidate reach it.
-fn hit_rows(alloc: Global, given: Given<'_>) -> Result<Vec<Vec<usize>>, AllocError> {
+fn hit_rows(alloc: Global, given: Given<'_>) -> Result<Vec<Vec<usize>>, AllocError>
+    ensures { IfOk result (λ rows. Matched (CountsHits (feature_map given.entry.map.now) (candidates_of given.entry.features.now)) (unlifted (groups_of given.entry.exclusive.now) given.entry.lifted.now) (rows_of rows.items)) }
+{
     let mut rows = Vec::new(alloc);
     for (place, group) in given.exclusive.iter().enumerate() {
         if !bit(given.lifted, place) {
@@ -144,29 +160,41 @@ fn hit_rows(alloc: Global, given: Given<'_>) -> Result<Vec<Vec<usize>>, AllocErr
     Ok(rows)
 }
 
+/// Whether the set has some name of the candidate.
+fn has_any(set: &BTreeSet<&str>, feature: &Feature) -> bool
+    ensures { result ≡ list_any (has_name set.now) (group_of feature.now) }
+{
+    for name in feature.as_group() {
+        if set.contains(name.as_str()) {
+            return true;
+        }
+    }
+    false
+}
+
 /// Which candidates have a name among the keys.
 fn serve_row(
     alloc: Global,
     features: &[&Feature],
     keys: &BTreeSet<&str>,
-) -> Result<Vec<bool>, AllocError> {
+) -> Result<Vec<bool>, AllocError>
+    ensures { IfOk result (λ row. SaysServes (candidates_of features.now) keys.now row.items) }
+{
     let mut row = Vec::new(alloc);
     for feature in features {
-        let serves = feature
-            .as_group()
-            .iter()
-            .any(|name| keys.contains(name.as_str()));
-        row.push(serves)?;
+        row.push(has_any(keys, *feature))?;
     }
     Ok(row)
 }
 
 /// For each group that some key serves, which candidates serve it.
-fn serve_rows(
+fn serve_rows<'a>(
     alloc: Global,
     given: Given<'_>,
-    deps: &BTreeMap<&str, BTreeSet<&str>>,
-) -> Result<Vec<Vec<bool>>, AllocError> {
+    deps: &BTreeMap<&'a str, BTreeSet<&'a str>>,
+) -> Result<Vec<Vec<bool>>, AllocError>
+    ensures { IfOk result (λ rows. (m : FeatureMap) → AreDepsOf m deps.now → (sets : List NameSet) × ServeGroups m (groups_of given.entry.at_least_one_of.now) sets × Matched (SaysServes (candidates_of given.entry.features.now)) sets (rows_of rows.items)) }
+{
     let mut rows = Vec::new(alloc);
     let groups = at_least_one_of_for_package(alloc, given.at_least_one_of, deps)?;
     for keys in groups.as_slice() {
@@ -176,7 +204,9 @@ fn serve_rows(
 }
 
 /// The entry of a row, false past its end.
-fn bit(row: &[bool], place: usize) -> bool {
+fn bit(row: &[bool], place: usize) -> bool
+    ensures { result ≡ bit row.now place }
+{
     match row.get(place) {
         Some(bit) => *bit,
         None => false,
@@ -184,7 +214,9 @@ fn bit(row: &[bool], place: usize) -> bool {
 }
 
 /// The entry of a row, 0 past its end.
-fn count(row: &[usize], place: usize) -> usize {
+fn count(row: &[usize], place: usize) -> usize
+    ensures { result ≡ count_at row.now place }
+{
     match row.get(place) {
         Some(count) => *count,
         None => 0,
@@ -192,7 +224,9 @@ fn count(row: &[usize], place: usize) -> usize {
 }
 
 /// Whether no entry of the row stands at one of the positions or at `last`.
-fn has_none(row: &[bool], positions: &[usize], last: usize) -> bool {
+fn has_none(row: &[bool], positions: &[usize], last: usize) -> bool
+    ensures { result ≡ list_all (λ q. not (bit row.now q)) (positions.now ++ last ∷ []) }
+{
     if row.is_empty() {
         return true;
     }
@@ -205,7 +239,9 @@ fn has_none(row: &[bool], positions: &[usize], last: usize) -> bool {
 }
 
 /// Whether the entries at the positions and at `last` are at most 1 in sum.
-fn has_at_most_one(row: &[usize], positions: &[usize], last: usize) -> bool {
+fn has_at_most_one(row: &[usize], positions: &[usize], last: usize) -> bool
+    ensures { result ≡ nat_le (sum_by (count_at row.now) (positions.now ++ last ∷ [])) 1 }
+{
     let mut seen = 0;
     for p in positions {
         let more = count(row, *p);
@@ -218,7 +254,9 @@ fn has_at_most_one(row: &[usize], positions: &[usize], last: usize) -> bool {
 }
 
 /// Whether an entry of the row stands at one of the positions.
-fn has_some(row: &[bool], positions: &[usize]) -> bool {
+fn has_some(row: &[bool], positions: &[usize]) -> bool
+    ensures { result ≡ list_any (bit row.now) positions.now }
+{
     for p in positions {
         if bit(row, *p) {
             return true;
@@ -228,11 +266,16 @@ fn has_some(row: &[bool], positions: &[usize]) -> bool {
 }
 
 impl Tables {
-    pub(crate) fn new(
+    ghost use Rattle.hack_features.specs.Tables.{AreTables};
+    ghost use Rattle.hack_features.specs.View.{choice_in};
+
+    pub(crate) fn new<'a>(
         alloc: Global,
         given: Given<'_>,
-        deps: &BTreeMap<&str, BTreeSet<&str>>,
-    ) -> Result<Tables, AllocError> {
+        deps: &BTreeMap<&'a str, BTreeSet<&'a str>>,
+    ) -> Result<Tables, AllocError>
+        ensures { IfOk result (λ t. AreDepsOf (feature_map given.entry.map.now) deps.now → AreTables (choice_in given.entry) (rows_of t.spares.items) (rows_of t.hits.items) (rows_of t.serves.items)) }
+    {
         Ok(Tables {
             spares: spare_rows(alloc, given.features, deps)?,
             hits: hit_rows(alloc, given)?,
@@ -241,7 +284,9 @@ impl Tables {
     }
 
     /// Whether the candidate spares none of those at the positions and at `last`.
-    fn spares_none(&self, p: usize, positions: &[usize], last: usize) -> bool {
+    fn spares_none(&self, p: usize, positions: &[usize], last: usize) -> bool
+        ensures { result ≡ list_all (λ q. not (cell (rows_of self.now.spares.items) p q)) (positions.now ++ last ∷ []) }
+    {
         match self.spares.get(p) {
             Some(row) => has_none(row.as_slice(), positions, last),
             None => true,
@@ -249,7 +294,9 @@ impl Tables {
     }
 
     /// Whether none of those at the positions and at `last` spares another.
-    pub(crate) fn is_lean(&self, positions: &[usize], last: usize) -> bool {
+    pub(crate) fn is_lean(&self, positions: &[usize], last: usize) -> bool
+        ensures { result ≡ is_lean (rows_of self.now.spares.items) (positions.now ++ last ∷ []) }
+    {
         for p in positions {
             if !self.spares_none(*p, positions, last) {
                 return false;
@@ -259,7 +306,9 @@ impl Tables {
     }
 
     /// Whether of each exclusion group at most one name of those at the positions and at `last` reaches it.
-    pub(crate) fn is_exclusive(&self, positions: &[usize], last: usize) -> bool {
+    pub(crate) fn is_exclusive(&self, positions: &[usize], last: usize) -> bool
+        ensures { result ≡ is_exclusive (rows_of self.now.hits.items) (positions.now ++ last ∷ []) }
+    {
         for row in self.hits.as_slice() {
             if !has_at_most_one(row.as_slice(), positions, last) {
                 return false;
@@ -269,7 +318,9 @@ impl Tables {
     }
 
     /// Whether each at-least-one group is served by one of those at the positions.
-    pub(crate) fn is_required(&self, positions: &[usize]) -> bool {
+    pub(crate) fn is_required(&self, positions: &[usize]) -> bool
+        ensures { result ≡ is_required (rows_of self.now.serves.items) positions.now }
+    {
         for row in self.serves.as_slice() {
             if !has_some(row.as_slice(), positions) {
                 return false;
