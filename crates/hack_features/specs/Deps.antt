@@ -1,5 +1,5 @@
 -- What each key of a feature map enables, and the keys that serve an at-least-one group, as tables of texts.
-use Rattle.std.specs.Prelude.{◌≡◌, ◌≢◌, ℕ, List, [], ◌∷◌, ◌++◌, Option, IfSome, IsSome, Bool, IsTrue, ◌↔◌}
+use Rattle.std.specs.Prelude.{◌≢◌, List, [], ◌∷◌, ◌++◌, Option, IfSome, IsSome, Bool, IsTrue, ◌↔◌}
 use Rattle.std.specs.BTreeSet.{BTreeSet, contains_by}
 use Rattle.std.specs.BTreeMap.{BTreeMap, get_by}
 use Rattle.std.specs.Cmp.Lexicographic.{slice_cmp}
@@ -42,5 +42,5 @@ pub data ServeGroups (m : FeatureMap) : List (List Name) → List NameSet → Ty
   none : ServeGroups m [] []
   dropped : {group : List Name} {groups : List (List Name)} {sets : List NameSet}
       → ServeGroups m groups sets → IsDropped m group → ServeGroups m (groups ++ group ∷ []) sets
-  kept : {group : List Name} {groups : List (List Name)} {sets : List NameSet} {server : Name} {set : NameSet}
+  kept : {group : List Name} {groups : List (List Name)} {sets : List NameSet} {server : Name} (set : NameSet)
       → ServeGroups m groups sets → EnablesOneOf m group server → AreServers m group set → ServeGroups m (groups ++ group ∷ []) (sets ++ set ∷ [])

@@ -1,5 +1,5 @@
 -- What a package's feature map says: which names enable a name, and which reach it.
-use Rattle.std.specs.Prelude.{◌≡◌, ◌==◌, ℕ, List, map, String, Vec, string_bytes, unwrap_or, is_some, IsTrue, Contains, codes, nat_eq, ◌↔◌}
+use Rattle.std.specs.Prelude.{◌≡◌, ◌==◌, List, [], map, String, Vec, string_bytes, unwrap_or, is_some, IsTrue, Contains, codes, nat_eq}
 use Rattle.std.specs.List.{starts_with, before_first}
 use Rattle.std.specs.BTreeMap.{BTreeMap}
 use Rattle.std.specs.Map.{lookup}
