@@ -1,16 +1,18 @@
 -- Names, lists of them, and tables of them.
-use Rattle.std.proofs.Common.{◌≡◌, ◌≢◌, ℕ, ◌+◌, ◌<◌, ◌≤◌, List, [], ◌∷◌, ◌++◌, length, get_or, take, refl, sym, ◌∙◌, ap, subst, arith, Bool, true, false, cond, IsTrue, ◌⊎◌, inl, inr, ◌↔◌, Contains, String, string_bytes}
-use Rattle.std.specs.List.{IsDistinct, list_any}
+use Rattle.std.proofs.Common.{◌≡◌, ◌≢◌, ℕ, ◌+◌, ◌<◌, ◌≤◌, List, [], ◌∷◌, ◌++◌, length, get_or, take, refl, sym, ◌∙◌, ap, subst, arith, Bool, true, false, cond, IsTrue, ◌⊎◌, inl, inr, ◌↔◌, Any, Contains, String, string_bytes, append_assoc}
+use Rattle.std.specs.List.{IsDistinct, list_any, join_with_byte}
 use Rattle.std.specs.Cmp.Lexicographic.{nat_list_eq_equiv, slice_cmp}
 use Rattle.std.specs.Ordering.{nat_cmp, is_eq}
 use Rattle.std.specs.Str.{bytes_eq}
 use Rattle.std.specs.Borrow.{Bor}
+use Rattle.std.proofs.Math.Seq.{take-length}
 use Rattle.std.proofs.lemmas.Slice.Eq.{bytes_eq-Decides}
 use Rattle.std.proofs.lemmas.List.{take_more, get_or-map, length-map, map-append}
 use Rattle.std.proofs.lemmas.List.Elements.{Contains-append_left, Contains-push, Contains-push_cases}
 use Rattle.std.proofs.lemmas.Map.Text.{is_eq-slice_cmp}
 use Rattle.std.proofs.lemmas.Map.Views.{list_any-from_Contains, Contains-from_any}
 use Rattle.std.proofs.lemmas.Map.Made.{length-le_from_is_member}
+use Rattle.hack_features.proofs.Members.{Contains-map, Contains-map_from}
 use Rattle.hack_features.specs.Names.{Name, names_of, shown}
 use Rattle.hack_features.specs.Deps.{NameSet, has_name}
 use Rattle.hack_features.specs.Search.{HasJust}
@@ -36,6 +38,25 @@ pub names-more : {Y : Type 0} (texts : List (String Y)) (k : ℕ) (t : String Y)
 names-more {Y} texts k t h e =
     take_more (names_of texts) k (string_bytes t) (rw (length-map texts (λ (t : String Y). string_bytes t)) h)
     ∙ ap (λ n. take k (names_of texts) ++ n ∷ []) (get_or-map (λ (t : String Y). string_bytes t) texts k t (string_bytes t) h ∙ ap string_bytes (sym e))
+
+pub length-names : {Y : Type 0} (texts : List (String Y)) → length (names_of texts) ≡ length texts
+length-names {Y} texts = length-map texts (λ (t : String Y). string_bytes t)
+
+-- a text in a list
+pub names-at : {Y : Type 0} (texts : List (String Y)) (k : ℕ) (t : String Y) → k < length texts → t ≡ get_or texts k t → Contains (names_of texts) (string_bytes t)
+names-at {Y} texts k t h e = Contains-map (λ (t : String Y). string_bytes t) texts t (k, h, sym e)
+
+-- all of the names, once the index is past the last
+pub names-whole : {Y : Type 0} (texts : List (String Y)) (k : ℕ) → length texts ≤ k → k ≤ length texts → take k (names_of texts) ≡ names_of texts
+names-whole texts k low high =
+    let all : k ≡ length (names_of texts) = omega (arith, length-names texts) in
+    ap (λ n. take n (names_of texts)) all ∙ take-length (names_of texts)
+
+pub missing-more : (names : List Name) (n v : Name) → ¬ Contains names v → n ≢ v → ¬ Contains (names ++ n ∷ []) v
+missing-more names n v h ne = λ k. elim (Contains-push_cases names n v k) [ inl w ↦ h w | inr e ↦ ne e ]
+
+pub differ : (x y : Name) → bytes_eq x y ≡ false → x ≢ y
+differ x y h = λ e. let z : true ≡ false = sym ((bytes_eq-Decides x y).1 e) ∙ h in cc
 
 -- the names of one reference more
 pub shown-more : (refs : List (Bor Name)) (k : ℕ) (r : Bor Name) → k < length refs → r ≡ get_or refs k r → take (k + 1) (shown refs) ≡ take k (shown refs) ++ r.now ∷ []
@@ -79,3 +100,25 @@ has_just-nil s e = λ y. (λ k. let z : false ≡ true = sym (ap (list_any (λ (
 pub true_from_not : (b : Bool) → b ≢ true → b ≡ false
 true_from_not true h = absurd (h refl)
 true_from_not false h = refl
+
+-- ---- names joined
+
+-- one name more, where it is not the first
+pub join-push : (names : List Name) (x : Name) → 0 < length names → join_with_byte 44 (names ++ x ∷ []) ≡ join_with_byte 44 names ++ (44 ∷ x)
+join-push [] x h = absurd (omega arith)
+join-push (y ∷ []) x h = refl
+join-push (y ∷ z ∷ names) x h =
+    ap (λ l. y ++ (44 ∷ l)) (join-push (z ∷ names) x (omega arith)) ∙ sym (append_assoc y (44 ∷ join_with_byte 44 (z ∷ names)) (44 ∷ x))
+
+-- ---- texts and references of which one has a name
+
+pub names-any : {Y : Type 0} (texts : List (String Y)) (v : Name) → Any (λ text. string_bytes text ≡ v) texts ↔ Contains (names_of texts) v
+names-any {Y} texts v =
+    (λ h. subst (λ n. Contains (names_of texts) n) h.4 (Contains-map (λ (t : String Y). string_bytes t) texts h.1 (h.0, h.2, h.3)),
+     λ h. let w = Contains-map_from (λ (t : String Y). string_bytes t) texts v h in (w.1.0, w.0, w.1.1, w.1.2, w.2))
+
+pub shown-any : (P : Name → Type 0) (refs : List (Bor Name)) → Any (λ ref. P ref.now) refs → (n : Name) × Contains (shown refs) n × P n
+shown-any P refs h = (h.1.now, Contains-map (λ (b : Bor Name). b.now) refs h.1 (h.0, h.2, h.3), h.4)
+
+pub any-shown : (P : Name → Type 0) (refs : List (Bor Name)) (n : Name) → Contains (shown refs) n → P n → Any (λ ref. P ref.now) refs
+any-shown P refs n h p = let w = Contains-map_from (λ (b : Bor Name). b.now) refs n h in (w.1.0, w.0, w.1.1, w.1.2, subst P (sym w.2) p)
