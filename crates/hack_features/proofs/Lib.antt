@@ -6,3 +6,5 @@ pub mod Single
 pub mod Passes
 pub mod Steps
 pub mod TableLemmas
+pub mod NameLemmas
+pub mod ReachLemmas

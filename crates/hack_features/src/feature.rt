@@ -1,6 +1,6 @@
 //! A feature of a package: one name, several that go together, or one of a dependency.
 
-ghost use Rattle.std.specs.Prelude.{◌≡◌, ◌↔◌, ◌∷◌, [], ◌++◌, length, Some, IsTrue, IfOk, Contains, string_bytes};
+ghost use Rattle.std.specs.Prelude.{◌≡◌, ◌↔◌, ◌∷◌, [], ◌++◌, length, Some, IsTrue, IfOk, Any, Contains, string_bytes};
 ghost use Rattle.std.specs.List.{join_with_byte};
 ghost use Rattle.hack_features.specs.Names.{names_of};
 ghost use Rattle.hack_features.specs.FeatureMap.{feature_map, Reaches};
@@ -90,7 +90,12 @@ impl Feature {
     pub fn matches(&self, s: &str) -> bool
         ensures { IsTrue result ↔ Contains (group_of self.now) s.now }
     {
-        self.as_group().iter().any(|name| name.as_str() == s)
+        for name in self.as_group() {
+            if name.as_str() == s {
+                return true;
+            }
+        }
+        false
     }
 
     /// Whether a chain of values leads from `s` to one of the names that the feature stands for. Values are cut
@@ -104,7 +109,14 @@ impl Feature {
         ensures { IfOk result (λ matches. IsTrue matches ↔ Reaches (feature_map map.now) (group_of self.now) s.now) }
     {
         let found = names_from(alloc, map, s, Edges::Reaching)?;
-        Ok(found.iter().any(|name| self.matches(*name)))
+        Ok(self.matches_one_of(found.as_slice()))
+    }
+
+    /// Whether one of these is a name that the feature stands for.
+    fn matches_one_of(&self, names: &[&str]) -> bool
+        ensures { IsTrue result ↔ Any (λ name. Contains (group_of self.now) name.now) names.now }
+    {
+        names.iter().any(|name| self.matches(*name))
     }
 }
 

@@ -1,5 +1,11 @@
 //! A search through a feature map: all names that chains of values lead to from one name.
 
+ghost use Rattle.std.specs.Prelude.{◌≡◌, IfOk, OnOk};
+ghost use Rattle.std.specs.Option.{option_map};
+ghost use Rattle.hack_features.specs.Names.{names_of, shown};
+ghost use Rattle.hack_features.specs.FeatureMap.{feature_map};
+ghost use Rattle.hack_features.specs.Search.{edge_of, HasJust, Adds, IsReach, IsTarget};
+
 use std::alloc::{AllocError, Global};
 use std::collections::{BTreeMap, BTreeSet};
 
@@ -13,8 +19,12 @@ pub(crate) enum Edges {
 }
 
 impl Edges {
+    ghost use Rattle.hack_features.specs.Search.{target_of};
+
     /// The name that a value leads to.
-    fn target(self, value: &str) -> Option<&str> {
+    fn target(self, value: &str) -> Option<&str>
+        ensures { option_map (λ name. name.now) result ≡ target_of self value.now }
+    {
         match self {
             Edges::Enabling if value.starts_with("dep:") => None,
             Edges::Enabling => Some(value),
@@ -35,7 +45,11 @@ struct Found<'a> {
 
 impl<'a> Found<'a> {
     /// Adds a name unless it was found before.
-    fn add(&mut self, name: &'a str) -> Result<(), AllocError> {
+    fn add(&mut self, name: &'a str) -> Result<(), AllocError>
+        requires { HasJust self.old.seen (shown self.old.order.items) }
+        ensures just { OnOk result (HasJust self.new.seen (shown self.new.order.items)) }
+        ensures adds { OnOk result (Adds (λ y. name.now ≡ y) (shown self.old.order.items) (shown self.new.order.items)) }
+    {
         if !self.seen.contains(name) {
             self.seen.insert(name)?;
             self.order.push(name)?;
@@ -44,7 +58,11 @@ impl<'a> Found<'a> {
     }
 
     /// Adds what the values lead to.
-    fn add_targets(&mut self, values: &'a [String], edges: Edges) -> Result<(), AllocError> {
+    fn add_targets(&mut self, values: &'a [String], edges: Edges) -> Result<(), AllocError>
+        requires { HasJust self.old.seen (shown self.old.order.items) }
+        ensures just { OnOk result (HasJust self.new.seen (shown self.new.order.items)) }
+        ensures adds { OnOk result (Adds (IsTarget edges (names_of values.now)) (shown self.old.order.items) (shown self.new.order.items)) }
+    {
         for value in values {
             if let Some(name) = edges.target(value.as_str()) {
                 self.add(name)?;
@@ -60,7 +78,9 @@ pub(crate) fn names_from<'a>(
     map: &'a BTreeMap<String, Vec<String>>,
     name: &'a str,
     edges: Edges,
-) -> Result<Vec<&'a str>, AllocError> {
+) -> Result<Vec<&'a str>, AllocError>
+    ensures { IfOk result (λ found. IsReach (edge_of edges (feature_map map.now)) name.now (shown found.items)) }
+{
     let mut found = Found {
         order: Vec::new(alloc),
         seen: BTreeSet::new(alloc),
