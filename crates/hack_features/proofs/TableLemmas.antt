@@ -275,3 +275,22 @@ module _ (c : Choice) (rows : List (List Bool)) (h : (p q : ℕ) → p < length 
 
   pub lean_iff : IsTrue (is_lean rows s) ↔ (¬ IsRedundant c s)
   lean_iff = (lean_from, lean_by (is_lean rows s) refl)
+
+-- one more name counted
+
+pub counts_yes : {X : Type 0} (P : X → Type 0) (seen more : List X) (x : X) (n m : ℕ) → more ≡ seen ++ x ∷ [] → m ≡ n + 1 → Counts P seen n → P x → Counts P more m
+counts_yes P seen more x n m e f h p = subst (λ l. Counts P l m) (sym e) (subst (λ k. Counts P (seen ++ x ∷ []) k) (sym f) (table.one_more h p))
+
+pub counts_no : {X : Type 0} (P : X → Type 0) (seen more : List X) (x : X) (n m : ℕ) → more ≡ seen ++ x ∷ [] → m ≡ n → Counts P seen n → ¬ P x → Counts P more m
+counts_no P seen more x n m e f h p = subst (λ l. Counts P l m) (sym e) (subst (λ k. Counts P (seen ++ x ∷ []) k) (sym f) (table.no_more h p))
+
+-- one more group, lifted or with its row
+
+pub lifted_group : {Y : Type 0} (R : List Name → Y → Type 0) (seen more : List (List Name)) (group : List Name) (b : Bool) (rows : List Y) → more ≡ seen ++ cond b [] (group ∷ []) → b ≡ true → Matched R seen rows → Matched R more rows
+lifted_group R seen more group b rows e t h = subst (λ gs. Matched R gs rows) (sym (e ∙ ap (λ b. seen ++ cond b [] (group ∷ [])) t ∙ append-nil seen)) h
+
+pub next_group : {Y : Type 0} (R : List Name → Y → Type 0) (seen more : List (List Name)) (group : List Name) (b : Bool) (rows : List Y) (row : Y) → more ≡ seen ++ cond b [] (group ∷ []) → b ≡ false → Matched R seen rows → R group row → Matched R more (rows ++ row ∷ [])
+next_group R seen more group b rows row e t h r = subst (λ gs. Matched R gs (rows ++ row ∷ [])) (sym (e ∙ ap (λ b. seen ++ cond b [] (group ∷ [])) t)) (table.next h r)
+
+pub matched_next : {X Y : Type 0} (R : X → Y → Type 0) (seen more : List X) (x : X) (rows : List Y) (row : Y) → more ≡ seen ++ x ∷ [] → Matched R seen rows → R x row → Matched R more (rows ++ row ∷ [])
+matched_next R seen more x rows row e h r = subst (λ l. Matched R l (rows ++ row ∷ [])) (sym e) (table.next h r)

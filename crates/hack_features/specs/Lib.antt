@@ -9,3 +9,4 @@ pub mod Questions
 pub mod Tables
 pub mod View
 pub mod Closed
+pub mod Cover

@@ -1,8 +1,11 @@
 //! The rules by which sets of features are listed, and the list of a package's sets.
 
-ghost use Rattle.std.specs.Prelude.{◌≡◌, ◌≢◌, ◌≤◌, ◌-◌, ◌^◌, ◌+◌, ◌<◌, ◌++◌, ◌∷◌, ◌↔◌, ◌⊎◌, ℕ, List, [], length, All, IsTrue, IfOk, MatchOption, Contains};
-ghost use Rattle.hack_features.specs.Sets.{IsSelection, ListsSelections, rows_of};
-ghost use Rattle.hack_features.specs.Rules.{Choice, IsPermitted, IsRequired, IsExclusive, IsListed, IsFirstCover, IsWanted, Covers, AreSingle, EnableTheSame};
+ghost use Rattle.std.specs.Prelude.{◌≡◌, ◌≤◌, ◌-◌, ◌^◌, ◌<◌, ℕ, List, length, All, IsTrue, IfOk, MatchOption, Contains};
+ghost use Rattle.std.specs.List.{list_all, list_any, slice_index_or};
+ghost use Rattle.hack_features.specs.Feature.{group_of, candidates_of};
+ghost use Rattle.hack_features.specs.Sets.{IsSelection, ListsSelections, rows_of, chosen as chosen_items};
+ghost use Rattle.hack_features.specs.Rules.{IsPermitted, IsRequired, IsListed, IsFirstCover, IsWanted, Covers, AreSingle, EnableTheSame};
+ghost use Rattle.hack_features.specs.Cover.{enables_test, set_enables_test, covers_test};
 
 use crate::deps::feature_deps;
 use crate::feature::Feature;
@@ -21,6 +24,9 @@ pub struct Rules<'a> {
 }
 
 impl<'a> Rules<'a> {
+    ghost use Rattle.std.specs.Prelude.{◌↔◌};
+    ghost use Rattle.hack_features.specs.View.{choice, choice_in, choice_of, size_of, asked_of, may_of, whole_of, AreTablesOf};
+
     /// The rules for the candidates `features` of a package with the feature map `map`: at most `depth` of them in
     /// a set, for each group of `at_least_one_of` one that enables a name of it, and for each group of
     /// `mutually_exclusive_features` that isn't lifted at most one name that reaches it. `lifted` has an entry for
@@ -33,7 +39,15 @@ impl<'a> Rules<'a> {
         mutually_exclusive_features: &'a [Feature],
         map: &'a BTreeMap<String, Vec<String>>,
         lifted: &'a [bool],
-    ) -> Result<Rules<'a>, AllocError> {
+    ) -> Result<Rules<'a>, AllocError>
+        ensures choice { IfOk result (λ rules. choice_of rules ≡ choice features.now depth at_least_one_of.now mutually_exclusive_features.now map.now lifted.now) }
+        ensures size { IfOk result (λ rules. size_of rules ≡ length features.now) }
+        ensures fresh { IfOk result (λ rules. asked_of rules ≡ 0) }
+
+        // What `may_extend` answers is whether a set is permitted, and `complete` whether it is required.
+        ensures permitted { IfOk result (λ rules. (s : List ℕ) → IsSelection (size_of rules) s → IsTrue (may_of rules s) ↔ IsPermitted (choice_of rules) s) }
+        ensures required { IfOk result (λ rules. (s : List ℕ) → IsSelection (size_of rules) s → IsTrue (whole_of rules s) ↔ IsRequired (choice_of rules) s) }
+    {
         let given = Given {
             features,
             depth,
@@ -42,7 +56,16 @@ impl<'a> Rules<'a> {
             map,
             lifted,
         };
-        let deps = feature_deps(alloc, map)?;
+        Rules::made(alloc, given)
+    }
+
+    /// The rules for what is given.
+    fn made(alloc: Global, given: Given<'a>) -> Result<Rules<'a>, AllocError>
+        ensures given { IfOk result (λ rules. rules.given ≡ given.entry) }
+        ensures fresh { IfOk result (λ rules. asked_of rules ≡ 0) }
+        ensures tables { IfOk result (AreTablesOf (choice_in given.entry)) }
+    {
+        let deps = feature_deps(alloc, given.map)?;
         Ok(Rules {
             given,
             tables: Tables::new(alloc, given, &deps)?,
@@ -56,7 +79,10 @@ impl<'a> Rules<'a> {
         &self,
         alloc: Global,
         positions: &[usize],
-    ) -> Result<Option<Vec<usize>>, AllocError> {
+    ) -> Result<Option<Vec<usize>>, AllocError>
+        requires { IsSelection (size_of self.now) positions.now }
+        ensures { IfOk result (λ cover. MatchOption cover (¬ IsWanted (choice_of self.now) positions.now) (λ t. IsWanted (choice_of self.now) positions.now × IsFirstCover (choice_of self.now) positions.now t.items)) }
+    {
         let deps = feature_deps(alloc, self.given.map)?;
         let tables = Tables::new(alloc, self.given, &deps)?;
         let Some((last, others)) = positions.split_last() else {
@@ -68,13 +94,7 @@ impl<'a> Rules<'a> {
         {
             return Ok(None);
         }
-        let mut kept = Vec::from_slice(alloc, positions)?;
-        for place in (0..positions.len()).rev() {
-            if is_spare(self.given.features, kept.as_slice(), place, &deps) {
-                kept.remove(place);
-            }
-        }
-        Ok(Some(kept))
+        Ok(Some(first_cover(alloc, self.given.features, positions, &deps)?))
     }
 }
 
@@ -87,16 +107,22 @@ fn keeps_depth(depth: Option<usize>, members: usize) -> bool {
 }
 
 /// Whether the key enables the name.
-fn enables(deps: &BTreeMap<&str, BTreeSet<&str>>, key: &str, name: &str) -> bool {
-    key == name
-        || match deps.get(key) {
-            Some(enabled) => enabled.contains(name),
-            None => false,
-        }
+fn enables(deps: &BTreeMap<&str, BTreeSet<&str>>, key: &str, name: &str) -> bool
+    ensures { result ≡ enables_test deps.now key.now name.now }
+{
+    if key == name {
+        return true;
+    }
+    match deps.get(key) {
+        Some(enabled) => enabled.contains(name),
+        None => false,
+    }
 }
 
 /// Whether a name of the candidate enables the name.
-fn some_enables(deps: &BTreeMap<&str, BTreeSet<&str>>, feature: &Feature, name: &str) -> bool {
+fn some_enables(deps: &BTreeMap<&str, BTreeSet<&str>>, feature: &Feature, name: &str) -> bool
+    ensures { result ≡ list_any (λ x. enables_test deps.now x name.now) (group_of feature.now) }
+{
     for key in feature.as_group() {
         if enables(deps, key.as_str(), name) {
             return true;
@@ -105,51 +131,79 @@ fn some_enables(deps: &BTreeMap<&str, BTreeSet<&str>>, feature: &Feature, name: 
     false
 }
 
-/// Whether a name of another member than the one at the place enables the name.
-fn others_enable(
+/// Whether a name of a member of the set enables the name.
+fn set_enables(
     features: &[&Feature],
-    kept: &[usize],
-    place: usize,
+    positions: &[usize],
     deps: &BTreeMap<&str, BTreeSet<&str>>,
     name: &str,
-) -> bool {
-    for (i, p) in kept.iter().enumerate() {
-        if i != place && some_enables(deps, features[*p], name) {
+) -> bool
+    requires { All (λ p. p < length features.now) positions.now }
+    ensures { result ≡ set_enables_test deps.now (candidates_of features.now) positions.now name.now }
+{
+    for p in positions {
+        if some_enables(deps, features[*p], name) {
             return true;
         }
     }
     false
 }
 
-/// Whether the members enable the same names without the one at the place.
-fn is_spare(
+/// Whether the set is not empty and enables each name of the candidate.
+fn covers(
     features: &[&Feature],
-    kept: &[usize],
-    place: usize,
+    positions: &[usize],
     deps: &BTreeMap<&str, BTreeSet<&str>>,
-) -> bool {
-    for name in features[kept[place]].as_group() {
-        if !others_enable(features, kept, place, deps, name.as_str()) {
+    feature: &Feature,
+) -> bool
+    requires { All (λ p. p < length features.now) positions.now }
+    ensures { result ≡ covers_test deps.now (candidates_of features.now) positions.now (group_of feature.now) }
+{
+    if positions.is_empty() {
+        return false;
+    }
+    for name in feature.as_group() {
+        if !set_enables(features, positions, deps, name.as_str()) {
             return false;
         }
     }
     true
 }
 
+/// The set without each position, from the greatest on, that the positions left then cover.
+fn first_cover(
+    alloc: Global,
+    features: &[&Feature],
+    positions: &[usize],
+    deps: &BTreeMap<&str, BTreeSet<&str>>,
+) -> Result<Vec<usize>, AllocError>
+    requires { IsSelection (length features.now) positions.now }
+{
+    let mut kept = Vec::from_slice(alloc, positions)?;
+    for place in (0..positions.len()).rev() {
+        let mut rest = Vec::from_slice(alloc, kept.as_slice())?;
+        let p = rest.remove(place);
+        if covers(features, rest.as_slice(), deps, features[p]) {
+            kept = rest;
+        }
+    }
+    Ok(kept)
+}
+
 impl Questions for Rules<'_> {
-    ghost use Rattle.std.specs.Prelude.{◌≡◌, ◌≤◌, ◌-◌, ◌^◌, ℕ, List, length};
-    ghost use Rattle.hack_features.specs.View.{choice_of, may_of, whole_of};
+    ghost use Rattle.std.specs.Prelude.{◌≡◌, ◌≤◌, ◌-◌, ◌^◌, ℕ, List};
+    ghost use Rattle.hack_features.specs.View.{choice_of, size_of, asked_of, may_of, whole_of};
     ghost use Rattle.hack_features.specs.Closed.{may_of-empty, may_of-remove};
 
     ghost choice = { choice_of };
 
-    ghost size = { λ r. length r.given.features.now };
+    ghost size = { size_of };
 
     ghost may = { may_of };
 
     ghost whole = { whole_of };
 
-    ghost count = { λ r. r.asked };
+    ghost count = { asked_of };
 
     fn may_extend(&mut self, positions: &[usize], next: usize) -> bool {
         self.asked = self.asked.saturating_add(1);

@@ -1,0 +1,46 @@
+use Rattle.std.proofs.Common.{◌≡◌, ◌<◌, ◌≤◌, ◌+◌, ◌++◌, ◌∷◌, [], arith, List, ℕ, Bool, take, length, subst, sym, ap, ◌∙◌, true, false}
+use Rattle.std.proofs.lemmas.List.{map-append, take_all, length-map}
+use Rattle.std.specs.Prelude.{Vec}
+use Rattle.hack_features.specs.Names.{Name}
+use Rattle.hack_features.specs.FeatureMap.{feature_map}
+use Rattle.hack_features.specs.Feature.{candidates_of, groups_of, group_of}
+use Rattle.hack_features.specs.Rules.{unlifted}
+use Rattle.hack_features.specs.Sets.{rows_of}
+use Rattle.hack_features.specs.Tables as table
+use Rattle.hack_features.specs.Tables.{Matched, CountsHits, bit}
+use Rattle.hack_features.proofs.Steps.{seen-next, row_items}
+use Rattle.hack_features.proofs.TableLemmas.{unlifted-more, lifted_group, next_group}
+use Rattle.hack_features.proofs.tables.hit_rows.Goals as goal
+use Rattle.hack_features.proofs.tables.hit_rows.Goals.{then-not-bit+in_ok-hit_row+in_ok-push, else-not-bit}
+
+pub loop-place-init : goal.loop-place-init
+loop-place-init c =
+    let R = CountsHits (feature_map c.args.given.map.now) (candidates_of c.args.given.features.now) in
+    subst (λ (rows : List (List ℕ)). Matched R [] rows) (sym (ap rows_of c.new-rows.ensures.items)) table.nothing
+
+pub loop-place-preserved : goal.loop-place-preserved
+loop-place-preserved c =
+    let R = CountsHits (feature_map c.args.given.map.now) (candidates_of c.args.given.features.now) in
+    let groups = groups_of c.args.given.exclusive.now in
+    let lifted = c.args.given.lifted.now in
+    let place = c.loop-place.place in
+    let group = group_of c.group-item.result in
+    let lt : place < length groups = omega (arith, c.loop-place-test.true, length-map c.args.given.exclusive.now group_of) in
+    let more = unlifted-more groups place group lifted lt (seen-next group_of c.args.given.exclusive.now place c.group-item.result c.loop-place-test.true c.group-item.is) in
+    elim c.if-not-bit.branch [
+    | then-not-bit+in_ok-hit_row+in_ok-push w ↦
+      subst (λ (rows : List (List ℕ)). Matched R (unlifted (take (place + 1) groups) lifted) rows)
+        (sym (ap (λ v. rows_of v.items) w.rows-is ∙ ap rows_of w.in_ok-push.ensures.items ∙ map-append row_items c.loop-place.rows.items (w.in_ok-hit_row.field-0 ∷ [])))
+        (next_group R (unlifted (take place groups) lifted) (unlifted (take (place + 1) groups) lifted) group (bit lifted place) (rows_of c.loop-place.rows.items) w.in_ok-hit_row.field-0.items more
+          (sym c.bit.ensures ∙ w.if-not-bit.true) c.loop-place.invariant w.in_ok-hit_row.ensures)
+    | else-not-bit w ↦
+      subst (λ (rows : List (List ℕ)). Matched R (unlifted (take (place + 1) groups) lifted) rows) (sym (ap (λ v. rows_of v.items) w.rows-is))
+        (lifted_group R (unlifted (take place groups) lifted) (unlifted (take (place + 1) groups) lifted) group (bit lifted place) (rows_of c.loop-place.rows.items) more
+          (sym c.bit.ensures ∙ w.if-not-bit.false) c.loop-place.invariant) ]
+
+pub returns : goal.returns
+returns c =
+    let R = CountsHits (feature_map c.args.given.map.now) (candidates_of c.args.given.features.now) in
+    let groups = groups_of c.args.given.exclusive.now in
+    let past : length groups ≤ c.loop-place.place = omega (arith, c.loop-place-test.false, length-map c.args.given.exclusive.now group_of) in
+    subst (λ (gs : List (List Name)). Matched R (unlifted gs c.args.given.lifted.now) (rows_of c.loop-place.rows.items)) (take_all c.loop-place.place groups past) c.loop-place.invariant
