@@ -8,3 +8,4 @@ pub mod Steps
 pub mod TableLemmas
 pub mod NameLemmas
 pub mod ReachLemmas
+pub mod CoverLemmas

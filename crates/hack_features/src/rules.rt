@@ -1,10 +1,12 @@
 //! The rules by which sets of features are listed, and the list of a package's sets.
 
-ghost use Rattle.std.specs.Prelude.{◌≡◌, ◌≤◌, ◌-◌, ◌^◌, ◌<◌, ℕ, List, length, All, IsTrue, IfOk, MatchOption, Contains};
+ghost use Rattle.std.specs.Prelude.{◌≡◌, ◌≤◌, ◌-◌, ◌^◌, ◌<◌, ℕ, List, [], length, IsTrue, IfOk, MatchOption, Contains};
 ghost use Rattle.std.specs.List.{list_all, list_any, slice_index_or};
-ghost use Rattle.hack_features.specs.Feature.{group_of, candidates_of};
+ghost use Rattle.hack_features.specs.Names.{names_of};
+ghost use Rattle.hack_features.specs.Feature.{candidates_of};
 ghost use Rattle.hack_features.specs.Sets.{IsSelection, ListsSelections, rows_of, chosen as chosen_items};
 ghost use Rattle.hack_features.specs.Rules.{IsPermitted, IsRequired, IsListed, IsFirstCover, IsWanted, Covers, AreSingle, EnableTheSame};
+ghost use Rattle.hack_features.specs.Tables.{keeps_depth as depth_test};
 ghost use Rattle.hack_features.specs.Cover.{enables_test, set_enables_test, covers_test};
 
 use crate::deps::feature_deps;
@@ -99,7 +101,9 @@ impl<'a> Rules<'a> {
 }
 
 /// Whether a set of that many members keeps the depth.
-fn keeps_depth(depth: Option<usize>, members: usize) -> bool {
+fn keeps_depth(depth: Option<usize>, members: usize) -> bool
+    ensures { (s : List ℕ) → length s ≡ members → result ≡ depth_test depth s }
+{
     match depth {
         None => true,
         Some(most) => members <= most,
@@ -119,11 +123,21 @@ fn enables(deps: &BTreeMap<&str, BTreeSet<&str>>, key: &str, name: &str) -> bool
     }
 }
 
-/// Whether a name of the candidate enables the name.
-fn some_enables(deps: &BTreeMap<&str, BTreeSet<&str>>, feature: &Feature, name: &str) -> bool
-    ensures { result ≡ list_any (λ x. enables_test deps.now x name.now) (group_of feature.now) }
+/// The names of the candidate at the position, none past the last.
+fn names_at<'a>(features: &[&'a Feature], p: usize) -> &'a [String]
+    ensures { names_of result.now ≡ slice_index_or (candidates_of features.now) p [] }
 {
-    for key in feature.as_group() {
+    match features.get(p) {
+        Some(feature) => feature.as_group(),
+        None => &[],
+    }
+}
+
+/// Whether one of the keys enables the name.
+fn some_enables(deps: &BTreeMap<&str, BTreeSet<&str>>, keys: &[String], name: &str) -> bool
+    ensures { result ≡ list_any (λ x. enables_test deps.now x name.now) (names_of keys.now) }
+{
+    for key in keys {
         if enables(deps, key.as_str(), name) {
             return true;
         }
@@ -138,31 +152,29 @@ fn set_enables(
     deps: &BTreeMap<&str, BTreeSet<&str>>,
     name: &str,
 ) -> bool
-    requires { All (λ p. p < length features.now) positions.now }
     ensures { result ≡ set_enables_test deps.now (candidates_of features.now) positions.now name.now }
 {
     for p in positions {
-        if some_enables(deps, features[*p], name) {
+        if some_enables(deps, names_at(features, *p), name) {
             return true;
         }
     }
     false
 }
 
-/// Whether the set is not empty and enables each name of the candidate.
+/// Whether the set is not empty and enables each of the names.
 fn covers(
     features: &[&Feature],
     positions: &[usize],
     deps: &BTreeMap<&str, BTreeSet<&str>>,
-    feature: &Feature,
+    names: &[String],
 ) -> bool
-    requires { All (λ p. p < length features.now) positions.now }
-    ensures { result ≡ covers_test deps.now (candidates_of features.now) positions.now (group_of feature.now) }
+    ensures { result ≡ covers_test deps.now (candidates_of features.now) positions.now (names_of names.now) }
 {
     if positions.is_empty() {
         return false;
     }
-    for name in feature.as_group() {
+    for name in names {
         if !set_enables(features, positions, deps, name.as_str()) {
             return false;
         }
@@ -183,7 +195,7 @@ fn first_cover(
     for place in (0..positions.len()).rev() {
         let mut rest = Vec::from_slice(alloc, kept.as_slice())?;
         let p = rest.remove(place);
-        if covers(features, rest.as_slice(), deps, features[p]) {
+        if covers(features, rest.as_slice(), deps, names_at(features, p)) {
             kept = rest;
         }
     }
@@ -207,9 +219,13 @@ impl Questions for Rules<'_> {
 
     fn may_extend(&mut self, positions: &[usize], next: usize) -> bool {
         self.asked = self.asked.saturating_add(1);
-        keeps_depth(self.given.depth, positions.len() + 1)
-            && self.tables.is_exclusive(positions, next)
-            && self.tables.is_lean(positions, next)
+        if !keeps_depth(self.given.depth, positions.len() + 1) {
+            return false;
+        }
+        if !self.tables.is_exclusive(positions, next) {
+            return false;
+        }
+        self.tables.is_lean(positions, next)
     }
 
     fn complete(&self, positions: &[usize]) -> bool {
@@ -232,10 +248,14 @@ fn chosen<'a>(
     alloc: Global,
     features: &[&'a Feature],
     positions: &[usize],
-) -> Result<Vec<&'a Feature>, AllocError> {
+) -> Result<Vec<&'a Feature>, AllocError>
+    ensures { IfOk result (λ set. set.items ≡ chosen_items features.now positions.now) }
+{
     let mut set = Vec::with_capacity(alloc, positions.len())?;
     for p in positions {
-        set.push(features[*p])?;
+        if let Some(feature) = features.get(*p) {
+            set.push(*feature)?;
+        }
     }
     Ok(set)
 }
