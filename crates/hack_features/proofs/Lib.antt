@@ -1,3 +1,4 @@
 pub mod Members
 pub mod NameLemmas
 pub mod ReachLemmas
+pub mod DepsLemmas

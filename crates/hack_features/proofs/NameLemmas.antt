@@ -1,5 +1,5 @@
 -- Names, lists of them, and tables of them.
-use Rattle.std.proofs.Common.{◌≡◌, ◌≢◌, ℕ, ◌+◌, ◌<◌, ◌≤◌, List, [], ◌∷◌, ◌++◌, length, get_or, take, refl, sym, ◌∙◌, ap, subst, arith, Bool, true, false, cond, IsTrue, ◌⊎◌, inl, inr, ◌↔◌, Any, Contains, String, string_bytes, append_assoc}
+use Rattle.std.proofs.Common.{◌≡◌, ◌≢◌, ℕ, ◌+◌, ◌<◌, ◌≤◌, List, [], ◌∷◌, ◌++◌, length, get_or, take, refl, sym, ◌∙◌, ap, subst, arith, Bool, true, false, cond, IsTrue, ◌⊎◌, inl, inr, ◌↔◌, Any, Contains, String, string_bytes, append_assoc, not}
 use Rattle.std.specs.List.{IsDistinct, list_any, join_with_byte}
 use Rattle.std.specs.Cmp.Lexicographic.{nat_list_eq_equiv, slice_cmp}
 use Rattle.std.specs.Ordering.{nat_cmp, is_eq}
@@ -97,9 +97,18 @@ has_just-more names x old new h e = λ y.
 pub has_just-nil : (s : NameSet) → s.keys ≡ [] → HasJust s []
 has_just-nil s e = λ y. (λ k. let z : false ≡ true = sym (ap (list_any (λ (b : Bor Name). is_eq (slice_cmp nat_cmp y b.now))) e) ∙ k in cc, λ k. absurd (omega (arith, k.1)))
 
-pub true_from_not : (b : Bool) → b ≢ true → b ≡ false
-true_from_not true h = absurd (h refl)
-true_from_not false h = refl
+from_not-step : (b r : Bool) → not b ≡ not r → b ≡ r
+from_not-step true true h = refl
+from_not-step true false h = let z : false ≡ true = h in cc
+from_not-step false true h = let z : true ≡ false = h in cc
+from_not-step false false h = refl
+
+-- what a negated test says
+pub from_not_true : {b : Bool} → not b ≡ true → b ≡ false
+from_not_true {b} h = from_not-step b false h
+
+pub from_not_false : {b : Bool} → not b ≡ false → b ≡ true
+from_not_false {b} h = from_not-step b true h
 
 -- ---- names joined
 

@@ -1,7 +1,5 @@
-use Rattle.std.proofs.Common.{◌≡◌, ◌↔◌, Any, Contains, IsTrue, subst, sym, ap}
-use Rattle.hack_features.specs.Names.{Name, shown}
+use Rattle.std.proofs.Common.{◌↔◌, Any, Contains, IsTrue, subst}
 use Rattle.hack_features.specs.Feature.{group_of}
-use Rattle.hack_features.specs.FeatureMap.{Reaches}
 use Rattle.hack_features.proofs.NameLemmas.{shown-any, any-shown}
 use Rattle.hack_features.proofs.feature.Feature.matches_recursive.Goals as goal
 
