@@ -30,25 +30,29 @@ Tells s x names = (y : Name) → IsTrue (has_name s y) ↔ ((y ≢ x) × Contain
 -- one name more that is not x
 pub tells-more : (x o : Name) (names : List Name) (old new : NameSet) → Tells old x names → ((y : Name) → has_name new y ≡ cond (is_eq (slice_cmp nat_cmp o y)) true (has_name old y)) → o ≢ x → Tells new x (names ++ o ∷ [])
 tells-more x o names old new h e ne = λ y.
-    let m = has-more o y old new (e y) in
-    (λ k. elim (m.0 k) [
-       | inl w ↦ let r = (h y).0 w in (r.0, Contains-append_left names (o ∷ []) y r.1)
-       | inr s ↦ (λ yx. ne (s ∙ yx), subst (λ u. Contains (names ++ o ∷ []) u) s (Contains-push names o)) ],
-     λ k. elim (Contains-push_cases names o y k.1) [ inl w ↦ m.1 (inl ((h y).1 (k.0, w))) | inr s ↦ m.1 (inr s) ])
+    let m = has-more o y old new (e y) in (
+      λ k. elim (m.0 k) [
+        | inl w ↦ let r = (h y).0 w in (r.0, Contains-append_left names (o ∷ []) y r.1)
+        | inr s ↦ (λ yx. ne (s ∙ yx), subst (λ u. Contains (names ++ o ∷ []) u) s (Contains-push names o))
+      ],
+      λ k. elim (Contains-push_cases names o y k.1) [ inl w ↦ m.1 (inl ((h y).1 (k.0, w))) | inr s ↦ m.1 (inr s) ],
+    )
 
 -- x itself
 pub tells-skip : (x o : Name) (names : List Name) (s : NameSet) → Tells s x names → o ≡ x → Tells s x (names ++ o ∷ [])
-tells-skip x o names s h same = λ y.
-    (λ k. let r = (h y).0 k in (r.0, Contains-append_left names (o ∷ []) y r.1),
-     λ k. elim (Contains-push_cases names o y k.1) [ inl w ↦ (h y).1 (k.0, w) | inr e ↦ absurd (k.0 (sym e ∙ same)) ])
+tells-skip x o names s h same = λ y. (
+  λ k. let r = (h y).0 k in (r.0, Contains-append_left names (o ∷ []) y r.1),
+  λ k. elim (Contains-push_cases names o y k.1) [ inl w ↦ (h y).1 (k.0, w) | inr e ↦ absurd (k.0 (sym e ∙ same)) ],
+)
 
 -- ---- the keys of a map
 
 is_key-step : {V : Type 0} (x k : Name) (ks : List Name) (o : Option V) (v : V) (b : Bool) → bytes_eq x k ≡ b → (IsTrue (is_some o) ↔ Contains ks x) → IsTrue (is_some (cond b (Some v) o)) ↔ Contains (k ∷ ks) x
 is_key-step x k ks o v true e h = (λ t. subst (λ n. Contains (n ∷ ks) x) (same_text x k e) (Contains-head x ks), λ c. refl)
-is_key-step x k ks o v false e h =
-    (λ t. Contains-tail k ks x (h.0 t),
-     λ c. elim (Contains-cons_cases k ks x c) [ inl s ↦ absurd (differ x k e (sym s)) | inr w ↦ h.1 w ])
+is_key-step x k ks o v false e h = (
+  λ t. Contains-tail k ks x (h.0 t),
+  λ c. elim (Contains-cons_cases k ks x c) [ inl s ↦ absurd (differ x k e (sym s)) | inr w ↦ h.1 w ],
+)
 
 pub is_key-entries : {Y Z : Type 0} (x : Name) (es : List (String Y × Vec (String Y) Z)) → IsKey (map (λ e. (string_bytes e.0, names_of e.1.items)) es) x ↔ Contains (names_of (map (λ e. e.0) es)) x
 is_key-entries x [] = (λ t. absurd (let z : false ≡ true = t in cc), λ c. absurd (Contains-nil x c))
@@ -65,22 +69,26 @@ pub record Tabling (m : FeatureMap) (deps : BTreeMap (Bor Name) NameSet) (left :
 pub tabling-start : {Y Z : Type 0} (m : BTreeMap (String Y) (Vec (String Y) Z)) (deps : BTreeMap (Bor Name) NameSet) → deps.entries ≡ [] → Tabling (feature_map m) deps (names_of (map (λ e. e.0) m.entries))
 tabling-start m deps e = record {
   keys = λ x.
-    let k = is_key-entries x m.entries in
-    (λ t. inr (k.0 t),
-     λ t. elim t [
-     | inl o ↦ absurd (let z : false ≡ true = sym (ap (λ es. is_some (lookup (is_at (λ (b : Bor Name). slice_cmp nat_cmp x b.now)) es)) e) ∙ o in cc)
-     | inr c ↦ k.1 c ]);
+      let k = is_key-entries x m.entries in (
+        λ t. inr (k.0 t),
+        λ t. elim t [
+          | inl o ↦ absurd (let z : false ≡ true = sym (ap (λ es. is_some (lookup (is_at (λ (b : Bor Name). slice_cmp nat_cmp x b.now)) es)) e) ∙ o in cc)
+          | inr c ↦ k.1 c
+        ],
+      );
   each = λ x. subst (λ es. IfSome (lookup (is_at (λ (b : Bor Name). slice_cmp nat_cmp x b.now)) es) (IsDepsOf (feature_map m) x)) (sym e) tt;
 }
 
 keys-next : (m : FeatureMap) (x y : Name) (s : NameSet) (left : List Name) (old new : Option NameSet) (b : Bool) → bytes_eq x y ≡ b → new ≡ cond b (Some s) old → (IsKey m y ↔ (IsSome old ⊎ Contains (x ∷ left) y)) → IsKey m y ↔ (IsSome new ⊎ Contains left y)
 keys-next m x y s left old new true t e h =
     (λ k. inl (ap is_some e), λ k. h.1 (inr (subst (λ n. Contains (x ∷ left) n) (same_text x y t) (Contains-head x left))))
-keys-next m x y s left old new false t e h =
-    (λ k. elim (h.0 k) [
-       | inl o ↦ inl (ap is_some e ∙ o)
-       | inr c ↦ elim (Contains-cons_cases x left y c) [ inl w ↦ absurd (differ x y t w) | inr w ↦ inr w ] ],
-     λ k. elim k [ inl o ↦ h.1 (inl (sym (ap is_some e) ∙ o)) | inr c ↦ h.1 (inr (Contains-tail x left y c)) ])
+keys-next m x y s left old new false t e h = (
+  λ k. elim (h.0 k) [
+    | inl o ↦ inl (ap is_some e ∙ o)
+    | inr c ↦ elim (Contains-cons_cases x left y c) [ inl w ↦ absurd (differ x y t w) | inr w ↦ inr w ]
+  ],
+  λ k. elim k [ inl o ↦ h.1 (inl (sym (ap is_some e) ∙ o)) | inr c ↦ h.1 (inr (Contains-tail x left y c)) ],
+)
 
 each-next : (m : FeatureMap) (x y : Name) (s : NameSet) (old new : Option NameSet) (b : Bool) → bytes_eq x y ≡ b → new ≡ cond b (Some s) old → IsDepsOf m x s → IfSome old (IsDepsOf m y) → IfSome new (IsDepsOf m y)
 each-next m x y s old new true t e d h = subst (λ o. IfSome o (IsDepsOf m y)) (sym e) (subst (λ n. IsDepsOf m n s) (same_text x y t) d)
@@ -110,8 +118,9 @@ unserved-start x s = λ w. Contains-nil w.name w.member
 
 pub unserved-more : (group : List Name) (n x : Name) (s : NameSet) → IsUnserved group x s → n ≢ x → ¬ IsTrue (has_name s n) → IsUnserved (group ++ n ∷ []) x s
 unserved-more group n x s h ne apart = λ w. elim (Contains-push_cases group n w.name w.member) [
-    | inl c ↦ h (record { name = w.name; member = c; has = w.has })
-    | inr e ↦ elim w.has [ inl y ↦ ne (e ∙ y) | inr y ↦ apart (subst (λ k. IsTrue (has_name s k)) (sym e) y) ] ]
+  | inl c ↦ h (record { name = w.name; member = c; has = w.has })
+  | inr e ↦ elim w.has [ inl y ↦ ne (e ∙ y) | inr y ↦ apart (subst (λ k. IsTrue (has_name s k)) (sym e) y) ]
+]
 
 -- the keys so far, once these entries are left
 pub record Serving (group : List Name) (deps : BTreeMap (Bor Name) NameSet) (keys : NameSet) (left : List (Bor Name × NameSet)) : Type 0 where
@@ -140,13 +149,15 @@ pub serving-kept : (group : List Name) (deps : BTreeMap (Bor Name) NameSet) (old
 serving-kept group deps old new e left h served is =
     let m : (y : Name) → IsTrue (has_name new y) ↔ (IsTrue (has_name old y) ⊎ (e.0.now ≡ y)) = λ y. has-more e.0.now y old new (is y) in
     record {
-    there = entries-tail deps e left h.there;
-    sound = λ x k. elim ((m x).0 k) [
-      | inl w ↦ h.sound x w
-      | inr s ↦ (e.1, subst (λ n. get_at deps n ≡ Some e.1) s (h.there 0 e (omega arith)), subst (λ n. IsServedBy group n e.1) s served) ];
-    whole = λ x s g w. elim (h.whole x s g w) [
-      | inl k ↦ inl ((m x).1 (inl k))
-      | inr k ↦ elim (first-cases x e left s (is_eq (slice_cmp nat_cmp x e.0.now)) refl k) [ inl y ↦ inl ((m x).1 (inr (sym y.0))) | inr y ↦ inr y ] ];
+      there = entries-tail deps e left h.there;
+      sound = λ x k. elim ((m x).0 k) [
+        | inl w ↦ h.sound x w
+        | inr s ↦ (e.1, subst (λ n. get_at deps n ≡ Some e.1) s (h.there 0 e (omega arith)), subst (λ n. IsServedBy group n e.1) s served)
+      ];
+      whole = λ x s g w. elim (h.whole x s g w) [
+        | inl k ↦ inl ((m x).1 (inl k))
+        | inr k ↦ elim (first-cases x e left s (is_eq (slice_cmp nat_cmp x e.0.now)) refl k) [ inl y ↦ inl ((m x).1 (inr (sym y.0))) | inr y ↦ inr y ]
+      ];
     }
 
 pub serving-left_out : (group : List Name) (deps : BTreeMap (Bor Name) NameSet) (keys : NameSet) (e : Bor Name × NameSet) (left : List (Bor Name × NameSet)) → Serving group deps keys (e ∷ left) → ¬ IsServedBy group e.0.now e.1 → Serving group deps keys left
@@ -157,7 +168,9 @@ serving-left_out group deps keys e left h apart = record {
     | inl k ↦ inl k
     | inr k ↦ elim (first-cases x e left s (is_eq (slice_cmp nat_cmp x e.0.now)) refl k) [
       | inl y ↦ absurd (apart (subst (λ n. IsServedBy group n e.1) y.0 (subst (λ t. IsServedBy group x t) (sym y.1) w)))
-      | inr y ↦ inr y ] ];
+      | inr y ↦ inr y
+    ]
+  ];
 }
 
 -- what a table has at a key
@@ -177,19 +190,21 @@ served-enables m group x s d n member c false t = record { name = n; member = me
 
 -- once no entry is left, the keys are those that enable a name of the group
 pub serving-end : (group : List Name) (deps : BTreeMap (Bor Name) NameSet) (keys : NameSet) (left : List (Bor Name × NameSet)) → Serving group deps keys left → left ≡ [] → (m : FeatureMap) → AreDepsOf m deps → AreServers m group keys
-serving-end group deps keys left h e m are = λ x.
-    (λ k. let w = h.sound x k in
-       record {
-         key = (are.keys x).0 (ap is_some w.1);
-         name = w.2.name;
-         member = w.2.member;
-         chain = enables-served m group x w.0 (if_some-at (IsDepsOf m x) (get_at deps x) w.0 w.1 (are.each x)) w.2;
-       },
-     λ k. let s = some-at (get_at deps x) ((are.keys x).1 k.key) in
-       let d = if_some-at (IsDepsOf m x) (get_at deps x) s.0 s.1 (are.each x) in
-       elim (h.whole x s.0 s.1 (served-enables m group x s.0 d k.name k.member k.chain (bytes_eq k.name x) refl)) [
-       | inl w ↦ w
-       | inr w ↦ absurd (let z : None ≡ Some s.0 = sym (ap (lookup (is_at (λ (k : Bor Name). slice_cmp nat_cmp x k.now))) e) ∙ w in cc) ])
+serving-end group deps keys left h e m are = λ x. (
+  λ k. let w = h.sound x k in
+      record {
+        key = (are.keys x).0 (ap is_some w.1);
+        name = w.2.name;
+        member = w.2.member;
+        chain = enables-served m group x w.0 (if_some-at (IsDepsOf m x) (get_at deps x) w.0 w.1 (are.each x)) w.2;
+      },
+  λ k. let s = some-at (get_at deps x) ((are.keys x).1 k.key) in
+      let d = if_some-at (IsDepsOf m x) (get_at deps x) s.0 s.1 (are.each x) in
+      elim (h.whole x s.0 s.1 (served-enables m group x s.0 d k.name k.member k.chain (bytes_eq k.name x) refl)) [
+        | inl w ↦ w
+        | inr w ↦ absurd (let z : None ≡ Some s.0 = sym (ap (lookup (is_at (λ (k : Bor Name). slice_cmp nat_cmp x k.now))) e) ∙ w in cc)
+      ],
+)
 
 -- ---- the sets of keys of all groups
 

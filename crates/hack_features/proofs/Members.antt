@@ -30,15 +30,17 @@ pub Contains-map : {X Y : Type 0} (f : X → Y) (xs : List X) (x : X) → Contai
 Contains-map f [] x h = absurd (Contains-nil x h)
 Contains-map f (y ∷ xs) x h =
     elim (Contains-cons_cases y xs x h) [
-    | inl e ↦ subst (λ z. Contains (map f (y ∷ xs)) (f z)) e (Contains-head (f y) (map f xs))
-    | inr w ↦ Contains-tail (f y) (map f xs) (f x) (Contains-map f xs x w) ]
+      | inl e ↦ subst (λ z. Contains (map f (y ∷ xs)) (f z)) e (Contains-head (f y) (map f xs))
+      | inr w ↦ Contains-tail (f y) (map f xs) (f x) (Contains-map f xs x w)
+    ]
 
 pub Contains-map_from : {X Y : Type 0} (f : X → Y) (xs : List X) (y : Y) → Contains (map f xs) y → (x : X) × Contains xs x × (f x ≡ y)
 Contains-map_from f [] y h = absurd (Contains-nil y h)
 Contains-map_from f (z ∷ xs) y h =
     elim (Contains-cons_cases (f z) (map f xs) y h) [
-    | inl e ↦ (z, Contains-head z xs, e)
-    | inr w ↦ let r = Contains-map_from f xs y w in (r.0, Contains-tail z xs r.0 r.1, r.2) ]
+      | inl e ↦ (z, Contains-head z xs, e)
+      | inr w ↦ let r = Contains-map_from f xs y w in (r.0, Contains-tail z xs r.0 r.1, r.2)
+    ]
 
 Contains-filter-step : {X : Type 0} (p : X → Bool) (y : X) (xs : List X) (x : X) (b : Bool) → p y ≡ b → p x ≡ true → (y ≡ x) ⊎ Contains xs x → (Contains xs x → Contains (filter p xs) x) → Contains (cond b (y ∷ filter p xs) (filter p xs)) x
 Contains-filter-step p y xs x true e k (inl h) ih = subst (λ z. Contains (y ∷ filter p xs) z) h (Contains-head y (filter p xs))
@@ -53,8 +55,9 @@ Contains-filter p (y ∷ xs) x h k = Contains-filter-step p y xs x (p y) refl k 
 Contains-filter_from-step : {X : Type 0} (p : X → Bool) (y : X) (xs : List X) (x : X) (b : Bool) → p y ≡ b → Contains (cond b (y ∷ filter p xs) (filter p xs)) x → (Contains (filter p xs) x → Contains xs x × (p x ≡ true)) → Contains (y ∷ xs) x × (p x ≡ true)
 Contains-filter_from-step p y xs x true e h ih =
     elim (Contains-cons_cases y (filter p xs) x h) [
-    | inl w ↦ (subst (λ z. Contains (y ∷ xs) z) w (Contains-head y xs), sym (ap p w) ∙ e)
-    | inr w ↦ let r = ih w in (Contains-tail y xs x r.0, r.1) ]
+      | inl w ↦ (subst (λ z. Contains (y ∷ xs) z) w (Contains-head y xs), sym (ap p w) ∙ e)
+      | inr w ↦ let r = ih w in (Contains-tail y xs x r.0, r.1)
+    ]
 Contains-filter_from-step p y xs x false e h ih = let r = ih h in (Contains-tail y xs x r.0, r.1)
 
 pub Contains-filter_from : {X : Type 0} (p : X → Bool) (xs : List X) (x : X) → Contains (filter p xs) x → Contains xs x × (p x ≡ true)

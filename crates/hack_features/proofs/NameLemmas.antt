@@ -76,11 +76,13 @@ length-shown refs = length-map refs (λ (b : Bor Name). b.now)
 
 has-more-step : (x y : Name) (b old new : Bool) → bytes_eq x y ≡ b → new ≡ cond b true old → IsTrue new ↔ (IsTrue old ⊎ (x ≡ y))
 has-more-step x y true old new t e = (λ k. inr (same_text x y t), λ k. e)
-has-more-step x y false old new t e =
-    (λ k. inl (sym e ∙ k),
-     λ k. elim k [
-     | inl o ↦ e ∙ o
-     | inr s ↦ let z : false ≡ true = sym t ∙ (bytes_eq-Decides x y).1 s in cc ])
+has-more-step x y false old new t e = (
+  λ k. inl (sym e ∙ k),
+  λ k. elim k [
+    | inl o ↦ e ∙ o
+    | inr s ↦ let z : false ≡ true = sym t ∙ (bytes_eq-Decides x y).1 s in cc
+  ],
+)
 
 -- what a set has once x went into it
 pub has-more : (x y : Name) (old new : NameSet) → has_name new y ≡ cond (is_eq (slice_cmp nat_cmp x y)) true (has_name old y) → IsTrue (has_name new y) ↔ (IsTrue (has_name old y) ⊎ (x ≡ y))
@@ -89,9 +91,10 @@ has-more x y old new e = has-more-step x y (bytes_eq x y) (has_name old y) (has_
 -- a set of the names in a list, and one name more in both
 pub has_just-more : (names : List Name) (x : Name) (old new : NameSet) → HasJust old names → ((y : Name) → has_name new y ≡ cond (is_eq (slice_cmp nat_cmp x y)) true (has_name old y)) → HasJust new (names ++ x ∷ [])
 has_just-more names x old new h e = λ y.
-    let m = has-more x y old new (e y) in
-    (λ k. elim (m.0 k) [ inl o ↦ Contains-append_left names (x ∷ []) y ((h y).0 o) | inr s ↦ subst (λ u. Contains (names ++ x ∷ []) u) s (Contains-push names x) ],
-     λ k. elim (Contains-push_cases names x y k) [ inl o ↦ m.1 (inl ((h y).1 o)) | inr s ↦ m.1 (inr s) ])
+    let m = has-more x y old new (e y) in (
+      λ k. elim (m.0 k) [ inl o ↦ Contains-append_left names (x ∷ []) y ((h y).0 o) | inr s ↦ subst (λ u. Contains (names ++ x ∷ []) u) s (Contains-push names x) ],
+      λ k. elim (Contains-push_cases names x y k) [ inl o ↦ m.1 (inl ((h y).1 o)) | inr s ↦ m.1 (inr s) ],
+    )
 
 -- what a set and a list both have nothing of
 pub has_just-nil : (s : NameSet) → s.keys ≡ [] → HasJust s []
@@ -122,9 +125,10 @@ join-push (y ∷ z ∷ names) x h =
 -- ---- texts and references of which one has a name
 
 pub names-any : {Y : Type 0} (texts : List (String Y)) (v : Name) → Any (λ text. string_bytes text ≡ v) texts ↔ Contains (names_of texts) v
-names-any {Y} texts v =
-    (λ h. subst (λ n. Contains (names_of texts) n) h.4 (Contains-map (λ (t : String Y). string_bytes t) texts h.1 (h.0, h.2, h.3)),
-     λ h. let w = Contains-map_from (λ (t : String Y). string_bytes t) texts v h in (w.1.0, w.0, w.1.1, w.1.2, w.2))
+names-any {Y} texts v = (
+  λ h. subst (λ n. Contains (names_of texts) n) h.4 (Contains-map (λ (t : String Y). string_bytes t) texts h.1 (h.0, h.2, h.3)),
+  λ h. let w = Contains-map_from (λ (t : String Y). string_bytes t) texts v h in (w.1.0, w.0, w.1.1, w.1.2, w.2),
+)
 
 pub shown-any : (P : Name → Type 0) (refs : List (Bor Name)) → Any (λ ref. P ref.now) refs → (n : Name) × Contains (shown refs) n × P n
 shown-any P refs h = (h.1.now, Contains-map (λ (b : Bor Name). b.now) refs h.1 (h.0, h.2, h.3), h.4)

@@ -16,11 +16,12 @@ loop-group-preserved c =
     let groups = take c.loop-group.group-index (groups_of features) in
     let group = group_of c.group-item.result in
     subst (λ gs. ServeSoFar deps gs c.if-not-is_empty.sets.items) (sym (groups-more features c.loop-group.group-index c.group-item.result c.loop-group-test.true c.group-item.is))
-      (elim c.if-not-is_empty.branch [
+    (elim c.if-not-is_empty.branch [
       | then-not-is_empty+in_ok-push w ↦
-        subst (λ sets. ServeSoFar deps (groups ++ group ∷ []) sets) (sym (ap (λ v. v.items) w.sets-is ∙ w.in_ok-push.ensures.items))
+          subst (λ sets. ServeSoFar deps (groups ++ group ∷ []) sets) (sym (ap (λ v. v.items) w.sets-is ∙ w.in_ok-push.ensures.items))
           (serve-kept deps groups group c.loop-group.sets.items c.in_ok-keys.keys c.loop-group.invariant c.in_ok-keys.ensures
-            (not_from c.is_empty.result w.if-not-is_empty.true c.is_empty.ensures.1))
+          (not_from c.is_empty.result w.if-not-is_empty.true c.is_empty.ensures.1))
       | else-not-is_empty w ↦
-        subst (λ sets. ServeSoFar deps (groups ++ group ∷ []) sets) (sym (ap (λ v. v.items) w.sets-is))
-          (serve-dropped deps groups group c.loop-group.sets.items c.in_ok-keys.keys c.loop-group.invariant c.in_ok-keys.ensures (c.is_empty.ensures.0 w.if-not-is_empty.false)) ])
+          subst (λ sets. ServeSoFar deps (groups ++ group ∷ []) sets) (sym (ap (λ v. v.items) w.sets-is))
+          (serve-dropped deps groups group c.loop-group.sets.items c.in_ok-keys.keys c.loop-group.invariant c.in_ok-keys.ensures (c.is_empty.ensures.0 w.if-not-is_empty.false))
+    ])

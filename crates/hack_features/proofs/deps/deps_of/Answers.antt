@@ -17,21 +17,23 @@ loop-other-preserved c =
     let before = take c.loop-other.other-index (shown items) in
     let x = c.args.name.now in
     subst (λ names. Tells c.if-ne.set x names) (sym (shown-more items c.loop-other.other-index other c.loop-other-test.true is))
-      (elim c.if-ne.branch [
+    (elim c.if-ne.branch [
       | then-ne+in_ok-insert w ↦
-        subst (λ s. Tells s x (before ++ other.now ∷ [])) (sym w.set-is)
+          subst (λ s. Tells s x (before ++ other.now ∷ [])) (sym w.set-is)
           (tells-more x other.now before c.loop-other.set w.insert.new.self c.loop-other.invariant (λ y. w.in_ok-insert.ensures.updates.0 (record { ref_ptr = (0, 0); now = y }))
-            (differ other.now x (from_not_true (sym c.ne.ensures ∙ w.if-ne.true))))
+          (differ other.now x (from_not_true (sym c.ne.ensures ∙ w.if-ne.true))))
       | else-ne w ↦
-        subst (λ s. Tells s x (before ++ other.now ∷ [])) (sym w.set-is)
-          (tells-skip x other.now before c.loop-other.set c.loop-other.invariant (same_text other.now x (from_not_false (sym c.ne.ensures ∙ w.if-ne.false)))) ])
+          subst (λ s. Tells s x (before ++ other.now ∷ [])) (sym w.set-is)
+          (tells-skip x other.now before c.loop-other.set c.loop-other.invariant (same_text other.now x (from_not_false (sym c.ne.ensures ∙ w.if-ne.false))))
+    ])
 
 pub returns : goal.returns
 returns c = λ y.
     let items = c.as_slice-other-items.result.now in
     let all : c.loop-other.other-index ≡ length (shown items) = omega (arith, length-shown items) in
     let same : take c.loop-other.other-index (shown items) ≡ shown c.in_ok-found.found.items =
-      ap (λ n. take n (shown items)) all ∙ take-length (shown items) ∙ ap shown c.as_slice-other-items.ensures.value in
-    let h = c.loop-other.invariant y in
-    (λ k. ((h.0 k).0, (c.in_ok-found.ensures.exact y).0 (subst (λ l. Contains l y) same (h.0 k).1)),
-     λ k. h.1 (k.0, subst (λ l. Contains l y) (sym same) ((c.in_ok-found.ensures.exact y).1 k.1)))
+    ap (λ n. take n (shown items)) all ∙ take-length (shown items) ∙ ap shown c.as_slice-other-items.ensures.value in
+    let h = c.loop-other.invariant y in (
+      λ k. ((h.0 k).0, (c.in_ok-found.ensures.exact y).0 (subst (λ l. Contains l y) same (h.0 k).1)),
+      λ k. h.1 (k.0, subst (λ l. Contains l y) (sym same) ((c.in_ok-found.ensures.exact y).1 k.1)),
+    )
