@@ -9,7 +9,8 @@ use Rattle.std.proofs.lemmas.Slice.Eq.{bytes_eq-Decides}
 use Rattle.std.proofs.lemmas.Bool.{and_parts, and_from, or_cases, cases_eq, cases_lt, cases_order}
 use Rattle.std.proofs.lemmas.Bool.Decides.{eqb_tells}
 use Rattle.std.proofs.lemmas.List.Elements.{All-contains, All-contains_itself, All-nil, Contains-get_or, Contains-push, Contains-push_cases, Contains-append_left}
-use Rattle.std.proofs.lemmas.List.Edits.{length-remove}
+use Rattle.std.proofs.lemmas.List.Edits.{length-remove, get_or-remove_below, get_or-remove_above}
+use Rattle.std.proofs.lemmas.List.{get_or_default}
 use Rattle.hack_features.proofs.Members.{Contains-nil, Contains-cons_cases, Contains-head, Contains-tail, last_of}
 use Rattle.hack_features.proofs.Passes.{all_pass, each_passes, some_passes, any_passes, removed_member}
 use Rattle.hack_features.proofs.Coverage.{Chain-append, named_in, within_left, exclusive_left, selection_left, enables_left, nonempty_left, name_left, name_kept}
@@ -161,3 +162,280 @@ covers_iff c deps h s names =
      },
      λ e. and_from (not (length s == 0)) _ (is_not_empty s e.nonempty)
        (all_pass (set_enables_test deps c.candidates s) names (λ y cy. (set_enables_iff c deps h s y).1 (All-contains (IsEnabledBy c s) names y e.all cy))))
+
+-- taking out one position
+
+at_default : (s : List ℕ) (i d : ℕ) → i < length s → get_or s i d ≡ get_or s i 0
+at_default s i d lt = get_or_default s i d 0 lt
+
+-- places of an increasing list
+module _ (n : ℕ) (s : List ℕ) (h : IsSelection n s) where
+  pub rises : (i j : ℕ) → i < j → j < length s → get_or s i 0 < get_or s j 0
+  rises i j lt in' = h.increasing i j 0 lt in'
+
+  -- a greater element stands at a later place
+  pub later : (k j : ℕ) → k < length s → j < length s → get_or s k 0 < get_or s j 0 → k < j
+  later k j kl jl lt = elim (cases_order k j) [
+    | inl e ↦ absurd (let same : get_or s k 0 ≡ get_or s j 0 = ap (λ i. get_or s i 0) e in omega arith)
+    | inr w ↦ elim w [ inl l ↦ l | inr g ↦ absurd (let r = rises j k g kl in omega arith) ] ]
+
+  -- the one that is taken out is gone
+  pub removed_gone : (k : ℕ) → k < length s → ¬ Contains (remove s k) (get_or s k 0)
+  removed_gone k kl c =
+      let is : get_or (remove s k) c.0 0 ≡ get_or s k 0 = sym (at_default (remove s k) c.0 (get_or s k 0) c.1) ∙ c.2 in
+      let fewer = length-remove s k kl in
+      elim (cases_lt c.0 k) [
+      | inl l ↦ (let same = get_or-remove_below s k 0 c.0 l kl in let r = rises c.0 k l kl in omega arith)
+      | inr g ↦ (let same = get_or-remove_above s k 0 c.0 g kl in let r = rises k (c.0 + 1) (omega arith) (omega (arith, c.1)) in omega arith) ]
+
+-- any other stays
+pub removed_other : (s : List ℕ) (k : ℕ) (q : ℕ) → k < length s → Contains s q → q ≢ get_or s k 0 → Contains (remove s k) q
+removed_other [] k q kl c ne = absurd (Contains-nil q c)
+removed_other (x ∷ s) zero q kl c ne = elim (Contains-cons_cases x s q c) [ inl e ↦ absurd (ne (sym e)) | inr w ↦ w ]
+removed_other (x ∷ s) (suc k) q kl c ne =
+    elim (Contains-cons_cases x s q c) [
+    | inl e ↦ subst (λ y. Contains (x ∷ remove s k) y) e (Contains-head x (remove s k))
+    | inr w ↦ Contains-tail x (remove s k) q (removed_other s k q (omega arith) w ne) ]
+
+bytes_tell-by : (x y : Name) (b : Bool) → bytes_eq x y ≡ b → (x ≡ y) ⊎ (x ≢ y)
+bytes_tell-by x y true e = inl ((bytes_eq-Decides x y).0 e)
+bytes_tell-by x y false e = inr (λ s. let t : bytes_eq x y ≡ true = (bytes_eq-Decides x y).1 s in let z : true ≡ false = sym t ∙ e in cc)
+
+-- whether two names are the same can be told
+bytes_tell : (x y : Name) → (x ≡ y) ⊎ (x ≢ y)
+bytes_tell x y = bytes_tell-by x y (bytes_eq x y) refl
+
+-- a set that enables the same names serves the same groups
+serves_same : (c : Choice) (s t : List ℕ) → EnableTheSame c s t → (group : List Name) → Serves c group s → Serves c group t
+serves_same c s t same group v =
+    let e = (same v.name).0 (record { by = v.name; named = v.named; chain = here }) in
+    record {
+      name = e.by;
+      named = e.named;
+      enables = record {
+        key = elim (bytes_tell e.by v.name) [
+          | inl q ↦ subst (IsKey c.map) (sym q) v.enables.key
+          | inr n ↦ key_from c.map e.chain n ];
+        name = v.enables.name;
+        member = v.enables.member;
+        chain = Chain-append e.chain v.enables.chain;
+      };
+    }
+
+pub required_same : (c : Choice) (s t : List ℕ) → EnableTheSame c s t → IsRequired c s → IsRequired c t
+required_same c s t same r = λ k d lt key can. serves_same c s t same (get_or c.at_least_one_of k d) (r k d lt key can)
+
+-- t and u agree on the members of s from the place k on
+abbrev pub AgreeFrom : ℕ → List ℕ → List ℕ → List ℕ → Type 0
+AgreeFrom k s t u = (j : ℕ) → k ≤ j → j < length s → Contains t (get_or s j 0) ↔ Contains u (get_or s j 0)
+
+-- u is a nonempty set inside s that enables the same names
+pub record IsRival (c : Choice) (s u : List ℕ) : Type 0 where
+  pub nonempty : u ≢ []
+  pub inside : All (Contains s) u
+  pub same : EnableTheSame c s u
+
+-- kept is s, less those members from the place k on that the others cover
+pub record Greedy (c : Choice) (s : List ℕ) (k : ℕ) (kept : List ℕ) : Type 0 where
+  pub selection : IsSelection (length c.candidates) kept
+  pub wanted : IsWanted c kept
+  pub rival : IsRival c s kept
+  pub front : (j : ℕ) → j < k → get_or kept j 0 ≡ get_or s j 0
+  pub room : k ≤ length kept
+  pub least : (u : List ℕ) → IsRival c s u → IsBefore kept u ⊎ AgreeFrom k s kept u
+
+pub greedy_start : (c : Choice) (s : List ℕ) → IsSelection (length c.candidates) s → IsWanted c s → Greedy c s (length s) s
+greedy_start c s sel w = record {
+  selection = sel;
+  wanted = w;
+  rival = record { nonempty = w.nonempty; inside = All-contains_itself s; same = λ y. (λ e. e, λ e. e) };
+  front = λ j lt. refl;
+  room = omega arith;
+  least = λ u r. inr (λ j ge lt. absurd (omega arith));
+}
+
+-- a set that is not empty has a member
+first_member : (s : List ℕ) → s ≢ [] → (p : ℕ) × Contains s p
+first_member [] n = absurd (n refl)
+first_member (x ∷ s) n = (x, Contains-head x s)
+
+-- one turn at the place k: the set without that place, where it is not empty and enables the names there, else as it is
+module _ (c : Choice) (s : List ℕ) (hs : IsSelection (length c.candidates) s) (k : ℕ) (kl : k < length s) (kept : List ℕ) (h : Greedy c s (k + 1) kept) where
+  at : k < length kept
+  at = let r = h.room in omega arith
+
+  same_place : get_or kept k 0 ≡ get_or s k 0
+  same_place = h.front k (omega arith)
+
+  is : get_or s k 0 ≡ get_or kept k (get_or s k 0)
+  is = sym (at_default kept k (get_or s k 0) at ∙ same_place)
+
+  -- a member of s that is greater stands at a later place
+  place_of : (q : ℕ) → Contains s q → (j : ℕ) × (j < length s) × (get_or s j 0 ≡ q)
+  place_of q w = (w.0, w.1, sym (at_default s w.0 q w.1) ∙ w.2)
+
+  -- above the place both sets have the same members
+  above_same : (u : List ℕ) → All (Contains s) u → AgreeFrom (k + 1) s kept u → (q : ℕ) → get_or s k 0 < q → Contains kept q ↔ Contains u q
+  above_same u iu agree q gt =
+      (λ w. let j = place_of q (All-contains (Contains s) kept q h.rival.inside w) in
+        let on : k < j.0 = later (length c.candidates) s hs k j.0 kl j.1 (rw j.2 gt) in
+        subst (λ x. Contains u x) j.2 ((agree j.0 (omega arith) j.1).0 (subst (λ x. Contains kept x) (sym j.2) w)),
+       λ w. let j = place_of q (All-contains (Contains s) u q iu w) in
+        let on : k < j.0 = later (length c.candidates) s hs k j.0 kl j.1 (rw j.2 gt) in
+        subst (λ x. Contains kept x) j.2 ((agree j.0 (omega arith) j.1).1 (subst (λ x. Contains u x) (sym j.2) w)))
+
+  gone : ¬ Contains (remove kept k) (get_or s k 0)
+  gone w = removed_gone (length c.candidates) kept h.selection k at (subst (λ x. Contains (remove kept k) x) (sym same_place) w)
+
+  other : (q : ℕ) → Contains kept q → q ≢ get_or s k 0 → Contains (remove kept k) q
+  other q w ne = removed_other kept k q at w (λ e. ne (e ∙ same_place))
+
+  -- where the others cover what stands at the place
+  module _ (covered : EnablesAll c (remove kept k) (names_at c (get_or s k 0))) where
+    same_without : EnableTheSame c kept (remove kept k)
+    same_without y =
+        (λ e. elim (name_left c kept k (get_or s k 0) at is e.by e.named) [
+          | inl w ↦ let f = All-contains (IsEnabledBy c (remove kept k)) (names_at c (get_or s k 0)) e.by covered.all w in record { by = f.by; named = f.named; chain = Chain-append f.chain e.chain }
+          | inr w ↦ record { by = e.by; named = w; chain = e.chain } ],
+         λ e. record { by = e.by; named = name_kept c kept k (get_or s k 0) at is e.by e.named; chain = e.chain })
+
+    before_without : (u : List ℕ) → All (Contains s) u → Contains u (get_or s k 0) → ((q : ℕ) → get_or s k 0 < q → Contains kept q ↔ Contains u q) → IsBefore (remove kept k) u
+    before_without u iu w up = record {
+      greatest = get_or s k 0;
+      absent = gone;
+      present = w;
+      above = λ q gt. (λ v. (up q gt).0 (removed_member kept k q v), λ v. other q ((up q gt).1 v) (λ e. (omega (arith, e))));
+    }
+
+    least_without : (u : List ℕ) → IsRival c s u → IsBefore kept u ⊎ AgreeFrom (k + 1) s kept u → Contains u (get_or s k 0) ⊎ (¬ Contains u (get_or s k 0)) → IsBefore (remove kept k) u ⊎ AgreeFrom k s (remove kept k) u
+    least_without u r (inl b) tell =
+        elim (cases_order b.greatest (get_or s k 0)) [
+        | inl e ↦ absurd (b.absent (subst (λ x. Contains kept x) (sym e) (k, at, sym is)))
+        | inr w ↦ elim w [
+          | inl lt ↦ inl (before_without u r.inside ((b.above (get_or s k 0) lt).0 (k, at, sym is)) (λ q gt. b.above q (omega arith)))
+          | inr gt ↦ inl (record {
+              greatest = b.greatest;
+              absent = λ v. b.absent (removed_member kept k b.greatest v);
+              present = b.present;
+              above = λ q up. (λ v. (b.above q up).0 (removed_member kept k q v), λ v. other q ((b.above q up).1 v) (λ e. (omega (arith, e))));
+            }) ] ]
+    least_without u r (inr agree) (inl w) = inl (before_without u r.inside w (above_same u r.inside agree))
+    least_without u r (inr agree) (inr n) = inr (λ j ge lt.
+        elim (cases_order k j) [
+        | inl e ↦ (λ v. absurd (gone (subst (λ i. Contains (remove kept k) (get_or s i 0)) (sym e) v)), λ v. absurd (n (subst (λ i. Contains u (get_or s i 0)) (sym e) v)))
+        | inr w ↦ elim w [
+          | inl on ↦
+            let up : get_or s k 0 < get_or s j 0 = rises (length c.candidates) s hs k j on lt in
+            (λ v. (agree j (omega arith) lt).0 (removed_member kept k (get_or s j 0) v), λ v. other (get_or s j 0) ((agree j (omega arith) lt).1 v) (λ e. omega (arith, e)))
+          | inr before ↦ absurd (omega arith) ] ])
+
+    pub greedy_without : Greedy c s k (remove kept k)
+    greedy_without = record {
+      selection = selection_left c kept k (get_or s k 0) at is (length c.candidates) h.selection;
+      wanted = record {
+        nonempty = covered.nonempty;
+        within = within_left c kept k (get_or s k 0) at is h.wanted.within;
+        exclusive = exclusive_left c kept k (get_or s k 0) at is h.wanted.exclusive;
+        required = required_same c kept (remove kept k) same_without h.wanted.required;
+      };
+      rival = record {
+        nonempty = covered.nonempty;
+        inside = λ i d lt. All-contains (Contains s) kept (get_or (remove kept k) i d) h.rival.inside (removed_member kept k _ (Contains-get_or (remove kept k) i d lt));
+        same = λ y. (λ e. (same_without y).0 ((h.rival.same y).0 e), λ e. (h.rival.same y).1 ((same_without y).1 e));
+      };
+      front = λ j lt. get_or-remove_below kept k 0 j lt at ∙ h.front j (omega arith);
+      room = let r = h.room in let fewer = length-remove kept k at in omega arith;
+      least = λ u r. least_without u r (h.least u r) (member u (get_or s k 0));
+    }
+
+  -- where they don't
+  module _ (uncovered : ¬ EnablesAll c (remove kept k) (names_at c (get_or s k 0))) where
+    -- a rival without the place, that agrees above it, lies in what is left
+    inside_rest : (u : List ℕ) → IsRival c s u → AgreeFrom (k + 1) s kept u → ¬ Contains u (get_or s k 0) → (q : ℕ) → Contains u q → Contains (remove kept k) q
+    inside_rest u r agree n q w =
+        let ne : q ≢ get_or s k 0 = λ e. n (subst (λ x. Contains u x) e w) in
+        elim (cases_order q (get_or s k 0)) [
+        | inl e ↦ absurd (ne e)
+        | inr v ↦ elim v [
+          | inl lt ↦
+            let j = place_of q (All-contains (Contains s) u q r.inside w) in
+            let low : j.0 < k = later (length c.candidates) s hs j.0 k j.1 kl (rw j.2 lt) in
+            other q (subst (λ x. Contains kept x) (h.front j.0 (omega arith) ∙ j.2) (j.0, (let a = at in omega arith), at_default kept j.0 (get_or kept j.0 0) (let a = at in omega arith))) ne
+          | inr gt ↦ other q ((above_same u r.inside agree q gt).1 w) ne ] ]
+
+    covers_all : (u : List ℕ) → IsRival c s u → AgreeFrom (k + 1) s kept u → ¬ Contains u (get_or s k 0) → EnablesAll c (remove kept k) (names_at c (get_or s k 0))
+    covers_all u r agree n = record {
+      nonempty = λ e. let some = first_member u r.nonempty in Contains-nil some.0 (subst (λ l. Contains l some.0) e (inside_rest u r agree n some.0 some.1));
+      all = λ i d lt.
+        let y = get_or (names_at c (get_or s k 0)) i d in
+        let named = named_in c kept (get_or s k 0) y (k, at, sym is) (Contains-get_or (names_at c (get_or s k 0)) i d lt) in
+        let e = (r.same y).0 ((h.rival.same y).1 (record { by = y; named = named; chain = here })) in
+        let q = member_of c u e.by e.named in
+        record { by = e.by; named = named_in c (remove kept k) q.0 e.by (inside_rest u r agree n q.0 q.1) q.2; chain = e.chain };
+    }
+
+    agree_on : (u : List ℕ) → IsRival c s u → AgreeFrom (k + 1) s kept u → Contains u (get_or s k 0) ⊎ (¬ Contains u (get_or s k 0)) → AgreeFrom k s kept u
+    agree_on u r agree (inr n) = absurd (uncovered (covers_all u r agree n))
+    agree_on u r agree (inl w) = λ j ge lt.
+        elim (cases_order k j) [
+        | inl e ↦ (λ v. subst (λ i. Contains u (get_or s i 0)) e w, λ v. subst (λ i. Contains kept (get_or s i 0)) e (k, at, sym is))
+        | inr v ↦ elim v [ inl on ↦ agree j (omega arith) lt | inr before ↦ absurd (omega arith) ] ]
+
+    pub greedy_with : Greedy c s k kept
+    greedy_with = record {
+      selection = h.selection;
+      wanted = h.wanted;
+      rival = h.rival;
+      front = λ j lt. h.front j (omega arith);
+      room = let r = h.room in omega arith;
+      least = λ u r. elim (h.least u r) [ inl b ↦ inl b | inr agree ↦ inr (agree_on u r agree (member u (get_or s k 0))) ];
+    }
+
+-- after the last turn
+
+module _ (c : Choice) (s : List ℕ) (hs : IsSelection (length c.candidates) s) (kept : List ℕ) (h : Greedy c s 0 kept) where
+  -- any rival is the same, or behind
+  first : (u : List ℕ) → IsSelection (length c.candidates) u → IsRival c s u → IsBefore kept u ⊎ (kept ≡ u)
+  first u hu r =
+      elim (h.least u r) [
+      | inl b ↦ inl b
+      | inr agree ↦ elim (ordered (length c.candidates) kept u h.selection hu) [
+        | inl b ↦ inl b
+        | inr w ↦ elim w [
+          | inl e ↦ inr e
+          | inr b ↦
+            let m = All-contains (Contains s) kept b.greatest h.rival.inside b.present in
+            let e : get_or s m.0 0 ≡ b.greatest = sym (at_default s m.0 b.greatest m.1) ∙ m.2 in
+            absurd (b.absent (subst (λ x. Contains u x) e ((agree m.0 (omega arith) m.1).0 (subst (λ x. Contains kept x) (sym e) b.present)))) ] ] ]
+
+  -- nothing in it is redundant
+  lean : ¬ IsRedundant c kept
+  lean r =
+      let i = r.member.0 in
+      let at : i < length kept = r.member.1 in
+      let is : r.spared ≡ get_or kept i r.spared = sym r.member.2 in
+      let named = named_in c kept r.keeper r.spares.by r.kept r.spares.named in
+      let u = remove kept i in
+      let rival : IsRival c s u = record {
+        nonempty = nonempty_left c kept i r.spared at is r.spares.by named r.spares.key r.spares.enabled;
+        inside = λ k d lt. All-contains (Contains s) kept (get_or u k d) h.rival.inside (removed_member kept i _ (Contains-get_or u k d lt));
+        same = λ y. let one = enables_left c kept i r.spared at is r.spares.by named r.spares.key r.spares.enabled y in let two = h.rival.same y in (λ e. one.0 (two.0 e), λ e. two.1 (one.1 e));
+      } in
+      elim (first u (selection_left c kept i r.spared at is (length c.candidates) h.selection) rival) [
+      | inl b ↦ b.absent (removed_member kept i b.greatest b.present)
+      | inr e ↦ (let fewer = length-remove kept i at in let longer : length kept ≡ length u = ap length e in omega arith) ]
+
+  pub greedy_end : IsFirstCover c s kept
+  greedy_end = record {
+    covers = record {
+      selection = h.selection;
+      listed = record {
+        nonempty = h.wanted.nonempty;
+        permitted = record { within = h.wanted.within; lean = lean; exclusive = h.wanted.exclusive };
+        required = h.wanted.required;
+      };
+      inside = h.rival.inside;
+      same = h.rival.same;
+    };
+    first = λ u v. first u v.selection (record { nonempty = v.listed.nonempty; inside = v.inside; same = v.same });
+  }

@@ -9,3 +9,4 @@ pub mod TableLemmas
 pub mod NameLemmas
 pub mod ReachLemmas
 pub mod CoverLemmas
+pub mod DepsLemmas

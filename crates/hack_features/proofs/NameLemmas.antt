@@ -1,5 +1,5 @@
 -- Names, lists of them, and tables of them.
-use Rattle.std.proofs.Common.{◌≡◌, ◌≢◌, ℕ, ◌+◌, ◌<◌, ◌≤◌, List, [], ◌∷◌, ◌++◌, length, get_or, take, refl, sym, ◌∙◌, ap, subst, arith, Bool, true, false, cond, IsTrue, ◌⊎◌, inl, inr, ◌↔◌, Any, Contains, String, string_bytes, append_assoc}
+use Rattle.std.proofs.Common.{◌≡◌, ◌≢◌, ℕ, ◌+◌, ◌<◌, ◌≤◌, List, [], ◌∷◌, ◌++◌, length, get_or, take, refl, sym, ◌∙◌, ap, subst, arith, Bool, true, false, cond, IsTrue, ◌⊎◌, inl, inr, ◌↔◌, Any, Contains, String, string_bytes, append_assoc, not}
 use Rattle.std.specs.List.{IsDistinct, list_any, join_with_byte}
 use Rattle.std.specs.Cmp.Lexicographic.{nat_list_eq_equiv, slice_cmp}
 use Rattle.std.specs.Ordering.{nat_cmp, is_eq}
@@ -76,11 +76,13 @@ length-shown refs = length-map refs (λ (b : Bor Name). b.now)
 
 has-more-step : (x y : Name) (b old new : Bool) → bytes_eq x y ≡ b → new ≡ cond b true old → IsTrue new ↔ (IsTrue old ⊎ (x ≡ y))
 has-more-step x y true old new t e = (λ k. inr (same_text x y t), λ k. e)
-has-more-step x y false old new t e =
-    (λ k. inl (sym e ∙ k),
-     λ k. elim k [
-     | inl o ↦ e ∙ o
-     | inr s ↦ let z : false ≡ true = sym t ∙ (bytes_eq-Decides x y).1 s in cc ])
+has-more-step x y false old new t e = (
+  λ k. inl (sym e ∙ k),
+  λ k. elim k [
+    | inl o ↦ e ∙ o
+    | inr s ↦ let z : false ≡ true = sym t ∙ (bytes_eq-Decides x y).1 s in cc
+  ],
+)
 
 -- what a set has once x went into it
 pub has-more : (x y : Name) (old new : NameSet) → has_name new y ≡ cond (is_eq (slice_cmp nat_cmp x y)) true (has_name old y) → IsTrue (has_name new y) ↔ (IsTrue (has_name old y) ⊎ (x ≡ y))
@@ -89,17 +91,27 @@ has-more x y old new e = has-more-step x y (bytes_eq x y) (has_name old y) (has_
 -- a set of the names in a list, and one name more in both
 pub has_just-more : (names : List Name) (x : Name) (old new : NameSet) → HasJust old names → ((y : Name) → has_name new y ≡ cond (is_eq (slice_cmp nat_cmp x y)) true (has_name old y)) → HasJust new (names ++ x ∷ [])
 has_just-more names x old new h e = λ y.
-    let m = has-more x y old new (e y) in
-    (λ k. elim (m.0 k) [ inl o ↦ Contains-append_left names (x ∷ []) y ((h y).0 o) | inr s ↦ subst (λ u. Contains (names ++ x ∷ []) u) s (Contains-push names x) ],
-     λ k. elim (Contains-push_cases names x y k) [ inl o ↦ m.1 (inl ((h y).1 o)) | inr s ↦ m.1 (inr s) ])
+    let m = has-more x y old new (e y) in (
+      λ k. elim (m.0 k) [ inl o ↦ Contains-append_left names (x ∷ []) y ((h y).0 o) | inr s ↦ subst (λ u. Contains (names ++ x ∷ []) u) s (Contains-push names x) ],
+      λ k. elim (Contains-push_cases names x y k) [ inl o ↦ m.1 (inl ((h y).1 o)) | inr s ↦ m.1 (inr s) ],
+    )
 
 -- what a set and a list both have nothing of
 pub has_just-nil : (s : NameSet) → s.keys ≡ [] → HasJust s []
 has_just-nil s e = λ y. (λ k. let z : false ≡ true = sym (ap (list_any (λ (b : Bor Name). is_eq (slice_cmp nat_cmp y b.now))) e) ∙ k in cc, λ k. absurd (omega (arith, k.1)))
 
-pub true_from_not : (b : Bool) → b ≢ true → b ≡ false
-true_from_not true h = absurd (h refl)
-true_from_not false h = refl
+from_not-step : (b r : Bool) → not b ≡ not r → b ≡ r
+from_not-step true true h = refl
+from_not-step true false h = let z : false ≡ true = h in cc
+from_not-step false true h = let z : true ≡ false = h in cc
+from_not-step false false h = refl
+
+-- what a negated test says
+pub from_not_true : {b : Bool} → not b ≡ true → b ≡ false
+from_not_true {b} h = from_not-step b false h
+
+pub from_not_false : {b : Bool} → not b ≡ false → b ≡ true
+from_not_false {b} h = from_not-step b true h
 
 -- ---- names joined
 
@@ -113,9 +125,10 @@ join-push (y ∷ z ∷ names) x h =
 -- ---- texts and references of which one has a name
 
 pub names-any : {Y : Type 0} (texts : List (String Y)) (v : Name) → Any (λ text. string_bytes text ≡ v) texts ↔ Contains (names_of texts) v
-names-any {Y} texts v =
-    (λ h. subst (λ n. Contains (names_of texts) n) h.4 (Contains-map (λ (t : String Y). string_bytes t) texts h.1 (h.0, h.2, h.3)),
-     λ h. let w = Contains-map_from (λ (t : String Y). string_bytes t) texts v h in (w.1.0, w.0, w.1.1, w.1.2, w.2))
+names-any {Y} texts v = (
+  λ h. subst (λ n. Contains (names_of texts) n) h.4 (Contains-map (λ (t : String Y). string_bytes t) texts h.1 (h.0, h.2, h.3)),
+  λ h. let w = Contains-map_from (λ (t : String Y). string_bytes t) texts v h in (w.1.0, w.0, w.1.1, w.1.2, w.2),
+)
 
 pub shown-any : (P : Name → Type 0) (refs : List (Bor Name)) → Any (λ ref. P ref.now) refs → (n : Name) × Contains (shown refs) n × P n
 shown-any P refs h = (h.1.now, Contains-map (λ (b : Bor Name). b.now) refs h.1 (h.0, h.2, h.3), h.4)

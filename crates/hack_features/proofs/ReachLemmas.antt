@@ -74,7 +74,7 @@ target_listed : (edges : Edges) (m : FeatureMap) (x y : Name) → edge_of edges 
 target_listed Enabling m x y e = Contains-append_left (all_values m) (map (before_first (λ b. b == 47)) (all_values m)) y (value_listed m x y e.value)
 target_listed Reaching m x y e =
     Contains-append_right (all_values m) (map (before_first (λ b. b == 47)) (all_values m)) y
-      (subst (λ z. Contains (map (before_first (λ b. b == 47)) (all_values m)) z) e.cut (Contains-map (before_first (λ b. b == 47)) (all_values m) e.value (value_listed m x e.value e.listed)))
+    (subst (λ z. Contains (map (before_first (λ b. b == 47)) (all_values m)) z) e.cut (Contains-map (before_first (λ b. b == 47)) (all_values m) e.value (value_listed m x e.value e.listed)))
 
 reach_listed : (edges : Edges) (m : FeatureMap) (x y : Name) → Chain (edge_of edges m) x y → Contains (x ∷ all_targets m) y
 reach_listed edges m x y c =
@@ -106,13 +106,14 @@ pub adds-then : (P Q R : Name → Type 0) (a b c : List Name) → ((y : Name) �
 adds-then P Q R a b c split p q f g =
     let keep : (y : Name) → Contains b y → Contains c y = λ y k. subst (λ l. Contains l y) (sym g.kept.1) (Contains-append_left b g.kept.0 y k) in
     record {
-    kept = (f.kept.0 ++ g.kept.0, g.kept.1 ∙ ap (λ l. l ++ g.kept.0) f.kept.1 ∙ append_assoc a f.kept.0 g.kept.0);
-    added = λ y r. elim (split y r) [ inl w ↦ keep y (f.added y w) | inr w ↦ g.added y w ];
-    only = λ y k. elim (g.only y k) [
-      | inl w ↦ elim (f.only y w) [ inl v ↦ inl v | inr v ↦ inr (p y v) ]
-      | inr w ↦ inr (q y w) ];
-    distinct = λ d. g.distinct (f.distinct d);
-  }
+      kept = (f.kept.0 ++ g.kept.0, g.kept.1 ∙ ap (λ l. l ++ g.kept.0) f.kept.1 ∙ append_assoc a f.kept.0 g.kept.0);
+      added = λ y r. elim (split y r) [ inl w ↦ keep y (f.added y w) | inr w ↦ g.added y w ];
+      only = λ y k. elim (g.only y k) [
+        | inl w ↦ elim (f.only y w) [ inl v ↦ inl v | inr v ↦ inr (p y v) ]
+        | inr w ↦ inr (q y w)
+      ];
+      distinct = λ d. g.distinct (f.distinct d);
+    }
 
 target-more-left : (edges : Edges) (values : List Name) (v y : Name) → IsTarget edges values y → IsTarget edges (values ++ v ∷ []) y
 target-more-left edges values v y t = record { value = t.value; listed = Contains-append_left values (v ∷ []) t.value t.listed; leads = t.leads }
@@ -122,8 +123,9 @@ target-last edges values v y e = record { value = v; listed = Contains-push valu
 
 target-more_cases : (edges : Edges) (values : List Name) (v y : Name) → IsTarget edges (values ++ v ∷ []) y → IsTarget edges values y ⊎ (target_of edges v ≡ Some y)
 target-more_cases edges values v y t = elim (Contains-push_cases values v t.value t.listed) [
-    | inl w ↦ inl (record { value = t.value; listed = w; leads = t.leads })
-    | inr e ↦ inr (ap (target_of edges) e ∙ t.leads) ]
+  | inl w ↦ inl (record { value = t.value; listed = w; leads = t.leads })
+  | inr e ↦ inr (ap (target_of edges) e ∙ t.leads)
+]
 
 pub adds-no_targets : (edges : Edges) (old : List Name) → Adds (IsTarget edges []) old old
 adds-no_targets edges old = adds-none (IsTarget edges []) old (λ y t. absurd (Contains-nil t.value t.listed))
@@ -132,10 +134,10 @@ adds-no_targets edges old = adds-none (IsTarget edges []) old (λ y t. absurd (C
 pub adds-target : (edges : Edges) (values : List Name) (v x : Name) (a b c : List Name) → Adds (IsTarget edges values) a b → Some x ≡ target_of edges v → Adds (λ y. x ≡ y) b c → Adds (IsTarget edges (values ++ v ∷ [])) a c
 adds-target edges values v x a b c f e g =
     adds-then (IsTarget edges values) (λ y. x ≡ y) (IsTarget edges (values ++ v ∷ [])) a b c
-      (λ y t. elim (target-more_cases edges values v y t) [ inl w ↦ inl w | inr s ↦ inr (let z : Some x ≡ Some y = e ∙ s in cc) ])
-      (λ y t. target-more-left edges values v y t)
-      (λ y s. target-last edges values v y (sym e ∙ ap Some s))
-      f g
+    (λ y t. elim (target-more_cases edges values v y t) [ inl w ↦ inl w | inr s ↦ inr (let z : Some x ≡ Some y = e ∙ s in cc) ])
+    (λ y t. target-more-left edges values v y t)
+    (λ y s. target-last edges values v y (sym e ∙ ap Some s))
+    f g
 
 -- a value that leads nowhere
 pub adds-no_target : (edges : Edges) (values : List Name) (v : Name) (a b : List Name) → Adds (IsTarget edges values) a b → None ≡ target_of edges v → Adds (IsTarget edges (values ++ v ∷ [])) a b
@@ -167,18 +169,19 @@ searching-start edge root found a = record {
 
 pub searching-next : (edge : Name → Name → Type 0) (root : Name) (found new : List Name) (next : ℕ) (x : Name) → Searching edge root found next → next < length found → x ≡ get_or found next x → Adds (edge x) found new → Searching edge root new (next + 1)
 searching-next edge root found new next x h lt e a =
-  let keep : (y : Name) → Contains found y → Contains new y = λ y c. subst (λ l. Contains l y) (sym a.kept.1) (Contains-append_left found a.kept.0 y c) in
-  let at_front : (j : ℕ) (z : Name) → j < length found → get_or new j z ≡ get_or found j z = λ j z in'. ap (λ l. get_or l j z) a.kept.1 ∙ get_or-append found a.kept.0 z j in' in
-  let at_next : (j : ℕ) (z : Name) → j ≡ next → z ≡ get_or new j z → z ≡ x = λ j z same ez. ez ∙ at_front j z (omega arith) ∙ ap (λ i. get_or found i z) same ∙ get_or_default found next z x lt ∙ sym e in
-  record {
-  start = keep root h.start;
-  sound = λ y c. elim (a.only y c) [ inl w ↦ h.sound y w | inr w ↦ Chain-snoc (h.sound x (next, lt, sym e)) w ];
-  closed = λ j z in' ez v d. elim (lt_or_same j next in') [
-    | inl w ↦ keep v (h.closed j z w (ez ∙ at_front j z (omega arith)) v d)
-    | inr w ↦ a.added v (subst (λ y. edge y v) (at_next j z w ez) d) ];
-  distinct = a.distinct h.distinct;
-  within = omega (arith, ap length a.kept.1, length-append found a.kept.0);
-}
+    let keep : (y : Name) → Contains found y → Contains new y = λ y c. subst (λ l. Contains l y) (sym a.kept.1) (Contains-append_left found a.kept.0 y c) in
+    let at_front : (j : ℕ) (z : Name) → j < length found → get_or new j z ≡ get_or found j z = λ j z in'. ap (λ l. get_or l j z) a.kept.1 ∙ get_or-append found a.kept.0 z j in' in
+    let at_next : (j : ℕ) (z : Name) → j ≡ next → z ≡ get_or new j z → z ≡ x = λ j z same ez. ez ∙ at_front j z (omega arith) ∙ ap (λ i. get_or found i z) same ∙ get_or_default found next z x lt ∙ sym e in
+    record {
+      start = keep root h.start;
+      sound = λ y c. elim (a.only y c) [ inl w ↦ h.sound y w | inr w ↦ Chain-snoc (h.sound x (next, lt, sym e)) w ];
+      closed = λ j z in' ez v d. elim (lt_or_same j next in') [
+        | inl w ↦ keep v (h.closed j z w (ez ∙ at_front j z (omega arith)) v d)
+        | inr w ↦ a.added v (subst (λ y. edge y v) (at_next j z w ez) d)
+      ];
+      distinct = a.distinct h.distinct;
+      within = omega (arith, ap length a.kept.1, length-append found a.kept.0);
+    }
 
 pub searching-bound : (edges : Edges) (m : FeatureMap) (root : Name) (found : List Name) (next : ℕ) → Searching (edge_of edges m) root found next → length found ≤ length (root ∷ all_targets m)
 searching-bound edges m root found next h = length-le_from_distinct found (root ∷ all_targets m) h.distinct (λ q c. reach_listed edges m root q (h.sound q c))

@@ -2,9 +2,10 @@
 use Rattle.std.specs.Prelude.{◌≡◌, ◌==◌, List, ◌++◌, Option, None, Some, cond, codes, nat_eq, IsTrue, Contains, ◌↔◌, ◌⊎◌}
 use Rattle.std.specs.List.{IsDistinct, starts_with, before_first}
 use Rattle.std.specs.Str.{bytes_eq}
-use Rattle.hack_features.specs.Names.{Name}
+use Rattle.hack_features.specs.Names.{Name, shown}
 use Rattle.hack_features.specs.FeatureMap.{FeatureMap, HasEdge, HasCutEdge, Chain}
 use Rattle.hack_features.specs.Deps.{NameSet, has_name}
+use Rattle.hack_features.specs.declared.reach.Found.{Found}
 use Rattle.hack_features.specs.declared.reach.Edges.{Edges}
 use Rattle.hack_features.specs.declared.reach.Edges.TheVariants.{Enabling, Reaching}
 
@@ -27,6 +28,14 @@ pub record IsTarget (edges : Edges) (values : List Name) (name : Name) : Type 0 
 -- the set has just the names in the list
 abbrev pub HasJust : NameSet → List Name → Type 0
 HasJust s names = (y : Name) → IsTrue (has_name s y) ↔ Contains names y
+
+-- the names that a search has found, in the order in which it found them
+abbrev pub names_found : Found → List Name
+names_found found = shown found.order.items
+
+-- the set that a search keeps beside its list has just the names in it
+abbrev pub IsInStep : Found → Type 0
+IsInStep found = HasJust found.seen (names_found found)
 
 -- new has the names of old, and behind them those of which P holds that old has not, each once
 pub record Adds (P : Name → Type 0) (old new : List Name) : Type 0 where

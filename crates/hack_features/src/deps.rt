@@ -1,10 +1,9 @@
 //! What each key of a feature map enables, and which keys serve an at-least-one group.
 
-ghost use Rattle.std.specs.Prelude.{◌≡◌, IfOk};
-ghost use Rattle.hack_features.specs.Names.{shown};
+ghost use Rattle.std.specs.Prelude.{IsTrue, IfOk, ◌↔◌};
 ghost use Rattle.hack_features.specs.FeatureMap.{FeatureMap, feature_map};
-ghost use Rattle.hack_features.specs.Deps.{AreDepsOf, IsDepsOf, ServeGroups};
-ghost use Rattle.hack_features.specs.Feature.{groups_of};
+ghost use Rattle.hack_features.specs.Deps.{AreDepsOf, AreServers, IsDepsOf, IsServedBy, ServeGroups};
+ghost use Rattle.hack_features.specs.Feature.{group_of, groups_of};
 
 use crate::feature::Feature;
 use crate::reach::{Edges, names_from};
@@ -45,7 +44,9 @@ pub fn feature_deps<'a>(
 }
 
 /// Whether a name of the group is the key or one of its deps.
-fn serves(group: &Feature, key: &str, deps: &BTreeSet<&str>) -> bool {
+fn serves(group: &Feature, key: &str, deps: &BTreeSet<&str>) -> bool
+    ensures { IsTrue result ↔ IsServedBy (group_of group.now) key.now deps.now }
+{
     for name in group.as_group() {
         if name.as_str() == key || deps.contains(name.as_str()) {
             return true;
@@ -59,7 +60,9 @@ fn servers<'a>(
     alloc: Global,
     group: &Feature,
     deps: &BTreeMap<&'a str, BTreeSet<&'a str>>,
-) -> Result<BTreeSet<&'a str>, AllocError> {
+) -> Result<BTreeSet<&'a str>, AllocError>
+    ensures { IfOk result (λ keys. (m : FeatureMap) → AreDepsOf m deps.now → AreServers m (group_of group.now) keys) }
+{
     let mut keys = BTreeSet::new(alloc);
     for (key, enabled) in deps.iter() {
         if serves(group, *key, enabled) {

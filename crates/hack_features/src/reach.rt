@@ -4,7 +4,7 @@ ghost use Rattle.std.specs.Prelude.{◌≡◌, IfOk, OnOk};
 ghost use Rattle.std.specs.Option.{option_map};
 ghost use Rattle.hack_features.specs.Names.{names_of, shown};
 ghost use Rattle.hack_features.specs.FeatureMap.{feature_map};
-ghost use Rattle.hack_features.specs.Search.{edge_of, HasJust, Adds, IsReach, IsTarget};
+ghost use Rattle.hack_features.specs.Search.{edge_of, IsReach};
 
 use std::alloc::{AllocError, Global};
 use std::collections::{BTreeMap, BTreeSet};
@@ -44,11 +44,13 @@ struct Found<'a> {
 }
 
 impl<'a> Found<'a> {
+    ghost use Rattle.hack_features.specs.Search.{Adds, IsInStep, IsTarget, names_found};
+
     /// Adds a name unless it was found before.
     fn add(&mut self, name: &'a str) -> Result<(), AllocError>
-        requires { HasJust self.old.seen (shown self.old.order.items) }
-        ensures just { OnOk result (HasJust self.new.seen (shown self.new.order.items)) }
-        ensures adds { OnOk result (Adds (λ y. name.now ≡ y) (shown self.old.order.items) (shown self.new.order.items)) }
+        requires { IsInStep self.old }
+        ensures in_step { OnOk result (IsInStep self.new) }
+        ensures adds { OnOk result (Adds (λ y. name.now ≡ y) (names_found self.old) (names_found self.new)) }
     {
         if !self.seen.contains(name) {
             self.seen.insert(name)?;
@@ -59,9 +61,9 @@ impl<'a> Found<'a> {
 
     /// Adds what the values lead to.
     fn add_targets(&mut self, values: &'a [String], edges: Edges) -> Result<(), AllocError>
-        requires { HasJust self.old.seen (shown self.old.order.items) }
-        ensures just { OnOk result (HasJust self.new.seen (shown self.new.order.items)) }
-        ensures adds { OnOk result (Adds (IsTarget edges (names_of values.now)) (shown self.old.order.items) (shown self.new.order.items)) }
+        requires { IsInStep self.old }
+        ensures in_step { OnOk result (IsInStep self.new) }
+        ensures adds { OnOk result (Adds (IsTarget edges (names_of values.now)) (names_found self.old) (names_found self.new)) }
     {
         for value in values {
             if let Some(name) = edges.target(value.as_str()) {

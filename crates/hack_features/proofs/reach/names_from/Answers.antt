@@ -13,9 +13,9 @@ add-requires c =
 
 pub loop-next-init : goal.loop-next-init
 loop-next-init c = record {
-  just = c.in_ok-add.ensures.just;
+  just = c.in_ok-add.ensures.in_step;
   searching = searching-start (edge_of c.args.edges (feature_map c.args.map.now)) c.args.name.now (shown c.add.new.self.order.items)
-    (subst (λ refs. Adds (λ y. c.args.name.now ≡ y) (shown refs) (shown c.add.new.self.order.items)) c.new.ensures.items c.in_ok-add.ensures.adds);
+      (subst (λ refs. Adds (λ y. c.args.name.now ≡ y) (shown refs) (shown c.add.new.self.order.items)) c.new.ensures.items c.in_ok-add.ensures.adds);
 }
 
 pub loop-next-smaller : goal.loop-next-smaller
@@ -29,21 +29,22 @@ loop-next-preserved c =
     let x = c.index-from.result.now.now in
     let lt : c.loop-next.next < length c.loop-next.found.order.items = omega arith in
     let goes : (new : List Name) → Adds (IsTarget c.args.edges (values_at m x)) old new → Searching (edge_of c.args.edges m) c.args.name.now new (c.loop-next.next + 1) =
-      λ new a. searching-next (edge_of c.args.edges m) c.args.name.now old new c.loop-next.next x c.loop-next.invariant.searching
-        (omega (arith, length-shown c.loop-next.found.order.items)) (shown-at c.loop-next.found.order.items c.loop-next.next c.index-from.result.now lt c.index-from.ensures) (adds-edges c.args.edges m x old new a) in
+    λ new a. searching-next (edge_of c.args.edges m) c.args.name.now old new c.loop-next.next x c.loop-next.invariant.searching
+    (omega (arith, length-shown c.loop-next.found.order.items)) (shown-at c.loop-next.found.order.items c.loop-next.next c.index-from.result.now lt c.index-from.ensures) (adds-edges c.args.edges m x old new a) in
     elim c.match-get.branch [
-    | in-Some+in_ok-add_targets w ↦ record {
-      just = subst (λ f. HasJust f.seen (shown f.order.items)) (sym w.found-is) w.in_ok-add_targets.ensures.just;
-      searching = subst (λ f. Searching (edge_of c.args.edges m) c.args.name.now (shown f.order.items) (c.loop-next.next + 1)) (sym w.found-is)
-        (goes (shown w.add_targets.new.self.order.items)
-          (subst (λ vs. Adds (IsTarget c.args.edges vs) old (shown w.add_targets.new.self.order.items))
+      | in-Some+in_ok-add_targets w ↦ record {
+        just = subst (λ f. HasJust f.seen (shown f.order.items)) (sym w.found-is) w.in_ok-add_targets.ensures.in_step;
+        searching = subst (λ f. Searching (edge_of c.args.edges m) c.args.name.now (shown f.order.items) (c.loop-next.next + 1)) (sym w.found-is)
+            (goes (shown w.add_targets.new.self.order.items)
+            (subst (λ vs. Adds (IsTarget c.args.edges vs) old (shown w.add_targets.new.self.order.items))
             (ap names_of w.as_slice.ensures.value ∙ sym (values_at-Some c.args.map.now x w.in-Some.values.now w.in-Some.ensures.value)) w.in_ok-add_targets.ensures.adds));
       }
-    | in_default w ↦ record {
-      just = subst (λ f. HasJust f.seen (shown f.order.items)) (sym w.found-is) c.loop-next.invariant.just;
-      searching = subst (λ f. Searching (edge_of c.args.edges m) c.args.name.now (shown f.order.items) (c.loop-next.next + 1)) (sym w.found-is)
-        (goes old (subst (λ vs. Adds (IsTarget c.args.edges vs) old old) (sym (values_at-None c.args.map.now x w.in_default.ensures.value)) (adds-no_targets c.args.edges old)));
-      } ]
+      | in_default w ↦ record {
+        just = subst (λ f. HasJust f.seen (shown f.order.items)) (sym w.found-is) c.loop-next.invariant.just;
+        searching = subst (λ f. Searching (edge_of c.args.edges m) c.args.name.now (shown f.order.items) (c.loop-next.next + 1)) (sym w.found-is)
+            (goes old (subst (λ vs. Adds (IsTarget c.args.edges vs) old old) (sym (values_at-None c.args.map.now x w.in_default.ensures.value)) (adds-no_targets c.args.edges old)));
+      }
+    ]
 
 pub returns : goal.returns
 returns c =

@@ -7,16 +7,16 @@ use Rattle.hack_features.proofs.NameLemmas.{has_just-more, shown-push}
 use Rattle.hack_features.proofs.ReachLemmas.{adds-one, adds-there}
 use Rattle.hack_features.proofs.reach.Found.add.Goals as goal
 
-pub returns-in_ok-push-clause-just : goal.returns-in_ok-push-clause-just
-returns-in_ok-push-clause-just c =
+pub returns-in_ok-push-clause-in_step : goal.returns-in_ok-push-clause-in_step
+returns-in_ok-push-clause-in_step c =
     subst (λ names. HasJust c.insert.new.self names) (sym (ap shown c.in_ok-push.ensures.items ∙ shown-push c.args.self.now.order.items c.args.name))
-      (has_just-more (shown c.args.self.now.order.items) c.args.name.now c.args.self.now.seen c.insert.new.self c.requires (λ y. c.in_ok-insert.ensures.updates.0 (record { ref_ptr = (0, 0); now = y })))
+    (has_just-more (shown c.args.self.now.order.items) c.args.name.now c.args.self.now.seen c.insert.new.self c.requires (λ y. c.in_ok-insert.ensures.updates.0 (record { ref_ptr = (0, 0); now = y })))
 
 pub returns-in_ok-push-clause-adds : goal.returns-in_ok-push-clause-adds
 returns-in_ok-push-clause-adds c =
     let absent : has_name c.args.self.now.seen c.args.name.now ≡ false = sym c.contains.ensures ∙ c.if-not-contains.true in
     subst (λ names. Adds (λ y. c.args.name.now ≡ y) (shown c.args.self.now.order.items) names) (sym (ap shown c.in_ok-push.ensures.items ∙ shown-push c.args.self.now.order.items c.args.name))
-      (adds-one (shown c.args.self.now.order.items) c.args.name.now (not_from (has_name c.args.self.now.seen c.args.name.now) absent (c.requires c.args.name.now).1))
+    (adds-one (shown c.args.self.now.order.items) c.args.name.now (not_from (has_name c.args.self.now.seen c.args.name.now) absent (c.requires c.args.name.now).1))
 
 pub returns-else-not-contains-clause-adds : goal.returns-else-not-contains-clause-adds
 returns-else-not-contains-clause-adds c =

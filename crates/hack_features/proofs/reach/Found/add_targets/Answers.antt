@@ -10,18 +10,19 @@ pub loop-value-preserved : goal.loop-value-preserved
 loop-value-preserved c =
     let before = take c.loop-value.value-index (names_of c.args.values.now) in
     let more : take (c.loop-value.value-index + 1) (names_of c.args.values.now) ≡ before ++ c.as_str.result.now ∷ [] =
-      names-more c.args.values.now c.loop-value.value-index c.value-item.result c.loop-value-test.true c.value-item.is ∙ ap (λ n. before ++ n ∷ []) (sym c.as_str.ensures.value) in
+    names-more c.args.values.now c.loop-value.value-index c.value-item.result c.loop-value-test.true c.value-item.is ∙ ap (λ n. before ++ n ∷ []) (sym c.as_str.ensures.value) in
     elim c.match-target.branch [
-    | in-Some+in_ok-add w ↦ record {
-      just = subst (λ f. HasJust f.seen (shown f.order.items)) (sym w.self-is) w.in_ok-add.ensures.just;
-      adds = subst (λ vs. Adds (IsTarget c.args.edges vs) (shown c.args.self.now.order.items) (shown c.match-target.self.order.items)) (sym more)
-        (subst (λ f. Adds (IsTarget c.args.edges (before ++ c.as_str.result.now ∷ [])) (shown c.args.self.now.order.items) (shown f.order.items)) (sym w.self-is)
-          (adds-target c.args.edges before c.as_str.result.now w.in-Some.name.now (shown c.args.self.now.order.items) (shown c.loop-value.self.order.items) (shown w.add.new.self.order.items)
+      | in-Some+in_ok-add w ↦ record {
+        just = subst (λ f. HasJust f.seen (shown f.order.items)) (sym w.self-is) w.in_ok-add.ensures.in_step;
+        adds = subst (λ vs. Adds (IsTarget c.args.edges vs) (shown c.args.self.now.order.items) (shown c.match-target.self.order.items)) (sym more)
+            (subst (λ f. Adds (IsTarget c.args.edges (before ++ c.as_str.result.now ∷ [])) (shown c.args.self.now.order.items) (shown f.order.items)) (sym w.self-is)
+            (adds-target c.args.edges before c.as_str.result.now w.in-Some.name.now (shown c.args.self.now.order.items) (shown c.loop-value.self.order.items) (shown w.add.new.self.order.items)
             c.loop-value.invariant.adds w.in-Some.ensures w.in_ok-add.ensures.adds));
       }
-    | in_default w ↦ record {
-      just = subst (λ f. HasJust f.seen (shown f.order.items)) (sym w.self-is) c.loop-value.invariant.just;
-      adds = subst (λ vs. Adds (IsTarget c.args.edges vs) (shown c.args.self.now.order.items) (shown c.match-target.self.order.items)) (sym more)
-        (subst (λ f. Adds (IsTarget c.args.edges (before ++ c.as_str.result.now ∷ [])) (shown c.args.self.now.order.items) (shown f.order.items)) (sym w.self-is)
-          (adds-no_target c.args.edges before c.as_str.result.now (shown c.args.self.now.order.items) (shown c.loop-value.self.order.items) c.loop-value.invariant.adds w.in_default.ensures));
-      } ]
+      | in_default w ↦ record {
+        just = subst (λ f. HasJust f.seen (shown f.order.items)) (sym w.self-is) c.loop-value.invariant.just;
+        adds = subst (λ vs. Adds (IsTarget c.args.edges vs) (shown c.args.self.now.order.items) (shown c.match-target.self.order.items)) (sym more)
+            (subst (λ f. Adds (IsTarget c.args.edges (before ++ c.as_str.result.now ∷ [])) (shown c.args.self.now.order.items) (shown f.order.items)) (sym w.self-is)
+            (adds-no_target c.args.edges before c.as_str.result.now (shown c.args.self.now.order.items) (shown c.loop-value.self.order.items) c.loop-value.invariant.adds w.in_default.ensures));
+      }
+    ]

@@ -1,0 +1,251 @@
+-- Tables of what each key enables, and of the keys that serve a group.
+use Rattle.std.proofs.Common.{◌≡◌, ◌≢◌, ℕ, suc, ◌+◌, ◌<◌, List, arith, [], ◌∷◌, ◌++◌, refl, sym, ◌∙◌, ap, subst, map, Option, Some, None, IsSome, IfSome, Bool, true, false, cond, IsTrue, ◌⊎◌, inl, inr, ◌↔◌, Contains, ◌||◌, length, get_or, take, ◌≤◌, String, Vec, string_bytes}
+use Rattle.std.specs.List.{All, list_any}
+use Rattle.std.specs.Option.{is_some}
+use Rattle.std.specs.Map.{lookup, update}
+use Rattle.std.specs.BTreeMap.{BTreeMap, is_at}
+use Rattle.std.specs.Str.{bytes_eq}
+use Rattle.std.specs.Borrow.{Bor}
+use Rattle.std.specs.Cmp.Lexicographic.{slice_cmp}
+use Rattle.std.specs.Ordering.{nat_cmp, is_eq}
+use Rattle.std.proofs.lemmas.Slice.Eq.{bytes_eq-Decides}
+use Rattle.std.proofs.lemmas.Map.Text.{is_eq-slice_cmp}
+use Rattle.std.proofs.lemmas.List.Elements.{Contains-append_left, Contains-push, Contains-push_cases}
+use Rattle.std.proofs.lemmas.List.{take_more, get_or-map, length-map}
+use Rattle.std.proofs.Math.Seq.{take-length}
+use Rattle.hack_features.proofs.Members.{Contains-head, Contains-tail, Contains-nil, Contains-cons_cases}
+use Rattle.hack_features.proofs.NameLemmas.{same_text, differ, has-more, has_just-nil}
+use Rattle.hack_features.specs.Names.{Name, names_of}
+use Rattle.hack_features.specs.FeatureMap.{FeatureMap, feature_map, IsKey, Enables, here}
+use Rattle.hack_features.specs.Deps.{NameSet, has_name, get_at, IsDepsOf, AreDepsOf, AreServers, IsServedBy, ServeGroups, dropped, kept}
+use Rattle.hack_features.specs.Feature.{group_of, groups_of}
+use Rattle.hack_features.specs.declared.feature.Feature.{Feature}
+
+-- ---- what a name enables, without it
+
+-- a set of the names so far, without x
+abbrev pub Tells : NameSet → Name → List Name → Type 0
+Tells s x names = (y : Name) → IsTrue (has_name s y) ↔ ((y ≢ x) × Contains names y)
+
+-- one name more that is not x
+pub tells-more : (x o : Name) (names : List Name) (old new : NameSet) → Tells old x names → ((y : Name) → has_name new y ≡ cond (is_eq (slice_cmp nat_cmp o y)) true (has_name old y)) → o ≢ x → Tells new x (names ++ o ∷ [])
+tells-more x o names old new h e ne = λ y.
+    let m = has-more o y old new (e y) in (
+      λ k. elim (m.0 k) [
+        | inl w ↦ let r = (h y).0 w in (r.0, Contains-append_left names (o ∷ []) y r.1)
+        | inr s ↦ (λ yx. ne (s ∙ yx), subst (λ u. Contains (names ++ o ∷ []) u) s (Contains-push names o))
+      ],
+      λ k. elim (Contains-push_cases names o y k.1) [ inl w ↦ m.1 (inl ((h y).1 (k.0, w))) | inr s ↦ m.1 (inr s) ],
+    )
+
+-- x itself
+pub tells-skip : (x o : Name) (names : List Name) (s : NameSet) → Tells s x names → o ≡ x → Tells s x (names ++ o ∷ [])
+tells-skip x o names s h same = λ y. (
+  λ k. let r = (h y).0 k in (r.0, Contains-append_left names (o ∷ []) y r.1),
+  λ k. elim (Contains-push_cases names o y k.1) [ inl w ↦ (h y).1 (k.0, w) | inr e ↦ absurd (k.0 (sym e ∙ same)) ],
+)
+
+-- ---- the keys of a map
+
+is_key-step : {V : Type 0} (x k : Name) (ks : List Name) (o : Option V) (v : V) (b : Bool) → bytes_eq x k ≡ b → (IsTrue (is_some o) ↔ Contains ks x) → IsTrue (is_some (cond b (Some v) o)) ↔ Contains (k ∷ ks) x
+is_key-step x k ks o v true e h = (λ t. subst (λ n. Contains (n ∷ ks) x) (same_text x k e) (Contains-head x ks), λ c. refl)
+is_key-step x k ks o v false e h = (
+  λ t. Contains-tail k ks x (h.0 t),
+  λ c. elim (Contains-cons_cases k ks x c) [ inl s ↦ absurd (differ x k e (sym s)) | inr w ↦ h.1 w ],
+)
+
+pub is_key-entries : {Y Z : Type 0} (x : Name) (es : List (String Y × Vec (String Y) Z)) → IsKey (map (λ e. (string_bytes e.0, names_of e.1.items)) es) x ↔ Contains (names_of (map (λ e. e.0) es)) x
+is_key-entries x [] = (λ t. absurd (let z : false ≡ true = t in cc), λ c. absurd (Contains-nil x c))
+is_key-entries x (e ∷ es) =
+    is_key-step x (string_bytes e.0) (names_of (map (λ e. e.0) es)) (lookup (bytes_eq x) (map (λ e. (string_bytes e.0, names_of e.1.items)) es)) (names_of e.1.items) (bytes_eq x (string_bytes e.0)) refl (is_key-entries x es)
+
+-- ---- the table of deps
+
+-- the table once some keys are left
+pub record Tabling (m : FeatureMap) (deps : BTreeMap (Bor Name) NameSet) (left : List Name) : Type 0 where
+  pub keys : (x : Name) → IsKey m x ↔ (IsSome (get_at deps x) ⊎ Contains left x)
+  pub each : (x : Name) → IfSome (get_at deps x) (IsDepsOf m x)
+
+pub tabling-start : {Y Z : Type 0} (m : BTreeMap (String Y) (Vec (String Y) Z)) (deps : BTreeMap (Bor Name) NameSet) → deps.entries ≡ [] → Tabling (feature_map m) deps (names_of (map (λ e. e.0) m.entries))
+tabling-start m deps e = record {
+  keys = λ x.
+      let k = is_key-entries x m.entries in (
+        λ t. inr (k.0 t),
+        λ t. elim t [
+          | inl o ↦ absurd (let z : false ≡ true = sym (ap (λ es. is_some (lookup (is_at (λ (b : Bor Name). slice_cmp nat_cmp x b.now)) es)) e) ∙ o in cc)
+          | inr c ↦ k.1 c
+        ],
+      );
+  each = λ x. subst (λ es. IfSome (lookup (is_at (λ (b : Bor Name). slice_cmp nat_cmp x b.now)) es) (IsDepsOf (feature_map m) x)) (sym e) tt;
+}
+
+keys-next : (m : FeatureMap) (x y : Name) (s : NameSet) (left : List Name) (old new : Option NameSet) (b : Bool) → bytes_eq x y ≡ b → new ≡ cond b (Some s) old → (IsKey m y ↔ (IsSome old ⊎ Contains (x ∷ left) y)) → IsKey m y ↔ (IsSome new ⊎ Contains left y)
+keys-next m x y s left old new true t e h =
+    (λ k. inl (ap is_some e), λ k. h.1 (inr (subst (λ n. Contains (x ∷ left) n) (same_text x y t) (Contains-head x left))))
+keys-next m x y s left old new false t e h = (
+  λ k. elim (h.0 k) [
+    | inl o ↦ inl (ap is_some e ∙ o)
+    | inr c ↦ elim (Contains-cons_cases x left y c) [ inl w ↦ absurd (differ x y t w) | inr w ↦ inr w ]
+  ],
+  λ k. elim k [ inl o ↦ h.1 (inl (sym (ap is_some e) ∙ o)) | inr c ↦ h.1 (inr (Contains-tail x left y c)) ],
+)
+
+each-next : (m : FeatureMap) (x y : Name) (s : NameSet) (old new : Option NameSet) (b : Bool) → bytes_eq x y ≡ b → new ≡ cond b (Some s) old → IsDepsOf m x s → IfSome old (IsDepsOf m y) → IfSome new (IsDepsOf m y)
+each-next m x y s old new true t e d h = subst (λ o. IfSome o (IsDepsOf m y)) (sym e) (subst (λ n. IsDepsOf m n s) (same_text x y t) d)
+each-next m x y s old new false t e d h = subst (λ o. IfSome o (IsDepsOf m y)) (sym e) h
+
+-- the set of one key goes into the table
+pub tabling-next : (m : FeatureMap) (x : Name) (s : NameSet) (left : List Name) (old new : BTreeMap (Bor Name) NameSet) → Tabling m old (x ∷ left) → ((y : Name) → get_at new y ≡ update bytes_eq (get_at old) x (Some s) y) → IsDepsOf m x s → Tabling m new left
+tabling-next m x s left old new h e d = record {
+  keys = λ y. keys-next m x y s left (get_at old y) (get_at new y) (bytes_eq x y) refl (e y) (h.keys y);
+  each = λ y. each-next m x y s (get_at old y) (get_at new y) (bytes_eq x y) refl (e y) d (h.each y);
+}
+
+pub tabling-end : (m : FeatureMap) (deps : BTreeMap (Bor Name) NameSet) (left : List Name) → Tabling m deps left → left ≡ [] → AreDepsOf m deps
+tabling-end m deps left h e = record {
+  keys = λ x. (λ o. (h.keys x).1 (inl o), λ k. elim ((h.keys x).0 k) [ inl o ↦ o | inr c ↦ absurd (Contains-nil x (subst (λ l. Contains l x) e c)) ]);
+  each = h.each;
+}
+
+-- ---- the keys that serve a group
+
+-- none of the names so far is x or in the set
+abbrev pub IsUnserved : List Name → Name → NameSet → Type 0
+IsUnserved group x s = ¬ IsServedBy group x s
+
+pub unserved-start : (x : Name) (s : NameSet) → IsUnserved [] x s
+unserved-start x s = λ w. Contains-nil w.name w.member
+
+pub unserved-more : (group : List Name) (n x : Name) (s : NameSet) → IsUnserved group x s → n ≢ x → ¬ IsTrue (has_name s n) → IsUnserved (group ++ n ∷ []) x s
+unserved-more group n x s h ne apart = λ w. elim (Contains-push_cases group n w.name w.member) [
+  | inl c ↦ h (record { name = w.name; member = c; has = w.has })
+  | inr e ↦ elim w.has [ inl y ↦ ne (e ∙ y) | inr y ↦ apart (subst (λ k. IsTrue (has_name s k)) (sym e) y) ]
+]
+
+-- the keys so far, once these entries are left
+pub record Serving (group : List Name) (deps : BTreeMap (Bor Name) NameSet) (keys : NameSet) (left : List (Bor Name × NameSet)) : Type 0 where
+  pub there : All (λ e. get_at deps e.0.now ≡ Some e.1) left
+  pub sound : (x : Name) → IsTrue (has_name keys x) → (s : NameSet) × (get_at deps x ≡ Some s) × IsServedBy group x s
+  pub whole : (x : Name) (s : NameSet) → get_at deps x ≡ Some s → IsServedBy group x s → IsTrue (has_name keys x) ⊎ (lookup (is_at (λ (k : Bor Name). slice_cmp nat_cmp x k.now)) left ≡ Some s)
+
+pub serving-start : (group : List Name) (deps : BTreeMap (Bor Name) NameSet) (keys : NameSet) → keys.keys ≡ [] → All (λ e. get_at deps e.0.now ≡ Some e.1) deps.entries → Serving group deps keys deps.entries
+serving-start group deps keys e found = record {
+  there = found;
+  sound = λ x h. absurd (Contains-nil x ((has_just-nil keys e x).0 h));
+  whole = λ x s g w. inr g;
+}
+
+entries-tail : (deps : BTreeMap (Bor Name) NameSet) (e : Bor Name × NameSet) (left : List (Bor Name × NameSet)) → All (λ e. get_at deps e.0.now ≡ Some e.1) (e ∷ left) → All (λ e. get_at deps e.0.now ≡ Some e.1) left
+entries-tail deps e left h = λ k d lt. h (suc k) d (omega arith)
+
+-- the entry that a look-up finds first
+first-cases : (x : Name) (e : Bor Name × NameSet) (left : List (Bor Name × NameSet)) (s : NameSet) (b : Bool) → is_eq (slice_cmp nat_cmp x e.0.now) ≡ b → cond b (Some e.1) (lookup (is_at (λ (k : Bor Name). slice_cmp nat_cmp x k.now)) left) ≡ Some s
+    → ((x ≡ e.0.now) × (e.1 ≡ s)) ⊎ (lookup (is_at (λ (k : Bor Name). slice_cmp nat_cmp x k.now)) left ≡ Some s)
+first-cases x e left s true t h = inl (same_text x e.0.now (sym (is_eq-slice_cmp x e.0.now) ∙ t), let z : Some e.1 ≡ Some s = h in cc)
+first-cases x e left s false t h = inr h
+
+pub serving-kept : (group : List Name) (deps : BTreeMap (Bor Name) NameSet) (old new : NameSet) (e : Bor Name × NameSet) (left : List (Bor Name × NameSet)) → Serving group deps old (e ∷ left) → IsServedBy group e.0.now e.1
+    → ((y : Name) → has_name new y ≡ cond (is_eq (slice_cmp nat_cmp e.0.now y)) true (has_name old y)) → Serving group deps new left
+serving-kept group deps old new e left h served is =
+    let m : (y : Name) → IsTrue (has_name new y) ↔ (IsTrue (has_name old y) ⊎ (e.0.now ≡ y)) = λ y. has-more e.0.now y old new (is y) in
+    record {
+      there = entries-tail deps e left h.there;
+      sound = λ x k. elim ((m x).0 k) [
+        | inl w ↦ h.sound x w
+        | inr s ↦ (e.1, subst (λ n. get_at deps n ≡ Some e.1) s (h.there 0 e (omega arith)), subst (λ n. IsServedBy group n e.1) s served)
+      ];
+      whole = λ x s g w. elim (h.whole x s g w) [
+        | inl k ↦ inl ((m x).1 (inl k))
+        | inr k ↦ elim (first-cases x e left s (is_eq (slice_cmp nat_cmp x e.0.now)) refl k) [ inl y ↦ inl ((m x).1 (inr (sym y.0))) | inr y ↦ inr y ]
+      ];
+    }
+
+pub serving-left_out : (group : List Name) (deps : BTreeMap (Bor Name) NameSet) (keys : NameSet) (e : Bor Name × NameSet) (left : List (Bor Name × NameSet)) → Serving group deps keys (e ∷ left) → ¬ IsServedBy group e.0.now e.1 → Serving group deps keys left
+serving-left_out group deps keys e left h apart = record {
+  there = entries-tail deps e left h.there;
+  sound = h.sound;
+  whole = λ x s g w. elim (h.whole x s g w) [
+    | inl k ↦ inl k
+    | inr k ↦ elim (first-cases x e left s (is_eq (slice_cmp nat_cmp x e.0.now)) refl k) [
+      | inl y ↦ absurd (apart (subst (λ n. IsServedBy group n e.1) y.0 (subst (λ t. IsServedBy group x t) (sym y.1) w)))
+      | inr y ↦ inr y
+    ]
+  ];
+}
+
+-- what a table has at a key
+if_some-at : (P : NameSet → Type 0) (o : Option NameSet) (s : NameSet) → o ≡ Some s → IfSome o P → P s
+if_some-at P o s e h = let w : IfSome (Some s) P = subst (λ o. IfSome o P) e h in w
+
+some-at : (o : Option NameSet) → IsSome o → (s : NameSet) × (o ≡ Some s)
+some-at None h = absurd (let z : false ≡ true = h in cc)
+some-at (Some s) h = (s, refl)
+
+enables-served : (m : FeatureMap) (group : List Name) (x : Name) (s : NameSet) → IsDepsOf m x s → (w : IsServedBy group x s) → Enables m x w.name
+enables-served m group x s d w = elim w.has [ inl e ↦ subst (λ n. Enables m x n) (sym e) here | inr k ↦ ((d w.name).0 k).1 ]
+
+served-enables : (m : FeatureMap) (group : List Name) (x : Name) (s : NameSet) → IsDepsOf m x s → (n : Name) → Contains group n → Enables m x n → (b : Bool) → bytes_eq n x ≡ b → IsServedBy group x s
+served-enables m group x s d n member c true t = record { name = n; member = member; has = inl (same_text n x t) }
+served-enables m group x s d n member c false t = record { name = n; member = member; has = inr ((d n).1 (differ n x t, c)) }
+
+-- once no entry is left, the keys are those that enable a name of the group
+pub serving-end : (group : List Name) (deps : BTreeMap (Bor Name) NameSet) (keys : NameSet) (left : List (Bor Name × NameSet)) → Serving group deps keys left → left ≡ [] → (m : FeatureMap) → AreDepsOf m deps → AreServers m group keys
+serving-end group deps keys left h e m are = λ x. (
+  λ k. let w = h.sound x k in
+      record {
+        key = (are.keys x).0 (ap is_some w.1);
+        name = w.2.name;
+        member = w.2.member;
+        chain = enables-served m group x w.0 (if_some-at (IsDepsOf m x) (get_at deps x) w.0 w.1 (are.each x)) w.2;
+      },
+  λ k. let s = some-at (get_at deps x) ((are.keys x).1 k.key) in
+      let d = if_some-at (IsDepsOf m x) (get_at deps x) s.0 s.1 (are.each x) in
+      elim (h.whole x s.0 s.1 (served-enables m group x s.0 d k.name k.member k.chain (bytes_eq k.name x) refl)) [
+        | inl w ↦ w
+        | inr w ↦ absurd (let z : None ≡ Some s.0 = sym (ap (lookup (is_at (λ (k : Bor Name). slice_cmp nat_cmp x k.now))) e) ∙ w in cc)
+      ],
+)
+
+-- ---- the sets of keys of all groups
+
+-- what ServeGroups says, for each map whose table this is
+abbrev pub ServeSoFar : BTreeMap (Bor Name) NameSet → List (List Name) → List NameSet → Type 0
+ServeSoFar deps groups sets = (m : FeatureMap) → AreDepsOf m deps → ServeGroups m groups sets
+
+has-first : (s : NameSet) (k : Bor Name) (ks : List (Bor Name)) → s.keys ≡ k ∷ ks → IsTrue (has_name s k.now)
+has-first s k ks e =
+    ap (list_any (λ (b : Bor Name). is_eq (slice_cmp nat_cmp k.now b.now))) e
+    ∙ ap (λ t. t || list_any (λ (b : Bor Name). is_eq (slice_cmp nat_cmp k.now b.now)) ks) (is_eq-slice_cmp k.now k.now ∙ (bytes_eq-Decides k.now k.now).1 refl)
+
+has-one-step : (s : NameSet) (ks : List (Bor Name)) → s.keys ≡ ks → 0 < length ks → (x : Name) × IsTrue (has_name s x)
+has-one-step s [] e h = absurd (omega arith)
+has-one-step s (k ∷ ks) e h = (k.now, has-first s k ks e)
+
+-- a set that is not empty has a name
+has-one : (s : NameSet) → ¬ (length s.keys ≡ 0) → (x : Name) × IsTrue (has_name s x)
+has-one s h = has-one-step s s.keys refl (omega arith)
+
+pub serve-kept : (deps : BTreeMap (Bor Name) NameSet) (groups : List (List Name)) (group : List Name) (sets : List NameSet) (keys : NameSet) → ServeSoFar deps groups sets
+    → ((m : FeatureMap) → AreDepsOf m deps → AreServers m group keys) → ¬ (length keys.keys ≡ 0) → ServeSoFar deps (groups ++ group ∷ []) (sets ++ keys ∷ [])
+serve-kept deps groups group sets keys h are more = λ m d.
+    let w = has-one keys more in
+    kept keys (h m d) ((are m d w.0).0 w.1) (are m d)
+
+empty-nil : (ks : List (Bor Name)) → length ks ≡ 0 → ks ≡ []
+empty-nil [] h = refl
+empty-nil (k ∷ ks) h = absurd (omega arith)
+
+pub serve-dropped : (deps : BTreeMap (Bor Name) NameSet) (groups : List (List Name)) (group : List Name) (sets : List NameSet) (keys : NameSet) → ServeSoFar deps groups sets
+    → ((m : FeatureMap) → AreDepsOf m deps → AreServers m group keys) → length keys.keys ≡ 0 → ServeSoFar deps (groups ++ group ∷ []) sets
+serve-dropped deps groups group sets keys h are e = λ m d.
+    dropped (h m d) (λ x w. Contains-nil x ((has_just-nil keys (empty-nil keys.keys e) x).0 ((are m d x).1 w)))
+
+pub groups-more : (features : List Feature) (k : ℕ) (f : Feature) → k < length features → f ≡ get_or features k f → take (k + 1) (groups_of features) ≡ take k (groups_of features) ++ group_of f ∷ []
+groups-more features k f h e =
+    take_more (groups_of features) k (group_of f) (rw (length-map features group_of) h)
+    ∙ ap (λ n. take k (groups_of features) ++ n ∷ []) (get_or-map group_of features k f (group_of f) h ∙ ap group_of (sym e))
+
+pub groups-whole : (features : List Feature) (k : ℕ) → length features ≤ k → k ≤ length features → take k (groups_of features) ≡ groups_of features
+groups-whole features k low high =
+    let all : k ≡ length (groups_of features) = omega (arith, length-map features group_of) in
+    ap (λ n. take n (groups_of features)) all ∙ take-length (groups_of features)
