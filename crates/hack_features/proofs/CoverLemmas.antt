@@ -1,5 +1,5 @@
 -- The first set that covers another: take out, from the greatest position on, each that the others cover.
-use Rattle.std.proofs.Common.{◌≡◌, ◌≢◌, ℕ, zero, suc, ◌+◌, ◌<◌, ◌≤◌, List, [], ◌∷◌, ◌++◌, length, get_or, take, drop, refl, sym, ◌∙◌, ap, subst, arith, Bool, true, false, ◌⊎◌, inl, inr, ◌↔◌, IsTrue, All, AllPairs, Contains, length-append, Option, Some, None, is_some}
+use Rattle.std.proofs.Common.{◌≡◌, ◌≢◌, ℕ, zero, suc, ◌+◌, ◌<◌, ◌≤◌, List, [], ◌∷◌, ◌++◌, length, get_or, take, drop, refl, sym, ◌∙◌, ap, subst, arith, Bool, true, false, ◌⊎◌, inl, inr, ◌↔◌, IsTrue, All, AllPairs, Contains, length-append, Option, Some, None, is_some, cond}
 use Rattle.std.specs.Prelude.{not, ◌==◌, ◌&&◌, ◌||◌, IfSome}
 use Rattle.std.specs.List.{remove, list_all, list_any}
 use Rattle.std.specs.Str.{bytes_eq}
@@ -264,7 +264,7 @@ module _ (c : Choice) (s : List ℕ) (hs : IsSelection (length c.candidates) s) 
   at : k < length kept
   at = let r = h.room in omega arith
 
-  same_place : get_or kept k 0 ≡ get_or s k 0
+  pub same_place : get_or kept k 0 ≡ get_or s k 0
   same_place = h.front k (omega arith)
 
   is : get_or s k 0 ≡ get_or kept k (get_or s k 0)
@@ -439,3 +439,25 @@ module _ (c : Choice) (s : List ℕ) (hs : IsSelection (length c.candidates) s) 
     };
     first = λ u v. first u v.selection (record { nonempty = v.listed.nonempty; inside = v.inside; same = v.same });
   }
+
+pub kept_room : (b : Bool) (kept : List ℕ) (k : ℕ) → k < length kept → (next : List ℕ) → next ≡ cond b (remove kept k) kept → k ≤ length next
+kept_room true kept k at next e = omega (arith, ap length e, length-remove kept k at)
+kept_room false kept k at next e = omega (arith, ap length e)
+
+-- one turn, by the test
+module _ (c : Choice) (deps : BTreeMap (Bor Name) NameSet) (are : AreDepsOf c.map deps) (s : List ℕ) (hs : IsSelection (length c.candidates) s) (k : ℕ) (kl : k < length s) (kept : List ℕ) (h : Greedy c s (k + 1) kept) where
+  test_at : get_or kept k 0 ≡ get_or s k 0
+  test_at = same_place c s hs k kl kept h
+
+  turn_by : (b : Bool) (next : List ℕ) → covers_test deps c.candidates (remove kept k) (names_at c (get_or kept k 0)) ≡ b → next ≡ cond b (remove kept k) kept → Greedy c s k next
+  turn_by true next e f =
+      subst (Greedy c s k) (sym f) (greedy_without c s hs k kl kept h
+        ((covers_iff c deps are (remove kept k) (names_at c (get_or s k 0))).0 (subst (λ p. covers_test deps c.candidates (remove kept k) (names_at c p) ≡ true) test_at e)))
+  turn_by false next e f =
+      subst (Greedy c s k) (sym f) (greedy_with c s hs k kl kept h (λ all.
+        let t = (covers_iff c deps are (remove kept k) (names_at c (get_or s k 0))).1 all in
+        let g = subst (λ p. covers_test deps c.candidates (remove kept k) (names_at c p) ≡ false) test_at e in
+        let z : true ≡ false = sym t ∙ g in cc))
+
+  pub greedy_turn : (next : List ℕ) → next ≡ cond (covers_test deps c.candidates (remove kept k) (names_at c (get_or kept k 0))) (remove kept k) kept → Greedy c s k next
+  greedy_turn next f = turn_by (covers_test deps c.candidates (remove kept k) (names_at c (get_or kept k 0))) next refl f

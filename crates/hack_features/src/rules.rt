@@ -1,11 +1,12 @@
 //! The rules by which sets of features are listed, and the list of a package's sets.
 
-ghost use Rattle.std.specs.Prelude.{◌≡◌, ◌≤◌, ◌-◌, ◌^◌, ◌<◌, ℕ, List, [], length, IsTrue, IfOk, MatchOption, Contains};
-ghost use Rattle.std.specs.List.{list_all, list_any, slice_index_or};
+ghost use Rattle.std.specs.Prelude.{◌≡◌, ◌≤◌, ◌-◌, ◌^◌, ◌<◌, ℕ, List, [], length, slice_index, vec_len, IsTrue, IfOk, MatchOption, Contains, if◌then◌else◌};
+ghost use Rattle.std.specs.List.{list_any, slice_index_or, remove};
 ghost use Rattle.hack_features.specs.Names.{names_of};
 ghost use Rattle.hack_features.specs.Feature.{candidates_of};
 ghost use Rattle.hack_features.specs.Sets.{IsSelection, ListsSelections, rows_of, chosen as chosen_items};
-ghost use Rattle.hack_features.specs.Rules.{IsPermitted, IsRequired, IsListed, IsFirstCover, IsWanted, Covers, AreSingle, EnableTheSame};
+ghost use Rattle.hack_features.specs.Deps.{AreDepsOf};
+ghost use Rattle.hack_features.specs.Rules.{Choice, IsPermitted, IsRequired, IsListed, IsFirstCover, IsWanted, Covers, AreSingle, EnableTheSame};
 ghost use Rattle.hack_features.specs.Tables.{keeps_depth as depth_test};
 ghost use Rattle.hack_features.specs.Cover.{enables_test, set_enables_test, covers_test};
 
@@ -182,7 +183,27 @@ fn covers(
     true
 }
 
-/// The set without each position, from the greatest on, that the positions left then cover.
+/// The set without the place, where what is left covers what stands there, else the set as it is.
+fn without(
+    alloc: Global,
+    features: &[&Feature],
+    kept: Vec<usize>,
+    place: usize,
+    deps: &BTreeMap<&str, BTreeSet<&str>>,
+) -> Result<Vec<usize>, AllocError>
+    requires { place < vec_len kept }
+    ensures { IfOk result (λ next. next.items ≡ (if covers_test deps.now (candidates_of features.now) (remove kept.items place) (slice_index_or (candidates_of features.now) (slice_index kept.items place) []) then remove kept.items place else kept.items)) }
+{
+    let mut rest = Vec::from_slice(alloc, kept.as_slice())?;
+    let p = rest.remove(place);
+    if covers(features, rest.as_slice(), deps, names_at(features, p)) {
+        Ok(rest)
+    } else {
+        Ok(kept)
+    }
+}
+
+/// The set without each member, from the greatest on, that those left then cover.
 fn first_cover(
     alloc: Global,
     features: &[&Feature],
@@ -190,14 +211,13 @@ fn first_cover(
     deps: &BTreeMap<&str, BTreeSet<&str>>,
 ) -> Result<Vec<usize>, AllocError>
     requires { IsSelection (length features.now) positions.now }
+    ensures { IfOk result (λ kept. (c : Choice) → c.candidates ≡ candidates_of features.now → AreDepsOf c.map deps.now → IsWanted c positions.now → IsFirstCover c positions.now kept.items) }
 {
     let mut kept = Vec::from_slice(alloc, positions)?;
-    for place in (0..positions.len()).rev() {
-        let mut rest = Vec::from_slice(alloc, kept.as_slice())?;
-        let p = rest.remove(place);
-        if covers(features, rest.as_slice(), deps, names_at(features, p)) {
-            kept = rest;
-        }
+    let mut place = positions.len();
+    while place > 0 {
+        place -= 1;
+        kept = without(alloc, features, kept, place, deps)?;
     }
     Ok(kept)
 }
@@ -270,7 +290,19 @@ pub fn feature_powerset<'a>(
     mutually_exclusive_features: &[Feature],
     map: &BTreeMap<String, Vec<String>>,
     lifted: &[bool],
-) -> Result<Vec<Vec<&'a Feature>>, AllocError> {
+) -> Result<Vec<Vec<&'a Feature>>, AllocError>
+    ensures sets { let c = choice features.now depth at_least_one_of.now mutually_exclusive_features.now map.now lifted.now in
+        IfOk result (λ lists. ListsSelections (IsListed c) features.now (rows_of lists.items)) }
+
+    // For each set that has to be covered there is a listed one inside it that enables the same names.
+    ensures coverage { let c = choice features.now depth at_least_one_of.now mutually_exclusive_features.now map.now lifted.now in
+        IfOk result (λ lists. (s : List ℕ) → IsSelection (length features.now) s → IsWanted c s
+          → (t : List ℕ) × Covers c s t × Contains (rows_of lists.items) (chosen_items features.now t)) }
+
+    // Where names stand alone, different listed sets enable different names.
+    ensures one_each { let c = choice features.now depth at_least_one_of.now mutually_exclusive_features.now map.now lifted.now in
+        AreSingle c → (s t : List ℕ) → IsSelection (length features.now) s → IsSelection (length features.now) t → IsListed c s → IsListed c t → EnableTheSame c s t → s ≡ t }
+{
     let mut rules = Rules::new(
         alloc,
         features,

@@ -1,0 +1,43 @@
+use Rattle.std.proofs.Common.{◌≡◌, ◌≤◌, ◌<◌, ◌+◌, ◌-◌, [], ℕ, List, cond, sym, ap, ◌∙◌, subst, length, get_or, arith}
+use Rattle.std.specs.List.{remove}
+use Rattle.std.proofs.lemmas.List.{length-map}
+use Rattle.std.proofs.lemmas.List.Edits.{length-remove}
+use Rattle.hack_features.specs.Names.{Name}
+use Rattle.hack_features.specs.Feature.{candidates_of}
+use Rattle.hack_features.specs.Cover.{covers_test}
+use Rattle.hack_features.specs.Sets.{IsSelection}
+use Rattle.hack_features.proofs.Steps.{length-candidates_of}
+use Rattle.hack_features.proofs.CoverLemmas.{Greedy, greedy_start, greedy_turn, greedy_end, kept_room}
+use Rattle.hack_features.proofs.rules.first_cover.Goals as goal
+
+pub loop-place-init : goal.loop-place-init
+loop-place-init c = record {
+  small = omega arith;
+  room = omega (arith, ap length c.in_ok-kept.ensures.items);
+  greedy = λ k same are w.
+    let sel : IsSelection (length k.candidates) c.args.positions.now = subst (λ n. IsSelection n c.args.positions.now) (sym (length-candidates_of c.args.features.now) ∙ ap length (sym same)) c.requires in
+    subst (Greedy k c.args.positions.now (length c.args.positions.now)) (sym c.in_ok-kept.ensures.items) (greedy_start k c.args.positions.now sel w);
+}
+
+pub loop-place-preserved : goal.loop-place-preserved
+loop-place-preserved c =
+    let place = c.loop-place.place - 1 in
+    let kept = c.loop-place.kept.items in
+    let at : place < length kept = omega (arith, c.loop-place.invariant.room, c.loop-place-test.true) in
+    let next : c.in_ok-kept-2.kept.items ≡ cond (covers_test c.args.deps.now (candidates_of c.args.features.now) (remove kept place) (get_or (candidates_of c.args.features.now) (get_or kept place 0) [])) (remove kept place) kept = c.in_ok-kept-2.ensures in
+    record {
+      small = omega (arith, c.loop-place.invariant.small);
+      room = kept_room _ kept place at c.in_ok-kept-2.kept.items next;
+      greedy = λ k same are w.
+        let sel : IsSelection (length k.candidates) c.args.positions.now = subst (λ n. IsSelection n c.args.positions.now) (sym (length-candidates_of c.args.features.now) ∙ ap length (sym same)) c.requires in
+        let up : c.loop-place.place ≡ place + 1 = omega (arith, c.loop-place-test.true) in
+        greedy_turn k c.args.deps.now are c.args.positions.now sel place (omega (arith, c.loop-place.invariant.small, c.loop-place-test.true)) kept
+          (subst (λ m. Greedy k c.args.positions.now m kept) up (c.loop-place.invariant.greedy k same are w)) c.in_ok-kept-2.kept.items
+          (subst (λ (all : List (List Name)). c.in_ok-kept-2.kept.items ≡ cond (covers_test c.args.deps.now all (remove kept place) (get_or all (get_or kept place 0) [])) (remove kept place) kept) (sym same) next);
+    }
+
+pub returns : goal.returns
+returns c = λ k same are w.
+    let sel : IsSelection (length k.candidates) c.args.positions.now = subst (λ n. IsSelection n c.args.positions.now) (sym (length-candidates_of c.args.features.now) ∙ ap length (sym same)) c.requires in
+    let done : c.loop-place.place ≡ 0 = omega arith in
+    greedy_end k c.args.positions.now sel c.loop-place.kept.items (subst (λ m. Greedy k c.args.positions.now m c.loop-place.kept.items) done (c.loop-place.invariant.greedy k same are w))

@@ -1,0 +1,16 @@
+use Rattle.std.proofs.Common.{◌≡◌, ◌≤◌, length}
+use Rattle.hack_features.specs.Deps.{AreDepsOf}
+use Rattle.hack_features.specs.Feature.{candidates_of}
+use Rattle.hack_features.specs.Rules.{Choice, IsWanted}
+use Rattle.hack_features.proofs.CoverLemmas.{Greedy}
+use Rattle.hack_features.proofs.rules.first_cover.Given as goal
+
+abbrev pub invariant-loop-place : goal.invariant-loop-place
+invariant-loop-place l = record {
+  small : l.place ≤ length l.positions;
+  room : l.place ≤ length l.kept.items;
+  greedy : (c : Choice) → c.candidates ≡ candidates_of l.features → AreDepsOf c.map l.deps → IsWanted c l.positions → Greedy c l.positions l.place l.kept.items;
+}
+
+abbrev pub decreases-loop-place : goal.decreases-loop-place
+decreases-loop-place l = l.place
