@@ -1,0 +1,2 @@
+pub mod VersionOrder
+pub mod VersionTexts
