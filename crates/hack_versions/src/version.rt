@@ -1,10 +1,10 @@
 //! Rust versions and ranges of them, as the command line, manifests and the answers of programs write them.
 
-ghost use Rattle.std.specs.Prelude.{◌≡◌, ◌≢◌, ◌<◌, ◌⊎◌, ◌↔◌, ◌++◌, ℕ, Some, None, false, IsTrue, IfOk, IfErr, MatchResult, option_copied};
+ghost use Rattle.std.specs.Prelude.{◌≡◌, ◌≢◌, ◌<◌, ◌⊎◌, ◌↔◌, ◌∷◌, ◌++◌, ℕ, Some, None, false, IsTrue, IfOk, IfErr, MatchResult, MatchOption, option_copied};
 ghost use Rattle.std.specs.declared.cmp.Ordering.{Ordering};
 ghost use Rattle.std.specs.declared.cmp.Ordering.TheVariants.{Less, Equal, Greater};
 ghost use Rattle.hack_versions.specs.VersionOrder.{IsBefore, strip_patch as stripped};
-ghost use Rattle.hack_versions.specs.VersionTexts.{IsNumber, IsBadNumber, IsVersionText, IsVersionFault, IsBoundText, IsBoundFault, IsEndText, IsEndFault, IsRangeText, IsRangeTextFault, IsReadable, front_of, rest_of, version_text, range_text, start_text, end_text, patch_text};
+ghost use Rattle.hack_versions.specs.VersionTexts.{IsNumber, IsBadNumber, IsVersionText, IsVersionFault, IsBoundText, IsBoundFault, IsEndText, IsEndFault, IsRangeText, IsRangeTextFault, IsReadable, IsCut, IsUncut, IsBare, front_of, rest_of, version_text, range_text, start_text, end_text, patch_text};
 ghost use Rattle.hack_versions.specs.declared.version.VersionFault.TheVariants.{Memory as OutOfMemory};
 
 use std::alloc::{AllocError, Global};
@@ -141,4 +141,105 @@ pub enum MaybeVersion {
 pub struct VersionRange {
     pub start_inclusive: MaybeVersion,
     pub end_inclusive: MaybeVersion,
+}
+
+impl VersionRange {
+    /// The range of `--rust-version`: each package's own version alone.
+    pub fn msrv() -> VersionRange
+        ensures start { result.start_inclusive ≡ MaybeVersion.Msrv }
+        ensures end { result.end_inclusive ≡ MaybeVersion.Msrv }
+    {
+        VersionRange {
+            start_inclusive: MaybeVersion::Msrv,
+            end_inclusive: MaybeVersion::Msrv,
+        }
+    }
+
+    /// Reads a range, as `1.60..=1.70`, and says whether it has the deprecated form `1.60..1.70`, which means the
+    /// same.
+    pub fn parse(alloc: Global, text: &str) -> Result<(VersionRange, bool), VersionFault>
+        ensures ok { IfOk result (λ answer. IsRangeText text.now answer.0 answer.1) }
+        ensures never { IfOk result (λ _. (e : VersionFault) → ¬ IsRangeTextFault text.now e) }
+        ensures err { IfErr result (λ e. (e ≡ VersionFault.Memory) ⊎ IsRangeTextFault text.now e) }
+    {
+        let Some((front, back)) = cut_at_dots(text) else {
+            let start_inclusive = bound(alloc, text, MaybeVersion::Msrv)?;
+            let end_inclusive = MaybeVersion::Stable;
+            let range = VersionRange {
+                start_inclusive,
+                end_inclusive,
+            };
+            return Ok((range, false));
+        };
+        let (end_inclusive, is_deprecated) = end_bound(alloc, front, back)?;
+        let start_inclusive = bound(alloc, front, MaybeVersion::Msrv)?;
+        let range = VersionRange {
+            start_inclusive,
+            end_inclusive,
+        };
+        Ok((range, is_deprecated))
+    }
+
+    /// Reads the range that this one prints as.
+    pub fn read_back(self, alloc: Global) -> Result<(VersionRange, bool), VersionFault>
+        ensures { IsReadable self → MatchResult result (λ answer. (answer.0 ≡ self) × (answer.1 ≡ false)) (λ e. e ≡ VersionFault.Memory) }
+    {
+        let text = self.to_string(alloc)?;
+        VersionRange::parse(alloc, &text)
+    }
+}
+
+impl fmt::Display for VersionRange {
+    ghost output = { λ range. Some (range_text range) };
+
+    fn fmt<W: fmt::Write>(&self, f: &mut fmt::Formatter<W>) -> fmt::Result {
+        match (self.start_inclusive, self.end_inclusive) {
+            (MaybeVersion::Version(start), MaybeVersion::Version(end)) => write!(f, "{start}..={end}"),
+            (MaybeVersion::Version(start), _) => write!(f, "{start}.."),
+            (_, MaybeVersion::Version(end)) => write!(f, "..={end}"),
+            _ => f.write_str(".."),
+        }
+    }
+}
+
+/// A text cut at its first `..`.
+fn cut_at_dots(text: &str) -> Option<(&str, &str)>
+    ensures { MatchOption result (IsUncut text.now) (λ parts. IsCut text.now parts.0.now parts.1.now) }
+{
+    text.split_once("..")
+}
+
+/// What stands behind a leading `=`.
+fn strip_equals(text: &str) -> Option<&str>
+    ensures { MatchOption result (IsBare text.now) (λ rest. text.now ≡ 61 ∷ rest.now) }
+{
+    text.strip_prefix('=')
+}
+
+/// Reads a bound of a range; `empty` is what an empty text stands for.
+fn bound(alloc: Global, text: &str, empty: MaybeVersion) -> Result<MaybeVersion, VersionFault>
+    ensures ok { IfOk result (IsBoundText empty text.now) }
+    ensures err { IfErr result (λ e. (e ≡ VersionFault.Memory) ⊎ IsBoundFault text.now e) }
+{
+    if text.is_empty() {
+        return Ok(empty);
+    }
+    let version = Version::parse(alloc, text)?;
+    Ok(MaybeVersion::Version(version))
+}
+
+/// Reads what stands behind `..`, and says whether it has the deprecated form.
+fn end_bound(alloc: Global, front: &str, back: &str) -> Result<(MaybeVersion, bool), VersionFault>
+    ensures ok { IfOk result (λ answer. IsEndText back.now answer.0 answer.1) }
+    ensures err { IfErr result (λ e. (e ≡ VersionFault.Memory) ⊎ IsEndFault front.now back.now e) }
+{
+    let Some(end) = strip_equals(back) else {
+        let end = bound(alloc, back, MaybeVersion::Stable)?;
+        return Ok((end, !back.is_empty()));
+    };
+    if end.is_empty() {
+        return Err(VersionFault::OpenInclusive(String::from_str(alloc, front)?));
+    }
+    let end = bound(alloc, end, MaybeVersion::Stable)?;
+    Ok((end, false))
 }
