@@ -5,7 +5,7 @@ use Rattle.std.proofs.lemmas.Str.Pattern.{split_text_parts}
 use Rattle.std.proofs.lemmas.List.{append_cancel_left, take_at, drop_at}
 use Rattle.hack_versions.specs.VersionTexts.{IsCut, IsUncut}
 
-le_or_lt : (m n : ℕ) → (m ≤ n) ⊎ (n < m)
+pub le_or_lt : (m n : ℕ) → (m ≤ n) ⊎ (n < m)
 le_or_lt m n = grind arith
 
 -- the front ends where the first `..` begins

@@ -1,2 +1,4 @@
 pub mod TextLemmas
 pub mod CutLemmas
+pub mod RangeLemmas
+pub mod PrintLemmas

@@ -1,5 +1,5 @@
 -- How versions and ranges of them are written.
-use Rattle.std.specs.Prelude.{◌≡◌, ◌≢◌, ℕ, ◌+◌, ◌<◌, ◌≤◌, ◌^◌, ◌⊎◌, ◌↔◌, Bool, true, false, List, [], ◌∷◌, ◌++◌, Option, Some, None, IsTrue, IsSomeAnd, MatchOption, length, codes, decimal, string_bytes, nat_lt, ◌==◌, if◌then◌else◌}
+use Rattle.std.specs.Prelude.{◌≡◌, ◌≢◌, ℕ, ◌+◌, ◌<◌, ◌≤◌, ◌^◌, ◌⊎◌, ◌↔◌, Bool, true, false, List, [], ◌∷◌, ◌++◌, Option, Some, None, IsTrue, IfSome, IsSomeAnd, MatchOption, length, codes, decimal, string_bytes, nat_lt, ◌==◌, if◌then◌else◌}
 use Rattle.std.specs.List.{before_first, after_first, position_or_len}
 use Rattle.std.specs.Str.Parse.{IsNumeral, digits_value, without_leading_plus}
 use Rattle.hack_versions.specs.declared.version.Version.{Version}
@@ -103,6 +103,24 @@ end_text bound = []
 abbrev pub range_text : VersionRange → List ℕ
 range_text range = start_text range.start_inclusive ++ codes ".." ++ end_text range.end_inclusive
 
--- a range that its text says: from a version or the packages' own, to a version or stable
+-- the numbers of a version are below 2^32, as those of each value of the type are
+pub record IsInRange (v : Version) : Type 0 where
+  pub major : v.major < 2 ^ 32
+  pub minor : v.minor < 2 ^ 32
+  pub patch : IfSome v.patch (λ n. n < 2 ^ 32)
+
+-- a start that a text says: a version, or the packages' own
+abbrev pub IsReadableStart : MaybeVersion → Type 0
+IsReadableStart (Given v) = IsInRange v
+IsReadableStart Msrv = Unit {0}
+IsReadableStart Stable = ⊥
+
+-- an end that a text says: a version, or stable
+abbrev pub IsReadableEnd : MaybeVersion → Type 0
+IsReadableEnd (Given v) = IsInRange v
+IsReadableEnd Msrv = ⊥
+IsReadableEnd Stable = Unit {0}
+
+-- a range whose text says both ends
 abbrev pub IsReadable : VersionRange → Type 0
-IsReadable range = (range.start_inclusive ≢ Stable) × (range.end_inclusive ≢ Msrv)
+IsReadable range = IsReadableStart range.start_inclusive × IsReadableEnd range.end_inclusive

@@ -161,31 +161,12 @@ impl VersionRange {
         ensures ok { IfOk result (λ answer. IsRangeText text.now answer.0 answer.1) }
         ensures never { IfOk result (λ _. (e : VersionFault) → ¬ IsRangeTextFault text.now e) }
         ensures err { IfErr result (λ e. (e ≡ VersionFault.Memory) ⊎ IsRangeTextFault text.now e) }
-    {
-        let Some((front, back)) = cut_at_dots(text) else {
-            let start_inclusive = bound(alloc, text, MaybeVersion::Msrv)?;
-            let end_inclusive = MaybeVersion::Stable;
-            let range = VersionRange {
-                start_inclusive,
-                end_inclusive,
-            };
-            return Ok((range, false));
-        };
-        let (end_inclusive, is_deprecated) = end_bound(alloc, front, back)?;
-        let start_inclusive = bound(alloc, front, MaybeVersion::Msrv)?;
-        let range = VersionRange {
-            start_inclusive,
-            end_inclusive,
-        };
-        Ok((range, is_deprecated))
-    }
 
-    /// Reads the range that this one prints as.
-    pub fn read_back(self, alloc: Global) -> Result<(VersionRange, bool), VersionFault>
-        ensures { IsReadable self → MatchResult result (λ answer. (answer.0 ≡ self) × (answer.1 ≡ false)) (λ e. e ≡ VersionFault.Memory) }
+        // What a range prints as is read back as that range.
+        ensures round_trip { (range : VersionRange) → IsReadable range → text.now ≡ range_text range
+            → MatchResult result (λ answer. (answer.0 ≡ range) × (answer.1 ≡ false)) (λ e. e ≡ VersionFault.Memory) }
     {
-        let text = self.to_string(alloc)?;
-        VersionRange::parse(alloc, &text)
+        read_range(alloc, text)
     }
 }
 
@@ -200,6 +181,28 @@ impl fmt::Display for VersionRange {
             _ => f.write_str(".."),
         }
     }
+}
+
+fn read_range(alloc: Global, text: &str) -> Result<(VersionRange, bool), VersionFault>
+    ensures ok { IfOk result (λ answer. IsRangeText text.now answer.0 answer.1) }
+    ensures err { IfErr result (λ e. (e ≡ VersionFault.Memory) ⊎ IsRangeTextFault text.now e) }
+{
+    let Some((front, back)) = cut_at_dots(text) else {
+        let start_inclusive = bound(alloc, text, MaybeVersion::Msrv)?;
+        let end_inclusive = MaybeVersion::Stable;
+        let range = VersionRange {
+            start_inclusive,
+            end_inclusive,
+        };
+        return Ok((range, false));
+    };
+    let (end_inclusive, is_deprecated) = end_bound(alloc, front, back)?;
+    let start_inclusive = bound(alloc, front, MaybeVersion::Msrv)?;
+    let range = VersionRange {
+        start_inclusive,
+        end_inclusive,
+    };
+    Ok((range, is_deprecated))
 }
 
 /// A text cut at its first `..`.
