@@ -102,25 +102,31 @@ three i n = grind arith
 
 no_pair-joined : (xs ys : List ℕ) → HasNoPair xs → 0 < length ys → IsUndotted ys → HasNoPair (xs ++ (46 ∷ ys))
 no_pair-joined xs ys h p u = record {
-    more = λ i l e. elim (three i (length xs)) [
-        inl k ↦ let m : i + 1 < length xs = h.more i k (sym (left i k) ∙ e) in omega (arith, size)
-      | inr k ↦ elim k [ inl f ↦ omega (arith, size) | inr f ↦ absurd (u (i - length xs - 1) (omega (arith, size)) (sym (right i f) ∙ e)) ] ];
-    other = λ i l e. elim (three i (length xs)) [
-        inl k ↦ rw (left (i + 1) (h.more i k (sym (left i k) ∙ e))) (h.other i k (sym (left i k) ∙ e))
-      | inr k ↦ elim k [
-          inl f ↦ rw (ap (λ n. get_or (xs ++ (46 ∷ ys)) (n + 1) 0) f, get_or-append-add xs (46 ∷ ys) 1 0) (u 0 p)
-        | inr f ↦ absurd (u (i - length xs - 1) (omega (arith, size)) (sym (right i f) ∙ e)) ] ]
-  }
+  more = λ i l e. elim (three i (length xs)) [
+    | inl k ↦ let m : i + 1 < length xs = h.more i k (sym (left i k) ∙ e) in omega (arith, size)
+    | inr k ↦ elim k [ inl f ↦ omega (arith, size) | inr f ↦ absurd (u (i - length xs - 1) (omega (arith, size)) (sym (right i f) ∙ e)) ]
+  ];
+  other = λ i l e. elim (three i (length xs)) [
+    | inl k ↦ rw (left (i + 1) (h.more i k (sym (left i k) ∙ e))) (h.other i k (sym (left i k) ∙ e))
+    | inr k ↦ elim k [
+      | inl f ↦ rw (ap (λ n. get_or (xs ++ (46 ∷ ys)) (n + 1) 0) f, get_or-append-add xs (46 ∷ ys) 1 0) (u 0 p)
+      | inr f ↦ absurd (u (i - length xs - 1) (omega (arith, size)) (sym (right i f) ∙ e))
+    ]
+  ];
+}
   where
     size : length (xs ++ (46 ∷ ys)) ≡ length xs + (length ys + 1)
     size = omega (arith, length-append xs (46 ∷ ys))
+
     left : (i : ℕ) → i < length xs → get_or (xs ++ (46 ∷ ys)) i 0 ≡ get_or xs i 0
     left i l = get_or_append_left xs (46 ∷ ys) 0 i l
+
     right : (i : ℕ) → length xs < i → get_or (xs ++ (46 ∷ ys)) i 0 ≡ get_or ys (i - length xs - 1) 0
     right i l = ap (λ n. get_or (xs ++ (46 ∷ ys)) n 0) (split i l) ∙ get_or-append-add xs (46 ∷ ys) (i - length xs - 1 + 1) 0 ∙ over (i - length xs - 1)
       where
         split : (i : ℕ) → length xs < i → i ≡ length xs + (i - length xs - 1 + 1)
         split i l = omega arith
+
         over : (n : ℕ) → get_or (46 ∷ ys) (n + 1) 0 ≡ get_or ys n 0
         over n = rw add-one refl
 
@@ -129,12 +135,13 @@ no_pair-version v h = rw (text-parts v) (go v.patch h.patch)
   where
     d : HasNoPair (decimal v.major)
     d = no_pair-undotted (decimal v.major) (undotted-decimal v.major h.major)
+
     go : (patch : Option ℕ) → IfSome patch (λ n. n < 2 ^ 32) → HasNoPair (decimal v.major ++ (46 ∷ (decimal v.minor ++ patch_text patch)))
     go None k = rw (append-nil (decimal v.minor)) (no_pair-joined (decimal v.major) (decimal v.minor) d (decimal_nonempty v.minor (small v.minor h.minor)) (undotted-decimal v.minor h.minor))
     go (Some n) k = subst HasNoPair (append_assoc (decimal v.major) (46 ∷ decimal v.minor) (46 ∷ decimal n))
         (no_pair-joined (decimal v.major ++ (46 ∷ decimal v.minor)) (decimal n)
-          (no_pair-joined (decimal v.major) (decimal v.minor) d (decimal_nonempty v.minor (small v.minor h.minor)) (undotted-decimal v.minor h.minor))
-          (decimal_nonempty n (small n k)) (undotted-decimal n k))
+        (no_pair-joined (decimal v.major) (decimal v.minor) d (decimal_nonempty v.minor (small v.minor h.minor)) (undotted-decimal v.minor h.minor))
+        (decimal_nonempty n (small n k)) (undotted-decimal n k))
 
 -- a front without two dots in a row is cut off whole
 cut-joined : (front back : List ℕ) → HasNoPair front → IsCut (front ++ (codes ".." ++ back)) front back
@@ -174,4 +181,4 @@ range-written range r =
     let start = start_text range.start_inclusive in
     let end = end_text range.end_inclusive in
     subst (λ text. IsRangeText text range false) (sym (append_assoc start (codes "..") end))
-      (inr (start, end, cut-joined start end (no_pair-start range.start_inclusive r.0), end-written range.end_inclusive r.1, start-written range.start_inclusive r.0))
+    (inr (start, end, cut-joined start end (no_pair-start range.start_inclusive r.0), end-written range.end_inclusive r.1, start-written range.start_inclusive r.0))

@@ -33,6 +33,7 @@ no-range_fault text range old e (inr h) (inr f) = parts f.3
   where
     same : (f.0 ≡ h.0) × (f.1 ≡ h.1)
     same = front-same text f.0 f.1 h.0 h.1 f.2 h.2
+
     parts : IsEndFault f.0 f.1 e ⊎ (((end : MaybeVersion) × (old : Bool) × IsEndText f.1 end old) × IsBoundFault f.0 e) → ⊥
     parts (inl g) = end-fault f.0 h.1 range.end_inclusive old e h.3 (subst (λ b. IsEndFault f.0 b e) same.1 g)
     parts (inr g) = bound-fault Msrv h.0 range.start_inclusive e h.4 (subst (λ t. IsBoundFault t e) same.0 g.1)
@@ -47,9 +48,9 @@ abbrev made : ℕ → ℕ → Option ℕ → Version
 made a b c = record { major = a; minor = b; patch = c }
 
 rest-same : (o : Option (List ℕ)) (v w : Version)
-  → IsSomeAnd o (λ rest. IsNumber (front_of 46 rest) v.minor × MatchOption (rest_of 46 rest) (v.patch ≡ None) (λ last. IsSomeAnd v.patch (IsNumber last)))
-  → IsSomeAnd o (λ rest. IsNumber (front_of 46 rest) w.minor × MatchOption (rest_of 46 rest) (w.patch ≡ None) (λ last. IsSomeAnd w.patch (IsNumber last)))
-  → (v.minor ≡ w.minor) × (v.patch ≡ w.patch)
+    → IsSomeAnd o (λ rest. IsNumber (front_of 46 rest) v.minor × MatchOption (rest_of 46 rest) (v.patch ≡ None) (λ last. IsSomeAnd v.patch (IsNumber last)))
+    → IsSomeAnd o (λ rest. IsNumber (front_of 46 rest) w.minor × MatchOption (rest_of 46 rest) (w.patch ≡ None) (λ last. IsSomeAnd w.patch (IsNumber last)))
+    → (v.minor ≡ w.minor) × (v.patch ≡ w.patch)
 rest-same None v w h k = absurd h
 rest-same (Some rest) v w h k = (sym h.0.1 ∙ k.0.1, last-same (rest_of 46 rest) v.patch w.patch h.1 k.1)
 
@@ -89,7 +90,9 @@ range-same text r s old old' (inr h) (inr k) = (ap (λ a. ends a r.end_inclusive
   where
     same : (k.0 ≡ h.0) × (k.1 ≡ h.1)
     same = front-same text k.0 k.1 h.0 h.1 k.2 h.2
+
     both : (r.end_inclusive ≡ s.end_inclusive) × (old ≡ old')
     both = end-same h.1 r.end_inclusive s.end_inclusive old old' h.3 (subst (λ t. IsEndText t s.end_inclusive old') same.1 k.3)
+
     starts : r.start_inclusive ≡ s.start_inclusive
     starts = bound-same Msrv h.0 r.start_inclusive s.start_inclusive h.4 (subst (λ t. IsBoundText Msrv t s.start_inclusive) same.0 k.4)

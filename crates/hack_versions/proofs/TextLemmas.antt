@@ -17,9 +17,9 @@ last-fault (Some last) None e h f = h
 last-fault (Some last) (Some n) e h f = bad-number last n e h f
 
 rest-fault : (o : Option (List ℕ)) (v : Version) (e : VersionFault)
-  → IsSomeAnd o (λ rest. IsNumber (front_of 46 rest) v.minor × MatchOption (rest_of 46 rest) (v.patch ≡ None) (λ last. IsSomeAnd v.patch (IsNumber last)))
-  → MatchOption o (e ≡ MissingMinor) (λ rest. IsBadNumber (front_of 46 rest) e ⊎ (IsSomeNumber (front_of 46 rest) × IsSomeAnd (rest_of 46 rest) (λ last. IsBadNumber last e)))
-  → ⊥
+    → IsSomeAnd o (λ rest. IsNumber (front_of 46 rest) v.minor × MatchOption (rest_of 46 rest) (v.patch ≡ None) (λ last. IsSomeAnd v.patch (IsNumber last)))
+    → MatchOption o (e ≡ MissingMinor) (λ rest. IsBadNumber (front_of 46 rest) e ⊎ (IsSomeNumber (front_of 46 rest) × IsSomeAnd (rest_of 46 rest) (λ last. IsBadNumber last e)))
+    → ⊥
 rest-fault None v e h f = h
 rest-fault (Some rest) v e h (inl f) = bad-number (front_of 46 rest) v.minor e h.0 f
 rest-fault (Some rest) v e h (inr f) = last-fault (rest_of 46 rest) v.patch e h.1 f.1
