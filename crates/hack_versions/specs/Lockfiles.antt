@@ -14,3 +14,7 @@ IsFirstNew versions p = (0 < p) × All (λ v. IsBefore v (one 51)) (take p versi
 -- the lockfile is made before the version at a place
 abbrev pub NeedsLockfile : List Version → ℕ → Type 0
 NeedsLockfile versions p = IsOldStart versions p ⊎ IsFirstNew versions p
+
+-- the lockfile is made before v at a place, where `AreOld` says that all before it are below 1.51
+abbrev pub NeedsLockfileAt : ℕ → Version → Type 0 → Type 0
+NeedsLockfileAt p v AreOld = ((p ≡ 0) × IsBefore v (one 60)) ⊎ ((0 < p) × AreOld × ¬ IsBefore v (one 51))
