@@ -5,3 +5,4 @@ pub mod PrintLemmas
 pub mod OrderLemmas
 pub mod StepLemmas
 pub mod LockLemmas
+pub mod GroupLemmas

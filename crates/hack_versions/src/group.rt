@@ -264,8 +264,9 @@ fn notices_of(
 {
     let mut notices = Vec::new(alloc);
     for member in packages {
-        if let Some(notice) = skip_notice(alloc, range, steps, member)? {
-            notices.push(notice)?;
+        match skip_notice(alloc, range, steps, member)? {
+            Some(notice) => notices.push(notice)?,
+            None => {}
         }
     }
     Ok(notices)
