@@ -32,26 +32,34 @@ insert-rising xs at m pairs h before after new i j d l u = go (below_or i at) (b
   where
     below_or : (i at : ℕ) → (i < at) ⊎ ((i ≡ at) ⊎ (at < i))
     below_or i at = grind arith
+
     here : (k : ℕ) (d : Version) → at ≡ k → k < length xs → IsBefore m (get_or xs k d)
     here k d e b = elim (three-way (get_or xs k d) m) [
-        inl q ↦ absurd (after d (omega (arith, e, b)) (subst (λ n. IsBefore (get_or xs n d) m) (sym e) q))
-      | inr r ↦ elim r [ inl f ↦ absurd (new (present xs m d k b f)) | inr q ↦ q ] ]
+      | inl q ↦ absurd (after d (omega (arith, e, b)) (subst (λ n. IsBefore (get_or xs n d) m) (sym e) q))
+      | inr r ↦ elim r [ inl f ↦ absurd (new (present xs m d k b f)) | inr q ↦ q ]
+    ]
+
     above : (k : ℕ) (d : Version) → at ≤ k → k < length xs → IsBefore m (get_or xs k d)
     above k d a b = elim (same_or at k a) [
-        inl e ↦ here k d e b
-      | inr e ↦ before-trans m (get_or xs at d) (get_or xs k d) (here at d refl (omega arith)) (pairs at k d e b) ]
+      | inl e ↦ here k d e b
+      | inr e ↦ before-trans m (get_or xs at d) (get_or xs k d) (here at d refl (omega arith)) (pairs at k d e b)
+    ]
       where
         same_or : (at k : ℕ) → at ≤ k → (at ≡ k) ⊎ (at < k)
         same_or at k a = grind arith
+
     size : length (insert xs at m) ≡ length xs + 1
     size = length-insert xs at m h
+
     val-above : (j : ℕ) (d : Version) → at < j → get_or (insert xs at m) j d ≡ get_or xs (j - 1) d
     val-above j d b = ap (λ (n : ℕ). get_or (insert xs at m) n d) (back j b) ∙ get_or-insert_above xs at m d (j - 1) (omega arith) h
       where
         back : (j : ℕ) → at < j → j ≡ j - 1 + 1
         back j b = omega arith
+
     in_old : (j : ℕ) → at < j → j < length (insert xs at m) → j - 1 < length xs
     in_old j b u = omega (arith, size)
+
     go : (i < at) ⊎ ((i ≡ at) ⊎ (at < i)) → (j < at) ⊎ ((j ≡ at) ⊎ (at < j)) → IsBefore (get_or (insert xs at m) i d) (get_or (insert xs at m) j d)
     go (inl a) (inl b) = rw (get_or-insert_below xs at m d i a h, get_or-insert_below xs at m d j b h) (pairs i j d l (omega arith))
     go (inl a) (inr (inl b)) = rw (b, get_or-insert_below xs at m d i a h, get_or-insert_at xs at m d h) (before i d a)
@@ -67,14 +75,16 @@ insert-has xs at m h = (at, omega (arith, length-insert xs at m h), get_or-inser
 
 pub insert-keeps : (xs : List Version) (at : ℕ) (m x : Version) → Contains xs x → Contains (insert xs at m) x
 insert-keeps xs at m x c = elim (Contains-append_cases (take at xs) (drop at xs) x (subst (λ ys. Contains ys x) (sym (take-append-drop at xs)) c)) [
-    inl w ↦ Contains-append_left (take at xs) (m ∷ drop at xs) x w
-  | inr w ↦ Contains-append_right (take at xs) (m ∷ drop at xs) x (Contains-append_right (m ∷ []) (drop at xs) x w) ]
+  | inl w ↦ Contains-append_left (take at xs) (m ∷ drop at xs) x w
+  | inr w ↦ Contains-append_right (take at xs) (m ∷ drop at xs) x (Contains-append_right (m ∷ []) (drop at xs) x w)
+]
 
 -- what a front and the next element have, one element on
 pub kept-more : (xs : List Version) (i : ℕ) (d : Version) (ys zs : List Version) → i < length xs → ((v : Version) → Contains (take i xs) v → Contains ys v) → ((v : Version) → Contains ys v → Contains zs v) → Contains zs (get_or xs i d) → (v : Version) → Contains (take (i + 1) xs) v → Contains zs v
 kept-more xs i d ys zs l h keeps has v c = elim (Contains-push_cases (take i xs) (get_or xs i d) v (subst (λ x. Contains x v) (take_more xs i d l) c)) [
-    inl w ↦ keeps v (h v w)
-  | inr e ↦ subst (Contains zs) e has ]
+  | inl w ↦ keeps v (h v w)
+  | inr e ↦ subst (Contains zs) e has
+]
 
 -- the numbers below i that pass, in order
 pub record IsBelow (P : ℕ → Type 0) (i : ℕ) (xs : List ℕ) : Type 0 where
@@ -91,16 +101,18 @@ pub below-skip : (P : ℕ → Type 0) (i : ℕ) (xs : List ℕ) → (P i → ⊥
 below-skip P i xs n h = record {
   rising = h.rising;
   exact = λ p. (
-    λ c. let w = (h.exact p).0 c in (omega (arith, w.0), w.1)
-  , λ w. elim (lt_or_eq p i w.0) [ inl l ↦ (h.exact p).1 (l, w.1) | inr e ↦ absurd (n (subst P (sym e) w.1)) ])
+    λ c. let w = (h.exact p).0 c in (omega (arith, w.0), w.1),
+    λ w. elim (lt_or_eq p i w.0) [ inl l ↦ (h.exact p).1 (l, w.1) | inr e ↦ absurd (n (subst P (sym e) w.1)) ],
+  );
 }
 
 pub below-keep : (P : ℕ → Type 0) (i : ℕ) (xs : List ℕ) → P i → IsBelow P i xs → IsBelow P (i + 1) (xs ++ i ∷ [])
 below-keep P i xs n h = record {
   rising = all_pairs_push (λ p q. p < q) xs i h.rising (λ k d l. ((h.exact _).0 (Contains-get_or xs k d l)).0);
   exact = λ p. (
-    λ c. elim (Contains-push_cases xs i p c) [ inl w ↦ let v = (h.exact p).0 w in (omega (arith, v.0), v.1) | inr e ↦ (omega (arith, e), subst P e n) ]
-  , λ w. elim (lt_or_eq p i w.0) [ inl l ↦ Contains-append_left xs (i ∷ []) p ((h.exact p).1 (l, w.1)) | inr e ↦ subst (Contains (xs ++ i ∷ [])) e (Contains-push xs i) ])
+    λ c. elim (Contains-push_cases xs i p c) [ inl w ↦ let v = (h.exact p).0 w in (omega (arith, v.0), v.1) | inr e ↦ (omega (arith, e), subst P e n) ],
+    λ w. elim (lt_or_eq p i w.0) [ inl l ↦ Contains-append_left xs (i ∷ []) p ((h.exact p).1 (l, w.1)) | inr e ↦ subst (Contains (xs ++ i ∷ [])) e (Contains-push xs i) ],
+  );
 }
 
 some-below : {X : Type 0} (xs : List X) (p : ℕ) (o : Option X) (x : X) → slice_get xs p ≡ o → o ≡ Some x → p < length xs
@@ -110,8 +122,9 @@ some-below (y ∷ ys) (suc p) o x e f = omega (arith, some-below ys p o x e f)
 
 pub below-users : (range : VersionRange) (steps : List Version) (packages : List PackageVersion) (v : Version) (n : ℕ) (xs : List ℕ) → length packages ≤ n → IsBelow (UsesAt range steps packages v) n xs → (p : ℕ) → Contains xs p ↔ UsesAt range steps packages v p
 below-users range steps packages v n xs l h p = (
-    λ c. ((h.exact p).0 c).1
-  , λ u. (h.exact p).1 (omega (arith, l, some-below packages p (slice_get packages p) u.0 refl u.1), u))
+  λ c. ((h.exact p).0 c).1,
+  λ u. (h.exact p).1 (omega (arith, l, some-below packages p (slice_get packages p) u.0 refl u.1), u),
+)
 
 same_some : {X : Type 0} (a b : X) → Some a ≡ Some b → a ≡ b
 same_some a b e = cc
@@ -137,8 +150,9 @@ own-listed packages p member v e f =
 
 pub uses-listed : (range : VersionRange) (steps versions : List Version) (packages : List PackageVersion) → ((v : Version) → Contains steps v → Contains versions v) → ((v : Version) → Contains (map own_of packages) (Some v) → Contains versions v) → (v : Version) (p : ℕ) → UsesAt range steps packages v p → Contains versions v
 uses-listed range steps versions packages f g v p u = elim (by-listed range.start_inclusive range.end_inclusive steps (own_of u.0) v u.2) [
-    inl c ↦ f v c
-  | inr e ↦ g v (own-listed packages p u.0 v u.1 e) ]
+  | inl c ↦ f v c
+  | inr e ↦ g v (own-listed packages p u.0 v u.1 e)
+]
 
 -- the groups of the versions in a front
 pub record AreGroupsOf (Use : Version → ℕ → Type 0) (front : List Version) (groups : List VersionGroup) : Type 0 where
@@ -152,7 +166,7 @@ groups-nil Use = record {
   rising = λ i j d u v. absurd (omega arith);
   each = λ k d l. absurd (omega arith);
   within = λ k d l. absurd (omega arith);
-  complete = λ m p c u. absurd (omega (arith, c.1))
+  complete = λ m p c u. absurd (omega (arith, c.1));
 }
 
 groups-skip : (Use : Version → ℕ → Type 0) (front : List Version) (m : Version) (groups : List VersionGroup) → ((p : ℕ) → Use m p → ⊥) → AreGroupsOf Use front groups → AreGroupsOf Use (front ++ m ∷ []) groups
@@ -160,7 +174,7 @@ groups-skip Use front m groups n h = record {
   rising = h.rising;
   each = h.each;
   within = All-weaker (λ g. Contains front g.version) (λ g. Contains (front ++ m ∷ []) g.version) (λ g c. Contains-append_left front (m ∷ []) g.version c) groups h.within;
-  complete = λ x p c u. elim (Contains-push_cases front m x c) [ inl w ↦ h.complete x p w u | inr e ↦ absurd (n p (subst (λ x. Use x p) (sym e) u)) ]
+  complete = λ x p c u. elim (Contains-push_cases front m x c) [ inl w ↦ h.complete x p w u | inr e ↦ absurd (n p (subst (λ x. Use x p) (sym e) u)) ];
 }
 
 groups-add : (Use : Version → ℕ → Type 0) (front : List Version) (g : VersionGroup) (groups : List VersionGroup) → ((x : Version) → Contains front x → IsBefore x g.version) → IsGroup Use g → AreGroupsOf Use front groups → AreGroupsOf Use (front ++ g.version ∷ []) (groups ++ g ∷ [])
@@ -169,8 +183,9 @@ groups-add Use front g groups below is h = record {
   each = All-push (IsGroup Use) groups g h.each is;
   within = All-push (λ b. Contains (front ++ g.version ∷ []) b.version) groups g (All-weaker (λ b. Contains front b.version) (λ b. Contains (front ++ g.version ∷ []) b.version) (λ b c. Contains-append_left front (g.version ∷ []) b.version c) groups h.within) (Contains-push front g.version);
   complete = λ x p c u. elim (Contains-push_cases front g.version x c) [
-      inl w ↦ let r = h.complete x p w u in (r.0, Contains-append_left groups (g ∷ []) r.0 r.1, r.2)
-    | inr e ↦ (g, Contains-push groups g, e) ]
+    | inl w ↦ let r = h.complete x p w u in (r.0, Contains-append_left groups (g ∷ []) r.0 r.1, r.2)
+    | inr e ↦ (g, Contains-push groups g, e)
+  ];
 }
 
 -- each member of a front is before the next element
@@ -182,19 +197,19 @@ below_next xs i d x pairs h m =
 
 pub group-more : (Use : Version → ℕ → Type 0) (versions : List Version) (i : ℕ) (d : Version) (g : VersionGroup) (groups : List VersionGroup) → AllPairs IsBefore versions → i < length versions → g.version ≡ get_or versions i d → g.packages.items ≢ [] → AllPairs (λ p q. p < q) g.packages.items → ((p : ℕ) → Contains g.packages.items p ↔ Use g.version p) → AreGroupsOf Use (take i versions) groups → AreGroupsOf Use (take (i + 1) versions) (groups ++ g ∷ [])
 group-more Use versions i d g groups rising h e used r x f =
-  subst (λ front. AreGroupsOf Use front (groups ++ g ∷ [])) (ap (λ m. take i versions ++ m ∷ []) e ∙ sym (take_more versions i d h))
+    subst (λ front. AreGroupsOf Use front (groups ++ g ∷ [])) (ap (λ m. take i versions ++ m ∷ []) e ∙ sym (take_more versions i d h))
     (groups-add Use (take i versions) g groups (λ y k. rw e (below_next versions i d y rising h k)) (record { used = used; rising = r; exact = x }) f)
 
 pub group-none : (Use : Version → ℕ → Type 0) (versions : List Version) (i : ℕ) (d : Version) (places : List ℕ) (groups : List VersionGroup) → i < length versions → length places ≡ 0 → ((p : ℕ) → Contains places p ↔ Use (get_or versions i d) p) → AreGroupsOf Use (take i versions) groups → AreGroupsOf Use (take (i + 1) versions) groups
 group-none Use versions i d places groups h e x f =
-  subst (λ front. AreGroupsOf Use front groups) (sym (take_more versions i d h))
+    subst (λ front. AreGroupsOf Use front groups) (sym (take_more versions i d h))
     (groups-skip Use (take i versions) (get_or versions i d) groups (λ p u. let k = (x p).1 u in absurd (omega (arith, k.1, e))) f)
 
 pub groups-all : (range : VersionRange) (steps versions : List Version) (packages : List PackageVersion) (n : ℕ) (groups : List VersionGroup) → length versions ≤ n → ((v : Version) → Contains steps v → Contains versions v) → ((v : Version) → Contains (map own_of packages) (Some v) → Contains versions v) → AreGroupsOf (UsesAt range steps packages) (take n versions) groups → AreGroups (UsesAt range steps packages) groups
 groups-all range steps versions packages n groups l f g h = record {
   rising = h.rising;
   each = h.each;
-  complete = λ v p u. h.complete v p (subst (λ front. Contains front v) (sym (take_all n versions l)) (uses-listed range steps versions packages f g v p u)) u
+  complete = λ v p u. h.complete v p (subst (λ front. Contains front v) (sym (take_all n versions l)) (uses-listed range steps versions packages f g v p u)) u;
 }
 
 -- a package with an own version of major 1 has no fault

@@ -21,7 +21,7 @@ pub answered-nil : (versions : List Version) (locked : Bool) → IsAnswered vers
 answered-nil versions locked = record {
   len = refl;
   old = (λ _ k d l. absurd (omega arith), λ _. refl);
-  exact = λ p. (λ e. cc, λ w. absurd (omega (arith, w.0)))
+  exact = λ p. (λ e. cc, λ w. absurd (omega (arith, w.0)));
 }
 
 needs-at : (versions : List Version) (n : ℕ) (v : Version) (are_old : Bool) → slice_get versions n ≡ Some v → IsTrue are_old ↔ All IsOld (take n versions) → NeedsLockfileAt n v (IsTrue are_old) ↔ NeedsLockfile versions n
@@ -29,13 +29,17 @@ needs-at versions n v are_old e old = (to, from)
   where
     first : n ≡ 0 → slice_get versions 0 ≡ Some v
     first z = ap (λ m. slice_get versions m) (sym z) ∙ e
+
     here : (P : Version → Type 0) (o : Option Version) → o ≡ Some v → IsSomeAnd o P → P v
     here P o f h = subst (λ x. IsSomeAnd x P) f h
+
     back : (P : Version → Type 0) (o : Option Version) → o ≡ Some v → P v → IsSomeAnd o P
     back P o f h = subst (λ x. IsSomeAnd x P) (sym f) h
+
     to : NeedsLockfileAt n v (IsTrue are_old) → NeedsLockfile versions n
     to (inl w) = inl (w.0, back (λ x. IsBefore x (one 60)) (slice_get versions 0) (first w.0) w.1)
     to (inr w) = inr (w.0, old.0 w.1, back (λ x. ¬ IsBefore x (one 51)) (slice_get versions n) e w.2)
+
     from : NeedsLockfile versions n → NeedsLockfileAt n v (IsTrue are_old)
     from (inl w) = inl (w.0, here (λ x. IsBefore x (one 60)) (slice_get versions 0) (first w.0) w.1)
     from (inr w) = inr (w.0, old.1 w.1, here (λ x. ¬ IsBefore x (one 51)) (slice_get versions n) e w.2)
@@ -48,12 +52,15 @@ old-next versions n v a b l e old is = (to a b refl refl, from)
   where
     grown : take (n + 1) versions ≡ take n versions ++ v ∷ []
     grown = take_more versions n v l ∙ ap (λ x. take n versions ++ x ∷ []) e
+
     to : (x y : Bool) → a ≡ x → b ≡ y → IsTrue (x && y) → All IsOld (take (n + 1) versions)
     to true true f g h = subst (All IsOld) (sym grown) (All-push IsOld (take n versions) v (old.0 f) (is.0 g))
     to true false f g h = cc
     to false y f g h = cc
+
     last : All IsOld (take n versions ++ v ∷ []) → IsOld v
     last h = subst IsOld (get_or_push (take n versions) v v (length (take n versions)) refl) (h (length (take n versions)) v (omega (arith, length-append (take n versions) (v ∷ []))))
+
     from : All IsOld (take (n + 1) versions) → IsTrue (a && b)
     from h =
         let k = subst (All IsOld) grown h in
@@ -75,21 +82,26 @@ some-true x e = cc
 
 pub answered-next : (versions : List Version) (locked : Bool) (n : ℕ) (are_old b makes : Bool) (answer : List Bool) (v : Version) → n < length versions → get_or versions n v ≡ v → IsAnswered versions locked n are_old answer → IsTrue makes ↔ ((locked ≡ false) × NeedsLockfileAt n v (IsTrue are_old)) → IsTrue b ↔ IsOld v → IsAnswered versions locked (n + 1) (are_old && b) (answer ++ makes ∷ [])
 answered-next versions locked n are_old b makes answer v l e h is old = record {
-    len = omega (arith, h.len, length-append answer (makes ∷ []));
-    old = old-next versions n v are_old b l e h.old old;
-    exact = λ p. elim (three p n) [
-        inl k ↦ (
-          λ f. let w = (h.exact p).0 (sym ((at p).0 k) ∙ f) in (omega arith, w.1, w.2)
-        , λ w. (at p).0 k ∙ (h.exact p).1 (k, w.1, w.2))
-      | inr m ↦ elim m [
-          inl k ↦ (
-            λ f. let x = is.0 (some-true makes (sym ((at p).1.0 k) ∙ f)) in (omega arith, x.0, subst (NeedsLockfile versions) (sym k) (here.0 x.1))
-          , λ w. (at p).1.0 k ∙ ap Some (is.1 (w.1, here.1 (subst (NeedsLockfile versions) k w.2))))
-        | inr k ↦ (λ f. let g = (at p).1.1 k in cc, λ w. absurd (omega (arith, w.0))) ] ]
-  }
+  len = omega (arith, h.len, length-append answer (makes ∷ []));
+  old = old-next versions n v are_old b l e h.old old;
+  exact = λ p. elim (three p n) [
+    | inl k ↦ (
+      λ f. let w = (h.exact p).0 (sym ((at p).0 k) ∙ f) in (omega arith, w.1, w.2),
+      λ w. (at p).0 k ∙ (h.exact p).1 (k, w.1, w.2),
+    )
+    | inr m ↦ elim m [
+      | inl k ↦ (
+        λ f. let x = is.0 (some-true makes (sym ((at p).1.0 k) ∙ f)) in (omega arith, x.0, subst (NeedsLockfile versions) (sym k) (here.0 x.1)),
+        λ w. (at p).1.0 k ∙ ap Some (is.1 (w.1, here.1 (subst (NeedsLockfile versions) k w.2))),
+      )
+      | inr k ↦ (λ f. let g = (at p).1.1 k in cc, λ w. absurd (omega (arith, w.0)))
+    ]
+  ];
+}
   where
     at : (p : ℕ) → (p < n → slice_get (answer ++ makes ∷ []) p ≡ slice_get answer p) × ((p ≡ n → slice_get (answer ++ makes ∷ []) p ≡ Some makes) × (n < p → slice_get (answer ++ makes ∷ []) p ≡ None))
     at p = get-push answer makes p n h.len
+
     here : NeedsLockfileAt n v (IsTrue are_old) ↔ NeedsLockfile versions n
     here = needs-at versions n v are_old (slice_get-get_or versions n v l ∙ ap Some e) h.old
 
@@ -104,5 +116,6 @@ needs-within versions p (inr w) = within versions p (λ v. ¬ IsBefore v (one 51
 
 pub answered-all : (versions : List Version) (locked : Bool) (n : ℕ) (are_old : Bool) (answer : List Bool) → n ≡ length versions → IsAnswered versions locked n are_old answer → (p : ℕ) → (slice_get answer p ≡ Some true) ↔ ((locked ≡ false) × NeedsLockfile versions p)
 answered-all versions locked n are_old answer e h p = (
-    λ f. let w = (h.exact p).0 f in (w.1, w.2)
-  , λ w. (h.exact p).1 (omega (arith, e, needs-within versions p w.1), w.0, w.1))
+  λ f. let w = (h.exact p).0 f in (w.1, w.2),
+  λ w. (h.exact p).1 (omega (arith, e, needs-within versions p w.1), w.0, w.1),
+)

@@ -11,7 +11,7 @@ pub loop-member-preserved : goal.loop-member-preserved
 loop-member-preserved c =
     let h : c.loop-member.member-index < length c.args.packages.now = omega arith in
     subst (All HasOwn) (sym (take_more c.args.packages.now c.loop-member.member-index c.member-item.result h))
-      (All-push HasOwn (take c.loop-member.member-index c.args.packages.now) _ c.loop-member.invariant (subst HasOwn c.member-item.is c.in_ok-check_own.ensures.ok))
+    (All-push HasOwn (take c.loop-member.member-index c.args.packages.now) _ c.loop-member.invariant (subst HasOwn c.member-item.is c.in_ok-check_own.ensures.ok))
 
 pub returns-in_err-check_own-clause-err : goal.returns-in_err-check_own-clause-err
 returns-in_err-check_own-clause-err c =

@@ -13,14 +13,15 @@ loop-version-preserved c =
     let f = rw v at c.loop-version.invariant in
     let x = rw v at c.in_ok-packages.ensures.exact in
     elim c.if-not-is_empty.branch [
-      then-not-is_empty+in_ok-push w ↦
-        let g : VersionGroup = record { version = get_or c.in_ok-versions.versions.items c.loop-version.version-index unset; packages = c.in_ok-packages.packages } in
-        let k : w.push.new.self.items ≡ c.loop-version.groups.items ++ g ∷ [] = rw v at w.in_ok-push.ensures.items in
-        let used : c.in_ok-packages.packages.items ≢ [] = search rules in
-        rw (v, w.groups-is, k) (group-more (UsesAt c.args.range c.args.steps.now c.args.packages.now) c.in_ok-versions.versions.items c.loop-version.version-index unset g _ c.in_ok-versions.ensures.rising h refl used c.in_ok-packages.ensures.rising x f)
-    | else-not-is_empty w ↦
-        let none : length c.in_ok-packages.packages.items ≡ 0 = grind (arith, common_steps) in
-        rw (v, w.groups-is) (group-none (UsesAt c.args.range c.args.steps.now c.args.packages.now) c.in_ok-versions.versions.items c.loop-version.version-index unset c.in_ok-packages.packages.items _ h none x f) ]
+      | then-not-is_empty+in_ok-push w ↦
+          let g : VersionGroup = record { version = get_or c.in_ok-versions.versions.items c.loop-version.version-index unset; packages = c.in_ok-packages.packages } in
+          let k : w.push.new.self.items ≡ c.loop-version.groups.items ++ g ∷ [] = rw v at w.in_ok-push.ensures.items in
+          let used : c.in_ok-packages.packages.items ≢ [] = search rules in
+          rw (v, w.groups-is, k) (group-more (UsesAt c.args.range c.args.steps.now c.args.packages.now) c.in_ok-versions.versions.items c.loop-version.version-index unset g _ c.in_ok-versions.ensures.rising h refl used c.in_ok-packages.ensures.rising x f)
+      | else-not-is_empty w ↦
+          let none : length c.in_ok-packages.packages.items ≡ 0 = grind (arith, common_steps) in
+          rw (v, w.groups-is) (group-none (UsesAt c.args.range c.args.steps.now c.args.packages.now) c.in_ok-versions.versions.items c.loop-version.version-index unset c.in_ok-packages.packages.items _ h none x f)
+    ]
 
 pub returns : goal.returns
 returns c =

@@ -10,9 +10,9 @@ returns-clause-rising c =
     let v = c.deref-2.ensures.value in
     let w = c.deref.ensures.value in
     subst (AllPairs IsBefore) (sym e)
-      (insert-rising c.args.versions.now.items c.place_of-at.result c.args.version c.requires
-        (rw v at c.place_of-at.ensures.within) (rw v at c.place_of-at.ensures.before) (rw v at c.place_of-at.ensures.found)
-        (λ k. let t = c.if-has.ensures.1 (rw w k) in cc (t, c.if-has.false)))
+    (insert-rising c.args.versions.now.items c.place_of-at.result c.args.version c.requires
+    (rw v at c.place_of-at.ensures.within) (rw v at c.place_of-at.ensures.before) (rw v at c.place_of-at.ensures.found)
+    (λ k. let t = c.if-has.ensures.1 (rw w k) in cc (t, c.if-has.false)))
 
 pub returns-clause-keeps : goal.returns-clause-keeps
 returns-clause-keeps c =

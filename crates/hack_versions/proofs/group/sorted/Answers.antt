@@ -10,7 +10,7 @@ loop-step-preserved c =
     let h : c.loop-step.step-index < length c.args.steps.now = omega arith in
     record {
       rising = c.in_ok-insert.ensures.rising;
-      has = kept-more c.args.steps.now c.loop-step.step-index unset c.loop-step.versions.items c.insert.new.versions.items h c.loop-step.invariant.has c.in_ok-insert.ensures.keeps c.in_ok-insert.ensures.has
+      has = kept-more c.args.steps.now c.loop-step.step-index unset c.loop-step.versions.items c.insert.new.versions.items h c.loop-step.invariant.has c.in_ok-insert.ensures.keeps c.in_ok-insert.ensures.has;
     }
 
 pub returns-clause-has : goal.returns-clause-has

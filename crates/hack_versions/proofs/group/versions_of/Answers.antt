@@ -13,8 +13,9 @@ loop-member-preserved c =
       rising = c.in_ok-insert_own.ensures.rising;
       steps = λ v k. c.in_ok-insert_own.ensures.keeps v (c.loop-member.invariant.steps v k);
       owns = λ v k. elim (Contains-push_cases (map own_of (take c.loop-member.member-index c.args.packages.now)) (own_of (get_or c.args.packages.now c.loop-member.member-index c.member-item.result)) (Some v) (subst (λ xs. Contains xs (Some v)) (map_more own_of c.args.packages.now c.loop-member.member-index c.member-item.result h) k)) [
-          inl w ↦ c.in_ok-insert_own.ensures.keeps v (c.loop-member.invariant.owns v w)
-        | inr f ↦ c.in_ok-insert_own.ensures.has v (e ∙ f) ]
+        | inl w ↦ c.in_ok-insert_own.ensures.keeps v (c.loop-member.invariant.owns v w)
+        | inr f ↦ c.in_ok-insert_own.ensures.has v (e ∙ f)
+      ];
     }
 
 pub returns-clause-owns : goal.returns-clause-owns
