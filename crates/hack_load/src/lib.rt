@@ -1,0 +1,4 @@
+//! What is loaded for one call.
+#![tactic(auto)]
+
+pub mod cargo;
