@@ -146,11 +146,11 @@ pub record EnablesAll (c : Choice) (s : List ℕ) (names : List Name) : Type 0 w
   pub nonempty : s ≢ []
   pub all : All (IsEnabledBy c s) names
 
-not_empty : (s : List ℕ) → not (length s == 0) ≡ true → s ≢ []
+pub not_empty : (s : List ℕ) → not (length s == 0) ≡ true → s ≢ []
 not_empty [] e = absurd (let z : false ≡ true = e in cc)
 not_empty (x ∷ s) e = λ f. (cc)
 
-is_not_empty : (s : List ℕ) → s ≢ [] → not (length s == 0) ≡ true
+pub is_not_empty : (s : List ℕ) → s ≢ [] → not (length s == 0) ≡ true
 is_not_empty [] n = absurd (n refl)
 is_not_empty (x ∷ s) n = elim (eqb_tells (length (x ∷ s)) 0) [ inl e ↦ absurd (let z : length (x ∷ s) ≡ 0 = e.1 in omega arith) | inr w ↦ ap not w.0 ]
 

@@ -150,7 +150,7 @@ no_items [] h = refl
 no_items (x ∷ s) h = absurd (omega arith)
 
 -- each wanted set is covered, where redundancy can be told
-module _ (c : Choice) (tell : (s : List ℕ) → IsRedundant c s ⊎ (¬ IsRedundant c s)) where
+module _ (c : Choice) (tell : (s : List ℕ) → IsSelection (length c.candidates) s → IsRedundant c s ⊎ (¬ IsRedundant c s)) where
   covered_by : (fuel : ℕ) (s : List ℕ) → length s ≤ suc fuel → IsSelection (length c.candidates) s → IsWanted c s → ((t : List ℕ) → length t ≤ fuel → IsSelection (length c.candidates) t → IsWanted c t → (u : List ℕ) × Covers c t u) → IsRedundant c s ⊎ (¬ IsRedundant c s) → (t : List ℕ) × Covers c s t
   covered_by fuel s le sel h again (inr lean) = (
     s,
@@ -184,7 +184,7 @@ module _ (c : Choice) (tell : (s : List ℕ) → IsRedundant c s ⊎ (¬ IsRedun
 
   covered_within : (fuel : ℕ) (s : List ℕ) → length s ≤ fuel → IsSelection (length c.candidates) s → IsWanted c s → (t : List ℕ) × Covers c s t
   covered_within zero s le sel h = absurd (h.nonempty (no_items s le))
-  covered_within (suc fuel) s le sel h = covered_by fuel s le sel h (covered_within fuel) (tell s)
+  covered_within (suc fuel) s le sel h = covered_by fuel s le sel h (covered_within fuel) (tell s sel)
 
   pub covered : (s : List ℕ) → IsSelection (length c.candidates) s → IsWanted c s → (t : List ℕ) × Covers c s t
   covered s sel h = covered_within (length s) s (omega arith) sel h

@@ -10,3 +10,4 @@ pub mod NameLemmas
 pub mod ReachLemmas
 pub mod CoverLemmas
 pub mod DepsLemmas
+pub mod RuleLemmas

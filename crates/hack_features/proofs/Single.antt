@@ -1,20 +1,14 @@
 use Rattle.std.proofs.Common.{◌≡◌, ◌≢◌, ℕ, zero, suc, ◌+◌, ◌<◌, ◌≤◌, List, [], ◌∷◌, ◌++◌, length, get_or, refl, sym, ◌∙◌, ap, subst, arith, Option, None, Some, Bool, true, false, cond, ◌⊎◌, inl, inr, ◌↔◌, All, Contains, IsTrue, is_some, unwrap_or}
 use Rattle.std.specs.Map.{lookup}
 use Rattle.std.specs.Str.{bytes_eq}
-use Rattle.std.proofs.lemmas.Bool.Decides.{eqb_tells, leb_tells}
+use Rattle.std.proofs.lemmas.Bool.Decides.{eqb_tells}
 use Rattle.std.proofs.lemmas.List.Elements.{All-contains, All-cons, All-nil, Contains-append_cases, Contains-append_left, Contains-append_right}
 use Rattle.hack_features.proofs.Members.{Contains-nil, Contains-cons_cases, Contains-head, Contains-tail}
 use Rattle.hack_features.proofs.Coverage.{Chain-append, named_in}
 use Rattle.hack_features.specs.Names.{Name}
 use Rattle.hack_features.specs.FeatureMap.{FeatureMap, values_at, IsKey, HasEdge, Chain, here, step, Enables}
 use Rattle.hack_features.specs.Sets.{IsSelection, IsBefore}
-use Rattle.hack_features.specs.Rules.{Choice, names_at, names_in, IsEnabledBy, Spares, IsRedundant}
-
--- each candidate has one name, no two the same and no two that enable each other
-pub record AreSingle (c : Choice) : Type 0 where
-  pub name : ℕ → Name
-  pub one : (p : ℕ) → p < length c.candidates → names_at c p ≡ name p ∷ []
-  pub apart : (p q : ℕ) → p < length c.candidates → q < length c.candidates → Enables c.map (name p) (name q) → Enables c.map (name q) (name p) → p ≡ q
+use Rattle.hack_features.specs.Rules.{Choice, names_at, names_in, IsEnabledBy, Spares, IsRedundant, AreSingle}
 
 -- a name of the set is a name of a member
 pub member_of : (c : Choice) (s : List ℕ) (x : Name) → Contains (names_in c s) x → (p : ℕ) × Contains s p × Contains (names_at c p) x
@@ -34,7 +28,32 @@ pub key_from : (m : FeatureMap) {x y : Name} → Enables m x y → x ≢ y → I
 key_from m here ne = absurd (ne refl)
 key_from m (step {x} {y} {z} e c) ne = key-go m x y (lookup (bytes_eq x) m) refl e.value
 
-module _ (c : Choice) (h : AreSingle c) (s t : List ℕ) (hs : IsSelection (length c.candidates) s) (ht : IsSelection (length c.candidates) t)
+-- the one name of each candidate, and that two with names that enable each other are the same
+record Named (c : Choice) : Type 0 where
+  name : ℕ → Name
+  one : (p : ℕ) → p < length c.candidates → names_at c p ≡ name p ∷ []
+  apart : (p q : ℕ) → p < length c.candidates → q < length c.candidates → Enables c.map (name p) (name q) → Enables c.map (name q) (name p) → p ≡ q
+
+alone : (names : List Name) → length names ≡ 1 → names ≡ get_or names 0 [] ∷ []
+alone [] e = absurd (omega arith)
+alone (x ∷ []) e = refl
+alone (x ∷ y ∷ names) e = absurd (omega arith)
+
+first_name : (names : List Name) → length names ≡ 1 → Contains names (get_or names 0 [])
+first_name [] e = absurd (omega arith)
+first_name (x ∷ names) e = Contains-head x names
+
+named_from : (c : Choice) → AreSingle c → Named c
+named_from c h = record {
+  name = λ p. get_or (names_at c p) 0 [];
+  one = λ p lt. alone (names_at c p) (h.one p lt);
+  apart = λ p q pl ql there back. elim (eqb_tells p q) [
+    | inl e ↦ e.1
+    | inr n ↦ absurd ((h.apart p q pl ql n.1 (get_or (names_at c p) 0 []) (get_or (names_at c q) 0 [])
+        (first_name (names_at c p) (h.one p pl)) (first_name (names_at c q) (h.one q ql))).1 there back) ];
+}
+
+module _ (c : Choice) (h : Named c) (s t : List ℕ) (hs : IsSelection (length c.candidates) s) (ht : IsSelection (length c.candidates) t)
     (lean : ¬ IsRedundant c s) (same : (y : Name) → IsEnabledBy c s y ↔ IsEnabledBy c t y) where
   -- the name of a member
   named : (p : ℕ) (x : Name) → p < length c.candidates → Contains (names_at c p) x → h.name p ≡ x
@@ -44,7 +63,7 @@ module _ (c : Choice) (h : AreSingle c) (s t : List ℕ) (hs : IsSelection (leng
   has p lt = subst (λ l. Contains l (h.name p)) (sym (h.one p lt)) (Contains-head (h.name p) [])
 
   -- each position of s is one of t
-  pub inside : (p : ℕ) → Contains s p → Contains t p
+  inside : (p : ℕ) → Contains s p → Contains t p
   inside p ps =
       let pl : p < length c.candidates = All-contains (λ p. p < length c.candidates) s p hs.below ps in
       let e = (same (h.name p)).0 (record { by = h.name p; named = named_in c s p (h.name p) ps (has p pl); chain = here }) in
@@ -74,16 +93,7 @@ module _ (c : Choice) (h : AreSingle c) (s t : List ℕ) (hs : IsSelection (leng
             }))
       ]
 
--- the order is strict
-pub before_strict : (s : List ℕ) → IsBefore s s → ⊥
-before_strict s h = h.absent h.present
-
--- one set before another isn't behind it
-pub before_apart : (s t : List ℕ) → IsBefore s t → IsBefore t s → ⊥
-before_apart s t a b = elim (eqb_tells a.greatest b.greatest) [
-  | inl e ↦ b.absent (subst (λ p. Contains t p) e.1 a.present)
-  | inr e ↦ elim (leb_tells a.greatest b.greatest) [
-    | inl l ↦ b.absent ((a.above b.greatest (let ne : a.greatest ≢ b.greatest = e.1 in let le : a.greatest ≤ b.greatest = l.1 in omega arith)).0 b.present)
-    | inr g ↦ a.absent ((b.above a.greatest g.1).0 a.present)
-  ]
-]
+-- each position of the first is one of the second
+pub single_inside : (c : Choice) → AreSingle c → (s t : List ℕ) → IsSelection (length c.candidates) s → IsSelection (length c.candidates) t
+    → ¬ IsRedundant c s → ((y : Name) → IsEnabledBy c s y ↔ IsEnabledBy c t y) → (p : ℕ) → Contains s p → Contains t p
+single_inside c h s t hs ht lean same = inside c (named_from c h) s t hs ht lean same

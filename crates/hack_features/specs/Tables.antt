@@ -1,5 +1,5 @@
 -- What tables answer on sets, entry by entry.
-use Rattle.std.specs.Prelude.{◌≡◌, ◌<◌, ◌+◌, ℕ, List, [], ◌∷◌, ◌++◌, Bool, false, true, not, nat_le, sum_by, length, Option, None, Some, IsTrue, ◌↔◌}
+use Rattle.std.specs.Prelude.{◌≡◌, ◌<◌, ◌+◌, ℕ, List, [], ◌∷◌, ◌++◌, Bool, false, true, not, nat_le, sum_by, length, Option, None, Some, IsTrue, ◌↔◌, ◌&&◌, ◌==◌}
 use Rattle.std.specs.List.{slice_index_or, list_all, list_any, filter_map}
 use Rattle.std.specs.BTreeMap.{BTreeMap}
 use Rattle.std.specs.Borrow.{Bor}
@@ -37,6 +37,10 @@ is_exclusive rows s = list_all (λ row. nat_le (sum_by (count_at row) s) 1) rows
 -- in each row some member has an entry
 abbrev pub is_required : List (List Bool) → List ℕ → Bool
 is_required rows s = list_all (λ row. list_any (bit row) s) rows
+
+-- the set is not empty, and keeps the depth, the exclusions and the groups
+abbrev pub wanted_test : Option ℕ → List (List ℕ) → List (List Bool) → List ℕ → Bool
+wanted_test depth hits serves s = not (length s == 0) && (keeps_depth depth s && (is_exclusive hits s && is_required serves s))
 
 -- the deps of some name have all of the other names
 abbrev pub spares_test : BTreeMap (Bor Name) NameSet → List Name → List Name → Bool

@@ -7,6 +7,7 @@
 pub mod deps;
 pub mod feature;
 pub mod outcome;
+pub mod powersets;
 pub mod questions;
 mod reach;
 pub mod rules;
@@ -19,5 +20,6 @@ pub use deps::{at_least_one_of_for_package, feature_deps};
 pub use feature::Feature;
 pub use outcome::Pruned;
 pub use questions::{Questions, pruned};
-pub use rules::{Rules, feature_powerset};
-pub use sets::powerset;
+pub use powersets::feature_powerset;
+pub use rules::Rules;
+pub use sets::{compare_sets, powerset};

@@ -1,18 +1,18 @@
-//! The rules by which sets of features are listed, and the list of a package's sets.
+//! The rules by which sets of features are listed, which answer questions on them, and cover one by another.
 
 ghost use Rattle.std.specs.Prelude.{◌≡◌, ◌≤◌, ◌-◌, ◌^◌, ◌<◌, ℕ, List, [], length, slice_index, vec_len, IsTrue, IfOk, MatchOption, Contains, if◌then◌else◌};
 ghost use Rattle.std.specs.List.{list_any, slice_index_or, remove};
 ghost use Rattle.hack_features.specs.Names.{names_of};
 ghost use Rattle.hack_features.specs.Feature.{candidates_of};
-ghost use Rattle.hack_features.specs.Sets.{IsSelection, ListsSelections, rows_of, chosen as chosen_items};
+ghost use Rattle.hack_features.specs.Sets.{IsSelection, rows_of};
 ghost use Rattle.hack_features.specs.Deps.{AreDepsOf};
-ghost use Rattle.hack_features.specs.Rules.{Choice, IsPermitted, IsRequired, IsListed, IsFirstCover, IsWanted, Covers, AreSingle, EnableTheSame};
-ghost use Rattle.hack_features.specs.Tables.{keeps_depth as depth_test};
+ghost use Rattle.hack_features.specs.Rules.{Choice, IsPermitted, IsRequired, IsFirstCover, IsWanted};
+ghost use Rattle.hack_features.specs.Tables.{keeps_depth as depth_test, wanted_test};
 ghost use Rattle.hack_features.specs.Cover.{enables_test, set_enables_test, covers_test};
 
 use crate::deps::feature_deps;
 use crate::feature::Feature;
-use crate::questions::{Questions, pruned};
+use crate::questions::Questions;
 use crate::tables::{Given, Tables};
 use std::alloc::{AllocError, Global};
 use std::collections::{BTreeMap, BTreeSet};
@@ -28,7 +28,7 @@ pub struct Rules<'a> {
 
 impl<'a> Rules<'a> {
     ghost use Rattle.std.specs.Prelude.{◌↔◌};
-    ghost use Rattle.hack_features.specs.View.{choice, choice_in, choice_of, size_of, asked_of, may_of, whole_of, AreTablesOf};
+    ghost use Rattle.hack_features.specs.View.{choice, choice_of, size_of, asked_of, may_of, whole_of, AreTablesOf};
 
     /// The rules for the candidates `features` of a package with the feature map `map`: at most `depth` of them in
     /// a set, for each group of `at_least_one_of` one that enables a name of it, and for each group of
@@ -59,14 +59,15 @@ impl<'a> Rules<'a> {
             map,
             lifted,
         };
-        Rules::made(alloc, given)
+        let rules = Rules::made(alloc, given)?;
+        Ok(rules)
     }
 
     /// The rules for what is given.
-    fn made(alloc: Global, given: Given<'a>) -> Result<Rules<'a>, AllocError>
+    pub(crate) fn made(alloc: Global, given: Given<'a>) -> Result<Rules<'a>, AllocError>
         ensures given { IfOk result (λ rules. rules.given ≡ given.entry) }
         ensures fresh { IfOk result (λ rules. asked_of rules ≡ 0) }
-        ensures tables { IfOk result (AreTablesOf (choice_in given.entry)) }
+        ensures tables { IfOk result (λ rules. AreTablesOf (choice_of rules) rules) }
     {
         let deps = feature_deps(alloc, given.map)?;
         Ok(Rules {
@@ -88,13 +89,7 @@ impl<'a> Rules<'a> {
     {
         let deps = feature_deps(alloc, self.given.map)?;
         let tables = Tables::new(alloc, self.given, &deps)?;
-        let Some((last, others)) = positions.split_last() else {
-            return Ok(None);
-        };
-        if !keeps_depth(self.given.depth, positions.len())
-            || !tables.is_exclusive(others, *last)
-            || !tables.is_required(positions)
-        {
+        if !is_wanted(self.given.depth, &tables, positions) {
             return Ok(None);
         }
         Ok(Some(first_cover(alloc, self.given.features, positions, &deps)?))
@@ -109,6 +104,22 @@ fn keeps_depth(depth: Option<usize>, members: usize) -> bool
         None => true,
         Some(most) => members <= most,
     }
+}
+
+/// Whether the set is not empty and keeps the depth, the exclusions and the at-least-one groups.
+fn is_wanted(depth: Option<usize>, tables: &Tables, positions: &[usize]) -> bool
+    ensures { result ≡ wanted_test depth (rows_of tables.now.hits.items) (rows_of tables.now.serves.items) positions.now }
+{
+    let Some((last, others)) = positions.split_last() else {
+        return false;
+    };
+    if !keeps_depth(depth, positions.len()) {
+        return false;
+    }
+    if !tables.is_exclusive(others, *last) {
+        return false;
+    }
+    tables.is_required(positions)
 }
 
 /// Whether the key enables the name.
@@ -261,61 +272,4 @@ impl Questions for Rules<'_> {
     ghost capped = { λ r. r.capped };
 
     ghost closed = { may_of-remove };
-}
-
-/// The candidates at the positions.
-fn chosen<'a>(
-    alloc: Global,
-    features: &[&'a Feature],
-    positions: &[usize],
-) -> Result<Vec<&'a Feature>, AllocError>
-    ensures { IfOk result (λ set. set.items ≡ chosen_items features.now positions.now) }
-{
-    let mut set = Vec::with_capacity(alloc, positions.len())?;
-    for p in positions {
-        if let Some(feature) = features.get(*p) {
-            set.push(*feature)?;
-        }
-    }
-    Ok(set)
-}
-
-/// The sets of candidates that a package's feature powerset lists, in the order of sets. The arguments are those of
-/// `Rules::new`. Two candidates of one name are two candidates.
-pub fn feature_powerset<'a>(
-    alloc: Global,
-    features: &[&'a Feature],
-    depth: Option<usize>,
-    at_least_one_of: &[Feature],
-    mutually_exclusive_features: &[Feature],
-    map: &BTreeMap<String, Vec<String>>,
-    lifted: &[bool],
-) -> Result<Vec<Vec<&'a Feature>>, AllocError>
-    ensures sets { let c = choice features.now depth at_least_one_of.now mutually_exclusive_features.now map.now lifted.now in
-        IfOk result (λ lists. ListsSelections (IsListed c) features.now (rows_of lists.items)) }
-
-    // For each set that has to be covered there is a listed one inside it that enables the same names.
-    ensures coverage { let c = choice features.now depth at_least_one_of.now mutually_exclusive_features.now map.now lifted.now in
-        IfOk result (λ lists. (s : List ℕ) → IsSelection (length features.now) s → IsWanted c s
-          → (t : List ℕ) × Covers c s t × Contains (rows_of lists.items) (chosen_items features.now t)) }
-
-    // Where names stand alone, different listed sets enable different names.
-    ensures one_each { let c = choice features.now depth at_least_one_of.now mutually_exclusive_features.now map.now lifted.now in
-        AreSingle c → (s t : List ℕ) → IsSelection (length features.now) s → IsSelection (length features.now) t → IsListed c s → IsListed c t → EnableTheSame c s t → s ≡ t }
-{
-    let mut rules = Rules::new(
-        alloc,
-        features,
-        depth,
-        at_least_one_of,
-        mutually_exclusive_features,
-        map,
-        lifted,
-    )?;
-    let found = pruned(alloc, &mut rules, features.len())?;
-    let mut sets = Vec::new(alloc);
-    for positions in found.sets.as_slice() {
-        sets.push(chosen(alloc, features, positions.as_slice())?)?;
-    }
-    Ok(sets)
 }

@@ -1,7 +1,35 @@
-ghost use Rattle.std.specs.Prelude.{◌≡◌, IfOk, OnOk, List, ℕ, ◌<◌};
-ghost use Rattle.hack_features.specs.Sets.{ListsSelections, IsWithin, rows_of, has_room, with_each};
+//! All sets of some items, and the order of sets.
+
+ghost use Rattle.std.specs.Prelude.{◌≡◌, IfOk, List, ℕ, ◌<◌, AllPairs};
+ghost use Rattle.std.specs.Ordering.{MatchOrdering};
+ghost use Rattle.hack_features.specs.Sets.{IsBefore, ListsSelections, IsWithin, rows_of, has_room, with_each};
 
 use std::alloc::{AllocError, Global};
+use std::cmp::Ordering;
+
+/// Which of two sets, as increasing lists of positions, stands first in the order of sets: the greatest position that
+/// is in just one of them is in the later set.
+pub fn compare_sets(first: &[usize], second: &[usize]) -> Ordering
+    requires first { AllPairs (λ p q. p < q) first.now }
+    requires second { AllPairs (λ p q. p < q) second.now }
+
+    // Total: of two sets one is before, or they are the same.
+    ensures order { MatchOrdering result (IsBefore first.now second.now) (first.now ≡ second.now) (IsBefore second.now first.now) }
+
+    // Strict: no set is before itself, and what is before a set is before all that is behind it.
+    ensures irreflexive { IsBefore first.now first.now → ⊥ }
+    ensures transitive { (third : List ℕ) → IsBefore first.now second.now → IsBefore second.now third → IsBefore first.now third }
+{
+    match (first.split_last(), second.split_last()) {
+        (None, None) => Ordering::Equal,
+        (None, Some(_)) => Ordering::Less,
+        (Some(_), None) => Ordering::Greater,
+        (Some((p, first)), Some((q, second))) => match p.cmp(q) {
+            Ordering::Equal => compare_sets(first, second),
+            other => other,
+        },
+    }
+}
 
 fn has_room<T>(list: &[T], depth: Option<usize>) -> bool
     ensures { result ≡ has_room depth list.now }

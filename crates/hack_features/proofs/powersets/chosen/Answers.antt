@@ -9,8 +9,8 @@ use Rattle.std.proofs.lemmas.Option.{slice_get_read, slice_get_past}
 use Rattle.hack_features.specs.declared.feature.Feature.{Feature}
 use Rattle.hack_features.specs.Sets.{chosen}
 use Rattle.hack_features.proofs.Steps.{filter_map-found, filter_map-missed}
-use Rattle.hack_features.proofs.rules.chosen.Goals as goal
-use Rattle.hack_features.proofs.rules.chosen.Goals.{in-Some+in_ok-push, in_default}
+use Rattle.hack_features.proofs.powersets.chosen.Goals as goal
+use Rattle.hack_features.proofs.powersets.chosen.Goals.{in-Some+in_ok-push, in_default}
 
 pub loop-p-preserved : goal.loop-p-preserved
 loop-p-preserved c =
