@@ -1,1 +1,3 @@
 mod ListLemmas
+mod PieceLemmas
+mod TextLemmas

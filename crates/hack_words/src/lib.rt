@@ -2,5 +2,6 @@
 #![tactic(auto)]
 
 pub mod lists;
+pub mod partition;
 #[cfg(test)]
 mod tests;
