@@ -1,3 +1,4 @@
 mod ListLemmas
 mod PieceLemmas
 mod TextLemmas
+mod WriteLemmas

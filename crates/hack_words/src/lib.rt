@@ -2,6 +2,12 @@
 #![tactic(auto)]
 
 pub mod lists;
+mod log_group;
 pub mod partition;
+pub mod term;
+mod writes;
+
+pub use hack_lexopt as lexopt;
+
 #[cfg(test)]
 mod tests;
