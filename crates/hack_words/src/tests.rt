@@ -1,5 +1,8 @@
 use crate::lists::{NamesFault, has_separator, split_group, split_list};
 use crate::partition::{Partition, PartitionKind};
+
+mod lines;
+
 use std::alloc::{AllocError, Global};
 use std::test::Fail;
 
