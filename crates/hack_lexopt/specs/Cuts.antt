@@ -35,9 +35,11 @@ option_in (LongCut name) = Some (LongCut name)
 option_in (ShortCut letter) = Some (ShortCut letter)
 option_in (ValueCut word) = None
 
+-- the sign =
 abbrev pub is_equals : ℕ → Bool
 is_equals b = b == 61
 
+-- what is left of a chain begins with =
 abbrev pub begins_with_equals : List ℕ → Bool
 begins_with_equals letters = starts_with nat_eq letters (codes "=")
 
@@ -58,12 +60,15 @@ first_letter letters = unwrap (slice_get (chars letters) 0)
     unwrap (Some c) = c
     unwrap None = 0
 
+-- what the first letter of a chain leaves
 abbrev pub after_letter : List ℕ → Untaken
 after_letter letters = chain_of (drop (length (encode_utf8 (first_letter letters))) letters)
 
+-- a long option begins with --
 abbrev pub is_long : List ℕ → Bool
 is_long word = starts_with nat_eq word (codes "--")
 
+-- a chain begins with - and has more
 abbrev pub is_chain : List ℕ → Bool
 is_chain word = starts_with nat_eq word (codes "-") && nat_lt 1 (length word)
 
@@ -71,10 +76,11 @@ is_chain word = starts_with nat_eq word (codes "-") && nat_lt 1 (length word)
 abbrev pub is_plain : List ℕ → Bool
 is_plain word = not (is_long word) && not (is_chain word)
 
--- the first cut of a word, and what it leaves of it
+-- the first cut of a word
 abbrev pub cut_of : List ℕ → Cut
 cut_of word = if is_long word then LongCut (before_first is_equals (drop 2 word)) else (if is_chain word then ShortCut (first_letter (drop 1 word)) else ValueCut word)
 
+-- what the first cut of a word leaves of it
 abbrev pub untaken_of : List ℕ → Untaken
 untaken_of word = if is_long word then pending_of (drop 2 word) else (if is_chain word then after_letter (drop 1 word) else Nothing)
 
@@ -117,6 +123,7 @@ value_of left = go (attached left.untaken) left.words
     go (Some value) words = Some value
     go None words = slice_get words 0
 
+-- what is left behind the value of an option
 abbrev pub after_value : Left → Left
 after_value left = go left.untaken left.words
   where
@@ -135,6 +142,7 @@ optional_of left = go (attached left.untaken) left.words
     go None [] = None
     go None (word ∷ words) = if is_plain word then Some word else None
 
+-- what is left behind a value that may be left out
 abbrev pub after_optional : Left → Left
 after_optional left = go left.untaken left.words
   where

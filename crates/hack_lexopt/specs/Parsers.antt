@@ -26,6 +26,7 @@ abbrev pub option_at : Option ℕ → List ℕ → Option Cut
 option_at (Some letter) word = Some (ShortCut letter)
 option_at None word = option_in (cut_of word)
 
+-- what a parser has left
 abbrev pub left : Parser → Left
 left p = record { option = option_at p.spot.letter (string_bytes p.word); untaken = untaken_at p.spot (string_bytes p.word); words = map string_bytes p.words.items }
 
@@ -39,6 +40,7 @@ cut_in (Long name) = LongCut name.now
 cut_in (Short letter) = ShortCut letter
 cut_in (Value word) = ValueCut word.now
 
+-- the answer of a cut, with the cut that its `Arg` shows
 abbrev pub cut_seen : Result (Option Arg) LexFault → Result (Option Cut) LexFault
 cut_seen (Ok (Some arg)) = Ok (Some (cut_in arg))
 cut_seen (Ok None) = Ok None

@@ -65,7 +65,8 @@ fn letter_cut(word: &str, at: usize) -> Head<'_>
 
 /// A cut that isn't a letter.
 fn whole_cut(arg: Arg<'_>, at: usize, place: Place) -> Head<'_>
-    ensures { result ≡ record { arg = arg.entry; spot = record { letter = None; at = at; place = place } } }
+    ensures { result ≡
+        record { arg = arg.entry; spot = record { letter = None; at = at; place = place } } }
 {
     let letter = None;
     Head {
@@ -131,6 +132,7 @@ impl Parser {
             return Err(LexFault::UnexpectedValue);
         }
         if let Place::Letters = self.spot.place {
+            // Cut twice: for the spot, and for the letter that is answered.
             let at = self.spot.at;
             self.spot = letter_cut(self.word.as_str(), at).spot;
             return Ok(Some(letter_cut(self.word.as_str(), at).arg));
@@ -138,6 +140,7 @@ impl Parser {
         let Some(word) = self.words.pop_front() else {
             return Ok(None);
         };
+        // Cut twice: the answer borrows the word from where the parser keeps it.
         let spot = first_cut(word.as_str()).spot;
         self.word = word;
         self.spot = spot;
@@ -159,8 +162,10 @@ impl Parser {
 
     /// The value that nobody took: where there is one, the next cut is refused.
     pub fn unexpected(&self) -> Option<&str>
-        ensures value { option_map (λ text. text.now) result ≡ unexpected_of (left self.now).untaken }
-        ensures refused { IsSome result ↔ (next_cut (left self.now) ≡ Err LexFault.UnexpectedValue) }
+        ensures value { option_map (λ text. text.now) result
+            ≡ unexpected_of (left self.now).untaken }
+        ensures refused { IsSome result
+            ↔ (next_cut (left self.now) ≡ Err LexFault.UnexpectedValue) }
     {
         let rest = &self.word.as_str()[self.spot.at..];
         match self.spot.place {
@@ -173,7 +178,8 @@ impl Parser {
     /// The value that is attached to the option that was cut last: what stands behind the `=` of a long one,
     /// or the rest of a chain with one leading `=` dropped.
     pub fn optional_value(&mut self, alloc: Global) -> Result<Option<String>, AllocError>
-        ensures value { IfOk result (λ value. option_map string_bytes value ≡ attached (left self.old).untaken) }
+        ensures value { IfOk result
+            (λ value. option_map string_bytes value ≡ attached (left self.old).untaken) }
         ensures ok { OnOk result (left self.new ≡ after_attached (left self.old)) }
         ensures err { OnErr result (left self.new ≡ left self.old) }
     {
@@ -190,7 +196,8 @@ impl Parser {
 
     /// The value of the option that was cut last: what is attached, else the next word whatever it is.
     pub fn value(&mut self, alloc: Global) -> Result<String, LexFault>
-        ensures value { IfOk result (λ value. value_of (left self.old) ≡ Some (string_bytes value)) }
+        ensures value { IfOk result
+            (λ value. value_of (left self.old) ≡ Some (string_bytes value)) }
         ensures missing { result ≡ Err LexFault.MissingValue → value_of (left self.old) ≡ None }
         ensures expected { result ≢ Err LexFault.UnexpectedValue }
         ensures ok { OnOk result (left self.new ≡ after_value (left self.old)) }
@@ -205,7 +212,8 @@ impl Parser {
     /// The value of an option that may stand without one: what is attached, else the next word unless that is
     /// an option.
     pub fn value_or_none(&mut self, alloc: Global) -> Result<Option<String>, AllocError>
-        ensures value { IfOk result (λ value. option_map string_bytes value ≡ optional_of (left self.old)) }
+        ensures value { IfOk result
+            (λ value. option_map string_bytes value ≡ optional_of (left self.old)) }
         ensures ok { OnOk result (left self.new ≡ after_optional (left self.old)) }
         ensures err { OnErr result (left self.new ≡ left self.old) }
     {

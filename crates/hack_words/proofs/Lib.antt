@@ -1,4 +1,4 @@
 mod ListLemmas
-mod PieceLemmas
+pub mod PieceLemmas
 mod TextLemmas
 mod WriteLemmas

@@ -27,22 +27,27 @@ label Auto color word = word ++ codes ": "
 label Never color word = word ++ codes ": "
 label Always color word = look (codes "0") ++ look (codes "1") ++ color ++ word ++ look (codes "0") ++ look (codes "1") ++ codes ":" ++ look (codes "0") ++ codes " "
 
+-- what begins the line of an information
 abbrev pub info_label : Coloring → List ℕ
 info_label coloring = label coloring [] (codes "info")
 
+-- what begins the line of a warning, in yellow
 abbrev pub warning_label : Coloring → List ℕ
 warning_label coloring = label coloring (look (codes "33")) (codes "warning")
 
+-- what begins the line of an error, in red
 abbrev pub error_label : Coloring → List ℕ
 error_label coloring = label coloring (look (codes "31")) (codes "error")
 
--- the lines of an information, a warning and an error
+-- the line of an information
 abbrev pub info_line : Coloring → List ℕ → List ℕ
 info_line coloring text = line (info_label coloring) text
 
+-- the line of a warning
 abbrev pub warning_line : Coloring → List ℕ → List ℕ
 warning_line coloring text = line (warning_label coloring) text
 
+-- the line of an error
 abbrev pub error_line : Coloring → List ℕ → List ℕ
 error_line coloring text = line (error_label coloring) text
 

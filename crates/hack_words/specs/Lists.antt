@@ -2,9 +2,11 @@
 use Rattle.std.specs.Prelude.{ℕ, Bool, List, ◌==◌, ◌≡◌, ◌⊎◌, ◌&&◌, ◌||◌, ◌-◌, length, take, drop, codes, Contains, slice_index, nat_lt, if◌then◌else◌}
 use Rattle.std.specs.List.{slice_split, list_any, filter}
 
+-- a comma
 abbrev pub comma : ℕ
 comma = 44
 
+-- a space
 abbrev pub space : ℕ
 space = 32
 

@@ -80,8 +80,10 @@ impl LogGroup {
         err: &mut E,
     ) -> Option<LogGroupGuard>
         ensures guard { IsSome result ↔ (self ≡ LogGroup.GithubActions) }
-        ensures out { AppendsFront (O.contents out.old) (O.contents out.new) (opening_line self text.now) }
-        ensures err { AppendsFront (E.contents err.old) (E.contents err.new) (message_line self term.now.coloring text.now) }
+        ensures out { AppendsFront (O.contents out.old) (O.contents out.new)
+            (opening_line self text.now) }
+        ensures err { AppendsFront (E.contents err.old) (E.contents err.new)
+            (message_line self term.now.coloring text.now) }
     {
         match self {
             LogGroup::None => {
@@ -99,7 +101,8 @@ impl LogGroup {
 impl LogGroupGuard {
     /// Ends the group, and answers whether its line was written.
     pub fn end<O: Write>(self, out: &mut O) -> bool
-        ensures line { OnTrue result (Appends (O.contents out.old) (O.contents out.new) closing_line) }
+        ensures line { OnTrue result (Appends (O.contents out.old) (O.contents out.new)
+            closing_line) }
         ensures front { AppendsFront (O.contents out.old) (O.contents out.new) closing_line }
     {
         let LogGroupGuard { _open: () } = self;

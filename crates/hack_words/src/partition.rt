@@ -112,10 +112,12 @@ impl Partition {
     /// Whether a place of a plan, from 0, is in the piece; `total` is the plan's length.
     pub fn holds(&self, place: u64, total: u64) -> bool
         requires { place < total }
-        ensures holds { IsTrue result ↔ InPiece self.now.kind self.now.piece self.now.count total place }
+        ensures holds { IsTrue result
+            ↔ InPiece self.now.kind self.now.piece self.now.count total place }
 
         // Each place is in exactly one of the pieces, however they are dealt.
-        ensures once { (kind : Kind) (p : ℕ) → p < total → InJustOnePiece kind self.now.count total p }
+        ensures once { (kind : Kind) (p : ℕ) → p < total
+            → InJustOnePiece kind self.now.count total p }
 
         // The blocks, one behind the other, are the plan. Its places may be of any type: numbers stand for them.
         ensures joined { (plan : List ℕ) → length plan ≡ total → joined self.now.count plan ≡ plan }

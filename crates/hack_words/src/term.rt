@@ -77,7 +77,8 @@ pub struct Term {
 impl Term {
     /// A terminal to which nothing was told yet.
     pub fn new(coloring: Coloring, verbose: bool) -> Term
-        ensures { result ≡ record { coloring = coloring; verbose = verbose; error = false; warn = false } }
+        ensures { result ≡
+            record { coloring = coloring; verbose = verbose; error = false; warn = false } }
     {
         Term {
             coloring,
@@ -89,8 +90,10 @@ impl Term {
 
     /// Writes a line behind `info: `, and answers whether the whole line was written.
     pub fn info<W: Write>(&self, text: &str, out: &mut W) -> bool
-        ensures line { OnTrue result (Appends (W.contents out.old) (W.contents out.new) (info_line self.now.coloring text.now)) }
-        ensures front { AppendsFront (W.contents out.old) (W.contents out.new) (info_line self.now.coloring text.now) }
+        ensures line { OnTrue result (Appends (W.contents out.old) (W.contents out.new)
+            (info_line self.now.coloring text.now)) }
+        ensures front { AppendsFront (W.contents out.old) (W.contents out.new)
+            (info_line self.now.coloring text.now) }
     {
         write_line(info_label(self.coloring), text, out)
     }
@@ -99,8 +102,10 @@ impl Term {
     /// in any case.
     pub fn warn<W: Write>(&mut self, text: &str, out: &mut W) -> bool
         ensures noted { self.new ≡ record self.old { warn = true } }
-        ensures line { OnTrue result (Appends (W.contents out.old) (W.contents out.new) (warning_line self.old.coloring text.now)) }
-        ensures front { AppendsFront (W.contents out.old) (W.contents out.new) (warning_line self.old.coloring text.now) }
+        ensures line { OnTrue result (Appends (W.contents out.old) (W.contents out.new)
+            (warning_line self.old.coloring text.now)) }
+        ensures front { AppendsFront (W.contents out.old) (W.contents out.new)
+            (warning_line self.old.coloring text.now) }
     {
         self.warn = true;
         write_line(warning_label(self.coloring), text, out)
@@ -110,8 +115,10 @@ impl Term {
     /// any case.
     pub fn error<W: Write>(&mut self, text: &str, out: &mut W) -> bool
         ensures noted { self.new ≡ record self.old { error = true } }
-        ensures line { OnTrue result (Appends (W.contents out.old) (W.contents out.new) (error_line self.old.coloring text.now)) }
-        ensures front { AppendsFront (W.contents out.old) (W.contents out.new) (error_line self.old.coloring text.now) }
+        ensures line { OnTrue result (Appends (W.contents out.old) (W.contents out.new)
+            (error_line self.old.coloring text.now)) }
+        ensures front { AppendsFront (W.contents out.old) (W.contents out.new)
+            (error_line self.old.coloring text.now) }
     {
         self.error = true;
         write_line(error_label(self.coloring), text, out)
@@ -120,8 +127,10 @@ impl Term {
     /// Writes a notice as its kind says, and answers whether the whole line was written.
     pub fn notice<W: Write>(&mut self, notice: &Notice, out: &mut W) -> bool
         ensures noted { self.new ≡ after_notice self.old notice.now.kind }
-        ensures line { OnTrue result (Appends (W.contents out.old) (W.contents out.new) (notice_line self.old.coloring notice.now.kind (string_bytes notice.now.text))) }
-        ensures front { AppendsFront (W.contents out.old) (W.contents out.new) (notice_line self.old.coloring notice.now.kind (string_bytes notice.now.text)) }
+        ensures line { OnTrue result (Appends (W.contents out.old) (W.contents out.new)
+            (notice_line self.old.coloring notice.now.kind (string_bytes notice.now.text))) }
+        ensures front { AppendsFront (W.contents out.old) (W.contents out.new)
+            (notice_line self.old.coloring notice.now.kind (string_bytes notice.now.text)) }
     {
         let text = notice.text.as_str();
         match notice.kind {
@@ -133,7 +142,8 @@ impl Term {
 
     /// The exit status: 1 after an error, or after a warning where warnings are denied; else 0.
     pub fn status(&self, deny_warnings: bool) -> u8
-        ensures one { (result ≡ 1) ↔ (IsTrue self.now.error ⊎ (IsTrue self.now.warn × IsTrue deny_warnings)) }
+        ensures one { (result ≡ 1)
+            ↔ (IsTrue self.now.error ⊎ (IsTrue self.now.warn × IsTrue deny_warnings)) }
         ensures at_most_one { result ≤ 1 }
     {
         if self.error || (self.warn && deny_warnings) {

@@ -31,8 +31,10 @@ pub fn write_front<W: Write>(text: &str, out: &mut W) -> bool
 
 /// Writes a line of two parts, or a front of it where a write fails; answers whether it was all.
 pub fn write_line<W: Write>(label: &str, text: &str, out: &mut W) -> bool
-    ensures all { OnTrue result (Appends (W.contents out.old) (W.contents out.new) (line label.now text.now)) }
-    ensures front { AppendsFront (W.contents out.old) (W.contents out.new) (line label.now text.now) }
+    ensures all { OnTrue result (Appends (W.contents out.old) (W.contents out.new)
+        (line label.now text.now)) }
+    ensures front { AppendsFront (W.contents out.old) (W.contents out.new)
+        (line label.now text.now) }
 {
     if !write_front(label, out) {
         return false;
