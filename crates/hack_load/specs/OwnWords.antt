@@ -1,5 +1,5 @@
 -- Own words one by one.
-use Rattle.std.specs.Prelude.{ℕ, Bool, true, false, ◌&&◌, not, List, [], codes, if◌then◌else◌}
+use Rattle.std.specs.Prelude.{ℕ, Bool, true, false, ◌&&◌, not, List, [], ◌∷◌, codes, if◌then◌else◌}
 use Rattle.hack_load.specs.CommandTexts.{spaced, each_spaced, is_manifest_path, shown_path}
 
 -- a word is `--manifest-path` itself, and not the value of one before it
@@ -10,3 +10,7 @@ awaits_path is_path word = not is_path && is_manifest_path word
 abbrev pub shown_own : Bool → Bool → List ℕ → List ℕ → List ℕ
 shown_own true full dir word = each_spaced (shown_path full dir word)
 shown_own false full dir word = if is_manifest_path word then [] else spaced word
+
+-- an option that awaits its value
+abbrev pub pending : Bool → List (List ℕ)
+pending awaits = if awaits then codes "--manifest-path" ∷ [] else []
