@@ -252,7 +252,23 @@ fn command_of<'a>(
     Ok(command)
 }
 
-/// Writes a line for each run.
+/// Writes the line of a run: its command, and a line feed.
+fn write_line<W: Write>(
+    alloc: Global,
+    passed: &[String],
+    features: &[Feature],
+    run: Run<'_>,
+    out: &mut W,
+) -> Result<(), ListFault> {
+    let command = command_of(alloc, passed, features, run)?;
+    let line = command.listed("");
+    match writeln!(out, "{line}") {
+        Ok(()) => Ok(()),
+        Err(_) => Err(ListFault::Write),
+    }
+}
+
+/// Writes the lines of all runs, one after the other.
 fn write_lines<W: Write>(
     alloc: Global,
     features: &[Feature],
@@ -262,11 +278,7 @@ fn write_lines<W: Write>(
     let mut passed = Vec::new(alloc);
     passed.push(String::from_str(alloc, "check")?)?;
     for rank in 0..runs.len() {
-        let command = command_of(alloc, passed.as_slice(), features, runs.run(rank))?;
-        let line = command.listed("");
-        if writeln!(out, "{line}").is_err() {
-            return Err(ListFault::Write);
-        }
+        write_line(alloc, passed.as_slice(), features, runs.run(rank), out)?;
     }
     Ok(())
 }
@@ -307,6 +319,6 @@ pub fn powerset_list<R: Read, W: Write>(
         exclude_all_features: !wishes.mutually_exclusive.is_empty(),
         exclude_no_default_features: !wishes.at_least_one_of.is_empty(),
     };
-    let runs = Runs::new(options, found.sets)?;
+    let runs = Runs::new(alloc, options, found.sets)?;
     write_lines(alloc, features.as_slice(), &runs, out)
 }

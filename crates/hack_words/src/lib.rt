@@ -8,6 +8,7 @@ pub mod term;
 mod writes;
 
 pub use hack_lexopt as lexopt;
+pub use hack_versions::{rustup, version};
 
 #[cfg(test)]
 mod tests;
