@@ -1,15 +1,15 @@
 -- Where a text is cut at the last of an ASCII character, and fronts of texts.
 use Rattle.std.proofs.Common.{◌≡◌, ◌≢◌, ℕ, ◌+◌, ◌-◌, ◌<◌, ◌≤◌, ◌==◌, List, [], ◌∷◌, ◌++◌, length, take, drop, get_or, arith, refl, ap, sym, ◌∙◌, subst, append_assoc, length-drop, Option, Some, None, MatchOption, Bool, true, false, true≢false, inl, inr, not, eqb, eqb-true, ne_eqb, eq-eqb, codes, unwrap_or, Bor}
-use Rattle.std.specs.Str.Pattern.{RFindsChar, SplitsAroundMatch, HasCharAt, FindsTextPrefix, StripsPrefix, FindsCharPrefix}
-use Rattle.std.specs.List.{before_last, after_last, suffix_len, starts_with}
+use Rattle.std.specs.Str.Pattern.{RFindsChar, SplitsAroundMatch, HasCharAt, FindsTextPrefix, StripsPrefix, FindsCharPrefix, FindsCharSuffix}
+use Rattle.std.specs.List.{before_last, after_last, suffix_len, starts_with, ends_with}
 use Rattle.std.proofs.lemmas.Bool.{cases_Bool}
 use Rattle.std.proofs.lemmas.Bool.Decides.{Decides-eqb}
 use Rattle.std.proofs.lemmas.List.{get_or-drop, drop_at}
 use Rattle.std.proofs.lemmas.List.Sums.{suffix_len_is}
-use Rattle.std.proofs.lemmas.Slice.Eq.{starts_is}
-use Rattle.std.proofs.lemmas.Str.Pattern.{NoCharPasses-char, drop_at_char, strip_prefix_char}
+use Rattle.std.proofs.lemmas.Slice.Eq.{starts_is, ends_is}
+use Rattle.std.proofs.lemmas.Str.Pattern.{NoCharPasses-char, drop_at_char, strip_prefix_char, ends_char}
 use Rattle.std.proofs.lemmas.Str.{len_utf8_ascii}
-use Rattle.hack_load.specs.PathTexts.{or_if_empty, without_front, under_of}
+use Rattle.hack_load.specs.PathTexts.{or_if_empty, without_front, under_of, is_rooted, join_of, parent_of}
 
 module _ (c : ℕ) (low : c < 128) (bs : List ℕ) where
   -- no byte from n on is the character, and the one before n is
@@ -78,3 +78,44 @@ behind_folder p dir rest (Some x) e h =
 -- a path that does not begin with a folder
 pub not_in_folder : (p dir : List ℕ) → ((rest : List ℕ) → p ≢ dir ++ rest) → without_front (dir ++ codes "/") p ≡ p
 not_in_folder p dir h = front-none (dir ++ codes "/") p (λ t f. h (47 ∷ t) (f ∙ append_assoc dir (47 ∷ []) t))
+
+-- a path that begins with a slash
+rooted : (p rest : List ℕ) → p ≡ 47 ∷ rest → is_rooted p ≡ true
+rooted p rest e = (starts_is Decides-eqb p (codes "/") _ refl).1 rest e
+
+-- one that does not
+not-rooted : (p : List ℕ) → ((rest : List ℕ) → p ≢ 47 ∷ rest) → is_rooted p ≡ false
+not-rooted p h =
+    elim (cases_Bool (is_rooted p)) as (λ _. is_rooted p ≡ false) [
+      | inl t ↦ absurd (h _ ((starts_is Decides-eqb p (codes "/") _ refl).0 t))
+      | inr f ↦ f
+    ]
+
+-- a folder that does not end with a slash
+not-closed : (dir : List ℕ) → ((front : List ℕ) → dir ≢ front ++ 47 ∷ []) → ends_with eqb dir (codes "/") ≡ false
+not-closed dir h =
+    elim (cases_Bool (ends_with eqb dir (codes "/"))) as (λ _. ends_with eqb dir (codes "/") ≡ false) [
+      | inl t ↦ absurd (h _ ((ends_is Decides-eqb dir (codes "/") _ refl).0 t))
+      | inr f ↦ f
+    ]
+
+-- a folder that takes a slash of its own
+pub join-slash : (dir p : List ℕ) → (length dir == 0) ≡ false → FindsCharSuffix 47 dir None → FindsCharPrefix 47 p None → dir ++ (47 ∷ p) ≡ join_of dir p
+join-slash dir p e d h =
+    let closed = not-closed dir (λ front e. true≢false (sym ((ends_char 47 dir false d (omega arith)).1 front e))) in
+    rw (not-rooted p (strip_prefix_char 47 p None h (omega arith))) (rw e (rw closed (sym (append_assoc dir (47 ∷ []) p))))
+
+-- the folder of a path whose only slash is first
+pub parent-first : (p : List ℕ) (x : Bor (List ℕ) × Bor (List ℕ)) → SplitsAroundMatch (RFindsChar 47) p x.0.now x.1.now → (length x.0.now == 0) ≡ true → codes "/" ≡ parent_of p
+parent-first p x h e =
+    let cut = split_last 47 (omega arith) p (Some x) h in
+    let none : h.0 ≡ 0 = omega (arith, eqb-true _ _ e, h.6) in
+    let first : p ≡ 47 ∷ drop h.1 p = ap (λ k. drop k p) (sym none) ∙ drop_at_char 47 p h.0 h.1 h.2.1 (omega arith) in
+    rw (rooted p (drop h.1 p) first) (sym (or-second x.0.now (codes "/") e) ∙ ap (λ front. or_if_empty front (codes "/")) cut.1)
+
+-- the folder of a path without slashes
+pub parent-none : (p : List ℕ) → RFindsChar 47 p None → [] ≡ parent_of p
+parent-none p h =
+    let cut = split_last 47 (omega arith) p None h in
+    let never : (rest : List ℕ) → p ≢ 47 ∷ rest = λ rest e. NoCharPasses-char 47 p 0 h (omega arith) (omega (arith, ap length e)) (ap (λ l. get_or l 0 0) e) in
+    rw (not-rooted p never) (ap (λ front. or_if_empty front []) (sym cut.1))
