@@ -1,8 +1,9 @@
 //! Paths as texts. Nothing here asks the disk: parts stand between slashes, and a path is never anything but its
 //! bytes.
 
-ghost use Rattle.std.specs.Prelude.{◌≡◌, IfOk, string_bytes};
-ghost use Rattle.hack_load.specs.PathTexts.{join_of, parent_of, stem_of, under_of, last_part, without_ending};
+ghost use Rattle.std.specs.Prelude.{◌≡◌, IfOk, OnOk, is_some, unwrap_or, string_bytes};
+ghost use Rattle.std.specs.List.{slice_split};
+ghost use Rattle.hack_load.specs.PathTexts.{join_of, parent_of, stem_of, under_of, last_part, without_ending, normal_of, kept_of, with_part, climbed, is_slash, texts};
 
 use std::alloc::{AllocError, Global};
 
@@ -72,6 +73,60 @@ pub fn parent(p: &str) -> &str
         Some((front, _)) if !front.is_empty() => front,
         Some(_) => "/",
         None => "",
+    }
+}
+
+/// A path without detours: empty and `.` parts are dropped, and `..` takes the part before it away. At the root `..` is
+/// dropped, and at the front of a relative path it stays. Links on the disk are not followed.
+pub fn normal(alloc: Global, p: &str) -> Result<String, AllocError>
+    ensures { IfOk result (λ path. string_bytes path ≡ normal_of p.now) }
+{
+    let rooted = p.starts_with('/');
+    let kept = kept_parts(alloc, p, rooted)?;
+    let path = kept.join(alloc, "/")?;
+    if rooted {
+        return format!(in alloc; "/{path}");
+    }
+    Ok(path)
+}
+
+/// The parts of a path that are kept, from the first on.
+fn kept_parts<'a>(alloc: Global, p: &'a str, rooted: bool) -> Result<Vec<&'a str>, AllocError>
+    ensures { IfOk result (λ kept. texts kept.items ≡ kept_of rooted (slice_split is_slash p.now)) }
+{
+    let mut kept = Vec::new(alloc);
+    for part in p.split('/') {
+        keep(&mut kept, part, rooted)?;
+    }
+    Ok(kept)
+}
+
+/// Adds a part to those that are kept, unless it only says where to go from there.
+fn keep<'a>(kept: &mut Vec<&'a str>, part: &'a str, rooted: bool) -> Result<(), AllocError>
+    ensures { OnOk result (texts kept.new.items ≡ with_part rooted (texts kept.old.items) part.now) }
+{
+    if part.is_empty() || part == "." {
+        return Ok(());
+    }
+    if part == ".." && climb(kept, rooted) {
+        return Ok(());
+    }
+    kept.push(part)?;
+    Ok(())
+}
+
+/// Takes the last part away, and says whether that was possible: not where a `..` has to be kept.
+fn climb(kept: &mut Vec<&str>, rooted: bool) -> bool
+    ensures tells { result ≡ is_some (climbed rooted (texts kept.old.items)) }
+    ensures kept { texts kept.new.items ≡ unwrap_or (climbed rooted (texts kept.old.items)) (texts kept.old.items) }
+{
+    match kept.last() {
+        None => rooted,
+        Some(last) if *last == ".." => false,
+        Some(_) => {
+            kept.pop();
+            true
+        }
     }
 }
 
@@ -154,5 +209,29 @@ mod tests {
         ] {
             assert_eq!(rt; parent(p), want, "of {p}");
         }
+    }
+
+    #[test]
+    fn paths_without_detours(rt: HostRuntime) -> Result<(), Fail> {
+        for (p, want) in [
+            ("/w/m/Cargo.toml", "/w/m/Cargo.toml"),
+            ("/w/./m//Cargo.toml", "/w/m/Cargo.toml"),
+            ("/w/x/../m", "/w/m"),
+            ("/w/x/../../m", "/m"),
+            ("/../w", "/w"),
+            ("../w", "../w"),
+            ("../../w", "../../w"),
+            ("a/../../w", "../w"),
+            ("a/..", ""),
+            ("./a/", "a"),
+            ("/a/..", "/"),
+            ("/", "/"),
+            ("", ""),
+            (".a/..b", ".a/..b"),
+        ] {
+            let path = normal(rt.alloc(), p)?;
+            assert_eq!(rt; path.as_str(), want, "of {p}");
+        }
+        Ok(())
     }
 }

@@ -1,4 +1,4 @@
-use Rattle.std.proofs.Common.{◌≡◌, ◌++◌, ◌∙◌, ◌||◌, IfOk, List, ℕ, sym, ap, subst, codes, string_bytes, true, false}
+use Rattle.std.proofs.Common.{◌≡◌, ◌++◌, ◌∙◌, ◌||◌, IfOk, List, ℕ, sym, ap, subst, codes, string_bytes}
 use Rattle.hack_load.specs.CommandTexts.{line_of}
 use Rattle.hack_load.specs.Commands.{command_of}
 use Rattle.hack_load.proofs.process.ProcessBuilder.text.Goals as goal
