@@ -1,2 +1,4 @@
+pub mod InputLemmas
 pub mod LineLemmas
+pub mod ListLemmas
 pub mod RunLemmas

@@ -15,7 +15,7 @@ text_in (null) = None
 text_in (boolean b) = None
 text_in (number n) = None
 text_in (array items) = None
-text_in (object members) = None
+text_in (object ms) = None
 
 -- the texts that items are; none where one of them is no text
 abbrev pub texts_in : Items → Option (List Name)
@@ -29,16 +29,16 @@ values_in (null) = None
 values_in (boolean b) = None
 values_in (number n) = None
 values_in (string text) = None
-values_in (object members) = None
+values_in (object ms) = None
 
 -- the map with the members put in, one after another, in the order of names; none where one is no array of texts
 abbrev pub with_members : FeatureMap → Members → Option FeatureMap
 with_members m no_members = Some m
-with_members m (member name d members) = option_and_then (λ values. with_members (insert_entry (slice_cmp nat_cmp) m name values) members) (values_in d)
+with_members m (member name d ms) = option_and_then (λ values. with_members (insert_entry (slice_cmp nat_cmp) m name values) ms) (values_in d)
 
 -- the map that data are: an object of arrays of texts
 abbrev pub map_in : Data → Option FeatureMap
-map_in (object members) = with_members [] members
+map_in (object ms) = with_members [] ms
 map_in (null) = None
 map_in (boolean b) = None
 map_in (number n) = None

@@ -4,6 +4,7 @@ pub mod Input
 pub mod InputFaults
 pub mod LineWords
 pub mod Lines
+pub mod ListRuns
 pub mod Runs
 pub mod RunsView
 pub mod WishesView

@@ -1,16 +1,70 @@
 //! The list of commands of a package's feature powerset, from the bytes of its feature map.
 
-ghost use Rattle.std.specs.Prelude.{◌≡◌, OnOk, IfErr, map, string_bytes};
+ghost use Rattle.std.specs.Prelude.{◌≡◌, List, ℕ, length, OnOk, IfOk, IfErr, map, string_bytes};
+ghost use Rattle.hack_features.specs.Feature.{groups_of};
+ghost use Rattle.hack_features.specs.FeatureMap.{feature_map};
+ghost use Rattle.hack_features.specs.Sets.{IsListing, rows_of};
+ghost use Rattle.hack_features.specs.Rules.{IsListed};
+ghost use Rattle.cargo_hack.specs.RunsView.{runs_in};
+ghost use Rattle.cargo_hack.specs.Runs.{runs_from};
 ghost use Rattle.cargo_hack.specs.CommandList.{WritesList, RefusesList};
+ghost use Rattle.cargo_hack.specs.ListRuns.{chosen_from, options_from, AreListRuns};
 
 use crate::fault::ListFault;
 use crate::input::{all_of, bytes_of, features_of, map_of};
 use crate::lines::write_lines;
 use crate::plan::{RunOptions, Runs};
 use crate::wishes::Wishes;
-use hack_features::{Rules, pruned};
-use std::alloc::Global;
+use hack_features::{Feature, Rules, pruned};
+use std::alloc::{AllocError, Global};
+use std::collections::BTreeMap;
 use std::io::{Read, Write};
+
+/// The sets that are listed, as the positions of their features.
+fn listed_sets(
+    alloc: Global,
+    wishes: &Wishes,
+    features: &[Feature],
+    found: &BTreeMap<String, Vec<String>>,
+) -> Result<Vec<Vec<usize>>, AllocError>
+    ensures { IfOk result (λ sets. IsListing (length features.now) (IsListed (chosen_from wishes.now features.now (feature_map found.now))) (rows_of sets.items)) }
+{
+    let candidates = all_of(alloc, features)?;
+    let mut rules = Rules::new(
+        alloc,
+        candidates.as_slice(),
+        wishes.depth,
+        wishes.at_least_one_of.as_slice(),
+        wishes.mutually_exclusive.as_slice(),
+        found,
+        &[],
+    )?;
+    let pruned = pruned(alloc, &mut rules, candidates.len())?;
+    Ok(pruned.sets)
+}
+
+/// The runs of a package without dependencies, each of whose features is a candidate.
+fn runs_of(
+    alloc: Global,
+    wishes: &Wishes,
+    features: &[Feature],
+    found: &BTreeMap<String, Vec<String>>,
+) -> Result<Runs, AllocError>
+    ensures { IfOk result (λ runs. AreListRuns wishes.now features.now (feature_map found.now) (runs_in runs)) }
+{
+    let sets = listed_sets(alloc, wishes, features, found)?;
+    let options = RunOptions {
+        powerset: true,
+        depth: wishes.depth,
+        normal: features.len(),
+        optional: 0,
+        all_optional_deps: false,
+        included: false,
+        exclude_all_features: !wishes.mutually_exclusive.is_empty(),
+        exclude_no_default_features: !wishes.at_least_one_of.is_empty(),
+    };
+    Runs::new(alloc, options, sets)
+}
 
 /// Reads a package's feature map from `input`, a JSON object of arrays of texts, and writes to `out` the commands of
 /// its feature powerset: what `cargo hack check --feature-powerset --no-manifest-path --print-command-list` prints for
@@ -30,27 +84,6 @@ pub fn powerset_list<R: Read, W: Write>(
     let bytes = bytes_of(alloc, input)?;
     let map = map_of(alloc, bytes.as_slice())?;
     let features = features_of(alloc, &map)?;
-    let candidates = all_of(alloc, features.as_slice())?;
-    let mut rules = Rules::new(
-        alloc,
-        candidates.as_slice(),
-        wishes.depth,
-        wishes.at_least_one_of.as_slice(),
-        wishes.mutually_exclusive.as_slice(),
-        &map,
-        &[],
-    )?;
-    let found = pruned(alloc, &mut rules, candidates.len())?;
-    let options = RunOptions {
-        powerset: true,
-        depth: wishes.depth,
-        normal: features.len(),
-        optional: 0,
-        all_optional_deps: false,
-        included: false,
-        exclude_all_features: !wishes.mutually_exclusive.is_empty(),
-        exclude_no_default_features: !wishes.at_least_one_of.is_empty(),
-    };
-    let runs = Runs::new(alloc, options, found.sets)?;
+    let runs = runs_of(alloc, &wishes, features.as_slice(), &map)?;
     write_lines(alloc, features.as_slice(), &runs, out)
 }

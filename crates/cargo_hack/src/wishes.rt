@@ -70,8 +70,8 @@ impl<'a> Values<'a> {
 
 /// The number that a depth is, where one is given.
 fn depth_of(alloc: Global, depth: Option<&str>) -> Result<Option<usize>, ListFault>
-    ensures ok { IfOk result (IsDepth (shown_text depth)) }
-    ensures err { IfErr result (RefusesDepth (shown_text depth)) }
+    ensures ok { IfOk result (IsDepth (shown_text depth.entry)) }
+    ensures err { IfErr result (RefusesDepth (shown_text depth.entry)) }
 {
     let Some(text) = depth else {
         return Ok(None);
