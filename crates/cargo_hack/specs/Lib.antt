@@ -1,3 +1,10 @@
-pub mod Runs
+pub mod CommandList
 pub mod Fronts
+pub mod Input
+pub mod InputFaults
+pub mod LineWords
+pub mod Lines
+pub mod Runs
 pub mod RunsView
+pub mod WishesView
+pub mod Words

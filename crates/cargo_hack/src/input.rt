@@ -1,0 +1,95 @@
+//! The feature map that a reader gives.
+
+ghost use Rattle.std.specs.Prelude.{◌≡◌, [], ◌∷◌, map, IfOk, IfErr, Some};
+ghost use Rattle.serde_json.specs.View.{view};
+ghost use Rattle.hack_features.specs.Names.{names_of};
+ghost use Rattle.hack_features.specs.Feature.{groups_of, candidates_of, name_of};
+ghost use Rattle.hack_features.specs.FeatureMap.{feature_map};
+ghost use Rattle.cargo_hack.specs.Input.{values_in, IsMapText, keys_of};
+ghost use Rattle.cargo_hack.specs.InputFaults.{RefusesValues, RefusesMap, CannotRead};
+ghost use Rattle.cargo_hack.specs.CommandList.{IsInput};
+
+use crate::fault::ListFault;
+use hack_features::Feature;
+use serde_json::Value;
+use std::alloc::{AllocError, Global};
+use std::collections::BTreeMap;
+use std::io;
+use std::io::Read;
+
+/// The texts of an array.
+fn texts_of(alloc: Global, value: Value) -> Result<Vec<String>, ListFault>
+    ensures ok { IfOk result (λ texts. values_in (view value) ≡ Some (names_of texts.items)) }
+    ensures err { IfErr result (RefusesValues (view value)) }
+{
+    let Value::Array(items) = value else {
+        return Err(ListFault::Input);
+    };
+    let mut texts = Vec::new(alloc);
+    for item in items {
+        match item {
+            Value::String(text) => texts.push(text)?,
+            _ => return Err(ListFault::Input),
+        }
+    }
+    Ok(texts)
+}
+
+/// The feature map that the bytes are.
+pub fn map_of(alloc: Global, bytes: &[u8]) -> Result<BTreeMap<String, Vec<String>>, ListFault>
+    ensures ok { IfOk result (λ found. IsMapText bytes.now (feature_map found)) }
+    ensures err { IfErr result (RefusesMap bytes.now) }
+{
+    let value = match Value::from_slice(alloc, bytes) {
+        Ok(value) => value,
+        Err(error) if error.is_memory() => return Err(ListFault::Memory),
+        Err(_) => return Err(ListFault::Input),
+    };
+    let Value::Object(members) = value else {
+        return Err(ListFault::Input);
+    };
+    let mut map = BTreeMap::new(alloc);
+    for (key, value) in members {
+        map.insert(key, texts_of(alloc, value)?)?;
+    }
+    Ok(map)
+}
+
+/// All bytes that the reader has left.
+pub fn bytes_of<R: Read>(alloc: Global, input: &mut R) -> Result<Vec<u8>, ListFault>
+    ensures ok { IfOk result (λ bytes. IsInput (R.remaining input.old) bytes.items) }
+    ensures err { IfErr result CannotRead }
+{
+    let mut bytes = Vec::new(alloc);
+    match input.read_to_end(&mut bytes) {
+        Ok(_) => Ok(bytes),
+        Err(error) if error.kind() == io::ErrorKind::OutOfMemory => Err(ListFault::Memory),
+        Err(_) => Err(ListFault::Read),
+    }
+}
+
+/// A feature of its own for each key of the map, in the order of the keys.
+pub fn features_of(
+    alloc: Global,
+    found: &BTreeMap<String, Vec<String>>,
+) -> Result<Vec<Feature>, AllocError>
+    ensures names { IfOk result (λ features. map name_of features.items ≡ keys_of (feature_map found.now)) }
+    ensures groups { IfOk result (λ features. groups_of features.items ≡ map (λ name. name ∷ []) (keys_of (feature_map found.now))) }
+{
+    let mut features = Vec::new(alloc);
+    for name in found.keys() {
+        features.push(Feature::normal(alloc, name.as_str())?)?;
+    }
+    Ok(features)
+}
+
+/// References to all features.
+pub fn all_of<'a>(alloc: Global, features: &'a [Feature]) -> Result<Vec<&'a Feature>, AllocError>
+    ensures { IfOk result (λ all. candidates_of all.items ≡ groups_of features.now) }
+{
+    let mut all = Vec::with_capacity(alloc, features.len())?;
+    for feature in features {
+        all.push(feature)?;
+    }
+    Ok(all)
+}
