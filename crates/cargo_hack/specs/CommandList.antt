@@ -1,5 +1,5 @@
 -- What `powerset-list` writes for a feature map and what is asked for, and what it refuses.
-use Rattle.std.specs.Prelude.{◌≡◌, ⊥, ℕ, List, [], ◌∷◌, map, length, Option, IfSome, nat_lt, true, false}
+use Rattle.std.specs.Prelude.{◌≡◌, ℕ, List, [], ◌∷◌, map, length, Option, IfSome, nat_lt, true, false}
 use Rattle.std.specs.Io.KnownBytes.{Appends}
 use Rattle.hack_features.specs.Names.{Name}
 use Rattle.hack_features.specs.FeatureMap.{FeatureMap}

@@ -1,5 +1,5 @@
 -- Why the parts of the reader of input refuse.
-use Rattle.std.specs.Prelude.{◌≡◌, ⊥, ℕ, List, None}
+use Rattle.std.specs.Prelude.{◌≡◌, ℕ, List, None}
 use Rattle.serde_json.specs.Data.{Data}
 use Rattle.cargo_hack.specs.declared.fault.ListFault.{ListFault}
 use Rattle.cargo_hack.specs.declared.fault.ListFault.TheVariants.{Usage, Number, Group, Input, Read, Write, Memory}

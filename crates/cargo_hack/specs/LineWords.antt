@@ -1,5 +1,5 @@
 -- The command of a run, and why its line is not written.
-use Rattle.std.specs.Prelude.{⊥, ℕ, List, [], ◌∷◌, Option, None, false, codes}
+use Rattle.std.specs.Prelude.{ℕ, List, [], ◌∷◌, Option, None, false, codes}
 use Rattle.hack_features.specs.Names.{Name}
 use Rattle.hack_features.specs.Sets.{chosen}
 use Rattle.hack_load.specs.CommandTexts.{Command, appended}

@@ -1,5 +1,5 @@
 -- What the parts of the reader of words show, and why each refuses.
-use Rattle.std.specs.Prelude.{◌≡◌, ⊥, ℕ, List, Option, None, Some, option_map, string_bytes}
+use Rattle.std.specs.Prelude.{◌≡◌, ℕ, List, Option, None, Some, option_map, string_bytes}
 use Rattle.std.specs.Borrow.{Bor}
 use Rattle.hack_features.specs.Names.{Name, shown}
 use Rattle.hack_words.specs.Partitions.{IsNumber}

@@ -1,5 +1,5 @@
 -- What the words of `powerset-list` ask for, and why they are refused.
-use Rattle.std.specs.Prelude.{◌≡◌, ◌⊎◌, ⊥, ℕ, List, [], ◌∷◌, ◌++◌, Option, None, Some, MatchOption, IsNone, All, Contains, map, codes, bytes_eq, string_bytes, option_and_then, if◌then◌else◌}
+use Rattle.std.specs.Prelude.{◌≡◌, ◌⊎◌, ℕ, List, [], ◌∷◌, ◌++◌, Option, None, Some, MatchOption, IsNone, All, Contains, map, codes, bytes_eq, string_bytes, option_and_then, if◌then◌else◌}
 use Rattle.hack_features.specs.Names.{Name}
 use Rattle.hack_words.specs.Partitions.{IsNumber}
 use Rattle.hack_words.specs.Lists.{HasSeparator, group_names}

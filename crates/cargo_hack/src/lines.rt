@@ -42,7 +42,7 @@ fn command_of<'a>(
     features: &[Feature],
     run: Run<'_>,
 ) -> Result<ProcessBuilder<'a>, AllocError>
-    ensures { IfOk result (λ command. command_in command ≡ run_command (map string_bytes passed.now) (map name_of features.now) (run_of run)) }
+    ensures { IfOk result (λ command. command_in command ≡ run_command (map string_bytes passed.now) (map name_of features.now) (run_of run.entry)) }
 {
     let mut command = ProcessBuilder::new(alloc, "cargo")?;
     command.pass_words(passed, &[]);
@@ -67,7 +67,7 @@ fn write_line<W: Write>(
     out: &mut W,
 ) -> Result<(), ListFault>
     requires passed { map string_bytes passed.now ≡ codes "check" ∷ [] }
-    ensures ok { OnOk result (Appends (W.contents out.old) (W.contents out.new) (run_line (map name_of features.now) (run_of run))) }
+    ensures ok { OnOk result (Appends (W.contents out.old) (W.contents out.new) (run_line (map name_of features.now) (run_of run.entry))) }
     ensures err { IfErr result CannotWrite }
 {
     let command = command_of(alloc, passed, features, run)?;
