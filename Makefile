@@ -1,5 +1,31 @@
-# `make run` tries the sample, `make test` proves and tests everything.
-.PHONY: test
+# Everything goes through the kit's command `rt`, which has to be in the PATH.
+PREFIX ?= /usr/local
+
+PROGRAM := crates/powerset_list/out/powerset_list
+EXCLUSIVE := native-tls,openssl,rustls
+
+.DEFAULT_GOAL := help
+.PHONY: help run program install test bench
+
+help:
+	@echo 'make run      prints the command list of the sample in examples/, by a trial build without proofs'
+	@echo 'make test     proves and tests everything from nothing: the gate'
+	@echo 'make install  proves and builds powerset-list, and installs it in PREFIX/bin (PREFIX=$(PREFIX))'
+	@echo 'make bench    proves and builds powerset-list, and prints its times, memory and lines'
+
+# A trial build proves nothing, and so is ready in less than a minute.
+run:
+	@cd crates/powerset_list && rt try -- --mutually-exclusive-features $(EXCLUSIVE) < ../../examples/features.json
 
 test:
 	@rt ci
+
+# Proves the program and what it stands on, as far as that is not done yet, and leaves it at PROGRAM.
+program:
+	@cd crates/powerset_list && rt run < ../../examples/features.json > /dev/null
+
+install: program
+	install -D -m 755 $(PROGRAM) '$(DESTDIR)$(PREFIX)/bin/powerset-list'
+
+bench: program
+	@tests/bench $(PROGRAM)
