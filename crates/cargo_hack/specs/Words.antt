@@ -1,5 +1,5 @@
 -- What the words of `powerset-list` ask for, and why they are refused.
-use Rattle.std.specs.Prelude.{◌≡◌, ◌⊎◌, ℕ, List, [], ◌∷◌, ◌++◌, Option, None, Some, MatchOption, IsNone, All, Contains, map, codes, bytes_eq, string_bytes, option_and_then, if◌then◌else◌}
+use Rattle.std.specs.Prelude.{◌≡◌, ◌⊎◌, ℕ, List, [], ◌∷◌, ◌++◌, Option, None, Some, All, Contains, map, codes, bytes_eq, string_bytes, option_and_then, if◌then◌else◌}
 use Rattle.hack_features.specs.Names.{Name}
 use Rattle.hack_words.specs.Partitions.{IsNumber}
 use Rattle.hack_words.specs.Lists.{HasSeparator, group_names}
@@ -27,9 +27,9 @@ with_depth w value = if_first w.depth (record w { depth = Some value })
 -- with a value behind an option; none where no option has that name, or its value is a second depth
 abbrev pub with_value : Written → Name → Name → Option Written
 with_value w option value = if bytes_eq option (codes "--depth") then with_depth w value
-  else if bytes_eq option (codes "--at-least-one-of") then Some (record w { at_least_one_of = w.at_least_one_of ++ value ∷ [] })
-  else if bytes_eq option (codes "--mutually-exclusive-features") then Some (record w { exclusive = w.exclusive ++ value ∷ [] })
-  else None
+    else if bytes_eq option (codes "--at-least-one-of") then Some (record w { at_least_one_of = w.at_least_one_of ++ value ∷ [] })
+    else if bytes_eq option (codes "--mutually-exclusive-features") then Some (record w { exclusive = w.exclusive ++ value ∷ [] })
+    else None
 
 -- with what the words say, each option and then its value; none where they keep no usage
 abbrev pub with_words : Written → List Name → Option Written
@@ -71,7 +71,7 @@ pub record IsAsking (words : List Name) : Type 0 where
 -- a list of exclusive features lacks a separator, or else one of those of which one is wanted
 abbrev pub IsGroupFault : Written → Name → Type 0
 IsGroupFault w option = ((option ≡ codes "--mutually-exclusive-features") × LacksSeparator w.exclusive)
-  ⊎ ((option ≡ codes "--at-least-one-of") × All HasSeparator w.exclusive × LacksSeparator w.at_least_one_of)
+    ⊎ ((option ≡ codes "--at-least-one-of") × All HasSeparator w.exclusive × LacksSeparator w.at_least_one_of)
 
 -- the words keep the usage, and a depth in them is no number
 pub record IsNumberFault (words : List Name) (text : Name) : Type 0 where

@@ -57,12 +57,13 @@ impl<'a> Values<'a> {
             mutually_exclusive: Vec::new(alloc),
         };
         let mut left = words;
-        while let [option, rest @ ..] = left {
-            let [value, rest @ ..] = rest else {
-                return Err(ListFault::Usage);
-            };
+        while let [option, value, rest @ ..] = left {
             values.take(option.as_str(), value.as_str())?;
             left = rest;
+        }
+        // An option is left without its value.
+        if !left.is_empty() {
+            return Err(ListFault::Usage);
         }
         Ok(values)
     }
@@ -83,11 +84,7 @@ fn depth_of(alloc: Global, depth: Option<&str>) -> Result<Option<usize>, ListFau
 }
 
 /// The groups that the lists of an option name.
-fn groups_of(
-    alloc: Global,
-    option: &'static str,
-    lists: &[&str],
-) -> Result<Vec<Feature>, ListFault>
+fn groups_of(alloc: Global, option: &'static str, lists: &[&str]) -> Result<Vec<Feature>, ListFault>
     ensures ok { IfOk result (λ groups. AreGroups (shown lists.now) (names_in_groups groups.items)) }
     ensures err { IfErr result (RefusesGroups option.now (shown lists.now)) }
 {

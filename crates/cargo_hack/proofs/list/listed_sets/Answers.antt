@@ -1,14 +1,45 @@
-use Rattle.std.proofs.Common.{rules, ◌≡◌, List, ℕ, length, OnOk, IfOk, IfErr, map, string_bytes, ◌+◌, ◌-◌, ◌*◌, ◌<◌, ◌≤◌, ◌/◌, ◌%◌, Bool, true, false, nat_eq, nat_lt, [], ◌∷◌, ◌++◌, slice_index_or, slice_set, bit_and, bit_or, Fits, w8, w32, w64, Bor, MutBor}
-use Rattle.hack_features.specs.Feature.{groups_of}
-use Rattle.hack_features.specs.FeatureMap.{feature_map}
-use Rattle.hack_features.specs.Sets.{IsListing, rows_of}
-use Rattle.hack_features.specs.Rules.{IsListed}
-use Rattle.cargo_hack.specs.RunsView.{runs_in}
-use Rattle.cargo_hack.specs.Runs.{runs_from}
-use Rattle.cargo_hack.specs.CommandList.{WritesList, RefusesList}
-use Rattle.cargo_hack.specs.ListRuns.{chosen_from, options_from, AreListRuns}
+use Rattle.std.proofs.Common.{◌≡◌, ◌∙◌, List, [], length, sym, ap, subst}
+use Rattle.std.proofs.lemmas.List.{length-map}
+use Rattle.hack_features.specs.Names.{Name}
+use Rattle.hack_features.specs.Feature.{group_of, groups_of, candidates_of}
+use Rattle.hack_features.specs.FeatureMap.{FeatureMap, feature_map}
+use Rattle.hack_features.specs.Sets.{IsSelection, IsListing, rows_of}
+use Rattle.hack_features.specs.Rules.{Choice, IsListed, IsPermitted, IsRequired, unlifted}
+use Rattle.hack_features.specs.Questions.{IsWhole}
+use Rattle.hack_features.specs.View.{choice, choice_of, size_of, may_of, whole_of}
+use Rattle.hack_features.proofs.Steps.{length-candidates_of}
+use Rattle.cargo_hack.specs.ListRuns.{chosen_from}
+use Rattle.cargo_hack.proofs.ListLemmas.{unlifted-none, listing-listed}
 use Rattle.cargo_hack.proofs.list.listed_sets.Goals as goal
 
--- src/list.rt:24:1
 pub returns : goal.returns
-returns c = ?
+returns c =
+    let r = c.in_ok-rules.rules in
+    let sets = rows_of c.in_ok-pruned.pruned.sets.items in
+    let fs = c.args.features.now in
+    let w = c.args.wishes.now in
+    let all = c.in_ok-candidates.candidates.items in
+    let m : FeatureMap = feature_map c.args.found.now in
+    let made_of : List (List Name) → List (List Name) → Choice = λ names exclusive. record {
+      map = m;
+      candidates = names;
+      depth = w.depth;
+      at_least_one_of = groups_of w.at_least_one_of.items;
+      exclusive = exclusive;
+    } in
+    let same : choice_of r ≡ chosen_from w fs m =
+      c.in_ok-rules.ensures.choice
+      ∙ ap (λ x. choice x w.depth c.as_slice-2.result.now c.as_slice-3.result.now c.args.found.now []) c.as_slice.ensures.value
+      ∙ ap (λ x. choice all w.depth x c.as_slice-3.result.now c.args.found.now []) c.as_slice-2.ensures.value
+      ∙ ap (λ x. choice all w.depth w.at_least_one_of.items x c.args.found.now []) c.as_slice-3.ensures.value
+      ∙ ap (λ names. made_of names (unlifted (groups_of w.mutually_exclusive.items) [])) c.in_ok-candidates.ensures
+      ∙ ap (made_of (groups_of fs)) (unlifted-none (groups_of w.mutually_exclusive.items)) in
+    let size : length all ≡ length fs =
+      sym (length-candidates_of all) ∙ ap length c.in_ok-candidates.ensures ∙ length-map fs group_of in
+    let whole : size_of r ≡ length all = c.in_ok-rules.ensures.size ∙ ap length c.as_slice.ensures.value in
+    let asked : size_of r ≡ c.len.result = c.in_ok-rules.ensures.size ∙ c.as_slice.ensures.len ∙ sym c.len.ensures in
+    let listing : IsListing (size_of r) (IsListed (choice_of r)) sets =
+      listing-listed (size_of r) (choice_of r) (may_of r) (whole_of r) c.in_ok-rules.ensures.permitted c.in_ok-rules.ensures.required sets
+        (subst (λ n. IsListing n (IsWhole (may_of r) (whole_of r)) sets) (sym asked) c.in_ok-pruned.ensures.sets) in
+    subst (λ (q : Choice). IsListing (length fs) (IsListed q) sets) same
+      (subst (λ n. IsListing n (IsListed (choice_of r)) sets) (whole ∙ size) listing)
