@@ -1,9 +1,20 @@
 -- The sets of a command list.
-use Rattle.std.proofs.Common.{◌≡◌, ◌↔◌, ℕ, List, [], ◌∷◌, Bool, IsTrue, refl, ap}
+use Rattle.std.proofs.Common.{◌≡◌, ◌↔◌, ◌∙◌, ℕ, List, [], ◌∷◌, Bool, IsTrue, true, false, length, map, nat_lt, refl, sym, ap, subst}
+use Rattle.std.proofs.lemmas.List.{length-map}
 use Rattle.hack_features.specs.Names.{Name}
+use Rattle.hack_features.specs.declared.feature.Feature.{Feature}
+use Rattle.hack_features.specs.Feature.{name_of, group_of, groups_of}
+use Rattle.hack_features.specs.FeatureMap.{FeatureMap}
 use Rattle.hack_features.specs.Sets.{IsSelection, IsListing}
 use Rattle.hack_features.specs.Rules.{Choice, IsListed, IsPermitted, IsRequired, unlifted}
 use Rattle.hack_features.specs.Questions.{IsWhole}
+use Rattle.cargo_hack.specs.declared.plan.RunOptions.{RunOptions}
+use Rattle.cargo_hack.specs.declared.wishes.Wishes.{Wishes}
+use Rattle.cargo_hack.specs.Runs.{PackageRun, runs_from}
+use Rattle.cargo_hack.specs.Input.{keys_of}
+use Rattle.cargo_hack.specs.Lines.{run_lines}
+use Rattle.cargo_hack.specs.ListRuns.{chosen_from, options_from, AreListRuns}
+use Rattle.cargo_hack.specs.CommandList.{choice_for, options_for, IsCommandList}
 
 -- where no group is lifted, all stay
 pub unlifted-none : (groups : List (List Name)) → unlifted groups [] ≡ groups
@@ -22,3 +33,34 @@ listing-listed n c may whole permitted required sets l = record {
         (w.0, record { nonempty = w.1.nonempty; permitted = (permitted s w.0).0 w.1.allowed; required = (required s w.0).0 w.1.completed }),
      λ w. (l.exact s).1 (w.0, record { nonempty = w.1.nonempty; allowed = (permitted s w.0).1 w.1.permitted; completed = (required s w.0).1 w.1.required }));
 }
+
+-- the lines of the runs of a map's features are its command list
+pub command_list : (w : Wishes) (fs : List Feature) (m : FeatureMap) (runs : List PackageRun)
+    → AreListRuns w fs m runs → map name_of fs ≡ keys_of m → groups_of fs ≡ map (λ name. name ∷ []) (keys_of m)
+    → IsCommandList m w.depth (groups_of w.at_least_one_of.items) (groups_of w.mutually_exclusive.items) (run_lines (map name_of fs) runs)
+command_list w fs m runs l names groups =
+    let at = groups_of w.at_least_one_of.items in
+    let ex = groups_of w.mutually_exclusive.items in
+    let size : length fs ≡ length m = sym (length-map fs name_of) ∙ ap length names ∙ length-map m (λ e. e.0) in
+    let same : chosen_from w fs m ≡ choice_for m w.depth at ex =
+      ap (λ (c : List (List Name)). record { map = m; candidates = c; depth = w.depth; at_least_one_of = at; exclusive = ex }) groups in
+    let options_of : ℕ → ℕ → ℕ → RunOptions = λ n exclusive required. record {
+      powerset = true;
+      depth = w.depth;
+      normal = n;
+      optional = 0;
+      all_optional_deps = false;
+      included = false;
+      exclude_all_features = nat_lt 0 exclusive;
+      exclude_no_default_features = nat_lt 0 required;
+    } in
+    let options : options_from w fs ≡ options_for m w.depth at ex =
+      ap (λ n. options_of n (length w.mutually_exclusive.items) (length w.at_least_one_of.items)) size
+      ∙ ap (λ n. options_of (length m) n (length w.at_least_one_of.items)) (sym (length-map w.mutually_exclusive.items group_of))
+      ∙ ap (options_of (length m) (length ex)) (sym (length-map w.at_least_one_of.items group_of)) in
+    record {
+      sets = l.sets;
+      listing = subst (λ (c : Choice). IsListing (length m) (IsListed c) l.sets) same
+        (subst (λ n. IsListing n (IsListed (chosen_from w fs m)) l.sets) size l.listing);
+      lines = ap (λ (n : List Name). run_lines n runs) names ∙ ap (run_lines (keys_of m)) (l.made ∙ ap (λ (o : RunOptions). runs_from o l.sets) options);
+    }
