@@ -11,3 +11,4 @@ pub mod ReachLemmas
 pub mod CoverLemmas
 pub mod DepsLemmas
 pub mod RuleLemmas
+pub mod OrderLemmas

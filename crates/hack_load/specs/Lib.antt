@@ -1,1 +1,5 @@
 pub mod CargoTexts
+pub mod CommandTexts
+pub mod Commands
+pub mod OwnWords
+pub mod PathTexts

@@ -2,3 +2,5 @@
 #![tactic(auto)]
 
 pub mod cargo;
+pub mod paths;
+pub mod process;

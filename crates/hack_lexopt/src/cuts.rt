@@ -1,0 +1,228 @@
+//! The cuts. What is borrowed from a word is cut by functions over texts, so that the parser's own steps only
+//! move its place.
+
+ghost use Rattle.std.specs.Prelude.{◌≡◌, ◌≢◌, ◌↔◌, ◌<◌, IsSome, OnOk, OnErr, IfOk, IfErr, length, map, drop, string_bytes, option_map};
+ghost use Rattle.std.specs.Borrow.{sem};
+ghost use Rattle.std.specs.Str.{IsCharBoundary};
+ghost use Rattle.hack_lexopt.specs.Cuts.{Left, Nothing, ShortCut, cut_of, untaken_of, first_letter, after_letter, next_cut, after_cut, attached, after_attached, value_of, after_value, optional_of, after_optional, unexpected_of, as_written, is_plain as plain};
+ghost use Rattle.hack_lexopt.specs.Parsers.{left, start, cut_in, cut_seen, letter_in, untaken_at, Leaves};
+
+use crate::{Arg, LexFault, Parser, Place, Spot};
+use std::alloc::{AllocError, Global};
+use std::collections::VecDeque;
+use std::fmt;
+
+impl fmt::Display for Arg<'_> {
+    ghost use Rattle.std.specs.Prelude.{Some};
+
+    ghost output = { λ arg. Some (as_written (cut_in arg)) };
+
+    fn fmt<W: fmt::Write>(&self, f: &mut fmt::Formatter<W>) -> fmt::Result {
+        match self {
+            Arg::Long(name) => write!(f, "--{name}"),
+            Arg::Short(letter) => write!(f, "-{letter}"),
+            Arg::Value(word) => write!(f, "{word}"),
+        }
+    }
+}
+
+/// A cut of a word, and how far it uses the word.
+#[derive(Clone, Copy)]
+struct Head<'a> {
+    arg: Arg<'a>,
+    spot: Spot,
+}
+
+/// The letter of a chain that begins at the place.
+fn letter_cut(word: &str, at: usize) -> Head<'_>
+    requires boundary { IsCharBoundary word.now at }
+    requires letters { at < length word.now }
+    ensures cut { cut_in result.arg ≡ ShortCut (first_letter (drop at word.now)) }
+    ensures letter { result.spot.letter ≡ letter_in (cut_in result.arg) }
+    ensures untaken { untaken_at result.spot word.now ≡ after_letter (drop at word.now) }
+    ensures boundary { IsCharBoundary word.now result.spot.at }
+    ensures letters { result.spot.place ≡ Place.Letters → result.spot.at < length word.now }
+{
+    let mut chars = word[at..].chars();
+    let Some(letter) = chars.next() else {
+        unreachable!()
+    };
+    let rest = chars.as_str();
+    let place = if rest.is_empty() {
+        Place::Closed
+    } else {
+        Place::Letters
+    };
+    Head {
+        arg: Arg::Short(letter),
+        spot: Spot {
+            letter: Some(letter),
+            at: word.len() - rest.len(),
+            place,
+        },
+    }
+}
+
+/// A cut that isn't a letter.
+fn whole_cut(arg: Arg<'_>, at: usize, place: Place) -> Head<'_>
+    ensures { result ≡
+        record { arg = arg.entry; spot = record { letter = None; at = at; place = place } } }
+{
+    let letter = None;
+    Head {
+        arg,
+        spot: Spot { letter, at, place },
+    }
+}
+
+/// The first cut of a word.
+fn first_cut(word: &str) -> Head<'_>
+    ensures cut { cut_in result.arg ≡ cut_of word.now }
+    ensures letter { result.spot.letter ≡ letter_in (cut_of word.now) }
+    ensures untaken { untaken_at result.spot word.now ≡ untaken_of word.now }
+    ensures boundary { IsCharBoundary word.now result.spot.at }
+    ensures letters { result.spot.place ≡ Place.Letters → result.spot.at < length word.now }
+{
+    if let Some(body) = word.strip_prefix("--") {
+        return match body.split_once('=') {
+            Some((name, value)) => {
+                whole_cut(Arg::Long(name), word.len() - value.len(), Place::Value)
+            }
+            None => whole_cut(Arg::Long(body), 0, Place::Closed),
+        };
+    }
+    if word.starts_with("-") && word.len() > 1 {
+        return letter_cut(word, 1);
+    }
+    whole_cut(Arg::Value(word), 0, Place::Closed)
+}
+
+/// Whether the word is no option.
+fn is_plain(word: &str) -> bool
+    ensures { result ≡ plain word.now }
+{
+    !word.starts_with("--") && !(word.starts_with("-") && word.len() > 1)
+}
+
+impl Parser {
+    /// A parser that stands at the first word.
+    pub fn from_args(alloc: Global, words: Vec<String>) -> Parser
+        ensures { left result ≡ start (map string_bytes words.items) }
+    {
+        Parser {
+            words: VecDeque::from_vec(words),
+            word: String::new(alloc),
+            spot: Spot {
+                letter: None,
+                at: 0,
+                place: Place::Closed,
+            },
+        }
+    }
+
+    /// The next cut, or none behind the last word. A value that nobody took is refused here, and then the
+    /// parser stands at the next word.
+    pub fn next(&mut self) -> Result<Option<Arg<'_>>, LexFault>
+        ensures* leaves { sem 𝓛 (Leaves self.entry (after_cut (left self.old))) }
+        ensures cut { cut_seen result ≡ next_cut (left self.old) }
+        ensures refused { IfErr result (λ fault. fault ≡ LexFault.UnexpectedValue) }
+    {
+        if self.unexpected().is_some() {
+            self.spot.place = Place::Closed;
+            return Err(LexFault::UnexpectedValue);
+        }
+        if let Place::Letters = self.spot.place {
+            // Cut twice: for the spot, and for the letter that is answered.
+            let at = self.spot.at;
+            self.spot = letter_cut(self.word.as_str(), at).spot;
+            return Ok(Some(letter_cut(self.word.as_str(), at).arg));
+        }
+        let Some(word) = self.words.pop_front() else {
+            return Ok(None);
+        };
+        // Cut twice: the answer borrows the word from where the parser keeps it.
+        let spot = first_cut(word.as_str()).spot;
+        self.word = word;
+        self.spot = spot;
+        Ok(Some(first_cut(self.word.as_str()).arg))
+    }
+
+    /// The option that was cut last; none where that was a value, or nothing was cut yet.
+    pub fn option(&self) -> Option<Arg<'_>>
+        ensures { option_map cut_in result ≡ (left self.now).option }
+    {
+        if let Some(letter) = self.spot.letter {
+            return Some(Arg::Short(letter));
+        }
+        match first_cut(self.word.as_str()).arg {
+            Arg::Value(_) => None,
+            option => Some(option),
+        }
+    }
+
+    /// The value that nobody took: where there is one, the next cut is refused.
+    pub fn unexpected(&self) -> Option<&str>
+        ensures value { option_map (λ text. text.now) result
+            ≡ unexpected_of (left self.now).untaken }
+        ensures refused { IsSome result
+            ↔ (next_cut (left self.now) ≡ Err LexFault.UnexpectedValue) }
+    {
+        let rest = &self.word.as_str()[self.spot.at..];
+        match self.spot.place {
+            Place::Closed => None,
+            Place::Value => Some(rest),
+            Place::Letters => rest.strip_prefix("="),
+        }
+    }
+
+    /// The value that is attached to the option that was cut last: what stands behind the `=` of a long one,
+    /// or the rest of a chain with one leading `=` dropped.
+    pub fn optional_value(&mut self, alloc: Global) -> Result<Option<String>, AllocError>
+        ensures value { IfOk result
+            (λ value. option_map string_bytes value ≡ attached (left self.old).untaken) }
+        ensures ok { OnOk result (left self.new ≡ after_attached (left self.old)) }
+        ensures err { OnErr result (left self.new ≡ left self.old) }
+    {
+        let rest = &self.word.as_str()[self.spot.at..];
+        let value = match self.spot.place {
+            Place::Closed => return Ok(None),
+            Place::Value => rest,
+            Place::Letters => rest.strip_prefix("=").unwrap_or(rest),
+        };
+        let value = String::from_str(alloc, value)?;
+        self.spot.place = Place::Closed;
+        Ok(Some(value))
+    }
+
+    /// The value of the option that was cut last: what is attached, else the next word whatever it is.
+    pub fn value(&mut self, alloc: Global) -> Result<String, LexFault>
+        ensures value { IfOk result
+            (λ value. value_of (left self.old) ≡ Some (string_bytes value)) }
+        ensures missing { result ≡ Err LexFault.MissingValue → value_of (left self.old) ≡ None }
+        ensures expected { result ≢ Err LexFault.UnexpectedValue }
+        ensures ok { OnOk result (left self.new ≡ after_value (left self.old)) }
+        ensures err { OnErr result (left self.new ≡ left self.old) }
+    {
+        match self.optional_value(alloc)? {
+            Some(value) => Ok(value),
+            None => self.words.pop_front().ok_or(LexFault::MissingValue),
+        }
+    }
+
+    /// The value of an option that may stand without one: what is attached, else the next word unless that is
+    /// an option.
+    pub fn value_or_none(&mut self, alloc: Global) -> Result<Option<String>, AllocError>
+        ensures value { IfOk result
+            (λ value. option_map string_bytes value ≡ optional_of (left self.old)) }
+        ensures ok { OnOk result (left self.new ≡ after_optional (left self.old)) }
+        ensures err { OnErr result (left self.new ≡ left self.old) }
+    {
+        if let Some(value) = self.optional_value(alloc)? {
+            return Ok(Some(value));
+        }
+        match self.words.front() {
+            Some(word) if is_plain(word.as_str()) => Ok(self.words.pop_front()),
+            _ => Ok(None),
+        }
+    }
+}

@@ -1,0 +1,4 @@
+mod ListLemmas
+pub mod PieceLemmas
+mod TextLemmas
+mod WriteLemmas
