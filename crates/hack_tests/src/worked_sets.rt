@@ -39,14 +39,22 @@ impl<'a> Row<'a> {
         }
     }
 
-    fn requiring(mut self, groups: &'a [&'a str]) -> Row<'a> {
-        self.required = groups;
-        self
+    fn requiring(self, groups: &'a [&'a str]) -> Row<'a> {
+        Row {
+            map: self.map,
+            candidates: self.candidates,
+            required: groups,
+            excluded: self.excluded,
+        }
     }
 
-    fn excluding(mut self, groups: &'a [&'a str]) -> Row<'a> {
-        self.excluded = groups;
-        self
+    fn excluding(self, groups: &'a [&'a str]) -> Row<'a> {
+        Row {
+            map: self.map,
+            candidates: self.candidates,
+            required: self.required,
+            excluded: groups,
+        }
     }
 
     fn case(self, alloc: Global) -> Result<Case, AllocError> {
