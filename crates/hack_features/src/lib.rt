@@ -13,8 +13,6 @@ mod reach;
 pub mod rules;
 pub mod sets;
 mod tables;
-#[cfg(test)]
-mod tests;
 
 pub use deps::{at_least_one_of_for_package, feature_deps};
 pub use feature::Feature;
