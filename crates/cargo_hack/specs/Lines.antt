@@ -1,5 +1,5 @@
 -- The lines of a command list.
-use Rattle.std.specs.Prelude.{ℕ, List, [], ◌++◌, None, codes, flat_map}
+use Rattle.std.specs.Prelude.{ℕ, List, ◌++◌, None, codes, flat_map}
 use Rattle.hack_features.specs.Names.{Name}
 use Rattle.hack_features.specs.Sets.{chosen}
 use Rattle.hack_load.specs.CommandTexts.{appended, shown_features}

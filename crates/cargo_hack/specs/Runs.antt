@@ -1,6 +1,5 @@
 -- The runs of a package under `--each-feature` or `--feature-powerset`.
-use Rattle.std.specs.Prelude.{◌≡◌, ℕ, ◌-◌, ◌++◌, List, [], ◌∷◌, map, length, take, drop, Option, Some, None, Bool, true, false, not, nat_lt, ◌==◌, ◌&&◌, ◌||◌, if◌then◌else◌}
-use Rattle.std.specs.Borrow.{Bor}
+use Rattle.std.specs.Prelude.{ℕ, ◌-◌, ◌++◌, List, [], ◌∷◌, map, length, take, drop, Option, Some, None, Bool, true, false, not, nat_lt, ◌==◌, ◌&&◌, ◌||◌, if◌then◌else◌}
 use Rattle.cargo_hack.specs.declared.plan.Run.{Run}
 use Rattle.cargo_hack.specs.declared.plan.Run.TheVariants as code
 use Rattle.cargo_hack.specs.declared.plan.RunOptions.{RunOptions}

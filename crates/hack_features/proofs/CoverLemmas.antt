@@ -1,14 +1,14 @@
 -- The first set that covers another: take out, from the greatest position on, each that the others cover.
-use Rattle.std.proofs.Common.{◌≡◌, ◌≢◌, ℕ, zero, suc, ◌+◌, ◌<◌, ◌≤◌, List, [], ◌∷◌, ◌++◌, length, get_or, take, drop, refl, sym, ◌∙◌, ap, subst, arith, Bool, true, false, ◌⊎◌, inl, inr, ◌↔◌, IsTrue, All, AllPairs, Contains, length-append, Option, Some, None, is_some, cond}
-use Rattle.std.specs.Prelude.{not, ◌==◌, ◌&&◌, ◌||◌, IfSome}
-use Rattle.std.specs.List.{remove, list_all, list_any}
+use Rattle.std.proofs.Common.{◌≡◌, ◌≢◌, ℕ, zero, suc, ◌+◌, ◌<◌, ◌≤◌, List, [], ◌∷◌, ◌++◌, length, get_or, refl, sym, ◌∙◌, ap, subst, arith, Bool, true, false, ◌⊎◌, inl, inr, ◌↔◌, All, Contains, length-append, Option, Some, None, is_some, cond}
+use Rattle.std.specs.Prelude.{not, ◌==◌, ◌||◌, IfSome}
+use Rattle.std.specs.List.{remove, list_any}
 use Rattle.std.specs.Str.{bytes_eq}
 use Rattle.std.specs.Borrow.{Bor}
 use Rattle.std.specs.BTreeMap.{BTreeMap}
 use Rattle.std.proofs.lemmas.Slice.Eq.{bytes_eq-Decides}
 use Rattle.std.proofs.lemmas.Bool.{and_parts, and_from, or_cases, cases_eq, cases_lt, cases_order}
 use Rattle.std.proofs.lemmas.Bool.Decides.{eqb_tells}
-use Rattle.std.proofs.lemmas.List.Elements.{All-contains, All-contains_itself, All-nil, Contains-get_or, Contains-push, Contains-push_cases, Contains-append_left}
+use Rattle.std.proofs.lemmas.List.Elements.{All-contains, All-contains_itself, All-nil, Contains-get_or}
 use Rattle.std.proofs.lemmas.List.Edits.{length-remove, get_or-remove_below, get_or-remove_above}
 use Rattle.std.proofs.lemmas.List.{get_or_default}
 use Rattle.hack_features.proofs.Members.{Contains-nil, Contains-cons_cases, Contains-head, Contains-tail, last_of}
@@ -17,10 +17,10 @@ use Rattle.hack_features.proofs.Coverage.{Chain-append, named_in, within_left, e
 use Rattle.hack_features.proofs.Single.{member_of, key_from}
 use Rattle.hack_features.proofs.Listing.{selection_pop, selection_push, selection_up, before_new, before_push}
 use Rattle.hack_features.specs.Names.{Name}
-use Rattle.hack_features.specs.FeatureMap.{FeatureMap, IsKey, HasEdge, Chain, here, Enables, EnablesOneOf}
-use Rattle.hack_features.specs.Deps.{NameSet, has_name, get_at, IsDepsOf, AreDepsOf}
+use Rattle.hack_features.specs.FeatureMap.{FeatureMap, IsKey, here, Enables}
+use Rattle.hack_features.specs.Deps.{NameSet, get_at, IsDepsOf, AreDepsOf}
 use Rattle.hack_features.specs.Sets.{IsSelection, IsBefore}
-use Rattle.hack_features.specs.Rules.{Choice, names_at, names_in, IsEnabledBy, EnableTheSame, Spares, IsRedundant, IsExclusive, Serves, IsRequired, IsPermitted, IsListed, IsWanted, Covers, IsFirstCover}
+use Rattle.hack_features.specs.Rules.{Choice, names_at, IsEnabledBy, EnableTheSame, IsRedundant, Serves, IsRequired, IsWanted, IsFirstCover}
 use Rattle.hack_features.specs.Cover.{has_in, enables_test, set_enables_test, covers_test}
 
 -- membership of a number can be told
@@ -39,20 +39,22 @@ member (x ∷ s) p = member_by p x s (cases_eq x p) (member s p)
 pub before_trans : (s t u : List ℕ) → IsBefore s t → IsBefore t u → IsBefore s u
 before_trans s t u a b =
     elim (cases_lt a.greatest b.greatest) [
-    | inl lt ↦ record {
+      | inl lt ↦ record {
         greatest = b.greatest;
         absent = λ c. b.absent ((a.above b.greatest lt).0 c);
         present = b.present;
         above = λ p gt. (λ c. (b.above p gt).0 ((a.above p (omega arith)).0 c), λ c. (a.above p (omega arith)).1 ((b.above p gt).1 c));
       }
-    | inr le ↦ elim (cases_eq a.greatest b.greatest) [
-      | inl e ↦ absurd (b.absent (subst (λ g. Contains t g) e a.present))
-      | inr n ↦ record {
+      | inr le ↦ elim (cases_eq a.greatest b.greatest) [
+        | inl e ↦ absurd (b.absent (subst (λ g. Contains t g) e a.present))
+        | inr n ↦ record {
           greatest = a.greatest;
           absent = a.absent;
           present = (b.above a.greatest (let ne : a.greatest ≢ b.greatest = n in omega arith)).0 a.present;
           above = λ p gt. (λ c. (b.above p (omega arith)).0 ((a.above p gt).0 c), λ c. (a.above p gt).1 ((b.above p (omega arith)).1 c));
-        } ] ]
+        }
+      ]
+    ]
 
 -- one set before, the same as, or behind another
 abbrev pub Ordered : List ℕ → List ℕ → Type 0
@@ -82,14 +84,14 @@ ordered_cases : (n : ℕ) (s t : List ℕ) → IsSelection n s → IsSelection n
 ordered_cases n s t hs ht (inl e) (inl f) again = inr (inl (e ∙ sym f))
 ordered_cases n s t hs ht (inl e) (inr w) again =
     inl (subst (λ l. IsBefore l t) (sym e) (subst (λ l. IsBefore [] l) (sym w.2)
-      (before_new w.1 [] w.0 (All-nil (λ p. p < w.1)) ((selection_pop n w.1 w.0 (subst (IsSelection n) w.2 ht)).0).below)))
+    (before_new w.1 [] w.0 (All-nil (λ p. p < w.1)) ((selection_pop n w.1 w.0 (subst (IsSelection n) w.2 ht)).0).below)))
 ordered_cases n s t hs ht (inr v) (inl f) again =
     inr (inr (subst (λ l. IsBefore l s) (sym f) (subst (λ l. IsBefore [] l) (sym v.2)
-      (before_new v.1 [] v.0 (All-nil (λ p. p < v.1)) ((selection_pop n v.1 v.0 (subst (IsSelection n) v.2 hs)).0).below))))
+    (before_new v.1 [] v.0 (All-nil (λ p. p < v.1)) ((selection_pop n v.1 v.0 (subst (IsSelection n) v.2 hs)).0).below))))
 ordered_cases n s t hs ht (inr v) (inr w) again =
     subst (λ l. Ordered l t) (sym v.2) (subst (λ l. Ordered (v.0 ++ v.1 ∷ []) l) (sym w.2)
-      (ordered_ends n v.1 w.1 v.0 w.0 (subst (IsSelection n) v.2 hs) (subst (IsSelection n) w.2 ht)
-        (λ ps pt. again v.1 v.0 w.0 (omega (arith, ap length v.2, length-append v.0 (v.1 ∷ []))) ps pt) (cases_order v.1 w.1)))
+    (ordered_ends n v.1 w.1 v.0 w.0 (subst (IsSelection n) v.2 hs) (subst (IsSelection n) w.2 ht)
+    (λ ps pt. again v.1 v.0 w.0 (omega (arith, ap length v.2, length-append v.0 (v.1 ∷ []))) ps pt) (cases_order v.1 w.1)))
 
 ordered_within : (fuel n : ℕ) (s t : List ℕ) → length s ≤ fuel → IsSelection n s → IsSelection n t → Ordered s t
 ordered_within zero n s t le hs ht = ordered_cases n s t hs ht (last_of s) (last_of t) (λ m a b lt. absurd (omega arith))
@@ -124,22 +126,25 @@ test_yes m deps x y h false e c =
     or_right (bytes_eq x y) (has_in (get_at deps x) y) (deps_have-go m x y (get_at deps x) (h.each x) (h.keys x).1 ne c (key_from m c ne))
 
 pub enables_iff : (m : FeatureMap) (deps : BTreeMap (Bor Name) NameSet) → AreDepsOf m deps → (x y : Name) → (enables_test deps x y ≡ true) ↔ Enables m x y
-enables_iff m deps h x y =
-    (λ t. elim (or_cases (bytes_eq x y) (has_in (get_at deps x) y) t) [
-      | inl e ↦ subst (λ z. Enables m x z) ((bytes_eq-Decides x y).0 e) here
-      | inr w ↦ in_deps-go m x y (get_at deps x) (h.each x) w ],
-     test_yes m deps x y h (bytes_eq x y) refl)
+enables_iff m deps h x y = (
+  λ t. elim (or_cases (bytes_eq x y) (has_in (get_at deps x) y) t) [
+    | inl e ↦ subst (λ z. Enables m x z) ((bytes_eq-Decides x y).0 e) here
+    | inr w ↦ in_deps-go m x y (get_at deps x) (h.each x) w
+  ],
+  test_yes m deps x y h (bytes_eq x y) refl,
+)
 
 pub set_enables_iff : (c : Choice) (deps : BTreeMap (Bor Name) NameSet) → AreDepsOf c.map deps → (s : List ℕ) (y : Name) → (set_enables_test deps c.candidates s y ≡ true) ↔ IsEnabledBy c s y
 set_enables_iff c deps h s y =
-    let test : ℕ → Bool = λ p. list_any (λ x. enables_test deps x y) (names_at c p) in
-    (λ t.
-      let p = some_passes test s t in
-      let x = some_passes (λ x. enables_test deps x y) (names_at c p.0) p.2 in
-      record { by = x.0; named = named_in c s p.0 x.0 p.1 x.1; chain = (enables_iff c.map deps h x.0 y).0 x.2 },
-     λ e.
-      let p = member_of c s e.by e.named in
-      any_passes test s p.0 p.1 (any_passes (λ x. enables_test deps x y) (names_at c p.0) e.by p.2 ((enables_iff c.map deps h e.by y).1 e.chain)))
+    let test : ℕ → Bool = λ p. list_any (λ x. enables_test deps x y) (names_at c p) in (
+      λ t.
+          let p = some_passes test s t in
+          let x = some_passes (λ x. enables_test deps x y) (names_at c p.0) p.2 in
+          record { by = x.0; named = named_in c s p.0 x.0 p.1 x.1; chain = (enables_iff c.map deps h x.0 y).0 x.2 },
+      λ e.
+          let p = member_of c s e.by e.named in
+          any_passes test s p.0 p.1 (any_passes (λ x. enables_test deps x y) (names_at c p.0) e.by p.2 ((enables_iff c.map deps h e.by y).1 e.chain)),
+    )
 
 -- the set is not empty and enables each of the names
 pub record EnablesAll (c : Choice) (s : List ℕ) (names : List Name) : Type 0 where
@@ -155,13 +160,14 @@ is_not_empty [] n = absurd (n refl)
 is_not_empty (x ∷ s) n = elim (eqb_tells (length (x ∷ s)) 0) [ inl e ↦ absurd (let z : length (x ∷ s) ≡ 0 = e.1 in omega arith) | inr w ↦ ap not w.0 ]
 
 pub covers_iff : (c : Choice) (deps : BTreeMap (Bor Name) NameSet) → AreDepsOf c.map deps → (s : List ℕ) (names : List Name) → (covers_test deps c.candidates s names ≡ true) ↔ EnablesAll c s names
-covers_iff c deps h s names =
-    (λ t. let w = and_parts (not (length s == 0)) _ t in record {
-       nonempty = not_empty s w.0;
-       all = λ k d lt. (set_enables_iff c deps h s (get_or names k d)).0 (each_passes (set_enables_test deps c.candidates s) names w.1 (get_or names k d) (Contains-get_or names k d lt));
-     },
-     λ e. and_from (not (length s == 0)) _ (is_not_empty s e.nonempty)
-       (all_pass (set_enables_test deps c.candidates s) names (λ y cy. (set_enables_iff c deps h s y).1 (All-contains (IsEnabledBy c s) names y e.all cy))))
+covers_iff c deps h s names = (
+  λ t. let w = and_parts (not (length s == 0)) _ t in record {
+    nonempty = not_empty s w.0;
+    all = λ k d lt. (set_enables_iff c deps h s (get_or names k d)).0 (each_passes (set_enables_test deps c.candidates s) names w.1 (get_or names k d) (Contains-get_or names k d lt));
+  },
+  λ e. and_from (not (length s == 0)) _ (is_not_empty s e.nonempty)
+      (all_pass (set_enables_test deps c.candidates s) names (λ y cy. (set_enables_iff c deps h s y).1 (All-contains (IsEnabledBy c s) names y e.all cy))),
+)
 
 -- taking out one position
 
@@ -177,7 +183,8 @@ module _ (n : ℕ) (s : List ℕ) (h : IsSelection n s) where
   pub later : (k j : ℕ) → k < length s → j < length s → get_or s k 0 < get_or s j 0 → k < j
   later k j kl jl lt = elim (cases_order k j) [
     | inl e ↦ absurd (let same : get_or s k 0 ≡ get_or s j 0 = ap (λ i. get_or s i 0) e in omega arith)
-    | inr w ↦ elim w [ inl l ↦ l | inr g ↦ absurd (let r = rises j k g kl in omega arith) ] ]
+    | inr w ↦ elim w [ inl l ↦ l | inr g ↦ absurd (let r = rises j k g kl in omega arith) ]
+  ]
 
   -- the one that is taken out is gone
   pub removed_gone : (k : ℕ) → k < length s → ¬ Contains (remove s k) (get_or s k 0)
@@ -185,8 +192,9 @@ module _ (n : ℕ) (s : List ℕ) (h : IsSelection n s) where
       let is : get_or (remove s k) c.0 0 ≡ get_or s k 0 = sym (at_default (remove s k) c.0 (get_or s k 0) c.1) ∙ c.2 in
       let fewer = length-remove s k kl in
       elim (cases_lt c.0 k) [
-      | inl l ↦ (let same = get_or-remove_below s k 0 c.0 l kl in let r = rises c.0 k l kl in omega arith)
-      | inr g ↦ (let same = get_or-remove_above s k 0 c.0 g kl in let r = rises k (c.0 + 1) (omega arith) (omega (arith, c.1)) in omega arith) ]
+        | inl l ↦ (let same = get_or-remove_below s k 0 c.0 l kl in let r = rises c.0 k l kl in omega arith)
+        | inr g ↦ (let same = get_or-remove_above s k 0 c.0 g kl in let r = rises k (c.0 + 1) (omega arith) (omega (arith, c.1)) in omega arith)
+      ]
 
 -- any other stays
 pub removed_other : (s : List ℕ) (k : ℕ) (q : ℕ) → k < length s → Contains s q → q ≢ get_or s k 0 → Contains (remove s k) q
@@ -194,8 +202,9 @@ removed_other [] k q kl c ne = absurd (Contains-nil q c)
 removed_other (x ∷ s) zero q kl c ne = elim (Contains-cons_cases x s q c) [ inl e ↦ absurd (ne (sym e)) | inr w ↦ w ]
 removed_other (x ∷ s) (suc k) q kl c ne =
     elim (Contains-cons_cases x s q c) [
-    | inl e ↦ subst (λ y. Contains (x ∷ remove s k) y) e (Contains-head x (remove s k))
-    | inr w ↦ Contains-tail x (remove s k) q (removed_other s k q (omega arith) w ne) ]
+      | inl e ↦ subst (λ y. Contains (x ∷ remove s k) y) e (Contains-head x (remove s k))
+      | inr w ↦ Contains-tail x (remove s k) q (removed_other s k q (omega arith) w ne)
+    ]
 
 bytes_tell-by : (x y : Name) (b : Bool) → bytes_eq x y ≡ b → (x ≡ y) ⊎ (x ≢ y)
 bytes_tell-by x y true e = inl ((bytes_eq-Decides x y).0 e)
@@ -215,7 +224,8 @@ serves_same c s t same group v =
       enables = record {
         key = elim (bytes_tell e.by v.name) [
           | inl q ↦ subst (IsKey c.map) (sym q) v.enables.key
-          | inr n ↦ key_from c.map e.chain n ];
+          | inr n ↦ key_from c.map e.chain n
+        ];
         name = v.enables.name;
         member = v.enables.member;
         chain = Chain-append e.chain v.enables.chain;
@@ -276,13 +286,14 @@ module _ (c : Choice) (s : List ℕ) (hs : IsSelection (length c.candidates) s) 
 
   -- above the place both sets have the same members
   above_same : (u : List ℕ) → All (Contains s) u → AgreeFrom (k + 1) s kept u → (q : ℕ) → get_or s k 0 < q → Contains kept q ↔ Contains u q
-  above_same u iu agree q gt =
-      (λ w. let j = place_of q (All-contains (Contains s) kept q h.rival.inside w) in
+  above_same u iu agree q gt = (
+    λ w. let j = place_of q (All-contains (Contains s) kept q h.rival.inside w) in
         let on : k < j.0 = later (length c.candidates) s hs k j.0 kl j.1 (rw j.2 gt) in
         subst (λ x. Contains u x) j.2 ((agree j.0 (omega arith) j.1).0 (subst (λ x. Contains kept x) (sym j.2) w)),
-       λ w. let j = place_of q (All-contains (Contains s) u q iu w) in
+    λ w. let j = place_of q (All-contains (Contains s) u q iu w) in
         let on : k < j.0 = later (length c.candidates) s hs k j.0 kl j.1 (rw j.2 gt) in
-        subst (λ x. Contains kept x) j.2 ((agree j.0 (omega arith) j.1).1 (subst (λ x. Contains u x) (sym j.2) w)))
+        subst (λ x. Contains kept x) j.2 ((agree j.0 (omega arith) j.1).1 (subst (λ x. Contains u x) (sym j.2) w)),
+  )
 
   gone : ¬ Contains (remove kept k) (get_or s k 0)
   gone w = removed_gone (length c.candidates) kept h.selection k at (subst (λ x. Contains (remove kept k) x) (sym same_place) w)
@@ -293,11 +304,13 @@ module _ (c : Choice) (s : List ℕ) (hs : IsSelection (length c.candidates) s) 
   -- where the others cover what stands at the place
   module _ (covered : EnablesAll c (remove kept k) (names_at c (get_or s k 0))) where
     same_without : EnableTheSame c kept (remove kept k)
-    same_without y =
-        (λ e. elim (name_left c kept k (get_or s k 0) at is e.by e.named) [
-          | inl w ↦ let f = All-contains (IsEnabledBy c (remove kept k)) (names_at c (get_or s k 0)) e.by covered.all w in record { by = f.by; named = f.named; chain = Chain-append f.chain e.chain }
-          | inr w ↦ record { by = e.by; named = w; chain = e.chain } ],
-         λ e. record { by = e.by; named = name_kept c kept k (get_or s k 0) at is e.by e.named; chain = e.chain })
+    same_without y = (
+      λ e. elim (name_left c kept k (get_or s k 0) at is e.by e.named) [
+        | inl w ↦ let f = All-contains (IsEnabledBy c (remove kept k)) (names_at c (get_or s k 0)) e.by covered.all w in record { by = f.by; named = f.named; chain = Chain-append f.chain e.chain }
+        | inr w ↦ record { by = e.by; named = w; chain = e.chain }
+      ],
+      λ e. record { by = e.by; named = name_kept c kept k (get_or s k 0) at is e.by e.named; chain = e.chain },
+    )
 
     before_without : (u : List ℕ) → All (Contains s) u → Contains u (get_or s k 0) → ((q : ℕ) → get_or s k 0 < q → Contains kept q ↔ Contains u q) → IsBefore (remove kept k) u
     before_without u iu w up = record {
@@ -310,24 +323,28 @@ module _ (c : Choice) (s : List ℕ) (hs : IsSelection (length c.candidates) s) 
     least_without : (u : List ℕ) → IsRival c s u → IsBefore kept u ⊎ AgreeFrom (k + 1) s kept u → Contains u (get_or s k 0) ⊎ (¬ Contains u (get_or s k 0)) → IsBefore (remove kept k) u ⊎ AgreeFrom k s (remove kept k) u
     least_without u r (inl b) tell =
         elim (cases_order b.greatest (get_or s k 0)) [
-        | inl e ↦ absurd (b.absent (subst (λ x. Contains kept x) (sym e) (k, at, sym is)))
-        | inr w ↦ elim w [
-          | inl lt ↦ inl (before_without u r.inside ((b.above (get_or s k 0) lt).0 (k, at, sym is)) (λ q gt. b.above q (omega arith)))
-          | inr gt ↦ inl (record {
+          | inl e ↦ absurd (b.absent (subst (λ x. Contains kept x) (sym e) (k, at, sym is)))
+          | inr w ↦ elim w [
+            | inl lt ↦ inl (before_without u r.inside ((b.above (get_or s k 0) lt).0 (k, at, sym is)) (λ q gt. b.above q (omega arith)))
+            | inr gt ↦ inl (record {
               greatest = b.greatest;
               absent = λ v. b.absent (removed_member kept k b.greatest v);
               present = b.present;
               above = λ q up. (λ v. (b.above q up).0 (removed_member kept k q v), λ v. other q ((b.above q up).1 v) (λ e. (omega (arith, e))));
-            }) ] ]
+            })
+          ]
+        ]
     least_without u r (inr agree) (inl w) = inl (before_without u r.inside w (above_same u r.inside agree))
     least_without u r (inr agree) (inr n) = inr (λ j ge lt.
         elim (cases_order k j) [
-        | inl e ↦ (λ v. absurd (gone (subst (λ i. Contains (remove kept k) (get_or s i 0)) (sym e) v)), λ v. absurd (n (subst (λ i. Contains u (get_or s i 0)) (sym e) v)))
-        | inr w ↦ elim w [
-          | inl on ↦
-            let up : get_or s k 0 < get_or s j 0 = rises (length c.candidates) s hs k j on lt in
-            (λ v. (agree j (omega arith) lt).0 (removed_member kept k (get_or s j 0) v), λ v. other (get_or s j 0) ((agree j (omega arith) lt).1 v) (λ e. omega (arith, e)))
-          | inr before ↦ absurd (omega arith) ] ])
+          | inl e ↦ (λ v. absurd (gone (subst (λ i. Contains (remove kept k) (get_or s i 0)) (sym e) v)), λ v. absurd (n (subst (λ i. Contains u (get_or s i 0)) (sym e) v)))
+          | inr w ↦ elim w [
+            | inl on ↦
+                let up : get_or s k 0 < get_or s j 0 = rises (length c.candidates) s hs k j on lt in
+                (λ v. (agree j (omega arith) lt).0 (removed_member kept k (get_or s j 0) v), λ v. other (get_or s j 0) ((agree j (omega arith) lt).1 v) (λ e. omega (arith, e)))
+            | inr before ↦ absurd (omega arith)
+          ]
+        ])
 
     pub greedy_without : Greedy c s k (remove kept k)
     greedy_without = record {
@@ -355,31 +372,34 @@ module _ (c : Choice) (s : List ℕ) (hs : IsSelection (length c.candidates) s) 
     inside_rest u r agree n q w =
         let ne : q ≢ get_or s k 0 = λ e. n (subst (λ x. Contains u x) e w) in
         elim (cases_order q (get_or s k 0)) [
-        | inl e ↦ absurd (ne e)
-        | inr v ↦ elim v [
-          | inl lt ↦
-            let j = place_of q (All-contains (Contains s) u q r.inside w) in
-            let low : j.0 < k = later (length c.candidates) s hs j.0 k j.1 kl (rw j.2 lt) in
-            other q (subst (λ x. Contains kept x) (h.front j.0 (omega arith) ∙ j.2) (j.0, (let a = at in omega arith), at_default kept j.0 (get_or kept j.0 0) (let a = at in omega arith))) ne
-          | inr gt ↦ other q ((above_same u r.inside agree q gt).1 w) ne ] ]
+          | inl e ↦ absurd (ne e)
+          | inr v ↦ elim v [
+            | inl lt ↦
+                let j = place_of q (All-contains (Contains s) u q r.inside w) in
+                let low : j.0 < k = later (length c.candidates) s hs j.0 k j.1 kl (rw j.2 lt) in
+                other q (subst (λ x. Contains kept x) (h.front j.0 (omega arith) ∙ j.2) (j.0, (let a = at in omega arith), at_default kept j.0 (get_or kept j.0 0) (let a = at in omega arith))) ne
+            | inr gt ↦ other q ((above_same u r.inside agree q gt).1 w) ne
+          ]
+        ]
 
     covers_all : (u : List ℕ) → IsRival c s u → AgreeFrom (k + 1) s kept u → ¬ Contains u (get_or s k 0) → EnablesAll c (remove kept k) (names_at c (get_or s k 0))
     covers_all u r agree n = record {
       nonempty = λ e. let some = first_member u r.nonempty in Contains-nil some.0 (subst (λ l. Contains l some.0) e (inside_rest u r agree n some.0 some.1));
       all = λ i d lt.
-        let y = get_or (names_at c (get_or s k 0)) i d in
-        let named = named_in c kept (get_or s k 0) y (k, at, sym is) (Contains-get_or (names_at c (get_or s k 0)) i d lt) in
-        let e = (r.same y).0 ((h.rival.same y).1 (record { by = y; named = named; chain = here })) in
-        let q = member_of c u e.by e.named in
-        record { by = e.by; named = named_in c (remove kept k) q.0 e.by (inside_rest u r agree n q.0 q.1) q.2; chain = e.chain };
+          let y = get_or (names_at c (get_or s k 0)) i d in
+          let named = named_in c kept (get_or s k 0) y (k, at, sym is) (Contains-get_or (names_at c (get_or s k 0)) i d lt) in
+          let e = (r.same y).0 ((h.rival.same y).1 (record { by = y; named = named; chain = here })) in
+          let q = member_of c u e.by e.named in
+          record { by = e.by; named = named_in c (remove kept k) q.0 e.by (inside_rest u r agree n q.0 q.1) q.2; chain = e.chain };
     }
 
     agree_on : (u : List ℕ) → IsRival c s u → AgreeFrom (k + 1) s kept u → Contains u (get_or s k 0) ⊎ (¬ Contains u (get_or s k 0)) → AgreeFrom k s kept u
     agree_on u r agree (inr n) = absurd (uncovered (covers_all u r agree n))
     agree_on u r agree (inl w) = λ j ge lt.
         elim (cases_order k j) [
-        | inl e ↦ (λ v. subst (λ i. Contains u (get_or s i 0)) e w, λ v. subst (λ i. Contains kept (get_or s i 0)) e (k, at, sym is))
-        | inr v ↦ elim v [ inl on ↦ agree j (omega arith) lt | inr before ↦ absurd (omega arith) ] ]
+          | inl e ↦ (λ v. subst (λ i. Contains u (get_or s i 0)) e w, λ v. subst (λ i. Contains kept (get_or s i 0)) e (k, at, sym is))
+          | inr v ↦ elim v [ inl on ↦ agree j (omega arith) lt | inr before ↦ absurd (omega arith) ]
+        ]
 
     pub greedy_with : Greedy c s k kept
     greedy_with = record {
@@ -398,15 +418,18 @@ module _ (c : Choice) (s : List ℕ) (hs : IsSelection (length c.candidates) s) 
   first : (u : List ℕ) → IsSelection (length c.candidates) u → IsRival c s u → IsBefore kept u ⊎ (kept ≡ u)
   first u hu r =
       elim (h.least u r) [
-      | inl b ↦ inl b
-      | inr agree ↦ elim (ordered (length c.candidates) kept u h.selection hu) [
         | inl b ↦ inl b
-        | inr w ↦ elim w [
-          | inl e ↦ inr e
-          | inr b ↦
-            let m = All-contains (Contains s) kept b.greatest h.rival.inside b.present in
-            let e : get_or s m.0 0 ≡ b.greatest = sym (at_default s m.0 b.greatest m.1) ∙ m.2 in
-            absurd (b.absent (subst (λ x. Contains u x) e ((agree m.0 (omega arith) m.1).0 (subst (λ x. Contains kept x) (sym e) b.present)))) ] ] ]
+        | inr agree ↦ elim (ordered (length c.candidates) kept u h.selection hu) [
+          | inl b ↦ inl b
+          | inr w ↦ elim w [
+            | inl e ↦ inr e
+            | inr b ↦
+                let m = All-contains (Contains s) kept b.greatest h.rival.inside b.present in
+                let e : get_or s m.0 0 ≡ b.greatest = sym (at_default s m.0 b.greatest m.1) ∙ m.2 in
+                absurd (b.absent (subst (λ x. Contains u x) e ((agree m.0 (omega arith) m.1).0 (subst (λ x. Contains kept x) (sym e) b.present))))
+          ]
+        ]
+      ]
 
   -- nothing in it is redundant
   lean : ¬ IsRedundant c kept
@@ -422,8 +445,9 @@ module _ (c : Choice) (s : List ℕ) (hs : IsSelection (length c.candidates) s) 
         same = λ y. let one = enables_left c kept i r.spared at is r.spares.by named r.spares.key r.spares.enabled y in let two = h.rival.same y in (λ e. one.0 (two.0 e), λ e. two.1 (one.1 e));
       } in
       elim (first u (selection_left c kept i r.spared at is (length c.candidates) h.selection) rival) [
-      | inl b ↦ b.absent (removed_member kept i b.greatest b.present)
-      | inr e ↦ (let fewer = length-remove kept i at in let longer : length kept ≡ length u = ap length e in omega arith) ]
+        | inl b ↦ b.absent (removed_member kept i b.greatest b.present)
+        | inr e ↦ (let fewer = length-remove kept i at in let longer : length kept ≡ length u = ap length e in omega arith)
+      ]
 
   pub greedy_end : IsFirstCover c s kept
   greedy_end = record {
@@ -452,12 +476,12 @@ module _ (c : Choice) (deps : BTreeMap (Bor Name) NameSet) (are : AreDepsOf c.ma
   turn_by : (b : Bool) (next : List ℕ) → covers_test deps c.candidates (remove kept k) (names_at c (get_or kept k 0)) ≡ b → next ≡ cond b (remove kept k) kept → Greedy c s k next
   turn_by true next e f =
       subst (Greedy c s k) (sym f) (greedy_without c s hs k kl kept h
-        ((covers_iff c deps are (remove kept k) (names_at c (get_or s k 0))).0 (subst (λ p. covers_test deps c.candidates (remove kept k) (names_at c p) ≡ true) test_at e)))
+      ((covers_iff c deps are (remove kept k) (names_at c (get_or s k 0))).0 (subst (λ p. covers_test deps c.candidates (remove kept k) (names_at c p) ≡ true) test_at e)))
   turn_by false next e f =
       subst (Greedy c s k) (sym f) (greedy_with c s hs k kl kept h (λ all.
-        let t = (covers_iff c deps are (remove kept k) (names_at c (get_or s k 0))).1 all in
-        let g = subst (λ p. covers_test deps c.candidates (remove kept k) (names_at c p) ≡ false) test_at e in
-        let z : true ≡ false = sym t ∙ g in cc))
+      let t = (covers_iff c deps are (remove kept k) (names_at c (get_or s k 0))).1 all in
+      let g = subst (λ p. covers_test deps c.candidates (remove kept k) (names_at c p) ≡ false) test_at e in
+      let z : true ≡ false = sym t ∙ g in cc))
 
   pub greedy_turn : (next : List ℕ) → next ≡ cond (covers_test deps c.candidates (remove kept k) (names_at c (get_or kept k 0))) (remove kept k) kept → Greedy c s k next
   greedy_turn next f = turn_by (covers_test deps c.candidates (remove kept k) (names_at c (get_or kept k 0))) next refl f

@@ -1,14 +1,14 @@
-use Rattle.std.proofs.Common.{◌≡◌, ◌≢◌, ℕ, zero, suc, ◌+◌, ◌<◌, ◌≤◌, List, [], ◌∷◌, ◌++◌, length, get_or, take, drop, refl, sym, ◌∙◌, ap, subst, arith, flat_map, Option, None, Some, ◌⊎◌, inl, inr, ◌↔◌, All, AllPairs, Contains, append_assoc, length-append, length-drop, length-take}
+use Rattle.std.proofs.Common.{◌≡◌, ◌≢◌, ℕ, zero, suc, ◌<◌, ◌≤◌, List, [], ◌∷◌, ◌++◌, length, get_or, take, drop, refl, sym, ◌∙◌, ap, subst, arith, Option, None, Some, ◌⊎◌, inl, inr, ◌↔◌, All, Contains}
 use Rattle.std.specs.List.{remove}
-use Rattle.std.proofs.lemmas.List.Elements.{All-append, All-contains, All-contains_itself, All-take, All-drop, Contains-append_left, Contains-append_right, Contains-append_cases, Contains-get_or, All-weaker}
+use Rattle.std.proofs.lemmas.List.Elements.{All-append, All-contains, All-contains_itself, All-take, All-drop, Contains-append_left, Contains-append_right, Contains-append_cases, Contains-get_or}
 use Rattle.std.proofs.lemmas.List.Concat.{flat_map-append}
 use Rattle.std.proofs.lemmas.List.Edits.{length-remove}
 use Rattle.std.proofs.lemmas.List.Quantifiers.{all_pairs_remove}
 use Rattle.hack_features.proofs.Members.{Contains-nil, Contains-cons_cases}
 use Rattle.hack_features.specs.Names.{Name}
-use Rattle.hack_features.specs.FeatureMap.{FeatureMap, HasEdge, Chain, here, step, Enables, EnablesOneOf, IsKey}
+use Rattle.hack_features.specs.FeatureMap.{Chain, here, step, Enables, IsKey}
 use Rattle.hack_features.specs.Sets.{IsSelection, IsWithin, Pairwise}
-use Rattle.hack_features.specs.Rules.{Choice, names_at, names_in, IsEnabledBy, IsRedundant, NotBothReach, IsExclusive, Serves, IsRequired, IsPermitted, IsListed, Covers, IsWanted}
+use Rattle.hack_features.specs.Rules.{Choice, names_at, names_in, IsEnabledBy, IsRedundant, NotBothReach, IsExclusive, IsRequired, IsPermitted, Covers, IsWanted}
 
 pub Chain-append : {edge : Name → Name → Type 0} {x y z : Name} → Chain edge x y → Chain edge y z → Chain edge x z
 Chain-append here d = d

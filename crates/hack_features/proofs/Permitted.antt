@@ -1,19 +1,12 @@
-use Rattle.std.proofs.Common.{◌≡◌, ◌≢◌, ℕ, zero, suc, ◌+◌, ◌<◌, ◌≤◌, List, [], ◌∷◌, ◌++◌, length, get_or, refl, sym, ◌∙◌, ap, subst, arith, map, Option, None, Some, Bool, true, false, cond, ◌⊎◌, inl, inr, ◌↔◌, IfSome, All, AllPairs, Contains, filter, nat_lt, slice_get, take, length-append, add-one, rules}
-use Rattle.std.specs.List.{filter_map, cons_option}
+use Rattle.std.proofs.Common.{◌≡◌, ℕ, zero, suc, ◌+◌, ◌<◌, List, [], ◌∷◌, ◌++◌, length, get_or, refl, sym, ◌∙◌, ap, subst, arith, map, Bool, true, false, cond, ◌⊎◌, inl, inr, ◌↔◌, All, Contains, filter, take, length-append, add-one}
 use Rattle.std.proofs.lemmas.List.{map-append, get_or-map, length-map}
-use Rattle.std.proofs.Math.ListN.{get_or-append}
-use Rattle.std.proofs.Math.Seq.{get_or-append_seam}
-use Rattle.std.proofs.lemmas.Grind.{common_steps}
-use Rattle.std.proofs.lemmas.Bool.{lt-ltb, ltb-true}
-use Rattle.std.proofs.lemmas.List.Elements.{All-append, All-push, All-weaker, All-contains, All-map, All-filter, All-cons, All-nil, All-head, All-tail, Contains-append_left, Contains-append_right, Contains-append_cases, Contains-push, Contains-push_cases, Contains-get_or, filter_map-append, filter_more}
+use Rattle.std.proofs.lemmas.List.Elements.{All-contains, All-map, All-filter, All-nil, Contains-append_left, Contains-append_right, Contains-append_cases, Contains-get_or, filter_more}
 use Rattle.std.proofs.lemmas.Bool.Decides.{eqb_tells}
-use Rattle.std.proofs.lemmas.List.Quantifiers.{all_pairs_push}
 use Rattle.std.specs.Prelude.{Vec}
 use Rattle.hack_features.proofs.Members.{last_of, Contains-head, Contains-nil, Contains-cons_cases, Contains-map, Contains-map_from, Contains-filter, Contains-filter_from}
 use Rattle.std.specs.List.{remove}
 use Rattle.std.specs.Prelude.{◌&&◌, not, eqb}
-use Rattle.std.proofs.Math.Seq.{take-append_seam, drop-append-add}
-use Rattle.hack_features.specs.Sets.{rows_of, IsSelection, IsBefore, Pairwise, IsListing}
+use Rattle.hack_features.specs.Sets.{rows_of, IsSelection, IsBefore, IsListing}
 use Rattle.hack_features.specs.Questions.{with_next, is_whole, IsWhole}
 use Rattle.hack_features.proofs.Listing.{selection_up, selection_push, selection_pop, selection_none, before_new, in_order-append, in_order-filter, in_order-push, below_or_same}
 

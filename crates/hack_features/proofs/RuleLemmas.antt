@@ -1,11 +1,10 @@
 -- What the answers of the rules say, and the sets that an enumeration by them lists.
-use Rattle.std.proofs.Common.{◌≡◌, ◌≢◌, ℕ, ◌+◌, ◌<◌, ◌≤◌, List, [], ◌∷◌, ◌++◌, length, refl, sym, ◌∙◌, ap, subst, arith, Bool, true, false, ◌⊎◌, inl, inr, ◌↔◌, IsTrue, Contains, map, Option, Some, None}
-use Rattle.std.specs.Prelude.{◌&&◌, ◌==◌, not}
+use Rattle.std.proofs.Common.{◌≡◌, ℕ, List, length, refl, sym, ◌∙◌, subst, Bool, true, false, inl, inr, ◌↔◌, IsTrue, Contains, map, Option, Some, None}
+use Rattle.std.specs.Prelude.{◌==◌, not}
 use Rattle.std.proofs.lemmas.Bool.{and_parts, and_from, leb-true, le-leb}
-use Rattle.std.proofs.lemmas.List.{length-map}
 use Rattle.hack_features.specs.declared.rules.Rules.{Rules}
-use Rattle.hack_features.specs.Sets.{IsSelection, IsWithin, IsListing, ListsSelections, rows_of, chosen, IsBefore}
-use Rattle.hack_features.specs.Rules.{Choice, IsRedundant, IsExclusive, IsRequired, IsPermitted, IsListed, IsWanted, Covers, AreSingle, EnableTheSame}
+use Rattle.hack_features.specs.Sets.{IsSelection, IsWithin, IsListing, rows_of, chosen}
+use Rattle.hack_features.specs.Rules.{Choice, IsRequired, IsPermitted, IsListed, IsWanted, Covers, AreSingle, EnableTheSame}
 use Rattle.hack_features.specs.Tables.{keeps_depth, is_lean, is_exclusive, is_required, AreTables, wanted_test}
 use Rattle.hack_features.specs.View.{choice_of, size_of, may_of, whole_of, AreTablesOf}
 use Rattle.hack_features.specs.Questions.{IsWhole}
@@ -34,49 +33,56 @@ module _ (r : Rules) (h : AreTablesOf (choice_of r) r) where
   permitted_iff s sel =
       let lean = lean_iff (choice_of r) (rows_of r.tables.spares.items) h.spared s (up s sel) in
       let exclusive = h.exclusive s (up s sel) in
-      let depth = depth_iff r.given.depth s in
-      (λ t. let w = and_parts (keeps_depth r.given.depth s) _ t in
-        let v = and_parts (is_exclusive (rows_of r.tables.hits.items) s) (is_lean (rows_of r.tables.spares.items) s) w.1 in
-        record { within = depth.0 w.0; lean = lean.0 v.1; exclusive = exclusive.0 v.0 },
-       λ p. and_from (keeps_depth r.given.depth s) _ (depth.1 p.within)
-        (and_from (is_exclusive (rows_of r.tables.hits.items) s) (is_lean (rows_of r.tables.spares.items) s) (exclusive.1 p.exclusive) (lean.1 p.lean)))
+      let depth = depth_iff r.given.depth s in (
+        λ t. let w = and_parts (keeps_depth r.given.depth s) _ t in
+            let v = and_parts (is_exclusive (rows_of r.tables.hits.items) s) (is_lean (rows_of r.tables.spares.items) s) w.1 in
+            record { within = depth.0 w.0; lean = lean.0 v.1; exclusive = exclusive.0 v.0 },
+        λ p. and_from (keeps_depth r.given.depth s) _ (depth.1 p.within)
+            (and_from (is_exclusive (rows_of r.tables.hits.items) s) (is_lean (rows_of r.tables.spares.items) s) (exclusive.1 p.exclusive) (lean.1 p.lean)),
+      )
 
   pub required_iff_whole : (s : List ℕ) → IsSelection (size_of r) s → IsTrue (whole_of r s) ↔ IsRequired (choice_of r) s
   required_iff_whole s sel = h.required s (up s sel)
 
   listed_iff : (s : List ℕ) → IsSelection (size_of r) s → IsWhole (may_of r) (whole_of r) s ↔ IsListed (choice_of r) s
-  listed_iff s sel =
-      (λ w. record { nonempty = w.nonempty; permitted = (permitted_iff s sel).0 w.allowed; required = (required_iff_whole s sel).0 w.completed },
-       λ l. record { nonempty = l.nonempty; allowed = (permitted_iff s sel).1 l.permitted; completed = (required_iff_whole s sel).1 l.required })
+  listed_iff s sel = (
+    λ w. record { nonempty = w.nonempty; permitted = (permitted_iff s sel).0 w.allowed; required = (required_iff_whole s sel).0 w.completed },
+    λ l. record { nonempty = l.nonempty; allowed = (permitted_iff s sel).1 l.permitted; completed = (required_iff_whole s sel).1 l.required },
+  )
 
   -- what the enumeration lists are the listed sets
   pub listing_of : (sets : List (List ℕ)) → IsListing (size_of r) (IsWhole (may_of r) (whole_of r)) sets → IsListing (size_of r) (IsListed (choice_of r)) sets
   listing_of sets l = record {
     ordered = l.ordered;
-    exact = λ s.
-      (λ c. let w = (l.exact s).0 c in (w.0, (listed_iff s w.0).0 w.1),
-       λ w. (l.exact s).1 (w.0, (listed_iff s w.0).1 w.1));
+    exact = λ s. (
+      λ c. let w = (l.exact s).0 c in (w.0, (listed_iff s w.0).0 w.1),
+      λ w. (l.exact s).1 (w.0, (listed_iff s w.0).1 w.1),
+    );
   }
 
   -- each wanted set is covered by one of them
   pub covering_of : {X : Type 0} (items : List X) (lists : List (List X)) (sets : List (List ℕ)) → IsListing (size_of r) (IsListed (choice_of r)) sets → lists ≡ map (chosen items) sets
       → (s : List ℕ) → IsSelection (size_of r) s → IsWanted (choice_of r) s → (t : List ℕ) × Covers (choice_of r) s t × Contains lists (chosen items t)
   covering_of items lists sets l e s sel w =
-      let t = covered (choice_of r) (λ s sel. tell (choice_of r) (rows_of r.tables.spares.items) h.spared s sel) s (up s sel) w in
-      (t.0, t.1, subst (λ ls. Contains ls (chosen items t.0)) (sym e)
-        (Contains-map (chosen items) sets t.0 ((l.exact t.0).1 (down t.0 t.1.selection, t.1.listed))))
+      let t = covered (choice_of r) (λ s sel. tell (choice_of r) (rows_of r.tables.spares.items) h.spared s sel) s (up s sel) w in (
+        t.0,
+        t.1,
+        subst (λ ls. Contains ls (chosen items t.0)) (sym e)
+            (Contains-map (chosen items) sets t.0 ((l.exact t.0).1 (down t.0 t.1.selection, t.1.listed))),
+      )
 
 pub wanted_iff : (c : Choice) (spares : List (List Bool)) (hits : List (List ℕ)) (serves : List (List Bool)) → AreTables c spares hits serves
     → (s : List ℕ) → IsSelection (length c.candidates) s → (wanted_test c.depth hits serves s ≡ true) ↔ IsWanted c s
-wanted_iff c spares hits serves h s sel =
-    (λ t.
+wanted_iff c spares hits serves h s sel = (
+  λ t.
       let w = and_parts (not (length s == 0)) _ t in
       let v = and_parts (keeps_depth c.depth s) _ w.1 in
       let u = and_parts (is_exclusive hits s) (is_required serves s) v.1 in
       record { nonempty = not_empty s w.0; within = (depth_iff c.depth s).0 v.0; exclusive = (h.exclusive s sel).0 u.0; required = (h.required s sel).0 u.1 },
-     λ w. and_from (not (length s == 0)) _ (is_not_empty s w.nonempty)
+  λ w. and_from (not (length s == 0)) _ (is_not_empty s w.nonempty)
       (and_from (keeps_depth c.depth s) _ ((depth_iff c.depth s).1 w.within)
-        (and_from (is_exclusive hits s) (is_required serves s) ((h.exclusive s sel).1 w.exclusive) ((h.required s sel).1 w.required))))
+      (and_from (is_exclusive hits s) (is_required serves s) ((h.exclusive s sel).1 w.exclusive) ((h.required s sel).1 w.required))),
+)
 
 -- the list without a test's truth
 pub false_from : {P : Type 0} (b : Bool) → (b ≡ true) ↔ P → b ≡ false → ¬ P
@@ -88,7 +94,9 @@ module _ (c : Choice) (h : AreSingle c) where
   pub one_each : (s t : List ℕ) → IsSelection (length c.candidates) s → IsSelection (length c.candidates) t → IsListed c s → IsListed c t → EnableTheSame c s t → s ≡ t
   one_each s t hs ht ls lt same =
       elim (ordered (length c.candidates) s t hs ht) [
-      | inl b ↦ absurd (b.absent (single_inside c h t s ht hs lt.permitted.lean (λ y. ((same y).1, (same y).0)) b.greatest b.present))
-      | inr w ↦ elim w [
-        | inl e ↦ e
-        | inr b ↦ absurd (b.absent (single_inside c h s t hs ht ls.permitted.lean same b.greatest b.present)) ] ]
+        | inl b ↦ absurd (b.absent (single_inside c h t s ht hs lt.permitted.lean (λ y. ((same y).1, (same y).0)) b.greatest b.present))
+        | inr w ↦ elim w [
+          | inl e ↦ e
+          | inr b ↦ absurd (b.absent (single_inside c h s t hs ht ls.permitted.lean same b.greatest b.present))
+        ]
+      ]

@@ -1,14 +1,14 @@
-use Rattle.std.proofs.Common.{◌≡◌, ◌≢◌, ℕ, zero, suc, ◌+◌, ◌<◌, ◌≤◌, List, [], ◌∷◌, ◌++◌, length, get_or, refl, sym, ◌∙◌, ap, subst, arith, Option, None, Some, Bool, true, false, cond, ◌⊎◌, inl, inr, ◌↔◌, All, Contains, IsTrue, is_some, unwrap_or}
+use Rattle.std.proofs.Common.{◌≡◌, ◌≢◌, ℕ, ◌<◌, List, [], ◌∷◌, length, get_or, refl, sym, subst, arith, Option, None, Some, true, inl, inr, ◌↔◌, All, Contains, is_some, unwrap_or}
 use Rattle.std.specs.Map.{lookup}
 use Rattle.std.specs.Str.{bytes_eq}
 use Rattle.std.proofs.lemmas.Bool.Decides.{eqb_tells}
-use Rattle.std.proofs.lemmas.List.Elements.{All-contains, All-cons, All-nil, Contains-append_cases, Contains-append_left, Contains-append_right}
+use Rattle.std.proofs.lemmas.List.Elements.{All-contains, All-cons, All-nil, Contains-append_cases}
 use Rattle.hack_features.proofs.Members.{Contains-nil, Contains-cons_cases, Contains-head, Contains-tail}
 use Rattle.hack_features.proofs.Coverage.{Chain-append, named_in}
 use Rattle.hack_features.specs.Names.{Name}
-use Rattle.hack_features.specs.FeatureMap.{FeatureMap, values_at, IsKey, HasEdge, Chain, here, step, Enables}
-use Rattle.hack_features.specs.Sets.{IsSelection, IsBefore}
-use Rattle.hack_features.specs.Rules.{Choice, names_at, names_in, IsEnabledBy, Spares, IsRedundant, AreSingle}
+use Rattle.hack_features.specs.FeatureMap.{FeatureMap, IsKey, here, step, Enables}
+use Rattle.hack_features.specs.Sets.{IsSelection}
+use Rattle.hack_features.specs.Rules.{Choice, names_at, names_in, IsEnabledBy, IsRedundant, AreSingle}
 
 -- a name of the set is a name of a member
 pub member_of : (c : Choice) (s : List ℕ) (x : Name) → Contains (names_in c s) x → (p : ℕ) × Contains s p × Contains (names_at c p) x
@@ -50,7 +50,8 @@ named_from c h = record {
   apart = λ p q pl ql there back. elim (eqb_tells p q) [
     | inl e ↦ e.1
     | inr n ↦ absurd ((h.apart p q pl ql n.1 (get_or (names_at c p) 0 []) (get_or (names_at c q) 0 [])
-        (first_name (names_at c p) (h.one p pl)) (first_name (names_at c q) (h.one q ql))).1 there back) ];
+        (first_name (names_at c p) (h.one p pl)) (first_name (names_at c q) (h.one q ql))).1 there back)
+  ];
 }
 
 module _ (c : Choice) (h : Named c) (s t : List ℕ) (hs : IsSelection (length c.candidates) s) (ht : IsSelection (length c.candidates) t)

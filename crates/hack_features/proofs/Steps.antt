@@ -1,11 +1,11 @@
 -- Steps of loops over lists, and over lists seen through a function.
-use Rattle.std.proofs.Common.{◌≡◌, ℕ, zero, suc, ◌+◌, ◌<◌, ◌≤◌, arith, List, [], ◌∷◌, ◌++◌, length, get_or, take, map, refl, sym, ◌∙◌, ap, subst, Bool, true, false, cond, Contains, Option, Some, None}
+use Rattle.std.proofs.Common.{◌≡◌, ℕ, zero, suc, ◌+◌, ◌<◌, ◌≤◌, arith, List, [], ◌∷◌, ◌++◌, length, get_or, take, map, refl, sym, ◌∙◌, ap, subst, Bool, true, false, Contains, Option, Some, None}
 use Rattle.std.specs.Prelude.{◌&&◌, ◌||◌, not, Vec}
 use Rattle.std.specs.List.{list_all, list_any, filter_map, cons_option}
 use Rattle.std.proofs.lemmas.Bool.{and_from, or_from}
 use Rattle.std.proofs.lemmas.List.{take_more, get_or-map, length-map}
 use Rattle.std.proofs.lemmas.List.Folds.{list_all-append}
-use Rattle.std.proofs.Common.{◌⊎◌, inl, inr}
+use Rattle.std.proofs.Common.{inl, inr}
 use Rattle.std.proofs.Math.ListN.{get_or-append}
 use Rattle.std.proofs.Math.Seq.{get_or-append_seam}
 use Rattle.std.specs.Borrow.{Bor}
@@ -13,8 +13,7 @@ use Rattle.hack_features.specs.declared.feature.Feature.{Feature}
 use Rattle.hack_features.specs.Feature.{group_of, candidates_of}
 use Rattle.hack_features.proofs.Members.{Contains-map, lt_or_same}
 use Rattle.hack_features.proofs.Passes.{each_passes, any_passes}
-use Rattle.hack_features.specs.Sets.{rows_of}
-use Rattle.hack_features.specs.Tables.{cell, bit}
+use Rattle.hack_features.specs.Tables.{cell}
 
 -- what a loop has seen after one more element, seen through a function
 pub seen-next : {X Y : Type 0} (f : X → Y) (xs : List X) (k : ℕ) (x : X) → k < length xs → x ≡ get_or xs k x → take (k + 1) (map f xs) ≡ take k (map f xs) ++ f x ∷ []
@@ -86,9 +85,10 @@ past_end (row ∷ rows) (suc p) q h = past_end rows p q (omega arith)
 pub row-pushed : {A : Type 0} (P : ℕ → A → Type 0) (row : List A) (n : ℕ) (a d : A) → length row ≡ n → ((q : ℕ) → q < n → P q (get_or row q d)) → P n a → (q : ℕ) → q < n + 1 → P q (get_or (row ++ a ∷ []) q d)
 row-pushed P row n a d len h new q lt =
     elim (lt_or_same q n lt) [
-    | inl w ↦ subst (P q) (sym (get_or-append row (a ∷ []) d q (omega arith))) (h q w)
-    | inr e ↦ subst (λ m. P m (get_or (row ++ a ∷ []) m d)) (sym e)
-      (subst (P n) (sym (ap (λ m. get_or (row ++ a ∷ []) m d) (sym len) ∙ get_or-append_seam row a [] d)) new) ]
+      | inl w ↦ subst (P q) (sym (get_or-append row (a ∷ []) d q (omega arith))) (h q w)
+      | inr e ↦ subst (λ m. P m (get_or (row ++ a ∷ []) m d)) (sym e)
+          (subst (P n) (sym (ap (λ m. get_or (row ++ a ∷ []) m d) (sym len) ∙ get_or-append_seam row a [] d)) new)
+    ]
 
 -- the names of the candidate behind a reference
 pub candidate_at : (features : List (Bor Feature)) (k : ℕ) (feature : Bor Feature) → k < length features → feature ≡ get_or features k feature → get_or (candidates_of features) k [] ≡ group_of feature.now

@@ -12,7 +12,7 @@ use Rattle.hack_features.proofs.Passes.{all_pass, each_passes, some_passes, any_
 use Rattle.hack_features.proofs.Coverage.{named_in}
 use Rattle.hack_features.proofs.Single.{member_of}
 use Rattle.hack_features.specs.Names.{Name}
-use Rattle.hack_features.specs.FeatureMap.{FeatureMap, IsKey, Enables, Reaches, EnablesOneOf}
+use Rattle.hack_features.specs.FeatureMap.{FeatureMap, Enables, Reaches, EnablesOneOf}
 use Rattle.hack_features.specs.Deps.{NameSet, has_name, get_at, IsDepsOf, AreDepsOf, AreServers, IsDropped, ServeGroups, none, dropped, kept}
 use Rattle.hack_features.specs.Sets.{IsSelection, Pairwise}
 use Rattle.hack_features.specs.Rules.{Choice, unlifted, names_at, names_in, SparesNames, Spares, IsRedundant, NotBothReach, IsExclusive, Serves, IsRequired}
@@ -26,8 +26,9 @@ filter_map_from-go : {A B : Type 0} (f : A → Option B) (x : A) (xs : List A) (
 filter_map_from-go f x xs y None e c again = let r = again c in (r.0, Contains-tail x xs r.0 r.1, r.2)
 filter_map_from-go f x xs y (Some v) e c again =
     elim (Contains-cons_cases v (filter_map f xs) y c) [
-    | inl s ↦ (x, Contains-head x xs, e ∙ ap Some s)
-    | inr w ↦ let r = again w in (r.0, Contains-tail x xs r.0 r.1, r.2) ]
+      | inl s ↦ (x, Contains-head x xs, e ∙ ap Some s)
+      | inr w ↦ let r = again w in (r.0, Contains-tail x xs r.0 r.1, r.2)
+    ]
 
 filter_map_from : {A B : Type 0} (f : A → Option B) (xs : List A) (y : B) → Contains (filter_map f xs) y → (x : A) × Contains xs x × (f x ≡ Some y)
 filter_map_from f [] y c = absurd (Contains-nil y c)
@@ -41,16 +42,17 @@ filter_map_has : {A B : Type 0} (f : A → Option B) (xs : List A) (x : A) (y : 
 filter_map_has f [] x y c e = absurd (Contains-nil x c)
 filter_map_has f (z ∷ xs) x y c e =
     elim (Contains-cons_cases z xs x c) [
-    | inl s ↦ subst (λ o. Contains (cons_option o (filter_map f xs)) y) (sym (ap f s ∙ e)) (Contains-head y (filter_map f xs))
-    | inr w ↦ filter_map_has-go (f z) (filter_map f xs) y (filter_map_has f xs x y w e) ]
+      | inl s ↦ subst (λ o. Contains (cons_option o (filter_map f xs)) y) (sym (ap f s ∙ e)) (Contains-head y (filter_map f xs))
+      | inr w ↦ filter_map_has-go (f z) (filter_map f xs) y (filter_map_has f xs x y w e)
+    ]
 
 some_of : {A : Type 0} (o : Option A) → is_some o ≡ true → (a : A) × (o ≡ Some a)
 some_of None e = absurd (cc)
 some_of (Some a) e = (a, refl)
 
 pub spares_iff : (m : FeatureMap) (deps : BTreeMap (Bor Name) NameSet) → AreDepsOf m deps → (names others : List Name) → IsTrue (spares_test deps names others) ↔ SparesNames m names others
-spares_iff m deps h names others =
-    (λ t.
+spares_iff m deps h names others = (
+  λ t.
       let found = some_passes (λ set. list_all (has_name set) others) (filter_map (get_at deps) names) t in
       let at = filter_map_from (get_at deps) names found.0 found.1 in
       let are : IsDepsOf m at.0 found.0 = subst (λ o. IfSome o (IsDepsOf m at.0)) at.2 (h.each at.0) in
@@ -60,32 +62,36 @@ spares_iff m deps h names others =
         key = (h.keys at.0).0 (ap is_some at.2);
         enabled = λ k d lt. (are (get_or others k d)).0 (each_passes (has_name found.0) others found.2 (get_or others k d) (Contains-get_or others k d lt));
       },
-     λ s.
+  λ s.
       let set = some_of (get_at deps s.by) ((h.keys s.by).1 s.key) in
       let are : IsDepsOf m s.by set.0 = subst (λ o. IfSome o (IsDepsOf m s.by)) set.1 (h.each s.by) in
       any_passes (λ set. list_all (has_name set) others) (filter_map (get_at deps) names) set.0 (filter_map_has (get_at deps) names s.by set.0 s.named set.1)
-        (all_pass (has_name set.0) others (λ y c. (are y).1 (All-contains (λ y. (y ≢ s.by) × Enables m s.by y) others y s.enabled c))))
+      (all_pass (has_name set.0) others (λ y c. (are y).1 (All-contains (λ y. (y ≢ s.by) × Enables m s.by y) others y s.enabled c))),
+)
 
 -- counts
 
 Pairwise-push : {X : Type 0} (R : X → X → Type 0) (xs : List X) (x : X) → Pairwise R xs → All (λ y. R y x) xs → Pairwise R (xs ++ x ∷ [])
 Pairwise-push R [] x h a = (All-nil (R x), tt)
-Pairwise-push R (y ∷ xs) x h a =
-    (All-append (R y) xs (x ∷ []) h.0 (All-cons (R y) x [] (All-head (λ y. R y x) y xs a) (All-nil (R y))),
-     Pairwise-push R xs x h.1 (All-tail (λ y. R y x) y xs a))
+Pairwise-push R (y ∷ xs) x h a = (
+  All-append (R y) xs (x ∷ []) h.0 (All-cons (R y) x [] (All-head (λ y. R y x) y xs a) (All-nil (R y))),
+  Pairwise-push R xs x h.1 (All-tail (λ y. R y x) y xs a),
+)
 
 Pairwise-front : {X : Type 0} (R : X → X → Type 0) (xs : List X) (x : X) → Pairwise R (xs ++ x ∷ []) → Pairwise R xs
 Pairwise-front R [] x h = tt
-Pairwise-front R (y ∷ xs) x h =
-    (λ k d lt. All-contains (R y) (xs ++ x ∷ []) (get_or xs k d) h.0 (Contains-append_left xs (x ∷ []) (get_or xs k d) (Contains-get_or xs k d lt)),
-     Pairwise-front R xs x h.1)
+Pairwise-front R (y ∷ xs) x h = (
+  λ k d lt. All-contains (R y) (xs ++ x ∷ []) (get_or xs k d) h.0 (Contains-append_left xs (x ∷ []) (get_or xs k d) (Contains-get_or xs k d lt)),
+  Pairwise-front R xs x h.1,
+)
 
 Pairwise-last : {X : Type 0} (R : X → X → Type 0) (xs : List X) (x y : X) → Pairwise R (xs ++ x ∷ []) → Contains xs y → R y x
 Pairwise-last R [] x y h c = absurd (Contains-nil y c)
 Pairwise-last R (z ∷ xs) x y h c =
     elim (Contains-cons_cases z xs y c) [
-    | inl e ↦ subst (λ u. R u x) e (All-contains (R z) (xs ++ x ∷ []) x h.0 (Contains-push xs x))
-    | inr w ↦ Pairwise-last R xs x y h.1 w ]
+      | inl e ↦ subst (λ u. R u x) e (All-contains (R z) (xs ++ x ∷ []) x h.0 (Contains-push xs x))
+      | inr w ↦ Pairwise-last R xs x y h.1 w
+    ]
 
 counts_none : {X : Type 0} {P : X → Type 0} {xs : List X} {n : ℕ} → Counts P xs n → n ≡ 0 → (x : X) → Contains xs x → P x → ⊥
 counts_none table.none e x c p = Contains-nil x c
@@ -118,7 +124,7 @@ counts-append : {X : Type 0} {P : X → Type 0} (xs : List X) (m : ℕ) {ys : Li
 counts-append {X} {P} xs m h table.none = subst (λ n. Counts P (xs ++ []) n) (let e : m ≡ m + 0 = omega arith in e) (subst (λ l. Counts P l m) (sym (append-nil xs)) h)
 counts-append {X} {P} xs m h (table.one_more {xs = ys} {x} {n} c q) =
     subst (λ k. Counts P (xs ++ (ys ++ x ∷ [])) k) (let e : (m + n) + 1 ≡ m + (n + 1) = omega arith in e)
-      (subst (λ l. Counts P l ((m + n) + 1)) (append_assoc xs ys (x ∷ [])) (table.one_more (counts-append xs m h c) q))
+    (subst (λ l. Counts P l ((m + n) + 1)) (append_assoc xs ys (x ∷ [])) (table.one_more (counts-append xs m h c) q))
 counts-append {X} {P} xs m h (table.no_more {xs = ys} {x} {n} c q) =
     subst (λ l. Counts P l (m + n)) (append_assoc xs ys (x ∷ [])) (table.no_more (counts-append xs m h c) q)
 
@@ -126,7 +132,7 @@ counts-members : (P : Name → Type 0) (names : ℕ → List Name) (count : ℕ 
 counts-members P names count n h [] low = table.none
 counts-members P names count n h (p ∷ s) low =
     subst (λ k. Counts P (names p ++ flat_map names s) k) (sym (sum_by-cons count p s))
-      (counts-append (names p) (count p) (h p (All-head (λ p. p < n) p s low)) (counts-members P names count n h s (All-tail (λ p. p < n) p s low)))
+    (counts-append (names p) (count p) (h p (All-head (λ p. p < n) p s low)) (counts-members P names count n h s (All-tail (λ p. p < n) p s low)))
 
 -- matched lists
 
@@ -134,15 +140,17 @@ matched_left : {X Y : Type 0} {R : X → Y → Type 0} {xs : List X} {ys : List 
 matched_left table.nothing x c = absurd (Contains-nil x c)
 matched_left {R} (table.next {xs} {ys} {x} {y} h r) z c =
     elim (Contains-push_cases xs x z c) [
-    | inl w ↦ let v = matched_left h z w in (v.0, Contains-append_left ys (y ∷ []) v.0 v.1, v.2)
-    | inr e ↦ (y, Contains-push ys y, subst (λ u. R u y) e r) ]
+      | inl w ↦ let v = matched_left h z w in (v.0, Contains-append_left ys (y ∷ []) v.0 v.1, v.2)
+      | inr e ↦ (y, Contains-push ys y, subst (λ u. R u y) e r)
+    ]
 
 matched_right : {X Y : Type 0} {R : X → Y → Type 0} {xs : List X} {ys : List Y} → Matched R xs ys → (y : Y) → Contains ys y → (x : X) × Contains xs x × R x y
 matched_right table.nothing y c = absurd (Contains-nil y c)
 matched_right {R} (table.next {xs} {ys} {x} {y} h r) z c =
     elim (Contains-push_cases ys y z c) [
-    | inl w ↦ let v = matched_right h z w in (v.0, Contains-append_left xs (x ∷ []) v.0 v.1, v.2)
-    | inr e ↦ (x, Contains-push xs x, subst (λ u. R x u) e r) ]
+      | inl w ↦ let v = matched_right h z w in (v.0, Contains-append_left xs (x ∷ []) v.0 v.1, v.2)
+      | inr e ↦ (x, Contains-push xs x, subst (λ u. R x u) e r)
+    ]
 
 -- exclusion
 
@@ -155,17 +163,19 @@ few_or_many (suc (suc n)) false e = inr (omega arith)
 pub exclusive_iff : (c : Choice) (rows : List (List ℕ)) → Matched (CountsHits c.map c.candidates) c.exclusive rows → (s : List ℕ) → IsSelection (length c.candidates) s → IsTrue (is_exclusive rows s) ↔ IsExclusive c s
 exclusive_iff c rows h s sel =
     let counted : (group : List Name) (row : List ℕ) → CountsHits c.map c.candidates group row → Counts (Reaches c.map group) (names_in c s) (sum_by (count_at row) s) =
-      λ group row hits. counts-members (Reaches c.map group) (names_at c) (count_at row) (length c.candidates) hits s sel.below in
-    (λ t k d lt.
-      let group = get_or c.exclusive k d in
-      let row = matched_left h group (Contains-get_or c.exclusive k d lt) in
-      counts_few (counted group row.0 row.2) (leb-true (sum_by (count_at row.0) s) 1 (each_passes (λ row. nat_le (sum_by (count_at row) s) 1) rows t row.0 row.1)),
-     λ e. all_pass (λ row. nat_le (sum_by (count_at row) s) 1) rows (λ row in'.
-      let group = matched_right h row in' in
-      elim (few_or_many (sum_by (count_at row) s) (nat_le (sum_by (count_at row) s) 1) refl) [
-      | inl le ↦ le-leb (sum_by (count_at row) s) 1 le
-      | inr many ↦ absurd (counts_many (counted group.0 row group.2) many
-        (All-contains (λ g. Pairwise (NotBothReach c.map g) (names_in c s)) c.exclusive group.0 e group.1)) ]))
+    λ group row hits. counts-members (Reaches c.map group) (names_at c) (count_at row) (length c.candidates) hits s sel.below in (
+      λ t k d lt.
+          let group = get_or c.exclusive k d in
+          let row = matched_left h group (Contains-get_or c.exclusive k d lt) in
+          counts_few (counted group row.0 row.2) (leb-true (sum_by (count_at row.0) s) 1 (each_passes (λ row. nat_le (sum_by (count_at row) s) 1) rows t row.0 row.1)),
+      λ e. all_pass (λ row. nat_le (sum_by (count_at row) s) 1) rows (λ row in'.
+          let group = matched_right h row in' in
+          elim (few_or_many (sum_by (count_at row) s) (nat_le (sum_by (count_at row) s) 1) refl) [
+            | inl le ↦ le-leb (sum_by (count_at row) s) 1 le
+            | inr many ↦ absurd (counts_many (counted group.0 row group.2) many
+                (All-contains (λ g. Pairwise (NotBothReach c.map g) (names_in c s)) c.exclusive group.0 e group.1))
+          ]),
+    )
 
 -- at-least-one groups
 
@@ -175,8 +185,9 @@ serve_left {m} (dropped {group} {groups} {sets} h d) g c =
     elim (Contains-push_cases groups group g c) [ inl w ↦ serve_left h g w | inr e ↦ inl (subst (IsDropped m) e d) ]
 serve_left {m} (kept {group} {groups} {sets} {server} set h can are) g c =
     elim (Contains-push_cases groups group g c) [
-    | inl w ↦ elim (serve_left h g w) [ inl d ↦ inl d | inr v ↦ inr (v.0, Contains-append_left sets (set ∷ []) v.0 v.1, v.2) ]
-    | inr e ↦ inr (set, Contains-push sets set, subst (λ u. AreServers m u set) e are) ]
+      | inl w ↦ elim (serve_left h g w) [ inl d ↦ inl d | inr v ↦ inr (v.0, Contains-append_left sets (set ∷ []) v.0 v.1, v.2) ]
+      | inr e ↦ inr (set, Contains-push sets set, subst (λ u. AreServers m u set) e are)
+    ]
 
 serve_right : {m : FeatureMap} {groups : List (List Name)} {sets : List NameSet} → ServeGroups m groups sets → (set : NameSet) → Contains sets set
     → (group : List Name) × Contains groups group × AreServers m group set × ((server : Name) × EnablesOneOf m group server)
@@ -184,30 +195,33 @@ serve_right none set c = absurd (Contains-nil set c)
 serve_right (dropped {group} {groups} {sets} h d) set c = let r = serve_right h set c in (r.0, Contains-append_left groups (group ∷ []) r.0 r.1, r.2, r.3)
 serve_right {m} (kept {group} {groups} {sets} {server} set h can are) other c =
     elim (Contains-push_cases sets set other c) [
-    | inl w ↦ let r = serve_right h other w in (r.0, Contains-append_left groups (group ∷ []) r.0 r.1, r.2, r.3)
-    | inr e ↦ (group, Contains-push groups group, subst (AreServers m group) e are, (server, can)) ]
+      | inl w ↦ let r = serve_right h other w in (r.0, Contains-append_left groups (group ∷ []) r.0 r.1, r.2, r.3)
+      | inr e ↦ (group, Contains-push groups group, subst (AreServers m group) e are, (server, can))
+    ]
 
 pub required_iff : (c : Choice) (sets : List NameSet) (rows : List (List Bool)) → ServeGroups c.map c.at_least_one_of sets → Matched (SaysServes c.candidates) sets rows
     → (s : List ℕ) → IsSelection (length c.candidates) s → IsTrue (is_required rows s) ↔ IsRequired c s
-required_iff c sets rows serve says s sel =
-    (λ t k d lt key can.
+required_iff c sets rows serve says s sel = (
+  λ t k d lt key can.
       let group = get_or c.at_least_one_of k d in
       elim (serve_left serve group (Contains-get_or c.at_least_one_of k d lt)) [
-      | inl gone ↦ absurd (gone key can)
-      | inr set ↦
-        let row = matched_left says set.0 set.1 in
-        let member = some_passes (bit row.0) s (each_passes (λ row. list_any (bit row) s) rows t row.0 row.1) in
-        let low = All-contains (λ p. p < length c.candidates) s member.0 sel.below member.1 in
-        let name = some_passes (has_name set.0) (names_at c member.0) (sym (row.2 member.0 low) ∙ member.2) in
-        record { name = name.0; named = named_in c s member.0 name.0 member.1 name.1; enables = (set.2 name.0).0 name.2 } ],
-     λ r. all_pass (λ row. list_any (bit row) s) rows (λ row in'.
+        | inl gone ↦ absurd (gone key can)
+        | inr set ↦
+            let row = matched_left says set.0 set.1 in
+            let member = some_passes (bit row.0) s (each_passes (λ row. list_any (bit row) s) rows t row.0 row.1) in
+            let low = All-contains (λ p. p < length c.candidates) s member.0 sel.below member.1 in
+            let name = some_passes (has_name set.0) (names_at c member.0) (sym (row.2 member.0 low) ∙ member.2) in
+            record { name = name.0; named = named_in c s member.0 name.0 member.1 name.1; enables = (set.2 name.0).0 name.2 }
+      ],
+  λ r. all_pass (λ row. list_any (bit row) s) rows (λ row in'.
       let set = matched_right says row in' in
       let group = serve_right serve set.0 set.1 in
       let serves : Serves c group.0 s = All-contains (λ group. (key : Name) → EnablesOneOf c.map group key → Serves c group s) c.at_least_one_of group.0 r group.1 group.3.0 group.3.1 in
       let member = member_of c s serves.name serves.named in
       let low = All-contains (λ p. p < length c.candidates) s member.0 sel.below member.1 in
       any_passes (bit row) s member.0 member.1
-        (set.2 member.0 low ∙ any_passes (has_name set.0) (names_at c member.0) serves.name member.2 ((group.2 serves.name).1 serves.enables))))
+      (set.2 member.0 low ∙ any_passes (has_name set.0) (names_at c member.0) serves.name member.2 ((group.2 serves.name).1 serves.enables))),
+)
 
 -- lifted groups
 
@@ -233,8 +247,9 @@ some_fails : {X : Type 0} (p : X → Bool) (xs : List X) → list_all p xs ≡ f
 some_fails p [] e = absurd (let t : true ≡ false = e in cc)
 some_fails p (x ∷ xs) e =
     elim (and_cases (p x) (list_all p xs) e) [
-    | inl w ↦ (x, Contains-head x xs, w)
-    | inr w ↦ let r = some_fails p xs w in (r.0, Contains-tail x xs r.0 r.1, r.2) ]
+      | inl w ↦ (x, Contains-head x xs, w)
+      | inr w ↦ let r = some_fails p xs w in (r.0, Contains-tail x xs r.0 r.1, r.2)
+    ]
 
 not_false : (b : Bool) → not b ≡ false → b ≡ true
 not_false true e = refl

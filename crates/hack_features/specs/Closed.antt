@@ -1,5 +1,5 @@
 -- What the tables permit stays permitted after a position is taken out.
-use Rattle.std.specs.Prelude.{◌≡◌, ◌<◌, ◌≤◌, ◌+◌, ℕ, suc, List, [], length, Bool, true, not, IsTrue, Option, None, Some, All, refl, nat_le, sum_by, ◌&&◌}
+use Rattle.std.specs.Prelude.{◌≡◌, ◌<◌, ◌≤◌, ℕ, suc, List, [], length, Bool, true, not, IsTrue, Option, None, Some, All, refl, nat_le, sum_by}
 use Rattle.std.specs.List.{remove, list_all}
 use Rattle.std.proofs.Common.{arith, take, drop, add-one}
 use Rattle.std.proofs.lemmas.Bool.{leb-true, le-leb, and_parts, and_from}
@@ -33,9 +33,9 @@ is_exclusive-empty rows = list_all-from_AllPass (λ row. nat_le (sum_by (count_a
 is_exclusive-remove : (rows : List (List ℕ)) (s : List ℕ) (i : ℕ) → i < length s → is_exclusive rows s ≡ true → is_exclusive rows (remove s i) ≡ true
 is_exclusive-remove rows s i at h =
     list_all-from_AllPass (λ row. nat_le (sum_by (count_at row) (remove s i)) 1) rows
-      (All-weaker (λ row. nat_le (sum_by (count_at row) s) 1 ≡ true) (λ row. nat_le (sum_by (count_at row) (remove s i)) 1 ≡ true)
-        (λ row e. le-leb (sum_by (count_at row) (remove s i)) 1 (omega (arith, sum_by-remove (count_at row) s i at, leb-true (sum_by (count_at row) s) 1 e))) rows
-        (AllPass-from_list_all (λ row. nat_le (sum_by (count_at row) s) 1) rows h))
+    (All-weaker (λ row. nat_le (sum_by (count_at row) s) 1 ≡ true) (λ row. nat_le (sum_by (count_at row) (remove s i)) 1 ≡ true)
+    (λ row e. le-leb (sum_by (count_at row) (remove s i)) 1 (omega (arith, sum_by-remove (count_at row) s i at, leb-true (sum_by (count_at row) s) 1 e))) rows
+    (AllPass-from_list_all (λ row. nat_le (sum_by (count_at row) s) 1) rows h))
 
 all-remove : (p : ℕ → Bool) (s : List ℕ) (i : ℕ) → list_all p s ≡ true → list_all p (remove s i) ≡ true
 all-remove p s i h = list_all-from_AllPass p (remove s i) (All-remove (λ x. p x ≡ true) s i (AllPass-from_list_all p s h))
@@ -43,9 +43,9 @@ all-remove p s i h = list_all-from_AllPass p (remove s i) (All-remove (λ x. p x
 is_lean-remove : (rows : List (List Bool)) (s : List ℕ) (i : ℕ) → is_lean rows s ≡ true → is_lean rows (remove s i) ≡ true
 is_lean-remove rows s i h =
     all-remove (λ p. list_all (λ q. not (cell rows p q)) (remove s i)) s i
-      (list_all-from_AllPass (λ p. list_all (λ q. not (cell rows p q)) (remove s i)) s
-        (All-weaker (λ p. list_all (λ q. not (cell rows p q)) s ≡ true) (λ p. list_all (λ q. not (cell rows p q)) (remove s i) ≡ true)
-          (λ p e. all-remove (λ q. not (cell rows p q)) s i e) s (AllPass-from_list_all (λ p. list_all (λ q. not (cell rows p q)) s) s h)))
+    (list_all-from_AllPass (λ p. list_all (λ q. not (cell rows p q)) (remove s i)) s
+    (All-weaker (λ p. list_all (λ q. not (cell rows p q)) s ≡ true) (λ p. list_all (λ q. not (cell rows p q)) (remove s i) ≡ true)
+    (λ p e. all-remove (λ q. not (cell rows p q)) s i e) s (AllPass-from_list_all (λ p. list_all (λ q. not (cell rows p q)) s) s h)))
 
 pub may_of-empty : (r : Rules) → may_of r [] ≡ true
 may_of-empty r =

@@ -1,5 +1,5 @@
 -- What a set without one of its members still enables, told from a table of what each key enables.
-use Rattle.std.specs.Prelude.{ℕ, List, [], Bool, true, false, Option, None, Some, length, not, ◌||◌, ◌&&◌, ◌==◌}
+use Rattle.std.specs.Prelude.{ℕ, List, [], Bool, false, Option, None, Some, length, not, ◌||◌, ◌&&◌, ◌==◌}
 use Rattle.std.specs.List.{list_all, list_any, slice_index_or}
 use Rattle.std.specs.Str.{bytes_eq}
 use Rattle.std.specs.BTreeMap.{BTreeMap}

@@ -1,5 +1,5 @@
 -- Which sets of features a package's powerset lists. A set is an increasing list of positions in the list of candidates.
-use Rattle.std.specs.Prelude.{◌≡◌, ◌≢◌, ◌<◌, ◌≤◌, ℕ, List, [], ◌∷◌, flat_map, length, Option, All, Contains, ◌↔◌, ◌⊎◌, Bool, not, cond}
+use Rattle.std.specs.Prelude.{◌≡◌, ◌≢◌, ◌<◌, ℕ, List, [], ◌∷◌, flat_map, length, Option, All, Contains, ◌↔◌, ◌⊎◌, Bool, cond}
 use Rattle.std.specs.List.{slice_index_or}
 use Rattle.hack_features.specs.Names.{Name}
 use Rattle.hack_features.specs.FeatureMap.{FeatureMap, IsKey, Enables, Reaches, EnablesOneOf}

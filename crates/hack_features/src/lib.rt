@@ -17,7 +17,7 @@ mod tables;
 pub use deps::{at_least_one_of_for_package, feature_deps};
 pub use feature::Feature;
 pub use outcome::Pruned;
-pub use questions::{Questions, pruned};
 pub use powersets::feature_powerset;
+pub use questions::{Questions, pruned};
 pub use rules::Rules;
 pub use sets::{compare_sets, powerset};

@@ -5,13 +5,12 @@ ghost use Rattle.hack_features.specs.Sets.{IsSelection, ListsSelections, rows_of
 ghost use Rattle.hack_features.specs.Rules.{IsListed, IsWanted, Covers, AreSingle, EnableTheSame};
 ghost use Rattle.hack_features.specs.View.{choice};
 
-use std::alloc::{AllocError, Global};
-use std::collections::BTreeMap;
-
 use crate::feature::Feature;
 use crate::questions::pruned;
 use crate::rules::Rules;
 use crate::tables::Given;
+use std::alloc::{AllocError, Global};
+use std::collections::BTreeMap;
 
 /// The candidates at the positions.
 fn chosen<'a>(
@@ -47,12 +46,12 @@ pub fn feature_powerset<'a>(
     // For each set that has to be covered there is a listed one inside it that enables the same names.
     ensures coverage { let c = choice features.now depth at_least_one_of.now mutually_exclusive_features.now map.now lifted.now in
         IfOk result (λ lists. (s : List ℕ) → IsSelection (length features.now) s → IsWanted c s
-          → (t : List ℕ) × Covers c s t × Contains (rows_of lists.items) (chosen_items features.now t)) }
+        → (t : List ℕ) × Covers c s t × Contains (rows_of lists.items) (chosen_items features.now t)) }
 
     // Where names stand alone, different listed sets enable different names.
     ensures one_each { let c = choice features.now depth at_least_one_of.now mutually_exclusive_features.now map.now lifted.now in
         IfOk result (λ _. AreSingle c → (s t : List ℕ) → IsSelection (length features.now) s → IsSelection (length features.now) t
-          → IsListed c s → IsListed c t → EnableTheSame c s t → s ≡ t) }
+        → IsListed c s → IsListed c t → EnableTheSame c s t → s ≡ t) }
 {
     let given = Given {
         features,

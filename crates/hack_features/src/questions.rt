@@ -133,7 +133,7 @@ fn complete_ones<Q: Questions>(
     requires { All (IsSelection (Q.size questions.now)) (rows_of sets.items) }
     ensures { IfOk result (λ complete. rows_of complete.items ≡ filter (is_whole (Q.whole questions.now)) (rows_of sets.items)) }
 {
-    let mut complete = Vec::new(alloc);
+    let mut complete = Vec::with_capacity(alloc, sets.len())?;
     for set in sets {
         add_complete(questions, set, &mut complete)?;
     }

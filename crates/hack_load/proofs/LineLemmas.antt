@@ -1,5 +1,5 @@
 -- Lines that begin with a name.
-use Rattle.std.proofs.Common.{◌≡◌, ℕ, ◌+◌, ◌<◌, ◌≤◌, List, [], ◌∷◌, ◌++◌, length, drop, get_or, arith, refl, ap, sym, ◌∙◌, subst, Option, Some, None, MatchOption, Bool, true, false, cond, eqb, option_copied, is_some, IsCharBoundary, Bor}
+use Rattle.std.proofs.Common.{◌≡◌, ℕ, ◌+◌, ◌<◌, List, ◌∷◌, length, drop, get_or, arith, refl, ap, sym, ◌∙◌, subst, Option, Some, None, MatchOption, Bool, true, false, cond, eqb, option_copied, is_some, IsCharBoundary, Bor}
 use Rattle.std.specs.List.{starts_with}
 use Rattle.std.specs.Str.Pattern.{FindsTextPrefix, StripsPrefix}
 use Rattle.std.proofs.lemmas.List.{at_drop_more, at_drop_all}

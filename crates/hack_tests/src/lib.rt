@@ -4,6 +4,8 @@
 #[cfg(test)]
 mod calls;
 #[cfg(test)]
+mod command_lists;
+#[cfg(test)]
 mod comparison;
 #[cfg(test)]
 mod given;

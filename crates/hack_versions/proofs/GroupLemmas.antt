@@ -1,9 +1,9 @@
 -- How packages are grouped by version.
-use Rattle.std.proofs.Common.{◌≡◌, ◌≢◌, ◌⊎◌, ◌↔◌, ℕ, zero, suc, ◌+◌, ◌-◌, ◌<◌, ◌≤◌, List, [], ◌∷◌, ◌++◌, length, take, drop, arith, refl, ap, sym, ◌∙◌, subst, inl, inr, get_or, Option, Some, None, IfSome, IsSomeAnd, slice_get, length-append, append-nil, map, option_map}
+use Rattle.std.proofs.Common.{◌≡◌, ◌≢◌, ◌⊎◌, ◌↔◌, ℕ, zero, suc, ◌+◌, ◌-◌, ◌<◌, ◌≤◌, List, [], ◌∷◌, ◌++◌, length, take, drop, arith, refl, ap, sym, ◌∙◌, subst, inl, inr, get_or, Option, Some, None, IsSomeAnd, slice_get, map}
 use Rattle.std.specs.List.{All, AllPairs, Contains, insert}
 use Rattle.std.proofs.lemmas.List.{get_or_default, take_more, take_all, take-append-drop, length-take-le, get_or-take, length-map, get_or-map, map_push}
 use Rattle.std.proofs.lemmas.List.Edits.{get_or-insert_at, get_or-insert_below, get_or-insert_above, length-insert}
-use Rattle.std.proofs.lemmas.List.Elements.{All-contains, All-push, All-weaker, Contains-get_or, Contains-push, Contains-push_cases, Contains-append_left, Contains-append_right, Contains-append_cases}
+use Rattle.std.proofs.lemmas.List.Elements.{All-push, All-weaker, Contains-get_or, Contains-push, Contains-push_cases, Contains-append_left, Contains-append_right, Contains-append_cases}
 use Rattle.std.proofs.lemmas.List.Quantifiers.{all_pairs_push}
 use Rattle.std.proofs.lemmas.Option.{slice_get-get_or}
 use Rattle.hack_versions.specs.declared.version.Version.{Version}
@@ -16,7 +16,7 @@ use Rattle.hack_versions.specs.declared.rustup.RangeFault.{RangeFault}
 use Rattle.hack_versions.specs.declared.rustup.RangeFault.TheVariants.{Major, NoRustVersion, Empty, NoField, SingleMsrv, Memory}
 use Rattle.hack_versions.specs.declared.notice.Notice.{Notice}
 use Rattle.hack_versions.specs.Notes.{Note, note_of}
-use Rattle.hack_versions.specs.VersionOrder.{IsBefore, IsAtMost}
+use Rattle.hack_versions.specs.VersionOrder.{IsBefore}
 use Rattle.hack_versions.specs.Uses.{own_of, UsesBy, UsesAt, IsGroup, AreGroups, IsOwnOnly, HasOwn, IsPackageFault, IsGroupFault, IsSkipped, AreSkipNotes, skip_note}
 use Rattle.hack_versions.proofs.OrderLemmas.{three-way, before-trans}
 

@@ -1,4 +1,4 @@
-use Rattle.std.proofs.Common.{◌≡◌, [], ◌∷◌, map, codes, take, string_bytes}
+use Rattle.std.proofs.Common.{map, take}
 use Rattle.std.specs.Io.KnownBytes.{Appends}
 use Rattle.hack_features.specs.Feature.{name_of}
 use Rattle.cargo_hack.specs.RunsView.{runs_in}

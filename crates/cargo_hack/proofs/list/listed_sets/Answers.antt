@@ -1,10 +1,10 @@
 use Rattle.std.proofs.Common.{◌≡◌, ◌∙◌, List, [], length, sym, ap, subst}
 use Rattle.std.proofs.lemmas.List.{length-map}
 use Rattle.hack_features.specs.Names.{Name}
-use Rattle.hack_features.specs.Feature.{group_of, groups_of, candidates_of}
+use Rattle.hack_features.specs.Feature.{group_of, groups_of}
 use Rattle.hack_features.specs.FeatureMap.{FeatureMap, feature_map}
-use Rattle.hack_features.specs.Sets.{IsSelection, IsListing, rows_of}
-use Rattle.hack_features.specs.Rules.{Choice, IsListed, IsPermitted, IsRequired, unlifted}
+use Rattle.hack_features.specs.Sets.{IsListing, rows_of}
+use Rattle.hack_features.specs.Rules.{Choice, IsListed, unlifted}
 use Rattle.hack_features.specs.Questions.{IsWhole}
 use Rattle.hack_features.specs.View.{choice, choice_of, size_of, may_of, whole_of}
 use Rattle.hack_features.proofs.Steps.{length-candidates_of}

@@ -1,4 +1,4 @@
-use Rattle.std.proofs.Common.{◌≡◌, List, ℕ, map, sym, ap, subst}
+use Rattle.std.proofs.Common.{List, map, subst}
 use Rattle.std.specs.Io.KnownBytes.{Appends}
 use Rattle.std.proofs.lemmas.Result.{on_ok_weaker}
 use Rattle.hack_features.specs.declared.feature.Feature.{Feature}
@@ -8,7 +8,6 @@ use Rattle.cargo_hack.specs.RunsView.{runs_in}
 use Rattle.cargo_hack.specs.Input.{IsMapText}
 use Rattle.cargo_hack.specs.Lines.{run_lines}
 use Rattle.cargo_hack.specs.ListRuns.{AreListRuns}
-use Rattle.cargo_hack.specs.CommandList.{WritesList}
 use Rattle.cargo_hack.proofs.ListLemmas.{command_list}
 use Rattle.cargo_hack.proofs.list.powerset_list.Goals as goal
 

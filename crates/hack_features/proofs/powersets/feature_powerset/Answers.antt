@@ -1,8 +1,8 @@
-use Rattle.std.proofs.Common.{◌≡◌, ◌≤◌, ◌+◌, ◌++◌, ◌∷◌, [], List, ℕ, map, take, length, sym, ap, ◌∙◌, subst, arith, Contains}
+use Rattle.std.proofs.Common.{◌≡◌, ◌≤◌, ◌++◌, ◌∷◌, [], List, ℕ, map, take, length, sym, ap, ◌∙◌, subst, arith, Contains}
 use Rattle.std.specs.Borrow.{Bor}
 use Rattle.std.proofs.lemmas.List.{map-append, take_all, length-map}
 use Rattle.hack_features.specs.declared.feature.Feature.{Feature}
-use Rattle.hack_features.specs.Sets.{IsSelection, IsListing, ListsSelections, rows_of, chosen}
+use Rattle.hack_features.specs.Sets.{IsSelection, IsListing, rows_of, chosen}
 use Rattle.hack_features.specs.Rules.{Choice, IsListed, IsWanted, Covers}
 use Rattle.hack_features.specs.Questions.{IsWhole}
 use Rattle.hack_features.specs.View.{choice, choice_in, choice_of, size_of, may_of, whole_of}
@@ -35,7 +35,7 @@ returns-clause-sets c =
     record {
       sets = rows;
       listing = subst (λ (q : Choice). IsListing (length c.args.features.now) (IsListed q) rows) same
-        (subst (λ n. IsListing n (IsListed (choice_of r)) rows) size (subst (λ (l : List (List ℕ)). IsListing (size_of r) (IsListed (choice_of r)) l) (sym found) listing));
+          (subst (λ n. IsListing n (IsListed (choice_of r)) rows) size (subst (λ (l : List (List ℕ)). IsListing (size_of r) (IsListed (choice_of r)) l) (sym found) listing));
       items_of = c.loop-positions.invariant ∙ ap (map f) (take_all c.loop-positions.positions-index rows past);
     }
 
@@ -51,10 +51,10 @@ returns-clause-coverage c = λ s sel wanted.
     let past : length rows ≤ c.loop-positions.positions-index = omega (arith, c.loop-positions-test.false, length-map c.as_slice-positions-items.result.now row_items) in
     let listing = listing_of r c.in_ok-rules.ensures.tables (rows_of c.in_ok-found.found.sets.items) (subst (λ n. IsListing n (IsWhole (may_of r) (whole_of r)) (rows_of c.in_ok-found.found.sets.items)) (sym size) c.in_ok-found.ensures.sets) in
     let made : rows_of c.loop-positions.sets.items ≡ map f (rows_of c.in_ok-found.found.sets.items) =
-      c.loop-positions.invariant ∙ ap (map f) (take_all c.loop-positions.positions-index rows past ∙ found) in
+    c.loop-positions.invariant ∙ ap (map f) (take_all c.loop-positions.positions-index rows past ∙ found) in
     subst (λ (q : Choice). (t : List ℕ) × Covers q s t × Contains (rows_of c.loop-positions.sets.items) (f t)) same
-      (covering_of r c.in_ok-rules.ensures.tables c.args.features.now (rows_of c.loop-positions.sets.items) (rows_of c.in_ok-found.found.sets.items) listing made s
-        (subst (λ n. IsSelection n s) (sym size) sel) (subst (λ (q : Choice). IsWanted q s) (sym same) wanted))
+    (covering_of r c.in_ok-rules.ensures.tables c.args.features.now (rows_of c.loop-positions.sets.items) (rows_of c.in_ok-found.found.sets.items) listing made s
+    (subst (λ n. IsSelection n s) (sym size) sel) (subst (λ (q : Choice). IsWanted q s) (sym same) wanted))
 
 pub returns-clause-one_each : goal.returns-clause-one_each
 returns-clause-one_each c = λ single s t hs ht ls lt same.

@@ -1,4 +1,4 @@
-use Rattle.std.proofs.Common.{◌≡◌, ◌++◌, ap, ◌∙◌, sym}
+use Rattle.std.proofs.Common.{◌++◌, ap, ◌∙◌, sym}
 use Rattle.hack_features.specs.Sets.{IsSelection}
 use Rattle.hack_features.proofs.Permitted.{row_at_seam}
 use Rattle.hack_features.proofs.questions.complete_ones.Goals as goal

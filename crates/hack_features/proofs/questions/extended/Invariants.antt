@@ -1,4 +1,4 @@
-use Rattle.std.proofs.Common.{◌≡◌, ◌≤◌, ◌+◌, ℕ, List, Bool, take}
+use Rattle.std.proofs.Common.{◌≡◌, ◌≤◌, ◌+◌, take}
 use Rattle.hack_features.specs.Sets.{rows_of}
 use Rattle.hack_features.specs.Questions.{with_next}
 use Rattle.hack_features.proofs.questions.extended.Given as goal

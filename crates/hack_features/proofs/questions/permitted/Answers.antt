@@ -1,4 +1,4 @@
-use Rattle.std.proofs.Common.{◌≡◌, ap, ◌∙◌, sym, subst, arith, All, List, ℕ, IsTrue}
+use Rattle.std.proofs.Common.{◌≡◌, ap, ◌∙◌, sym, subst, arith, All, IsTrue}
 use Rattle.hack_features.specs.Sets.{IsSelection, IsListing, rows_of}
 use Rattle.hack_features.proofs.Permitted.{permitted_below, permitted_listing, all_selections}
 use Rattle.hack_features.proofs.questions.permitted.Goals as goal

@@ -1,4 +1,4 @@
-use Rattle.std.proofs.Common.{◌≡◌, ◌≤◌, ◌+◌, ◌*◌, ℕ, List, Bool, length}
+use Rattle.std.proofs.Common.{◌≡◌, ◌≤◌, ◌+◌, ◌*◌, length}
 use Rattle.hack_features.specs.Sets.{rows_of}
 use Rattle.hack_features.proofs.Permitted.{permitted_below}
 use Rattle.hack_features.proofs.questions.permitted.Given as goal

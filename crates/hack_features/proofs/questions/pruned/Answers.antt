@@ -1,4 +1,4 @@
-use Rattle.std.proofs.Common.{◌≡◌, ap, ◌∙◌, sym, subst, arith, All, List, ℕ, IsTrue, filter, true}
+use Rattle.std.proofs.Common.{◌≡◌, ap, ◌∙◌, sym, subst, All, IsTrue, filter, true}
 use Rattle.hack_features.specs.Sets.{IsSelection, IsListing, rows_of}
 use Rattle.hack_features.specs.Questions.{is_whole, IsWhole}
 use Rattle.hack_features.proofs.Permitted.{listed_selections, listing_filter, listing_same, whole_iff}

@@ -1,5 +1,5 @@
-use Rattle.std.proofs.Common.{◌≡◌, ◌≤◌, sym, ap, ◌∙◌, Bool, string_bytes, refl, subst, false, true, arith, length, take}
-use Rattle.std.specs.Prelude.{not, ◌&&◌, ◌==◌}
+use Rattle.std.proofs.Common.{◌≡◌, ◌≤◌, sym, ap, ◌∙◌, Bool, string_bytes, refl, subst, true, arith, length}
+use Rattle.std.specs.Prelude.{not, ◌==◌}
 use Rattle.std.specs.List.{list_all}
 use Rattle.std.proofs.lemmas.Bool.{and_from, and_right}
 use Rattle.std.proofs.lemmas.List.{take_all, length-map}
@@ -13,16 +13,16 @@ pub returns-then-not-set_enables : goal.returns-then-not-set_enables
 returns-then-not-set_enables c =
     let test : Name → Bool = set_enables_test c.args.deps.now (candidates_of c.args.features.now) c.args.positions.now in
     sym (and_right (not (length c.args.positions.now == 0)) _
-      (all_stop string_bytes test c.args.names.now c.args.names.now c.loop-name.name-index c.name-item.result
-        refl c.loop-name-test.true c.name-item.is
-        (ap test (sym c.as_str.ensures.value) ∙ sym c.set_enables.ensures ∙ c.if-not-set_enables.true)))
+    (all_stop string_bytes test c.args.names.now c.args.names.now c.loop-name.name-index c.name-item.result
+    refl c.loop-name-test.true c.name-item.is
+    (ap test (sym c.as_str.ensures.value) ∙ sym c.set_enables.ensures ∙ c.if-not-set_enables.true)))
 
 pub loop-name-preserved : goal.loop-name-preserved
 loop-name-preserved c =
     let test : Name → Bool = set_enables_test c.args.deps.now (candidates_of c.args.features.now) c.args.positions.now in
     all_next string_bytes test c.args.names.now c.args.names.now c.loop-name.name-index c.name-item.result
-      refl c.loop-name-test.true c.name-item.is c.loop-name.invariant
-      (ap test (sym c.as_str.ensures.value) ∙ sym c.set_enables.ensures ∙ c.if-not-set_enables.false)
+    refl c.loop-name-test.true c.name-item.is c.loop-name.invariant
+    (ap test (sym c.as_str.ensures.value) ∙ sym c.set_enables.ensures ∙ c.if-not-set_enables.false)
 
 pub returns : goal.returns
 returns c =
@@ -30,4 +30,4 @@ returns c =
     let names = names_of c.args.names.now in
     let past : length names ≤ c.loop-name.name-index = omega (arith, c.loop-name-test.false, length-map c.args.names.now string_bytes) in
     sym (and_from (not (length c.args.positions.now == 0)) _ (ap not (sym c.is_empty.ensures ∙ c.if-is_empty.false))
-      (subst (λ l. list_all test l ≡ true) (take_all c.loop-name.name-index names past) c.loop-name.invariant))
+    (subst (λ l. list_all test l ≡ true) (take_all c.loop-name.name-index names past) c.loop-name.invariant))

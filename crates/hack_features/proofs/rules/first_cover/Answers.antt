@@ -1,7 +1,5 @@
-use Rattle.std.proofs.Common.{◌≡◌, ◌≤◌, ◌<◌, ◌+◌, ◌-◌, [], ℕ, List, cond, sym, ap, ◌∙◌, subst, length, get_or, arith}
+use Rattle.std.proofs.Common.{◌≡◌, ◌<◌, ◌+◌, ◌-◌, [], List, cond, sym, ap, ◌∙◌, subst, length, get_or, arith}
 use Rattle.std.specs.List.{remove}
-use Rattle.std.proofs.lemmas.List.{length-map}
-use Rattle.std.proofs.lemmas.List.Edits.{length-remove}
 use Rattle.hack_features.specs.Names.{Name}
 use Rattle.hack_features.specs.Feature.{candidates_of}
 use Rattle.hack_features.specs.Cover.{covers_test}
@@ -15,8 +13,8 @@ loop-place-init c = record {
   small = omega arith;
   room = omega (arith, ap length c.in_ok-kept.ensures.items);
   greedy = λ k same are w.
-    let sel : IsSelection (length k.candidates) c.args.positions.now = subst (λ n. IsSelection n c.args.positions.now) (sym (length-candidates_of c.args.features.now) ∙ ap length (sym same)) c.requires in
-    subst (Greedy k c.args.positions.now (length c.args.positions.now)) (sym c.in_ok-kept.ensures.items) (greedy_start k c.args.positions.now sel w);
+      let sel : IsSelection (length k.candidates) c.args.positions.now = subst (λ n. IsSelection n c.args.positions.now) (sym (length-candidates_of c.args.features.now) ∙ ap length (sym same)) c.requires in
+      subst (Greedy k c.args.positions.now (length c.args.positions.now)) (sym c.in_ok-kept.ensures.items) (greedy_start k c.args.positions.now sel w);
 }
 
 pub loop-place-preserved : goal.loop-place-preserved
@@ -29,9 +27,9 @@ loop-place-preserved c =
       small = omega (arith, c.loop-place.invariant.small);
       room = kept_room _ kept place at c.in_ok-kept-2.kept.items next;
       greedy = λ k same are w.
-        let sel : IsSelection (length k.candidates) c.args.positions.now = subst (λ n. IsSelection n c.args.positions.now) (sym (length-candidates_of c.args.features.now) ∙ ap length (sym same)) c.requires in
-        let up : c.loop-place.place ≡ place + 1 = omega (arith, c.loop-place-test.true) in
-        greedy_turn k c.args.deps.now are c.args.positions.now sel place (omega (arith, c.loop-place.invariant.small, c.loop-place-test.true)) kept
+          let sel : IsSelection (length k.candidates) c.args.positions.now = subst (λ n. IsSelection n c.args.positions.now) (sym (length-candidates_of c.args.features.now) ∙ ap length (sym same)) c.requires in
+          let up : c.loop-place.place ≡ place + 1 = omega (arith, c.loop-place-test.true) in
+          greedy_turn k c.args.deps.now are c.args.positions.now sel place (omega (arith, c.loop-place.invariant.small, c.loop-place-test.true)) kept
           (subst (λ m. Greedy k c.args.positions.now m kept) up (c.loop-place.invariant.greedy k same are w)) c.in_ok-kept-2.kept.items
           (subst (λ (all : List (List Name)). c.in_ok-kept-2.kept.items ≡ cond (covers_test c.args.deps.now all (remove kept place) (get_or all (get_or kept place 0) [])) (remove kept place) kept) (sym same) next);
     }

@@ -1,4 +1,4 @@
-use Rattle.std.proofs.Common.{◌≡◌, ◌++◌, ◌∷◌, [], List, ℕ, subst, sym, ap, ◌∙◌, Ordering, Equal}
+use Rattle.std.proofs.Common.{◌++◌, ◌∷◌, [], subst, sym, ◌∙◌}
 use Rattle.std.specs.Ordering.{nat_cmp}
 use Rattle.hack_features.specs.Sets.{IsBefore}
 use Rattle.hack_features.proofs.CoverLemmas.{before_trans}
@@ -25,8 +25,8 @@ returns-in-Equal-clause-order t c =
     let p = c.in-Some-Some.p.now in
     let q = c.in-Some-Some.q.now in
     subst (λ l. Stand c.compare_sets.result l c.args.second.now) (sym a) (subst (λ l. Stand c.compare_sets.result (c.in-Some-Some.first.now ++ p ∷ []) l) (sym b)
-      (same_last c.compare_sets.result p q c.in-Some-Some.first.now c.in-Some-Some.second.now (same_of p q (sym c.cmp.ensures ∙ c.in-Equal.is))
-        (subst Increases a c.requires.first) (subst Increases b c.requires.second) c.compare_sets.ensures.order))
+    (same_last c.compare_sets.result p q c.in-Some-Some.first.now c.in-Some-Some.second.now (same_of p q (sym c.cmp.ensures ∙ c.in-Equal.is))
+    (subst Increases a c.requires.first) (subst Increases b c.requires.second) c.compare_sets.ensures.order))
 
 pub returns-in-Equal-clause-transitive : goal.returns-in-Equal-clause-transitive
 returns-in-Equal-clause-transitive t c = before_trans c.args.first.now c.args.second.now
@@ -39,10 +39,10 @@ returns-in_default t c =
     let q = c.in-Some-Some.q.now in
     record {
       order =
-        subst (λ r. Stand r c.args.first.now c.args.second.now) (sym c.cmp.ensures)
+          subst (λ r. Stand r c.args.first.now c.args.second.now) (sym c.cmp.ensures)
           (subst (λ l. Stand (nat_cmp p q) l c.args.second.now) (sym a) (subst (λ l. Stand (nat_cmp p q) (c.in-Some-Some.first.now ++ p ∷ []) l) (sym b)
-            (other_last p q c.in-Some-Some.first.now c.in-Some-Some.second.now (λ e. c.in_default.not-Equal (c.cmp.ensures ∙ e))
-              (subst Increases a c.requires.first) (subst Increases b c.requires.second))));
+          (other_last p q c.in-Some-Some.first.now c.in-Some-Some.second.now (λ e. c.in_default.not-Equal (c.cmp.ensures ∙ e))
+          (subst Increases a c.requires.first) (subst Increases b c.requires.second))));
       irreflexive = λ h. h.absent h.present;
       transitive = before_trans c.args.first.now c.args.second.now;
     }

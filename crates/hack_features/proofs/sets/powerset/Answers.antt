@@ -1,4 +1,4 @@
-use Rattle.std.proofs.Common.{◌≡◌, ◌++◌, map, ap, ◌∙◌, length, ◌≤◌, ◌<◌, arith}
+use Rattle.std.proofs.Common.{◌≡◌, ◌++◌, map, ap, ◌∙◌, length, arith}
 use Rattle.std.proofs.lemmas.List.{map-append}
 use Rattle.hack_features.specs.Sets.{rows_of, with_each, chosen}
 use Rattle.hack_features.proofs.Listing.{next_lists, listing, sets_below}

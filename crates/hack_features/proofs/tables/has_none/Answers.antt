@@ -1,4 +1,4 @@
-use Rattle.std.proofs.Common.{◌≡◌, ◌++◌, ◌∷◌, [], sym, refl, ap, ◌∙◌, ℕ, List, Bool, true, eqb-true, length}
+use Rattle.std.proofs.Common.{◌≡◌, ◌++◌, ◌∷◌, [], sym, refl, ◌∙◌, ℕ, List, Bool, true, eqb-true, length}
 use Rattle.std.specs.Prelude.{not}
 use Rattle.hack_features.specs.Tables.{bit}
 use Rattle.hack_features.proofs.Steps.{all_always}
@@ -11,4 +11,4 @@ empty_row (b ∷ row) q e = absurd (cc)
 pub returns-then-is_empty : goal.returns-then-is_empty
 returns-then-is_empty c =
     sym (all_always (λ q. not (bit c.args.row.now q)) (c.args.positions.now ++ c.args.last ∷ [])
-      (λ q. empty_row c.args.row.now q (eqb-true (length c.args.row.now) 0 (sym c.is_empty.ensures ∙ c.if-is_empty.true))))
+    (λ q. empty_row c.args.row.now q (eqb-true (length c.args.row.now) 0 (sym c.is_empty.ensures ∙ c.if-is_empty.true))))

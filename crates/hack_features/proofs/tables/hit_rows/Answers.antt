@@ -1,6 +1,5 @@
-use Rattle.std.proofs.Common.{◌≡◌, ◌<◌, ◌≤◌, ◌+◌, ◌++◌, ◌∷◌, [], arith, List, ℕ, Bool, take, length, subst, sym, ap, ◌∙◌, true, false}
+use Rattle.std.proofs.Common.{◌<◌, ◌≤◌, ◌+◌, ◌∷◌, [], arith, List, ℕ, take, length, subst, sym, ap, ◌∙◌}
 use Rattle.std.proofs.lemmas.List.{map-append, take_all, length-map}
-use Rattle.std.specs.Prelude.{Vec}
 use Rattle.hack_features.specs.Names.{Name}
 use Rattle.hack_features.specs.FeatureMap.{feature_map}
 use Rattle.hack_features.specs.Feature.{candidates_of, groups_of, group_of}
@@ -28,15 +27,16 @@ loop-place-preserved c =
     let lt : place < length groups = omega (arith, c.loop-place-test.true, length-map c.args.given.exclusive.now group_of) in
     let more = unlifted-more groups place group lifted lt (seen-next group_of c.args.given.exclusive.now place c.group-item.result c.loop-place-test.true c.group-item.is) in
     elim c.if-not-bit.branch [
-    | then-not-bit+in_ok-hit_row+in_ok-push w ↦
-      subst (λ (rows : List (List ℕ)). Matched R (unlifted (take (place + 1) groups) lifted) rows)
-        (sym (ap (λ v. rows_of v.items) w.rows-is ∙ ap rows_of w.in_ok-push.ensures.items ∙ map-append row_items c.loop-place.rows.items (w.in_ok-hit_row.field-0 ∷ [])))
-        (next_group R (unlifted (take place groups) lifted) (unlifted (take (place + 1) groups) lifted) group (bit lifted place) (rows_of c.loop-place.rows.items) w.in_ok-hit_row.field-0.items more
+      | then-not-bit+in_ok-hit_row+in_ok-push w ↦
+          subst (λ (rows : List (List ℕ)). Matched R (unlifted (take (place + 1) groups) lifted) rows)
+          (sym (ap (λ v. rows_of v.items) w.rows-is ∙ ap rows_of w.in_ok-push.ensures.items ∙ map-append row_items c.loop-place.rows.items (w.in_ok-hit_row.field-0 ∷ [])))
+          (next_group R (unlifted (take place groups) lifted) (unlifted (take (place + 1) groups) lifted) group (bit lifted place) (rows_of c.loop-place.rows.items) w.in_ok-hit_row.field-0.items more
           (sym c.bit.ensures ∙ w.if-not-bit.true) c.loop-place.invariant w.in_ok-hit_row.ensures)
-    | else-not-bit w ↦
-      subst (λ (rows : List (List ℕ)). Matched R (unlifted (take (place + 1) groups) lifted) rows) (sym (ap (λ v. rows_of v.items) w.rows-is))
-        (lifted_group R (unlifted (take place groups) lifted) (unlifted (take (place + 1) groups) lifted) group (bit lifted place) (rows_of c.loop-place.rows.items) more
-          (sym c.bit.ensures ∙ w.if-not-bit.false) c.loop-place.invariant) ]
+      | else-not-bit w ↦
+          subst (λ (rows : List (List ℕ)). Matched R (unlifted (take (place + 1) groups) lifted) rows) (sym (ap (λ v. rows_of v.items) w.rows-is))
+          (lifted_group R (unlifted (take place groups) lifted) (unlifted (take (place + 1) groups) lifted) group (bit lifted place) (rows_of c.loop-place.rows.items) more
+          (sym c.bit.ensures ∙ w.if-not-bit.false) c.loop-place.invariant)
+    ]
 
 pub returns : goal.returns
 returns c =

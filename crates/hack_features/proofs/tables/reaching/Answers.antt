@@ -1,4 +1,4 @@
-use Rattle.std.proofs.Common.{◌≡◌, ◌≤◌, ◌+◌, arith, refl, string_bytes, take, subst, sym, true, false, ◌∙◌}
+use Rattle.std.proofs.Common.{◌≡◌, ◌+◌, arith, string_bytes, take, subst, sym, true, false, ◌∙◌}
 use Rattle.hack_features.specs.Names.{names_of}
 use Rattle.hack_features.specs.FeatureMap.{feature_map, Reaches}
 use Rattle.hack_features.specs.Feature.{group_of}
@@ -18,13 +18,14 @@ loop-name-preserved c =
     let more = seen-next string_bytes c.as_group-name-items.result.now c.loop-name.name-index c.name-item.result c.loop-name-test.true c.name-item.is in
     let reaches = c.in_ok-matches_recursive.ensures in
     elim c.if-branch.branch [
-    | then-branch w ↦ record {
+      | then-branch w ↦ record {
         counts = counts_yes P (take c.loop-name.name-index names) (take (c.loop-name.name-index + 1) names) (string_bytes c.name-item.result) c.loop-name.count c.if-branch.count more w.count-is c.loop-name.invariant.counts
-          (subst P c.as_str.ensures.value (reaches.0 w.if-branch.true));
+            (subst P c.as_str.ensures.value (reaches.0 w.if-branch.true));
         few = omega (arith, w.count-is, c.loop-name.invariant.few);
       }
-    | else-branch w ↦ record {
+      | else-branch w ↦ record {
         counts = counts_no P (take c.loop-name.name-index names) (take (c.loop-name.name-index + 1) names) (string_bytes c.name-item.result) c.loop-name.count c.if-branch.count more w.count-is c.loop-name.invariant.counts
-          (λ p. let t = reaches.1 (subst P (sym c.as_str.ensures.value) p) in let z : true ≡ false = sym t ∙ w.if-branch.false in cc);
+            (λ p. let t = reaches.1 (subst P (sym c.as_str.ensures.value) p) in let z : true ≡ false = sym t ∙ w.if-branch.false in cc);
         few = omega (arith, w.count-is, c.loop-name.invariant.few);
-      } ]
+      }
+    ]

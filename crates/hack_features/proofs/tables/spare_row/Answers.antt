@@ -1,6 +1,5 @@
-use Rattle.std.proofs.Common.{◌≡◌, ◌<◌, [], sym, ap, ◌∙◌, arith, Bool, ℕ, false, length}
+use Rattle.std.proofs.Common.{◌<◌, sym, ap, ◌∙◌, arith}
 use Rattle.hack_features.specs.Tables.{bit}
-use Rattle.hack_features.specs.Feature.{candidates_of}
 use Rattle.hack_features.proofs.Steps.{length-candidates_of}
 use Rattle.hack_features.proofs.tables.spare_row.Goals as goal
 

@@ -1,5 +1,5 @@
 use Rattle.std.proofs.Common.{◌≡◌, ◌<◌, ℕ, [], get_or, length}
-use Rattle.hack_features.specs.Feature.{candidates_of, group_of}
+use Rattle.hack_features.specs.Feature.{candidates_of}
 use Rattle.hack_features.specs.Sets.{rows_of}
 use Rattle.hack_features.specs.Tables.{cell, spares_test}
 use Rattle.hack_features.proofs.tables.spare_rows.Given as goal

@@ -1,4 +1,4 @@
-use Rattle.std.proofs.Common.{◌≡◌, length, subst, sym, rules, false, true}
+use Rattle.std.proofs.Common.{◌≡◌, subst, sym, rules}
 use Rattle.std.specs.List.{insert, Contains, AllPairs}
 use Rattle.hack_versions.specs.VersionOrder.{IsBefore}
 use Rattle.hack_versions.proofs.GroupLemmas.{insert-rising, insert-keeps}

@@ -1,7 +1,6 @@
-use Rattle.std.proofs.Common.{◌<◌, length, get_or, subst, sym, arith, None}
+use Rattle.std.proofs.Common.{◌<◌, length, subst, sym, arith}
 use Rattle.std.specs.List.{Contains}
 use Rattle.std.proofs.lemmas.List.{take_all}
-use Rattle.hack_versions.specs.declared.version.Version.{Version}
 use Rattle.hack_versions.proofs.GroupLemmas.{kept-more, unset}
 use Rattle.hack_versions.proofs.group.sorted.Goals as goal
 

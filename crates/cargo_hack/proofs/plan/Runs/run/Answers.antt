@@ -1,9 +1,9 @@
-use Rattle.std.proofs.Common.{◌≡◌, ◌+◌, ◌-◌, ◌<◌, ◌≤◌, List, ℕ, length, length-append, map, refl, sym, ◌∙◌, ap, arith, Option, Some}
-use Rattle.std.specs.Prelude.{slice_get, nat_lt, option_map, Vec, vec_len}
+use Rattle.std.proofs.Common.{◌≡◌, ◌+◌, ◌-◌, ◌<◌, ◌≤◌, length, length-append, map, refl, sym, ◌∙◌, ap, arith, Some}
+use Rattle.std.specs.Prelude.{slice_get, option_map}
 use Rattle.std.proofs.lemmas.List.{length-map}
 use Rattle.std.proofs.lemmas.Option.{slice_get_read, slice_get-map}
 use Rattle.hack_features.specs.Sets.{rows_of}
-use Rattle.cargo_hack.specs.Runs.{PackageRun, Set}
+use Rattle.cargo_hack.specs.Runs.{Set}
 use Rattle.cargo_hack.specs.Fronts.{fronts, front_run}
 use Rattle.cargo_hack.specs.RunsView.{runs_in}
 use Rattle.cargo_hack.proofs.RunLemmas.{slice_get-append_past, row_items}

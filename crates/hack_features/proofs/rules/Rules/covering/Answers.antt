@@ -1,7 +1,5 @@
-use Rattle.std.proofs.Common.{◌≡◌, length, List, ℕ, sym, ◌∙◌, subst, true, false, refl}
-use Rattle.hack_features.specs.Names.{Name}
-use Rattle.hack_features.specs.Sets.{IsSelection, rows_of}
-use Rattle.hack_features.specs.Tables.{wanted_test}
+use Rattle.std.proofs.Common.{length, sym, ◌∙◌, subst, refl}
+use Rattle.hack_features.specs.Sets.{IsSelection}
 use Rattle.hack_features.specs.View.{choice_of}
 use Rattle.hack_features.proofs.Steps.{length-candidates_of}
 use Rattle.hack_features.proofs.RuleLemmas.{wanted_iff, false_from}

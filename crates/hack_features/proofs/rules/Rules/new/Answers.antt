@@ -1,4 +1,3 @@
-use Rattle.std.proofs.Common.{subst}
 use Rattle.hack_features.proofs.RuleLemmas.{permitted_iff, required_iff_whole}
 use Rattle.hack_features.proofs.rules.Rules.new.Goals as goal
 

@@ -1,4 +1,4 @@
-use Rattle.std.proofs.Common.{◌≡◌, ◌++◌, ◌∷◌, [], sym, ap, ◌∙◌, ℕ, List, Bool}
+use Rattle.std.proofs.Common.{◌++◌, ◌∷◌, [], sym, ap, ◌∙◌, ℕ, List, Bool}
 use Rattle.std.specs.Prelude.{nat_le, sum_by}
 use Rattle.hack_features.specs.Tables.{count_at}
 use Rattle.hack_features.proofs.Steps.{all_next, all_stop, row_items}
@@ -8,12 +8,12 @@ pub returns-then-not-has_at_most_one : goal.returns-then-not-has_at_most_one
 returns-then-not-has_at_most_one c =
     let test : List ℕ → Bool = λ row. nat_le (sum_by (count_at row) (c.args.positions.now ++ c.args.last ∷ [])) 1 in
     sym (all_stop row_items test c.as_slice-row-items.result.now c.args.self.now.hits.items c.loop-row.row-index c.row-item.result
-      c.as_slice-row-items.ensures.value c.loop-row-test.true c.row-item.is
-      (ap test (sym c.as_slice.ensures.value) ∙ sym c.has_at_most_one.ensures ∙ c.if-not-has_at_most_one.true))
+    c.as_slice-row-items.ensures.value c.loop-row-test.true c.row-item.is
+    (ap test (sym c.as_slice.ensures.value) ∙ sym c.has_at_most_one.ensures ∙ c.if-not-has_at_most_one.true))
 
 pub loop-row-preserved : goal.loop-row-preserved
 loop-row-preserved c =
     let test : List ℕ → Bool = λ row. nat_le (sum_by (count_at row) (c.args.positions.now ++ c.args.last ∷ [])) 1 in
     all_next row_items test c.as_slice-row-items.result.now c.args.self.now.hits.items c.loop-row.row-index c.row-item.result
-      c.as_slice-row-items.ensures.value c.loop-row-test.true c.row-item.is c.loop-row.invariant
-      (ap test (sym c.as_slice.ensures.value) ∙ sym c.has_at_most_one.ensures ∙ c.if-not-has_at_most_one.false)
+    c.as_slice-row-items.ensures.value c.loop-row-test.true c.row-item.is c.loop-row.invariant
+    (ap test (sym c.as_slice.ensures.value) ∙ sym c.has_at_most_one.ensures ∙ c.if-not-has_at_most_one.false)

@@ -1,5 +1,5 @@
-use Rattle.std.proofs.Common.{◌≡◌, ◌≤◌, ◌++◌, ◌∷◌, [], sym, ap, ◌∙◌, List, Bool, length, arith, false}
-use Rattle.std.specs.Prelude.{not, nat_lt, Vec}
+use Rattle.std.proofs.Common.{◌≤◌, ◌++◌, ◌∷◌, [], sym, ap, length, arith}
+use Rattle.std.specs.Prelude.{not}
 use Rattle.std.proofs.lemmas.Bool.{ltb-false}
 use Rattle.std.proofs.lemmas.List.{length-map}
 use Rattle.hack_features.specs.Sets.{rows_of}
@@ -12,4 +12,4 @@ returns-in-None c =
     let beyond : length c.deref.result.now ≤ c.args.p = ltb-false c.args.p (length c.deref.result.now) (sym c.in-None.ensures.lookup.0) in
     let past : length (rows_of c.args.self.now.spares.items) ≤ c.args.p = omega (arith, beyond, c.deref.ensures.len, ap length c.deref.ensures.value, length-map c.args.self.now.spares.items row_items) in
     sym (all_always (λ q. not (cell (rows_of c.args.self.now.spares.items) c.args.p q)) (c.args.positions.now ++ c.args.last ∷ [])
-      (λ q. past_end (rows_of c.args.self.now.spares.items) c.args.p q past))
+    (λ q. past_end (rows_of c.args.self.now.spares.items) c.args.p q past))
