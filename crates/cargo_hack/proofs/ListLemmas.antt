@@ -28,10 +28,11 @@ pub listing-listed : (n : ℕ) (c : Choice) (may whole : List ℕ → Bool)
     → (sets : List (List ℕ)) → IsListing n (IsWhole may whole) sets → IsListing n (IsListed c) sets
 listing-listed n c may whole permitted required sets l = record {
   ordered = l.ordered;
-  exact = λ s.
-    (λ m. let w = (l.exact s).0 m in
+  exact = λ s. (
+    λ m. let w = (l.exact s).0 m in
         (w.0, record { nonempty = w.1.nonempty; permitted = (permitted s w.0).0 w.1.allowed; required = (required s w.0).0 w.1.completed }),
-     λ w. (l.exact s).1 (w.0, record { nonempty = w.1.nonempty; allowed = (permitted s w.0).1 w.1.permitted; completed = (required s w.0).1 w.1.required }));
+    λ w. (l.exact s).1 (w.0, record { nonempty = w.1.nonempty; allowed = (permitted s w.0).1 w.1.permitted; completed = (required s w.0).1 w.1.required }),
+  );
 }
 
 -- the lines of the runs of a map's features are its command list
@@ -43,7 +44,7 @@ command_list w fs m runs l names groups =
     let ex = groups_of w.mutually_exclusive.items in
     let size : length fs ≡ length m = sym (length-map fs name_of) ∙ ap length names ∙ length-map m (λ e. e.0) in
     let same : chosen_from w fs m ≡ choice_for m w.depth at ex =
-      ap (λ (c : List (List Name)). record { map = m; candidates = c; depth = w.depth; at_least_one_of = at; exclusive = ex }) groups in
+    ap (λ (c : List (List Name)). record { map = m; candidates = c; depth = w.depth; at_least_one_of = at; exclusive = ex }) groups in
     let options_of : ℕ → ℕ → ℕ → RunOptions = λ n exclusive required. record {
       powerset = true;
       depth = w.depth;
@@ -55,12 +56,12 @@ command_list w fs m runs l names groups =
       exclude_no_default_features = nat_lt 0 required;
     } in
     let options : options_from w fs ≡ options_for m w.depth at ex =
-      ap (λ n. options_of n (length w.mutually_exclusive.items) (length w.at_least_one_of.items)) size
-      ∙ ap (λ n. options_of (length m) n (length w.at_least_one_of.items)) (sym (length-map w.mutually_exclusive.items group_of))
-      ∙ ap (options_of (length m) (length ex)) (sym (length-map w.at_least_one_of.items group_of)) in
+    ap (λ n. options_of n (length w.mutually_exclusive.items) (length w.at_least_one_of.items)) size
+    ∙ ap (λ n. options_of (length m) n (length w.at_least_one_of.items)) (sym (length-map w.mutually_exclusive.items group_of))
+    ∙ ap (options_of (length m) (length ex)) (sym (length-map w.at_least_one_of.items group_of)) in
     record {
       sets = l.sets;
       listing = subst (λ (c : Choice). IsListing (length m) (IsListed c) l.sets) same
-        (subst (λ n. IsListing n (IsListed (chosen_from w fs m)) l.sets) size l.listing);
+          (subst (λ n. IsListing n (IsListed (chosen_from w fs m)) l.sets) size l.listing);
       lines = ap (λ (n : List Name). run_lines n runs) names ∙ ap (run_lines (keys_of m)) (l.made ∙ ap (λ (o : RunOptions). runs_from o l.sets) options);
     }

@@ -2,10 +2,9 @@
 #![tactic(auto)]
 
 use cargo_hack::{ListFault, powerset_list};
-use std::env;
-use std::io;
 use std::io::{BufWriter, Write};
 use std::process::ExitCode;
+use std::{env, io};
 
 fn main(rt: HostRuntime) -> io::Result<ExitCode> {
     let words: Vec<String> = env::args(&rt)?.skip(1).collect(rt.alloc())?;

@@ -22,21 +22,22 @@ loop-p-preserved c =
     let all : List Name = map name_of fs in
     let f : ℕ → Option Name = slice_get all in
     let more : chosen all (take (i + 1) xs) ≡ chosen all (take i xs) ++ filter_map f (p ∷ []) =
-      ap (filter_map f) (take_more xs i 0 c.loop-p-test.true) ∙ filter_map-append f (take i xs) (p ∷ []) in
+    ap (filter_map f) (take_more xs i 0 c.loop-p-test.true) ∙ filter_map-append f (take i xs) (p ∷ []) in
     elim c.match-get.branch [
-    | in-Some+in_ok-push w ↦
-      let found : slice_get fs p ≡ Some w.in-Some.feature.now =
-        slice_get_read fs (length fs) p w.in-Some.feature.now refl (ltb-true p (length fs) (sym w.in-Some.ensures.lookup.0)) w.in-Some.ensures.lookup.1 in
-      ap (λ v. shown v.items) w.names-is ∙ ap shown w.in_ok-push.ensures.items
-      ∙ map-append (λ (t : Bor Name). t.now) _ (w.name.result ∷ [])
-      ∙ ap (λ l. l ++ w.name.result.now ∷ []) c.loop-p.invariant
-      ∙ ap (λ l. chosen all (take i xs) ++ l ∷ []) w.name.ensures
-      ∙ ap (λ l. chosen all (take i xs) ++ l)
-        (sym (filter_map-found f p (name_of w.in-Some.feature.now) (slice_get-map name_of fs p ∙ ap (option_map name_of) found)))
-      ∙ sym more
-    | in_default w ↦
-      ap (λ v. shown v.items) w.names-is ∙ c.loop-p.invariant
-      ∙ sym (append-nil (chosen all (take i xs)))
-      ∙ ap (λ l. chosen all (take i xs) ++ l)
-        (sym (filter_map-missed f p (slice_get-map name_of fs p ∙ ap (option_map name_of) (slice_get_past fs p (ltb-false p (length fs) (sym w.in_default.ensures.lookup.0))))))
-      ∙ sym more ]
+      | in-Some+in_ok-push w ↦
+          let found : slice_get fs p ≡ Some w.in-Some.feature.now =
+          slice_get_read fs (length fs) p w.in-Some.feature.now refl (ltb-true p (length fs) (sym w.in-Some.ensures.lookup.0)) w.in-Some.ensures.lookup.1 in
+          ap (λ v. shown v.items) w.names-is ∙ ap shown w.in_ok-push.ensures.items
+          ∙ map-append (λ (t : Bor Name). t.now) _ (w.name.result ∷ [])
+          ∙ ap (λ l. l ++ w.name.result.now ∷ []) c.loop-p.invariant
+          ∙ ap (λ l. chosen all (take i xs) ++ l ∷ []) w.name.ensures
+          ∙ ap (λ l. chosen all (take i xs) ++ l)
+          (sym (filter_map-found f p (name_of w.in-Some.feature.now) (slice_get-map name_of fs p ∙ ap (option_map name_of) found)))
+          ∙ sym more
+      | in_default w ↦
+          ap (λ v. shown v.items) w.names-is ∙ c.loop-p.invariant
+          ∙ sym (append-nil (chosen all (take i xs)))
+          ∙ ap (λ l. chosen all (take i xs) ++ l)
+          (sym (filter_map-missed f p (slice_get-map name_of fs p ∙ ap (option_map name_of) (slice_get_past fs p (ltb-false p (length fs) (sym w.in_default.ensures.lookup.0))))))
+          ∙ sym more
+    ]

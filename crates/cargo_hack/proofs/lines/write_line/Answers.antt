@@ -13,6 +13,6 @@ returns-in-Ok-clause-ok g c =
     let names : List Name = map name_of c.args.features.now in
     let run = run_of c.args.run in
     subst (Appends (g.W.Write.contents c.args.out.now) (g.W.Write.contents c.writeln.new.self))
-      (ap (λ l. l ++ codes "\n") (c.listed-line.ensures ∙ ap (listed_of []) (c.in_ok-command.ensures ∙ ap (λ p. run_command p names run) c.requires.passed))
-        ∙ listed-run_line names run)
-      c.in-Ok.ensures.bytes
+    (ap (λ l. l ++ codes "\n") (c.listed-line.ensures ∙ ap (listed_of []) (c.in_ok-command.ensures ∙ ap (λ p. run_command p names run) c.requires.passed))
+    ∙ listed-run_line names run)
+    c.in-Ok.ensures.bytes

@@ -20,11 +20,11 @@ loop-rank-preserved g c =
     let run : PackageRun = run_of c.run.result in
     let found : slice_get runs rank ≡ Some run = c.run.ensures in
     let more : take (rank + 1) runs ≡ take rank runs ++ run ∷ [] =
-      take_more runs rank run (slice_get_within runs rank run found)
-      ∙ ap (λ x. take rank runs ++ x ∷ []) (get_or_from_slice_get runs rank run run found) in
+    take_more runs rank run (slice_get_within runs rank run found)
+    ∙ ap (λ x. take rank runs ++ x ∷ []) (get_or_from_slice_get runs rank run run found) in
     let lines : run_lines names (take rank runs) ++ run_line names run ≡ run_lines names (take (rank + 1) runs) =
-      ap (λ l. run_lines names (take rank runs) ++ l) (sym (append-nil (run_line names run)))
-      ∙ sym (flat_map-append (run_line names) (take rank runs) (run ∷ []))
-      ∙ ap (run_lines names) (sym more) in
+    ap (λ l. run_lines names (take rank runs) ++ l) (sym (append-nil (run_line names run)))
+    ∙ sym (flat_map-append (run_line names) (take rank runs) (run ∷ []))
+    ∙ ap (run_lines names) (sym more) in
     subst (Appends (g.W.Write.contents c.args.out.now) (g.W.Write.contents c.write_line.new.out)) lines
-      (Appends-trans _ _ _ _ _ c.loop-rank.invariant c.in_ok-write_line.ensures.ok)
+    (Appends-trans _ _ _ _ _ c.loop-rank.invariant c.in_ok-write_line.ensures.ok)

@@ -28,18 +28,18 @@ returns c =
       exclusive = exclusive;
     } in
     let same : choice_of r ≡ chosen_from w fs m =
-      c.in_ok-rules.ensures.choice
-      ∙ ap (λ x. choice x w.depth c.as_slice-2.result.now c.as_slice-3.result.now c.args.found.now []) c.as_slice.ensures.value
-      ∙ ap (λ x. choice all w.depth x c.as_slice-3.result.now c.args.found.now []) c.as_slice-2.ensures.value
-      ∙ ap (λ x. choice all w.depth w.at_least_one_of.items x c.args.found.now []) c.as_slice-3.ensures.value
-      ∙ ap (λ names. made_of names (unlifted (groups_of w.mutually_exclusive.items) [])) c.in_ok-candidates.ensures
-      ∙ ap (made_of (groups_of fs)) (unlifted-none (groups_of w.mutually_exclusive.items)) in
+    c.in_ok-rules.ensures.choice
+    ∙ ap (λ x. choice x w.depth c.as_slice-2.result.now c.as_slice-3.result.now c.args.found.now []) c.as_slice.ensures.value
+    ∙ ap (λ x. choice all w.depth x c.as_slice-3.result.now c.args.found.now []) c.as_slice-2.ensures.value
+    ∙ ap (λ x. choice all w.depth w.at_least_one_of.items x c.args.found.now []) c.as_slice-3.ensures.value
+    ∙ ap (λ names. made_of names (unlifted (groups_of w.mutually_exclusive.items) [])) c.in_ok-candidates.ensures
+    ∙ ap (made_of (groups_of fs)) (unlifted-none (groups_of w.mutually_exclusive.items)) in
     let size : length all ≡ length fs =
-      sym (length-candidates_of all) ∙ ap length c.in_ok-candidates.ensures ∙ length-map fs group_of in
+    sym (length-candidates_of all) ∙ ap length c.in_ok-candidates.ensures ∙ length-map fs group_of in
     let whole : size_of r ≡ length all = c.in_ok-rules.ensures.size ∙ ap length c.as_slice.ensures.value in
     let asked : size_of r ≡ c.len.result = c.in_ok-rules.ensures.size ∙ c.as_slice.ensures.len ∙ sym c.len.ensures in
     let listing : IsListing (size_of r) (IsListed (choice_of r)) sets =
-      listing-listed (size_of r) (choice_of r) (may_of r) (whole_of r) c.in_ok-rules.ensures.permitted c.in_ok-rules.ensures.required sets
-        (subst (λ n. IsListing n (IsWhole (may_of r) (whole_of r)) sets) (sym asked) c.in_ok-pruned.ensures.sets) in
+    listing-listed (size_of r) (choice_of r) (may_of r) (whole_of r) c.in_ok-rules.ensures.permitted c.in_ok-rules.ensures.required sets
+    (subst (λ n. IsListing n (IsWhole (may_of r) (whole_of r)) sets) (sym asked) c.in_ok-pruned.ensures.sets) in
     subst (λ (q : Choice). IsListing (length fs) (IsListed q) sets) same
-      (subst (λ n. IsListing n (IsListed (choice_of r)) sets) (whole ∙ size) listing)
+    (subst (λ n. IsListing n (IsListed (choice_of r)) sets) (whole ∙ size) listing)
