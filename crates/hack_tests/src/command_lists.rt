@@ -11,7 +11,8 @@ const FOUR: &str = r#"{"a":[],"b":["a"],"c":["b"],"d":["a","b"]}"#;
 
 const RUNTIMES: &str = r#"{"a":["tokio/full"],"b":["async-std?/alloc"],"tokio":[],"async-std":[]}"#;
 
-const USAGE: &str = "usage: powerset-list [--depth N] [--at-least-one-of LIST]... [--mutually-exclusive-features LIST]...";
+const USAGE: &str =
+    "usage: powerset-list [--depth N] [--at-least-one-of LIST]... [--mutually-exclusive-features LIST]...";
 
 const INPUT: &str = "features must be an object of arrays of texts";
 
