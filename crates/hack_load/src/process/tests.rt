@@ -99,8 +99,8 @@ fn short_and_long_texts(rt: HostRuntime) -> Result<(), AllocError> {
 #[test]
 fn leading_words_come_first(rt: HostRuntime) -> Result<(), AllocError> {
     let alloc = rt.alloc();
-    let mut builder = with_own(alloc, "--all-features")?;
     let passed = words(alloc, "check -q")?;
+    let mut builder = with_own(alloc, "--all-features")?;
     builder.pass_words(&passed, &[]);
     builder.leading_arg("run")?;
     builder.leading_arg("1.60")?;
