@@ -1,14 +1,12 @@
 //! The list of commands of a package's feature powerset, from the bytes of its feature map.
 
-ghost use Rattle.std.specs.Prelude.{◌≡◌, List, ℕ, length, OnOk, IfOk, IfErr, map, string_bytes};
-ghost use Rattle.hack_features.specs.Feature.{groups_of};
+ghost use Rattle.std.specs.Prelude.{length, OnOk, IfOk, IfErr, map, string_bytes};
 ghost use Rattle.hack_features.specs.FeatureMap.{feature_map};
 ghost use Rattle.hack_features.specs.Sets.{IsListing, rows_of};
 ghost use Rattle.hack_features.specs.Rules.{IsListed};
 ghost use Rattle.cargo_hack.specs.RunsView.{runs_in};
-ghost use Rattle.cargo_hack.specs.Runs.{runs_from};
 ghost use Rattle.cargo_hack.specs.CommandList.{WritesList, RefusesList};
-ghost use Rattle.cargo_hack.specs.ListRuns.{chosen_from, options_from, AreListRuns};
+ghost use Rattle.cargo_hack.specs.ListRuns.{chosen_from, AreListRuns};
 
 use crate::fault::ListFault;
 use crate::input::{all_of, bytes_of, features_of, map_of};

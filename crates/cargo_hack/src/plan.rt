@@ -1,6 +1,6 @@
 //! The runs of a package.
 
-ghost use Rattle.std.specs.Prelude.{◌≡◌, ◌<◌, ◌+◌, ◌++◌, ◌∷◌, [], List, ℕ, map, not, length, slice_get, IfOk, IsTrue, ◌↔◌, Some, ◌&&◌, nat_lt, vec_len, ◌^◌, if◌then◌else◌};
+ghost use Rattle.std.specs.Prelude.{◌≡◌, ◌<◌, ◌+◌, ◌++◌, ◌∷◌, [], List, ℕ, not, length, slice_get, IfOk, IsTrue, ◌↔◌, Some, ◌&&◌, nat_lt, vec_len, ◌^◌, if◌then◌else◌};
 ghost use Rattle.hack_features.specs.Sets.{rows_of};
 ghost use Rattle.cargo_hack.specs.Runs.{last_first as turned_rows, keeps_all, kept, Plain, AllFeatures, NoDefaultFeatures};
 ghost use Rattle.cargo_hack.specs.Fronts.{fronts};
