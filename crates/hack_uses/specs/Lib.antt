@@ -1,0 +1,6 @@
+pub mod Faults
+pub mod Uses
+pub mod Reads
+pub mod Owned
+pub mod Values
+pub mod Passed

@@ -1,0 +1,110 @@
+//! What uses say of an option.
+
+ghost use Rattle.std.specs.Prelude.{◌≡◌, IfOk, map, string_bytes};
+ghost use Rattle.std.specs.Option.{option_map};
+ghost use Rattle.hack_uses.specs.Faults.{flag_seen};
+ghost use Rattle.hack_uses.specs.Passed.{count_of};
+ghost use Rattle.hack_uses.specs.Values.{value_given, values_given};
+ghost use Rattle.hack_uses.specs.Uses.{is_given, views, subcommand_of, last_flag as last_option};
+
+use crate::Use;
+use crate::fault::OwnedFlag;
+use hack_options::Opt;
+use std::alloc::{AllocError, Global};
+
+/// Whether the option was used.
+pub fn given(option: Opt, uses: &[Use]) -> bool
+    ensures { result ≡ is_given option (views uses.now) }
+{
+    for one in uses {
+        if let Use::Known { option: used, .. } = one {
+            if used.is(option) {
+                return true;
+            }
+        }
+    }
+    false
+}
+
+/// The first word that no option takes.
+pub fn subcommand(uses: &[Use]) -> Option<&String>
+    ensures { option_map (λ word. string_bytes word.now) result ≡ subcommand_of (views uses.now) }
+{
+    for one in uses {
+        if let Use::Word(word) = one {
+            return Some(word);
+        }
+    }
+    None
+}
+
+/// The option that was cut last.
+pub fn last_flag(alloc: Global, uses: &[Use]) -> Result<OwnedFlag, AllocError>
+    ensures { IfOk result (λ flag. flag_seen flag ≡ last_option (views uses.now)) }
+{
+    let mut last = None;
+    for one in uses {
+        match one {
+            Use::Known { flag, .. } => last = Some(flag),
+            Use::Unknown { flag, .. } => last = Some(flag),
+            Use::Word(_) => {}
+        }
+    }
+    match last {
+        Some(OwnedFlag::Long(name)) => Ok(OwnedFlag::Long(name.clone()?)),
+        Some(OwnedFlag::Short(letter)) => Ok(OwnedFlag::Short(*letter)),
+        None => Ok(OwnedFlag::Long(String::new(alloc))),
+    }
+}
+
+/// The value of the first use, for an option that stands once.
+pub fn value(option: Opt, uses: &[Use]) -> Option<&String>
+    ensures { option_map (λ value. string_bytes value.now) result ≡ value_given option (views uses.now) }
+{
+    for one in uses {
+        if let Use::Known {
+            option: used,
+            value: Some(value),
+            ..
+        } = one
+            && used.is(option)
+        {
+            return Some(value);
+        }
+    }
+    None
+}
+
+/// The values of all uses, in order.
+pub fn values(alloc: Global, option: Opt, uses: &[Use]) -> Result<Vec<String>, AllocError>
+    ensures { IfOk result (λ values. map string_bytes values.items ≡ values_given option (views uses.now)) }
+{
+    let mut values = Vec::new(alloc);
+    for one in uses {
+        if let Use::Known {
+            option: used,
+            value: Some(value),
+            ..
+        } = one
+            && used.is(option)
+        {
+            values.push(value.clone()?)?;
+        }
+    }
+    Ok(values)
+}
+
+/// How often the option was used.
+pub fn count(option: Opt, uses: &[Use]) -> usize
+    ensures { result ≡ count_of option (views uses.now) }
+{
+    let mut count = 0;
+    for one in uses {
+        if let Use::Known { option: used, .. } = one
+            && used.is(option)
+        {
+            count += 1;
+        }
+    }
+    count
+}
