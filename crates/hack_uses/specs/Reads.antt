@@ -3,6 +3,7 @@ use Rattle.std.specs.Prelude.{ℕ, ◌≡◌, List, [], ◌∷◌, ◌++◌, ◌
 use Rattle.std.specs.Str.{bytes_eq}
 use Rattle.std.specs.declared.alloc.Global.{Global}
 use Rattle.hack_lexopt.specs.Cuts.{Cut, LongCut, ShortCut, ValueCut, Left, Untaken, Nothing, next_cut, after_cut, attached, after_attached, value_of, after_value, optional_of, after_optional, unexpected_of}
+use Rattle.hack_lexopt.specs.Parsers.{start}
 use Rattle.hack_lexopt.specs.declared.LexFault.{LexFault}
 use Rattle.hack_options.specs.declared.Opt.{Opt}
 use Rattle.hack_options.specs.declared.Opt.TheVariants as opt
@@ -146,7 +147,7 @@ Reads before old (u ∷ us) new = (mid : Left) × (read_of before old ≡ Met u 
 
 -- these uses are read of the words, and behind them this
 abbrev pub Ends : List (List ℕ) → List Use → Reading → Type 0
-Ends words us r = (left : Left) × Reads [] (record { untaken = Nothing; words = words }) us left × (read_of us left ≡ r)
+Ends words us r = (left : Left) × Reads [] (start words) us left × (read_of us left ≡ r)
 
 -- what the words come to: all their uses, a question for a text, or the first fault of a cut
 abbrev pub GivesUses : Result Cuts CutFault → List (List ℕ) → Type 0

@@ -1,6 +1,10 @@
+pub mod CliFaults
+pub mod CliLists
 pub mod Groups
 pub mod Lines
 pub mod Lists
 pub mod Partitions
 pub mod Pieces
+pub mod RangeReadings
+pub mod Readings
 pub mod Writes

@@ -1,6 +1,7 @@
 //! What is made of the words of a call, and how the user is told of it.
 #![tactic(auto)]
 
+pub mod cli;
 pub mod lists;
 mod log_group;
 pub mod partition;

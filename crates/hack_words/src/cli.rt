@@ -1,0 +1,6 @@
+//! The words of a call of `cargo hack`, read into its options.
+
+mod fault;
+
+pub use fault::{Beside, CliFault};
+pub use hack_uses::{CutFault, OwnedFlag};
