@@ -1,5 +1,5 @@
 -- The lists that uses of options give.
-use Rattle.std.specs.Prelude.{ℕ, ◌==◌, List, [], ◌∷◌, ◌||◌, ◌&&◌, not, Bool, true, false, Option, Some, None, length, map, nat_lt, bytes_eq, if◌then◌else◌}
+use Rattle.std.specs.Prelude.{ℕ, ◌==◌, List, [], ◌∷◌, ◌||◌, ◌&&◌, not, Bool, true, false, Option, Some, None, length, map, nat_lt, bytes_eq, option_map, if◌then◌else◌}
 use Rattle.std.specs.List.{flat_map, filter_map, list_any}
 use Rattle.hack_options.specs.declared.Opt.{Opt}
 use Rattle.hack_options.specs.declared.Opt.TheVariants as opt
@@ -54,20 +54,31 @@ same_names [] (n ∷ ns) = false
 same_names (n ∷ ns) [] = false
 same_names (n ∷ ns) (m ∷ ms) = bytes_eq n m && same_names ns ms
 
--- the first value of another form
-abbrev pub lift_form : List (List ℕ) → Option Fault
-lift_form [] = None
-lift_form (text ∷ texts) = unless (lift_of text)
-  where
-    unless : Option Lift → Option Fault
-    unless (Some lift) = lift_form texts
-    unless None = Some (LiftForm text)
+-- the first text that fails a test
+abbrev pub first_failing : (List ℕ → Bool) → List (List ℕ) → Option (List ℕ)
+first_failing test [] = None
+first_failing test (text ∷ texts) = if test text then first_failing test texts else Some text
 
--- the first value whose names are none of these groups
-abbrev pub lift_group : List (List (List ℕ)) → List (List ℕ) → Option Fault
-lift_group groups [] = None
-lift_group groups (text ∷ texts) = unless (lift_of text)
+-- a text lifts a group
+abbrev pub is_lift : List ℕ → Bool
+is_lift text = is_some (lift_of text)
   where
-    unless : Option Lift → Option Fault
-    unless (Some lift) = if list_any (same_names lift.group) groups then lift_group groups texts else Some (LiftGroup text)
-    unless None = lift_group groups texts
+    is_some : Option Lift → Bool
+    is_some (Some lift) = true
+    is_some None = false
+
+-- the names of a text that lifts a group are those of one of these groups
+abbrev pub lifts_one_of : List (List (List ℕ)) → List ℕ → Bool
+lifts_one_of groups text = is_one (lift_of text)
+  where
+    is_one : Option Lift → Bool
+    is_one (Some lift) = list_any (same_names lift.group) groups
+    is_one None = false
+
+-- the first value of another form
+abbrev pub lift_form : List Use → Option Fault
+lift_form us = option_map LiftForm (first_failing is_lift (values_given opt.AllowTogether us))
+
+-- the first value whose names are those of no exclusion group
+abbrev pub lift_group : List Use → Option Fault
+lift_group us = option_map LiftGroup (first_failing (lifts_one_of (groups_given opt.MutuallyExclusiveFeatures us)) (values_given opt.AllowTogether us))
