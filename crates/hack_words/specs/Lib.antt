@@ -1,5 +1,6 @@
 pub mod CliFaults
 pub mod CliLists
+pub mod CliValues
 pub mod Groups
 pub mod Lines
 pub mod Lists
