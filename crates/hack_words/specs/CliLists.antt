@@ -1,5 +1,5 @@
 -- The lists that uses of options give.
-use Rattle.std.specs.Prelude.{ℕ, ◌==◌, List, [], ◌∷◌, ◌||◌, ◌&&◌, not, Bool, true, false, Option, Some, None, length, map, nat_lt, bytes_eq, option_map, if◌then◌else◌}
+use Rattle.std.specs.Prelude.{ℕ, List, [], ◌∷◌, ◌&&◌, not, Bool, true, false, Option, Some, None, length, map, nat_lt, bytes_eq, option_map, if◌then◌else◌}
 use Rattle.std.specs.List.{flat_map, filter_map, list_any}
 use Rattle.hack_options.specs.declared.Opt.{Opt}
 use Rattle.hack_options.specs.declared.Opt.TheVariants as opt
@@ -7,7 +7,7 @@ use Rattle.hack_uses.specs.Uses.{Use, is_given}
 use Rattle.hack_uses.specs.Values.{value_given, values_given}
 use Rattle.hack_versions.specs.VersionTexts.{front_of, rest_of}
 use Rattle.hack_words.specs.CliFaults.{Fault, LiftForm, LiftGroup}
-use Rattle.hack_words.specs.Lists.{comma, space, group_names, list_names, unquoted}
+use Rattle.hack_words.specs.Lists.{is_list, group_names, list_names, unquoted}
 
 -- the names in all lists of an option, in order
 abbrev pub names_given : Opt → List Use → List (List ℕ)
@@ -25,10 +25,6 @@ names_or_none (Some text) = group_names (unquoted text)
 -- the names of the optional dependencies, where the option is used
 abbrev pub optional_given : List Use → Option (List (List ℕ))
 optional_given us = if is_given opt.OptionalDeps us then Some (names_or_none (value_given opt.OptionalDeps us)) else None
-
--- there is a comma or a space
-abbrev pub is_list : List ℕ → Bool
-is_list text = list_any (λ b. b == comma) text || list_any (λ b. b == space) text
 
 -- an exclusion group that is lifted for a package
 pub record Lift : Type 0 where

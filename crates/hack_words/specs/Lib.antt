@@ -1,11 +1,15 @@
 pub mod CliFaults
 pub mod CliLists
 pub mod CliValues
+pub mod Asked
 pub mod Groups
 pub mod Lines
+pub mod Listed
 pub mod Lists
+pub mod ListsView
 pub mod Partitions
 pub mod Pieces
 pub mod RangeReadings
 pub mod Readings
+pub mod Rules
 pub mod Writes

@@ -14,6 +14,10 @@ space = 32
 abbrev pub HasSeparator : List ℕ → Type 0
 HasSeparator text = Contains text comma ⊎ Contains text space
 
+-- the same as a test
+abbrev pub is_list : List ℕ → Bool
+is_list text = list_any (λ b. b == comma) text || list_any (λ b. b == space) text
+
 -- a group is split at commas where it has one, else at spaces
 abbrev pub separator_of : List ℕ → ℕ
 separator_of text = if list_any (λ b. b == comma) text then comma else space

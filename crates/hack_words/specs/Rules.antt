@@ -10,8 +10,10 @@ use Rattle.hack_words.specs.declared.term.Coloring.{Coloring}
 use Rattle.hack_words.specs.declared.cli.fault.Beside.{Beside}
 use Rattle.hack_words.specs.declared.cli.fault.Beside.TheVariants as beside
 use Rattle.hack_words.specs.CliFaults.{Fault, Color, TermColor, Needs, Single, BesideSubcommand, Install, Clash, ClashWord, Excluded, NoSubcommand, OldRustup}
-use Rattle.hack_words.specs.CliLists.{names_given, groups_given, optional_given, is_list, lift_form, lift_group}
+use Rattle.hack_words.specs.CliLists.{lift_form, lift_group}
 use Rattle.hack_words.specs.CliValues.{depth_fault, step_fault, log_group_fault, partition_fault, kind_fault, range_fault}
+use Rattle.hack_words.specs.Lists.{is_list}
+use Rattle.hack_words.specs.Listed.{Listed, listed}
 use Rattle.hack_words.specs.Readings.{coloring_of}
 
 -- a fault where a test is true
@@ -42,7 +44,7 @@ is_nonempty names = nat_lt 0 (length names)
 
 -- one of the names
 abbrev pub is_among : List (List ℕ) → List ℕ → Bool
-is_among names name = list_any (bytes_eq name) names
+is_among names name = list_any (λ one. bytes_eq one name) names
 
 -- a text that names no colouring
 abbrev pub coloring_fault : (List ℕ → Fault) → List ℕ → Option Fault
@@ -58,23 +60,23 @@ color_rule (Some said) env = coloring_fault Color said
 color_rule None env = of_value (coloring_fault TermColor) env
 
 -- --ignore-unknown-features stands beside a list of features
-abbrev pub unknown_rule : List Use → Option Fault
-unknown_rule us =
+abbrev pub unknown_rule : Listed → List Use → Option Fault
+unknown_rule l us =
     needs (is_given opt.IgnoreUnknownFeatures us) opt.IgnoreUnknownFeatures beside.FeatureLists
-      (is_nonempty (names_given opt.Features us) || is_nonempty (names_given opt.IncludeFeatures us) || is_given opt.GroupFeatures us)
+      (is_nonempty l.features || is_nonempty l.includes || is_given opt.GroupFeatures us)
 
 -- --each-feature or --feature-powerset is there
 abbrev pub is_each : List Use → Bool
 is_each us = is_given opt.EachFeature us || is_given opt.FeaturePowerset us
 
 -- what stands beside --each-feature or --feature-powerset; a list counts where it has a name
-abbrev pub each_rules : List Use → List (Option Fault)
-each_rules us =
+abbrev pub each_rules : Listed → List Use → List (Option Fault)
+each_rules l us =
     needs (is_given opt.OptionalDeps us) opt.OptionalDeps beside.EachOrPowerset (is_each us)
-    ∷ needs (is_nonempty (names_given opt.ExcludeFeatures us)) opt.ExcludeFeatures beside.EachOrPowerset (is_each us)
+    ∷ needs (is_nonempty l.excludes) opt.ExcludeFeatures beside.EachOrPowerset (is_each us)
     ∷ needs (is_given opt.ExcludeNoDefaultFeatures us) opt.ExcludeNoDefaultFeatures beside.EachOrPowerset (is_each us)
     ∷ needs (is_given opt.ExcludeAllFeatures us) opt.ExcludeAllFeatures beside.EachOrPowerset (is_each us)
-    ∷ needs (is_nonempty (names_given opt.IncludeFeatures us)) opt.IncludeFeatures beside.EachOrPowerset (is_each us)
+    ∷ needs (is_nonempty l.includes) opt.IncludeFeatures beside.EachOrPowerset (is_each us)
     ∷ needs (is_given opt.IncludeDepsFeatures us) opt.IncludeDepsFeatures beside.EachOrPowerset (is_each us)
     ∷ []
 
@@ -107,16 +109,19 @@ subcommand_rule (Some word) us =
 abbrev pub cargo_rule : Bool → Opt → List Use → Option Fault
 cargo_rule cargo option us = fault_if (cargo && is_given option us) (Clash opt.WorkspaceBehavior option)
 
--- a word for cargo that picks the package's targets that need dev-dependencies
+-- an option for cargo that picks targets of the package that need dev-dependencies
+abbrev pub is_target_flag : List ℕ → Bool
+is_target_flag w =
+    bytes_eq w (codes "--example") || bytes_eq w (codes "--examples") || bytes_eq w (codes "--test") || bytes_eq w (codes "--tests")
+    || bytes_eq w (codes "--bench") || bytes_eq w (codes "--benches") || bytes_eq w (codes "--all-targets")
+
+-- the same with the target's name
+abbrev pub is_target_name : List ℕ → Bool
+is_target_name w = starts_with nat_eq w (codes "--example=") || starts_with nat_eq w (codes "--test=") || starts_with nat_eq w (codes "--bench=")
+
+-- one of both
 abbrev pub is_target_word : List ℕ → Bool
 is_target_word w = is_target_flag w || is_target_name w
-  where
-    is_target_flag : List ℕ → Bool
-    is_target_flag w =
-        bytes_eq w (codes "--example") || bytes_eq w (codes "--examples") || bytes_eq w (codes "--test") || bytes_eq w (codes "--tests")
-        || bytes_eq w (codes "--bench") || bytes_eq w (codes "--benches") || bytes_eq w (codes "--all-targets")
-    is_target_name : List ℕ → Bool
-    is_target_name w = starts_with nat_eq w (codes "--example=") || starts_with nat_eq w (codes "--test=") || starts_with nat_eq w (codes "--bench=")
 
 -- the first of them
 abbrev pub first_target_word : List (List ℕ) → Option (List ℕ)
@@ -129,10 +134,10 @@ target_rule us None = None
 target_rule us (Some word) = if is_given opt.RemoveDevDeps us then Some (ClashWord opt.RemoveDevDeps word) else fault_if (is_given opt.NoDevDeps us) (ClashWord opt.NoDevDeps word)
 
 -- a list of features to include stands alone
-abbrev pub include_rules : List Use → List (Option Fault)
-include_rules us =
-    fault_if (is_nonempty (names_given opt.IncludeFeatures us) && is_given opt.OptionalDeps us) (Clash opt.IncludeFeatures opt.OptionalDeps)
-    ∷ fault_if (is_nonempty (names_given opt.IncludeFeatures us) && is_given opt.IncludeDepsFeatures us) (Clash opt.IncludeFeatures opt.IncludeDepsFeatures)
+abbrev pub include_rules : Listed → List Use → List (Option Fault)
+include_rules l us =
+    fault_if (is_nonempty l.includes && is_given opt.OptionalDeps us) (Clash opt.IncludeFeatures opt.OptionalDeps)
+    ∷ fault_if (is_nonempty l.includes && is_given opt.IncludeDepsFeatures us) (Clash opt.IncludeFeatures opt.IncludeDepsFeatures)
     ∷ []
 
 -- options that don't stand together
@@ -156,41 +161,50 @@ is_optional (Some names) name = is_among names name
 is_optional None name = false
 
 -- the first option that names the feature
-abbrev pub naming : List Use → List ℕ → Option Opt
-naming us name =
-    if is_among (names_given opt.Features us) name then Some opt.Features
-    else if is_optional (optional_given us) name then Some opt.OptionalDeps
-    else if is_in_group (groups_given opt.GroupFeatures us) name then Some opt.GroupFeatures
-    else if is_in_group (groups_given opt.MutuallyExclusiveFeatures us) name then Some opt.MutuallyExclusiveFeatures
-    else if is_among (names_given opt.IncludeFeatures us) name then Some opt.IncludeFeatures
+abbrev pub naming : Listed → List ℕ → Option Opt
+naming l name =
+    if is_among l.features name then Some opt.Features
+    else if is_optional l.optional name then Some opt.OptionalDeps
+    else if is_in_group l.groups name then Some opt.GroupFeatures
+    else if is_in_group l.exclusive name then Some opt.MutuallyExclusiveFeatures
+    else if is_among l.includes name then Some opt.IncludeFeatures
     else None
 
 -- no option names a feature that is excluded
-abbrev pub excluded_rule : List Use → List (List ℕ) → Option Fault
-excluded_rule us [] = None
-excluded_rule us (name ∷ names) = or_later (option_map (Excluded name) (naming us name)) (excluded_rule us names)
+abbrev pub excluded_rule : Listed → List (List ℕ) → Option Fault
+excluded_rule l [] = None
+excluded_rule l (name ∷ names) = or_later (option_map (Excluded name) (naming l name)) (excluded_rule l names)
   where
     or_later : Option Fault → Option Fault → Option Fault
     or_later (Some fault) later = Some fault
     or_later None later = later
 
--- the rules before that on a missing subcommand
-abbrev pub rules_before : Bool → Option (List ℕ) → List Use → List (Option Fault)
-rules_before cargo term_color us =
+-- the rules on colour and on what features are listed for, and the depth
+abbrev pub early_rules : Option (List ℕ) → Listed → List Use → List (Option Fault)
+early_rules term_color l us =
     color_rule (value_given opt.Color us) term_color
-    ∷ unknown_rule us
-    ∷ first_of (each_rules us)
+    ∷ unknown_rule l us
+    ∷ first_of (each_rules l us)
     ∷ first_of (powerset_rules us)
     ∷ of_value depth_fault (value_given opt.Depth us)
-    ∷ first_of (single_rules us)
+    ∷ []
+
+-- the rules on groups, and on what doesn't stand together
+abbrev pub together_rules : Bool → Listed → List Use → List (Option Fault)
+together_rules cargo l us =
+    first_of (single_rules us)
     ∷ subcommand_rule (subcommand_of us) us
     ∷ cargo_rule cargo opt.EachFeature us
     ∷ cargo_rule cargo opt.FeaturePowerset us
     ∷ target_rule us (first_target_word (leading_of cargo us))
-    ∷ first_of (include_rules us)
+    ∷ first_of (include_rules l us)
     ∷ first_of (pair_rules us)
-    ∷ excluded_rule us (names_given opt.ExcludeFeatures us)
+    ∷ excluded_rule l l.excludes
     ∷ []
+
+-- the rules before that on a missing subcommand
+abbrev pub rules_before : Bool → Option (List ℕ) → Listed → List Use → List (Option Fault)
+rules_before cargo term_color l us = first_of (early_rules term_color l us) ∷ first_of (together_rules cargo l us) ∷ []
 
 -- an option that wants a newer rustup, where its minor version is known
 abbrev pub rustup_rule : Opt → Option ℕ → List Use → Option Fault
@@ -241,7 +255,7 @@ rules_after rustup us =
 -- what uses come to
 pub data Verdict : Type 0 where
   Accepted : Verdict
-  Listed : Verdict
+  Lists : Verdict
   Refused : Fault → Verdict
 
 -- refused by the fault, if there is one
@@ -253,11 +267,11 @@ refused_by None verdict = verdict
 abbrev pub without_subcommand : Bool → Option (List ℕ) → List Use → Verdict → Verdict
 without_subcommand cargo (Some word) us verdict = verdict
 without_subcommand cargo None us verdict =
-    if is_among (leading_of cargo us) (codes "--list") then Listed
+    if is_among (leading_of cargo us) (codes "--list") then Lists
     else if is_given opt.RemoveDevDeps us then verdict else Refused NoSubcommand
 
 -- the verdict on uses: the first rule that gives a fault refuses them
 abbrev pub verdict_of : Bool → Option (List ℕ) → Option ℕ → List Use → Verdict
 verdict_of cargo term_color rustup us =
-    refused_by (first_of (rules_before cargo term_color us))
+    refused_by (first_of (rules_before cargo term_color (listed us) us))
       (without_subcommand cargo (subcommand_of us) us (refused_by (first_of (rules_after rustup us)) Accepted))

@@ -1,6 +1,9 @@
 //! The words of a call of `cargo hack`, read into its options.
 
 mod fault;
+mod late_rules;
+mod listed;
+mod rules;
 
 pub use fault::{Beside, CliFault};
 pub use hack_uses::{CutFault, OwnedFlag};

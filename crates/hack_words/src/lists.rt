@@ -1,7 +1,7 @@
 //! Lists of names in one word: how the values of the options that take several names are split.
 
 ghost use Rattle.std.specs.Prelude.{◌≡◌, ◌<◌, ◌↔◌, IsTrue, IfOk, IsErrOf, map, string_bytes};
-ghost use Rattle.hack_words.specs.Lists.{HasSeparator, group_names, list_names, IsLoneQuote, separator_of, unquoted as without_quotes, is_quoted as quoted, is_between as between};
+ghost use Rattle.hack_words.specs.Lists.{HasSeparator, is_list, group_names, list_names, IsLoneQuote, separator_of, unquoted as without_quotes, is_quoted as quoted, is_between as between};
 
 use std::alloc::{AllocError, AllocFailed, Global};
 use thiserror::Error;
@@ -38,7 +38,8 @@ impl<T: Drop> From<AllocFailed<T>> for NamesFault {
 
 /// Whether a text has a comma or a space, so that it can be a list of two names or more.
 pub fn has_separator(text: &str) -> bool
-    ensures { IsTrue result ↔ HasSeparator text.now }
+    ensures separator { IsTrue result ↔ HasSeparator text.now }
+    ensures test { result ≡ is_list text.now }
 {
     let bytes = text.as_bytes();
     bytes.contains(&b',') || bytes.contains(&b' ')
