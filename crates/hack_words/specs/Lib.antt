@@ -1,4 +1,5 @@
 pub mod CliFaults
+pub mod CliGroups
 pub mod CliLists
 pub mod CliValues
 pub mod Groups

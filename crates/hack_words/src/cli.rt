@@ -1,6 +1,8 @@
 //! The words of a call of `cargo hack`, read into its options.
 
 mod fault;
+mod named;
+mod values;
 
 pub use fault::{Beside, CliFault};
 pub use hack_uses::{CutFault, OwnedFlag};
