@@ -1,8 +1,10 @@
 pub mod CliFaults
+pub mod CliGroups
 pub mod CliLists
 pub mod CliValues
 pub mod Asked
 pub mod Groups
+pub mod LateView
 pub mod Lines
 pub mod Listed
 pub mod Lists

@@ -3,7 +3,9 @@
 mod fault;
 mod late_rules;
 mod listed;
+mod named;
 mod rules;
+mod values;
 
 pub use fault::{Beside, CliFault};
 pub use hack_uses::{CutFault, OwnedFlag};

@@ -79,7 +79,8 @@ fn is_quoted(text: &str) -> bool
     is_between(text, b'\'') || is_between(text, b'"')
 }
 
-fn unquoted(text: &str) -> &str
+/// The text without the pair of equal quotes around it, where there is one.
+pub(crate) fn unquoted(text: &str) -> &str
     ensures { result.now ≡ without_quotes text.now }
 {
     if is_quoted(text) {
@@ -90,13 +91,9 @@ fn unquoted(text: &str) -> &str
 }
 
 /// The names of a list. One pair of equal quotes around the text is dropped, and so are empty names.
-pub fn split_list(alloc: Global, text: &str) -> Result<Vec<String>, NamesFault>
-    ensures names { IfOk result (λ names. map string_bytes names.items ≡ list_names text.now) }
-    ensures lone_quote { IsErrOf result NamesFault.LoneQuote ↔ IsLoneQuote text.now }
+pub fn split_names(alloc: Global, text: &str) -> Result<Vec<String>, AllocError>
+    ensures { IfOk result (λ names. map string_bytes names.items ≡ list_names text.now) }
 {
-    if text == "'" || text == "\"" {
-        return Err(NamesFault::LoneQuote);
-    }
     let mut names = Vec::new(alloc);
     let inner = unquoted(text);
     for name in inner.split(separator(inner)) {
@@ -105,4 +102,15 @@ pub fn split_list(alloc: Global, text: &str) -> Result<Vec<String>, NamesFault>
         }
     }
     Ok(names)
+}
+
+/// The names of a list, as `split_names` gives them, where the list is no lone quote sign.
+pub fn split_list(alloc: Global, text: &str) -> Result<Vec<String>, NamesFault>
+    ensures names { IfOk result (λ names. map string_bytes names.items ≡ list_names text.now) }
+    ensures lone_quote { IsErrOf result NamesFault.LoneQuote ↔ IsLoneQuote text.now }
+{
+    if text == "'" || text == "\"" {
+        return Err(NamesFault::LoneQuote);
+    }
+    Ok(split_names(alloc, text)?)
 }

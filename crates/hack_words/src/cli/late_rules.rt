@@ -1,12 +1,14 @@
 //! The rules behind that on a missing subcommand: ranges of versions, log groups, pieces of a plan and lifted groups.
 
 ghost use Rattle.std.specs.Prelude.{◌≡◌, IfOk, IfSome, map, option_map, option_and_then};
+ghost use Rattle.std.specs.List.{list_any};
 ghost use Rattle.hack_uses.specs.Uses.{view, views, is_given};
 ghost use Rattle.hack_uses.specs.Values.{value_given};
 ghost use Rattle.hack_words.specs.Asked.{read_range, range_asked, is_old_asked, step_asked, is_message_format as message_format, group_found, log_group_asked, piece_asked, kind_asked};
 ghost use Rattle.hack_words.specs.CliFaults.{Checks};
 ghost use Rattle.hack_words.specs.CliLists.{lifts_given};
 ghost use Rattle.hack_words.specs.CliValues.{range_fault, step_fault, log_group_fault};
+ghost use Rattle.hack_words.specs.LateView.{IsLate};
 ghost use Rattle.hack_words.specs.Rules.{first_of, of_value, rustup_rule, is_ranged as ranged, range_rules, piece_rules, lift_rules, rules_after};
 
 use crate::cli::fault::{Beside, CliFault};
@@ -178,4 +180,36 @@ fn lifts(alloc: Global, uses: &[Use]) -> Result<Vec<(String, Feature)>, CliFault
     let there = given(Opt::MutuallyExclusiveFeatures, uses);
     needs(given(option, uses), option, Beside::MutuallyExclusive, there)?;
     named::lifts(alloc, uses)
+}
+
+/// What these rules read while they check.
+#[derive(Drop)]
+pub struct Late {
+    pub versions: Versions,
+    pub log_group: LogGroup,
+    pub partition: Option<Partition>,
+    /// Packages, and for each an exclusion group that is lifted for it.
+    pub lifts: Vec<(String, Feature)>,
+}
+
+/// The rules behind that on a missing subcommand, and what they read. `rustup` is its minor version, where known.
+pub fn after(
+    alloc: Global,
+    rustup: Option<u32>,
+    github_actions: bool,
+    uses: &[Use],
+) -> Result<Late, CliFault>
+    ensures rules { Checks result (first_of (rules_after rustup (views uses.now))) }
+    ensures late { IfOk result (IsLate github_actions (views uses.now)) }
+{
+    let versions = versions(alloc, rustup, uses)?;
+    let log_group = log_group(alloc, github_actions, uses)?;
+    let partition = partition(alloc, uses)?;
+    let lifts = lifts(alloc, uses)?;
+    Ok(Late {
+        versions,
+        log_group,
+        partition,
+        lifts,
+    })
 }
