@@ -1,3 +1,4 @@
+pub mod Call
 pub mod CliFaults
 pub mod CliGroups
 pub mod CliLists
@@ -14,4 +15,7 @@ pub mod Pieces
 pub mod RangeReadings
 pub mod Readings
 pub mod Rules
+pub mod RustupView
+pub mod Start
+pub mod StartView
 pub mod Writes

@@ -4,8 +4,11 @@ mod fault;
 mod late_rules;
 mod listed;
 mod named;
+mod notes;
 mod rules;
+mod start;
 mod values;
 
 pub use fault::{Beside, CliFault};
 pub use hack_uses::{CutFault, OwnedFlag};
+pub use start::wants_rustup;

@@ -78,7 +78,7 @@ fn step(alloc: Global, uses: &[Use]) -> Result<u16, CliFault>
 }
 
 /// The rules on versions.
-fn versions(alloc: Global, rustup: Option<u32>, uses: &[Use]) -> Result<Versions, CliFault>
+fn versioned(alloc: Global, rustup: Option<u32>, uses: &[Use]) -> Result<Versions, CliFault>
     ensures rules { Checks result (first_of (range_rules rustup (views uses.now))) }
     ensures range { IfOk result (λ versions. versions.range ≡ range_asked (views uses.now)) }
     ensures old { IfOk result (λ versions. versions.is_old ≡ is_old_asked (views uses.now)) }
@@ -202,7 +202,7 @@ pub fn after(
     ensures rules { Checks result (first_of (rules_after rustup (views uses.now))) }
     ensures late { IfOk result (IsLate github_actions (views uses.now)) }
 {
-    let versions = versions(alloc, rustup, uses)?;
+    let versions = versioned(alloc, rustup, uses)?;
     let log_group = log_group(alloc, github_actions, uses)?;
     let partition = partition(alloc, uses)?;
     let lifts = lifts(alloc, uses)?;

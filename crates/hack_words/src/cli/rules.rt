@@ -390,7 +390,7 @@ pub struct Early {
 }
 
 /// Colour, what stands beside lists and runs by features, and the depth.
-fn early(
+fn listing(
     alloc: Global,
     term_color: Option<&String>,
     lists: &Lists,
@@ -422,7 +422,7 @@ pub fn before(
     ensures coloring { IfOk result (λ early. early.coloring ≡ coloring_asked (option_map (λ text. string_bytes text.now) term_color.entry) (views uses.now)) }
     ensures depth { IfOk result (λ early. early.depth ≡ depth_asked (views uses.now)) }
 {
-    let early = early(alloc, term_color, lists, uses)?;
+    let early = listing(alloc, term_color, lists, uses)?;
     together(cargo, lists, leading, uses)?;
     Ok(early)
 }

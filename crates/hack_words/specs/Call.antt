@@ -1,0 +1,115 @@
+-- What words come to beside their environment: a fault, a text to print, cargo's list, or arguments.
+use Rattle.std.specs.Prelude.{ℕ, ◌≡◌, ◌++◌, ◌&&◌, ◌||◌, List, [], ◌∷◌, Bool, true, false, Option, Some, None, codes, option_map, if◌then◌else◌}
+use Rattle.hack_options.specs.declared.Opt.TheVariants as opt
+use Rattle.hack_uses.specs.declared.cut.Print.{Print}
+use Rattle.hack_uses.specs.Reads.{Reading, Met, End, Prints as Questions, Fails, Ends}
+use Rattle.hack_uses.specs.Uses.{Use, is_given, subcommand_of}
+use Rattle.hack_uses.specs.Values.{value_given}
+use Rattle.hack_versions.specs.Notes.{Note}
+use Rattle.hack_versions.specs.declared.notice.NoticeKind.{NoticeKind}
+use Rattle.hack_versions.specs.declared.notice.NoticeKind.TheVariants.{Info, Warn, QuietWarn}
+use Rattle.hack_words.specs.Asked.{is_old_asked}
+use Rattle.hack_words.specs.CliFaults.{Fault, Cut}
+use Rattle.hack_words.specs.CliLists.{names_given}
+use Rattle.hack_words.specs.RangeReadings.{Sides, at_dots}
+use Rattle.hack_words.specs.Rules.{Verdict, Accepted, Lists, Refused, is_nonempty, is_ranged, verdict_of}
+use Rattle.hack_words.specs.Start.{Start, Refuses, Cuts, start_of}
+
+-- what is known beside the words: the colouring of the environment, whether GitHub Actions runs, and rustup's minor version or why it isn't known
+pub record Around : Type 0 where
+  pub term_color : Option (List ℕ)
+  pub github_actions : Bool
+  pub rustup : Option ℕ
+  pub unknown : Option (List ℕ)
+
+-- what words come to
+pub data Outcome : Type 0 where
+  Faulty : Fault → Outcome
+  Printed : Print → Outcome
+  Listing : List Use → Outcome
+  Parsed : Bool → List (List ℕ) → List Use → Outcome
+
+-- what uses come to, with Cargo's own handling of workspaces and with the words behind --
+abbrev pub outcome_of : Around → Bool → List (List ℕ) → List Use → Outcome
+outcome_of around cargo trailing us = by_verdict (verdict_of cargo around.term_color around.rustup us)
+  where
+    by_verdict : Verdict → Outcome
+    by_verdict Accepted = Parsed cargo trailing us
+    by_verdict Lists = Listing us
+    by_verdict (Refused fault) = Faulty fault
+
+-- what the end of cutting comes to
+abbrev pub IsEnd : Around → Bool → List (List ℕ) → List Use → Reading → Outcome → Type 0
+IsEnd around cargo trailing us End outcome = outcome ≡ outcome_of around cargo trailing us
+IsEnd around cargo trailing us (Questions print) outcome = outcome ≡ Printed print
+IsEnd around cargo trailing us (Fails fault) outcome = outcome ≡ Faulty (Cut fault)
+IsEnd around cargo trailing us (Met one left) outcome = ⊥
+
+-- what words come to: they begin with hack, are cut up to the first fault or question, and then judged
+abbrev pub ComesTo : Around → List (List ℕ) → Outcome → Type 0
+ComesTo around words outcome = begins (start_of words)
+  where
+    begins : Start → Type 0
+    begins (Refuses fault) = outcome ≡ Faulty fault
+    begins (Cuts cargo cut trailing) = (us : List Use) × (end : Reading) × Ends cut us end × IsEnd around cargo trailing us end outcome
+
+-- a notice where a test is true
+abbrev pub note_if : Bool → NoticeKind → List ℕ → List Note
+note_if b kind text = if b then record { kind = kind; text = text } ∷ [] else []
+
+-- the text on unknown features
+abbrev pub unknown_words : List ℕ
+unknown_words = codes "--ignore-unknown-features for --include-features is not fully implemented and may not work as intended"
+
+-- unknown features are not ignored everywhere
+abbrev pub unknown_notes : List Use → List Note
+unknown_notes us =
+    note_if (is_given opt.IgnoreUnknownFeatures us && is_nonempty (names_given opt.IncludeFeatures us)) QuietWarn unknown_words
+
+-- the text on rustup
+abbrev pub rustup_words : List ℕ → List ℕ
+rustup_words why = codes "unable to determine rustup version; assuming latest stable rustup: " ++ why
+
+-- a range is asked, and rustup's version isn't known
+abbrev pub rustup_notes : Bool → Option (List ℕ) → List Note
+rustup_notes ranged None = []
+rustup_notes ranged (Some why) = note_if ranged Warn (rustup_words why)
+
+-- a range in its new form
+abbrev pub new_form : List ℕ → List ℕ
+new_form text = of_sides (at_dots text)
+  where
+    of_sides : Option Sides → List ℕ
+    of_sides None = text
+    of_sides (Some sides) = sides.front ++ codes "..=" ++ sides.back
+
+-- the text on a range of the old form
+abbrev pub old_words : List ℕ → List ℕ
+old_words newer = codes "using `..` for inclusive range is deprecated; consider using `" ++ newer ++ codes "`"
+
+-- a range has the old form
+abbrev pub old_notes : Bool → Option (List ℕ) → List Note
+old_notes old None = []
+old_notes old (Some text) = note_if old Warn (old_words (new_form text))
+
+-- the options that edit manifests while commands run
+abbrev pub editing_words : Bool → Bool → List ℕ
+editing_words false no_private = codes "--no-private modifies"
+editing_words true false = codes "--no-dev-deps modifies"
+editing_words true true = codes "--no-dev-deps and --no-private modify"
+
+-- the text on edits
+abbrev pub edits_words : List ℕ → List ℕ
+edits_words flags = flags ++ codes " real `Cargo.toml` while cargo-hack is running and restores it when finished"
+
+-- manifests are edited while commands run
+abbrev pub edit_notes : Bool → Bool → List Note
+edit_notes no_dev_deps no_private =
+    note_if (no_dev_deps || no_private) Info (edits_words (editing_words no_dev_deps no_private))
+-- the notices on accepted words, in order
+abbrev pub notes_on : Around → List Use → List Note
+notes_on around us =
+    unknown_notes us
+    ++ rustup_notes (is_ranged us) around.unknown
+    ++ old_notes (is_old_asked us) (value_given opt.VersionRange us)
+    ++ edit_notes (is_given opt.NoDevDeps us) (is_given opt.NoPrivate us)

@@ -1,0 +1,60 @@
+-- How the words of a call begin, before they are cut into options.
+use Rattle.std.specs.Prelude.{ℕ, List, [], ◌∷◌, ◌&&◌, not, ◌||◌, Bool, Option, None, codes, length, nat_lt, nat_eq, bytes_eq, if◌then◌else◌}
+use Rattle.std.specs.List.{filter, list_any, starts_with}
+use Rattle.hack_options.specs.declared.Opt.TheVariants as opt
+use Rattle.hack_uses.specs.Faults.{LongFlag, Repeat}
+use Rattle.hack_words.specs.CliFaults.{Fault, NoWord, NotHack, Cut}
+
+-- the words up to the first --
+abbrev pub front_words : List (List ℕ) → List (List ℕ)
+front_words [] = []
+front_words (w ∷ ws) = if bytes_eq w (codes "--") then [] else w ∷ front_words ws
+
+-- the words behind the first --
+abbrev pub trailing_words : List (List ℕ) → List (List ℕ)
+trailing_words [] = []
+trailing_words (w ∷ ws) = if bytes_eq w (codes "--") then ws else trailing_words ws
+
+-- the word that asks for Cargo's own handling of workspaces
+abbrev pub is_behavior : List ℕ → Bool
+is_behavior w = bytes_eq w (codes "--workspace-behavior=cargo")
+
+-- the words that are cut: those in front without that word
+abbrev pub cut_words : List (List ℕ) → List (List ℕ)
+cut_words ws = filter (λ w. not (is_behavior w)) ws
+
+-- how often that word stands in front
+abbrev pub behaviors : List (List ℕ) → ℕ
+behaviors ws = length (filter is_behavior ws)
+
+-- how words begin: a fault, or the handling of workspaces, the words that are cut, and those behind --
+pub data Start : Type 0 where
+  Refuses : Fault → Start
+  Cuts : Bool → List (List ℕ) → List (List ℕ) → Start
+
+-- with the words in front and behind --
+abbrev pub start_with : List (List ℕ) → List (List ℕ) → Start
+start_with front trailing =
+    if nat_lt 1 (behaviors front) then Refuses (Cut (Repeat (LongFlag (codes "workspace-behavior")) opt.WorkspaceBehavior None))
+    else Cuts (nat_lt 0 (behaviors front)) (cut_words front) trailing
+
+-- the first word is hack
+abbrev pub start_of : List (List ℕ) → Start
+start_of [] = Refuses NoWord
+start_of (w ∷ ws) = if bytes_eq w (codes "hack") then start_with (front_words ws) (trailing_words ws) else Refuses (NotHack w)
+
+-- an option that asks for a range of versions
+abbrev pub is_range_option : List ℕ → Bool
+is_range_option w = bytes_eq w (codes "--rust-version") || bytes_eq w (codes "--version-range")
+
+-- the same with the range attached
+abbrev pub has_range : List ℕ → Bool
+has_range w = starts_with nat_eq w (codes "--version-range=")
+
+-- one of both
+abbrev pub is_range_word : List ℕ → Bool
+is_range_word w = is_range_option w || has_range w
+
+-- a word before the first -- asks for a range of versions
+abbrev pub wants_rustup : List (List ℕ) → Bool
+wants_rustup ws = list_any is_range_word (front_words ws)

@@ -1,0 +1,20 @@
+-- How the words of a call begin, as the code answers it.
+use Rattle.std.specs.Prelude.{ℕ, ◌≡◌, List, Bool, true, false, Option, None, Result, Ok, Err, IfSome, codes, nat_lt}
+use Rattle.hack_features.specs.Names.{names_of}
+use Rattle.hack_options.specs.declared.Opt.TheVariants as opt
+use Rattle.hack_uses.specs.Faults.{LongFlag, Repeat}
+use Rattle.hack_words.specs.declared.cli.fault.CliFault.{CliFault}
+use Rattle.hack_words.specs.declared.cli.start.Front.{Front}
+use Rattle.hack_words.specs.declared.cli.start.Start.{Start as CodeStart}
+use Rattle.hack_words.specs.CliFaults.{fault_of, Cut}
+use Rattle.hack_words.specs.Start.{Start, Refuses, Cuts, start_of, behaviors, cut_words}
+
+-- what the code answers is how the words begin
+abbrev pub Begins : Result CodeStart CliFault → List (List ℕ) → Type 0
+Begins (Ok start) words = start_of words ≡ Cuts start.cargo (names_of start.words.items) (names_of start.trailing.items)
+Begins (Err e) words = IfSome (fault_of e) (λ fault. start_of words ≡ Refuses fault)
+
+-- what the code takes out of the words in front, or the fault of a second one
+abbrev pub TakesOut : Result Front CliFault → List (List ℕ) → Type 0
+TakesOut (Ok taken) front = (nat_lt 1 (behaviors front) ≡ false) × (taken.cargo ≡ nat_lt 0 (behaviors front)) × (names_of taken.words.items ≡ cut_words front)
+TakesOut (Err e) front = IfSome (fault_of e) (λ fault. (nat_lt 1 (behaviors front) ≡ true) × (fault ≡ Cut (Repeat (LongFlag (codes "workspace-behavior")) opt.WorkspaceBehavior None)))

@@ -1,0 +1,139 @@
+//! What the user is told of words that are accepted.
+
+ghost use Rattle.std.specs.Prelude.{◌≡◌, ◌++◌, IfOk, OnOk, true, map, string_bytes, option_map};
+ghost use Rattle.hack_versions.specs.Notes.{note_of};
+ghost use Rattle.hack_words.specs.Call.{note_if, unknown_words, rustup_words, rustup_notes, old_words, old_notes, editing_words, edits_words, edit_notes, new_form as newer_form};
+ghost use Rattle.hack_words.specs.RustupView.{unknown_of};
+
+use hack_versions::notice::{Notice, NoticeKind};
+use hack_versions::rustup::Rustup;
+use std::alloc::{AllocError, Global};
+
+/// Adds a notice.
+fn note(notices: &mut Vec<Notice>, kind: NoticeKind, text: String) -> Result<(), AllocError>
+    ensures { OnOk result (map note_of notices.new.items ≡ map note_of notices.old.items ++ note_if true kind (string_bytes text)) }
+{
+    notices.push(Notice { kind, text })?;
+    Ok(())
+}
+
+fn unknown_text(alloc: Global) -> Result<String, AllocError>
+    ensures { IfOk result (λ text. string_bytes text ≡ unknown_words) }
+{
+    String::from_str(
+        alloc,
+        "--ignore-unknown-features for --include-features is not fully implemented and may not work as intended",
+    )
+}
+
+/// Tells that unknown features are not ignored everywhere.
+pub fn tell_unknown(
+    alloc: Global,
+    notices: &mut Vec<Notice>,
+    told: bool,
+) -> Result<(), AllocError>
+    ensures { OnOk result (map note_of notices.new.items ≡ map note_of notices.old.items ++ note_if told NoticeKind.QuietWarn unknown_words) }
+{
+    if told {
+        note(notices, NoticeKind::QuietWarn, unknown_text(alloc)?)?;
+    }
+    Ok(())
+}
+
+fn rustup_text(alloc: Global, why: &str) -> Result<String, AllocError>
+    ensures { IfOk result (λ text. string_bytes text ≡ rustup_words why.now) }
+{
+    format!(in alloc; "unable to determine rustup version; assuming latest stable rustup: {why}")
+}
+
+/// Tells that rustup's version isn't known, where a range is asked.
+pub fn tell_rustup(
+    alloc: Global,
+    notices: &mut Vec<Notice>,
+    ranged: bool,
+    rustup: &Rustup,
+) -> Result<(), AllocError>
+    ensures { OnOk result (map note_of notices.new.items ≡ map note_of notices.old.items ++ rustup_notes ranged (unknown_of rustup.now)) }
+{
+    match rustup {
+        Rustup::Unknown(why) if ranged => note(
+            notices,
+            NoticeKind::Warn,
+            rustup_text(alloc, why.as_str())?,
+        ),
+        Rustup::Unknown(_) => Ok(()),
+        Rustup::Known(_) => Ok(()),
+    }
+}
+
+/// A range in its new form.
+fn new_form(alloc: Global, text: &str) -> Result<String, AllocError>
+    ensures { IfOk result (λ newer. string_bytes newer ≡ newer_form text.now) }
+{
+    match text.split_once("..") {
+        Some((front, back)) => format!(in alloc; "{front}..={back}"),
+        None => String::from_str(alloc, text),
+    }
+}
+
+fn old_text(alloc: Global, newer: &str) -> Result<String, AllocError>
+    ensures { IfOk result (λ text. string_bytes text ≡ old_words newer.now) }
+{
+    format!(in alloc; "using `..` for inclusive range is deprecated; consider using `{newer}`")
+}
+
+/// Tells that a range has the old form.
+pub fn tell_old(
+    alloc: Global,
+    notices: &mut Vec<Notice>,
+    is_old: bool,
+    range: Option<&String>,
+) -> Result<(), AllocError>
+    ensures { OnOk result (map note_of notices.new.items ≡ map note_of notices.old.items ++ old_notes is_old (option_map (λ text. string_bytes text.now) range.entry)) }
+{
+    match range {
+        Some(range) if is_old => {
+            let newer = new_form(alloc, range.as_str())?;
+            let text = old_text(alloc, newer.as_str())?;
+            note(notices, NoticeKind::Warn, text)
+        }
+        Some(_) => Ok(()),
+        None => Ok(()),
+    }
+}
+
+/// The options that edit manifests while commands run.
+fn editing(no_dev_deps: bool, no_private: bool) -> &'static str
+    ensures { result.now ≡ editing_words no_dev_deps no_private }
+{
+    if !no_dev_deps {
+        "--no-private modifies"
+    } else if no_private {
+        "--no-dev-deps and --no-private modify"
+    } else {
+        "--no-dev-deps modifies"
+    }
+}
+
+fn edits_text(alloc: Global, flags: &str) -> Result<String, AllocError>
+    ensures { IfOk result (λ text. string_bytes text ≡ edits_words flags.now) }
+{
+    format!(in alloc; "{flags} real `Cargo.toml` while cargo-hack is running and restores it when finished")
+}
+
+/// Tells that manifests are edited while commands run.
+pub fn tell_edits(
+    alloc: Global,
+    notices: &mut Vec<Notice>,
+    no_dev_deps: bool,
+    no_private: bool,
+) -> Result<(), AllocError>
+    ensures { OnOk result (map note_of notices.new.items ≡ map note_of notices.old.items ++ edit_notes no_dev_deps no_private) }
+{
+    let edits = no_dev_deps || no_private;
+    if edits {
+        let text = edits_text(alloc, editing(no_dev_deps, no_private))?;
+        note(notices, NoticeKind::Info, text)?;
+    }
+    Ok(())
+}

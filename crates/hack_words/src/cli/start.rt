@@ -1,0 +1,145 @@
+//! How the words of a call begin, before they are cut into options.
+
+ghost use Rattle.std.specs.Prelude.{◌≡◌, ◌≤◌, ◌++◌, ◌∷◌, IfOk, OnOk, length, map, string_bytes};
+ghost use Rattle.hack_features.specs.Names.{names_of};
+ghost use Rattle.hack_words.specs.CliFaults.{Checks};
+ghost use Rattle.hack_words.specs.Start.{front_words, trailing_words, is_behavior as behavior, is_range_option as range_option, has_range as range_with_value, wants_rustup as rustup_wanted};
+ghost use Rattle.hack_words.specs.StartView.{Begins, TakesOut};
+
+use crate::cli::fault::CliFault;
+use hack_options::Opt;
+use hack_uses::{CutFault, OwnedFlag};
+use std::alloc::{AllocError, Global};
+
+/// The words up to the first `--`.
+fn before_dashes(words: &[String]) -> &[String]
+    ensures { names_of result.now ≡ front_words (names_of words.now) }
+{
+    for (place, word) in words.iter().enumerate() {
+        if word.as_str() == "--" {
+            return &words[..place];
+        }
+    }
+    words
+}
+
+/// The words behind the first `--`.
+fn behind_dashes(words: &[String]) -> &[String]
+    ensures { names_of result.now ≡ trailing_words (names_of words.now) }
+{
+    let mut left = words;
+    while let [word, rest @ ..] = left {
+        if word.as_str() == "--" {
+            return rest;
+        }
+        left = rest;
+    }
+    left
+}
+
+fn is_range_option(word: &str) -> bool
+    ensures { result ≡ range_option word.now }
+{
+    word == "--rust-version" || word == "--version-range"
+}
+
+fn has_range(word: &str) -> bool
+    ensures { result ≡ range_with_value word.now }
+{
+    word.starts_with("--version-range=")
+}
+
+/// Whether rustup's own version has to be asked for before these words are read: where a word before the first
+/// `--` asks for a range of versions.
+pub fn wants_rustup(words: &[String]) -> bool
+    ensures { result ≡ rustup_wanted (names_of words.now) }
+{
+    for word in before_dashes(words) {
+        if is_range_option(word.as_str()) || has_range(word.as_str()) {
+            return true;
+        }
+    }
+    false
+}
+
+fn is_behavior(word: &str) -> bool
+    ensures { result ≡ behavior word.now }
+{
+    word == "--workspace-behavior=cargo"
+}
+
+/// The words in front of `--`, without those that ask for Cargo's own handling of workspaces.
+#[derive(Drop)]
+struct Front {
+    cargo: bool,
+    words: Vec<String>,
+}
+
+/// Takes out the word that asks for Cargo's own handling of workspaces, which stands once.
+fn taken_out(alloc: Global, front: &[String]) -> Result<Front, CliFault>
+    ensures { TakesOut result (names_of front.now) }
+{
+    let mut words = Vec::new(alloc);
+    let mut cargo = false;
+    for word in front {
+        if !is_behavior(word.as_str()) {
+            words.push(word.clone()?)?;
+        } else if cargo {
+            let flag = OwnedFlag::Long(String::from_str(alloc, "workspace-behavior")?);
+            return Err(CliFault::Cut {
+                fault: CutFault::Repeat {
+                    flag,
+                    option: Opt::WorkspaceBehavior,
+                    subcommand: None,
+                },
+            });
+        } else {
+            cargo = true;
+        }
+    }
+    Ok(Front { cargo, words })
+}
+
+fn copied(alloc: Global, words: &[String]) -> Result<Vec<String>, AllocError>
+    ensures { IfOk result (λ copies. names_of copies.items ≡ names_of words.now) }
+{
+    let mut copies = Vec::new(alloc);
+    for word in words {
+        copies.push(word.clone()?)?;
+    }
+    Ok(copies)
+}
+
+/// What words begin with.
+#[derive(Drop)]
+pub struct Start {
+    /// Cargo's own handling of workspaces is asked for.
+    pub cargo: bool,
+    /// The words that are cut into options.
+    pub words: Vec<String>,
+    /// Those behind the first `--`.
+    pub trailing: Vec<String>,
+}
+
+impl Start {
+    /// The first word is `hack`; what is behind it is cut, up to the first `--`.
+    pub fn of(alloc: Global, words: &[String]) -> Result<Start, CliFault>
+        ensures { Begins result (names_of words.now) }
+    {
+        let [first, rest @ ..] = words else {
+            return Err(CliFault::NoWord);
+        };
+        if first.as_str() != "hack" {
+            return Err(CliFault::NotHack {
+                found: first.clone()?,
+            });
+        }
+        let Front { cargo, words } = taken_out(alloc, before_dashes(rest))?;
+        let trailing = copied(alloc, behind_dashes(rest))?;
+        Ok(Start {
+            cargo,
+            words,
+            trailing,
+        })
+    }
+}
