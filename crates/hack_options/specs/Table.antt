@@ -1,6 +1,8 @@
 -- The table of options.
 use Rattle.std.specs.Prelude.{ℕ, List, [], ◌∷◌, ◌==◌, Bool, true, false, Option, Some, None, codes, if◌then◌else◌}
 use Rattle.std.specs.Str.{bytes_eq}
+use denote.Enum.Bare.{sameb}
+use Rattle.hack_options.specs.contracts.Opt.{the_type}
 use Rattle.hack_options.specs.declared.Opt.{Opt}
 use Rattle.hack_options.specs.declared.Opt.TheVariants as opt
 use Rattle.hack_options.specs.declared.Kind.{Kind}
@@ -80,55 +82,9 @@ meaning_of opt.All = opt.Workspace
 meaning_of opt.Skip = opt.ExcludeFeatures
 meaning_of o = o
 
-abbrev pub number_of : Opt → ℕ
-number_of opt.Package = 0
-number_of opt.All = 1
-number_of opt.Workspace = 2
-number_of opt.Exclude = 3
-number_of opt.ManifestPath = 4
-number_of opt.Locked = 5
-number_of opt.Features = 6
-number_of opt.EachFeature = 7
-number_of opt.FeaturePowerset = 8
-number_of opt.OptionalDeps = 9
-number_of opt.Skip = 10
-number_of opt.ExcludeFeatures = 11
-number_of opt.ExcludeNoDefaultFeatures = 12
-number_of opt.ExcludeAllFeatures = 13
-number_of opt.Depth = 14
-number_of opt.GroupFeatures = 15
-number_of opt.Target = 16
-number_of opt.MutuallyExclusiveFeatures = 17
-number_of opt.AllowTogether = 18
-number_of opt.AtLeastOneOf = 19
-number_of opt.IncludeFeatures = 20
-number_of opt.NoDevDeps = 21
-number_of opt.RemoveDevDeps = 22
-number_of opt.NoPrivate = 23
-number_of opt.IgnorePrivate = 24
-number_of opt.IgnoreUnknownFeatures = 25
-number_of opt.RustVersion = 26
-number_of opt.VersionRange = 27
-number_of opt.VersionStep = 28
-number_of opt.CleanPerRun = 29
-number_of opt.CleanPerVersion = 30
-number_of opt.KeepGoing = 31
-number_of opt.Partition = 32
-number_of opt.PartitionKind = 33
-number_of opt.LogGroup = 34
-number_of opt.WorkspaceBehavior = 35
-number_of opt.PrintCommandList = 36
-number_of opt.NoManifestPath = 37
-number_of opt.Verbose = 38
-number_of opt.Color = 39
-number_of opt.Help = 40
-number_of opt.Version = 41
-number_of opt.NoDefaultFeatures = 42
-number_of opt.AllFeatures = 43
-number_of opt.IncludeDepsFeatures = 44
-
+-- `==` on options
 abbrev pub same : Opt → Opt → Bool
-same a b = number_of a == number_of b
+same = sameb the_type
 
 -- the first option of this name
 abbrev pub named : List ℕ → List Opt → Option Opt
