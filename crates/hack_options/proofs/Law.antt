@@ -1,5 +1,5 @@
 -- Each option is found by its name, and where it has a letter by that.
-use Rattle.std.specs.Prelude.{◌≡◌, ◌×◌, Some, IfSome}
+use Rattle.std.specs.Prelude.{◌≡◌, Some, IfSome}
 use Rattle.std.proofs.Common.{refl}
 use Rattle.hack_options.specs.declared.Opt.{Opt}
 use Rattle.hack_options.specs.declared.Opt.TheVariants as opt
