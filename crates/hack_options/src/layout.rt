@@ -24,7 +24,7 @@ const TAIL: &str = "Some common cargo commands are (see all commands with --list
     test        Run the tests
 ";
 
-/// A line ends before this place.
+/// Each line of a text ends before this place.
 const LINE_END: usize = 100;
 /// Where the long form's texts begin.
 const LONG_INDENT: usize = 12;
@@ -165,7 +165,7 @@ impl fmt::Display for Spaces {
     }
 }
 
-/// A text cut at its spaces into lines, each but the first with an indent before it.
+/// A text cut at its spaces into lines, each but the first with an indent before it. A word is as wide as it has bytes.
 #[derive(Clone, Copy)]
 struct Wrapped<'a> {
     text: &'a str,
@@ -175,6 +175,7 @@ struct Wrapped<'a> {
 impl fmt::Display for Wrapped<'_> {
     fn fmt<W: fmt::Write>(&self, f: &mut fmt::Formatter<W>) -> fmt::Result {
         let places = LINE_END.saturating_sub(self.indent);
+        // How many places the line has left.
         let mut left = places;
         for word in self.text.split(' ') {
             if word.len() + 1 >= left {

@@ -1,7 +1,7 @@
 //! How each option is cut: one row an option.
 
-ghost use Rattle.std.specs.Prelude.{◌≡◌, ◌↔◌, IsTrue};
-ghost use Rattle.hack_options.specs.Table.{entry, entry_of, meaning_of, same, once as once_entry, many as many_entry, or_letter};
+ghost use Rattle.std.specs.Prelude.{◌≡◌, ◌↔◌, IsTrue, Some};
+ghost use Rattle.hack_options.specs.Table.{entry, entry_of, meaning_of, same, once as once_entry, many as many_entry};
 
 use crate::{Kind, Opt, Row};
 
@@ -80,7 +80,7 @@ fn many(name: &'static str, kind: Kind) -> Row
 
 /// The same option, written as a letter too.
 fn lettered(letter: char, row: Row) -> Row
-    ensures { entry result ≡ or_letter letter (entry row) }
+    ensures { entry result ≡ record (entry row) { letter = Some letter } }
 {
     Row {
         letter: Some(letter),

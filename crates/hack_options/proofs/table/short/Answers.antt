@@ -1,6 +1,5 @@
 use Rattle.std.specs.Prelude.{◌≡◌, Some, IfSome}
 use Rattle.std.proofs.Common.{subst, ◌∙◌}
-use Rattle.hack_options.specs.declared.Opt.{Opt}
 use Rattle.hack_options.specs.Find.{short_option}
 use Rattle.hack_options.proofs.Law.{short_option-letter}
 use Rattle.hack_options.proofs.table.short.Goals as goal
