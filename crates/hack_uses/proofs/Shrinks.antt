@@ -13,7 +13,7 @@ use Rattle.hack_options.specs.Find.{long_option, short_option}
 use Rattle.hack_uses.specs.declared.cut.Print.{Print}
 use Rattle.hack_uses.specs.declared.cut.Print.TheVariants as print
 use Rattle.hack_uses.specs.Faults.{Flag, LongFlag, ShortFlag, Repeat, Missing, LoneQuote}
-use Rattle.hack_uses.specs.Uses.{Use, Known, Unknown, Word, is_given, subcommand_of, last_flag}
+use Rattle.hack_uses.specs.Uses.{Use, Known, Unknown, Word, is_given, subcommand_of}
 use Rattle.hack_uses.specs.Reads.{Reading, Met, End, Prints, Fails, is_quote, is_bare, unknown, with_value, with_names, with_names_or_none, question, help_of, by_kind, known, removed_of, similar_of, other, other_name, by_name, by_letter, of_cut, refused, of_next, read_of, Reads}
 
 -- how much is left of the words
@@ -48,25 +48,25 @@ word_weight w = elim (is_long w) as (λ b. weight_of (cond b (pending_of (drop 2
 ]
 
 -- a cut leaves less
-after_cut-smaller : (t : Untaken) (ws : List (List ℕ)) (cut : Cut) → next_cut (record { untaken = t; words = ws }) ≡ Ok (Some cut) → weight (after_cut (record { untaken = t; words = ws })) < weight (record { untaken = t; words = ws })
-after_cut-smaller (Pending v) ws cut h = cc
-after_cut-smaller (Chain letters) ws cut h =
-    elim (starts_with nat_eq letters (codes "=")) as (λ b. cond b (Err UnexpectedValue) (Ok (Some (ShortCut (first_letter letters)))) ≡ Ok (Some cut) → weight_of (cond b Nothing (after_letter letters)) + words_weight ws < (length letters + 1) + words_weight ws)
+after_cut-smaller : (o : Option Cut) (t : Untaken) (ws : List (List ℕ)) (cut : Cut) → next_cut (record { option = o; untaken = t; words = ws }) ≡ Ok (Some cut) → weight (after_cut (record { option = o; untaken = t; words = ws })) < weight (record { option = o; untaken = t; words = ws })
+after_cut-smaller o (Pending v) ws cut h = cc
+after_cut-smaller o (Chain letters) ws cut h =
+    elim (starts_with nat_eq letters (codes "=")) as (λ b. cond b (Err UnexpectedValue) (Ok (Some (ShortCut (first_letter letters)))) ≡ Ok (Some cut) → weight (cond b (record { option = o; untaken = Nothing; words = ws }) (record { option = Some (ShortCut (first_letter letters)); untaken = after_letter letters; words = ws })) < (length letters + 1) + words_weight ws)
     [ true ↦ λ e. cc | false ↦ λ e. omega (arith, letter_weight (first_letter letters) letters) ] h
-after_cut-smaller Nothing [] cut h = cc
-after_cut-smaller Nothing (w ∷ ws) cut h = omega (arith, word_weight w)
+after_cut-smaller o Nothing [] cut h = cc
+after_cut-smaller o Nothing (w ∷ ws) cut h = omega (arith, word_weight w)
 
-after_value-le : (t : Untaken) (ws : List (List ℕ)) → weight (after_value (record { untaken = t; words = ws })) ≤ weight (record { untaken = t; words = ws })
-after_value-le (Pending v) ws = omega arith
-after_value-le (Chain letters) ws = omega arith
-after_value-le Nothing [] = omega arith
-after_value-le Nothing (w ∷ ws) = omega arith
+after_value-le : (o : Option Cut) (t : Untaken) (ws : List (List ℕ)) → weight (after_value (record { option = o; untaken = t; words = ws })) ≤ weight (record { option = o; untaken = t; words = ws })
+after_value-le o (Pending v) ws = omega arith
+after_value-le o (Chain letters) ws = omega arith
+after_value-le o Nothing [] = omega arith
+after_value-le o Nothing (w ∷ ws) = omega arith
 
-after_optional-le : (t : Untaken) (ws : List (List ℕ)) → weight (after_optional (record { untaken = t; words = ws })) ≤ weight (record { untaken = t; words = ws })
-after_optional-le (Pending v) ws = omega arith
-after_optional-le (Chain letters) ws = omega arith
-after_optional-le Nothing [] = omega arith
-after_optional-le Nothing (w ∷ ws) = elim (is_plain w) as (λ b. 0 + words_weight (cond b ws (w ∷ ws)) ≤ 0 + words_weight (w ∷ ws)) [ true ↦ omega arith | false ↦ omega arith ]
+after_optional-le : (o : Option Cut) (t : Untaken) (ws : List (List ℕ)) → weight (after_optional (record { option = o; untaken = t; words = ws })) ≤ weight (record { option = o; untaken = t; words = ws })
+after_optional-le o (Pending v) ws = omega arith
+after_optional-le o (Chain letters) ws = omega arith
+after_optional-le o Nothing [] = omega arith
+after_optional-le o Nothing (w ∷ ws) = elim (is_plain w) as (λ b. 0 + words_weight (cond b ws (w ∷ ws)) ≤ 0 + words_weight (w ∷ ws)) [ true ↦ omega arith | false ↦ omega arith ]
 
 -- what is read leaves at most this much
 abbrev Within : ℕ → Reading → Type 0
@@ -97,9 +97,9 @@ within-question p None flag l = tt
 
 within-kind : (k : Kind) (us : List Use) (o : Opt) (flag : Flag) (l : Left) → Within (weight l) (by_kind k us o flag l)
 within-kind kind.Flag us o flag l = omega arith
-within-kind kind.Value us o flag l = within-value (weight l) o flag (value_of l) (after_value l) (after_value-le l.untaken l.words)
-within-kind kind.Names us o flag l = within-names (weight l) o flag (value_of l) (after_value l) (after_value-le l.untaken l.words)
-within-kind kind.OptionalNames us o flag l = within-optional (weight l) o flag (optional_of l) (after_optional l) (after_optional-le l.untaken l.words)
+within-kind kind.Value us o flag l = within-value (weight l) o flag (value_of l) (after_value l) (after_value-le l.option l.untaken l.words)
+within-kind kind.Names us o flag l = within-names (weight l) o flag (value_of l) (after_value l) (after_value-le l.option l.untaken l.words)
+within-kind kind.OptionalNames us o flag l = within-optional (weight l) o flag (optional_of l) (after_optional l) (after_optional-le l.option l.untaken l.words)
 within-kind kind.Help us o flag l = within-question (help_of flag) (subcommand_of us) flag l
 within-kind kind.Version us o flag l = within-question print.Version (subcommand_of us) flag l
 within-kind kind.Refused us o flag l = tt
@@ -125,9 +125,9 @@ within-cut us (LongCut name) l = within-by_name (long_option name) us name l
 within-cut us (ShortCut c) l = within-by_letter (short_option c) us c l
 within-cut us (ValueCut word) l = omega arith
 
-refused-no_use : (us : List Use) (v : Option (List ℕ)) (u : Use) (l : Left) → refused us v ≡ Met u l → ⊥
-refused-no_use us (Some v) u l h = cc
-refused-no_use us None u l h = cc
+refused-no_use : (option : Option Cut) (v : Option (List ℕ)) (u : Use) (l : Left) → refused option v ≡ Met u l → ⊥
+refused-no_use option (Some v) u l h = cc
+refused-no_use option None u l h = cc
 
 -- a use that is read leaves less
 pub read-smaller : (us : List Use) (l : Left) (u : Use) (new : Left) → read_of us l ≡ Met u new → weight new < weight l
@@ -135,12 +135,12 @@ read-smaller us l u new h = cases (next_cut l) refl
   where
     cases : (r : Result (Option Cut) LexFault) → next_cut l ≡ r → weight new < weight l
     cases (Ok (Some cut)) e =
-        let less : weight (after_cut l) < weight l = after_cut-smaller l.untaken l.words cut e in
+        let less : weight (after_cut l) < weight l = after_cut-smaller l.option l.untaken l.words cut e in
         let at : of_cut us cut (after_cut l) ≡ Met u new = sym (ap (λ r. of_next r us l) e) ∙ h in
         let in_it : weight new ≤ weight (after_cut l) = subst (λ r. Within (weight (after_cut l)) r) at (within-cut us cut (after_cut l)) in
         omega arith
     cases (Ok None) e = let k = sym (ap (λ r. of_next r us l) e) ∙ h in cc
-    cases (Err f) e = absurd (refused-no_use us (unexpected_of l.untaken) u new (sym (ap (λ r. of_next r us l) e) ∙ h))
+    cases (Err f) e = absurd (refused-no_use l.option (unexpected_of l.untaken) u new (sym (ap (λ r. of_next r us l) e) ∙ h))
 
 -- one more use is read
 pub Reads-more : (before us : List Use) (u : Use) (old mid new : Left) → Reads before old us mid → read_of (before ++ us) mid ≡ Met u new → Reads before old (us ++ u ∷ []) new

@@ -1,12 +1,13 @@
+//! Cuts the words into uses, one after the other.
+
 ghost use Rattle.std.specs.Prelude.{◌≡◌, IfOk, map, string_bytes};
-ghost use Rattle.hack_lexopt.specs.Parsers.{left, cut_in};
-ghost use Rattle.hack_uses.specs.Owned.{owned_cut};
-ghost use Rattle.hack_uses.specs.Reads.{Gives, GivesUses, read_of};
+ghost use Rattle.hack_lexopt.specs.Parsers.{left};
+ghost use Rattle.hack_uses.specs.Faults.{flag_seen};
+ghost use Rattle.hack_uses.specs.Reads.{Gives, GivesUses, read_of, last_flag as last_option};
 ghost use Rattle.hack_uses.specs.Uses.{views};
 
-use crate::known::{known, other_name, unknown};
-use crate::seen::last_flag;
 use crate::fault::{CutFault, OwnedFlag};
+use crate::known::{known, other_name, unknown};
 use hack_lexopt::{Arg, Parser};
 use hack_options::{Opt, long, short};
 use std::alloc::{AllocError, Global};
@@ -19,10 +20,10 @@ pub enum Print {
     Version,
 }
 
-/// What a cut comes to.
+/// What one cut, or an option and its value, comes to.
 #[derive(Debug, Drop)]
 pub enum Use {
-    /// An option of the table, as written, and its value.
+    /// An option of the table. `option` is what an alias stands for, `flag` what was written.
     Known {
         option: Opt,
         flag: OwnedFlag,
@@ -45,22 +46,15 @@ pub enum Step {
     Asks(Print),
 }
 
-/// A cut that owns its text.
-#[derive(Drop)]
-enum Owned {
-    Long(String),
-    Short(char),
-    Value(String),
-}
-
-fn copied(alloc: Global, arg: &Arg<'_>) -> Result<Owned, AllocError>
-    ensures { IfOk result (λ cut. owned_cut cut ≡ cut_in arg.now) }
+/// The option that was cut last; an empty name where none was.
+fn last_flag(alloc: Global, parser: &Parser) -> Result<OwnedFlag, AllocError>
+    ensures { IfOk result (λ flag. flag_seen flag ≡ last_option (left parser.now).option) }
 {
-    Ok(match arg {
-        Arg::Long(name) => Owned::Long(String::from_str(alloc, name)?),
-        Arg::Short(letter) => Owned::Short(*letter),
-        Arg::Value(word) => Owned::Value(String::from_str(alloc, word)?),
-    })
+    let flag = match parser.option() {
+        Some(option) => OwnedFlag::new(alloc, option)?,
+        None => None,
+    };
+    Ok(flag.unwrap_or(OwnedFlag::Long(String::new(alloc))))
 }
 
 /// The next use behind the uses so far, or what else the next cut comes to.
@@ -70,32 +64,37 @@ pub fn read(alloc: Global, parser: &mut Parser, uses: &[Use]) -> Result<Step, Cu
     if let Some(value) = parser.unexpected() {
         let value = String::from_str(alloc, value)?;
         return Err(CutFault::Unexpected {
-            flag: last_flag(alloc, uses)?,
+            flag: last_flag(alloc, parser)?,
             value,
         });
     }
-    let cut = match parser.next() {
-        Err(_) => return Err(CutFault::Memory),
+    let flag = match parser.next() {
+        Err(_) => unreachable!(),
         Ok(None) => return Ok(Step::End),
-        Ok(Some(arg)) => copied(alloc, &arg)?,
+        Ok(Some(Arg::Value(word))) => {
+            return Ok(Step::Met(Use::Word(String::from_str(alloc, word)?)));
+        }
+        Ok(Some(Arg::Long(name))) => OwnedFlag::Long(String::from_str(alloc, name)?),
+        Ok(Some(Arg::Short(letter))) => OwnedFlag::Short(letter),
     };
-    match cut {
-        Owned::Long(name) => match long(&name) {
+    match flag {
+        OwnedFlag::Long(name) => match long(&name) {
             Some(option) => known(alloc, parser, uses, option, OwnedFlag::Long(name)),
             None => other_name(alloc, parser, uses, name),
         },
-        Owned::Short(letter) => match short(letter) {
+        OwnedFlag::Short(letter) => match short(letter) {
             Some(option) => known(alloc, parser, uses, option, OwnedFlag::Short(letter)),
             None => unknown(alloc, parser, OwnedFlag::Short(letter)),
         },
-        Owned::Value(word) => Ok(Step::Met(Use::Word(word))),
     }
 }
 
 /// What all the words come to.
-#[derive(Drop)]
+#[derive(Debug, Drop)]
 pub enum Cuts {
+    /// All their uses.
     Uses(Vec<Use>),
+    /// A text is to be printed, and the words behind the question are not read.
     Asks(Print),
 }
 

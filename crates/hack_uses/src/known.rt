@@ -5,9 +5,9 @@ ghost use Rattle.hack_uses.specs.Faults.{flag_seen};
 ghost use Rattle.hack_uses.specs.Reads.{Gives, known as known_reading, unknown as unknown_reading, other_name as other_reading, question as question_reading, is_quote as quote, help_of, removed_of, similar_of};
 ghost use Rattle.hack_uses.specs.Uses.{views, subcommand_of};
 
-use crate::seen::{given, subcommand};
-use crate::fault::{CutFault, OwnedFlag};
 use crate::cut::Step;
+use crate::fault::{CutFault, OwnedFlag};
+use crate::seen::{given, subcommand};
 use crate::{Print, Use};
 use hack_lexopt::{LexFault, Parser};
 use hack_options::{Kind, Opt};

@@ -2,13 +2,11 @@
 
 ghost use Rattle.std.specs.Prelude.{◌≡◌, IfOk, map, string_bytes};
 ghost use Rattle.std.specs.Option.{option_map};
-ghost use Rattle.hack_uses.specs.Faults.{flag_seen};
 ghost use Rattle.hack_uses.specs.Passed.{count_of};
 ghost use Rattle.hack_uses.specs.Values.{value_given, values_given};
-ghost use Rattle.hack_uses.specs.Uses.{is_given, views, subcommand_of, last_flag as last_option};
+ghost use Rattle.hack_uses.specs.Uses.{is_given, views, subcommand_of};
 
 use crate::Use;
-use crate::fault::OwnedFlag;
 use hack_options::Opt;
 use std::alloc::{AllocError, Global};
 
@@ -36,25 +34,6 @@ pub fn subcommand(uses: &[Use]) -> Option<&String>
         }
     }
     None
-}
-
-/// The option that was cut last.
-pub fn last_flag(alloc: Global, uses: &[Use]) -> Result<OwnedFlag, AllocError>
-    ensures { IfOk result (λ flag. flag_seen flag ≡ last_option (views uses.now)) }
-{
-    let mut last = None;
-    for one in uses {
-        match one {
-            Use::Known { flag, .. } => last = Some(flag),
-            Use::Unknown { flag, .. } => last = Some(flag),
-            Use::Word(_) => {}
-        }
-    }
-    match last {
-        Some(OwnedFlag::Long(name)) => Ok(OwnedFlag::Long(name.clone()?)),
-        Some(OwnedFlag::Short(letter)) => Ok(OwnedFlag::Short(*letter)),
-        None => Ok(OwnedFlag::Long(String::new(alloc))),
-    }
 }
 
 /// The value of the first use, for an option that stands once.
