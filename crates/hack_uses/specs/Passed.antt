@@ -26,7 +26,7 @@ passes cargo o = false
 -- an unknown option and the rest of its word, in one word
 abbrev pub word_of : Flag → Option (List ℕ) → List ℕ
 word_of flag None = flag_text flag
-word_of (LongFlag name) (Some value) = flag_text (LongFlag name) ++ codes "=" ++ value
+word_of (LongFlag name) (Some value) = flag_text (LongFlag name) ++ (codes "=" ++ value)
 word_of (ShortFlag c) (Some value) = flag_text (ShortFlag c) ++ value
 
 -- an option, and its value as a word of its own

@@ -172,3 +172,20 @@ abbrev pub GivesUses : Result Cuts CutFault → List (List ℕ) → Type 0
 GivesUses (Ok (cuts.Uses us)) words = Ends words (views us.items) End
 GivesUses (Ok (cuts.Asks print)) words = (us : List Use) × Ends words us (Prints print)
 GivesUses (Err e) words = IfSome (fault_of e) (λ fault. (us : List Use) × Ends words us (Fails fault))
+
+-- a reading behind which no use is read
+abbrev pub IsLast : Reading → Type 0
+IsLast (Met u left) = ⊥
+IsLast End = Unit
+IsLast (Prints print) = Unit
+IsLast (Fails fault) = Unit
+
+-- an answer tells that these uses were read, and behind them this; or memory ran out
+abbrev pub Tells : Result Cuts CutFault → List Use → Reading → Type 0
+Tells (Ok (cuts.Uses us)) vs r = (views us.items ≡ vs) × (r ≡ End)
+Tells (Ok (cuts.Asks print)) vs r = r ≡ Prints print
+Tells (Err e) vs r = IfSome (fault_of e) (λ fault. r ≡ Fails fault)
+
+-- whatever the words come to, this answer tells it: where a cut is at fault, no uses are answered
+abbrev pub GivesNoOther : Result Cuts CutFault → List (List ℕ) → Type 0
+GivesNoOther answer words = (us : List Use) → (r : Reading) → Ends words us r → IsLast r → Tells answer us r

@@ -3,7 +3,7 @@
 ghost use Rattle.std.specs.Prelude.{◌≡◌, IfOk, map, string_bytes};
 ghost use Rattle.hack_lexopt.specs.Parsers.{left};
 ghost use Rattle.hack_uses.specs.Faults.{flag_seen};
-ghost use Rattle.hack_uses.specs.Reads.{Gives, GivesUses, read_of, last_flag as last_option};
+ghost use Rattle.hack_uses.specs.Reads.{Gives, GivesUses, GivesNoOther, read_of, last_flag as last_option};
 ghost use Rattle.hack_uses.specs.Uses.{views};
 
 use crate::fault::{CutFault, OwnedFlag};
@@ -98,8 +98,7 @@ pub enum Cuts {
     Asks(Print),
 }
 
-/// All uses of the words, a question for a text, or the first fault of a cut.
-pub fn all_uses(alloc: Global, words: Vec<String>) -> Result<Cuts, CutFault>
+fn cut_all(alloc: Global, words: Vec<String>) -> Result<Cuts, CutFault>
     ensures { GivesUses result (map string_bytes words.items) }
 {
     let mut parser = Parser::from_args(alloc, words);
@@ -111,4 +110,12 @@ pub fn all_uses(alloc: Global, words: Vec<String>) -> Result<Cuts, CutFault>
             Step::Asks(print) => return Ok(Cuts::Asks(print)),
         }
     }
+}
+
+/// All uses of the words, a question for a text, or the first fault of a cut.
+pub fn all_uses(alloc: Global, words: Vec<String>) -> Result<Cuts, CutFault>
+    ensures uses { GivesUses result (map string_bytes words.items) }
+    ensures one { GivesNoOther result (map string_bytes words.items) }
+{
+    cut_all(alloc, words)
 }

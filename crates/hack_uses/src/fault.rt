@@ -62,10 +62,11 @@ struct Usage<'a> {
 impl fmt::Display for Usage<'_> {
     fn fmt<W: fmt::Write>(&self, f: &mut fmt::Formatter<W>) -> fmt::Result {
         let flag = self.flag;
-        let value = self.option.row().value;
+        let row = self.option.row();
+        let value = row.value;
         match flag {
-            OwnedFlag::Long(_) => write!(f, "{flag} {value}"),
-            OwnedFlag::Short(_) => write!(f, "{flag}"),
+            OwnedFlag::Long(_) if !row.text.is_empty() => write!(f, "{flag} {value}"),
+            _ => write!(f, "{flag}"),
         }
     }
 }

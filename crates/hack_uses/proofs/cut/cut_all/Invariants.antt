@@ -3,7 +3,7 @@ use Rattle.hack_lexopt.specs.Parsers.{left, start}
 use Rattle.hack_uses.specs.Reads.{Reads}
 use Rattle.hack_uses.specs.Uses.{views}
 use Rattle.hack_uses.proofs.Shrinks.{weight}
-use Rattle.hack_uses.proofs.cut.all_uses.Given as goal
+use Rattle.hack_uses.proofs.cut.cut_all.Given as goal
 
 abbrev pub invariant-loop-uses : goal.invariant-loop-uses
 invariant-loop-uses l = Reads [] (start (map string_bytes l.fn.words.items)) (views l.uses.items) (left l.parser)
