@@ -1,5 +1,5 @@
 -- How words are read as uses of options, one cut after the other.
-use Rattle.std.specs.Prelude.{ℕ, ◌≡◌, List, [], ◌∷◌, ◌++◌, ◌==◌, ◌&&◌, ◌||◌, Bool, true, false, Option, Some, None, Result, Ok, Err, Vec, codes, if◌then◌else◌, IfSome}
+use Rattle.std.specs.Prelude.{ℕ, ◌≡◌, List, [], ◌∷◌, ◌++◌, ◌==◌, ◌&&◌, ◌||◌, Bool, true, false, Option, Some, None, Result, Ok, Err, Vec, codes, if◌then◌else◌, IsSome, IfSome}
 use Rattle.std.specs.Str.{bytes_eq}
 use Rattle.std.specs.declared.alloc.Global.{Global}
 use Rattle.hack_lexopt.specs.Cuts.{Cut, LongCut, ShortCut, ValueCut, Left, next_cut, after_cut, attached, after_attached, value_of, after_value, optional_of, after_optional, unexpected_of}
@@ -127,23 +127,24 @@ of_cut us (LongCut name) left = by_name (long_option name) us name left
 of_cut us (ShortCut letter) left = by_letter (short_option letter) us letter left
 of_cut us (ValueCut word) left = Met (Word word) left
 
--- the option that was cut last, which refuses a value that it did not take; an empty name where none was
-abbrev pub last_flag : Option Cut → Flag
-last_flag (Some cut) = go (flag_in cut)
-  where
-    go : Option Flag → Flag
-    go (Some flag) = flag
-    go None = LongFlag []
-last_flag None = LongFlag []
+-- the option that was cut last, where one was
+abbrev pub flag_left : Option Cut → Option Flag
+flag_left (Some cut) = flag_in cut
+flag_left None = None
 
--- a value that the option before did not take
-abbrev pub refused : Option Cut → Option (List ℕ) → Reading
-refused option (Some value) = Fails (Unexpected (last_flag option) value)
-refused option None = End
+-- a value that the option before it did not take
+abbrev pub refused : Option Flag → Option (List ℕ) → Reading
+refused (Some flag) (Some value) = Fails (Unexpected flag value)
+refused (Some flag) None = End
+refused None value = End
+
+-- a value that was not taken has an option before it, so that the fault can name it
+abbrev pub HasOption : Left → Type 0
+HasOption left = IsSome (unexpected_of left.untaken) → IsSome (flag_left left.option)
 
 -- what the next cut comes to, or its refusal
 abbrev pub of_next : Result (Option Cut) LexFault → List Use → Left → Reading
-of_next (Err fault) us left = refused left.option (unexpected_of left.untaken)
+of_next (Err fault) us left = refused (flag_left left.option) (unexpected_of left.untaken)
 of_next (Ok None) us left = End
 of_next (Ok (Some cut)) us left = of_cut us cut (after_cut left)
 

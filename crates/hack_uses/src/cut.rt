@@ -1,9 +1,9 @@
 //! Cuts the words into uses, one after the other.
 
-ghost use Rattle.std.specs.Prelude.{◌≡◌, IfOk, map, string_bytes};
+ghost use Rattle.std.specs.Prelude.{◌≡◌, IfOk, map, option_map, string_bytes};
 ghost use Rattle.hack_lexopt.specs.Parsers.{left};
 ghost use Rattle.hack_uses.specs.Faults.{flag_seen};
-ghost use Rattle.hack_uses.specs.Reads.{Gives, GivesUses, GivesNoOther, read_of, last_flag as last_option};
+ghost use Rattle.hack_uses.specs.Reads.{Gives, GivesUses, GivesNoOther, HasOption, flag_left, read_of};
 ghost use Rattle.hack_uses.specs.Uses.{views};
 
 use crate::fault::{CutFault, OwnedFlag};
@@ -46,27 +46,27 @@ pub enum Step {
     Asks(Print),
 }
 
-/// The option that was cut last; an empty name where none was.
-fn last_flag(alloc: Global, parser: &Parser) -> Result<OwnedFlag, AllocError>
-    ensures { IfOk result (λ flag. flag_seen flag ≡ last_option (left parser.now).option) }
+/// The option that was cut last, where one was.
+fn last_flag(alloc: Global, parser: &Parser) -> Result<Option<OwnedFlag>, AllocError>
+    ensures { IfOk result (λ flag. option_map flag_seen flag ≡ flag_left (left parser.now).option) }
 {
-    let flag = match parser.option() {
-        Some(option) => OwnedFlag::new(alloc, option)?,
-        None => None,
-    };
-    Ok(flag.unwrap_or(OwnedFlag::Long(String::new(alloc))))
+    match parser.option() {
+        Some(option) => OwnedFlag::new(alloc, option),
+        None => Ok(None),
+    }
 }
 
 /// The next use behind the uses so far, or what else the next cut comes to.
 pub fn read(alloc: Global, parser: &mut Parser, uses: &[Use]) -> Result<Step, CutFault>
+    requires { HasOption (left parser.old) }
     ensures { Gives result (left parser.new) (read_of (views uses.now) (left parser.old)) }
 {
     if let Some(value) = parser.unexpected() {
         let value = String::from_str(alloc, value)?;
-        return Err(CutFault::Unexpected {
-            flag: last_flag(alloc, parser)?,
-            value,
-        });
+        let Some(flag) = last_flag(alloc, parser)? else {
+            unreachable!()
+        };
+        return Err(CutFault::Unexpected { flag, value });
     }
     let flag = match parser.next() {
         Err(_) => unreachable!(),
