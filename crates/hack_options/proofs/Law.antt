@@ -1,9 +1,10 @@
--- Each option is found by its name.
-use Rattle.std.proofs.Common.{◌≡◌, Some, refl}
+-- Each option is found by its name, and where it has a letter by that.
+use Rattle.std.specs.Prelude.{◌≡◌, Some, IfSome}
+use Rattle.std.proofs.Common.{refl}
 use Rattle.hack_options.specs.declared.Opt.{Opt}
 use Rattle.hack_options.specs.declared.Opt.TheVariants as opt
 use Rattle.hack_options.specs.Table.{entry_of}
-use Rattle.hack_options.specs.Find.{long_option}
+use Rattle.hack_options.specs.Find.{long_option, short_option}
 
 pub long_option-name : (o : Opt) → long_option (entry_of o).name ≡ Some o
 long_option-name opt.Package = refl
@@ -51,3 +52,50 @@ long_option-name opt.Version = refl
 long_option-name opt.NoDefaultFeatures = refl
 long_option-name opt.AllFeatures = refl
 long_option-name opt.IncludeDepsFeatures = refl
+
+pub short_option-letter : (o : Opt) → IfSome (entry_of o).letter (λ c. short_option c ≡ Some o)
+short_option-letter opt.Package = refl
+short_option-letter opt.All = tt
+short_option-letter opt.Workspace = tt
+short_option-letter opt.Exclude = tt
+short_option-letter opt.ManifestPath = refl
+short_option-letter opt.Locked = tt
+short_option-letter opt.Features = refl
+short_option-letter opt.EachFeature = tt
+short_option-letter opt.FeaturePowerset = tt
+short_option-letter opt.OptionalDeps = tt
+short_option-letter opt.Skip = tt
+short_option-letter opt.ExcludeFeatures = tt
+short_option-letter opt.ExcludeNoDefaultFeatures = tt
+short_option-letter opt.ExcludeAllFeatures = tt
+short_option-letter opt.Depth = tt
+short_option-letter opt.GroupFeatures = tt
+short_option-letter opt.Target = tt
+short_option-letter opt.MutuallyExclusiveFeatures = tt
+short_option-letter opt.AllowTogether = tt
+short_option-letter opt.AtLeastOneOf = tt
+short_option-letter opt.IncludeFeatures = tt
+short_option-letter opt.NoDevDeps = tt
+short_option-letter opt.RemoveDevDeps = tt
+short_option-letter opt.NoPrivate = tt
+short_option-letter opt.IgnorePrivate = tt
+short_option-letter opt.IgnoreUnknownFeatures = tt
+short_option-letter opt.RustVersion = tt
+short_option-letter opt.VersionRange = tt
+short_option-letter opt.VersionStep = tt
+short_option-letter opt.CleanPerRun = tt
+short_option-letter opt.CleanPerVersion = tt
+short_option-letter opt.KeepGoing = tt
+short_option-letter opt.Partition = tt
+short_option-letter opt.PartitionKind = tt
+short_option-letter opt.LogGroup = tt
+short_option-letter opt.WorkspaceBehavior = tt
+short_option-letter opt.PrintCommandList = tt
+short_option-letter opt.NoManifestPath = tt
+short_option-letter opt.Verbose = refl
+short_option-letter opt.Color = tt
+short_option-letter opt.Help = refl
+short_option-letter opt.Version = refl
+short_option-letter opt.NoDefaultFeatures = tt
+short_option-letter opt.AllFeatures = tt
+short_option-letter opt.IncludeDepsFeatures = tt

@@ -1,6 +1,8 @@
--- The table of options.
-use Rattle.std.specs.Prelude.{ℕ, List, [], ◌∷◌, ◌==◌, Bool, true, false, Option, Some, None, codes, if◌then◌else◌}
+-- The table of options: how each is written and cut.
+use Rattle.std.specs.Prelude.{ℕ, List, [], ◌∷◌, ◌==◌, Bool, true, false, Option, Some, None, codes, slice_get, if◌then◌else◌}
 use Rattle.std.specs.Str.{bytes_eq}
+use denote.Enum.Bare.{sameb}
+use Rattle.hack_options.specs.contracts.Opt.{the_type}
 use Rattle.hack_options.specs.declared.Opt.{Opt}
 use Rattle.hack_options.specs.declared.Opt.TheVariants as opt
 use Rattle.hack_options.specs.declared.Kind.{Kind}
@@ -14,27 +16,31 @@ pub record Entry : Type 0 where
   pub kind : Kind
   pub once : Bool
 
+-- what a row says of that
 abbrev pub entry : Row → Entry
 entry row = record { letter = row.letter; name = row.name.now; kind = row.kind; once = row.once }
 
--- an option without a letter, one that may be repeated or stands once
+-- an option without a letter that stands once
 abbrev pub once : List ℕ → Kind → Entry
 once name kind = record { letter = None; name = name; kind = kind; once = true }
 
+-- an option without a letter that may be repeated
 abbrev pub many : List ℕ → Kind → Entry
 many name kind = record { letter = None; name = name; kind = kind; once = false }
 
-abbrev pub or_letter : ℕ → Entry → Entry
-or_letter c e = record e { letter = Some c }
+-- the same option, that the one letter of the text names too
+abbrev pub or_letter : List ℕ → Entry → Entry
+or_letter text e = record e { letter = slice_get text 0 }
 
+-- how each option is written and cut
 abbrev pub entry_of : Opt → Entry
-entry_of opt.Package = or_letter 112 (many (codes "package") Value)
+entry_of opt.Package = or_letter (codes "p") (many (codes "package") Value)
 entry_of opt.All = once (codes "all") Flag
 entry_of opt.Workspace = once (codes "workspace") Flag
 entry_of opt.Exclude = many (codes "exclude") Value
-entry_of opt.ManifestPath = or_letter 109 (once (codes "manifest-path") Value)
+entry_of opt.ManifestPath = or_letter (codes "m") (once (codes "manifest-path") Value)
 entry_of opt.Locked = once (codes "locked") Flag
-entry_of opt.Features = or_letter 70 (many (codes "features") Names)
+entry_of opt.Features = or_letter (codes "F") (many (codes "features") Names)
 entry_of opt.EachFeature = once (codes "each-feature") Flag
 entry_of opt.FeaturePowerset = once (codes "feature-powerset") Flag
 entry_of opt.OptionalDeps = once (codes "optional-deps") OptionalNames
@@ -66,10 +72,10 @@ entry_of opt.LogGroup = once (codes "log-group") Value
 entry_of opt.WorkspaceBehavior = many (codes "workspace-behavior") Refused
 entry_of opt.PrintCommandList = once (codes "print-command-list") Flag
 entry_of opt.NoManifestPath = once (codes "no-manifest-path") Flag
-entry_of opt.Verbose = or_letter 118 (many (codes "verbose") Flag)
+entry_of opt.Verbose = or_letter (codes "v") (many (codes "verbose") Flag)
 entry_of opt.Color = once (codes "color") Value
-entry_of opt.Help = or_letter 104 (many (codes "help") Help)
-entry_of opt.Version = or_letter 86 (many (codes "version") Version)
+entry_of opt.Help = or_letter (codes "h") (many (codes "help") Help)
+entry_of opt.Version = or_letter (codes "V") (many (codes "version") Version)
 entry_of opt.NoDefaultFeatures = many (codes "no-default-features") Flag
 entry_of opt.AllFeatures = many (codes "all-features") Flag
 entry_of opt.IncludeDepsFeatures = once (codes "include-deps-features") Flag
@@ -80,55 +86,9 @@ meaning_of opt.All = opt.Workspace
 meaning_of opt.Skip = opt.ExcludeFeatures
 meaning_of o = o
 
-abbrev pub number_of : Opt → ℕ
-number_of opt.Package = 0
-number_of opt.All = 1
-number_of opt.Workspace = 2
-number_of opt.Exclude = 3
-number_of opt.ManifestPath = 4
-number_of opt.Locked = 5
-number_of opt.Features = 6
-number_of opt.EachFeature = 7
-number_of opt.FeaturePowerset = 8
-number_of opt.OptionalDeps = 9
-number_of opt.Skip = 10
-number_of opt.ExcludeFeatures = 11
-number_of opt.ExcludeNoDefaultFeatures = 12
-number_of opt.ExcludeAllFeatures = 13
-number_of opt.Depth = 14
-number_of opt.GroupFeatures = 15
-number_of opt.Target = 16
-number_of opt.MutuallyExclusiveFeatures = 17
-number_of opt.AllowTogether = 18
-number_of opt.AtLeastOneOf = 19
-number_of opt.IncludeFeatures = 20
-number_of opt.NoDevDeps = 21
-number_of opt.RemoveDevDeps = 22
-number_of opt.NoPrivate = 23
-number_of opt.IgnorePrivate = 24
-number_of opt.IgnoreUnknownFeatures = 25
-number_of opt.RustVersion = 26
-number_of opt.VersionRange = 27
-number_of opt.VersionStep = 28
-number_of opt.CleanPerRun = 29
-number_of opt.CleanPerVersion = 30
-number_of opt.KeepGoing = 31
-number_of opt.Partition = 32
-number_of opt.PartitionKind = 33
-number_of opt.LogGroup = 34
-number_of opt.WorkspaceBehavior = 35
-number_of opt.PrintCommandList = 36
-number_of opt.NoManifestPath = 37
-number_of opt.Verbose = 38
-number_of opt.Color = 39
-number_of opt.Help = 40
-number_of opt.Version = 41
-number_of opt.NoDefaultFeatures = 42
-number_of opt.AllFeatures = 43
-number_of opt.IncludeDepsFeatures = 44
-
+-- `==` on options
 abbrev pub same : Opt → Opt → Bool
-same a b = number_of a == number_of b
+same = sameb the_type
 
 -- the first option of this name
 abbrev pub named : List ℕ → List Opt → Option Opt

@@ -1,9 +1,11 @@
-ghost use Rattle.std.specs.Prelude.{◌≡◌};
-ghost use Rattle.hack_options.specs.Table.{entry, entry_of, meaning_of, same};
+//! How each option is cut: one row an option.
+
+ghost use Rattle.std.specs.Prelude.{◌≡◌, ◌↔◌, IsTrue, Some};
+ghost use Rattle.hack_options.specs.Table.{entry, entry_of, meaning_of, same, once as once_entry, many as many_entry};
 
 use crate::{Kind, Opt, Row};
 
-/// All options, in the order of the help.
+/// All options, in the order of the help; those that the help doesn't show stand last.
 pub const ALL: [Opt; 45] = [
     Opt::Package,
     Opt::All,
@@ -52,478 +54,95 @@ pub const ALL: [Opt; 45] = [
     Opt::IncludeDepsFeatures,
 ];
 
+/// An option that stands once.
+fn once(name: &'static str, kind: Kind) -> Row
+    ensures { entry result ≡ once_entry name.now kind }
+{
+    Row {
+        letter: None,
+        name,
+        kind,
+        once: true,
+    }
+}
+
+/// An option that may be repeated.
+fn many(name: &'static str, kind: Kind) -> Row
+    ensures { entry result ≡ many_entry name.now kind }
+{
+    Row {
+        letter: None,
+        name,
+        kind,
+        once: false,
+    }
+}
+
+/// The same option, written as a letter too.
+fn lettered(letter: char, row: Row) -> Row
+    ensures { entry result ≡ record (entry row) { letter = Some letter } }
+{
+    Row {
+        letter: Some(letter),
+        ..row
+    }
+}
+
 impl Opt {
-    /// The option's row.
+    /// How the option is written and cut.
     pub fn row(self) -> Row
         ensures { entry result ≡ entry_of self }
     {
         match self {
-            Opt::Package => Row {
-                letter: Some('p'),
-                name: "package",
-                kind: Kind::Value,
-                once: false,
-                value: "<SPEC>...",
-                text: "Package(s) to check",
-                paragraphs: &[],
-            },
-            Opt::All => Row {
-                letter: None,
-                name: "all",
-                kind: Kind::Flag,
-                once: true,
-                value: "",
-                text: "Alias for --workspace",
-                paragraphs: &[],
-            },
-            Opt::Workspace => Row {
-                letter: None,
-                name: "workspace",
-                kind: Kind::Flag,
-                once: true,
-                value: "",
-                text: "Perform command for all packages in the workspace",
-                paragraphs: &[],
-            },
-            Opt::Exclude => Row {
-                letter: None,
-                name: "exclude",
-                kind: Kind::Value,
-                once: false,
-                value: "<SPEC>...",
-                text: "Exclude packages from the check",
-                paragraphs: &[],
-            },
-            Opt::ManifestPath => Row {
-                letter: Some('m'),
-                name: "manifest-path",
-                kind: Kind::Value,
-                once: true,
-                value: "<PATH>",
-                text: "Path to Cargo.toml",
-                paragraphs: &[],
-            },
-            Opt::Locked => Row {
-                letter: None,
-                name: "locked",
-                kind: Kind::Flag,
-                once: true,
-                value: "",
-                text: "Require Cargo.lock is up to date",
-                paragraphs: &[],
-            },
-            Opt::Features => Row {
-                letter: Some('F'),
-                name: "features",
-                kind: Kind::Names,
-                once: false,
-                value: "<FEATURES>...",
-                text: "Space or comma separated list of features to activate",
-                paragraphs: &[],
-            },
-            Opt::EachFeature => Row {
-                letter: None,
-                name: "each-feature",
-                kind: Kind::Flag,
-                once: true,
-                value: "",
-                text: "Perform for each feature of the package",
-                paragraphs: &[
-                    "This also includes runs with just --no-default-features flag, and default features.",
-                    "When this flag is not used together with --exclude-features (--skip) and --include-features and there are multiple features, this also includes runs with just --all-features flag.",
-                ],
-            },
-            Opt::FeaturePowerset => Row {
-                letter: None,
-                name: "feature-powerset",
-                kind: Kind::Flag,
-                once: true,
-                value: "",
-                text: "Perform for the feature powerset of the package",
-                paragraphs: &[
-                    "This also includes runs with just --no-default-features flag, and default features.",
-                    "When this flag is used together with --depth or namespaced features (-Z namespaced-features) and not used together with --exclude-features (--skip) and --include-features and there are multiple features, this also includes runs with just --all-features flag.",
-                ],
-            },
-            Opt::OptionalDeps => Row {
-                letter: None,
-                name: "optional-deps",
-                kind: Kind::OptionalNames,
-                once: true,
-                value: "[DEPS]...",
-                text: "Use optional dependencies as features",
-                paragraphs: &[
-                    "If DEPS are not specified, all optional dependencies are considered as features.",
-                    "This flag can only be used together with either --each-feature flag or --feature-powerset flag.",
-                ],
-            },
-            Opt::Skip => Row {
-                letter: None,
-                name: "skip",
-                kind: Kind::Names,
-                once: false,
-                value: "<FEATURES>...",
-                text: "Alias for --exclude-features",
-                paragraphs: &[],
-            },
-            Opt::ExcludeFeatures => Row {
-                letter: None,
-                name: "exclude-features",
-                kind: Kind::Names,
-                once: false,
-                value: "<FEATURES>...",
-                text: "Space or comma separated list of features to exclude",
-                paragraphs: &[
-                    "To exclude run of default feature, using value `--exclude-features default`.",
-                    "To exclude run of just --no-default-features flag, using --exclude-no-default-features flag.",
-                    "To exclude run of just --all-features flag, using --exclude-all-features flag.",
-                    "This flag can only be used together with either --each-feature flag or --feature-powerset flag.",
-                ],
-            },
-            Opt::ExcludeNoDefaultFeatures => Row {
-                letter: None,
-                name: "exclude-no-default-features",
-                kind: Kind::Flag,
-                once: true,
-                value: "",
-                text: "Exclude run of just --no-default-features flag",
-                paragraphs: &[
-                    "This flag can only be used together with either --each-feature flag or --feature-powerset flag.",
-                ],
-            },
-            Opt::ExcludeAllFeatures => Row {
-                letter: None,
-                name: "exclude-all-features",
-                kind: Kind::Flag,
-                once: true,
-                value: "",
-                text: "Exclude run of just --all-features flag",
-                paragraphs: &[
-                    "This flag can only be used together with either --each-feature flag or --feature-powerset flag.",
-                ],
-            },
-            Opt::Depth => Row {
-                letter: None,
-                name: "depth",
-                kind: Kind::Value,
-                once: true,
-                value: "<NUM>",
-                text: "Specify a max number of simultaneous feature flags of --feature-powerset",
-                paragraphs: &[
-                    "If NUM is set to 1, --feature-powerset is equivalent to --each-feature.",
-                    "This flag can only be used together with --feature-powerset flag.",
-                ],
-            },
-            Opt::GroupFeatures => Row {
-                letter: None,
-                name: "group-features",
-                kind: Kind::Value,
-                once: false,
-                value: "<FEATURES>...",
-                text: "Space or comma separated list of features to group",
-                paragraphs: &[
-                    "This treats the specified features as if it were a single feature.",
-                    "To specify multiple groups, use this option multiple times: `--group-features a,b --group-features c,d`",
-                    "This flag can only be used together with --feature-powerset flag.",
-                ],
-            },
-            Opt::Target => Row {
-                letter: None,
-                name: "target",
-                kind: Kind::Value,
-                once: false,
-                value: "<TRIPLE>",
-                text: "Build for specified target triple",
-                paragraphs: &[
-                    "Comma-separated lists of targets are not supported, but you can specify the whole --target option multiple times to do multiple targets.",
-                    "This is actually not a cargo-hack option, it is interpreted by Cargo itself.",
-                ],
-            },
-            Opt::MutuallyExclusiveFeatures => Row {
-                letter: None,
-                name: "mutually-exclusive-features",
-                kind: Kind::Value,
-                once: false,
-                value: "<FEATURES>...",
-                text: "Space or comma separated list of features to not use together",
-                paragraphs: &[
-                    "To specify multiple groups, use this option multiple times: `--mutually-exclusive-features a,b --mutually-exclusive-features c,d`",
-                    "This flag can only be used together with --feature-powerset flag.",
-                ],
-            },
-            Opt::AllowTogether => Row {
-                letter: None,
-                name: "allow-together",
-                kind: Kind::Value,
-                once: false,
-                value: "<PKG=FEATURES>...",
-                text: "Lift one group of --mutually-exclusive-features for one package",
-                paragraphs: &[
-                    "This flag can only be used together with --mutually-exclusive-features flag.",
-                ],
-            },
-            Opt::AtLeastOneOf => Row {
-                letter: None,
-                name: "at-least-one-of",
-                kind: Kind::Value,
-                once: false,
-                value: "<FEATURES>...",
-                text: "Space or comma separated list of features. Skips sets of features that don't enable any of the features listed",
-                paragraphs: &[
-                    "To specify multiple groups, use this option multiple times: `--at-least-one-of a,b --at-least-one-of c,d`",
-                    "This flag can only be used together with --feature-powerset flag.",
-                ],
-            },
-            Opt::IncludeFeatures => Row {
-                letter: None,
-                name: "include-features",
-                kind: Kind::Names,
-                once: false,
-                value: "<FEATURES>...",
-                text: "Include only the specified features in the feature combinations instead of package features",
-                paragraphs: &[
-                    "This flag can only be used together with either --each-feature flag or --feature-powerset flag.",
-                ],
-            },
-            Opt::NoDevDeps => Row {
-                letter: None,
-                name: "no-dev-deps",
-                kind: Kind::Flag,
-                once: true,
-                value: "",
-                text: "Perform without dev-dependencies",
-                paragraphs: &[
-                    "Note that this flag removes dev-dependencies from real `Cargo.toml` while cargo-hack is running and restores it when finished.",
-                ],
-            },
-            Opt::RemoveDevDeps => Row {
-                letter: None,
-                name: "remove-dev-deps",
-                kind: Kind::Flag,
-                once: true,
-                value: "",
-                text: "Equivalent to --no-dev-deps flag except for does not restore the original `Cargo.toml` after performed",
-                paragraphs: &[],
-            },
-            Opt::NoPrivate => Row {
-                letter: None,
-                name: "no-private",
-                kind: Kind::Flag,
-                once: true,
-                value: "",
-                text: "Perform without `publish = false` crates",
-                paragraphs: &[],
-            },
-            Opt::IgnorePrivate => Row {
-                letter: None,
-                name: "ignore-private",
-                kind: Kind::Flag,
-                once: true,
-                value: "",
-                text: "Skip to perform on `publish = false` packages",
-                paragraphs: &[],
-            },
-            Opt::IgnoreUnknownFeatures => Row {
-                letter: None,
-                name: "ignore-unknown-features",
-                kind: Kind::Flag,
-                once: true,
-                value: "",
-                text: "Skip passing --features flag to `cargo` if that feature does not exist in the package",
-                paragraphs: &[
-                    "This flag can be used with --features, --include-features, or --group-features.",
-                ],
-            },
-            Opt::RustVersion => Row {
-                letter: None,
-                name: "rust-version",
-                kind: Kind::Flag,
-                once: true,
-                value: "",
-                text: "Perform commands on `package.rust-version`",
-                paragraphs: &["This cannot be used with --version-range."],
-            },
-            Opt::VersionRange => Row {
-                letter: None,
-                name: "version-range",
-                kind: Kind::Value,
-                once: true,
-                value: "[START]..[=END]",
-                text: "Perform commands on a specified (inclusive) range of Rust versions",
-                paragraphs: &[
-                    "If the upper bound of the range is omitted, the latest stable compiler is used as the upper bound.",
-                    "If the lower bound of the range is omitted, the value of the `rust-version` field in `Cargo.toml` is used as the lower bound.",
-                    "Note that ranges are always inclusive ranges.",
-                ],
-            },
-            Opt::VersionStep => Row {
-                letter: None,
-                name: "version-step",
-                kind: Kind::Value,
-                once: true,
-                value: "<NUM>",
-                text: "Specify the version interval of --version-range (default to `1`)",
-                paragraphs: &["This flag can only be used together with --version-range flag."],
-            },
-            Opt::CleanPerRun => Row {
-                letter: None,
-                name: "clean-per-run",
-                kind: Kind::Flag,
-                once: true,
-                value: "",
-                text: "Remove artifacts for that package before running the command",
-                paragraphs: &[
-                    "If used this flag with --workspace, --each-feature, or --feature-powerset, artifacts will be removed before each run.",
-                    "Note that dependencies artifacts will be preserved.",
-                ],
-            },
-            Opt::CleanPerVersion => Row {
-                letter: None,
-                name: "clean-per-version",
-                kind: Kind::Flag,
-                once: true,
-                value: "",
-                text: "Remove artifacts per Rust version",
-                paragraphs: &[
-                    "Note that dependencies artifacts will also be removed.",
-                    "This flag can only be used together with --version-range flag.",
-                ],
-            },
-            Opt::KeepGoing => Row {
-                letter: None,
-                name: "keep-going",
-                kind: Kind::Flag,
-                once: true,
-                value: "",
-                text: "Keep going on failure",
-                paragraphs: &[],
-            },
-            Opt::Partition => Row {
-                letter: None,
-                name: "partition",
-                kind: Kind::Value,
-                once: true,
-                value: "<M/N>",
-                text: "Partition runs and execute only its subset according to M/N",
-                paragraphs: &[],
-            },
-            Opt::PartitionKind => Row {
-                letter: None,
-                name: "partition-kind",
-                kind: Kind::Value,
-                once: true,
-                value: "<KIND>",
-                text: "Partitioning: block, turn",
-                paragraphs: &["This flag can only be used together with --partition flag."],
-            },
-            Opt::LogGroup => Row {
-                letter: None,
-                name: "log-group",
-                kind: Kind::Value,
-                once: true,
-                value: "<KIND>",
-                text: "Log grouping: none, github-actions",
-                paragraphs: &[
-                    "If this option is not used, the environment will be automatically detected.",
-                ],
-            },
-            Opt::WorkspaceBehavior => Row {
-                letter: None,
-                name: "workspace-behavior",
-                kind: Kind::Refused,
-                once: false,
-                value: "=cargo",
-                text: "Use Cargo's workspace handling",
-                paragraphs: &[
-                    "This is for use cases where cargo-hack's workspace handling does not work.",
-                    "Note that this is incompatible with flags that require cargo-hack's workspace handling to work properly (e.g., `--each-feature`, `--feature-powerset`, etc.).",
-                ],
-            },
-            Opt::PrintCommandList => Row {
-                letter: None,
-                name: "print-command-list",
-                kind: Kind::Flag,
-                once: true,
-                value: "",
-                text: "Print commands without run (Unstable)",
-                paragraphs: &[],
-            },
-            Opt::NoManifestPath => Row {
-                letter: None,
-                name: "no-manifest-path",
-                kind: Kind::Flag,
-                once: true,
-                value: "",
-                text: "Do not pass --manifest-path option to cargo (Unstable)",
-                paragraphs: &[],
-            },
-            Opt::Verbose => Row {
-                letter: Some('v'),
-                name: "verbose",
-                kind: Kind::Flag,
-                once: false,
-                value: "",
-                text: "Use verbose output",
-                paragraphs: &[],
-            },
-            Opt::Color => Row {
-                letter: None,
-                name: "color",
-                kind: Kind::Value,
-                once: true,
-                value: "<WHEN>",
-                text: "Coloring: auto, always, never",
-                paragraphs: &["This flag will be propagated to cargo."],
-            },
-            Opt::Help => Row {
-                letter: Some('h'),
-                name: "help",
-                kind: Kind::Help,
-                once: false,
-                value: "",
-                text: "Prints help information",
-                paragraphs: &[],
-            },
-            Opt::Version => Row {
-                letter: Some('V'),
-                name: "version",
-                kind: Kind::Version,
-                once: false,
-                value: "",
-                text: "Prints version information",
-                paragraphs: &[],
-            },
-            Opt::NoDefaultFeatures => Row {
-                letter: None,
-                name: "no-default-features",
-                kind: Kind::Flag,
-                once: false,
-                value: "",
-                text: "",
-                paragraphs: &[],
-            },
-            Opt::AllFeatures => Row {
-                letter: None,
-                name: "all-features",
-                kind: Kind::Flag,
-                once: false,
-                value: "",
-                text: "",
-                paragraphs: &[],
-            },
-            Opt::IncludeDepsFeatures => Row {
-                letter: None,
-                name: "include-deps-features",
-                kind: Kind::Flag,
-                once: true,
-                value: "",
-                text: "",
-                paragraphs: &[],
-            },
+            Opt::Package => lettered('p', many("package", Kind::Value)),
+            Opt::All => once("all", Kind::Flag),
+            Opt::Workspace => once("workspace", Kind::Flag),
+            Opt::Exclude => many("exclude", Kind::Value),
+            Opt::ManifestPath => lettered('m', once("manifest-path", Kind::Value)),
+            Opt::Locked => once("locked", Kind::Flag),
+            Opt::Features => lettered('F', many("features", Kind::Names)),
+            Opt::EachFeature => once("each-feature", Kind::Flag),
+            Opt::FeaturePowerset => once("feature-powerset", Kind::Flag),
+            Opt::OptionalDeps => once("optional-deps", Kind::OptionalNames),
+            Opt::Skip => many("skip", Kind::Names),
+            Opt::ExcludeFeatures => many("exclude-features", Kind::Names),
+            Opt::ExcludeNoDefaultFeatures => once("exclude-no-default-features", Kind::Flag),
+            Opt::ExcludeAllFeatures => once("exclude-all-features", Kind::Flag),
+            Opt::Depth => once("depth", Kind::Value),
+            Opt::GroupFeatures => many("group-features", Kind::Value),
+            Opt::Target => many("target", Kind::Value),
+            Opt::MutuallyExclusiveFeatures => many("mutually-exclusive-features", Kind::Value),
+            Opt::AllowTogether => many("allow-together", Kind::Value),
+            Opt::AtLeastOneOf => many("at-least-one-of", Kind::Value),
+            Opt::IncludeFeatures => many("include-features", Kind::Names),
+            Opt::NoDevDeps => once("no-dev-deps", Kind::Flag),
+            Opt::RemoveDevDeps => once("remove-dev-deps", Kind::Flag),
+            Opt::NoPrivate => once("no-private", Kind::Flag),
+            Opt::IgnorePrivate => once("ignore-private", Kind::Flag),
+            Opt::IgnoreUnknownFeatures => once("ignore-unknown-features", Kind::Flag),
+            Opt::RustVersion => once("rust-version", Kind::Flag),
+            Opt::VersionRange => once("version-range", Kind::Value),
+            Opt::VersionStep => once("version-step", Kind::Value),
+            Opt::CleanPerRun => once("clean-per-run", Kind::Flag),
+            Opt::CleanPerVersion => once("clean-per-version", Kind::Flag),
+            Opt::KeepGoing => once("keep-going", Kind::Flag),
+            Opt::Partition => once("partition", Kind::Value),
+            Opt::PartitionKind => once("partition-kind", Kind::Value),
+            Opt::LogGroup => once("log-group", Kind::Value),
+            Opt::WorkspaceBehavior => many("workspace-behavior", Kind::Refused),
+            Opt::PrintCommandList => once("print-command-list", Kind::Flag),
+            Opt::NoManifestPath => once("no-manifest-path", Kind::Flag),
+            Opt::Verbose => lettered('v', many("verbose", Kind::Flag)),
+            Opt::Color => once("color", Kind::Value),
+            Opt::Help => lettered('h', many("help", Kind::Help)),
+            Opt::Version => lettered('V', many("version", Kind::Version)),
+            Opt::NoDefaultFeatures => many("no-default-features", Kind::Flag),
+            Opt::AllFeatures => many("all-features", Kind::Flag),
+            Opt::IncludeDepsFeatures => once("include-deps-features", Kind::Flag),
         }
     }
 
-    /// What an alias stands for.
+    /// What an alias stands for; any other option stands for itself.
     pub fn means(self) -> Opt
         ensures { result ≡ meaning_of self }
     {
@@ -536,8 +155,9 @@ impl Opt {
 
     /// Whether both are the same option.
     pub fn is(self, other: Opt) -> bool
-        ensures { result ≡ same self other }
+        ensures value { result ≡ same self other }
+        ensures equal { IsTrue result ↔ (self ≡ other) }
     {
-        self as u8 == other as u8
+        self == other
     }
 }

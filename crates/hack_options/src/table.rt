@@ -1,9 +1,12 @@
-ghost use Rattle.std.specs.Prelude.{◌≡◌};
+//! Finds the option that a word names.
+
+ghost use Rattle.std.specs.Prelude.{◌≡◌, Some, IfSome};
 ghost use Rattle.hack_options.specs.Find.{long_option, short_option};
-ghost use Rattle.hack_options.specs.Table.{named, lettered};
+ghost use Rattle.hack_options.specs.Table.{entry_of, named, lettered};
 
 use crate::{ALL, Opt};
 
+/// The first option of this name.
 fn find_name(options: &[Opt], name: &str) -> Option<Opt>
     ensures { result ≡ named name.now options.now }
 {
@@ -15,6 +18,7 @@ fn find_name(options: &[Opt], name: &str) -> Option<Opt>
     None
 }
 
+/// The first option of this letter.
 fn find_letter(options: &[Opt], letter: char) -> Option<Opt>
     ensures { result ≡ lettered letter options.now }
 {
@@ -26,16 +30,18 @@ fn find_letter(options: &[Opt], letter: char) -> Option<Opt>
     None
 }
 
-/// The option of a long name.
+/// The option of a long name, written without its two dashes.
 pub fn long(name: &str) -> Option<Opt>
-    ensures { result ≡ long_option name.now }
+    ensures value { result ≡ long_option name.now }
+    ensures each { (option : Opt) → name.now ≡ (entry_of option).name → result ≡ Some option }
 {
     find_name(&ALL, name)
 }
 
 /// The option of a letter.
 pub fn short(letter: char) -> Option<Opt>
-    ensures { result ≡ short_option letter }
+    ensures value { result ≡ short_option letter }
+    ensures each { (option : Opt) → (entry_of option).letter ≡ Some letter → result ≡ Some option }
 {
     find_letter(&ALL, letter)
 }

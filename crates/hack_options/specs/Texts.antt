@@ -1,0 +1,78 @@
+-- How messages and the help show options.
+use Rattle.std.specs.Prelude.{ℕ, List, ◌++◌, ◌&&◌, Bool, true, false, Option, Some, None, codes, encode_utf8, if◌then◌else◌}
+use Rattle.hack_options.specs.declared.Opt.{Opt}
+use Rattle.hack_options.specs.declared.Opt.TheVariants as opt
+use Rattle.hack_options.specs.declared.messages.Usage.{Usage}
+use Rattle.hack_options.specs.declared.messages.Usage.TheVariants.{Long, Short}
+use Rattle.hack_options.specs.declared.messages.WithAlias.{WithAlias}
+use Rattle.hack_options.specs.Table.{entry_of}
+use Rattle.hack_options.specs.Find.{long_option, short_option}
+
+-- the name that messages show for an option
+abbrev pub shown_name : Opt → List ℕ
+shown_name opt.WorkspaceBehavior = codes "workspace-behavior=cargo"
+shown_name o = (entry_of o).name
+
+-- an option as messages name it
+abbrev pub shown : Opt → List ℕ
+shown o = codes "--" ++ shown_name o
+
+-- the same, with its alias where messages tell it
+abbrev pub shown_with_alias : Opt → List ℕ
+shown_with_alias opt.ExcludeFeatures = codes "--exclude-features (--skip)"
+shown_with_alias o = shown o
+
+-- the value that the help shows behind the name; nothing at an option that takes none
+abbrev pub value_of : Opt → List ℕ
+value_of opt.Package = codes "<SPEC>..."
+value_of opt.Exclude = codes "<SPEC>..."
+value_of opt.ManifestPath = codes "<PATH>"
+value_of opt.Features = codes "<FEATURES>..."
+value_of opt.OptionalDeps = codes "[DEPS]..."
+value_of opt.Skip = codes "<FEATURES>..."
+value_of opt.ExcludeFeatures = codes "<FEATURES>..."
+value_of opt.Depth = codes "<NUM>"
+value_of opt.GroupFeatures = codes "<FEATURES>..."
+value_of opt.Target = codes "<TRIPLE>"
+value_of opt.MutuallyExclusiveFeatures = codes "<FEATURES>..."
+value_of opt.AllowTogether = codes "<PKG=FEATURES>..."
+value_of opt.AtLeastOneOf = codes "<FEATURES>..."
+value_of opt.IncludeFeatures = codes "<FEATURES>..."
+value_of opt.VersionRange = codes "[START]..[=END]"
+value_of opt.VersionStep = codes "<NUM>"
+value_of opt.Partition = codes "<M/N>"
+value_of opt.PartitionKind = codes "<KIND>"
+value_of opt.LogGroup = codes "<KIND>"
+value_of opt.Color = codes "<WHEN>"
+value_of _ = codes ""
+
+-- whether a row of the help has just this option's name
+abbrev pub has_usage : Opt → Bool
+has_usage opt.WorkspaceBehavior = false
+has_usage opt.NoDefaultFeatures = false
+has_usage opt.AllFeatures = false
+has_usage opt.IncludeDepsFeatures = false
+has_usage _ = true
+
+-- whether the help shows the option's letter
+abbrev pub shows_letter : Opt → Bool
+shows_letter opt.ManifestPath = false
+shows_letter _ = true
+
+-- the name and the value of the option's row
+abbrev pub row_usage : Opt → List ℕ
+row_usage o = codes "--" ++ (entry_of o).name ++ codes " " ++ value_of o
+
+-- the usage of the option, where the help has it as it was written
+abbrev pub usage_or : List ℕ → (Opt → Bool) → Option Opt → List ℕ
+usage_or written in_help None = written
+usage_or written in_help (Some o) = if in_help o then row_usage o else written
+
+-- what a message shows as the usage of an option as it was written
+abbrev pub usage_text : Usage → List ℕ
+usage_text (Long name) = usage_or (codes "--" ++ name.now) has_usage (long_option name.now)
+usage_text (Short letter) = usage_or (codes "-" ++ encode_utf8 letter) (λ o. has_usage o && shows_letter o) (short_option letter)
+
+-- the option whose alias is told
+abbrev pub aliased : WithAlias → Opt
+aliased told = told.option

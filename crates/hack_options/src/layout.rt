@@ -1,0 +1,193 @@
+//! How the help is laid out.
+
+ghost use Rattle.std.specs.Prelude.{◌≡◌, true, false};
+
+use crate::ALL;
+use crate::help_rows::HelpRow;
+use std::fmt;
+
+const HEAD: &str = "cargo-hack
+Cargo subcommand to provide various options useful for testing and continuous integration.
+
+USAGE:
+    cargo hack [OPTIONS] [SUBCOMMAND]
+
+Use -h for short descriptions and --help for more details.
+
+OPTIONS:
+";
+
+const TAIL: &str = "Some common cargo commands are (see all commands with --list):
+    build       Compile the current package
+    check       Analyze the current package and report errors, but don't build object files
+    run         Run a binary or example of the local package
+    test        Run the tests
+";
+
+/// Each line of a text ends before this place.
+const LINE_END: usize = 100;
+/// Where the long form's texts begin.
+const LONG_INDENT: usize = 12;
+/// Where the short form's texts begin.
+const SHORT_INDENT: usize = 41;
+/// The places of name and value in the short form.
+const NAME_PLACES: usize = 32;
+
+/// The help, as `-h` or as `--help` prints it.
+#[derive(Clone, Copy, Debug, PartialEq, Eq)]
+pub struct Help {
+    /// Whether each row has its paragraphs too.
+    pub long: bool,
+}
+
+impl Help {
+    /// One line a row, as `-h` prints it.
+    pub fn short() -> Help
+        ensures { result.long ≡ false }
+    {
+        Help { long: false }
+    }
+
+    /// Each row with its paragraphs, as `--help` prints it.
+    pub fn long() -> Help
+        ensures { result.long ≡ true }
+    {
+        Help { long: true }
+    }
+}
+
+impl fmt::Display for Help {
+    fn fmt<W: fmt::Write>(&self, f: &mut fmt::Formatter<W>) -> fmt::Result {
+        write!(f, "{HEAD}")?;
+        for option in &ALL {
+            match option.help() {
+                Some(row) if self.long => write!(f, "{}", LongRow { row })?,
+                Some(row) => write!(f, "{}", ShortRow { row })?,
+                None => {}
+            }
+        }
+        if !self.long {
+            writeln!(f)?;
+        }
+        write!(f, "{TAIL}")
+    }
+}
+
+/// A row in the short form.
+#[derive(Clone, Copy)]
+struct ShortRow {
+    row: HelpRow,
+}
+
+impl fmt::Display for ShortRow {
+    fn fmt<W: fmt::Write>(&self, f: &mut fmt::Formatter<W>) -> fmt::Result {
+        let name = Name { row: self.row };
+        let pad = Spaces {
+            count: name.places_left(),
+        };
+        let text = Wrapped {
+            text: self.row.text,
+            indent: SHORT_INDENT,
+        };
+        writeln!(f, "    {name}{pad} {text}")
+    }
+}
+
+/// A row in the long form.
+#[derive(Clone, Copy)]
+struct LongRow {
+    row: HelpRow,
+}
+
+impl fmt::Display for LongRow {
+    fn fmt<W: fmt::Write>(&self, f: &mut fmt::Formatter<W>) -> fmt::Result {
+        let name = Name { row: self.row };
+        let indent = Spaces { count: LONG_INDENT };
+        let text = Wrapped {
+            text: self.row.text,
+            indent: LONG_INDENT,
+        };
+        write!(f, "    {name}\n{indent}{text}.\n\n")?;
+        for &paragraph in self.row.paragraphs {
+            let text = Wrapped {
+                text: paragraph,
+                indent: LONG_INDENT,
+            };
+            write!(f, "{indent}{text}\n\n")?;
+        }
+        Ok(())
+    }
+}
+
+/// How a row is headed: the letter or its empty places, the name, and the value behind it.
+#[derive(Clone, Copy)]
+struct Name {
+    row: HelpRow,
+}
+
+impl Name {
+    /// How many places of the short form the name and the value leave.
+    fn places_left(&self) -> usize {
+        let left = NAME_PLACES.saturating_sub("--".len() + self.row.option.shown_name().len());
+        match self.row.value {
+            "" => left,
+            value => left.saturating_sub(" ".len() + value.len()),
+        }
+    }
+}
+
+impl fmt::Display for Name {
+    fn fmt<W: fmt::Write>(&self, f: &mut fmt::Formatter<W>) -> fmt::Result {
+        match self.row.letter {
+            Some(letter) => write!(f, "-{letter}, ")?,
+            None => write!(f, "    ")?,
+        }
+        write!(f, "{}", self.row.option)?;
+        match self.row.value {
+            "" => Ok(()),
+            value => write!(f, " {value}"),
+        }
+    }
+}
+
+/// So many spaces.
+#[derive(Clone, Copy)]
+struct Spaces {
+    count: usize,
+}
+
+impl fmt::Display for Spaces {
+    fn fmt<W: fmt::Write>(&self, f: &mut fmt::Formatter<W>) -> fmt::Result {
+        for _ in 0..self.count {
+            write!(f, " ")?;
+        }
+        Ok(())
+    }
+}
+
+/// A text cut at its spaces into lines, each but the first with an indent before it. A word is as wide as it has bytes.
+#[derive(Clone, Copy)]
+struct Wrapped<'a> {
+    text: &'a str,
+    indent: usize,
+}
+
+impl fmt::Display for Wrapped<'_> {
+    fn fmt<W: fmt::Write>(&self, f: &mut fmt::Formatter<W>) -> fmt::Result {
+        let places = LINE_END.saturating_sub(self.indent);
+        // How many places the line has left.
+        let mut left = places;
+        for word in self.text.split(' ') {
+            if word.len() + 1 >= left {
+                write!(f, "\n{}", Spaces { count: self.indent })?;
+                left = places;
+            } else if left < places {
+                write!(f, " ")?;
+                left -= 1;
+            }
+            write!(f, "{word}")?;
+            left = left.saturating_sub(word.len());
+        }
+        Ok(())
+    }
+}
