@@ -5,7 +5,7 @@ ghost use Rattle.hack_lexopt.specs.Parsers.{cut_in};
 ghost use Rattle.hack_uses.specs.Faults.{flag_seen, flag_in, cut_by, flag_text};
 
 use hack_lexopt::Arg;
-use hack_options::Opt;
+use hack_options::{Opt, Usage};
 use std::alloc::{AllocError, AllocFailed, Global};
 use std::fmt;
 use thiserror::Error;
@@ -39,6 +39,14 @@ impl OwnedFlag {
             OwnedFlag::Short(letter) => Arg::Short(*letter),
         }
     }
+
+    /// How messages show the use of the option.
+    fn usage(&self) -> Usage<'_> {
+        match self {
+            OwnedFlag::Long(name) => Usage::Long(name.as_str()),
+            OwnedFlag::Short(letter) => Usage::Short(*letter),
+        }
+    }
 }
 
 impl fmt::Display for OwnedFlag {
@@ -49,25 +57,6 @@ impl fmt::Display for OwnedFlag {
     fn fmt<W: fmt::Write>(&self, f: &mut fmt::Formatter<W>) -> fmt::Result {
         let arg = self.as_arg();
         write!(f, "{arg}")
-    }
-}
-
-/// How the option is used, for a message: with its value, where it is written by its name.
-#[derive(Drop)]
-struct Usage<'a> {
-    flag: &'a OwnedFlag,
-    option: Opt,
-}
-
-impl fmt::Display for Usage<'_> {
-    fn fmt<W: fmt::Write>(&self, f: &mut fmt::Formatter<W>) -> fmt::Result {
-        let flag = self.flag;
-        let row = self.option.row();
-        let value = row.value;
-        match flag {
-            OwnedFlag::Long(_) if !row.text.is_empty() => write!(f, "{flag} {value}"),
-            _ => write!(f, "{flag}"),
-        }
     }
 }
 
@@ -100,7 +89,7 @@ pub enum CutFault {
     },
     /// An option that stands once is there again; `option` is the one that `flag` names, `subcommand` the one that
     /// was met so far.
-    #[error("The argument '{flag}' was provided more than once, but cannot be used multiple times\n\nUSAGE:\n    cargo hack{sub} {usage}\n\nFor more information try --help\n", sub = Behind(.subcommand), usage = Usage {flag: .flag, option: *.option})]
+    #[error("The argument '{flag}' was provided more than once, but cannot be used multiple times\n\nUSAGE:\n    cargo hack{sub} {usage}\n\nFor more information try --help\n", sub = Behind(.subcommand), usage = .flag.usage())]
     Repeat {
         flag: OwnedFlag,
         option: Opt,
