@@ -40,7 +40,7 @@ pub enum Use {
 
 /// What is read next of the words.
 #[derive(Drop)]
-pub enum Step {
+pub(crate) enum Step {
     Met(Use),
     End,
     Asks(Print),
@@ -57,7 +57,7 @@ fn last_flag(alloc: Global, parser: &Parser) -> Result<Option<OwnedFlag>, AllocE
 }
 
 /// The next use behind the uses so far, or what else the next cut comes to.
-pub fn read(alloc: Global, parser: &mut Parser, uses: &[Use]) -> Result<Step, CutFault>
+fn read(alloc: Global, parser: &mut Parser, uses: &[Use]) -> Result<Step, CutFault>
     requires { HasOption (left parser.old) }
     ensures { Gives result (left parser.new) (read_of (views uses.now) (left parser.old)) }
 {
@@ -98,6 +98,7 @@ pub enum Cuts {
     Asks(Print),
 }
 
+/// The uses, one cut after the other.
 fn cut_all(alloc: Global, words: Vec<String>) -> Result<Cuts, CutFault>
     ensures { GivesUses result (map string_bytes words.items) }
 {
@@ -112,7 +113,7 @@ fn cut_all(alloc: Global, words: Vec<String>) -> Result<Cuts, CutFault>
     }
 }
 
-/// All uses of the words, a question for a text, or the first fault of a cut.
+/// All uses of the words, a question for a text, or the first fault of a cut. Words behind a question aren't judged.
 pub fn all_uses(alloc: Global, words: Vec<String>) -> Result<Cuts, CutFault>
     ensures uses { GivesUses result (map string_bytes words.items) }
     ensures one { GivesNoOther result (map string_bytes words.items) }

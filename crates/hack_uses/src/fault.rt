@@ -136,6 +136,6 @@ impl<T: Drop> From<AllocFailed<T>> for CutFault {
     ghost from_gives = { λ _ e. e ≡ Memory };
 
     fn from(_e: AllocFailed<T>) -> CutFault {
-        CutFault::Memory
+        CutFault::from(AllocError)
     }
 }

@@ -10,7 +10,7 @@ use crate::Use;
 use hack_options::Opt;
 use std::alloc::{AllocError, Global};
 
-/// Whether the option was used.
+/// Whether the option was used. An alias counts as the option that it stands for.
 pub fn given(option: Opt, uses: &[Use]) -> bool
     ensures { result ≡ is_given option (views uses.now) }
 {
@@ -24,7 +24,7 @@ pub fn given(option: Opt, uses: &[Use]) -> bool
     false
 }
 
-/// The first word that no option takes.
+/// The first word that no option takes; the later ones are its arguments.
 pub fn subcommand(uses: &[Use]) -> Option<&String>
     ensures { option_map (λ word. string_bytes word.now) result ≡ subcommand_of (views uses.now) }
 {
@@ -36,7 +36,7 @@ pub fn subcommand(uses: &[Use]) -> Option<&String>
     None
 }
 
-/// The value of the first use, for an option that stands once.
+/// The value of the option's first use that has one, for an option that stands once.
 pub fn value(option: Opt, uses: &[Use]) -> Option<&String>
     ensures { option_map (λ value. string_bytes value.now) result ≡ value_given option (views uses.now) }
 {
@@ -54,7 +54,7 @@ pub fn value(option: Opt, uses: &[Use]) -> Option<&String>
     None
 }
 
-/// The values of all uses, in order.
+/// The values of all the option's uses, in order.
 pub fn values(alloc: Global, option: Opt, uses: &[Use]) -> Result<Vec<String>, AllocError>
     ensures { IfOk result (λ values. map string_bytes values.items ≡ values_given option (views uses.now)) }
 {
