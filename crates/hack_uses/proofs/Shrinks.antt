@@ -1,10 +1,10 @@
--- Each use that is read leaves less of the words.
+-- What a use that is read leaves: less than before, and of a word only what is behind an option.
 use Rattle.std.proofs.Common.{◌≡◌, ◌+◌, ◌<◌, ◌≤◌, ℕ, List, [], ◌∷◌, ◌&&◌, ◌++◌, append-nil, append_assoc, Ok, Some, ◌∙◌, Bool, true, false, map, length, ap, sym, refl, Err, None, Option, Result, zero, suc, cond, codes, nat_lt, nat_eq, subst, drop, encode_utf8, length-drop, arith}
-use Rattle.std.specs.List.{starts_with, position_or_len, after_first}
+use Rattle.std.specs.List.{starts_with, position_or_len, before_first, after_first}
 use Rattle.std.proofs.lemmas.Str.{length-encode, len_utf8_bounds}
 use Rattle.hack_lexopt.specs.declared.LexFault.{LexFault}
 use Rattle.hack_lexopt.specs.declared.LexFault.TheVariants.{UnexpectedValue}
-use Rattle.hack_lexopt.specs.Cuts.{Left, Untaken, Nothing, Pending, Chain, Cut, LongCut, ShortCut, ValueCut, is_long, is_chain, is_equals, is_plain, pending_of, first_letter, after_letter, chain_of, untaken_of, next_cut, after_cut, after_value, after_attached, after_optional, value_of, optional_of, attached, unexpected_of}
+use Rattle.hack_lexopt.specs.Cuts.{Left, Untaken, Nothing, Pending, Chain, Cut, LongCut, ShortCut, ValueCut, is_long, is_chain, is_equals, is_plain, pending_of, first_letter, after_letter, chain_of, untaken_of, cut_of, option_in, next_cut, after_cut, after_value, after_attached, after_optional, value_of, optional_of, attached, unexpected_of}
 use Rattle.hack_options.specs.declared.Opt.{Opt}
 use Rattle.hack_options.specs.declared.Kind.{Kind}
 use Rattle.hack_options.specs.declared.Kind.TheVariants as kind
@@ -13,8 +13,8 @@ use Rattle.hack_options.specs.Find.{long_option, short_option}
 use Rattle.hack_uses.specs.declared.cut.Print.{Print}
 use Rattle.hack_uses.specs.declared.cut.Print.TheVariants as print
 use Rattle.hack_uses.specs.Faults.{Flag, LongFlag, ShortFlag, Repeat, Missing, LoneQuote}
-use Rattle.hack_uses.specs.Uses.{Use, Known, Unknown, Word, is_given, subcommand_of, last_flag}
-use Rattle.hack_uses.specs.Reads.{Reading, Met, End, Prints, Fails, is_quote, is_bare, unknown, with_value, with_names, with_names_or_none, question, help_of, by_kind, known, removed_of, similar_of, other, other_name, by_name, by_letter, of_cut, refused, of_next, read_of, Reads}
+use Rattle.hack_uses.specs.Uses.{Use, Known, Unknown, Word, is_given, subcommand_of}
+use Rattle.hack_uses.specs.Reads.{Reading, Met, End, Prints, Fails, is_quote, is_bare, unknown, with_value, with_names, with_names_or_none, question, help_of, by_kind, known, removed_of, similar_of, other, other_name, by_name, by_letter, of_cut, refused, of_next, read_of, Reads, flag_left, HasOption}
 
 -- how much is left of the words
 abbrev pub weight_of : Untaken → ℕ
@@ -68,33 +68,34 @@ after_optional-le o (Chain letters) ws = omega arith
 after_optional-le o Nothing [] = omega arith
 after_optional-le o Nothing (w ∷ ws) = elim (is_plain w) as (λ b. 0 + words_weight (cond b ws (w ∷ ws)) ≤ 0 + words_weight (w ∷ ws)) [ true ↦ omega arith | false ↦ omega arith ]
 
--- what is read leaves at most this much
-abbrev Within : ℕ → Reading → Type 0
-Within n (Met u left) = weight left ≤ n
-Within n End = Unit {0}
-Within n (Prints p) = Unit {0}
-Within n (Fails f) = Unit {0}
+-- where a use is read, this holds of what is left
+abbrev Leaves : (Left → Type 0) → Reading → Type 0
+Leaves P (Met u left) = P left
+Leaves P End = Unit {0}
+Leaves P (Prints print) = Unit {0}
+Leaves P (Fails fault) = Unit {0}
 
-within-unknown : (flag : Flag) (l : Left) → Within (weight l) (unknown flag l)
-within-unknown (LongFlag name) l = omega arith
-within-unknown (ShortFlag c) l = elim (is_bare c) as (λ b. Within (weight l) (cond b (Met (Unknown (ShortFlag c) None) l) (Met (Unknown (ShortFlag c) (attached l.untaken)) (after_attached l)))) [ true ↦ omega arith | false ↦ omega arith ]
+-- whatever is taken as a value, this still holds of what is left
+abbrev Kept : (Left → Type 0) → Type 0
+Kept P = (l : Left) → P l → P (after_attached l) × P (after_value l) × P (after_optional l)
 
-within-value : (n : ℕ) (o : Opt) (flag : Flag) (v : Option (List ℕ)) (l : Left) → weight l ≤ n → Within n (with_value o flag v l)
-within-value n o flag (Some v) l h = h
-within-value n o flag None l h = tt
+leaves-unknown : (P : Left → Type 0) (k : Kept P) (flag : Flag) (l : Left) → P l → Leaves P (unknown flag l)
+leaves-unknown P k (LongFlag name) l p = (k l p).0
+leaves-unknown P k (ShortFlag c) l p = elim (is_bare c) as (λ b. Leaves P (cond b (Met (Unknown (ShortFlag c) None) l) (Met (Unknown (ShortFlag c) (attached l.untaken)) (after_attached l)))) [ true ↦ p | false ↦ (k l p).0 ]
 
-within-names : (n : ℕ) (o : Opt) (flag : Flag) (v : Option (List ℕ)) (l : Left) → weight l ≤ n → Within n (with_names o flag v l)
-within-names n o flag (Some v) l h = elim (is_quote v) as (λ b. Within n (cond b (Fails (LoneQuote flag)) (Met (Known (meaning_of o) flag (Some v)) l))) [ true ↦ tt | false ↦ h ]
-within-names n o flag None l h = tt
+leaves-value : (P : Left → Type 0) (o : Opt) (flag : Flag) (v : Option (List ℕ)) (l : Left) → P l → Leaves P (with_value o flag v l)
+leaves-value P o flag (Some v) l p = p
+leaves-value P o flag None l p = tt
 
-within-optional : (n : ℕ) (o : Opt) (flag : Flag) (v : Option (List ℕ)) (l : Left) → weight l ≤ n → Within n (with_names_or_none o flag v l)
-within-optional n o flag (Some v) l h = elim (is_quote v) as (λ b. Within n (cond b (Fails (LoneQuote flag)) (Met (Known (meaning_of o) flag (Some v)) l))) [ true ↦ tt | false ↦ h ]
-within-optional n o flag None l h = h
+leaves-names : (P : Left → Type 0) (o : Opt) (flag : Flag) (v : Option (List ℕ)) (l : Left) → P l → Leaves P (with_names o flag v l)
+leaves-names P o flag (Some v) l p = elim (is_quote v) as (λ b. Leaves P (cond b (Fails (LoneQuote flag)) (Met (Known (meaning_of o) flag (Some v)) l))) [ true ↦ tt | false ↦ p ]
+leaves-names P o flag None l p = tt
 
-within-question : (p : Print) (sub : Option (List ℕ)) (flag : Flag) (l : Left) → Within (weight l) (question p sub flag l)
-within-question p (Some sub) flag l = within-unknown flag l
-within-question p None flag l = tt
+leaves-optional : (P : Left → Type 0) (o : Opt) (flag : Flag) (v : Option (List ℕ)) (l : Left) → P l → Leaves P (with_names_or_none o flag v l)
+leaves-optional P o flag (Some v) l p = elim (is_quote v) as (λ b. Leaves P (cond b (Fails (LoneQuote flag)) (Met (Known (meaning_of o) flag (Some v)) l))) [ true ↦ tt | false ↦ p ]
+leaves-optional P o flag None l p = p
 
+<<<<<<< HEAD
 within-kind : (k : Kind) (us : List Use) (o : Opt) (flag : Flag) (l : Left) → Within (weight l) (by_kind k us o flag l)
 within-kind kind.Flag us o flag l = omega arith
 within-kind kind.Value us o flag l = within-value (weight l) o flag (value_of l) (after_value l) (after_value-le l.option l.untaken l.words)
@@ -103,36 +104,72 @@ within-kind kind.OptionalNames us o flag l = within-optional (weight l) o flag (
 within-kind kind.Help us o flag l = within-question (help_of flag) (subcommand_of us) flag l
 within-kind kind.Version us o flag l = within-question print.Version (subcommand_of us) flag l
 within-kind kind.Refused us o flag l = tt
+=======
+leaves-question : (P : Left → Type 0) (k : Kept P) (print : Print) (sub : Option (List ℕ)) (flag : Flag) (l : Left) → P l → Leaves P (question print sub flag l)
+leaves-question P k print (Some sub) flag l p = leaves-unknown P k flag l p
+leaves-question P k print None flag l p = tt
+>>>>>>> uses
 
-within-known : (us : List Use) (o : Opt) (flag : Flag) (l : Left) → Within (weight l) (known us o flag l)
-within-known us o flag l = elim ((entry_of o).once && is_given (meaning_of o) us) as (λ b. Within (weight l) (cond b (Fails (Repeat flag o (subcommand_of us))) (by_kind (entry_of o).kind us o flag l))) [ true ↦ tt | false ↦ within-kind (entry_of o).kind us o flag l ]
+leaves-kind : (P : Left → Type 0) (k : Kept P) (takes : Kind) (us : List Use) (o : Opt) (flag : Flag) (l : Left) → P l → Leaves P (by_kind takes us o flag l)
+leaves-kind P k kind.Flag us o flag l p = p
+leaves-kind P k kind.Value us o flag l p = leaves-value P o flag (value_of l) (after_value l) (k l p).1
+leaves-kind P k kind.Names us o flag l p = leaves-names P o flag (value_of l) (after_value l) (k l p).1
+leaves-kind P k kind.OptionalNames us o flag l p = leaves-optional P o flag (optional_of l) (after_optional l) (k l p).2
+leaves-kind P k kind.Help us o flag l p = leaves-question P k (help_of flag) (subcommand_of us) flag l p
+leaves-kind P k kind.Version us o flag l p = leaves-question P k print.Version (subcommand_of us) flag l p
+leaves-kind P k kind.Refused us o flag l p = tt
 
-within-other : (r s : Option Opt) (us : List Use) (name : List ℕ) (l : Left) → Within (weight l) (other r s us name l)
-within-other (Some o) s us name l = tt
-within-other None (Some o) us name l = tt
-within-other None None us name l = within-unknown (LongFlag name) l
+leaves-known : (P : Left → Type 0) (k : Kept P) (us : List Use) (o : Opt) (flag : Flag) (l : Left) → P l → Leaves P (known us o flag l)
+leaves-known P k us o flag l p = elim ((entry_of o).once && is_given (meaning_of o) us) as (λ b. Leaves P (cond b (Fails (Repeat flag o (subcommand_of us))) (by_kind (entry_of o).kind us o flag l))) [ true ↦ tt | false ↦ leaves-kind P k (entry_of o).kind us o flag l p ]
 
-within-by_name : (o : Option Opt) (us : List Use) (name : List ℕ) (l : Left) → Within (weight l) (by_name o us name l)
-within-by_name (Some o) us name l = within-known us o (LongFlag name) l
-within-by_name None us name l = within-other (removed_of name) (similar_of name) us name l
+leaves-other : (P : Left → Type 0) (k : Kept P) (r s : Option Opt) (us : List Use) (name : List ℕ) (l : Left) → P l → Leaves P (other r s us name l)
+leaves-other P k (Some o) s us name l p = tt
+leaves-other P k None (Some o) us name l p = tt
+leaves-other P k None None us name l p = leaves-unknown P k (LongFlag name) l p
 
-within-by_letter : (o : Option Opt) (us : List Use) (c : ℕ) (l : Left) → Within (weight l) (by_letter o us c l)
-within-by_letter (Some o) us c l = within-known us o (ShortFlag c) l
-within-by_letter None us c l = within-unknown (ShortFlag c) l
+leaves-name : (P : Left → Type 0) (k : Kept P) (o : Option Opt) (us : List Use) (name : List ℕ) (l : Left) → P l → Leaves P (by_name o us name l)
+leaves-name P k (Some o) us name l p = leaves-known P k us o (LongFlag name) l p
+leaves-name P k None us name l p = leaves-other P k (removed_of name) (similar_of name) us name l p
 
-within-cut : (us : List Use) (cut : Cut) (l : Left) → Within (weight l) (of_cut us cut l)
-within-cut us (LongCut name) l = within-by_name (long_option name) us name l
-within-cut us (ShortCut c) l = within-by_letter (short_option c) us c l
-within-cut us (ValueCut word) l = omega arith
+leaves-letter : (P : Left → Type 0) (k : Kept P) (o : Option Opt) (us : List Use) (c : ℕ) (l : Left) → P l → Leaves P (by_letter o us c l)
+leaves-letter P k (Some o) us c l p = leaves-known P k us o (ShortFlag c) l p
+leaves-letter P k None us c l p = leaves-unknown P k (ShortFlag c) l p
 
-refused-no_use : (us : List Use) (v : Option (List ℕ)) (u : Use) (l : Left) → refused us v ≡ Met u l → ⊥
-refused-no_use us (Some v) u l h = cc
-refused-no_use us None u l h = cc
+leaves-cut : (P : Left → Type 0) (k : Kept P) (us : List Use) (cut : Cut) (l : Left) → P l → Leaves P (of_cut us cut l)
+leaves-cut P k us (LongCut name) l p = leaves-name P k (long_option name) us name l p
+leaves-cut P k us (ShortCut c) l p = leaves-letter P k (short_option c) us c l p
+leaves-cut P k us (ValueCut word) l p = p
+
+refused-no_use : (option : Option Flag) (v : Option (List ℕ)) (u : Use) (l : Left) → refused option v ≡ Met u l → ⊥
+refused-no_use (Some flag) (Some v) u l h = cc
+refused-no_use (Some flag) None u l h = cc
+refused-no_use None v u l h = cc
+
+-- what holds behind each cut, and whatever is taken as a value, holds behind a use that is read
+read-leaves : (P : Left → Type 0) (k : Kept P) (us : List Use) (l : Left) (u : Use) (new : Left) → ((cut : Cut) → next_cut l ≡ Ok (Some cut) → P (after_cut l)) → read_of us l ≡ Met u new → P new
+read-leaves P k us l u new behind h = cases (next_cut l) refl
+  where
+    cases : (r : Result (Option Cut) LexFault) → next_cut l ≡ r → P new
+    cases (Ok (Some cut)) e = subst (λ r. Leaves P r) (sym (ap (λ r. of_next r us l) e) ∙ h) (leaves-cut P k us cut (after_cut l) (behind cut e))
+    cases (Ok None) e = let none = sym (ap (λ r. of_next r us l) e) ∙ h in cc
+    cases (Err fault) e = absurd (refused-no_use (flag_left l.option) (unexpected_of l.untaken) u new (sym (ap (λ r. of_next r us l) e) ∙ h))
+
+-- less than this is left
+abbrev Below : ℕ → Left → Type 0
+Below n l = weight l < n
+
+kept-below : (n : ℕ) → Kept (Below n)
+kept-below n l p = (omega arith, omega (arith, after_value-le l.option l.untaken l.words), omega (arith, after_optional-le l.option l.untaken l.words))
 
 -- a use that is read leaves less
 pub read-smaller : (us : List Use) (l : Left) (u : Use) (new : Left) → read_of us l ≡ Met u new → weight new < weight l
-read-smaller us l u new h = cases (next_cut l) refl
+read-smaller us l u new h = read-leaves (Below (weight l)) (kept-below (weight l)) us l u new (λ cut e. after_cut-smaller l.option l.untaken l.words cut e) h
+
+-- what is taken as a value leaves nothing of its word
+kept-option : Kept HasOption
+kept-option l p = (λ h. cc, value-has l.option l.untaken l.words, optional-has l.option l.untaken l.words)
   where
+<<<<<<< HEAD
     cases : (r : Result (Option Cut) LexFault) → next_cut l ≡ r → weight new < weight l
     cases (Ok (Some cut)) e =
         let less : weight (after_cut l) < weight l = after_cut-smaller l.option l.untaken l.words cut e in
@@ -141,6 +178,36 @@ read-smaller us l u new h = cases (next_cut l) refl
         omega arith
     cases (Ok None) e = let k = sym (ap (λ r. of_next r us l) e) ∙ h in cc
     cases (Err f) e = absurd (refused-no_use us (unexpected_of l.untaken) u new (sym (ap (λ r. of_next r us l) e) ∙ h))
+=======
+    value-has : (o : Option Cut) (t : Untaken) (ws : List (List ℕ)) → HasOption (after_value (record { option = o; untaken = t; words = ws }))
+    value-has o (Pending v) ws = λ h. cc
+    value-has o (Chain letters) ws = λ h. cc
+    value-has o Nothing [] = λ h. cc
+    value-has o Nothing (w ∷ ws) = λ h. cc
+
+    optional-has : (o : Option Cut) (t : Untaken) (ws : List (List ℕ)) → HasOption (after_optional (record { option = o; untaken = t; words = ws }))
+    optional-has o (Pending v) ws = λ h. cc
+    optional-has o (Chain letters) ws = λ h. cc
+    optional-has o Nothing [] = λ h. cc
+    optional-has o Nothing (w ∷ ws) = λ h. cc
+
+-- what a cut leaves of its word is behind an option
+word-has_option : (w : List ℕ) (ws : List (List ℕ)) → HasOption (record { option = option_in (cut_of w); untaken = untaken_of w; words = ws })
+word-has_option w ws = elim (is_long w) as (λ b. HasOption (record { option = option_in (cond b (LongCut (before_first is_equals (drop 2 w))) (cond (is_chain w) (ShortCut (first_letter (drop 1 w))) (ValueCut w))); untaken = cond b (pending_of (drop 2 w)) (cond (is_chain w) (after_letter (drop 1 w)) Nothing); words = ws })) [
+  | true ↦ λ h. refl
+  | false ↦ elim (is_chain w) as (λ b. HasOption (record { option = option_in (cond b (ShortCut (first_letter (drop 1 w))) (ValueCut w)); untaken = cond b (after_letter (drop 1 w)) Nothing; words = ws })) [ true ↦ λ h. refl | false ↦ λ h. cc ]
+]
+
+cut-has_option : (o : Option Cut) (t : Untaken) (ws : List (List ℕ)) → HasOption (after_cut (record { option = o; untaken = t; words = ws }))
+cut-has_option o (Pending v) ws = λ h. cc
+cut-has_option o (Chain letters) ws = elim (starts_with nat_eq letters (codes "=")) as (λ b. HasOption (cond b (record { option = o; untaken = Nothing; words = ws }) (record { option = Some (ShortCut (first_letter letters)); untaken = after_letter letters; words = ws }))) [ true ↦ λ h. cc | false ↦ λ h. refl ]
+cut-has_option o Nothing [] = λ h. cc
+cut-has_option o Nothing (w ∷ ws) = word-has_option w ws
+
+-- behind a use that is read, what is untaken of a word is behind an option
+pub read-has_option : (us : List Use) (l : Left) (u : Use) (new : Left) → read_of us l ≡ Met u new → HasOption new
+read-has_option us l u new h = read-leaves HasOption kept-option us l u new (λ cut e. cut-has_option l.option l.untaken l.words) h
+>>>>>>> uses
 
 -- one more use is read
 pub Reads-more : (before us : List Use) (u : Use) (old mid new : Left) → Reads before old us mid → read_of (before ++ us) mid ≡ Met u new → Reads before old (us ++ u ∷ []) new

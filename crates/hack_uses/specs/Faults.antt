@@ -1,23 +1,40 @@
--- What a fault says, without where its texts lie in memory.
+-- Options as they were written, and why words can't be cut into them.
 use Rattle.std.specs.Prelude.{ℕ, List, Option, Some, None, string_bytes}
 use Rattle.std.specs.Option.{option_map}
+use Rattle.hack_lexopt.specs.Cuts.{Cut, LongCut, ShortCut, ValueCut, as_written}
 use Rattle.hack_options.specs.declared.Opt.{Opt}
 use Rattle.hack_uses.specs.declared.fault.OwnedFlag.{OwnedFlag}
 use Rattle.hack_uses.specs.declared.fault.OwnedFlag.TheVariants as owned
 use Rattle.hack_uses.specs.declared.fault.CutFault.{CutFault}
 use Rattle.hack_uses.specs.declared.fault.CutFault.TheVariants as code
 
--- an option as it was written
+-- an option as it was written: the name behind its --, or the letter behind its -
 pub data Flag : Type 0 where
   LongFlag : List ℕ → Flag
   ShortFlag : ℕ → Flag
 
--- the same in memory
+-- the option that an `OwnedFlag` holds
 abbrev pub flag_seen : OwnedFlag → Flag
 flag_seen (owned.Long name) = LongFlag (string_bytes name)
 flag_seen (owned.Short letter) = ShortFlag letter
 
--- why a word can't be cut
+-- the option of a cut; none for a value
+abbrev pub flag_in : Cut → Option Flag
+flag_in (LongCut name) = Some (LongFlag name)
+flag_in (ShortCut letter) = Some (ShortFlag letter)
+flag_in (ValueCut word) = None
+
+-- the cut that an option comes from
+abbrev pub cut_by : Flag → Cut
+cut_by (LongFlag name) = LongCut name
+cut_by (ShortFlag letter) = ShortCut letter
+
+-- an option with its dashes
+abbrev pub flag_text : Flag → List ℕ
+flag_text flag = as_written (cut_by flag)
+
+-- why a word can't be cut: a value is missing, or not expected; an option is repeated, behind this subcommand;
+-- a list of names is a lone quote sign; --workspace-behavior has another form; a name was removed, or is nearly an option's
 pub data Fault : Type 0 where
   Missing : Flag → Fault
   Unexpected : Flag → List ℕ → Fault
@@ -27,7 +44,7 @@ pub data Fault : Type 0 where
   Removed : List ℕ → Opt → Fault
   Similar : List ℕ → Opt → Option (List ℕ) → Fault
 
--- the fault of the code; none where memory ran out
+-- the fault of the words that a `CutFault` tells; none where memory ran out
 abbrev pub fault_of : CutFault → Option Fault
 fault_of code.Memory = None
 fault_of (code.Missing flag) = Some (Missing (flag_seen flag))

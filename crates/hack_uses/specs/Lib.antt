@@ -1,6 +1,5 @@
 pub mod Faults
 pub mod Uses
 pub mod Reads
-pub mod Owned
 pub mod Values
 pub mod Passed

@@ -1,16 +1,17 @@
 -- The words that uses pass on to cargo, and how often an option is used.
-use Rattle.std.specs.Prelude.{ℕ, ◌+◌, List, [], ◌∷◌, ◌++◌, Bool, true, false, Option, Some, None, codes, encode_utf8, if◌then◌else◌}
+use Rattle.std.specs.Prelude.{ℕ, ◌+◌, List, [], ◌∷◌, ◌++◌, Bool, true, false, Option, Some, None, codes, if◌then◌else◌}
 use Rattle.std.specs.List.{flat_map}
 use Rattle.hack_options.specs.declared.Opt.{Opt}
 use Rattle.hack_options.specs.declared.Opt.TheVariants as opt
-use Rattle.hack_uses.specs.Faults.{Flag, LongFlag, ShortFlag}
+use Rattle.hack_uses.specs.Faults.{Flag, LongFlag, ShortFlag, flag_text}
 use Rattle.hack_uses.specs.Uses.{Use, Known, Unknown, Word, is_use_of}
 
+-- how often an option was used
 abbrev pub count_of : Opt → List Use → ℕ
 count_of o [] = 0
 count_of o (u ∷ us) = (if is_use_of o u then 1 else 0) + count_of o us
 
--- whether an option that is known is passed on too
+-- an option of the table that is passed on too; some are only where cargo handles the workspace
 abbrev pub passes : Bool → Opt → Bool
 passes cargo opt.Locked = true
 passes cargo opt.NoDefaultFeatures = true
@@ -22,16 +23,13 @@ passes cargo opt.Exclude = cargo
 passes cargo opt.Workspace = cargo
 passes cargo o = false
 
-abbrev pub flag_text : Flag → List ℕ
-flag_text (LongFlag name) = codes "--" ++ name
-flag_text (ShortFlag c) = codes "-" ++ encode_utf8 c
-
--- an unknown option and the rest of its word
+-- an unknown option and the rest of its word, in one word
 abbrev pub word_of : Flag → Option (List ℕ) → List ℕ
 word_of flag None = flag_text flag
-word_of (LongFlag name) (Some value) = flag_text (LongFlag name) ++ codes "=" ++ value
+word_of (LongFlag name) (Some value) = flag_text (LongFlag name) ++ (codes "=" ++ value)
 word_of (ShortFlag c) (Some value) = flag_text (ShortFlag c) ++ value
 
+-- an option, and its value as a word of its own
 abbrev pub with_value : List ℕ → Option (List ℕ) → List (List ℕ)
 with_value word None = word ∷ []
 with_value word (Some value) = word ∷ value ∷ []
@@ -42,5 +40,6 @@ passed cargo (Word word) = word ∷ []
 passed cargo (Unknown flag value) = word_of flag value ∷ []
 passed cargo (Known o flag value) = if passes cargo o then with_value (flag_text flag) value else []
 
+-- the words that all uses pass on to cargo, in order
 abbrev pub leading_of : Bool → List Use → List (List ℕ)
 leading_of cargo us = flat_map (passed cargo) us

@@ -6,7 +6,7 @@ use Rattle.hack_options.specs.declared.Opt.{Opt}
 use Rattle.hack_options.specs.Table.{same}
 use Rattle.hack_uses.specs.declared.cut.Use.{Use as CodeUse}
 use Rattle.hack_uses.specs.declared.cut.Use.TheVariants as code
-use Rattle.hack_uses.specs.Faults.{Flag, LongFlag, flag_seen}
+use Rattle.hack_uses.specs.Faults.{Flag, flag_seen}
 
 -- a known option as written with its value, an unknown option with the rest of its word, or a word that no option takes
 pub data Use : Type 0 where
@@ -14,19 +14,23 @@ pub data Use : Type 0 where
   Unknown : Flag → Option (List ℕ) → Use
   Word : List ℕ → Use
 
+-- the use that the code holds
 abbrev pub view : CodeUse → Use
 view (code.Known o flag value) = Known o (flag_seen flag) (option_map string_bytes value)
 view (code.Unknown flag value) = Unknown (flag_seen flag) (option_map string_bytes value)
 view (code.Word word) = Word (string_bytes word)
 
+-- the uses that the code holds, in order
 abbrev pub views : List CodeUse → List Use
 views us = map view us
 
+-- a use of this option
 abbrev pub is_use_of : Opt → Use → Bool
 is_use_of o (Known p flag value) = same p o
 is_use_of o (Unknown flag value) = false
 is_use_of o (Word word) = false
 
+-- the option was used
 abbrev pub is_given : Opt → List Use → Bool
 is_given o us = list_any (is_use_of o) us
 
@@ -36,17 +40,3 @@ subcommand_of [] = None
 subcommand_of (Word word ∷ us) = Some word
 subcommand_of (Known o flag value ∷ us) = subcommand_of us
 subcommand_of (Unknown flag value ∷ us) = subcommand_of us
-
--- the option that was cut last
-abbrev pub last_from : Option Flag → List Use → Option Flag
-last_from last [] = last
-last_from last (Known o flag value ∷ us) = last_from (Some flag) us
-last_from last (Unknown flag value ∷ us) = last_from (Some flag) us
-last_from last (Word word ∷ us) = last_from last us
-
-abbrev pub last_flag : List Use → Flag
-last_flag us = go (last_from None us)
-  where
-    go : Option Flag → Flag
-    go (Some flag) = flag
-    go None = LongFlag []

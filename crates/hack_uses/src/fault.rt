@@ -1,14 +1,16 @@
-//! Why a word can't be cut into an option.
+//! Options as they were written, and why words can't be cut into them.
 
-ghost use Rattle.std.specs.Prelude.{◌≡◌};
-ghost use Rattle.hack_uses.specs.declared.fault.CutFault.TheVariants.{Memory};
+ghost use Rattle.std.specs.Prelude.{◌≡◌, IfOk, option_map};
+ghost use Rattle.hack_lexopt.specs.Parsers.{cut_in};
+ghost use Rattle.hack_uses.specs.Faults.{flag_seen, flag_in, cut_by, flag_text};
 
-use hack_options::Opt;
-use std::alloc::{AllocError, AllocFailed};
+use hack_lexopt::Arg;
+use hack_options::{Opt, Usage};
+use std::alloc::{AllocError, AllocFailed, Global};
 use std::fmt;
 use thiserror::Error;
 
-/// An option as it was written.
+/// An option as it was written. Its text is that, `--name` or `-c`.
 #[derive(Debug, PartialEq, Eq, Drop)]
 pub enum OwnedFlag {
     /// The name without its `--`.
@@ -16,26 +18,78 @@ pub enum OwnedFlag {
     Short(char),
 }
 
-impl fmt::Display for OwnedFlag {
-    fn fmt<W: fmt::Write>(&self, f: &mut fmt::Formatter<W>) -> fmt::Result {
+impl OwnedFlag {
+    /// The option of a cut; none for a value.
+    pub fn new(alloc: Global, arg: Arg<'_>) -> Result<Option<OwnedFlag>, AllocError>
+        ensures { IfOk result (λ flag. option_map flag_seen flag ≡ flag_in (cut_in arg.entry)) }
+    {
+        Ok(match arg {
+            Arg::Long(name) => Some(OwnedFlag::Long(String::from_str(alloc, name)?)),
+            Arg::Short(letter) => Some(OwnedFlag::Short(letter)),
+            Arg::Value(_) => None,
+        })
+    }
+
+    /// The cut that the option comes from.
+    pub fn as_arg(&self) -> Arg<'_>
+        ensures { cut_in result ≡ cut_by (flag_seen self.now) }
+    {
         match self {
-            OwnedFlag::Long(name) => write!(f, "--{name}"),
-            OwnedFlag::Short(letter) => write!(f, "-{letter}"),
+            OwnedFlag::Long(name) => Arg::Long(name.as_str()),
+            OwnedFlag::Short(letter) => Arg::Short(*letter),
+        }
+    }
+
+    /// How messages show the use of the option.
+    fn usage(&self) -> Usage<'_> {
+        match self {
+            OwnedFlag::Long(name) => Usage::Long(name.as_str()),
+            OwnedFlag::Short(letter) => Usage::Short(*letter),
         }
     }
 }
 
-/// Why a word can't be cut into an option.
+impl fmt::Display for OwnedFlag {
+    ghost use Rattle.std.specs.Prelude.{Some};
+
+    ghost output = { λ flag. Some (flag_text (flag_seen flag)) };
+
+    fn fmt<W: fmt::Write>(&self, f: &mut fmt::Formatter<W>) -> fmt::Result {
+        let arg = self.as_arg();
+        write!(f, "{arg}")
+    }
+}
+
+/// The subcommand behind `cargo hack`, where one was met.
+#[derive(Drop)]
+struct Behind<'a>(&'a Option<String>);
+
+impl fmt::Display for Behind<'_> {
+    fn fmt<W: fmt::Write>(&self, f: &mut fmt::Formatter<W>) -> fmt::Result {
+        match self.0 {
+            Some(subcommand) => write!(f, " {subcommand}"),
+            None => Ok(()),
+        }
+    }
+}
+
+/// Why words can't be cut into options.
 #[derive(Debug, Drop, Error)]
 pub enum CutFault {
     /// An option wants a value, and no word is left.
     #[error("missing argument for option '{flag}'")]
-    Missing { flag: OwnedFlag },
+    Missing {
+        flag: OwnedFlag,
+    },
     /// An option that takes no value has one attached.
     #[error("unexpected argument for option '{flag}': `{value}`")]
-    Unexpected { flag: OwnedFlag, value: String },
-    /// An option that stands once is there again; `subcommand` is the one that was met so far.
-    #[error("The argument '{flag}' was provided more than once, but cannot be used multiple times")]
+    Unexpected {
+        flag: OwnedFlag,
+        value: String,
+    },
+    /// An option that stands once is there again; `option` is the one that `flag` names, `subcommand` the one that
+    /// was met so far.
+    #[error("The argument '{flag}' was provided more than once, but cannot be used multiple times\n\nUSAGE:\n    cargo hack{sub} {usage}\n\nFor more information try --help\n", sub = Behind(.subcommand), usage = .flag.usage())]
     Repeat {
         flag: OwnedFlag,
         option: Opt,
@@ -43,15 +97,20 @@ pub enum CutFault {
     },
     /// A list of names is a single quote sign.
     #[error("argument for {flag} must not be a lone quote sign")]
-    LoneQuote { flag: OwnedFlag },
+    LoneQuote {
+        flag: OwnedFlag,
+    },
     /// `--workspace-behavior` has another form than `--workspace-behavior=cargo`.
     #[error("argument for --workspace-behavior must be cargo and in form of --workspace-behavior=cargo")]
     BehaviorForm,
-    /// This option of older versions is gone.
+    /// The option of this name was removed; `instead` serves in its place.
     #[error("--{name} was removed, use {instead} instead")]
-    Removed { name: String, instead: Opt },
-    /// The name is nearly that of an option; `subcommand` is the one that was met so far.
-    #[error("Found argument '--{name}' which wasn't expected, or isn't valid in this context")]
+    Removed {
+        name: String,
+        instead: Opt,
+    },
+    /// The name is nearly that of the option `meant`; `subcommand` is the one that was met so far.
+    #[error("Found argument '--{name}' which wasn't expected, or isn't valid in this context\n        Did you mean {meant}?\n\nUSAGE:\n    cargo hack{sub} {meant}\n\nFor more information try --help\n", sub = Behind(.subcommand))]
     Similar {
         name: String,
         meant: Opt,
@@ -62,6 +121,8 @@ pub enum CutFault {
 }
 
 impl From<AllocError> for CutFault {
+    ghost use Rattle.hack_uses.specs.declared.fault.CutFault.TheVariants.{Memory};
+
     ghost from_gives = { λ _ e. e ≡ Memory };
 
     fn from(_e: AllocError) -> CutFault {
@@ -70,9 +131,11 @@ impl From<AllocError> for CutFault {
 }
 
 impl<T: Drop> From<AllocFailed<T>> for CutFault {
+    ghost use Rattle.hack_uses.specs.declared.fault.CutFault.TheVariants.{Memory};
+
     ghost from_gives = { λ _ e. e ≡ Memory };
 
     fn from(_e: AllocFailed<T>) -> CutFault {
-        CutFault::Memory
+        CutFault::from(AllocError)
     }
 }

@@ -1,3 +1,5 @@
+//! What an option comes to: one of the table by what it takes, another by its name.
+
 ghost use Rattle.std.specs.Prelude.{◌≡◌, IfOk, string_bytes};
 ghost use Rattle.std.specs.Option.{option_map};
 ghost use Rattle.hack_lexopt.specs.Parsers.{left};
@@ -5,22 +7,22 @@ ghost use Rattle.hack_uses.specs.Faults.{flag_seen};
 ghost use Rattle.hack_uses.specs.Reads.{Gives, known as known_reading, unknown as unknown_reading, other_name as other_reading, question as question_reading, is_quote as quote, help_of, removed_of, similar_of};
 ghost use Rattle.hack_uses.specs.Uses.{views, subcommand_of};
 
-use crate::seen::{given, subcommand};
-use crate::fault::{CutFault, OwnedFlag};
 use crate::cut::Step;
+use crate::fault::{CutFault, OwnedFlag};
+use crate::seen::{given, subcommand};
 use crate::{Print, Use};
 use hack_lexopt::{LexFault, Parser};
 use hack_options::{Kind, Opt};
 use std::alloc::{AllocError, Global};
 
-/// A lone quote sign.
+/// Whether the value is a lone quote sign.
 fn is_quote(value: &str) -> bool
     ensures { result ≡ quote value.now }
 {
     value == "'" || value == "\""
 }
 
-/// The subcommand so far.
+/// The subcommand that was met so far, where one was.
 fn subcommand_text(uses: &[Use]) -> Result<Option<String>, AllocError>
     ensures { IfOk result (λ word. option_map string_bytes word ≡ subcommand_of (views uses.now)) }
 {
@@ -30,6 +32,7 @@ fn subcommand_text(uses: &[Use]) -> Result<Option<String>, AllocError>
     }
 }
 
+/// An option of the table is met.
 fn met(option: Opt, flag: OwnedFlag, value: Option<String>) -> Step
     ensures { result ≡ Step.Met (Use.Known option flag value) }
 {
@@ -40,8 +43,9 @@ fn met(option: Opt, flag: OwnedFlag, value: Option<String>) -> Step
     })
 }
 
-/// An option that is not in the table.
-pub fn unknown(alloc: Global, parser: &mut Parser, flag: OwnedFlag) -> Result<Step, CutFault>
+/// An option that is not in the table, and the rest of its word. Cargo's `-n`, `-q` and `-r` take no value, so that
+/// what follows them in their word is cut on.
+pub(crate) fn unknown(alloc: Global, parser: &mut Parser, flag: OwnedFlag) -> Result<Step, CutFault>
     ensures { Gives result (left parser.new) (unknown_reading (flag_seen flag) (left parser.old)) }
 {
     if let OwnedFlag::Short('n' | 'q' | 'r') = flag {
@@ -51,7 +55,7 @@ pub fn unknown(alloc: Global, parser: &mut Parser, flag: OwnedFlag) -> Result<St
     Ok(Step::Met(Use::Unknown { flag, value }))
 }
 
-/// A question for a text, while no subcommand was met.
+/// A question for a text while no subcommand was met; behind one, the subcommand is asked in place of us.
 fn question(
     alloc: Global,
     parser: &mut Parser,
@@ -67,7 +71,7 @@ fn question(
     }
 }
 
-/// The short help for the letter, the long one for the name.
+/// `-h` asks for the short help, `--help` for the long one.
 fn help(flag: &OwnedFlag) -> Print
     ensures { result ≡ help_of (flag_seen flag.now) }
 {
@@ -77,8 +81,8 @@ fn help(flag: &OwnedFlag) -> Print
     }
 }
 
-/// An option of the table.
-pub fn known(
+/// An option of the table, and its value where it takes one.
+pub(crate) fn known(
     alloc: Global,
     parser: &mut Parser,
     uses: &[Use],
@@ -122,7 +126,7 @@ pub fn known(
     }
 }
 
-/// The option that stands in place of one that was taken out.
+/// The option to use in place of one of older versions that was removed.
 fn removed(name: &str) -> Option<Opt>
     ensures { result ≡ removed_of name.now }
 {
@@ -135,7 +139,7 @@ fn removed(name: &str) -> Option<Opt>
     }
 }
 
-/// The option that the name is nearly.
+/// The option that the name is nearly: mostly its singular or plural.
 fn similar(name: &str) -> Option<Opt>
     ensures { result ≡ similar_of name.now }
 {
@@ -164,7 +168,7 @@ fn similar(name: &str) -> Option<Opt>
 }
 
 /// A long name that is not in the table.
-pub fn other_name(
+pub(crate) fn other_name(
     alloc: Global,
     parser: &mut Parser,
     uses: &[Use],

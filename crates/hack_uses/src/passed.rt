@@ -1,8 +1,8 @@
 //! The words that uses pass on to cargo.
 
-ghost use Rattle.std.specs.Prelude.{◌≡◌, ◌++◌, IfOk, OnOk, map, string_bytes};
+ghost use Rattle.std.specs.Prelude.{◌≡◌, ◌++◌, IfOk, OnOk, map, option_map, string_bytes};
 ghost use Rattle.hack_uses.specs.Faults.{flag_seen};
-ghost use Rattle.hack_uses.specs.Passed.{passed, passes, leading_of, flag_text};
+ghost use Rattle.hack_uses.specs.Passed.{passed, passes, word_of, leading_of};
 ghost use Rattle.hack_uses.specs.Uses.{view, views};
 
 use crate::Use;
@@ -10,6 +10,7 @@ use crate::fault::OwnedFlag;
 use hack_options::Opt;
 use std::alloc::{AllocError, Global};
 
+/// Whether an option of the table is passed on too.
 fn is_passed(cargo: bool, option: Opt) -> bool
     ensures { result ≡ passes cargo option }
 {
@@ -20,20 +21,14 @@ fn is_passed(cargo: bool, option: Opt) -> bool
     }
 }
 
-fn written(alloc: Global, flag: &OwnedFlag) -> Result<String, AllocError>
-    ensures { IfOk result (λ text. string_bytes text ≡ flag_text (flag_seen flag.now)) }
+/// An unknown option and the rest of its word, in one word.
+fn joined(alloc: Global, flag: &OwnedFlag, value: &Option<String>) -> Result<String, AllocError>
+    ensures { IfOk result (λ word. string_bytes word ≡ word_of (flag_seen flag.now) (option_map string_bytes value.now)) }
 {
-    match flag {
-        OwnedFlag::Long(name) => {
-            let mut text = String::from_str(alloc, "--")?;
-            text.push_str(name.as_str())?;
-            Ok(text)
-        }
-        OwnedFlag::Short(letter) => {
-            let mut text = String::from_str(alloc, "-")?;
-            text.push(*letter)?;
-            Ok(text)
-        }
+    match (flag, value) {
+        (_, None) => format!(in alloc; "{flag}"),
+        (OwnedFlag::Long(_), Some(value)) => format!(in alloc; "{flag}={value}"),
+        (OwnedFlag::Short(_), Some(value)) => format!(in alloc; "{flag}{value}"),
     }
 }
 
@@ -43,23 +38,14 @@ fn pass(alloc: Global, leading: &mut Vec<String>, cargo: bool, one: &Use) -> Res
 {
     match one {
         Use::Word(word) => leading.push(word.clone()?)?,
-        Use::Unknown { flag, value } => {
-            let mut text = written(alloc, flag)?;
-            if let Some(value) = value {
-                if let OwnedFlag::Long(_) = flag {
-                    text.push_str("=")?;
-                }
-                text.push_str(value.as_str())?;
-            }
-            leading.push(text)?;
-        }
+        Use::Unknown { flag, value } => leading.push(joined(alloc, flag, value)?)?,
         Use::Known {
             option,
             flag,
             value,
         } => {
             if is_passed(cargo, *option) {
-                leading.push(written(alloc, flag)?)?;
+                leading.push(format!(in alloc; "{flag}")?)?;
                 if let Some(value) = value {
                     leading.push(value.clone()?)?;
                 }

@@ -2,17 +2,15 @@
 
 ghost use Rattle.std.specs.Prelude.{◌≡◌, IfOk, map, string_bytes};
 ghost use Rattle.std.specs.Option.{option_map};
-ghost use Rattle.hack_uses.specs.Faults.{flag_seen};
 ghost use Rattle.hack_uses.specs.Passed.{count_of};
 ghost use Rattle.hack_uses.specs.Values.{value_given, values_given};
-ghost use Rattle.hack_uses.specs.Uses.{is_given, views, subcommand_of, last_flag as last_option};
+ghost use Rattle.hack_uses.specs.Uses.{is_given, views, subcommand_of};
 
 use crate::Use;
-use crate::fault::OwnedFlag;
 use hack_options::Opt;
 use std::alloc::{AllocError, Global};
 
-/// Whether the option was used.
+/// Whether the option was used. An alias counts as the option that it stands for.
 pub fn given(option: Opt, uses: &[Use]) -> bool
     ensures { result ≡ is_given option (views uses.now) }
 {
@@ -26,7 +24,7 @@ pub fn given(option: Opt, uses: &[Use]) -> bool
     false
 }
 
-/// The first word that no option takes.
+/// The first word that no option takes; the later ones are its arguments.
 pub fn subcommand(uses: &[Use]) -> Option<&String>
     ensures { option_map (λ word. string_bytes word.now) result ≡ subcommand_of (views uses.now) }
 {
@@ -38,26 +36,7 @@ pub fn subcommand(uses: &[Use]) -> Option<&String>
     None
 }
 
-/// The option that was cut last.
-pub fn last_flag(alloc: Global, uses: &[Use]) -> Result<OwnedFlag, AllocError>
-    ensures { IfOk result (λ flag. flag_seen flag ≡ last_option (views uses.now)) }
-{
-    let mut last = None;
-    for one in uses {
-        match one {
-            Use::Known { flag, .. } => last = Some(flag),
-            Use::Unknown { flag, .. } => last = Some(flag),
-            Use::Word(_) => {}
-        }
-    }
-    match last {
-        Some(OwnedFlag::Long(name)) => Ok(OwnedFlag::Long(name.clone()?)),
-        Some(OwnedFlag::Short(letter)) => Ok(OwnedFlag::Short(*letter)),
-        None => Ok(OwnedFlag::Long(String::new(alloc))),
-    }
-}
-
-/// The value of the first use, for an option that stands once.
+/// The value of the option's first use that has one, for an option that stands once.
 pub fn value(option: Opt, uses: &[Use]) -> Option<&String>
     ensures { option_map (λ value. string_bytes value.now) result ≡ value_given option (views uses.now) }
 {
@@ -75,7 +54,7 @@ pub fn value(option: Opt, uses: &[Use]) -> Option<&String>
     None
 }
 
-/// The values of all uses, in order.
+/// The values of all the option's uses, in order.
 pub fn values(alloc: Global, option: Opt, uses: &[Use]) -> Result<Vec<String>, AllocError>
     ensures { IfOk result (λ values. map string_bytes values.items ≡ values_given option (views uses.now)) }
 {
