@@ -21,7 +21,7 @@ signed-no_slash true (b ∷ bs) a e zero l = λ q. absurd (grind (arith, nat_tes
 signed-no_slash true (b ∷ bs) a e (suc i) l = digits-no_slash bs a i (omega arith)
 
 -- a number has no slash
-IsNumber-no_slash : (text : List ℕ) (n : ℕ) → IsNumber text n → (i : ℕ) → i < length text → get_or text i 0 ≢ 47
+pub IsNumber-no_slash : (text : List ℕ) (n : ℕ) → IsNumber text n → (i : ℕ) → i < length text → get_or text i 0 ≢ 47
 IsNumber-no_slash text n h = signed-no_slash (slice_index text 0 == 43) text h.0.1 refl
 
 -- a text without a slash is no piece

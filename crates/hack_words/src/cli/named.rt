@@ -6,6 +6,8 @@ ghost use Rattle.hack_features.specs.Names.{names_of};
 ghost use Rattle.hack_uses.specs.Uses.{views};
 ghost use Rattle.hack_uses.specs.Values.{values_given};
 ghost use Rattle.hack_words.specs.CliLists.{names_given, names_or_none, optional_given, groups_given};
+ghost use Rattle.hack_features.specs.Feature.{IsGroup};
+ghost use Rattle.hack_words.specs.Lists.{group_names};
 ghost use Rattle.hack_words.specs.CliGroups.{AreGroupsOf, AreNormalsOf};
 
 use crate::lists::{split_group, split_names, unquoted};
@@ -29,7 +31,7 @@ pub fn names(alloc: Global, option: Opt, uses: &[Use]) -> Result<Vec<String>, Al
 /// The names of a list that may be left out.
 fn names_or_empty(alloc: Global, text: Option<&String>) -> Result<Vec<String>, AllocError>
     ensures { IfOk result (λ names. map string_bytes names.items
-        ≡ names_or_none (option_map (λ value. string_bytes value.now) text)) }
+        ≡ names_or_none (option_map (λ value. string_bytes value.now) text.entry)) }
 {
     match text {
         Some(text) => split_group(alloc, unquoted(text.as_str())),
