@@ -1,14 +1,17 @@
 -- One more text, and the feature of it.
-use Rattle.std.proofs.Common.{◌≡◌, ◌∙◌, ◌&&◌, refl, ap, ℕ, List, [], ◌∷◌, ◌++◌, map, String, string_bytes, string_eq}
+use Rattle.std.proofs.Common.{◌≡◌, ◌∙◌, ◌&&◌, refl, ap, sym, subst, append-nil, Option, Some, None, ℕ, List, [], ◌∷◌, ◌++◌, map, String, string_bytes, string_eq}
 use Rattle.std.specs.Cmp.Lexicographic.{pointwise}
+use Rattle.std.specs.List.{filter_map}
 use Rattle.std.specs.Str.{bytes_eq}
+use Rattle.std.proofs.lemmas.List.{map-append}
+use Rattle.std.proofs.lemmas.List.Elements.{filter_map-append}
 use Rattle.hack_features.specs.declared.feature.Feature.{Feature}
 use Rattle.hack_features.specs.declared.feature.Feature.TheVariants.{Normal, Group, Path}
 use Rattle.hack_features.specs.Feature.{IsGroup, IsNormal, group_of}
 use Rattle.hack_features.specs.Names.{names_of}
 use Rattle.hack_words.specs.Lists.{group_names}
 use Rattle.hack_words.specs.CliGroups.{AreGroupsOf, AreNormalsOf, AreLifts}
-use Rattle.hack_words.specs.CliLists.{Lift, same_names}
+use Rattle.hack_words.specs.CliLists.{Lift, lift_of, same_names}
 
 pub AreGroupsOf-more : (texts : List (List ℕ)) (features : List Feature) (text : List ℕ) (feature : Feature) → AreGroupsOf texts features → IsGroup (group_names text) feature → AreGroupsOf (texts ++ text ∷ []) (features ++ feature ∷ [])
 AreGroupsOf-more [] [] text feature h k = (k, tt)
@@ -46,3 +49,21 @@ same-names [] [] = refl
 same-names [] (y ∷ ys) = refl
 same-names (x ∷ xs) [] = refl
 same-names (x ∷ xs) (y ∷ ys) = ap (λ b. bytes_eq (string_bytes x) (string_bytes y) && b) (same-names xs ys)
+
+-- one more text, which lifts a group or none
+taken-lifts : {Y : Type 0} (texts : List (String Y)) (text : String Y) → filter_map lift_of (map string_bytes (texts ++ text ∷ [])) ≡ filter_map lift_of (map string_bytes texts) ++ filter_map lift_of (string_bytes text ∷ [])
+taken-lifts texts text = ap (filter_map lift_of) (map-append string_bytes texts (text ∷ [])) ∙ filter_map-append lift_of (map string_bytes texts) (string_bytes text ∷ [])
+
+abbrev only : Option Lift → List Lift
+only None = []
+only (Some lift) = lift ∷ []
+
+one-lift : (text : List ℕ) (o : Option Lift) → lift_of text ≡ o → filter_map lift_of (text ∷ []) ≡ only o
+one-lift text None e = rw e refl
+one-lift text (Some lift) e = rw e refl
+
+pub lift-none : {Y : Type 0} (texts : List (String Y)) (pairs : List (String Y × Feature)) (text : String Y) → AreLifts (filter_map lift_of (map string_bytes texts)) pairs → lift_of (string_bytes text) ≡ None → AreLifts (filter_map lift_of (map string_bytes (texts ++ text ∷ []))) pairs
+lift-none texts pairs text h e = subst (λ (ls : List Lift). AreLifts ls pairs) (sym (taken-lifts texts text ∙ ap (λ ls. filter_map lift_of (map string_bytes texts) ++ ls) (one-lift (string_bytes text) None e) ∙ append-nil (filter_map lift_of (map string_bytes texts)))) h
+
+pub lift-some : {Y : Type 0} (texts : List (String Y)) (pairs : List (String Y × Feature)) (text : String Y) (lift : Lift) (pair : String Y × Feature) → AreLifts (filter_map lift_of (map string_bytes texts)) pairs → lift_of (string_bytes text) ≡ Some lift → string_bytes pair.0 ≡ lift.owner → IsGroup lift.group pair.1 → AreLifts (filter_map lift_of (map string_bytes (texts ++ text ∷ []))) (pairs ++ pair ∷ [])
+lift-some texts pairs text lift pair h e k l = subst (λ (ls : List Lift). AreLifts ls (pairs ++ pair ∷ [])) (sym (taken-lifts texts text ∙ ap (λ ls. filter_map lift_of (map string_bytes texts) ++ ls) (one-lift (string_bytes text) (Some lift) e))) (AreLifts-more (filter_map lift_of (map string_bytes texts)) pairs lift pair h k l)

@@ -110,12 +110,19 @@ fn check_forms(texts: &[String]) -> Result<(), CliFault>
     Ok(())
 }
 
+/// Whether the names of the group are these, in this order.
+fn is_named(group: &Feature, names: &[String]) -> bool
+    ensures { result ≡ same_names (names_of names.now) (group_of group.now) }
+{
+    names == group.as_group()
+}
+
 /// Whether the names of one group are these, in this order.
 fn has_names(groups: &[Feature], names: &[String]) -> bool
     ensures { result ≡ list_any (same_names (names_of names.now)) (map group_of groups.now) }
 {
     for group in groups {
-        if names == group.as_group() {
+        if is_named(group, names) {
             return true;
         }
     }
