@@ -1,5 +1,5 @@
 -- What a text is read as, where a call says how it is written.
-use Rattle.std.proofs.Common.{◌≡◌, ◌≢◌, ◌⊎◌, ℕ, zero, suc, ◌+◌, ◌<◌, ◌≤◌, ◌^◌, ◌==◌, ◌&&◌, ◌++◌, List, [], ◌∷◌, Bool, true, false, not, cond, length, take, drop, get_or, nat_lt, codes, Option, Some, None, Result, Ok, Err, arith, refl, ap, sym, subst, ◌∙◌, IsTrue}
+use Rattle.std.proofs.Common.{◌≡◌, ◌≢◌, ◌⊎◌, ℕ, zero, suc, ◌+◌, ◌<◌, ◌≤◌, ◌^◌, ◌==◌, ◌&&◌, ◌++◌, List, [], ◌∷◌, Bool, true, false, not, cond, length, take, drop, get_or, nat_lt, lt-ltb, codes, string_bytes, length-append, append_assoc, IfSome, IfNone, option_and_then, Option, Some, None, Result, Ok, Err, arith, refl, ap, sym, subst, ◌∙◌, IsTrue}
 use Rattle.std.specs.Bool.{Decides}
 use Rattle.std.specs.Cmp.{first_so, second_so}
 use Rattle.std.specs.List.{list_all, before_first, after_first, position_or_len}
@@ -7,7 +7,8 @@ use Rattle.std.specs.Result.{result_ok}
 use Rattle.std.specs.Str.{bytes_eq}
 use Rattle.std.specs.Str.Parse.{AllDigits, IsNumeral, ParsesUnsigned, digits_value, without_leading_plus}
 use Rattle.std.proofs.lemmas.Bool.Decides.{nat_tests}
-use Rattle.std.proofs.lemmas.List.{take_at, drop_at}
+use Rattle.std.proofs.lemmas.Bool.{eqb-true, ltb-true}
+use Rattle.std.proofs.lemmas.List.{take_at, drop_at, drop-drop, get_or_append_left, get_or_at}
 use Rattle.std.proofs.lemmas.List.Sums.{position_or_len_is, split_at_first, passes_at_first}
 use Rattle.std.proofs.lemmas.Slice.Eq.{bytes_eq-Decides}
 use Rattle.std.proofs.lemmas.Str.{digit_value_digit}
@@ -19,11 +20,20 @@ use Rattle.hack_words.specs.declared.log_group.LogGroup.{LogGroup}
 use Rattle.hack_words.specs.declared.log_group.LogGroup.TheVariants as group
 use Rattle.hack_words.specs.declared.partition.PartitionKind.{PartitionKind}
 use Rattle.hack_words.specs.declared.partition.PartitionKind.TheVariants as kind
-use Rattle.hack_words.specs.Groups.{group_name, IsNoGroup}
+use Rattle.hack_words.specs.declared.log_group.LogGroupFault.{LogGroupFault}
+use Rattle.hack_words.specs.declared.log_group.LogGroupFault.TheVariants as log_group
+use Rattle.hack_words.specs.declared.partition.PartitionFault.{PartitionFault}
+use Rattle.hack_words.specs.declared.partition.PartitionFault.TheVariants as partition
+use Rattle.hack_words.specs.CliFaults.{Fault, LogGroup as BadGroup, Partition, PartitionKind as BadKind, log_group_fault_of, partition_fault_of}
+use Rattle.hack_words.specs.CliValues.{unless_read, log_group_fault, kind_fault, partition_fault}
+use Rattle.hack_words.specs.Groups.{group_name, IsNoGroup, RefusesGroup}
 use Rattle.hack_words.specs.Lines.{coloring_name, IsNoColoring}
-use Rattle.hack_words.specs.Partitions.{IsNumber, IsPiece, IsNoPiece, kind_name, IsNoKind}
+use Rattle.hack_words.specs.Partitions.{IsNumber, IsPiece, IsNoPiece, RefusesPiece, kind_name, IsNoKind, RefusesKind}
 use Rattle.hack_words.specs.Readings.{Piece, coloring_of, log_group_of, kind_of, is_digit, is_digits, number_of, piece_if, piece_of}
 use Rattle.hack_words.proofs.TextLemmas.{IsNumber-no_slash}
+
+Some-same : {A : Type 0} {a b : A} → Some a ≡ Some b → a ≡ b
+Some-same e = cc
 
 -- texts that differ are told apart
 differ : (xs ys : List ℕ) → (xs ≡ ys → ⊥) → bytes_eq xs ys ≡ false
@@ -132,9 +142,102 @@ number-parses bits text (Err x) h = sym (number-unread bits text (λ n k. h (k.0
 
 -- pieces
 
+not-byte : (c b : ℕ) → c ≢ b → (c == b) ≡ false
+not-byte c b h = grind (arith, nat_tests)
+
 front-joined : (b : ℕ) (xs ys : List ℕ) → ((i : ℕ) → i < length xs → get_or xs i 0 ≢ b) → position_or_len (λ c. c == b) (xs ++ b ∷ ys) ≡ length xs
-front-joined b [] ys h = let e : (b == b) ≡ true = grind (arith, nat_tests) in rw e refl
-front-joined b (x ∷ xs) ys h =
-    let n : x ≢ b = h 0 (omega arith) in
-    let e : (x == b) ≡ false = grind (arith, nat_tests) in
-    rw e (ap (λ k. 1 + k) (front-joined b xs ys (λ i l. h (suc i) (omega arith))))
+front-joined b xs ys h = position_or_len_is (λ c. c == b) (xs ++ b ∷ ys) (length xs) 0 (omega (arith, length-append xs (b ∷ ys)))
+    (λ k l. rw (get_or_append_left xs (b ∷ ys) 0 k l) (not-byte (get_or xs k 0) b (h k l)))
+    (λ l. let same : (b == b) ≡ true = grind (arith, nat_tests) in rw (get_or_at xs b ys 0 (length xs) refl) same)
+
+rest-joined : (b : ℕ) (xs ys : List ℕ) → ((i : ℕ) → i < length xs → get_or xs i 0 ≢ b) → rest_of b (xs ++ b ∷ ys) ≡ Some ys
+rest-joined b xs ys h =
+    let e = front-joined b xs ys h in
+    let l : nat_lt (position_or_len (λ c. c == b) (xs ++ b ∷ ys)) (length (xs ++ b ∷ ys)) ≡ true = lt-ltb _ _ (omega (arith, e, length-append xs (b ∷ ys))) in
+    rw l (ap Some (ap (λ n. drop (n + 1) (xs ++ (b ∷ ys))) e ∙ sym (drop-drop 1 (length xs) (xs ++ (b ∷ ys))) ∙ ap (λ t. drop 1 t) (drop_at xs (b ∷ ys) (length xs) refl)))
+
+-- a text that has the byte is what stands in front of it, that byte, and the rest
+pub rest-cut : (b : ℕ) (text rest : List ℕ) → rest_of b text ≡ Some rest → text ≡ front_of b text ++ b ∷ rest
+rest-cut b text rest e = cases (nat_lt (position_or_len (λ c. c == b) text) (length text)) refl e
+  where
+    cases : (t : Bool) → nat_lt (position_or_len (λ c. c == b) text) (length text) ≡ t → cond t (Some (after_first (λ c. c == b) text)) None ≡ Some rest → text ≡ front_of b text ++ b ∷ rest
+    cases true t f =
+        let l : position_or_len (λ c. c == b) text < length text = ltb-true _ _ t in
+        let same : after_first (λ c. c == b) text ≡ rest = cc in
+        let passes : (get_or text (position_or_len (λ c. c == b) text) 0 == b) ≡ true = passes_at_first (λ c. c == b) text 0 l in
+        let at : get_or text (position_or_len (λ c. c == b) text) 0 ≡ b = eqb-true _ _ passes in
+        split_at_first (λ c. c == b) text 0 l ∙ ap (λ (x : ℕ). front_of b text ++ x ∷ after_first (λ c. c == b) text) at ∙ ap (λ (xs : List ℕ). front_of b text ++ b ∷ xs) same
+    cases false t f = absurd (cc)
+
+-- m/n where m is from 1 to n
+within : (m n : ℕ) → 0 < m → m ≤ n → piece_if (Some m) (Some n) ≡ Some (record { piece = m; count = n })
+within m n l w =
+    let a : nat_lt 0 m ≡ true = lt-ltb _ _ l in
+    let b : nat_lt n m ≡ false = grind (arith, nat_tests) in
+    rw (a, b) refl
+
+abbrev read_rest : List ℕ → List ℕ → Option Piece
+read_rest text rest = piece_if (number_of 64 (front_of 47 text)) (number_of 64 rest)
+
+pub piece-read : (text : List ℕ) (m n : ℕ) → IsPiece text m n → piece_of text ≡ Some (record { piece = m; count = n })
+piece-read text m n h = subst (λ (t : List ℕ). piece_of t ≡ Some (record { piece = m; count = n })) (sym (h.2 ∙ append_assoc h.0 (47 ∷ []) h.1)) at
+  where
+    no_slash : (i : ℕ) → i < length h.0 → get_or h.0 i 0 ≢ 47
+    no_slash = IsNumber-no_slash h.0 m h.3
+
+    front : front_of 47 (h.0 ++ 47 ∷ h.1) ≡ h.0
+    front = ap (λ k. take k (h.0 ++ 47 ∷ h.1)) (front-joined 47 h.0 h.1 no_slash) ∙ take_at h.0 (47 ∷ h.1) (length h.0) refl
+
+    first : number_of 64 (front_of 47 (h.0 ++ 47 ∷ h.1)) ≡ Some m
+    first = ap (number_of 64) front ∙ number-read 64 m h.0 h.3.0 h.3.1 h.3.2
+
+    at : piece_of (h.0 ++ 47 ∷ h.1) ≡ Some (record { piece = m; count = n })
+    at = ap (option_and_then (read_rest (h.0 ++ 47 ∷ h.1))) (rest-joined 47 h.0 h.1 no_slash) ∙ ap (λ o. piece_if o (number_of 64 h.1)) first ∙ ap (λ o. piece_if (Some m) o) (number-read 64 n h.1 h.4.0 h.4.1 h.4.2) ∙ within m n h.5 h.6
+
+piece-holds : (text : List ℕ) (p : Piece) → piece_of text ≡ Some p → IsPiece text p.piece p.count
+piece-holds text p e = by_rest (rest_of 47 text) refl e
+  where
+    in_range : (b c : Bool) (m n : ℕ) → nat_lt 0 m ≡ b → nat_lt n m ≡ c → cond (b && not c) (Some (record { piece = m; count = n })) None ≡ Some p → (m ≡ p.piece) × (n ≡ p.count) × (0 < m) × (m ≤ n)
+    in_range true false m n a z k =
+        let same : record { piece = m; count = n } ≡ p = Some-same k in
+        (ap (λ (q : Piece). q.piece) same, ap (λ (q : Piece). q.count) same, ltb-true 0 m a, grind (arith, nat_tests))
+    in_range true true m n a z k = absurd (cc)
+    in_range false c m n a z k = absurd (cc)
+
+    by_numbers : (a b : Option ℕ) (rest : List ℕ) → text ≡ front_of 47 text ++ 47 ∷ rest → number_of 64 (front_of 47 text) ≡ a → number_of 64 rest ≡ b → piece_if a b ≡ Some p → IsPiece text p.piece p.count
+    by_numbers (Some m) (Some n) rest t a b k =
+        let r = in_range (nat_lt 0 m) (nat_lt n m) m n refl refl k in
+        (front_of 47 text, rest, t ∙ sym (append_assoc (front_of 47 text) (47 ∷ []) rest), number-holds 64 p.piece (front_of 47 text) (a ∙ ap Some r.0), number-holds 64 p.count rest (b ∙ ap Some r.1), subst (λ x. 0 < x) r.0 r.2, omega (arith, r.0, r.1, r.3))
+    by_numbers (Some m) None rest t a b k = absurd (cc)
+    by_numbers None b rest t a z k = absurd (cc)
+
+    by_rest : (o : Option (List ℕ)) → rest_of 47 text ≡ o → option_and_then (read_rest text) o ≡ Some p → IsPiece text p.piece p.count
+    by_rest None r k = absurd (cc)
+    by_rest (Some rest) r k = by_numbers (number_of 64 (front_of 47 text)) (number_of 64 rest) rest (rest-cut 47 text rest r) refl refl k
+
+pub piece-unread : (text : List ℕ) → IsNoPiece text → piece_of text ≡ None
+piece-unread text h = cases (piece_of text) refl
+  where
+    cases : (o : Option Piece) → piece_of text ≡ o → o ≡ None
+    cases None e = refl
+    cases (Some p) e = absurd (h p.piece p.count (piece-holds text p e))
+
+-- what the calls answer
+
+pub coloring-answer : (text : List ℕ) (r : Option Coloring) → IfSome r (λ c. text ≡ coloring_name c) → IfNone r (IsNoColoring text) → r ≡ coloring_of text
+coloring-answer text (Some c) h k = sym (coloring-read text c h)
+coloring-answer text None h k = sym (coloring-unread text k)
+
+pub group-refused : (text : List ℕ) (e : LogGroupFault) → RefusesGroup text e → IfSome (log_group_fault_of e) (λ fault. log_group_fault text ≡ Some fault)
+group-refused text (log_group.Name s) h = ap (unless_read (BadGroup text)) (group-unread text h.1) ∙ ap (λ t. Some (BadGroup t)) (sym h.0)
+group-refused text log_group.Memory h = tt
+
+pub kind-refused : (text : List ℕ) (e : PartitionFault) → RefusesKind text e → IfSome (partition_fault_of e) (λ fault. kind_fault text ≡ Some fault)
+kind-refused text (partition.Kind s) h = ap (unless_read (BadKind text)) (kind-unread text h.1) ∙ ap (λ t. Some (BadKind t)) (sym h.0)
+kind-refused text (partition.Piece s) h = absurd h
+kind-refused text partition.Memory h = tt
+
+pub piece-refused : (text : List ℕ) (e : PartitionFault) → RefusesPiece text e → IfSome (partition_fault_of e) (λ fault. partition_fault text ≡ Some fault)
+piece-refused text (partition.Piece s) h = ap (unless_read (Partition text)) (piece-unread text h.1) ∙ ap (λ t. Some (Partition t)) (sym h.0)
+piece-refused text (partition.Kind s) h = absurd h
+piece-refused text partition.Memory h = tt

@@ -1,7 +1,8 @@
 -- The features that texts of options name.
-use Rattle.std.specs.Prelude.{ℕ, List, [], ◌∷◌}
+use Rattle.std.specs.Prelude.{◌≡◌, ℕ, List, [], ◌∷◌, String, string_bytes}
 use Rattle.hack_features.specs.declared.feature.Feature.{Feature}
 use Rattle.hack_features.specs.Feature.{IsGroup, IsNormal}
+use Rattle.hack_words.specs.CliLists.{Lift}
 use Rattle.hack_words.specs.Lists.{group_names}
 
 -- one group for each text, of the names in it
@@ -17,3 +18,10 @@ AreNormalsOf [] [] = Unit {0}
 AreNormalsOf [] (feature ∷ features) = ⊥
 AreNormalsOf (name ∷ names) [] = ⊥
 AreNormalsOf (name ∷ names) (feature ∷ features) = IsNormal name feature × AreNormalsOf names features
+
+-- each package with the group that is lifted for it
+abbrev pub AreLifts : {Y : Type 0} → List Lift → List (String Y × Feature) → Type 0
+AreLifts [] [] = Unit {0}
+AreLifts [] (pair ∷ pairs) = ⊥
+AreLifts (lift ∷ lifts) [] = ⊥
+AreLifts (lift ∷ lifts) (pair ∷ pairs) = (string_bytes pair.0 ≡ lift.owner) × IsGroup lift.group pair.1 × AreLifts lifts pairs

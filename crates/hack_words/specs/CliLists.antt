@@ -78,3 +78,8 @@ lift_form us = option_map LiftForm (first_failing is_lift (values_given opt.Allo
 -- the first value whose names are those of no exclusion group
 abbrev pub lift_group : List Use → Option Fault
 lift_group us = option_map LiftGroup (first_failing (lifts_one_of (groups_given opt.MutuallyExclusiveFeatures us)) (values_given opt.AllowTogether us))
+
+-- the first of two faults
+abbrev pub first_fault_of : Option Fault → Option Fault → Option Fault
+first_fault_of (Some fault) later = Some fault
+first_fault_of None later = later

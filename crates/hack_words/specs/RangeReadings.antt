@@ -19,13 +19,14 @@ abbrev pub read_as : {A B : Type 0} → (A → B) → Result A BadRange → Resu
 read_as f (Ok a) = Ok (f a)
 read_as f (Err bad) = Err bad
 
+-- a number, or the text that is none
+abbrev pub or_bad : List ℕ → Option ℕ → Result ℕ BadRange
+or_bad text (Some n) = Ok n
+or_bad text None = Err (BadNumber text)
+
 -- a part of a version, a number below 2^32
 abbrev pub part_of : List ℕ → Result ℕ BadRange
-part_of text = or_bad (number_of 32 text)
-  where
-    or_bad : Option ℕ → Result ℕ BadRange
-    or_bad (Some n) = Ok n
-    or_bad None = Err (BadNumber text)
+part_of text = or_bad text (number_of 32 text)
 
 -- a version of these parts, with what stands behind the second dot
 abbrev pub with_patch : ℕ → ℕ → Option (List ℕ) → Result Version BadRange
@@ -51,14 +52,15 @@ pub record End : Type 0 where
   pub bound : MaybeVersion
   pub old : Bool
 
+-- what stands behind `..=`: a version
+abbrev pub behind_equals : List ℕ → List ℕ → Result End BadRange
+behind_equals front [] = Err (OpenInclusive front)
+behind_equals front (c ∷ cs) = read_as (λ bound. record { bound = bound; old = false }) (bound_of Stable (c ∷ cs))
+
 -- what stands behind `..`: nothing, `=` and a version, or a version alone, which is the old form
 abbrev pub end_of : List ℕ → List ℕ → Result End BadRange
 end_of front [] = Ok (record { bound = Stable; old = false })
-end_of front (b ∷ bs) = if b == 61 then behind_equals bs else read_as (λ bound. record { bound = bound; old = true }) (bound_of Stable (b ∷ bs))
-  where
-    behind_equals : List ℕ → Result End BadRange
-    behind_equals [] = Err (OpenInclusive front)
-    behind_equals (c ∷ cs) = read_as (λ bound. record { bound = bound; old = false }) (bound_of Stable (c ∷ cs))
+end_of front (b ∷ bs) = if b == 61 then behind_equals front bs else read_as (λ bound. record { bound = bound; old = true }) (bound_of Stable (b ∷ bs))
 
 -- both sides of a cut
 pub record Sides : Type 0 where
@@ -77,12 +79,15 @@ pub record ReadRange : Type 0 where
   pub range : VersionRange
   pub old : Bool
 
--- a range: its end is read before its start, and without `..` the text is its start
+-- a start and an end
+abbrev pub with_end : End → MaybeVersion → ReadRange
+with_end end start = record { range = record { start_inclusive = start; end_inclusive = end.bound }; old = end.old }
+
+-- a range of these sides: its end is read before its start, and without `..` the text is its start
+abbrev pub range_at : List ℕ → Option Sides → Result ReadRange BadRange
+range_at text None = read_as (with_end (record { bound = Stable; old = false })) (bound_of Msrv text)
+range_at text (Some sides) = then_read (λ end. read_as (with_end end) (bound_of Msrv sides.front)) (end_of sides.front sides.back)
+
+-- a range, cut at its first `..`
 abbrev pub range_of : List ℕ → Result ReadRange BadRange
-range_of text = by_sides (at_dots text)
-  where
-    with_end : End → MaybeVersion → ReadRange
-    with_end end start = record { range = record { start_inclusive = start; end_inclusive = end.bound }; old = end.old }
-    by_sides : Option Sides → Result ReadRange BadRange
-    by_sides None = read_as (with_end (record { bound = Stable; old = false })) (bound_of Msrv text)
-    by_sides (Some sides) = then_read (λ end. read_as (with_end end) (bound_of Msrv sides.front)) (end_of sides.front sides.back)
+range_of text = range_at text (at_dots text)

@@ -1,14 +1,19 @@
 //! The lists that the uses of options give.
 
 ghost use Rattle.std.specs.Prelude.{◌≡◌, IfOk, Some, map, string_bytes};
+ghost use Rattle.std.specs.List.{filter_map, list_any};
 ghost use Rattle.std.specs.Option.{option_map};
 ghost use Rattle.hack_features.specs.Names.{names_of};
 ghost use Rattle.hack_uses.specs.Uses.{views};
 ghost use Rattle.hack_uses.specs.Values.{values_given};
-ghost use Rattle.hack_words.specs.CliLists.{names_given, names_or_none, optional_given, groups_given};
-ghost use Rattle.hack_words.specs.CliGroups.{AreGroupsOf, AreNormalsOf};
+ghost use Rattle.hack_words.specs.CliFaults.{Checks, LiftForm, LiftGroup};
+ghost use Rattle.hack_words.specs.CliLists.{names_given, names_or_none, optional_given, lift_of, lifts_given, is_lift, lifts_one_of, same_names, first_failing, first_fault_of, lift_form, lift_group};
+ghost use Rattle.hack_features.specs.Feature.{IsGroup, group_of};
+ghost use Rattle.hack_words.specs.Lists.{group_names};
+ghost use Rattle.hack_words.specs.CliGroups.{AreGroupsOf, AreNormalsOf, AreLifts};
 
-use crate::lists::{split_group, split_names, unquoted};
+use crate::cli::fault::CliFault;
+use crate::lists::{has_separator, split_group, split_names, unquoted};
 use hack_features::Feature;
 use hack_options::Opt;
 use hack_uses::{Use, given, value, values};
@@ -29,7 +34,7 @@ pub fn names(alloc: Global, option: Opt, uses: &[Use]) -> Result<Vec<String>, Al
 /// The names of a list that may be left out.
 fn names_or_empty(alloc: Global, text: Option<&String>) -> Result<Vec<String>, AllocError>
     ensures { IfOk result (λ names. map string_bytes names.items
-        ≡ names_or_none (option_map (λ value. string_bytes value.now) text)) }
+        ≡ names_or_none (option_map (λ value. string_bytes value.now) text.entry)) }
 {
     match text {
         Some(text) => split_group(alloc, unquoted(text.as_str())),
@@ -78,4 +83,101 @@ pub fn normals(alloc: Global, names: &[String]) -> Result<Vec<Feature>, AllocErr
         features.push(Feature::normal(alloc, name.as_str())?)?;
     }
     Ok(features)
+}
+
+/// A value of `--allow-together`, cut into its package and its list of features.
+fn cut_lift(text: &str) -> Option<(&str, &str)>
+    ensures { option_map (λ parts. record { owner = parts.0.now; group = group_names parts.1.now }) result ≡ lift_of text.now }
+{
+    let (owner, features) = text.split_once('=')?;
+    if owner.is_empty() || !has_separator(features) {
+        return None;
+    }
+    Some((owner, features))
+}
+
+/// Each value has the form of `--allow-together`.
+fn check_forms(texts: &[String]) -> Result<(), CliFault>
+    ensures { Checks result (option_map LiftForm (first_failing is_lift (map string_bytes texts.now))) }
+{
+    for text in texts {
+        if cut_lift(text.as_str()).is_none() {
+            return Err(CliFault::LiftForm {
+                found: text.clone()?,
+            });
+        }
+    }
+    Ok(())
+}
+
+/// Whether the names of the group are these, in this order.
+fn is_named(group: &Feature, names: &[String]) -> bool
+    ensures { result ≡ same_names (names_of names.now) (group_of group.now) }
+{
+    names == group.as_group()
+}
+
+/// Whether the names of one group are these, in this order.
+fn has_names(groups: &[Feature], names: &[String]) -> bool
+    ensures { result ≡ list_any (same_names (names_of names.now)) (map group_of groups.now) }
+{
+    for group in groups {
+        if is_named(group, names) {
+            return true;
+        }
+    }
+    false
+}
+
+/// Whether a value lifts one of the groups.
+fn lifts_one(alloc: Global, groups: &[Feature], text: &str) -> Result<bool, AllocError>
+    ensures { IfOk result (λ one. one ≡ lifts_one_of (map group_of groups.now) text.now) }
+{
+    match cut_lift(text) {
+        Some((_, features)) => Ok(has_names(groups, &split_group(alloc, features)?)),
+        None => Ok(false),
+    }
+}
+
+/// Each value lifts one of the groups.
+fn check_groups(alloc: Global, groups: &[Feature], texts: &[String]) -> Result<(), CliFault>
+    ensures { Checks result (option_map LiftGroup
+        (first_failing (lifts_one_of (map group_of groups.now)) (map string_bytes texts.now))) }
+{
+    for text in texts {
+        if !lifts_one(alloc, groups, text.as_str())? {
+            return Err(CliFault::LiftGroup {
+                found: text.clone()?,
+            });
+        }
+    }
+    Ok(())
+}
+
+/// The packages with the groups that the values lift for them.
+fn lifts_of(alloc: Global, texts: &[String]) -> Result<Vec<(String, Feature)>, AllocError>
+    ensures { IfOk result (λ lifts. AreLifts (filter_map lift_of (map string_bytes texts.now)) lifts.items) }
+{
+    let mut lifts = Vec::new(alloc);
+    for text in texts {
+        if let Some((owner, features)) = cut_lift(text.as_str()) {
+            let owner = String::from_str(alloc, owner)?;
+            let features = group(alloc, features)?;
+            lifts.push((owner, features))?;
+        }
+    }
+    Ok(lifts)
+}
+
+/// The packages with the groups of `--mutually-exclusive-features` that are lifted for them. A value of another form
+/// is told before one whose names are those of no group.
+pub fn lifts(alloc: Global, uses: &[Use]) -> Result<Vec<(String, Feature)>, CliFault>
+    ensures lifts { IfOk result (λ lifts. AreLifts (lifts_given (views uses.now)) lifts.items) }
+    ensures checks { Checks result (first_fault_of (lift_form (views uses.now)) (lift_group (views uses.now))) }
+{
+    let texts = values(alloc, Opt::AllowTogether, uses)?;
+    check_forms(&texts)?;
+    let groups = groups(alloc, Opt::MutuallyExclusiveFeatures, uses)?;
+    check_groups(alloc, &groups, &texts)?;
+    Ok(lifts_of(alloc, &texts)?)
 }

@@ -1,0 +1,14 @@
+use Rattle.std.proofs.Common.{ap}
+use Rattle.hack_words.specs.CliFaults.{Partition}
+use Rattle.hack_words.specs.CliValues.{unless_read}
+use Rattle.hack_words.proofs.ReadingLemmas.{piece-read, piece-refused}
+use Rattle.hack_words.proofs.cli.values.partition.Goals as goal
+
+pub returns-in-Ok-clause-value : goal.returns-in-Ok-clause-value
+returns-in-Ok-clause-value c = piece-read c.args.text.now c.in-Ok.partition.piece c.in-Ok.partition.count c.in-Ok.ensures.piece
+
+pub returns-in-Ok-clause-checks : goal.returns-in-Ok-clause-checks
+returns-in-Ok-clause-checks c = ap (unless_read (Partition c.args.text.now)) (piece-read c.args.text.now c.in-Ok.partition.piece c.in-Ok.partition.count c.in-Ok.ensures.piece)
+
+pub returns-in-Err : goal.returns-in-Err
+returns-in-Err c = record { value = tt; blocks = tt; checks = piece-refused c.args.text.now c.in-Err.fault c.in-Err.ensures.refused }
