@@ -1,5 +1,5 @@
 -- What a use that is read leaves: less than before, and of a word only what is behind an option.
-use Rattle.std.proofs.Common.{◌≡◌, ◌+◌, ◌<◌, ◌≤◌, ℕ, List, [], ◌∷◌, ◌&&◌, ◌++◌, append-nil, append_assoc, Ok, Some, ◌∙◌, Bool, true, false, map, length, ap, sym, refl, Err, None, Option, Result, zero, suc, cond, codes, nat_lt, nat_eq, subst, drop, encode_utf8, length-drop, arith}
+use Rattle.std.proofs.Common.{◌≡◌, ◌+◌, ◌<◌, ◌≤◌, ℕ, List, [], ◌∷◌, ◌&&◌, ◌++◌, append-nil, append_assoc, Ok, Some, ◌∙◌, true, false, length, ap, sym, refl, Err, None, Option, Result, zero, suc, cond, codes, nat_lt, nat_eq, subst, drop, encode_utf8, length-drop, arith}
 use Rattle.std.specs.List.{starts_with, position_or_len, before_first, after_first}
 use Rattle.std.proofs.lemmas.Str.{length-encode, len_utf8_bounds}
 use Rattle.hack_lexopt.specs.declared.LexFault.{LexFault}
@@ -12,9 +12,9 @@ use Rattle.hack_options.specs.Table.{entry_of, meaning_of}
 use Rattle.hack_options.specs.Find.{long_option, short_option}
 use Rattle.hack_uses.specs.declared.cut.Print.{Print}
 use Rattle.hack_uses.specs.declared.cut.Print.TheVariants as print
-use Rattle.hack_uses.specs.Faults.{Flag, LongFlag, ShortFlag, Repeat, Missing, LoneQuote}
-use Rattle.hack_uses.specs.Uses.{Use, Known, Unknown, Word, is_given, subcommand_of}
-use Rattle.hack_uses.specs.Reads.{Reading, Met, End, Prints, Fails, is_quote, is_bare, unknown, with_value, with_names, with_names_or_none, question, help_of, by_kind, known, removed_of, similar_of, other, other_name, by_name, by_letter, of_cut, refused, of_next, read_of, Reads, flag_left, HasOption}
+use Rattle.hack_uses.specs.Faults.{Flag, LongFlag, ShortFlag, Repeat, LoneQuote}
+use Rattle.hack_uses.specs.Uses.{Use, Known, Unknown, is_given, subcommand_of}
+use Rattle.hack_uses.specs.Reads.{Reading, Met, End, Prints, Fails, is_quote, is_bare, unknown, with_value, with_names, with_names_or_none, question, help_of, by_kind, known, removed_of, similar_of, other, by_name, by_letter, of_cut, refused, of_next, read_of, Reads, flag_left, HasOption}
 
 -- how much is left of the words
 abbrev pub weight_of : Untaken → ℕ
@@ -95,20 +95,9 @@ leaves-optional : (P : Left → Type 0) (o : Opt) (flag : Flag) (v : Option (Lis
 leaves-optional P o flag (Some v) l p = elim (is_quote v) as (λ b. Leaves P (cond b (Fails (LoneQuote flag)) (Met (Known (meaning_of o) flag (Some v)) l))) [ true ↦ tt | false ↦ p ]
 leaves-optional P o flag None l p = p
 
-<<<<<<< HEAD
-within-kind : (k : Kind) (us : List Use) (o : Opt) (flag : Flag) (l : Left) → Within (weight l) (by_kind k us o flag l)
-within-kind kind.Flag us o flag l = omega arith
-within-kind kind.Value us o flag l = within-value (weight l) o flag (value_of l) (after_value l) (after_value-le l.option l.untaken l.words)
-within-kind kind.Names us o flag l = within-names (weight l) o flag (value_of l) (after_value l) (after_value-le l.option l.untaken l.words)
-within-kind kind.OptionalNames us o flag l = within-optional (weight l) o flag (optional_of l) (after_optional l) (after_optional-le l.option l.untaken l.words)
-within-kind kind.Help us o flag l = within-question (help_of flag) (subcommand_of us) flag l
-within-kind kind.Version us o flag l = within-question print.Version (subcommand_of us) flag l
-within-kind kind.Refused us o flag l = tt
-=======
 leaves-question : (P : Left → Type 0) (k : Kept P) (print : Print) (sub : Option (List ℕ)) (flag : Flag) (l : Left) → P l → Leaves P (question print sub flag l)
 leaves-question P k print (Some sub) flag l p = leaves-unknown P k flag l p
 leaves-question P k print None flag l p = tt
->>>>>>> uses
 
 leaves-kind : (P : Left → Type 0) (k : Kept P) (takes : Kind) (us : List Use) (o : Opt) (flag : Flag) (l : Left) → P l → Leaves P (by_kind takes us o flag l)
 leaves-kind P k kind.Flag us o flag l p = p
@@ -169,16 +158,6 @@ read-smaller us l u new h = read-leaves (Below (weight l)) (kept-below (weight l
 kept-option : Kept HasOption
 kept-option l p = (λ h. cc, value-has l.option l.untaken l.words, optional-has l.option l.untaken l.words)
   where
-<<<<<<< HEAD
-    cases : (r : Result (Option Cut) LexFault) → next_cut l ≡ r → weight new < weight l
-    cases (Ok (Some cut)) e =
-        let less : weight (after_cut l) < weight l = after_cut-smaller l.option l.untaken l.words cut e in
-        let at : of_cut us cut (after_cut l) ≡ Met u new = sym (ap (λ r. of_next r us l) e) ∙ h in
-        let in_it : weight new ≤ weight (after_cut l) = subst (λ r. Within (weight (after_cut l)) r) at (within-cut us cut (after_cut l)) in
-        omega arith
-    cases (Ok None) e = let k = sym (ap (λ r. of_next r us l) e) ∙ h in cc
-    cases (Err f) e = absurd (refused-no_use us (unexpected_of l.untaken) u new (sym (ap (λ r. of_next r us l) e) ∙ h))
-=======
     value-has : (o : Option Cut) (t : Untaken) (ws : List (List ℕ)) → HasOption (after_value (record { option = o; untaken = t; words = ws }))
     value-has o (Pending v) ws = λ h. cc
     value-has o (Chain letters) ws = λ h. cc
@@ -207,7 +186,6 @@ cut-has_option o Nothing (w ∷ ws) = word-has_option w ws
 -- behind a use that is read, what is untaken of a word is behind an option
 pub read-has_option : (us : List Use) (l : Left) (u : Use) (new : Left) → read_of us l ≡ Met u new → HasOption new
 read-has_option us l u new h = read-leaves HasOption kept-option us l u new (λ cut e. cut-has_option l.option l.untaken l.words) h
->>>>>>> uses
 
 -- one more use is read
 pub Reads-more : (before us : List Use) (u : Use) (old mid new : Left) → Reads before old us mid → read_of (before ++ us) mid ≡ Met u new → Reads before old (us ++ u ∷ []) new

@@ -4,7 +4,6 @@ use Rattle.std.specs.List.{list_any}
 use Rattle.std.proofs.lemmas.Bool.{eqb-true}
 use Rattle.std.proofs.lemmas.Bool.Decides.{nat_tests}
 use Rattle.std.proofs.lemmas.Map.Views.{Contains-from_any}
-use Rattle.hack_words.specs.CliLists.{is_list}
 use Rattle.hack_words.specs.Lists.{comma, space, HasSeparator, separator_of, is_quoted}
 
 pub separator_of-ascii : (text : List ℕ) → separator_of text < 128
@@ -13,15 +12,3 @@ separator_of-ascii text = grind (arith, nat_tests)
 -- a text between quotes has two bytes or more, and an ASCII character at each end
 pub is_quoted-ends : (text : List ℕ) → is_quoted text ≡ true → (1 < length text) × (slice_index text 0 < 128) × (slice_index text (length text - 1) < 128)
 is_quoted-ends text h = grind (arith, nat_tests)
-
--- a text with no comma and no space is no list
-pub unlisted : (text : List ℕ) → (HasSeparator text → ⊥) → is_list text ≡ false
-unlisted text h = cases (list_any (λ b. b == comma) text) (list_any (λ b. b == space) text) refl refl
-  where
-    found : (sign : ℕ) → list_any (λ b. b == sign) text ≡ true → Contains text sign
-    found sign e = Contains-from_any {eq = λ x y. y == x} (λ x y t. sym (eqb-true y x t)) sign text e
-
-    cases : (b c : Bool) → list_any (λ b. b == comma) text ≡ b → list_any (λ b. b == space) text ≡ c → (b || c) ≡ false
-    cases true c e f = absurd (h (inl (found comma e)))
-    cases false true e f = absurd (h (inr (found space f)))
-    cases false false e f = refl

@@ -146,14 +146,14 @@ first-dots text rest h = (starts_is Decides-eqb text (codes "..") (has_dots text
 none-first : (text : List ℕ) → ((rest : List ℕ) → text ≡ codes ".." ++ rest → ⊥) → has_dots text ≡ false
 none-first text h = is-false (has_dots text) (λ t. h (drop 2 text) (dots-first text t))
 
-uncut-read : (text : List ℕ) → IsUncut text → at_dots text ≡ None
+pub uncut-read : (text : List ℕ) → IsUncut text → at_dots text ≡ None
 uncut-read [] h = refl
 uncut-read (b ∷ bs) h = rw (none-first (b ∷ bs) (h [])) (ap (option_map (λ (s : Sides). record { front = b ∷ s.front; back = s.back })) (uncut-read bs (λ xs ys e. h (b ∷ xs) ys (ap (λ (t : List ℕ). b ∷ t) e))))
 
 tail-same : (b c : ℕ) (bs cs : List ℕ) → b ∷ bs ≡ c ∷ cs → (b ≡ c) × (bs ≡ cs)
 tail-same b c bs cs e = (cc, cc)
 
-cut-read : (text front back : List ℕ) → IsCut text front back → at_dots text ≡ Some (record { front = front; back = back })
+pub cut-read : (text front back : List ℕ) → IsCut text front back → at_dots text ≡ Some (record { front = front; back = back })
 cut-read [] [] back h = absurd (let j = h.joined in cc)
 cut-read [] (f ∷ fs) back h = absurd (let j = h.joined in cc)
 cut-read (b ∷ bs) [] back h =

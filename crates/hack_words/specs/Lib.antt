@@ -4,6 +4,7 @@ pub mod CliGroups
 pub mod CliLists
 pub mod CliValues
 pub mod Asked
+pub mod EnvView
 pub mod Groups
 pub mod LateView
 pub mod Lines

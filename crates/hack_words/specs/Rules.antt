@@ -10,7 +10,7 @@ use Rattle.hack_words.specs.declared.term.Coloring.{Coloring}
 use Rattle.hack_words.specs.declared.cli.fault.Beside.{Beside}
 use Rattle.hack_words.specs.declared.cli.fault.Beside.TheVariants as beside
 use Rattle.hack_words.specs.CliFaults.{Fault, Color, TermColor, Needs, Single, BesideSubcommand, Install, Clash, ClashWord, Excluded, NoSubcommand, OldRustup}
-use Rattle.hack_words.specs.CliLists.{lift_form, lift_group}
+use Rattle.hack_words.specs.CliLists.{lift_form, lift_group, first_fault_of}
 use Rattle.hack_words.specs.CliValues.{depth_fault, step_fault, log_group_fault, partition_fault, kind_fault, range_fault}
 use Rattle.hack_words.specs.Lists.{is_list}
 use Rattle.hack_words.specs.Listed.{Listed, listed}
@@ -239,8 +239,7 @@ piece_rules us =
 abbrev pub lift_rules : List Use → List (Option Fault)
 lift_rules us =
     needs (is_given opt.AllowTogether us) opt.AllowTogether beside.MutuallyExclusive (is_given opt.MutuallyExclusiveFeatures us)
-    ∷ lift_form us
-    ∷ lift_group us
+    ∷ first_fault_of (lift_form us) (lift_group us)
     ∷ []
 
 -- the rules behind that on a missing subcommand

@@ -1,5 +1,6 @@
 //! The words of a call of `cargo hack`, read into its options.
 
+mod env;
 mod fault;
 mod late_rules;
 mod listed;
@@ -9,6 +10,7 @@ mod rules;
 mod start;
 mod values;
 
+pub use env::Env;
 pub use fault::{Beside, CliFault};
 pub use hack_uses::{CutFault, OwnedFlag};
 pub use start::wants_rustup;

@@ -1,6 +1,6 @@
 //! What the user is told of words that are accepted.
 
-ghost use Rattle.std.specs.Prelude.{◌≡◌, ◌++◌, IfOk, OnOk, true, map, string_bytes, option_map};
+ghost use Rattle.std.specs.Prelude.{◌≡◌, ◌++◌, IfOk, OnOk, true, codes, map, string_bytes, option_map};
 ghost use Rattle.hack_versions.specs.Notes.{note_of};
 ghost use Rattle.hack_words.specs.Call.{note_if, unknown_words, rustup_words, rustup_notes, old_words, old_notes, editing_words, edits_words, edit_notes, new_form as newer_form};
 ghost use Rattle.hack_words.specs.RustupView.{unknown_of};
@@ -66,12 +66,18 @@ pub fn tell_rustup(
     }
 }
 
+fn inclusive(alloc: Global, front: &str, back: &str) -> Result<String, AllocError>
+    ensures { IfOk result (λ range. string_bytes range ≡ front.now ++ codes "..=" ++ back.now) }
+{
+    format!(in alloc; "{front}..={back}")
+}
+
 /// A range in its new form.
 fn new_form(alloc: Global, text: &str) -> Result<String, AllocError>
     ensures { IfOk result (λ newer. string_bytes newer ≡ newer_form text.now) }
 {
     match text.split_once("..") {
-        Some((front, back)) => format!(in alloc; "{front}..={back}"),
+        Some((front, back)) => inclusive(alloc, front, back),
         None => String::from_str(alloc, text),
     }
 }

@@ -1,0 +1,35 @@
+-- What a call looks up beside its words.
+use Rattle.std.specs.Prelude.{◌≡◌, ℕ, List, [], ◌∷◌, Bool, true, false, Option, Some, None, String, string_bytes, codes, map, option_map, bytes_eq, if◌then◌else◌}
+use Rattle.hack_words.specs.Asked.{or_else, or_next}
+use Rattle.hack_words.specs.declared.cli.env.Env.{Env}
+
+-- a variable of the environment
+pub record Variable : Type 0 where
+  pub name : List ℕ
+  pub value : List ℕ
+
+-- the variables, each a name and its value
+abbrev pub vars_of : {Y : Type 0} → List (String Y × String Y) → List Variable
+vars_of vars = map (λ v. record { name = string_bytes v.0; value = string_bytes v.1 }) vars
+
+-- the value of the first variable of a name
+abbrev pub variable : List ℕ → List Variable → Option (List ℕ)
+variable name [] = None
+variable name (v ∷ vars) = if bytes_eq v.name name then Some v.value else variable name vars
+
+-- a variable of that name is there
+abbrev pub is_set : List ℕ → List Variable → Bool
+is_set name vars = is_some (variable name vars)
+  where
+    is_some : Option (List ℕ) → Bool
+    is_some (Some value) = true
+    is_some None = false
+
+-- the environment of variables and of the current folder
+pub record IsEnv (vars : List Variable) (current_dir : List ℕ) (env : Env) : Type 0 where
+  pub term_color : option_map string_bytes env.term_color ≡ variable (codes "CARGO_TERM_COLOR") vars
+  pub github_actions : env.github_actions ≡ is_set (codes "GITHUB_ACTIONS") vars
+  pub deny_warnings : env.deny_warnings ≡ is_set (codes "CARGO_HACK_DENY_WARNINGS") vars
+  pub cargo : string_bytes env.cargo ≡ or_else (codes "cargo") (or_next (variable (codes "CARGO_HACK_CARGO_SRC") vars) (variable (codes "CARGO") vars))
+  pub rustup : string_bytes env.rustup ≡ or_else (codes "rustup") (variable (codes "CARGO_HACK_RUSTUP") vars)
+  pub folder : string_bytes env.current_dir ≡ current_dir

@@ -1,0 +1,76 @@
+//! What a call looks up beside its words: variables of the environment, and the current folder.
+
+ghost use Rattle.std.specs.Prelude.{◌≡◌, IfOk, codes, string_bytes, option_map};
+ghost use Rattle.hack_words.specs.Asked.{or_else};
+ghost use Rattle.hack_words.specs.EnvView.{IsEnv, variable as variable_named, is_set as set, vars_of};
+
+use std::alloc::{AllocError, Global};
+
+/// What a call looks up beside its words.
+#[derive(Debug, Drop)]
+pub struct Env {
+    /// `CARGO_TERM_COLOR`, cargo's own setting of colours.
+    pub term_color: Option<String>,
+    /// Whether `GITHUB_ACTIONS` is set, as it is where GitHub Actions runs the call.
+    pub github_actions: bool,
+    /// Whether `CARGO_HACK_DENY_WARNINGS` is set, so that a warning makes the call fail.
+    pub deny_warnings: bool,
+    /// The program to run as cargo: `CARGO_HACK_CARGO_SRC`, else `CARGO`, else `cargo`.
+    pub cargo: String,
+    /// The program to run as rustup: `CARGO_HACK_RUSTUP`, else `rustup`.
+    pub rustup: String,
+    /// The current folder, empty where it isn't known.
+    pub current_dir: String,
+}
+
+/// The value of the first variable of this name.
+fn variable<'a>(vars: &'a [(String, String)], name: &str) -> Option<&'a String>
+    ensures { option_map (λ value. string_bytes value.now) result ≡ variable_named name.now (vars_of vars.now) }
+{
+    for (key, value) in vars {
+        if key.as_str() == name {
+            return Some(value);
+        }
+    }
+    None
+}
+
+fn is_set(vars: &[(String, String)], name: &str) -> bool
+    ensures { result ≡ set name.now (vars_of vars.now) }
+{
+    variable(vars, name).is_some()
+}
+
+fn owned(alloc: Global, value: Option<&String>, other: &str) -> Result<String, AllocError>
+    ensures { IfOk result (λ text. string_bytes text ≡ or_else other.now (option_map (λ value. string_bytes value.now) value.entry)) }
+{
+    match value {
+        Some(value) => value.clone(),
+        None => String::from_str(alloc, other),
+    }
+}
+
+impl Env {
+    /// The environment of variables, each a name and its value, and of the current folder.
+    pub fn new(
+        alloc: Global,
+        vars: &[(String, String)],
+        current_dir: String,
+    ) -> Result<Env, AllocError>
+        ensures { IfOk result (IsEnv (vars_of vars.now) (string_bytes current_dir)) }
+    {
+        let term_color = match variable(vars, "CARGO_TERM_COLOR") {
+            Some(color) => Some(color.clone()?),
+            None => None,
+        };
+        let cargo = variable(vars, "CARGO_HACK_CARGO_SRC").or(variable(vars, "CARGO"));
+        Ok(Env {
+            term_color,
+            github_actions: is_set(vars, "GITHUB_ACTIONS"),
+            deny_warnings: is_set(vars, "CARGO_HACK_DENY_WARNINGS"),
+            cargo: owned(alloc, cargo, "cargo")?,
+            rustup: owned(alloc, variable(vars, "CARGO_HACK_RUSTUP"), "rustup")?,
+            current_dir,
+        })
+    }
+}
