@@ -95,11 +95,12 @@ abbrev pub named : List ℕ → List Opt → Option Opt
 named name [] = None
 named name (o ∷ os) = if bytes_eq (entry_of o).name name then Some o else named name os
 
+-- whether this is the letter
+abbrev pub is_letter : ℕ → Option ℕ → Bool
+is_letter c (Some l) = l == c
+is_letter c None = false
+
 -- the first option of this letter
 abbrev pub lettered : ℕ → List Opt → Option Opt
 lettered c [] = None
-lettered c (o ∷ os) = if has_letter (entry_of o).letter then Some o else lettered c os
-  where
-    has_letter : Option ℕ → Bool
-    has_letter (Some l) = l == c
-    has_letter None = false
+lettered c (o ∷ os) = if is_letter c (entry_of o).letter then Some o else lettered c os

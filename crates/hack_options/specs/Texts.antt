@@ -22,7 +22,7 @@ abbrev pub shown_with_alias : Opt → List ℕ
 shown_with_alias opt.ExcludeFeatures = codes "--exclude-features (--skip)"
 shown_with_alias o = shown o
 
--- the value that the help shows behind the name; nothing at an option that takes none
+-- the value that the help shows behind the name; nothing where the option takes none, or has it in its name
 abbrev pub value_of : Opt → List ℕ
 value_of opt.Package = codes "<SPEC>..."
 value_of opt.Exclude = codes "<SPEC>..."

@@ -21,7 +21,7 @@ pub struct HelpRow {
     /// The letter that the help shows before the name.
     pub letter: Option<char>,
     pub option: Opt,
-    /// What the help shows behind the name, as `<PATH>`; empty at an option with no value of its own word.
+    /// What the help shows behind the name, as `<PATH>`; empty where there is nothing.
     pub value: &'static str,
     /// What the option does, in a few words with no point at their end.
     pub text: &'static str,
@@ -29,7 +29,7 @@ pub struct HelpRow {
     pub paragraphs: &'static [&'static str],
 }
 
-/// What an option does.
+/// What an option does, in a few words, and what the long help says beyond that.
 #[derive(Clone, Copy)]
 struct Description {
     text: &'static str,
@@ -45,7 +45,7 @@ fn explained(text: &'static str, paragraphs: &'static [&'static str]) -> Option<
 }
 
 impl Opt {
-    /// The option's row of the help. Those that are only passed on to Cargo, and an older name, have none.
+    /// The option's row of the help. Two options of Cargo and `--include-deps-features` have none.
     pub(crate) fn help(self) -> Option<HelpRow> {
         let Description { text, paragraphs } = self.description()?;
         Some(HelpRow {
@@ -61,7 +61,7 @@ impl Opt {
         })
     }
 
-    /// The value that the help shows behind the name; empty where the next word is none, as at
+    /// The value that the help shows behind the name; empty where the option takes none, or has it in its name, as
     /// `--workspace-behavior=cargo`.
     pub(crate) fn value(self) -> &'static str
         ensures { result.now ≡ value_of self }

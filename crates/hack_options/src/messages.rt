@@ -99,8 +99,8 @@ impl Opt {
         WithAlias { option: self }
     }
 
-    /// Whether a row of the help has just this name: that of `--workspace-behavior` has its value too, and some
-    /// options that go on to Cargo have none.
+    /// Whether a row of the help has just this name: that of `--workspace-behavior` has its value too, and three
+    /// options have no row.
     fn has_usage(self) -> bool
         ensures { result ≡ named_in_help self }
     {
