@@ -7,7 +7,7 @@ use Rattle.hack_uses.specs.declared.cut.Cuts.TheVariants as cuts
 use Rattle.hack_uses.specs.declared.fault.CutFault.{CutFault}
 use Rattle.hack_uses.specs.Faults.{Fault, fault_of}
 use Rattle.hack_uses.specs.Uses.{Use, views}
-use Rattle.hack_uses.specs.Reads.{Reading, Met, End, Prints, Fails, read_of, Reads, Ends, IsLast, Tells, GivesUses, GivesNoOther}
+use Rattle.hack_uses.specs.Reads.{Reading, Met, End, Prints, Fails, read_of, Reads, Ends, IsLast, GivesUses, GivesNoOther}
 
 -- a use is not the last
 met-last : (u : Use) (l : Left) (r : Reading) → Met u l ≡ r → IsLast r → ⊥

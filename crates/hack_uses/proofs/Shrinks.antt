@@ -1,5 +1,5 @@
 -- What a use that is read leaves: less than before, and of a word only what is behind an option.
-use Rattle.std.proofs.Common.{◌≡◌, ◌+◌, ◌<◌, ◌≤◌, ℕ, List, [], ◌∷◌, ◌&&◌, ◌++◌, append-nil, append_assoc, Ok, Some, ◌∙◌, Bool, true, false, map, length, ap, sym, refl, Err, None, Option, Result, zero, suc, cond, codes, nat_lt, nat_eq, subst, drop, encode_utf8, length-drop, arith}
+use Rattle.std.proofs.Common.{◌≡◌, ◌+◌, ◌<◌, ◌≤◌, ℕ, List, [], ◌∷◌, ◌&&◌, ◌++◌, append-nil, append_assoc, Ok, Some, ◌∙◌, true, false, length, ap, sym, refl, Err, None, Option, Result, zero, suc, cond, codes, nat_lt, nat_eq, subst, drop, encode_utf8, length-drop, arith}
 use Rattle.std.specs.List.{starts_with, position_or_len, before_first, after_first}
 use Rattle.std.proofs.lemmas.Str.{length-encode, len_utf8_bounds}
 use Rattle.hack_lexopt.specs.declared.LexFault.{LexFault}
@@ -12,9 +12,9 @@ use Rattle.hack_options.specs.Table.{entry_of, meaning_of}
 use Rattle.hack_options.specs.Find.{long_option, short_option}
 use Rattle.hack_uses.specs.declared.cut.Print.{Print}
 use Rattle.hack_uses.specs.declared.cut.Print.TheVariants as print
-use Rattle.hack_uses.specs.Faults.{Flag, LongFlag, ShortFlag, Repeat, Missing, LoneQuote}
-use Rattle.hack_uses.specs.Uses.{Use, Known, Unknown, Word, is_given, subcommand_of}
-use Rattle.hack_uses.specs.Reads.{Reading, Met, End, Prints, Fails, is_quote, is_bare, unknown, with_value, with_names, with_names_or_none, question, help_of, by_kind, known, removed_of, similar_of, other, other_name, by_name, by_letter, of_cut, refused, of_next, read_of, Reads, flag_left, HasOption}
+use Rattle.hack_uses.specs.Faults.{Flag, LongFlag, ShortFlag, Repeat, LoneQuote}
+use Rattle.hack_uses.specs.Uses.{Use, Known, Unknown, is_given, subcommand_of}
+use Rattle.hack_uses.specs.Reads.{Reading, Met, End, Prints, Fails, is_quote, is_bare, unknown, with_value, with_names, with_names_or_none, question, help_of, by_kind, known, removed_of, similar_of, other, by_name, by_letter, of_cut, refused, of_next, read_of, Reads, flag_left, HasOption}
 
 -- how much is left of the words
 abbrev pub weight_of : Untaken → ℕ

@@ -1,7 +1,6 @@
 -- How words are read as uses of options, one cut after the other.
-use Rattle.std.specs.Prelude.{ℕ, ◌≡◌, List, [], ◌∷◌, ◌++◌, ◌==◌, ◌&&◌, ◌||◌, Bool, true, false, Option, Some, None, Result, Ok, Err, Vec, codes, if◌then◌else◌, IsSome, IfSome}
+use Rattle.std.specs.Prelude.{ℕ, ◌≡◌, List, [], ◌∷◌, ◌++◌, ◌==◌, ◌&&◌, ◌||◌, Bool, Option, Some, None, Result, Ok, Err, codes, if◌then◌else◌, IsSome, IfSome}
 use Rattle.std.specs.Str.{bytes_eq}
-use Rattle.std.specs.declared.alloc.Global.{Global}
 use Rattle.hack_lexopt.specs.Cuts.{Cut, LongCut, ShortCut, ValueCut, Left, next_cut, after_cut, attached, after_attached, value_of, after_value, optional_of, after_optional, unexpected_of}
 use Rattle.hack_lexopt.specs.Parsers.{start}
 use Rattle.hack_lexopt.specs.declared.LexFault.{LexFault}
@@ -9,7 +8,7 @@ use Rattle.hack_options.specs.declared.Opt.{Opt}
 use Rattle.hack_options.specs.declared.Opt.TheVariants as opt
 use Rattle.hack_options.specs.declared.Kind.{Kind}
 use Rattle.hack_options.specs.declared.Kind.TheVariants as kind
-use Rattle.hack_options.specs.Table.{Entry, entry_of, meaning_of}
+use Rattle.hack_options.specs.Table.{entry_of, meaning_of}
 use Rattle.hack_options.specs.Find.{long_option, short_option}
 use Rattle.hack_uses.specs.declared.cut.Print.{Print}
 use Rattle.hack_uses.specs.declared.cut.Print.TheVariants.{ShortHelp, LongHelp, Version}
@@ -17,7 +16,6 @@ use Rattle.hack_uses.specs.declared.cut.Cuts.{Cuts}
 use Rattle.hack_uses.specs.declared.cut.Cuts.TheVariants as cuts
 use Rattle.hack_uses.specs.declared.cut.Step.{Step}
 use Rattle.hack_uses.specs.declared.cut.Step.TheVariants as code
-use Rattle.hack_uses.specs.declared.cut.Use.{Use as CodeUse}
 use Rattle.hack_uses.specs.declared.fault.CutFault.{CutFault}
 use Rattle.hack_uses.specs.Faults.{Flag, LongFlag, ShortFlag, Fault, Missing, Unexpected, Repeat, LoneQuote, BehaviorForm, Removed, Similar, fault_of, flag_in}
 use Rattle.hack_uses.specs.Uses.{Use, Known, Unknown, Word, view, views, is_given, subcommand_of}

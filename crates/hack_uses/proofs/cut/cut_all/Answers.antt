@@ -1,10 +1,10 @@
-use Rattle.std.proofs.Common.{rules, ◌≡◌, ◌++◌, ◌∷◌, [], ◌<◌, ap, sym, ◌∙◌, Some, map, subst, List, string_bytes}
+use Rattle.std.proofs.Common.{rules, ◌≡◌, ◌++◌, ◌∷◌, [], ap, ◌∙◌, subst, List}
 use Rattle.std.proofs.lemmas.List.{map-append}
 use Rattle.hack_lexopt.specs.Parsers.{left}
 use Rattle.hack_uses.specs.declared.cut.Use.{Use}
 use Rattle.hack_uses.specs.Uses.{views, view}
-use Rattle.hack_uses.specs.Reads.{read_of, Met, Reads}
-use Rattle.hack_uses.proofs.Shrinks.{Reads-more, read-smaller, read-has_option, weight}
+use Rattle.hack_uses.specs.Reads.{read_of, Met}
+use Rattle.hack_uses.proofs.Shrinks.{Reads-more, read-smaller, read-has_option}
 use Rattle.hack_uses.proofs.cut.cut_all.Goals as goal
 
 pub loop-uses-smaller : goal.loop-uses-smaller

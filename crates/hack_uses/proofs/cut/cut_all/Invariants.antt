@@ -1,4 +1,4 @@
-use Rattle.std.proofs.Common.{◌≡◌, map, string_bytes, []}
+use Rattle.std.proofs.Common.{map, string_bytes, []}
 use Rattle.hack_lexopt.specs.Parsers.{left, start}
 use Rattle.hack_uses.specs.Reads.{Reads, HasOption}
 use Rattle.hack_uses.specs.Uses.{views}
