@@ -1,6 +1,7 @@
 pub mod CliFaults
 pub mod CliGroups
 pub mod CliLists
+pub mod CliTargets
 pub mod CliValues
 pub mod Groups
 pub mod Lines
