@@ -4,5 +4,10 @@ mod fault;
 mod named;
 mod values;
 
+#[cfg(test)]
+mod tests_of_named;
+#[cfg(test)]
+mod tests_of_values;
+
 pub use fault::{Beside, CliFault};
 pub use hack_uses::{CutFault, OwnedFlag};
