@@ -3,5 +3,6 @@ mod ListLemmas
 pub mod PieceLemmas
 mod RangeReadingLemmas
 mod ReadingLemmas
+mod TargetLemmas
 mod TextLemmas
 mod WriteLemmas

@@ -1,6 +1,8 @@
 -- What is wrong with the texts of options.
-use Rattle.std.specs.Prelude.{ℕ, ◌==◌, List, Option, Some, None, Result, Ok, Err, if◌then◌else◌}
-use Rattle.hack_words.specs.CliFaults.{BadRange, Fault, Number, ZeroStep, LogGroup, Partition, PartitionKind, Range}
+use Rattle.std.specs.Prelude.{◌≡◌, ℕ, ◌==◌, List, Option, Some, None, Result, Ok, Err, if◌then◌else◌}
+use Rattle.hack_words.specs.declared.cli.fault.CliFault.{CliFault}
+use Rattle.hack_words.specs.declared.cli.fault.CliFault.TheVariants.{Memory}
+use Rattle.hack_words.specs.CliFaults.{BadRange, Fault, fault_of, Number, ZeroStep, LogGroup, Partition, PartitionKind, Range}
 use Rattle.hack_words.specs.Readings.{number_of, log_group_of, kind_of, piece_of}
 use Rattle.hack_words.specs.RangeReadings.{range_of}
 
@@ -41,3 +43,7 @@ bad_range_fault (Err bad) = Some (Range bad)
 -- a range of versions
 abbrev pub range_fault : List ℕ → Option Fault
 range_fault text = bad_range_fault (range_of text)
+
+-- want of memory is told by its own fault, not inside another one
+abbrev pub IsPlain : CliFault → Type 0
+IsPlain e = fault_of e ≡ None → e ≡ Memory

@@ -2,7 +2,9 @@ pub mod Call
 pub mod CliFaults
 pub mod CliGroups
 pub mod CliLists
+pub mod CliTargets
 pub mod CliValues
+pub mod ArgsView
 pub mod Asked
 pub mod EnvView
 pub mod Groups

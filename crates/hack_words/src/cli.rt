@@ -1,5 +1,6 @@
 //! The words of a call of `cargo hack`, read into its options.
 
+mod args;
 mod env;
 mod fault;
 mod late_rules;
@@ -10,7 +11,14 @@ mod rules;
 mod start;
 mod values;
 
+pub use args::{Args, WorkspaceBehavior};
 pub use env::Env;
 pub use fault::{Beside, CliFault};
+pub use hack_options::{Help, Opt};
 pub use hack_uses::{CutFault, OwnedFlag};
 pub use start::wants_rustup;
+
+#[cfg(test)]
+mod tests_of_named;
+#[cfg(test)]
+mod tests_of_values;

@@ -6,6 +6,7 @@ ghost use Rattle.hack_uses.specs.Uses.{view, views, is_given};
 ghost use Rattle.hack_uses.specs.Values.{value_given};
 ghost use Rattle.hack_words.specs.Asked.{read_range, range_asked, is_old_asked, step_asked, is_message_format as message_format, group_found, log_group_asked, piece_asked, kind_asked};
 ghost use Rattle.hack_words.specs.CliFaults.{Checks};
+ghost use Rattle.hack_words.specs.CliGroups.{AreLifts};
 ghost use Rattle.hack_words.specs.CliLists.{lifts_given};
 ghost use Rattle.hack_words.specs.CliValues.{range_fault, step_fault, log_group_fault};
 ghost use Rattle.hack_words.specs.LateView.{IsLate};
@@ -175,6 +176,7 @@ fn partition(alloc: Global, uses: &[Use]) -> Result<Option<Partition>, CliFault>
 /// The exclusion groups that are lifted for a package.
 fn lifts(alloc: Global, uses: &[Use]) -> Result<Vec<(String, Feature)>, CliFault>
     ensures rules { Checks result (first_of (lift_rules (views uses.now))) }
+    ensures lifts { IfOk result (λ lifts. AreLifts (lifts_given (views uses.now)) lifts.items) }
 {
     let option = Opt::AllowTogether;
     let there = given(Opt::MutuallyExclusiveFeatures, uses);

@@ -1,6 +1,6 @@
 //! The lists that the uses of options give.
 
-ghost use Rattle.std.specs.Prelude.{◌≡◌, IfOk, Some, map, string_bytes};
+ghost use Rattle.std.specs.Prelude.{◌≡◌, [], IfOk, Some, map, string_bytes};
 ghost use Rattle.std.specs.List.{filter_map, list_any};
 ghost use Rattle.std.specs.Option.{option_map};
 ghost use Rattle.hack_features.specs.Names.{names_of};
@@ -8,6 +8,7 @@ ghost use Rattle.hack_uses.specs.Uses.{views};
 ghost use Rattle.hack_uses.specs.Values.{values_given};
 ghost use Rattle.hack_words.specs.CliFaults.{Checks, LiftForm, LiftGroup};
 ghost use Rattle.hack_words.specs.CliLists.{names_given, names_or_none, optional_given, lift_of, lifts_given, is_lift, lifts_one_of, same_names, first_failing, first_fault_of, lift_form, lift_group};
+ghost use Rattle.hack_words.specs.CliTargets.{AreRising, AreSame, put_all};
 ghost use Rattle.hack_features.specs.Feature.{IsGroup, group_of};
 ghost use Rattle.hack_words.specs.Lists.{group_names};
 ghost use Rattle.hack_words.specs.CliGroups.{AreGroupsOf, AreNormalsOf, AreLifts};
@@ -18,6 +19,7 @@ use hack_features::Feature;
 use hack_options::Opt;
 use hack_uses::{Use, given, value, values};
 use std::alloc::{AllocError, Global};
+use std::collections::BTreeSet;
 
 /// The names in all lists of an option, in order.
 pub fn names(alloc: Global, option: Opt, uses: &[Use]) -> Result<Vec<String>, AllocError>
@@ -83,6 +85,40 @@ pub fn normals(alloc: Global, names: &[String]) -> Result<Vec<Feature>, AllocErr
         features.push(Feature::normal(alloc, name.as_str())?)?;
     }
     Ok(features)
+}
+
+/// The set of these texts.
+fn set_of(alloc: Global, texts: Vec<String>) -> Result<BTreeSet<String>, AllocError>
+    ensures { IfOk result (λ set. set.keys ≡ put_all [] texts.items) }
+{
+    let mut set = BTreeSet::new(alloc);
+    for text in texts {
+        set.insert(text)?;
+    }
+    Ok(set)
+}
+
+/// The texts of a set, in order.
+fn in_order(alloc: Global, set: BTreeSet<String>) -> Result<Vec<String>, AllocError>
+    ensures keys { IfOk result (λ texts. texts.items ≡ set.keys) }
+    ensures rising { IfOk result (λ texts. AreRising (map string_bytes texts.items)) }
+{
+    let mut texts = Vec::new(alloc);
+    for text in set {
+        texts.push(text)?;
+    }
+    Ok(texts)
+}
+
+/// The values of `--target`, sorted by their bytes, each once.
+pub fn targets(alloc: Global, uses: &[Use]) -> Result<Vec<String>, AllocError>
+    ensures rising { IfOk result (λ targets. AreRising (map string_bytes targets.items)) }
+    ensures same { IfOk result (λ targets. AreSame (map string_bytes targets.items)
+        (values_given Opt.Target (views uses.now))) }
+{
+    let texts = values(alloc, Opt::Target, uses)?;
+    let set = set_of(alloc, texts)?;
+    in_order(alloc, set)
 }
 
 /// A value of `--allow-together`, cut into its package and its list of features.

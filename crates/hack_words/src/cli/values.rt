@@ -1,8 +1,8 @@
 //! What the texts of options are read as.
 
-ghost use Rattle.std.specs.Prelude.{◌≡◌, IfOk, Some, Ok};
-ghost use Rattle.hack_words.specs.CliFaults.{Checks};
-ghost use Rattle.hack_words.specs.CliValues.{depth_fault, step_fault, log_group_fault, partition_fault, kind_fault, range_fault};
+ghost use Rattle.std.specs.Prelude.{◌≡◌, IfOk, IfErr, Some, Ok, option_map};
+ghost use Rattle.hack_words.specs.CliFaults.{Checks, Range, fault_of, log_group_fault_of, partition_fault_of, bad_range_of};
+ghost use Rattle.hack_words.specs.CliValues.{IsPlain, depth_fault, step_fault, log_group_fault, partition_fault, kind_fault, range_fault};
 ghost use Rattle.hack_words.specs.Readings.{coloring_of, number_of, log_group_of, kind_of, piece_of};
 ghost use Rattle.hack_words.specs.RangeReadings.{range_of};
 
@@ -35,6 +35,7 @@ fn short(text: &str) -> Option<u16>
 pub fn depth(alloc: Global, text: &str) -> Result<usize, CliFault>
     ensures value { IfOk result (λ n. number_of 64 text.now ≡ Some n) }
     ensures checks { Checks result (depth_fault text.now) }
+    ensures plain { IfErr result IsPlain }
 {
     match whole(text) {
         Some(depth) => Ok(depth),
@@ -48,6 +49,7 @@ pub fn depth(alloc: Global, text: &str) -> Result<usize, CliFault>
 pub fn step(alloc: Global, text: &str) -> Result<u16, CliFault>
     ensures value { IfOk result (λ n. number_of 16 text.now ≡ Some n) }
     ensures checks { Checks result (step_fault text.now) }
+    ensures plain { IfErr result IsPlain }
 {
     match short(text) {
         Some(0) => Err(CliFault::ZeroStep),
@@ -58,15 +60,48 @@ pub fn step(alloc: Global, text: &str) -> Result<u16, CliFault>
     }
 }
 
+fn of_log_group(fault: LogGroupFault) -> CliFault
+    ensures tells { fault_of result ≡ log_group_fault_of fault }
+    ensures plain { IsPlain result }
+{
+    match fault {
+        LogGroupFault::Name(_) => CliFault::LogGroup { fault },
+        LogGroupFault::Memory => CliFault::Memory,
+    }
+}
+
+fn of_partition(fault: PartitionFault) -> CliFault
+    ensures tells { fault_of result ≡ partition_fault_of fault }
+    ensures plain { IsPlain result }
+{
+    match fault {
+        PartitionFault::Piece(_) => CliFault::Partition { fault },
+        PartitionFault::Kind(_) => CliFault::Partition { fault },
+        PartitionFault::Memory => CliFault::Memory,
+    }
+}
+
+fn of_range(fault: VersionFault) -> CliFault
+    ensures tells { fault_of result ≡ option_map Range (bad_range_of fault) }
+    ensures plain { IsPlain result }
+{
+    match fault {
+        VersionFault::MissingMinor => CliFault::Range { fault },
+        VersionFault::BadNumber(_) => CliFault::Range { fault },
+        VersionFault::OpenInclusive(_) => CliFault::Range { fault },
+        VersionFault::Memory => CliFault::Memory,
+    }
+}
+
 /// A kind of log groups.
 pub fn log_group(alloc: Global, text: &str) -> Result<LogGroup, CliFault>
     ensures value { IfOk result (λ group. log_group_of text.now ≡ Some group) }
     ensures checks { Checks result (log_group_fault text.now) }
+    ensures plain { IfErr result IsPlain }
 {
     match LogGroup::parse(alloc, text) {
         Ok(group) => Ok(group),
-        Err(LogGroupFault::Memory) => Err(CliFault::Memory),
-        Err(fault) => Err(CliFault::LogGroup { fault }),
+        Err(fault) => Err(of_log_group(fault)),
     }
 }
 
@@ -75,11 +110,11 @@ pub fn partition(alloc: Global, text: &str) -> Result<Partition, CliFault>
     ensures value { IfOk result (λ p. piece_of text.now ≡ Some (record { piece = p.piece; count = p.count })) }
     ensures blocks { IfOk result (λ p. p.kind ≡ PartitionKind.Block) }
     ensures checks { Checks result (partition_fault text.now) }
+    ensures plain { IfErr result IsPlain }
 {
     match Partition::parse(alloc, text) {
         Ok(partition) => Ok(partition),
-        Err(PartitionFault::Memory) => Err(CliFault::Memory),
-        Err(fault) => Err(CliFault::Partition { fault }),
+        Err(fault) => Err(of_partition(fault)),
     }
 }
 
@@ -87,11 +122,11 @@ pub fn partition(alloc: Global, text: &str) -> Result<Partition, CliFault>
 pub fn kind(alloc: Global, text: &str) -> Result<PartitionKind, CliFault>
     ensures value { IfOk result (λ kind. kind_of text.now ≡ Some kind) }
     ensures checks { Checks result (kind_fault text.now) }
+    ensures plain { IfErr result IsPlain }
 {
     match PartitionKind::parse(alloc, text) {
         Ok(kind) => Ok(kind),
-        Err(PartitionFault::Memory) => Err(CliFault::Memory),
-        Err(fault) => Err(CliFault::Partition { fault }),
+        Err(fault) => Err(of_partition(fault)),
     }
 }
 
@@ -99,10 +134,10 @@ pub fn kind(alloc: Global, text: &str) -> Result<PartitionKind, CliFault>
 pub fn range(alloc: Global, text: &str) -> Result<(VersionRange, bool), CliFault>
     ensures value { IfOk result (λ read. range_of text.now ≡ Ok (record { range = read.0; old = read.1 })) }
     ensures checks { Checks result (range_fault text.now) }
+    ensures plain { IfErr result IsPlain }
 {
     match VersionRange::parse(alloc, text) {
         Ok(range) => Ok(range),
-        Err(VersionFault::Memory) => Err(CliFault::Memory),
-        Err(fault) => Err(CliFault::Range { fault }),
+        Err(fault) => Err(of_range(fault)),
     }
 }

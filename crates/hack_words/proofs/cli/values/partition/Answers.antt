@@ -10,5 +10,5 @@ returns-in-Ok-clause-value c = piece-read c.args.text.now c.in-Ok.partition.piec
 pub returns-in-Ok-clause-checks : goal.returns-in-Ok-clause-checks
 returns-in-Ok-clause-checks c = ap (unless_read (Partition c.args.text.now)) (piece-read c.args.text.now c.in-Ok.partition.piece c.in-Ok.partition.count c.in-Ok.ensures.piece)
 
-pub returns-in-Err : goal.returns-in-Err
-returns-in-Err c = record { value = tt; blocks = tt; checks = piece-refused c.args.text.now c.in-Err.fault c.in-Err.ensures.refused }
+pub returns-in-Err-clause-checks : goal.returns-in-Err-clause-checks
+returns-in-Err-clause-checks c = rw c.of_partition.ensures.tells (piece-refused c.args.text.now c.in-Err.fault c.in-Err.ensures.refused)

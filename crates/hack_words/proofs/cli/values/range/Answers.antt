@@ -9,5 +9,5 @@ returns-in-Ok-clause-value c = range-read c.args.text.now c.in-Ok.range.0 c.in-O
 pub returns-in-Ok-clause-checks : goal.returns-in-Ok-clause-checks
 returns-in-Ok-clause-checks c = ap bad_range_fault (range-read c.args.text.now c.in-Ok.range.0 c.in-Ok.range.1 c.in-Ok.ensures.ok)
 
-pub returns-in-Err : goal.returns-in-Err
-returns-in-Err c = record { value = tt; checks = range-refused c.args.text.now c.in-Err.fault c.in-Err.ensures.err }
+pub returns-in-Err-clause-checks : goal.returns-in-Err-clause-checks
+returns-in-Err-clause-checks c = rw c.of_range.ensures.tells (range-refused c.args.text.now c.in-Err.fault c.in-Err.ensures.err)

@@ -1,0 +1,6 @@
+use Rattle.std.proofs.Common.{◌≡◌, ◌++◌, codes, string_bytes}
+use Rattle.std.specs.List.{repeat}
+use Rattle.hack_words.proofs.cli.args.verbose_word.Given as goal
+
+abbrev pub invariant-loop-t : goal.invariant-loop-t
+invariant-loop-t l = ?

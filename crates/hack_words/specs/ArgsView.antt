@@ -1,0 +1,88 @@
+-- What arguments say, field by field.
+use Rattle.std.specs.Prelude.{ℕ, ◌≡◌, List, Bool, Option, IfSome, option_map, string_bytes, if◌then◌else◌}
+use Rattle.hack_features.specs.Names.{names_of}
+use Rattle.hack_options.specs.declared.Opt.TheVariants as opt
+use Rattle.hack_uses.specs.Uses.{Use, is_given, subcommand_of}
+use Rattle.hack_uses.specs.Values.{value_given, values_given}
+use Rattle.hack_words.specs.declared.cli.args.Args.{Args}
+use Rattle.hack_words.specs.declared.cli.args.Read.{Read}
+use Rattle.hack_words.specs.declared.cli.args.WorkspaceBehavior.{WorkspaceBehavior}
+use Rattle.hack_words.specs.declared.cli.args.WorkspaceBehavior.TheVariants.{Cargo, Default}
+use Rattle.hack_words.specs.Asked.{coloring_asked, depth_asked, range_asked, step_asked, log_group_asked, piece_asked, kind_asked, leading_asked, excluded_asked, excludes_no_default, excludes_all, ignores_private}
+use Rattle.hack_words.specs.CliGroups.{AreGroupsOf, AreNormalsOf, AreLifts}
+use Rattle.hack_words.specs.CliLists.{names_given, optional_given, lifts_given}
+use Rattle.hack_words.specs.CliTargets.{AreRising, AreSame}
+
+-- the options without a value
+pub record HasFlags (us : List Use) (args : Args) : Type 0 where
+  pub no_manifest_path : args.no_manifest_path ≡ is_given opt.NoManifestPath us
+  pub locked : args.locked ≡ is_given opt.Locked us
+  pub workspace : args.workspace ≡ is_given opt.Workspace us
+  pub each_feature : args.each_feature ≡ is_given opt.EachFeature us
+  pub feature_powerset : args.feature_powerset ≡ is_given opt.FeaturePowerset us
+  pub no_dev_deps : args.no_dev_deps ≡ is_given opt.NoDevDeps us
+  pub remove_dev_deps : args.remove_dev_deps ≡ is_given opt.RemoveDevDeps us
+  pub no_private : args.no_private ≡ is_given opt.NoPrivate us
+  pub ignore_private : args.ignore_private ≡ ignores_private us
+  pub ignore_unknown_features : args.ignore_unknown_features ≡ is_given opt.IgnoreUnknownFeatures us
+  pub clean_per_run : args.clean_per_run ≡ is_given opt.CleanPerRun us
+  pub clean_per_version : args.clean_per_version ≡ is_given opt.CleanPerVersion us
+  pub keep_going : args.keep_going ≡ is_given opt.KeepGoing us
+  pub print_command_list : args.print_command_list ≡ is_given opt.PrintCommandList us
+  pub include_deps_features : args.include_deps_features ≡ is_given opt.IncludeDepsFeatures us
+  pub no_default_features : args.no_default_features ≡ is_given opt.NoDefaultFeatures us
+  pub verbose : args.verbose ≡ is_given opt.Verbose us
+  pub exclude_no_default_features : args.exclude_no_default_features ≡ excludes_no_default us
+  pub exclude_all_features : args.exclude_all_features ≡ excludes_all us
+
+-- the words and lists of words
+pub record HasTexts (cargo : Bool) (us : List Use) (args : Args) : Type 0 where
+  pub leading_args : names_of args.leading_args.items ≡ leading_asked cargo us
+  pub subcommand : option_map string_bytes args.subcommand ≡ subcommand_of us
+  pub manifest_path : option_map string_bytes args.manifest_path ≡ value_given opt.ManifestPath us
+  pub packages : names_of args.«package».items ≡ values_given opt.Package us
+  pub exclude : names_of args.exclude.items ≡ values_given opt.Exclude us
+  pub features : names_of args.features.items ≡ names_given opt.Features us
+  pub exclude_features : names_of args.exclude_features.items ≡ excluded_asked us
+  pub optional_deps : option_map (λ names. names_of names.items) args.optional_deps ≡ optional_given us
+  pub target_rising : AreRising (names_of args.target.items)
+  pub target_same : AreSame (names_of args.target.items) (values_given opt.Target us)
+
+-- the features and their groups
+pub record HasFeatures (us : List Use) (args : Args) : Type 0 where
+  pub include_features : AreNormalsOf (names_given opt.IncludeFeatures us) args.include_features.items
+  pub group_features : AreGroupsOf (values_given opt.GroupFeatures us) args.group_features.items
+  pub mutually_exclusive_features : AreGroupsOf (values_given opt.MutuallyExclusiveFeatures us) args.mutually_exclusive_features.items
+  pub at_least_one_of : AreGroupsOf (values_given opt.AtLeastOneOf us) args.at_least_one_of.items
+
+-- what the rules read, as it was read
+pub record Carries (read : Read) (args : Args) : Type 0 where
+  pub trailing_args : args.trailing_args ≡ read.trailing
+  pub workspace_behavior : args.workspace_behavior ≡ (if read.cargo then Cargo else Default)
+  pub coloring : args.coloring ≡ read.early.coloring
+  pub depth : args.depth ≡ read.early.depth
+  pub version_range : args.version_range ≡ read.late.versions.range
+  pub version_step : args.version_step ≡ read.late.versions.step
+  pub log_group : args.log_group ≡ read.late.log_group
+  pub partition : args.partition ≡ read.late.partition
+  pub allow_together : args.allow_together ≡ read.late.lifts
+
+-- the values that are read beside the environment
+pub record HasValues (term_color : Option (List ℕ)) (github_actions cargo : Bool) (trailing : List (List ℕ)) (us : List Use) (args : Args) : Type 0 where
+  pub trailing_args : names_of args.trailing_args.items ≡ trailing
+  pub workspace_behavior : args.workspace_behavior ≡ (if cargo then Cargo else Default)
+  pub coloring : args.coloring ≡ coloring_asked term_color us
+  pub depth : args.depth ≡ depth_asked us
+  pub version_range : args.version_range ≡ range_asked us
+  pub version_step : args.version_step ≡ step_asked us
+  pub log_group : args.log_group ≡ log_group_asked github_actions us
+  pub piece : option_map (λ p. record { piece = p.piece; count = p.count }) args.partition ≡ piece_asked us
+  pub kind : IfSome args.partition (λ p. p.kind ≡ kind_asked us)
+  pub allow_together : AreLifts (lifts_given us) args.allow_together.items
+
+-- all fields
+pub record IsAsked (term_color : Option (List ℕ)) (github_actions cargo : Bool) (trailing : List (List ℕ)) (us : List Use) (args : Args) : Type 0 where
+  pub flags : HasFlags us args
+  pub texts : HasTexts cargo us args
+  pub features : HasFeatures us args
+  pub values : HasValues term_color github_actions cargo trailing us args

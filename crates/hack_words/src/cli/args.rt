@@ -1,0 +1,247 @@
+//! What a call asks for.
+
+ghost use Rattle.std.specs.Prelude.{◌≡◌, ◌++◌, IfOk, OnOk, codes, map, string_bytes, option_map, if◌then◌else◌};
+ghost use Rattle.std.specs.List.{repeat};
+ghost use Rattle.hack_features.specs.Names.{names_of};
+ghost use Rattle.hack_uses.specs.Passed.{leading_of};
+ghost use Rattle.hack_uses.specs.Uses.{views, subcommand_of};
+ghost use Rattle.hack_uses.specs.Values.{value_given, values_given};
+ghost use Rattle.hack_words.specs.Asked.{verbose_words};
+
+use crate::cli::late_rules::Late;
+use crate::cli::listed::Lists;
+use crate::cli::named;
+use crate::cli::rules::Early;
+use crate::partition::Partition;
+use crate::term::{Coloring, LogGroup};
+use hack_features::Feature;
+use hack_options::Opt;
+use hack_uses::{Use, count, given, subcommand, value, values};
+use hack_versions::version::VersionRange;
+use std::alloc::{AllocError, Global};
+
+/// Who chooses the packages of a workspace that a command runs on.
+#[derive(Clone, Copy, Debug, PartialEq, Eq)]
+pub enum WorkspaceBehavior {
+    /// Cargo does.
+    Cargo,
+    /// This program does, and runs one command for each package.
+    Default,
+}
+
+impl WorkspaceBehavior {
+    /// The behaviour where Cargo's own is asked for, or not.
+    pub fn new(cargo: bool) -> WorkspaceBehavior
+        ensures { result ≡ (if cargo then WorkspaceBehavior.Cargo else WorkspaceBehavior.Default) }
+    {
+        if cargo {
+            WorkspaceBehavior::Cargo
+        } else {
+            WorkspaceBehavior::Default
+        }
+    }
+}
+
+/// What a call asks for.
+#[derive(Drop)]
+pub struct Args {
+    /// Words for cargo, in order: the subcommand, options that are unknown here, and those that are for both.
+    pub leading_args: Vec<String>,
+    /// The words behind the first `--`.
+    pub trailing_args: Vec<String>,
+    pub subcommand: Option<String>,
+    pub manifest_path: Option<String>,
+    pub no_manifest_path: bool,
+    pub locked: bool,
+    /// Specifications of the packages to run on.
+    pub package: Vec<String>,
+    /// Specifications of packages to leave out.
+    pub exclude: Vec<String>,
+    pub workspace: bool,
+    pub each_feature: bool,
+    pub feature_powerset: bool,
+    pub no_dev_deps: bool,
+    pub remove_dev_deps: bool,
+    pub no_private: bool,
+    /// Private packages are skipped; `--no-private` implies it.
+    pub ignore_private: bool,
+    pub ignore_unknown_features: bool,
+    pub clean_per_run: bool,
+    pub clean_per_version: bool,
+    pub keep_going: bool,
+    pub partition: Option<Partition>,
+    pub print_command_list: bool,
+    /// `--version-range`, or the packages' own versions for `--rust-version`.
+    pub version_range: Option<VersionRange>,
+    /// From 1.
+    pub version_step: u16,
+    pub log_group: LogGroup,
+    pub workspace_behavior: WorkspaceBehavior,
+    pub coloring: Coloring,
+    /// None where they aren't asked for, and empty where all of them are.
+    pub optional_deps: Option<Vec<String>>,
+    pub include_features: Vec<Feature>,
+    pub include_deps_features: bool,
+    /// The features that no combination has: those of `--exclude-features`, and those of `--features`, which are
+    /// always there.
+    pub exclude_features: Vec<String>,
+    /// The run without default features is left out; other options imply it too.
+    pub exclude_no_default_features: bool,
+    /// The run with all features is left out; other options imply it too.
+    pub exclude_all_features: bool,
+    /// The most features of one combination.
+    pub depth: Option<usize>,
+    pub group_features: Vec<Feature>,
+    pub mutually_exclusive_features: Vec<Feature>,
+    /// Packages, and for each an exclusion group that isn't applied to it.
+    pub allow_together: Vec<(String, Feature)>,
+    pub at_least_one_of: Vec<Feature>,
+    /// Features that each run has.
+    pub features: Vec<String>,
+    /// Sorted by their bytes, each once.
+    pub target: Vec<String>,
+    pub no_default_features: bool,
+    pub verbose: bool,
+}
+
+/// The words that say `-v` to cargo: once less than it was said.
+fn verbose_word(alloc: Global, times: usize) -> Result<String, AllocError>
+    ensures { IfOk result (λ word. string_bytes word ≡ codes "-" ++ repeat times (codes "v")) }
+{
+    let mut word = String::from_str(alloc, "-")?;
+    for _ in 0..times {
+        word.push_str("v")?;
+    }
+    Ok(word)
+}
+
+/// Passes `-v` on to cargo, once less than it was said.
+fn pass_verbose(alloc: Global, leading: &mut Vec<String>, said: usize) -> Result<(), AllocError>
+    ensures { OnOk result (names_of leading.new.items ≡ names_of leading.old.items ++ verbose_words said) }
+{
+    if said > 1 {
+        leading.push(verbose_word(alloc, said - 1)?)?;
+    }
+    Ok(())
+}
+
+/// The list behind another.
+fn with_features(excluded: &mut Vec<String>, features: &[String]) -> Result<(), AllocError>
+    ensures { OnOk result (names_of excluded.new.items ≡ names_of excluded.old.items ++ names_of features.now) }
+{
+    for feature in features {
+        excluded.push(feature.clone()?)?;
+    }
+    Ok(())
+}
+
+fn owned(word: Option<&String>) -> Result<Option<String>, AllocError>
+    ensures { IfOk result (λ text. option_map string_bytes text ≡ option_map (λ word. string_bytes word.now) word.entry) }
+{
+    match word {
+        Some(word) => Ok(Some(word.clone()?)),
+        None => Ok(None),
+    }
+}
+
+/// What is read of the words before the arguments are put together.
+#[derive(Drop)]
+pub struct Read {
+    pub cargo: bool,
+    /// The words for cargo, without `-v`.
+    pub leading: Vec<String>,
+    pub trailing: Vec<String>,
+    pub lists: Lists,
+    pub early: Early,
+    pub late: Late,
+}
+
+impl Args {
+    ghost use Rattle.hack_words.specs.ArgsView.{HasFlags, HasTexts, HasFeatures, Carries};
+    ghost use Rattle.hack_words.specs.CliGroups.{AreGroupsOf};
+    ghost use Rattle.hack_words.specs.Listed.{listed};
+    ghost use Rattle.hack_words.specs.ListsView.{listed_in};
+
+    /// The arguments that uses of options and what was read of them say.
+    pub(crate) fn of(alloc: Global, read: Read, uses: &[Use]) -> Result<Args, AllocError>
+        requires leading { names_of read.leading.items ≡ leading_of read.cargo (views uses.now) }
+        requires listed { listed_in read.lists ≡ listed (views uses.now) }
+        requires groups { AreGroupsOf (values_given Opt.GroupFeatures (views uses.now)) read.lists.group_features.items }
+        requires exclusive { AreGroupsOf (values_given Opt.MutuallyExclusiveFeatures (views uses.now)) read.lists.mutually_exclusive_features.items }
+        ensures flags { IfOk result (HasFlags (views uses.now)) }
+        ensures texts { IfOk result (HasTexts read.cargo (views uses.now)) }
+        ensures features { IfOk result (HasFeatures (views uses.now)) }
+        ensures carries { IfOk result (Carries read) }
+    {
+        let Read {
+            cargo,
+            leading: mut leading_args,
+            trailing: trailing_args,
+            lists,
+            early,
+            late,
+        } = read;
+        let said = count(Opt::Verbose, uses);
+        pass_verbose(alloc, &mut leading_args, said)?;
+        let Lists {
+            features,
+            include_features: includes,
+            exclude_features: mut excludes,
+            optional_deps,
+            group_features,
+            mutually_exclusive_features,
+        } = lists;
+        let some_included = !includes.is_empty();
+        let some_excluded = !excludes.is_empty();
+        with_features(&mut excludes, features.as_slice())?;
+        let no_private = given(Opt::NoPrivate, uses);
+        Ok(Args {
+            leading_args,
+            trailing_args,
+            subcommand: owned(subcommand(uses))?,
+            manifest_path: owned(value(Opt::ManifestPath, uses))?,
+            no_manifest_path: given(Opt::NoManifestPath, uses),
+            locked: given(Opt::Locked, uses),
+            package: values(alloc, Opt::Package, uses)?,
+            exclude: values(alloc, Opt::Exclude, uses)?,
+            workspace: given(Opt::Workspace, uses),
+            each_feature: given(Opt::EachFeature, uses),
+            feature_powerset: given(Opt::FeaturePowerset, uses),
+            no_dev_deps: given(Opt::NoDevDeps, uses),
+            remove_dev_deps: given(Opt::RemoveDevDeps, uses),
+            no_private,
+            ignore_private: given(Opt::IgnorePrivate, uses) || no_private,
+            ignore_unknown_features: given(Opt::IgnoreUnknownFeatures, uses),
+            clean_per_run: given(Opt::CleanPerRun, uses),
+            clean_per_version: given(Opt::CleanPerVersion, uses),
+            keep_going: given(Opt::KeepGoing, uses),
+            partition: late.partition,
+            print_command_list: given(Opt::PrintCommandList, uses),
+            version_range: late.versions.range,
+            version_step: late.versions.step,
+            log_group: late.log_group,
+            workspace_behavior: WorkspaceBehavior::new(cargo),
+            coloring: early.coloring,
+            optional_deps,
+            include_features: named::normals(alloc, includes.as_slice())?,
+            include_deps_features: given(Opt::IncludeDepsFeatures, uses),
+            exclude_features: excludes,
+            exclude_no_default_features: given(Opt::ExcludeNoDefaultFeatures, uses)
+                || given(Opt::AtLeastOneOf, uses)
+                || some_included,
+            exclude_all_features: given(Opt::ExcludeAllFeatures, uses)
+                || some_included
+                || some_excluded
+                || given(Opt::MutuallyExclusiveFeatures, uses),
+            depth: early.depth,
+            group_features,
+            mutually_exclusive_features,
+            allow_together: late.lifts,
+            at_least_one_of: named::groups(alloc, Opt::AtLeastOneOf, uses)?,
+            features,
+            target: named::targets(alloc, uses)?,
+            no_default_features: given(Opt::NoDefaultFeatures, uses),
+            verbose: given(Opt::Verbose, uses),
+        })
+    }
+}
