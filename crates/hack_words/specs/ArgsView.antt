@@ -11,6 +11,7 @@ use Rattle.hack_words.specs.declared.cli.args.WorkspaceBehavior.TheVariants.{Car
 use Rattle.hack_words.specs.Asked.{coloring_asked, depth_asked, range_asked, step_asked, log_group_asked, piece_asked, kind_asked, leading_asked, excluded_asked, excludes_no_default, excludes_all, ignores_private}
 use Rattle.hack_words.specs.CliGroups.{AreGroupsOf, AreNormalsOf, AreLifts}
 use Rattle.hack_words.specs.CliLists.{names_given, optional_given, lifts_given}
+use Rattle.hack_words.specs.Listed.{listed}
 use Rattle.hack_words.specs.CliTargets.{AreRising, AreSame}
 
 -- the options without a value
@@ -32,8 +33,8 @@ pub record HasFlags (us : List Use) (args : Args) : Type 0 where
   pub include_deps_features : args.include_deps_features ≡ is_given opt.IncludeDepsFeatures us
   pub no_default_features : args.no_default_features ≡ is_given opt.NoDefaultFeatures us
   pub verbose : args.verbose ≡ is_given opt.Verbose us
-  pub exclude_no_default_features : args.exclude_no_default_features ≡ excludes_no_default us
-  pub exclude_all_features : args.exclude_all_features ≡ excludes_all us
+  pub exclude_no_default_features : args.exclude_no_default_features ≡ excludes_no_default (listed us) us
+  pub exclude_all_features : args.exclude_all_features ≡ excludes_all (listed us) us
 
 -- the words and lists of words
 pub record HasTexts (cargo : Bool) (us : List Use) (args : Args) : Type 0 where

@@ -17,6 +17,7 @@ use Rattle.hack_words.specs.declared.partition.PartitionKind.{PartitionKind}
 use Rattle.hack_words.specs.declared.partition.PartitionKind.TheVariants.{Block}
 use Rattle.hack_words.specs.CliFaults.{BadRange}
 use Rattle.hack_words.specs.CliLists.{names_given, groups_given, optional_given}
+use Rattle.hack_words.specs.Listed.{Listed}
 use Rattle.hack_words.specs.RangeReadings.{ReadRange, range_of}
 use Rattle.hack_words.specs.Readings.{Piece, coloring_of, log_group_of, kind_of, number_of, piece_of}
 use Rattle.hack_words.specs.Rules.{is_nonempty}
@@ -99,14 +100,13 @@ abbrev pub excluded_asked : List Use → List (List ℕ)
 excluded_asked us = names_given opt.ExcludeFeatures us ++ names_given opt.Features us
 
 -- the run without default features is left out
-abbrev pub excludes_no_default : List Use → Bool
-excludes_no_default us = is_given opt.ExcludeNoDefaultFeatures us || is_given opt.AtLeastOneOf us || is_nonempty (names_given opt.IncludeFeatures us)
+abbrev pub excludes_no_default : Listed → List Use → Bool
+excludes_no_default l us = is_given opt.ExcludeNoDefaultFeatures us || is_given opt.AtLeastOneOf us || is_nonempty l.includes
 
 -- the run with all features is left out
-abbrev pub excludes_all : List Use → Bool
-excludes_all us =
-    is_given opt.ExcludeAllFeatures us || is_nonempty (names_given opt.IncludeFeatures us)
-    || is_nonempty (names_given opt.ExcludeFeatures us) || is_given opt.MutuallyExclusiveFeatures us
+abbrev pub excludes_all : Listed → List Use → Bool
+excludes_all l us =
+    is_given opt.ExcludeAllFeatures us || is_nonempty l.includes || is_nonempty l.excludes || is_given opt.MutuallyExclusiveFeatures us
 
 -- private packages are skipped
 abbrev pub ignores_private : List Use → Bool

@@ -10,7 +10,7 @@ use Rattle.hack_versions.specs.declared.notice.NoticeKind.{NoticeKind}
 use Rattle.hack_versions.specs.declared.notice.NoticeKind.TheVariants.{Info, Warn, QuietWarn}
 use Rattle.hack_words.specs.Asked.{is_old_asked}
 use Rattle.hack_words.specs.CliFaults.{Fault, Cut}
-use Rattle.hack_words.specs.CliLists.{names_given}
+use Rattle.hack_words.specs.Listed.{Listed, listed}
 use Rattle.hack_words.specs.RangeReadings.{Sides, at_dots}
 use Rattle.hack_words.specs.Rules.{Verdict, Accepted, Lists, Refused, is_nonempty, is_ranged, verdict_of}
 use Rattle.hack_words.specs.Start.{Start, Refuses, Cuts, start_of}
@@ -45,13 +45,14 @@ IsEnd around cargo trailing us (Questions print) outcome = outcome ≡ Printed p
 IsEnd around cargo trailing us (Fails fault) outcome = outcome ≡ Faulty (Cut fault)
 IsEnd around cargo trailing us (Met one left) outcome = ⊥
 
--- what words come to: they begin with hack, are cut up to the first fault or question, and then judged
+-- what words come to that begin so: they are cut up to the first fault or question, and then judged
+abbrev pub ComesFrom : Around → Start → Outcome → Type 0
+ComesFrom around (Refuses fault) outcome = outcome ≡ Faulty fault
+ComesFrom around (Cuts cargo cut trailing) outcome = (us : List Use) × (end : Reading) × Ends cut us end × IsEnd around cargo trailing us end outcome
+
+-- what words come to
 abbrev pub ComesTo : Around → List (List ℕ) → Outcome → Type 0
-ComesTo around words outcome = begins (start_of words)
-  where
-    begins : Start → Type 0
-    begins (Refuses fault) = outcome ≡ Faulty fault
-    begins (Cuts cargo cut trailing) = (us : List Use) × (end : Reading) × Ends cut us end × IsEnd around cargo trailing us end outcome
+ComesTo around words outcome = ComesFrom around (start_of words) outcome
 
 -- a notice where a test is true
 abbrev pub note_if : Bool → NoticeKind → List ℕ → List Note
@@ -61,10 +62,13 @@ note_if b kind text = if b then record { kind = kind; text = text } ∷ [] else 
 abbrev pub unknown_words : List ℕ
 unknown_words = codes "--ignore-unknown-features for --include-features is not fully implemented and may not work as intended"
 
+-- unknown features are asked to be ignored where they aren't
+abbrev pub in_vain : Listed → List Use → Bool
+in_vain l us = is_given opt.IgnoreUnknownFeatures us && is_nonempty l.includes
+
 -- unknown features are not ignored everywhere
 abbrev pub unknown_notes : List Use → List Note
-unknown_notes us =
-    note_if (is_given opt.IgnoreUnknownFeatures us && is_nonempty (names_given opt.IncludeFeatures us)) QuietWarn unknown_words
+unknown_notes us = note_if (in_vain (listed us) us) QuietWarn unknown_words
 
 -- the text on rustup
 abbrev pub rustup_words : List ℕ → List ℕ
@@ -106,10 +110,14 @@ edits_words flags = flags ++ codes " real `Cargo.toml` while cargo-hack is runni
 abbrev pub edit_notes : Bool → Bool → List Note
 edit_notes no_dev_deps no_private =
     note_if (no_dev_deps || no_private) Info (edits_words (editing_words no_dev_deps no_private))
--- the notices on accepted words, in order
-abbrev pub notes_on : Around → List Use → List Note
-notes_on around us =
-    unknown_notes us
-    ++ rustup_notes (is_ranged us) around.unknown
+
+-- the notices behind it, with why rustup's version isn't known
+abbrev pub later_notes : Option (List ℕ) → List Use → List Note
+later_notes unknown us =
+    rustup_notes (is_ranged us) unknown
     ++ old_notes (is_old_asked us) (value_given opt.VersionRange us)
     ++ edit_notes (is_given opt.NoDevDeps us) (is_given opt.NoPrivate us)
+
+-- the notices on accepted words, in order
+abbrev pub notes_on : Around → List Use → List Note
+notes_on around us = unknown_notes us ++ later_notes around.unknown us

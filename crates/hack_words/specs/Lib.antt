@@ -4,6 +4,7 @@ pub mod CliGroups
 pub mod CliLists
 pub mod CliTargets
 pub mod CliValues
+pub mod Answers
 pub mod ArgsView
 pub mod Asked
 pub mod EnvView

@@ -263,14 +263,19 @@ refused_by (Some fault) verdict = Refused fault
 refused_by None verdict = verdict
 
 -- with no subcommand cargo's list is asked, or manifests are edited alone
-abbrev pub without_subcommand : Bool → Option (List ℕ) → List Use → Verdict → Verdict
-without_subcommand cargo (Some word) us verdict = verdict
-without_subcommand cargo None us verdict =
-    if is_among (leading_of cargo us) (codes "--list") then Lists
-    else if is_given opt.RemoveDevDeps us then verdict else Refused NoSubcommand
+abbrev pub bare_verdict : Bool → Option (List ℕ) → List Use → Option Verdict
+bare_verdict cargo (Some word) us = None
+bare_verdict cargo None us =
+    if is_among (leading_of cargo us) (codes "--list") then Some Lists
+    else if is_given opt.RemoveDevDeps us then None else Some (Refused NoSubcommand)
+
+-- that verdict, if there is one
+abbrev pub verdict_or : Option Verdict → Verdict → Verdict
+verdict_or (Some verdict) other = verdict
+verdict_or None other = other
 
 -- the verdict on uses: the first rule that gives a fault refuses them
 abbrev pub verdict_of : Bool → Option (List ℕ) → Option ℕ → List Use → Verdict
 verdict_of cargo term_color rustup us =
     refused_by (first_of (rules_before cargo term_color (listed us) us))
-      (without_subcommand cargo (subcommand_of us) us (refused_by (first_of (rules_after rustup us)) Accepted))
+      (verdict_or (bare_verdict cargo (subcommand_of us) us) (refused_by (first_of (rules_after rustup us)) Accepted))

@@ -9,9 +9,13 @@ use Rattle.hack_words.specs.declared.cli.start.Start.{Start as CodeStart}
 use Rattle.hack_words.specs.CliFaults.{fault_of, Cut}
 use Rattle.hack_words.specs.Start.{Start, Refuses, Cuts, start_of, behaviors, cut_words}
 
+-- how words begin that the code has looked at
+abbrev pub start_in : CodeStart → Start
+start_in start = Cuts start.cargo (names_of start.words.items) (names_of start.trailing.items)
+
 -- what the code answers is how the words begin
 abbrev pub Begins : Result CodeStart CliFault → List (List ℕ) → Type 0
-Begins (Ok start) words = start_of words ≡ Cuts start.cargo (names_of start.words.items) (names_of start.trailing.items)
+Begins (Ok start) words = start_of words ≡ start_in start
 Begins (Err e) words = IfSome (fault_of e) (λ fault. start_of words ≡ Refuses fault)
 
 -- what the code takes out of the words in front, or the fault of a second one

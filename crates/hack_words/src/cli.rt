@@ -7,6 +7,7 @@ mod late_rules;
 mod listed;
 mod named;
 mod notes;
+mod parse;
 mod rules;
 mod start;
 mod values;
@@ -16,6 +17,7 @@ pub use env::Env;
 pub use fault::{Beside, CliFault};
 pub use hack_options::{Help, Opt};
 pub use hack_uses::{CutFault, OwnedFlag};
+pub use parse::Parsed;
 pub use start::wants_rustup;
 
 #[cfg(test)]

@@ -6,12 +6,13 @@ ghost use Rattle.hack_features.specs.Names.{names_of};
 ghost use Rattle.hack_uses.specs.Passed.{leading_of};
 ghost use Rattle.hack_uses.specs.Uses.{views, subcommand_of};
 ghost use Rattle.hack_uses.specs.Values.{value_given, values_given};
-ghost use Rattle.hack_words.specs.Asked.{verbose_words};
+ghost use Rattle.hack_words.specs.Asked.{verbose_words, excludes_no_default, excludes_all, ignores_private as private_ignored};
+ghost use Rattle.hack_words.specs.ListsView.{listed_in};
 
 use crate::cli::late_rules::Late;
 use crate::cli::listed::Lists;
 use crate::cli::named;
-use crate::cli::rules::Early;
+use crate::cli::rules::{Early, has_some};
 use crate::partition::Partition;
 use crate::term::{Coloring, LogGroup};
 use hack_features::Feature;
@@ -144,6 +145,31 @@ fn owned(word: Option<&String>) -> Result<Option<String>, AllocError>
     }
 }
 
+/// Whether the run without default features is left out: there is always another one.
+fn leaves_no_default(lists: &Lists, uses: &[Use]) -> bool
+    ensures { result ≡ excludes_no_default (listed_in lists.now) (views uses.now) }
+{
+    given(Opt::ExcludeNoDefaultFeatures, uses)
+        || given(Opt::AtLeastOneOf, uses)
+        || has_some(lists.include_features.as_slice())
+}
+
+/// Whether the run with all features is left out: it would have some that are excluded, or exclude each other.
+fn leaves_all(lists: &Lists, uses: &[Use]) -> bool
+    ensures { result ≡ excludes_all (listed_in lists.now) (views uses.now) }
+{
+    given(Opt::ExcludeAllFeatures, uses)
+        || has_some(lists.include_features.as_slice())
+        || has_some(lists.exclude_features.as_slice())
+        || given(Opt::MutuallyExclusiveFeatures, uses)
+}
+
+fn ignores_private(uses: &[Use]) -> bool
+    ensures { result ≡ private_ignored (views uses.now) }
+{
+    given(Opt::IgnorePrivate, uses) || given(Opt::NoPrivate, uses)
+}
+
 /// What is read of the words before the arguments are put together.
 #[derive(Drop)]
 pub struct Read {
@@ -160,7 +186,6 @@ impl Args {
     ghost use Rattle.hack_words.specs.ArgsView.{HasFlags, HasTexts, HasFeatures, Carries};
     ghost use Rattle.hack_words.specs.CliGroups.{AreGroupsOf};
     ghost use Rattle.hack_words.specs.Listed.{listed};
-    ghost use Rattle.hack_words.specs.ListsView.{listed_in};
 
     /// The arguments that uses of options and what was read of them say.
     pub(crate) fn of(alloc: Global, read: Read, uses: &[Use]) -> Result<Args, AllocError>
@@ -183,6 +208,8 @@ impl Args {
         } = read;
         let said = count(Opt::Verbose, uses);
         pass_verbose(alloc, &mut leading_args, said)?;
+        let exclude_no_default_features = leaves_no_default(&lists, uses);
+        let exclude_all_features = leaves_all(&lists, uses);
         let Lists {
             features,
             include_features: includes,
@@ -191,10 +218,7 @@ impl Args {
             group_features,
             mutually_exclusive_features,
         } = lists;
-        let some_included = !includes.is_empty();
-        let some_excluded = !excludes.is_empty();
         with_features(&mut excludes, features.as_slice())?;
-        let no_private = given(Opt::NoPrivate, uses);
         Ok(Args {
             leading_args,
             trailing_args,
@@ -209,8 +233,8 @@ impl Args {
             feature_powerset: given(Opt::FeaturePowerset, uses),
             no_dev_deps: given(Opt::NoDevDeps, uses),
             remove_dev_deps: given(Opt::RemoveDevDeps, uses),
-            no_private,
-            ignore_private: given(Opt::IgnorePrivate, uses) || no_private,
+            no_private: given(Opt::NoPrivate, uses),
+            ignore_private: ignores_private(uses),
             ignore_unknown_features: given(Opt::IgnoreUnknownFeatures, uses),
             clean_per_run: given(Opt::CleanPerRun, uses),
             clean_per_version: given(Opt::CleanPerVersion, uses),
@@ -226,13 +250,8 @@ impl Args {
             include_features: named::normals(alloc, includes.as_slice())?,
             include_deps_features: given(Opt::IncludeDepsFeatures, uses),
             exclude_features: excludes,
-            exclude_no_default_features: given(Opt::ExcludeNoDefaultFeatures, uses)
-                || given(Opt::AtLeastOneOf, uses)
-                || some_included,
-            exclude_all_features: given(Opt::ExcludeAllFeatures, uses)
-                || some_included
-                || some_excluded
-                || given(Opt::MutuallyExclusiveFeatures, uses),
+            exclude_no_default_features,
+            exclude_all_features,
             depth: early.depth,
             group_features,
             mutually_exclusive_features,

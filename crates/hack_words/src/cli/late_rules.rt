@@ -40,7 +40,8 @@ fn new_rustup(option: Opt, rustup: Option<u32>, uses: &[Use]) -> Result<(), CliF
     Ok(())
 }
 
-fn is_ranged(uses: &[Use]) -> bool
+/// A range of versions is asked.
+pub fn is_ranged(uses: &[Use]) -> bool
     ensures { result ≡ ranged (views uses.now) }
 {
     given(Opt::VersionRange, uses) || given(Opt::RustVersion, uses)

@@ -43,13 +43,15 @@ pub fn clash(option: Opt, other: Opt, uses: &[Use]) -> Result<(), CliFault>
     Ok(())
 }
 
-fn has_some(names: &[String]) -> bool
+/// There is a name.
+pub fn has_some(names: &[String]) -> bool
     ensures { result ≡ is_nonempty (names_of names.now) }
 {
     !names.is_empty()
 }
 
-fn has(names: &[String], name: &str) -> bool
+/// One of the names.
+pub fn has(names: &[String], name: &str) -> bool
     ensures { result ≡ is_among (names_of names.now) name.now }
 {
     for one in names {

@@ -1,0 +1,83 @@
+-- What is answered to the words of a call.
+use Rattle.std.specs.Prelude.{◌≡◌, ℕ, List, [], Bool, true, false, Option, Some, None, Result, Ok, Err, IfSome, option_map, string_bytes, codes}
+use Rattle.hack_features.specs.Names.{names_of}
+use Rattle.hack_uses.specs.Faults.{Fault as CutFault}
+use Rattle.hack_uses.specs.Reads.{Ends, End, Prints, Fails}
+use Rattle.hack_uses.specs.Uses.{Use, views}
+use Rattle.hack_uses.specs.declared.cut.Cuts.{Cuts}
+use Rattle.hack_uses.specs.declared.cut.Cuts.TheVariants as cuts
+use Rattle.hack_uses.specs.declared.cut.Print.{Print}
+use Rattle.hack_uses.specs.declared.cut.Print.TheVariants.{ShortHelp, LongHelp, Version}
+use Rattle.hack_versions.specs.Notes.{Note}
+use Rattle.hack_versions.specs.declared.rustup.Rustup.{Rustup}
+use Rattle.hack_words.specs.declared.cli.env.Env.{Env}
+use Rattle.hack_words.specs.declared.cli.fault.CliFault.{CliFault}
+use Rattle.hack_words.specs.declared.cli.parse.Checked.{Checked}
+use Rattle.hack_words.specs.declared.cli.parse.Checked.TheVariants as checked
+use Rattle.hack_words.specs.declared.cli.parse.Parsed.{Parsed as CodeParsed}
+use Rattle.hack_words.specs.declared.cli.parse.Parsed.TheVariants as code
+use Rattle.hack_words.specs.ArgsView.{IsAsked}
+use Rattle.hack_words.specs.Asked.{coloring_asked, depth_asked}
+use Rattle.hack_words.specs.Call.{Around, Outcome, Faulty, Printed, Listing, Parsed, outcome_of, unknown_notes, notes_on}
+use Rattle.hack_words.specs.CliFaults.{fault_of, Cut}
+use Rattle.hack_words.specs.LateView.{IsLate}
+use Rattle.hack_words.specs.Rules.{Verdict, Accepted, Lists, Refused, verdict_of}
+use Rattle.hack_words.specs.RustupView.{known_of, unknown_of}
+
+-- what is known beside the words
+abbrev pub around_of : Env → Rustup → Around
+around_of env rustup = record { term_color = option_map string_bytes env.term_color; github_actions = env.github_actions; rustup = known_of rustup; unknown = unknown_of rustup }
+
+-- the verdict on uses
+abbrev pub verdict_around : Bool → Around → List Use → Verdict
+verdict_around cargo around us = verdict_of cargo around.term_color around.rustup us
+
+-- what the rules leave is their verdict, and what they read
+abbrev pub Judges : Result Checked CliFault → Bool → Around → List Use → Type 0
+Judges (Ok checked.List) cargo around us = verdict_around cargo around us ≡ Lists
+Judges (Ok (checked.Accepted early late)) cargo around us =
+    (verdict_around cargo around us ≡ Accepted) × (early.coloring ≡ coloring_asked around.term_color us) × (early.depth ≡ depth_asked us) × IsLate around.github_actions us late
+Judges (Err e) cargo around us = IfSome (fault_of e) (λ fault. verdict_around cargo around us ≡ Refused fault)
+
+-- the answer to uses that are judged, with its notices
+abbrev pub IsJudged : Around → Bool → List (List ℕ) → List Use → CodeParsed → List Note → Type 0
+IsJudged around cargo trailing us (code.Args args) notes =
+    (outcome_of around cargo trailing us ≡ Parsed cargo trailing us) × IsAsked around.term_color around.github_actions cargo trailing us args × (notes ≡ notes_on around us)
+IsJudged around cargo trailing us code.List notes = (outcome_of around cargo trailing us ≡ Listing us) × (notes ≡ unknown_notes us)
+IsJudged around cargo trailing us (code.Print text) notes = ⊥
+
+-- the text that is printed for the version; those of the help are shown by tests
+abbrev pub IsText : Print → List ℕ → Type 0
+IsText Version text = text ≡ codes "cargo-hack 0.6.46\n"
+IsText ShortHelp text = Unit {0}
+IsText LongHelp text = Unit {0}
+
+-- the answer to words that ask for a text
+abbrev pub IsPrinted : Print → CodeParsed → List Note → Type 0
+IsPrinted print (code.Print text) notes = IsText print (string_bytes text) × (notes ≡ [])
+IsPrinted print (code.Args args) notes = ⊥
+IsPrinted print code.List notes = ⊥
+
+-- the answer, with its notices, to words of which it is told what they come to
+abbrev pub Answers : Around → (Outcome → Type 0) → CodeParsed → List Note → Type 0
+Answers around Comes (code.Args args) notes =
+    (cargo : Bool) × (trailing : List (List ℕ)) × (us : List Use) × Comes (Parsed cargo trailing us)
+    × IsAsked around.term_color around.github_actions cargo trailing us args × (notes ≡ notes_on around us)
+Answers around Comes code.List notes = (us : List Use) × Comes (Listing us) × (notes ≡ unknown_notes us)
+Answers around Comes (code.Print text) notes = (print : Print) × Comes (Printed print) × IsText print (string_bytes text) × (notes ≡ [])
+
+-- a fault that the words come to; memory may run out in place of any
+abbrev pub Refuses : (Outcome → Type 0) → CliFault → Type 0
+Refuses Comes e = IfSome (fault_of e) (λ fault. Comes (Faulty fault))
+
+-- the cuts of words, with a fault as one of the call
+abbrev pub GivesCuts : Result Cuts CliFault → List (List ℕ) → Type 0
+GivesCuts (Ok (cuts.Uses us)) words = Ends words (views us.items) End
+GivesCuts (Ok (cuts.Asks print)) words = (us : List Use) × Ends words us (Prints print)
+GivesCuts (Err e) words = IfSome (fault_of e) (λ fault. (us : List Use) × (cut : CutFault) × (fault ≡ Cut cut) × Ends words us (Fails cut))
+
+-- what uses that are left of the bare rules come to: they go on, they ask for cargo's list, or there is no subcommand
+abbrev pub GoesOn : Result Bool CliFault → Option Verdict → Type 0
+GoesOn (Ok true) bare = bare ≡ Some Lists
+GoesOn (Ok false) bare = bare ≡ None
+GoesOn (Err e) bare = IfSome (fault_of e) (λ fault. bare ≡ Some (Refused fault))

@@ -1,0 +1,221 @@
+//! Words into arguments, or the first fault.
+
+ghost use Rattle.std.specs.Prelude.{Bool, ◌≡◌, ◌++◌, IfOk, IfErr, IfSome, OnOk, map, string_bytes};
+ghost use Rattle.hack_features.specs.Names.{names_of};
+ghost use Rattle.hack_uses.specs.Passed.{leading_of};
+ghost use Rattle.hack_uses.specs.Uses.{views, subcommand_of};
+ghost use Rattle.hack_versions.specs.Notes.{note_of};
+ghost use Rattle.hack_words.specs.Answers.{Judges, GoesOn, IsJudged, IsText, IsPrinted, Answers, Refuses, GivesCuts, around_of};
+ghost use Rattle.hack_words.specs.Asked.{is_old_asked};
+ghost use Rattle.hack_words.specs.Call.{ComesFrom, ComesTo, Faulty, outcome_of, later_notes, in_vain};
+ghost use Rattle.hack_words.specs.CliFaults.{fault_of};
+ghost use Rattle.hack_words.specs.Listed.{listed};
+ghost use Rattle.hack_words.specs.ListsView.{listed_in};
+ghost use Rattle.hack_words.specs.Rules.{bare_verdict};
+ghost use Rattle.hack_words.specs.StartView.{start_in};
+ghost use Rattle.hack_words.specs.RustupView.{known_of, unknown_of};
+
+use crate::cli::args::{Args, Read};
+use crate::cli::env::Env;
+use crate::cli::fault::CliFault;
+use crate::cli::late_rules::{self, Late, is_ranged};
+use crate::cli::listed::Lists;
+use crate::cli::notes::{tell_edits, tell_old, tell_rustup, tell_unknown};
+use crate::cli::rules::{self, Early, has, has_some};
+use crate::cli::start::Start;
+use hack_options::{Help, Opt};
+use hack_uses::{Cuts, CutFault, Print, Use, all_uses, given, leading, subcommand, value};
+use hack_versions::notice::Notice;
+use hack_versions::rustup::Rustup;
+use std::alloc::{AllocError, Global};
+
+/// What the words of a call ask for.
+#[derive(Drop)]
+pub enum Parsed {
+    Args(Args),
+    /// A text to print, and nothing else: the help or the version.
+    Print(String),
+    /// The list of cargo's commands.
+    List,
+}
+
+/// What the rules leave.
+#[derive(Drop)]
+enum Checked {
+    List,
+    Accepted { early: Early, late: Late },
+}
+
+fn known(rustup: &Rustup) -> Option<u32>
+    ensures { result ≡ known_of rustup.now }
+{
+    match rustup {
+        Rustup::Known(minor) => Some(*minor),
+        Rustup::Unknown(_) => None,
+    }
+}
+
+/// Whether cargo's list is asked for, where there is no subcommand.
+fn lists_commands(leading: &[String], uses: &[Use]) -> Result<bool, CliFault>
+    ensures { (cargo : Bool) → names_of leading.now ≡ leading_of cargo (views uses.now) → GoesOn result (bare_verdict cargo (subcommand_of (views uses.now)) (views uses.now)) }
+{
+    if subcommand(uses).is_some() {
+        return Ok(false);
+    }
+    if has(leading, "--list") {
+        return Ok(true);
+    }
+    if given(Opt::RemoveDevDeps, uses) {
+        return Ok(false);
+    }
+    Err(CliFault::NoSubcommand)
+}
+
+/// All rules, in order.
+fn keep_rules(
+    alloc: Global,
+    cargo: bool,
+    leading: &[String],
+    lists: &Lists,
+    uses: &[Use],
+    env: &Env,
+    rustup: &Rustup,
+) -> Result<Checked, CliFault>
+    requires leading { names_of leading.now ≡ leading_of cargo (views uses.now) }
+    requires listed { listed_in lists.now ≡ listed (views uses.now) }
+    ensures { Judges result cargo (around_of env.now rustup.now) (views uses.now) }
+{
+    let early = rules::before(alloc, cargo, env.term_color.as_ref(), lists, leading, uses)?;
+    if lists_commands(leading, uses)? {
+        return Ok(Checked::List);
+    }
+    let late = late_rules::after(alloc, known(rustup), env.github_actions, uses)?;
+    Ok(Checked::Accepted { early, late })
+}
+
+/// The notices on accepted words, behind those that were told already.
+fn tell(
+    alloc: Global,
+    notices: &mut Vec<Notice>,
+    is_old: bool,
+    uses: &[Use],
+    rustup: &Rustup,
+) -> Result<(), AllocError>
+    requires { is_old ≡ is_old_asked (views uses.now) }
+    ensures { OnOk result (map note_of notices.new.items ≡ map note_of notices.old.items ++ later_notes (unknown_of rustup.now) (views uses.now)) }
+{
+    tell_rustup(alloc, notices, is_ranged(uses), rustup)?;
+    tell_old(alloc, notices, is_old, value(Opt::VersionRange, uses))?;
+    let no_private = given(Opt::NoPrivate, uses);
+    tell_edits(alloc, notices, given(Opt::NoDevDeps, uses), no_private)
+}
+
+/// Whether unknown features are asked to be ignored where they aren't.
+fn ignores_in_vain(lists: &Lists, uses: &[Use]) -> bool
+    ensures { result ≡ in_vain (listed_in lists.now) (views uses.now) }
+{
+    given(Opt::IgnoreUnknownFeatures, uses) && has_some(lists.include_features.as_slice())
+}
+
+/// What uses of options come to.
+fn judged(
+    alloc: Global,
+    cargo: bool,
+    trailing: Vec<String>,
+    uses: &[Use],
+    env: &Env,
+    rustup: &Rustup,
+) -> Result<(Parsed, Vec<Notice>), CliFault>
+    ensures ok { IfOk result (λ answer. IsJudged (around_of env.now rustup.now) cargo (names_of trailing.items) (views uses.now) answer.0 (map note_of answer.1.items)) }
+    ensures err { IfErr result (λ e. IfSome (fault_of e) (λ fault. outcome_of (around_of env.now rustup.now) cargo (names_of trailing.items) (views uses.now) ≡ Faulty fault)) }
+{
+    let lists = Lists::of(alloc, uses)?;
+    let leading = leading(alloc, cargo, uses)?;
+    let left = keep_rules(alloc, cargo, leading.as_slice(), &lists, uses, env, rustup)?;
+    let mut notices = Vec::new(alloc);
+    tell_unknown(alloc, &mut notices, ignores_in_vain(&lists, uses))?;
+    let (early, late) = match left {
+        Checked::List => return Ok((Parsed::List, notices)),
+        Checked::Accepted { early, late } => (early, late),
+    };
+    tell(alloc, &mut notices, late.versions.is_old, uses, rustup)?;
+    let read = Read {
+        cargo,
+        leading,
+        trailing,
+        lists,
+        early,
+        late,
+    };
+    Ok((Parsed::Args(Args::of(alloc, read, uses)?), notices))
+}
+
+/// The text that the words ask to be printed.
+fn text_of(alloc: Global, print: Print) -> Result<String, AllocError>
+    ensures { IfOk result (λ text. IsText print (string_bytes text)) }
+{
+    match print {
+        Print::ShortHelp => format!(in alloc; "{}", Help::short()),
+        Print::LongHelp => format!(in alloc; "{}", Help::long()),
+        Print::Version => String::from_str(alloc, "cargo-hack 0.6.46\n"),
+    }
+}
+
+/// All uses of the words that are cut, or what else they come to.
+fn cut(alloc: Global, words: Vec<String>) -> Result<Cuts, CliFault>
+    ensures { GivesCuts result (map string_bytes words.items) }
+{
+    match all_uses(alloc, words) {
+        Ok(cuts) => Ok(cuts),
+        Err(CutFault::Memory) => Err(CliFault::Memory),
+        Err(fault) => Err(CliFault::Cut { fault }),
+    }
+}
+
+/// The answer to words that ask for a text.
+fn printed(alloc: Global, print: Print) -> Result<(Parsed, Vec<Notice>), AllocError>
+    ensures { IfOk result (λ answer. IsPrinted print answer.0 (map note_of answer.1.items)) }
+{
+    let text = text_of(alloc, print)?;
+    Ok((Parsed::Print(text), Vec::new(alloc)))
+}
+
+/// What words come to that begin so.
+fn begun(
+    alloc: Global,
+    start: Start,
+    env: &Env,
+    rustup: &Rustup,
+) -> Result<(Parsed, Vec<Notice>), CliFault>
+    ensures ok { IfOk result (λ answer. Answers (around_of env.now rustup.now) (ComesFrom (around_of env.now rustup.now) (start_in start)) answer.0 (map note_of answer.1.items)) }
+    ensures err { IfErr result (Refuses (ComesFrom (around_of env.now rustup.now) (start_in start))) }
+{
+    match cut(alloc, start.words)? {
+        Cuts::Asks(print) => Ok(printed(alloc, print)?),
+        Cuts::Uses(uses) => judged(
+            alloc,
+            start.cargo,
+            start.trailing,
+            uses.as_slice(),
+            env,
+            rustup,
+        ),
+    }
+}
+
+impl Args {
+    /// What the words behind the program's name ask for, with what the user is to be told of them; or the fault of
+    /// the first rule that they break. `rustup` counts where a range of versions is asked.
+    pub fn parse(
+        alloc: Global,
+        words: &[String],
+        env: &Env,
+        rustup: Rustup,
+    ) -> Result<(Parsed, Vec<Notice>), CliFault>
+        ensures ok { IfOk result (λ answer. Answers (around_of env.now rustup) (ComesTo (around_of env.now rustup) (names_of words.now)) answer.0 (map note_of answer.1.items)) }
+        ensures err { IfErr result (Refuses (ComesTo (around_of env.now rustup) (names_of words.now))) }
+    {
+        let start = Start::of(alloc, words)?;
+        begun(alloc, start, env, &rustup)
+    }
+}
