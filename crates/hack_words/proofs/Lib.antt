@@ -1,3 +1,4 @@
+mod AnswerLemmas
 mod GroupLemmas
 mod ListLemmas
 pub mod PieceLemmas

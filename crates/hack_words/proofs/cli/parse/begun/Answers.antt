@@ -1,0 +1,48 @@
+use Rattle.std.proofs.Common.{◌≡◌, Ok, List, IfSome, ap, sym, subst, map, string_bytes}
+use Rattle.std.proofs.lemmas.Result.{err_from_is_err_and, IfOk-weaker, IfErr-weaker}
+use Rattle.hack_uses.specs.Reads.{Ends, End}
+use Rattle.hack_uses.specs.Uses.{Use, views}
+use Rattle.hack_uses.specs.declared.cut.Cuts.{Cuts}
+use Rattle.hack_versions.specs.Notes.{note_of}
+use Rattle.hack_words.specs.Answers.{Answers, IsJudged, Refuses, GivesCuts, around_of}
+use Rattle.hack_words.specs.Call.{ComesFrom, Faulty, outcome_of}
+use Rattle.hack_words.specs.CliFaults.{fault_of}
+use Rattle.hack_words.specs.Start.{Cuts as Begun}
+use Rattle.hack_words.proofs.AnswerLemmas.{judged-answers, printed-answers, cut-refuses, fault-refuses}
+use Rattle.hack_words.proofs.cli.parse.begun.Goals as goal
+
+pub returns-in_err-print-clause-err : goal.returns-in_err-print-clause-err
+returns-in_err-print-clause-err c =
+    let p = err_from_is_err_and c.from_residual.result c.from_residual.ensures.1 in
+    rw (p.1, p.2) (cut-refuses (around_of c.args.env.now c.args.rustup.now) c.args.start.cargo (map string_bytes c.args.start.words.items) (map string_bytes c.args.start.trailing.items) (fault_of c.in_err-print.field-0.0) c.in_err-print.ensures)
+
+pub returns-in_ok-printed-in-Asks-clause-ok : goal.returns-in_ok-printed-in-Asks-clause-ok
+returns-in_ok-printed-in-Asks-clause-ok c =
+    let asked = subst (λ (cuts : Cuts). GivesCuts (Ok cuts) (map string_bytes c.args.start.words.items)) c.in-Asks.is c.in_ok-print.ensures in
+    printed-answers (around_of c.args.env.now c.args.rustup.now) c.args.start.cargo (map string_bytes c.args.start.words.items) (map string_bytes c.args.start.trailing.items) asked.0 c.in-Asks.print _ _ asked.1 c.in_ok-printed-in-Asks.ensures
+
+pub returns-in-Uses-clause-ok : goal.returns-in-Uses-clause-ok
+returns-in-Uses-clause-ok c =
+    let around = around_of c.args.env.now c.args.rustup.now in
+    let words = map string_bytes c.args.start.words.items in
+    let trailing = map string_bytes c.args.start.trailing.items in
+    let us = views c.as_slice.result.now in
+    let ends = subst (λ (cuts : Cuts). GivesCuts (Ok cuts) (map string_bytes c.args.start.words.items)) c.in-Uses.is c.in_ok-print.ensures in
+    let read = subst (λ (us : List Use). Ends (map string_bytes c.args.start.words.items) us End) (sym (ap views c.as_slice.ensures.value)) ends in
+    IfOk-weaker c.judged.result
+      (λ answer. IsJudged around c.args.start.cargo trailing us answer.0 (map note_of answer.1.items))
+      (λ answer. Answers around (ComesFrom around (Begun c.args.start.cargo words trailing)) answer.0 (map note_of answer.1.items))
+      (λ answer h. judged-answers around c.args.start.cargo words trailing us answer.0 (map note_of answer.1.items) read h) c.judged.ensures.ok
+
+pub returns-in-Uses-clause-err : goal.returns-in-Uses-clause-err
+returns-in-Uses-clause-err c =
+    let around = around_of c.args.env.now c.args.rustup.now in
+    let words = map string_bytes c.args.start.words.items in
+    let trailing = map string_bytes c.args.start.trailing.items in
+    let us = views c.as_slice.result.now in
+    let ends = subst (λ (cuts : Cuts). GivesCuts (Ok cuts) (map string_bytes c.args.start.words.items)) c.in-Uses.is c.in_ok-print.ensures in
+    let read = subst (λ (us : List Use). Ends (map string_bytes c.args.start.words.items) us End) (sym (ap views c.as_slice.ensures.value)) ends in
+    IfErr-weaker c.judged.result
+      (λ e. IfSome (fault_of e) (λ fault. outcome_of around c.args.start.cargo trailing us ≡ Faulty fault))
+      (Refuses (ComesFrom around (Begun c.args.start.cargo words trailing)))
+      (λ e h. fault-refuses around c.args.start.cargo words trailing us e read h) c.judged.ensures.err
