@@ -11,7 +11,7 @@ use Rattle.hack_features.specs.declared.feature.Feature.{Feature}
 use Rattle.hack_features.specs.declared.feature.Feature.TheVariants.{Normal, Group as Grouped, Path}
 use Rattle.hack_features.proofs.Members.{Contains-map}
 use Rattle.hack_features.proofs.NameLemmas.{shown-more}
-use Rattle.hack_words.specs.Lists.{HasSeparator, group_names}
+use Rattle.hack_term.specs.Lists.{HasSeparator, group_names}
 use Rattle.cargo_hack.specs.declared.fault.ListFault.{ListFault}
 use Rattle.cargo_hack.specs.declared.fault.ListFault.TheVariants.{Usage, Number, Group, Input, Read, Write, Memory}
 use Rattle.cargo_hack.specs.Words.{Written, none_written, with_value, with_words, IsDepth, AreGroups, LacksSeparator, RefusesWords}

@@ -2,7 +2,7 @@
 use Rattle.std.specs.Prelude.{◌≡◌, ℕ, List, Option, None, Some, option_map, string_bytes}
 use Rattle.std.specs.Borrow.{Bor}
 use Rattle.hack_features.specs.Names.{Name, shown}
-use Rattle.hack_words.specs.Partitions.{IsNumber}
+use Rattle.hack_term.specs.Partitions.{IsNumber}
 use Rattle.cargo_hack.specs.declared.wishes.Values.{Values}
 use Rattle.cargo_hack.specs.declared.fault.ListFault.{ListFault}
 use Rattle.cargo_hack.specs.declared.fault.ListFault.TheVariants.{Usage, Number, Group, Input, Read, Write, Memory}

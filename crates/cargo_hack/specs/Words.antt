@@ -1,8 +1,8 @@
 -- What the words of `powerset-list` ask for, and why they are refused.
 use Rattle.std.specs.Prelude.{◌≡◌, ◌⊎◌, ℕ, List, [], ◌∷◌, ◌++◌, Option, None, Some, All, Contains, map, codes, bytes_eq, string_bytes, option_and_then, if◌then◌else◌}
 use Rattle.hack_features.specs.Names.{Name}
-use Rattle.hack_words.specs.Partitions.{IsNumber}
-use Rattle.hack_words.specs.Lists.{HasSeparator, group_names}
+use Rattle.hack_term.specs.Partitions.{IsNumber}
+use Rattle.hack_term.specs.Lists.{HasSeparator, group_names}
 use Rattle.cargo_hack.specs.declared.fault.ListFault.{ListFault}
 use Rattle.cargo_hack.specs.declared.fault.ListFault.TheVariants.{Usage, Number, Group, Input, Read, Write, Memory}
 

@@ -7,8 +7,8 @@ use Rattle.hack_uses.specs.declared.cut.Print.{Print as Question}
 use Rattle.hack_versions.specs.Notes.{Note}
 use Rattle.hack_words.specs.Answers.{Answers, Refuses, IsJudged, IsPrinted}
 use Rattle.hack_words.specs.Call.{Around, ComesFrom, Faulty, outcome_of}
-use Rattle.hack_words.specs.CliFaults.{Fault, Cut, fault_of}
-use Rattle.hack_words.specs.declared.cli.fault.CliFault.{CliFault}
+use Rattle.hack_rules.specs.CliFaults.{Fault, Cut, fault_of}
+use Rattle.hack_rules.specs.declared.fault.CliFault.{CliFault}
 use Rattle.hack_words.specs.Start.{Cuts}
 use Rattle.hack_words.specs.declared.cli.parse.Parsed.{Parsed}
 use Rattle.hack_words.specs.declared.cli.parse.Parsed.TheVariants as code

@@ -11,17 +11,17 @@ use Rattle.hack_uses.specs.declared.cut.Print.TheVariants.{ShortHelp, LongHelp, 
 use Rattle.hack_versions.specs.Notes.{Note}
 use Rattle.hack_versions.specs.declared.rustup.Rustup.{Rustup}
 use Rattle.hack_words.specs.declared.cli.env.Env.{Env}
-use Rattle.hack_words.specs.declared.cli.fault.CliFault.{CliFault}
+use Rattle.hack_rules.specs.declared.fault.CliFault.{CliFault}
 use Rattle.hack_words.specs.declared.cli.parse.Checked.{Checked}
 use Rattle.hack_words.specs.declared.cli.parse.Checked.TheVariants as checked
 use Rattle.hack_words.specs.declared.cli.parse.Parsed.{Parsed as CodeParsed}
 use Rattle.hack_words.specs.declared.cli.parse.Parsed.TheVariants as code
 use Rattle.hack_words.specs.ArgsView.{IsAsked}
-use Rattle.hack_words.specs.Asked.{coloring_asked, depth_asked}
+use Rattle.hack_rules.specs.Asked.{coloring_asked, depth_asked}
 use Rattle.hack_words.specs.Call.{Around, Outcome, Faulty, Printed, Listing, Parsed, outcome_of, unknown_notes, notes_on}
-use Rattle.hack_words.specs.CliFaults.{fault_of, Cut}
-use Rattle.hack_words.specs.LateView.{IsLate}
-use Rattle.hack_words.specs.Rules.{Verdict, Accepted, Lists, Refused, verdict_of}
+use Rattle.hack_rules.specs.CliFaults.{fault_of, Cut}
+use Rattle.hack_rules.specs.LateView.{IsLate}
+use Rattle.hack_rules.specs.Rules.{Verdict, Accepted, Lists, Refused, verdict_of}
 use Rattle.hack_words.specs.RustupView.{known_of, unknown_of}
 
 -- what is known beside the words

@@ -8,11 +8,11 @@ use Rattle.hack_words.specs.declared.cli.args.Args.{Args}
 use Rattle.hack_words.specs.declared.cli.args.Read.{Read}
 use Rattle.hack_words.specs.declared.cli.args.WorkspaceBehavior.{WorkspaceBehavior}
 use Rattle.hack_words.specs.declared.cli.args.WorkspaceBehavior.TheVariants.{Cargo, Default}
-use Rattle.hack_words.specs.Asked.{coloring_asked, depth_asked, range_asked, step_asked, log_group_asked, piece_asked, kind_asked, leading_asked, excluded_asked, excludes_no_default, excludes_all, ignores_private}
-use Rattle.hack_words.specs.CliGroups.{AreGroupsOf, AreNormalsOf, AreLifts}
-use Rattle.hack_words.specs.CliLists.{names_given, optional_given, lifts_given}
-use Rattle.hack_words.specs.Listed.{listed}
-use Rattle.hack_words.specs.CliTargets.{AreRising, AreSame}
+use Rattle.hack_rules.specs.Asked.{coloring_asked, depth_asked, range_asked, step_asked, log_group_asked, piece_asked, kind_asked, leading_asked, excluded_asked, excludes_no_default, excludes_all, ignores_private}
+use Rattle.hack_rules.specs.CliGroups.{AreGroupsOf, AreNormalsOf, AreLifts}
+use Rattle.hack_rules.specs.CliLists.{names_given, optional_given, lifts_given}
+use Rattle.hack_rules.specs.Listed.{listed}
+use Rattle.hack_rules.specs.CliTargets.{AreRising, AreSame}
 
 -- the options without a value
 pub record HasFlags (us : List Use) (args : Args) : Type 0 where

@@ -8,11 +8,11 @@ use Rattle.hack_uses.specs.Values.{value_given}
 use Rattle.hack_versions.specs.Notes.{Note}
 use Rattle.hack_versions.specs.declared.notice.NoticeKind.{NoticeKind}
 use Rattle.hack_versions.specs.declared.notice.NoticeKind.TheVariants.{Info, Warn, QuietWarn}
-use Rattle.hack_words.specs.Asked.{is_old_asked}
-use Rattle.hack_words.specs.CliFaults.{Fault, Cut}
-use Rattle.hack_words.specs.Listed.{Listed, listed}
-use Rattle.hack_words.specs.RangeReadings.{Sides, at_dots}
-use Rattle.hack_words.specs.Rules.{Verdict, Accepted, Lists, Refused, is_nonempty, is_ranged, verdict_of}
+use Rattle.hack_rules.specs.Asked.{is_old_asked}
+use Rattle.hack_rules.specs.CliFaults.{Fault, Cut}
+use Rattle.hack_rules.specs.Listed.{Listed, listed}
+use Rattle.hack_rules.specs.RangeReadings.{Sides, at_dots}
+use Rattle.hack_rules.specs.Rules.{Verdict, Accepted, Lists, Refused, is_nonempty, is_ranged, verdict_of}
 use Rattle.hack_words.specs.Start.{Start, Refuses, Cuts, start_of}
 
 -- what is known beside the words: the colouring of the environment, whether GitHub Actions runs, and rustup's minor version or why it isn't known

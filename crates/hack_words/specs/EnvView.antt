@@ -1,6 +1,6 @@
 -- What a call looks up beside its words.
 use Rattle.std.specs.Prelude.{◌≡◌, ℕ, List, [], ◌∷◌, Bool, true, false, Option, Some, None, String, string_bytes, codes, map, option_map, bytes_eq, if◌then◌else◌}
-use Rattle.hack_words.specs.Asked.{or_else, or_next}
+use Rattle.hack_rules.specs.Asked.{or_else, or_next}
 use Rattle.hack_words.specs.declared.cli.env.Env.{Env}
 
 -- a variable of the environment

@@ -3,7 +3,7 @@ use Rattle.std.specs.Prelude.{ℕ, List, [], ◌∷◌, ◌&&◌, not, ◌||◌,
 use Rattle.std.specs.List.{filter, list_any, starts_with}
 use Rattle.hack_options.specs.declared.Opt.TheVariants as opt
 use Rattle.hack_uses.specs.Faults.{LongFlag, Repeat}
-use Rattle.hack_words.specs.CliFaults.{Fault, NoWord, NotHack, Cut}
+use Rattle.hack_rules.specs.CliFaults.{Fault, NoWord, NotHack, Cut}
 
 -- the words up to the first --
 abbrev pub front_words : List (List ℕ) → List (List ℕ)

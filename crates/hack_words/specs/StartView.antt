@@ -3,10 +3,10 @@ use Rattle.std.specs.Prelude.{ℕ, ◌≡◌, List, Bool, true, false, Option, N
 use Rattle.hack_features.specs.Names.{names_of}
 use Rattle.hack_options.specs.declared.Opt.TheVariants as opt
 use Rattle.hack_uses.specs.Faults.{LongFlag, Repeat}
-use Rattle.hack_words.specs.declared.cli.fault.CliFault.{CliFault}
+use Rattle.hack_rules.specs.declared.fault.CliFault.{CliFault}
 use Rattle.hack_words.specs.declared.cli.start.Front.{Front}
 use Rattle.hack_words.specs.declared.cli.start.Start.{Start as CodeStart}
-use Rattle.hack_words.specs.CliFaults.{fault_of, Cut}
+use Rattle.hack_rules.specs.CliFaults.{fault_of, Cut}
 use Rattle.hack_words.specs.Start.{Start, Refuses, Cuts, start_of, behaviors, cut_words}
 
 -- how words begin that the code has looked at

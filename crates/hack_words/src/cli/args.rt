@@ -6,15 +6,15 @@ ghost use Rattle.hack_features.specs.Names.{names_of};
 ghost use Rattle.hack_uses.specs.Passed.{leading_of};
 ghost use Rattle.hack_uses.specs.Uses.{views, subcommand_of};
 ghost use Rattle.hack_uses.specs.Values.{value_given, values_given};
-ghost use Rattle.hack_words.specs.Asked.{verbose_words, excludes_no_default, excludes_all, ignores_private as private_ignored};
-ghost use Rattle.hack_words.specs.ListsView.{listed_in};
+ghost use Rattle.hack_rules.specs.Asked.{verbose_words, excludes_no_default, excludes_all, ignores_private as private_ignored};
+ghost use Rattle.hack_rules.specs.ListsView.{listed_in};
 
-use crate::cli::late_rules::Late;
-use crate::cli::listed::Lists;
-use crate::cli::named;
-use crate::cli::rules::{Early, has_some};
-use crate::partition::Partition;
-use crate::term::{Coloring, LogGroup};
+use hack_rules::late_rules::Late;
+use hack_rules::listed::Lists;
+use hack_rules::named;
+use hack_rules::rules::{Early, has_some};
+use hack_term::partition::Partition;
+use hack_term::term::{Coloring, LogGroup};
 use hack_features::Feature;
 use hack_options::Opt;
 use hack_uses::{Use, count, given, subcommand, value, values};
@@ -184,8 +184,8 @@ pub struct Read {
 
 impl Args {
     ghost use Rattle.hack_words.specs.ArgsView.{HasFlags, HasTexts, HasFeatures, Carries};
-    ghost use Rattle.hack_words.specs.CliGroups.{AreGroupsOf};
-    ghost use Rattle.hack_words.specs.Listed.{listed};
+    ghost use Rattle.hack_rules.specs.CliGroups.{AreGroupsOf};
+    ghost use Rattle.hack_rules.specs.Listed.{listed};
 
     /// The arguments that uses of options and what was read of them say.
     pub(crate) fn of(alloc: Global, read: Read, uses: &[Use]) -> Result<Args, AllocError>

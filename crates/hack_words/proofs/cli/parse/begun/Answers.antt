@@ -6,7 +6,7 @@ use Rattle.hack_uses.specs.declared.cut.Cuts.{Cuts}
 use Rattle.hack_versions.specs.Notes.{note_of}
 use Rattle.hack_words.specs.Answers.{Answers, IsJudged, Refuses, GivesCuts, around_of}
 use Rattle.hack_words.specs.Call.{ComesFrom, Faulty, outcome_of}
-use Rattle.hack_words.specs.CliFaults.{fault_of}
+use Rattle.hack_rules.specs.CliFaults.{fault_of}
 use Rattle.hack_words.specs.Start.{Cuts as Begun}
 use Rattle.hack_words.proofs.AnswerLemmas.{judged-answers, printed-answers, cut-refuses, fault-refuses}
 use Rattle.hack_words.proofs.cli.parse.begun.Goals as goal

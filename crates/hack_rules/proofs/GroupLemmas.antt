@@ -1,0 +1,69 @@
+-- One more text, and the feature of it.
+use Rattle.std.proofs.Common.{◌≡◌, ◌∙◌, ◌&&◌, refl, ap, sym, subst, append-nil, Option, Some, None, ℕ, List, [], ◌∷◌, ◌++◌, map, String, string_bytes, string_eq}
+use Rattle.std.specs.Cmp.Lexicographic.{pointwise}
+use Rattle.std.specs.List.{filter_map}
+use Rattle.std.specs.Str.{bytes_eq}
+use Rattle.std.proofs.lemmas.List.{map-append}
+use Rattle.std.proofs.lemmas.List.Elements.{filter_map-append}
+use Rattle.hack_features.specs.declared.feature.Feature.{Feature}
+use Rattle.hack_features.specs.declared.feature.Feature.TheVariants.{Normal, Group, Path}
+use Rattle.hack_features.specs.Feature.{IsGroup, IsNormal, group_of}
+use Rattle.hack_features.specs.Names.{names_of}
+use Rattle.hack_term.specs.Lists.{group_names}
+use Rattle.hack_rules.specs.CliGroups.{AreGroupsOf, AreNormalsOf, AreLifts}
+use Rattle.hack_rules.specs.CliLists.{Lift, lift_of, same_names}
+
+pub AreGroupsOf-more : (texts : List (List ℕ)) (features : List Feature) (text : List ℕ) (feature : Feature) → AreGroupsOf texts features → IsGroup (group_names text) feature → AreGroupsOf (texts ++ text ∷ []) (features ++ feature ∷ [])
+AreGroupsOf-more [] [] text feature h k = (k, tt)
+AreGroupsOf-more [] (f ∷ fs) text feature h k = absurd h
+AreGroupsOf-more (t ∷ ts) [] text feature h k = absurd h
+AreGroupsOf-more (t ∷ ts) (f ∷ fs) text feature h k = (h.0, AreGroupsOf-more ts fs text feature h.1 k)
+
+pub AreNormalsOf-more : (texts : List (List ℕ)) (features : List Feature) (text : List ℕ) (feature : Feature) → AreNormalsOf texts features → IsNormal text feature → AreNormalsOf (texts ++ text ∷ []) (features ++ feature ∷ [])
+AreNormalsOf-more [] [] text feature h k = (k, tt)
+AreNormalsOf-more [] (f ∷ fs) text feature h k = absurd h
+AreNormalsOf-more (t ∷ ts) [] text feature h k = absurd h
+AreNormalsOf-more (t ∷ ts) (f ∷ fs) text feature h k = (h.0, AreNormalsOf-more ts fs text feature h.1 k)
+
+pub AreLifts-more : {Y : Type 0} (lifts : List Lift) (pairs : List (String Y × Feature)) (lift : Lift) (pair : String Y × Feature) → AreLifts lifts pairs → string_bytes pair.0 ≡ lift.owner → IsGroup lift.group pair.1 → AreLifts (lifts ++ lift ∷ []) (pairs ++ pair ∷ [])
+AreLifts-more [] [] lift pair h k l = (k, l, tt)
+AreLifts-more [] (p ∷ ps) lift pair h k l = absurd h
+AreLifts-more (t ∷ ts) [] lift pair h k l = absurd h
+AreLifts-more (t ∷ ts) (p ∷ ps) lift pair h k l = (h.0, h.1, AreLifts-more ts ps lift pair h.2 k l)
+
+IsGroup-names : (names : List (List ℕ)) (feature : Feature) → IsGroup names feature → group_of feature ≡ names
+IsGroup-names names (Normal name) h = absurd h
+IsGroup-names names (Group name list) h = h.1
+IsGroup-names names (Path name slash) h = absurd h
+
+-- the names that groups of texts stand for
+pub groups-names : (texts : List (List ℕ)) (features : List Feature) → AreGroupsOf texts features → map group_of features ≡ map group_names texts
+groups-names [] [] h = refl
+groups-names [] (f ∷ fs) h = absurd h
+groups-names (t ∷ ts) [] h = absurd h
+groups-names (t ∷ ts) (f ∷ fs) h = ap (λ x. x ∷ map group_of fs) (IsGroup-names (group_names t) f h.0) ∙ ap (λ xs. group_names t ∷ xs) (groups-names ts fs h.1)
+
+-- the test of names is that of texts
+pub same-names : {Y : Type 0} (xs ys : List (String Y)) → pointwise string_eq xs ys ≡ same_names (names_of xs) (names_of ys)
+same-names [] [] = refl
+same-names [] (y ∷ ys) = refl
+same-names (x ∷ xs) [] = refl
+same-names (x ∷ xs) (y ∷ ys) = ap (λ b. bytes_eq (string_bytes x) (string_bytes y) && b) (same-names xs ys)
+
+-- one more text, which lifts a group or none
+taken-lifts : {Y : Type 0} (texts : List (String Y)) (text : String Y) → filter_map lift_of (map string_bytes (texts ++ text ∷ [])) ≡ filter_map lift_of (map string_bytes texts) ++ filter_map lift_of (string_bytes text ∷ [])
+taken-lifts texts text = ap (filter_map lift_of) (map-append string_bytes texts (text ∷ [])) ∙ filter_map-append lift_of (map string_bytes texts) (string_bytes text ∷ [])
+
+abbrev only : Option Lift → List Lift
+only None = []
+only (Some lift) = lift ∷ []
+
+one-lift : (text : List ℕ) (o : Option Lift) → lift_of text ≡ o → filter_map lift_of (text ∷ []) ≡ only o
+one-lift text None e = rw e refl
+one-lift text (Some lift) e = rw e refl
+
+pub lift-none : {Y : Type 0} (texts : List (String Y)) (pairs : List (String Y × Feature)) (text : String Y) → AreLifts (filter_map lift_of (map string_bytes texts)) pairs → lift_of (string_bytes text) ≡ None → AreLifts (filter_map lift_of (map string_bytes (texts ++ text ∷ []))) pairs
+lift-none texts pairs text h e = subst (λ (ls : List Lift). AreLifts ls pairs) (sym (taken-lifts texts text ∙ ap (λ ls. filter_map lift_of (map string_bytes texts) ++ ls) (one-lift (string_bytes text) None e) ∙ append-nil (filter_map lift_of (map string_bytes texts)))) h
+
+pub lift-some : {Y : Type 0} (texts : List (String Y)) (pairs : List (String Y × Feature)) (text : String Y) (lift : Lift) (pair : String Y × Feature) → AreLifts (filter_map lift_of (map string_bytes texts)) pairs → lift_of (string_bytes text) ≡ Some lift → string_bytes pair.0 ≡ lift.owner → IsGroup lift.group pair.1 → AreLifts (filter_map lift_of (map string_bytes (texts ++ text ∷ []))) (pairs ++ pair ∷ [])
+lift-some texts pairs text lift pair h e k l = subst (λ (ls : List Lift). AreLifts ls (pairs ++ pair ∷ [])) (sym (taken-lifts texts text ∙ ap (λ ls. filter_map lift_of (map string_bytes texts) ++ ls) (one-lift (string_bytes text) (Some lift) e))) (AreLifts-more (filter_map lift_of (map string_bytes texts)) pairs lift pair h k l)

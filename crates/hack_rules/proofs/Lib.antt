@@ -1,0 +1,4 @@
+pub mod GroupLemmas
+pub mod RangeReadingLemmas
+pub mod ReadingLemmas
+pub mod TargetLemmas

@@ -1,0 +1,49 @@
+-- What is wrong with the texts of options.
+use Rattle.std.specs.Prelude.{◌≡◌, ℕ, ◌==◌, List, Option, Some, None, Result, Ok, Err, if◌then◌else◌}
+use Rattle.hack_rules.specs.declared.fault.CliFault.{CliFault}
+use Rattle.hack_rules.specs.declared.fault.CliFault.TheVariants.{Memory}
+use Rattle.hack_rules.specs.CliFaults.{BadRange, Fault, fault_of, Number, ZeroStep, LogGroup, Partition, PartitionKind, Range}
+use Rattle.hack_rules.specs.Readings.{number_of, log_group_of, kind_of, piece_of}
+use Rattle.hack_rules.specs.RangeReadings.{range_of}
+
+-- the fault of a text, unless something is read
+abbrev pub unless_read : {A : Type 0} → Fault → Option A → Option Fault
+unless_read fault (Some a) = None
+unless_read fault None = Some fault
+
+-- a depth is a number of 64 bits
+abbrev pub depth_fault : List ℕ → Option Fault
+depth_fault text = unless_read (Number text) (number_of 64 text)
+
+-- a step between versions is a number of 16 bits, from 1
+abbrev pub step_fault : List ℕ → Option Fault
+step_fault text = of_number (number_of 16 text)
+  where
+    of_number : Option ℕ → Option Fault
+    of_number (Some n) = if n == 0 then Some ZeroStep else None
+    of_number None = Some (Number text)
+
+-- a kind of log groups goes by its name
+abbrev pub log_group_fault : List ℕ → Option Fault
+log_group_fault text = unless_read (LogGroup text) (log_group_of text)
+
+-- a piece is m/n with m from 1 to n
+abbrev pub partition_fault : List ℕ → Option Fault
+partition_fault text = unless_read (Partition text) (piece_of text)
+
+-- a kind of pieces goes by its name
+abbrev pub kind_fault : List ℕ → Option Fault
+kind_fault text = unless_read (PartitionKind text) (kind_of text)
+
+-- the fault of a range, unless it was read
+abbrev pub bad_range_fault : {A : Type 0} → Result A BadRange → Option Fault
+bad_range_fault (Ok a) = None
+bad_range_fault (Err bad) = Some (Range bad)
+
+-- a range of versions
+abbrev pub range_fault : List ℕ → Option Fault
+range_fault text = bad_range_fault (range_of text)
+
+-- want of memory is told by its own fault, not inside another one
+abbrev pub IsPlain : CliFault → Type 0
+IsPlain e = fault_of e ≡ None → e ≡ Memory

@@ -1,0 +1,17 @@
+-- What the later rules read.
+use Rattle.std.specs.Prelude.{◌≡◌, Bool, List, IfSome, option_map}
+use Rattle.hack_uses.specs.Uses.{Use}
+use Rattle.hack_rules.specs.Asked.{range_asked, is_old_asked, step_asked, log_group_asked, piece_asked, kind_asked}
+use Rattle.hack_rules.specs.CliGroups.{AreLifts}
+use Rattle.hack_rules.specs.CliLists.{lifts_given}
+use Rattle.hack_rules.specs.declared.late_rules.Late.{Late}
+
+-- what uses ask for of versions, log groups and pieces
+pub record IsLate (github_actions : Bool) (us : List Use) (late : Late) : Type 0 where
+  pub range : late.versions.range ≡ range_asked us
+  pub old : late.versions.is_old ≡ is_old_asked us
+  pub step : late.versions.step ≡ step_asked us
+  pub log_group : late.log_group ≡ log_group_asked github_actions us
+  pub piece : option_map (λ p. record { piece = p.piece; count = p.count }) late.partition ≡ piece_asked us
+  pub kind : IfSome late.partition (λ p. p.kind ≡ kind_asked us)
+  pub lifts : AreLifts (lifts_given us) late.lifts.items

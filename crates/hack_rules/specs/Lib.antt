@@ -1,0 +1,12 @@
+pub mod Asked
+pub mod CliFaults
+pub mod CliGroups
+pub mod CliLists
+pub mod CliTargets
+pub mod CliValues
+pub mod LateView
+pub mod Listed
+pub mod ListsView
+pub mod RangeReadings
+pub mod Readings
+pub mod Rules

@@ -1,0 +1,24 @@
+-- The lists of features that rules look at.
+use Rattle.std.specs.Prelude.{ℕ, List, Option}
+use Rattle.hack_options.specs.declared.Opt.TheVariants as opt
+use Rattle.hack_uses.specs.Uses.{Use}
+use Rattle.hack_rules.specs.CliLists.{names_given, groups_given, optional_given}
+
+-- the names in the lists of some options, and in each of their groups
+pub record Listed : Type 0 where
+  pub features : List (List ℕ)
+  pub includes : List (List ℕ)
+  pub excludes : List (List ℕ)
+  pub optional : Option (List (List ℕ))
+  pub groups : List (List (List ℕ))
+  pub exclusive : List (List (List ℕ))
+
+-- what uses list
+abbrev pub listed : List Use → Listed
+listed us = record {
+  features = names_given opt.Features us;
+  includes = names_given opt.IncludeFeatures us;
+  excludes = names_given opt.ExcludeFeatures us;
+  optional = optional_given us;
+  groups = groups_given opt.GroupFeatures us;
+  exclusive = groups_given opt.MutuallyExclusiveFeatures us }

@@ -1,0 +1,16 @@
+-- The lists of the code, as rules look at them.
+use Rattle.std.specs.Prelude.{option_map}
+use Rattle.hack_features.specs.Feature.{groups_of}
+use Rattle.hack_features.specs.Names.{names_of}
+use Rattle.hack_rules.specs.Listed.{Listed}
+use Rattle.hack_rules.specs.declared.listed.Lists.{Lists}
+
+-- what the lists have
+abbrev pub listed_in : Lists → Listed
+listed_in lists = record {
+  features = names_of lists.features.items;
+  includes = names_of lists.include_features.items;
+  excludes = names_of lists.exclude_features.items;
+  optional = option_map (λ names. names_of names.items) lists.optional_deps;
+  groups = groups_of lists.group_features.items;
+  exclusive = groups_of lists.mutually_exclusive_features.items }

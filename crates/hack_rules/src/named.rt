@@ -1,0 +1,219 @@
+//! The lists that the uses of options give.
+
+ghost use Rattle.std.specs.Prelude.{◌≡◌, [], IfOk, Some, map, string_bytes};
+ghost use Rattle.std.specs.List.{filter_map, list_any};
+ghost use Rattle.std.specs.Option.{option_map};
+ghost use Rattle.hack_features.specs.Names.{names_of};
+ghost use Rattle.hack_uses.specs.Uses.{views};
+ghost use Rattle.hack_uses.specs.Values.{values_given};
+ghost use Rattle.hack_rules.specs.CliFaults.{Checks, LiftForm, LiftGroup};
+ghost use Rattle.hack_rules.specs.CliLists.{names_given, names_or_none, optional_given, lift_of, lifts_given, is_lift, lifts_one_of, same_names, first_failing, first_fault_of, lift_form, lift_group};
+ghost use Rattle.hack_rules.specs.CliTargets.{AreRising, AreSame, put_all};
+ghost use Rattle.hack_features.specs.Feature.{IsGroup, group_of};
+ghost use Rattle.hack_term.specs.Lists.{group_names};
+ghost use Rattle.hack_rules.specs.CliGroups.{AreGroupsOf, AreNormalsOf, AreLifts};
+
+use crate::fault::CliFault;
+use hack_term::lists::{has_separator, split_group, split_names, unquoted};
+use hack_features::Feature;
+use hack_options::Opt;
+use hack_uses::{Use, given, value, values};
+use std::alloc::{AllocError, Global};
+use std::collections::BTreeSet;
+
+/// The names in all lists of an option, in order.
+pub fn names(alloc: Global, option: Opt, uses: &[Use]) -> Result<Vec<String>, AllocError>
+    ensures { IfOk result (λ names. map string_bytes names.items ≡ names_given option (views uses.now)) }
+{
+    let mut names = Vec::new(alloc);
+    let texts = values(alloc, option, uses)?;
+    for text in &texts {
+        names.append(&mut split_names(alloc, text.as_str())?)?;
+    }
+    Ok(names)
+}
+
+/// The names of a list that may be left out.
+fn names_or_empty(alloc: Global, text: Option<&String>) -> Result<Vec<String>, AllocError>
+    ensures { IfOk result (λ names. map string_bytes names.items
+        ≡ names_or_none (option_map (λ value. string_bytes value.now) text.entry)) }
+{
+    match text {
+        Some(text) => split_group(alloc, unquoted(text.as_str())),
+        None => Ok(Vec::new(alloc)),
+    }
+}
+
+/// The names of `--optional-deps`, where it is used. Empty names count, and without a value there are none.
+pub fn optional_names(alloc: Global, uses: &[Use]) -> Result<Option<Vec<String>>, AllocError>
+    ensures { IfOk result (λ names. option_map (λ list. map string_bytes list.items) names
+        ≡ optional_given (views uses.now)) }
+{
+    if !given(Opt::OptionalDeps, uses) {
+        return Ok(None);
+    }
+    let names = names_or_empty(alloc, value(Opt::OptionalDeps, uses))?;
+    Ok(Some(names))
+}
+
+/// The group of the names in one text.
+fn group(alloc: Global, text: &str) -> Result<Feature, AllocError>
+    ensures { IfOk result (IsGroup (group_names text.now)) }
+{
+    let names = split_group(alloc, text)?;
+    Feature::group(alloc, names)
+}
+
+/// The groups of an option, one for each use.
+pub fn groups(alloc: Global, option: Opt, uses: &[Use]) -> Result<Vec<Feature>, AllocError>
+    ensures { IfOk result (λ groups. AreGroupsOf (values_given option (views uses.now)) groups.items) }
+{
+    let mut groups = Vec::new(alloc);
+    let texts = values(alloc, option, uses)?;
+    for text in &texts {
+        groups.push(group(alloc, text.as_str())?)?;
+    }
+    Ok(groups)
+}
+
+/// A feature for each name.
+pub fn normals(alloc: Global, names: &[String]) -> Result<Vec<Feature>, AllocError>
+    ensures { IfOk result (λ features. AreNormalsOf (names_of names.now) features.items) }
+{
+    let mut features = Vec::new(alloc);
+    for name in names {
+        features.push(Feature::normal(alloc, name.as_str())?)?;
+    }
+    Ok(features)
+}
+
+/// The set of these texts.
+fn set_of(alloc: Global, texts: Vec<String>) -> Result<BTreeSet<String>, AllocError>
+    ensures { IfOk result (λ set. set.keys ≡ put_all [] texts.items) }
+{
+    let mut set = BTreeSet::new(alloc);
+    for text in texts {
+        set.insert(text)?;
+    }
+    Ok(set)
+}
+
+/// The texts of a set, in order.
+fn in_order(alloc: Global, set: BTreeSet<String>) -> Result<Vec<String>, AllocError>
+    ensures keys { IfOk result (λ texts. texts.items ≡ set.keys) }
+    ensures rising { IfOk result (λ texts. AreRising (map string_bytes texts.items)) }
+{
+    let mut texts = Vec::new(alloc);
+    for text in set {
+        texts.push(text)?;
+    }
+    Ok(texts)
+}
+
+/// The values of `--target`, sorted by their bytes, each once.
+pub fn targets(alloc: Global, uses: &[Use]) -> Result<Vec<String>, AllocError>
+    ensures rising { IfOk result (λ targets. AreRising (map string_bytes targets.items)) }
+    ensures same { IfOk result (λ targets. AreSame (map string_bytes targets.items)
+        (values_given Opt.Target (views uses.now))) }
+{
+    let texts = values(alloc, Opt::Target, uses)?;
+    let set = set_of(alloc, texts)?;
+    in_order(alloc, set)
+}
+
+/// A value of `--allow-together`, cut into its package and its list of features.
+fn cut_lift(text: &str) -> Option<(&str, &str)>
+    ensures { option_map (λ parts. record { owner = parts.0.now; group = group_names parts.1.now }) result ≡ lift_of text.now }
+{
+    let (owner, features) = text.split_once('=')?;
+    if owner.is_empty() || !has_separator(features) {
+        return None;
+    }
+    Some((owner, features))
+}
+
+/// Each value has the form of `--allow-together`.
+fn check_forms(texts: &[String]) -> Result<(), CliFault>
+    ensures { Checks result (option_map LiftForm (first_failing is_lift (map string_bytes texts.now))) }
+{
+    for text in texts {
+        if cut_lift(text.as_str()).is_none() {
+            return Err(CliFault::LiftForm {
+                found: text.clone()?,
+            });
+        }
+    }
+    Ok(())
+}
+
+/// Whether the names of the group are these, in this order.
+fn is_named(group: &Feature, names: &[String]) -> bool
+    ensures { result ≡ same_names (names_of names.now) (group_of group.now) }
+{
+    names == group.as_group()
+}
+
+/// Whether the names of one group are these, in this order.
+fn has_names(groups: &[Feature], names: &[String]) -> bool
+    ensures { result ≡ list_any (same_names (names_of names.now)) (map group_of groups.now) }
+{
+    for group in groups {
+        if is_named(group, names) {
+            return true;
+        }
+    }
+    false
+}
+
+/// Whether a value lifts one of the groups.
+fn lifts_one(alloc: Global, groups: &[Feature], text: &str) -> Result<bool, AllocError>
+    ensures { IfOk result (λ one. one ≡ lifts_one_of (map group_of groups.now) text.now) }
+{
+    match cut_lift(text) {
+        Some((_, features)) => Ok(has_names(groups, &split_group(alloc, features)?)),
+        None => Ok(false),
+    }
+}
+
+/// Each value lifts one of the groups.
+fn check_groups(alloc: Global, groups: &[Feature], texts: &[String]) -> Result<(), CliFault>
+    ensures { Checks result (option_map LiftGroup
+        (first_failing (lifts_one_of (map group_of groups.now)) (map string_bytes texts.now))) }
+{
+    for text in texts {
+        if !lifts_one(alloc, groups, text.as_str())? {
+            return Err(CliFault::LiftGroup {
+                found: text.clone()?,
+            });
+        }
+    }
+    Ok(())
+}
+
+/// The packages with the groups that the values lift for them.
+fn lifts_of(alloc: Global, texts: &[String]) -> Result<Vec<(String, Feature)>, AllocError>
+    ensures { IfOk result (λ lifts. AreLifts (filter_map lift_of (map string_bytes texts.now)) lifts.items) }
+{
+    let mut lifts = Vec::new(alloc);
+    for text in texts {
+        if let Some((owner, features)) = cut_lift(text.as_str()) {
+            let owner = String::from_str(alloc, owner)?;
+            let features = group(alloc, features)?;
+            lifts.push((owner, features))?;
+        }
+    }
+    Ok(lifts)
+}
+
+/// The packages with the groups of `--mutually-exclusive-features` that are lifted for them. A value of another form
+/// is told before one whose names are those of no group.
+pub fn lifts(alloc: Global, uses: &[Use]) -> Result<Vec<(String, Feature)>, CliFault>
+    ensures lifts { IfOk result (λ lifts. AreLifts (lifts_given (views uses.now)) lifts.items) }
+    ensures checks { Checks result (first_fault_of (lift_form (views uses.now)) (lift_group (views uses.now))) }
+{
+    let texts = values(alloc, Opt::AllowTogether, uses)?;
+    check_forms(&texts)?;
+    let groups = groups(alloc, Opt::MutuallyExclusiveFeatures, uses)?;
+    check_groups(alloc, &groups, &texts)?;
+    Ok(lifts_of(alloc, &texts)?)
+}

@@ -1,0 +1,4 @@
+pub mod ListLemmas
+pub mod PieceLemmas
+pub mod TextLemmas
+pub mod WriteLemmas

@@ -1,0 +1,37 @@
+-- Groups of lines in a log.
+use Rattle.std.specs.Prelude.{◌≡◌, ℕ, List, [], codes, string_bytes}
+use Rattle.hack_term.specs.Writes.{line}
+use Rattle.hack_term.specs.Lines.{info_line}
+use Rattle.hack_term.specs.declared.term.Coloring.{Coloring}
+use Rattle.hack_term.specs.declared.log_group.LogGroup.{LogGroup}
+use Rattle.hack_term.specs.declared.log_group.LogGroup.TheVariants.{None, GithubActions}
+use Rattle.hack_term.specs.declared.log_group.LogGroupFault.{LogGroupFault}
+use Rattle.hack_term.specs.declared.log_group.LogGroupFault.TheVariants.{Name, Memory}
+
+-- the name of a kind of groups
+abbrev pub group_name : LogGroup → List ℕ
+group_name None = codes "none"
+group_name GithubActions = codes "github-actions"
+
+-- the text names no kind of groups
+abbrev pub IsNoGroup : List ℕ → Type 0
+IsNoGroup text = (group : LogGroup) → text ≡ group_name group → ⊥
+
+-- why a text is refused
+abbrev pub RefusesGroup : List ℕ → LogGroupFault → Type 0
+RefusesGroup text (Name s) = (string_bytes s ≡ text) × IsNoGroup text
+RefusesGroup text Memory = Unit {0}
+
+-- the line that opens a group, on the output
+abbrev pub opening_line : LogGroup → List ℕ → List ℕ
+opening_line None text = []
+opening_line GithubActions text = line (codes "::group::") text
+
+-- the line in place of a group, where the errors go
+abbrev pub message_line : LogGroup → Coloring → List ℕ → List ℕ
+message_line None coloring text = info_line coloring text
+message_line GithubActions coloring text = []
+
+-- the line that ends a group
+abbrev pub closing_line : List ℕ
+closing_line = codes "::endgroup::\n"

@@ -1,0 +1,64 @@
+-- The lines that a user is told.
+use Rattle.std.specs.Prelude.{◌≡◌, ℕ, List, [], ◌∷◌, ◌++◌, codes, true}
+use Rattle.hack_versions.specs.declared.notice.NoticeKind.{NoticeKind}
+use Rattle.hack_versions.specs.declared.notice.NoticeKind.TheVariants.{Info, Warn, QuietWarn}
+use Rattle.hack_term.specs.Writes.{line}
+use Rattle.hack_term.specs.declared.term.Coloring.{Coloring}
+use Rattle.hack_term.specs.declared.term.Coloring.TheVariants.{Auto, Always, Never}
+use Rattle.hack_term.specs.declared.term.Term.{Term}
+
+-- the name of a colouring
+abbrev pub coloring_name : Coloring → List ℕ
+coloring_name Auto = codes "auto"
+coloring_name Always = codes "always"
+coloring_name Never = codes "never"
+
+-- the text is that of no colouring
+abbrev pub IsNoColoring : List ℕ → Type 0
+IsNoColoring text = (coloring : Coloring) → text ≡ coloring_name coloring → ⊥
+
+-- an escape sequence that sets how text looks: 0 resets, 1 is bold, 31 is red, 33 is yellow
+abbrev pub look : List ℕ → List ℕ
+look code = 27 ∷ codes "[" ++ code ++ codes "m"
+
+-- what begins a line: a word, a colon and a space, in bold and the word in a colour where it is coloured
+abbrev pub label : Coloring → List ℕ → List ℕ → List ℕ
+label Auto color word = word ++ codes ": "
+label Never color word = word ++ codes ": "
+label Always color word = look (codes "0") ++ look (codes "1") ++ color ++ word ++ look (codes "0") ++ look (codes "1") ++ codes ":" ++ look (codes "0") ++ codes " "
+
+-- what begins the line of an information
+abbrev pub info_label : Coloring → List ℕ
+info_label coloring = label coloring [] (codes "info")
+
+-- what begins the line of a warning, in yellow
+abbrev pub warning_label : Coloring → List ℕ
+warning_label coloring = label coloring (look (codes "33")) (codes "warning")
+
+-- what begins the line of an error, in red
+abbrev pub error_label : Coloring → List ℕ
+error_label coloring = label coloring (look (codes "31")) (codes "error")
+
+-- the line of an information
+abbrev pub info_line : Coloring → List ℕ → List ℕ
+info_line coloring text = line (info_label coloring) text
+
+-- the line of a warning
+abbrev pub warning_line : Coloring → List ℕ → List ℕ
+warning_line coloring text = line (warning_label coloring) text
+
+-- the line of an error
+abbrev pub error_line : Coloring → List ℕ → List ℕ
+error_line coloring text = line (error_label coloring) text
+
+-- the line of a notice
+abbrev pub notice_line : Coloring → NoticeKind → List ℕ → List ℕ
+notice_line coloring Info text = info_line coloring text
+notice_line coloring Warn text = warning_line coloring text
+notice_line coloring QuietWarn text = warning_line coloring text
+
+-- what a notice leaves: one that warns is noted, a quiet one is not
+abbrev pub after_notice : Term → NoticeKind → Term
+after_notice term Info = term
+after_notice term Warn = record term { warn = true }
+after_notice term QuietWarn = term

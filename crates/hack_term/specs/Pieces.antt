@@ -1,0 +1,23 @@
+-- The pieces of a plan, and which places they have.
+use Rattle.std.specs.Prelude.{◌≡◌, ℕ, ◌-◌, ◌*◌, ◌%◌, ◌<◌, ◌≤◌, List, length}
+use Rattle.std.specs.Int.{div_ceil}
+use Rattle.std.specs.List.{slice_range, flat_map, range_with_len}
+use Rattle.hack_term.specs.declared.partition.PartitionKind.{PartitionKind}
+use Rattle.hack_term.specs.declared.partition.PartitionKind.TheVariants.{Block, Turn}
+
+-- piece m of count has the place: under block its slice does, all slices being as long as the total over count, rounded up; under turn the places are dealt to the pieces one after the other
+abbrev pub InPiece : PartitionKind → ℕ → ℕ → ℕ → ℕ → Type 0
+InPiece Block m count total place = ((m - 1) * div_ceil total count ≤ place) × (place < m * div_ceil total count)
+InPiece Turn m count total place = place % count ≡ m - 1
+
+-- one of the pieces has the place, and no other
+abbrev pub InJustOnePiece : PartitionKind → ℕ → ℕ → ℕ → Type 0
+InJustOnePiece kind count total place = (m : ℕ) × (0 < m) × (m ≤ count) × InPiece kind m count total place × ((k : ℕ) → 0 < k → k ≤ count → InPiece kind k count total place → k ≡ m)
+
+-- block m of count: the slice of the plan at the places of piece m, cut at the plan's end
+abbrev pub block : {A : Type 0} → ℕ → ℕ → List A → List A
+block m count plan = slice_range plan ((m - 1) * div_ceil (length plan) count) (m * div_ceil (length plan) count)
+
+-- the blocks from the first to the last, one behind the other
+abbrev pub joined : {A : Type 0} → ℕ → List A → List A
+joined count plan = flat_map (λ m. block m count plan) (range_with_len 1 count)

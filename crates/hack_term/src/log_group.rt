@@ -1,0 +1,111 @@
+//! Groups of lines in a log that can be folded.
+
+ghost use Rattle.std.specs.Prelude.{◌≡◌, ◌↔◌, IsTrue, IfOk, IfErr, IsSome, codes};
+ghost use Rattle.std.specs.Bool.{OnTrue};
+ghost use Rattle.std.specs.Io.KnownBytes.{Appends};
+ghost use Rattle.hack_term.specs.Writes.{AppendsFront};
+ghost use Rattle.hack_term.specs.Groups.{group_name, RefusesGroup, opening_line, message_line, closing_line};
+
+use crate::term::Term;
+use crate::writes::{write_front, write_line};
+use std::alloc::{AllocError, Global};
+use std::io::Write;
+use thiserror::Error;
+
+/// Why a log group can't be read.
+#[derive(Debug, Drop, Error)]
+pub enum LogGroupFault {
+    /// The text names none.
+    #[error("argument for --log-group must be none or github-actions, but found `{0}`")]
+    Name(String),
+    #[error("out of memory")]
+    Memory,
+}
+
+impl From<AllocError> for LogGroupFault {
+    ghost use Rattle.hack_term.specs.declared.log_group.LogGroupFault.TheVariants.{Memory};
+
+    ghost from_gives = { λ _ e. e ≡ Memory };
+
+    fn from(_e: AllocError) -> LogGroupFault {
+        LogGroupFault::Memory
+    }
+}
+
+/// How the lines of one command are grouped.
+#[derive(Clone, Copy, Debug, PartialEq, Eq)]
+pub enum LogGroup {
+    /// They aren't.
+    None,
+    /// Between `::group::` and `::endgroup::`, which the runners of GitHub Actions fold.
+    GithubActions,
+}
+
+/// A group of lines that is open. It has no `Drop`, so it must be ended.
+pub struct LogGroupGuard {
+    _open: (),
+}
+
+impl LogGroup {
+    /// Reads `none` or `github-actions`.
+    pub fn parse(alloc: Global, text: &str) -> Result<LogGroup, LogGroupFault>
+        ensures group { IfOk result (λ group. text.now ≡ group_name group) }
+        ensures refused { IfErr result (RefusesGroup text.now) }
+    {
+        match text {
+            "none" => Ok(LogGroup::None),
+            "github-actions" => Ok(LogGroup::GithubActions),
+            _ => Err(LogGroupFault::Name(String::from_str(alloc, text)?)),
+        }
+    }
+
+    /// The group for a process, which may run under GitHub Actions.
+    pub fn auto(github_actions: bool) -> LogGroup
+        ensures { (result ≡ LogGroup.GithubActions) ↔ IsTrue github_actions }
+    {
+        if github_actions {
+            LogGroup::GithubActions
+        } else {
+            LogGroup::None
+        }
+    }
+
+    /// Opens a group with the text on `out`, or writes an info line with it on `err`. A write that fails is
+    /// ignored; the group counts as open.
+    pub fn print<O: Write, E: Write>(
+        self,
+        term: &Term,
+        text: &str,
+        out: &mut O,
+        err: &mut E,
+    ) -> Option<LogGroupGuard>
+        ensures guard { IsSome result ↔ (self ≡ LogGroup.GithubActions) }
+        ensures out { AppendsFront (O.contents out.old) (O.contents out.new)
+            (opening_line self text.now) }
+        ensures err { AppendsFront (E.contents err.old) (E.contents err.new)
+            (message_line self term.now.coloring text.now) }
+    {
+        match self {
+            LogGroup::None => {
+                term.info(text, err);
+                None
+            }
+            LogGroup::GithubActions => {
+                write_line("::group::", text, out);
+                Some(LogGroupGuard { _open: () })
+            }
+        }
+    }
+}
+
+impl LogGroupGuard {
+    /// Ends the group, and answers whether its line was written.
+    pub fn end<O: Write>(self, out: &mut O) -> bool
+        ensures line { OnTrue result (Appends (O.contents out.old) (O.contents out.new)
+            closing_line) }
+        ensures front { AppendsFront (O.contents out.old) (O.contents out.new) closing_line }
+    {
+        let LogGroupGuard { _open: () } = self;
+        write_front("::endgroup::\n", out)
+    }
+}

@@ -1,0 +1,155 @@
+//! Lines for the user, and what they leave behind for the exit status. A line goes to a writer that is handed in,
+//! and takes no memory; a write that fails is told by the answer, which a caller may ignore.
+
+ghost use Rattle.std.specs.Prelude.{◌≡◌, ◌↔◌, ◌≤◌, ◌⊎◌, IsTrue, IfSome, IfNone, true, false, string_bytes};
+ghost use Rattle.std.specs.Bool.{OnTrue};
+ghost use Rattle.std.specs.Io.KnownBytes.{Appends};
+ghost use Rattle.hack_term.specs.Writes.{AppendsFront};
+ghost use Rattle.hack_term.specs.Lines.{coloring_name, IsNoColoring, info_label as label_of_info, warning_label as label_of_warnings, error_label as label_of_errors, info_line, warning_line, error_line, notice_line, after_notice};
+
+pub use crate::log_group::{LogGroup, LogGroupFault, LogGroupGuard};
+use crate::writes::write_line;
+pub use hack_versions::notice::{Notice, NoticeKind};
+use std::io::Write;
+
+/// Whether the word that begins a line is coloured.
+#[derive(Clone, Copy, Debug, PartialEq, Eq)]
+pub enum Coloring {
+    /// As `Never`: nobody looks whether the writer is a terminal.
+    Auto,
+    Always,
+    Never,
+}
+
+impl Coloring {
+    /// Reads `auto`, `always` or `never`.
+    pub fn parse(text: &str) -> Option<Coloring>
+        ensures some { IfSome result (λ coloring. text.now ≡ coloring_name coloring) }
+        ensures none { IfNone result (IsNoColoring text.now) }
+    {
+        match text {
+            "auto" => Some(Coloring::Auto),
+            "always" => Some(Coloring::Always),
+            "never" => Some(Coloring::Never),
+            _ => None,
+        }
+    }
+}
+
+fn info_label(coloring: Coloring) -> &'static str
+    ensures { result.now ≡ label_of_info coloring }
+{
+    match coloring {
+        Coloring::Always => "\x1b[0m\x1b[1minfo\x1b[0m\x1b[1m:\x1b[0m ",
+        Coloring::Auto | Coloring::Never => "info: ",
+    }
+}
+
+fn warning_label(coloring: Coloring) -> &'static str
+    ensures { result.now ≡ label_of_warnings coloring }
+{
+    match coloring {
+        Coloring::Always => "\x1b[0m\x1b[1m\x1b[33mwarning\x1b[0m\x1b[1m:\x1b[0m ",
+        Coloring::Auto | Coloring::Never => "warning: ",
+    }
+}
+
+fn error_label(coloring: Coloring) -> &'static str
+    ensures { result.now ≡ label_of_errors coloring }
+{
+    match coloring {
+        Coloring::Always => "\x1b[0m\x1b[1m\x1b[31merror\x1b[0m\x1b[1m:\x1b[0m ",
+        Coloring::Auto | Coloring::Never => "error: ",
+    }
+}
+
+/// How lines are printed, and what was printed so far.
+#[derive(Debug, PartialEq, Eq, Drop)]
+pub struct Term {
+    pub coloring: Coloring,
+    pub verbose: bool,
+    /// An error was told.
+    pub error: bool,
+    /// A warning was told that counts.
+    pub warn: bool,
+}
+
+impl Term {
+    /// A terminal to which nothing was told yet.
+    pub fn new(coloring: Coloring, verbose: bool) -> Term
+        ensures { result ≡
+            record { coloring = coloring; verbose = verbose; error = false; warn = false } }
+    {
+        Term {
+            coloring,
+            verbose,
+            error: false,
+            warn: false,
+        }
+    }
+
+    /// Writes a line behind `info: `, and answers whether the whole line was written.
+    pub fn info<W: Write>(&self, text: &str, out: &mut W) -> bool
+        ensures line { OnTrue result (Appends (W.contents out.old) (W.contents out.new)
+            (info_line self.now.coloring text.now)) }
+        ensures front { AppendsFront (W.contents out.old) (W.contents out.new)
+            (info_line self.now.coloring text.now) }
+    {
+        write_line(info_label(self.coloring), text, out)
+    }
+
+    /// Writes a line behind `warning: `, and answers whether the whole line was written. The warning is noted
+    /// in any case.
+    pub fn warn<W: Write>(&mut self, text: &str, out: &mut W) -> bool
+        ensures noted { self.new ≡ record self.old { warn = true } }
+        ensures line { OnTrue result (Appends (W.contents out.old) (W.contents out.new)
+            (warning_line self.old.coloring text.now)) }
+        ensures front { AppendsFront (W.contents out.old) (W.contents out.new)
+            (warning_line self.old.coloring text.now) }
+    {
+        self.warn = true;
+        write_line(warning_label(self.coloring), text, out)
+    }
+
+    /// Writes a line behind `error: `, and answers whether the whole line was written. The error is noted in
+    /// any case.
+    pub fn error<W: Write>(&mut self, text: &str, out: &mut W) -> bool
+        ensures noted { self.new ≡ record self.old { error = true } }
+        ensures line { OnTrue result (Appends (W.contents out.old) (W.contents out.new)
+            (error_line self.old.coloring text.now)) }
+        ensures front { AppendsFront (W.contents out.old) (W.contents out.new)
+            (error_line self.old.coloring text.now) }
+    {
+        self.error = true;
+        write_line(error_label(self.coloring), text, out)
+    }
+
+    /// Writes a notice as its kind says, and answers whether the whole line was written.
+    pub fn notice<W: Write>(&mut self, notice: &Notice, out: &mut W) -> bool
+        ensures noted { self.new ≡ after_notice self.old notice.now.kind }
+        ensures line { OnTrue result (Appends (W.contents out.old) (W.contents out.new)
+            (notice_line self.old.coloring notice.now.kind (string_bytes notice.now.text))) }
+        ensures front { AppendsFront (W.contents out.old) (W.contents out.new)
+            (notice_line self.old.coloring notice.now.kind (string_bytes notice.now.text)) }
+    {
+        let text = notice.text.as_str();
+        match notice.kind {
+            NoticeKind::Info => self.info(text, out),
+            NoticeKind::Warn => self.warn(text, out),
+            NoticeKind::QuietWarn => write_line(warning_label(self.coloring), text, out),
+        }
+    }
+
+    /// The exit status: 1 after an error, or after a warning where warnings are denied; else 0.
+    pub fn status(&self, deny_warnings: bool) -> u8
+        ensures one { (result ≡ 1)
+            ↔ (IsTrue self.now.error ⊎ (IsTrue self.now.warn × IsTrue deny_warnings)) }
+        ensures at_most_one { result ≤ 1 }
+    {
+        if self.error || (self.warn && deny_warnings) {
+            1
+        } else {
+            0
+        }
+    }
+}

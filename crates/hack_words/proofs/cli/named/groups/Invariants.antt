@@ -1,8 +1,0 @@
-use Rattle.std.proofs.Common.{◌≡◌, take, map, string_bytes}
-use Rattle.hack_uses.specs.Uses.{views}
-use Rattle.hack_uses.specs.Values.{values_given}
-use Rattle.hack_words.specs.CliGroups.{AreGroupsOf}
-use Rattle.hack_words.proofs.cli.named.groups.Given as goal
-
-abbrev pub invariant-loop-text : goal.invariant-loop-text
-invariant-loop-text l = AreGroupsOf (map string_bytes (take l.text-index l.text-items)) l.groups.items × (map string_bytes l.text-items ≡ values_given l.fn.option (views l.fn.uses))

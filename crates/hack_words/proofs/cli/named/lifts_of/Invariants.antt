@@ -1,8 +1,0 @@
-use Rattle.std.proofs.Common.{take, map, string_bytes}
-use Rattle.std.specs.List.{filter_map}
-use Rattle.hack_words.specs.CliGroups.{AreLifts}
-use Rattle.hack_words.specs.CliLists.{lift_of}
-use Rattle.hack_words.proofs.cli.named.lifts_of.Given as goal
-
-abbrev pub invariant-loop-text : goal.invariant-loop-text
-invariant-loop-text l = AreLifts (filter_map lift_of (map string_bytes (take l.text-index l.texts))) l.lifts.items

@@ -1,7 +1,0 @@
-use Rattle.std.proofs.Common.{take}
-use Rattle.hack_features.specs.Names.{names_of}
-use Rattle.hack_words.specs.CliGroups.{AreNormalsOf}
-use Rattle.hack_words.proofs.cli.named.normals.Given as goal
-
-abbrev pub invariant-loop-name : goal.invariant-loop-name
-invariant-loop-name l = AreNormalsOf (names_of (take l.name-index l.names)) l.features.items

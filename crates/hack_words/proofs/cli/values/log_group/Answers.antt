@@ -1,5 +1,0 @@
-use Rattle.hack_words.proofs.ReadingLemmas.{group-refused}
-use Rattle.hack_words.proofs.cli.values.log_group.Goals as goal
-
-pub returns-in-Err-clause-checks : goal.returns-in-Err-clause-checks
-returns-in-Err-clause-checks c = rw c.of_log_group.ensures.tells (group-refused c.args.text.now c.in-Err.fault c.in-Err.ensures.refused)
