@@ -2,12 +2,11 @@
 
 mod fault;
 mod named;
-mod values;
-
 #[cfg(test)]
 mod tests_of_named;
 #[cfg(test)]
 mod tests_of_values;
+mod values;
 
 pub use fault::{Beside, CliFault};
 pub use hack_uses::{CutFault, OwnedFlag};
