@@ -1,10 +1,7 @@
-use Rattle.std.proofs.Common.{rules, ◌≡◌, ◌+◌, ◌++◌, ◌∷◌, [], ◌∙◌, ap, sym, subst, take, List, ℕ, map, string_bytes, append-nil, Some, None}
-use Rattle.std.specs.List.{filter_map}
-use Rattle.std.proofs.lemmas.List.{map-append, take_more}
-use Rattle.std.proofs.lemmas.List.Elements.{filter_map-append}
+use Rattle.std.proofs.Common.{rules, ◌≡◌, ◌+◌, ◌++◌, ◌∷◌, [], ◌∙◌, ap, sym, take, string_bytes, Some, None}
+use Rattle.std.proofs.lemmas.List.{take_more}
 use Rattle.hack_features.specs.Feature.{IsGroup}
-use Rattle.hack_words.specs.CliGroups.{AreLifts}
-use Rattle.hack_words.specs.CliLists.{Lift, lift_of}
+use Rattle.hack_words.specs.CliLists.{lift_of}
 use Rattle.hack_words.specs.Lists.{group_names}
 use Rattle.hack_words.proofs.GroupLemmas.{lift-none, lift-some}
 use Rattle.hack_words.proofs.cli.named.lifts_of.Goals as goal
