@@ -1,5 +1,5 @@
 -- Texts that are put into a set, and the order in which they come out.
-use Rattle.std.proofs.Common.{◌≡◌, ◌∙◌, ◌||◌, ◌↔◌, refl, ap, sym, subst, ℕ, List, [], ◌∷◌, Bool, true, false, Contains, map, String, string_bytes, bytes_eq}
+use Rattle.std.proofs.Common.{◌≡◌, ◌∙◌, ◌||◌, refl, ap, sym, subst, ℕ, List, [], ◌∷◌, Bool, true, false, Contains, map, String, string_bytes, bytes_eq}
 use Rattle.std.specs.BTreeSet.{insert_key}
 use Rattle.std.specs.Cmp.Lexicographic.{slice_cmp, nat_list_eq_equiv}
 use Rattle.std.specs.List.{list_any, AllByRecursion}

@@ -27,12 +27,9 @@ fn are(texts: &[String], want: &[&str]) -> bool {
 
 fn are_groups(features: &[Feature], want: &[&str]) -> bool {
     features.len() == want.len()
-        && features
-            .iter()
-            .zip(want)
-            .all(|(feature, want)| {
-                feature.name() == *want && matches!(feature, Feature::Group { .. })
-            })
+        && features.iter().zip(want).all(|(feature, want)| {
+            feature.name() == *want && matches!(feature, Feature::Group { .. })
+        })
 }
 
 #[test]
@@ -138,10 +135,8 @@ fn targets_rise(rt: HostRuntime) -> Result<(), Fail> {
 
 fn are_lifts(lifts: &[(String, Feature)], want: &[(&str, &str)]) -> bool {
     lifts.len() == want.len()
-        && lifts
-            .iter()
-            .zip(want)
-            .all(|(lift, want)| lift.0.as_str() == want.0 && lift.1.name() == want.1)
+        && lifts.iter().zip(want).all(|(lift, want)| lift.0.as_str() == want.0
+            && lift.1.name() == want.1)
 }
 
 #[test]
@@ -151,7 +146,12 @@ fn lifted_groups(rt: HostRuntime) -> Result<(), Fail> {
         (&["check"], &[]),
         (&[group, "tokio,async-std"], &[]),
         (
-            &[group, "tokio,async-std", "--allow-together", "p=tokio,async-std"],
+            &[
+                group,
+                "tokio,async-std",
+                "--allow-together",
+                "p=tokio,async-std",
+            ],
             &[("p", "tokio,async-std")],
         ),
         (
@@ -159,7 +159,14 @@ fn lifted_groups(rt: HostRuntime) -> Result<(), Fail> {
             &[("p", "a,b")],
         ),
         (
-            &["--allow-together", "q=a=1,b", "--allow-together", "é=a=1,b", group, "a=1 b"],
+            &[
+                "--allow-together",
+                "q=a=1,b",
+                "--allow-together",
+                "é=a=1,b",
+                group,
+                "a=1 b",
+            ],
             &[("q", "a=1,b"), ("é", "a=1,b")],
         ),
     ];
@@ -177,24 +184,21 @@ fn lifted_groups(rt: HostRuntime) -> Result<(), Fail> {
 fn lifts_are_refused(rt: HostRuntime) -> Result<(), Fail> {
     let form = "--allow-together requires PACKAGE=FEATURES with two or more features, but found `";
     let group = "--allow-together names no group of --mutually-exclusive-features: `";
-    let rows: [(&[&str], &str, &str); 8] = [
-        (&["p"], form, "p"),
-        (&["p=a,b", "=a,b"], form, "=a,b"),
-        (&["p=a", "p"], form, "p=a"),
-        (&["p="], form, "p="),
-        (&["p=b,a", "q"], form, "q"),
-        (&["p=b,a"], group, "p=b,a"),
-        (&["p=a,b", "q=a,b,", "r=a"], form, "r=a"),
-        (&["p=a,b", "q=a,b,", "r=b,a"], group, "q=a,b,"),
+    let m = "--mutually-exclusive-features=a,b";
+    let a = "--allow-together";
+    let rows: [(&[&str], &str, &str); 9] = [
+        (&[m, a, "p"], form, "p"),
+        (&[m, a, "p=a,b", a, "=a,b"], form, "=a,b"),
+        (&[m, a, "p=a", a, "p"], form, "p=a"),
+        (&[a, "p=", m], form, "p="),
+        (&[m, a, "p=b,a", a, "q"], form, "q"),
+        (&[m, a, "p=b,a"], group, "p=b,a"),
+        (&[m, a, "p=a,b", a, "q=a,b,", a, "r=a"], form, "r=a"),
+        (&[m, a, "p=a,b", a, "q=a,b,", a, "r=b,a"], group, "q=a,b,"),
+        (&[a, "p=a,b"], group, "p=a,b"),
     ];
-    for (values, text, value) in rows {
-        let mut words = Vec::new(rt.alloc());
-        words.push("--mutually-exclusive-features=a,b")?;
-        for lift in values {
-            words.push("--allow-together")?;
-            words.push(*lift)?;
-        }
-        let uses = uses(rt.alloc(), &words)?;
+    for (words, text, value) in rows {
+        let uses = uses(rt.alloc(), words)?;
         let found = match lifts(rt.alloc(), &uses) {
             Ok(_) => String::new(rt.alloc()),
             Err(fault) => format!(in rt.alloc(); "{fault}")?,

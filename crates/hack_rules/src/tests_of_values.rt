@@ -38,7 +38,10 @@ fn depths(rt: HostRuntime) -> Result<(), Fail> {
         ("18446744073709551615", usize::MAX),
     ];
     for (text, want) in rows {
-        assert!(rt; matches!(depth(rt.alloc(), text), Ok(found) if found == want), "of {text}");
+        assert!(rt;
+            matches!(depth(rt.alloc(), text), Ok(found) if found == want),
+            "of {text}"
+        );
     }
     for text in ["", "+", "-1", "1 ", "x", "é", "18446744073709551616"] {
         let found = told(rt.alloc(), depth(rt.alloc(), text))?;
@@ -51,11 +54,18 @@ fn depths(rt: HostRuntime) -> Result<(), Fail> {
 #[test]
 fn steps(rt: HostRuntime) -> Result<(), Fail> {
     for (text, want) in [("1", 1), ("+2", 2), ("65535", 65535)] {
-        assert!(rt; matches!(step(rt.alloc(), text), Ok(found) if found == want), "of {text}");
+        assert!(rt;
+            matches!(step(rt.alloc(), text), Ok(found) if found == want),
+            "of {text}"
+        );
     }
     for text in ["0", "+0", "000"] {
         let found = told(rt.alloc(), step(rt.alloc(), text))?;
-        assert_eq!(rt; found.as_str(), "--version-step cannot be zero", "of {text}");
+        assert_eq!(rt;
+            found.as_str(),
+            "--version-step cannot be zero",
+            "of {text}"
+        );
     }
     for text in ["", "65536", "-1", "1.0", "é"] {
         let found = told(rt.alloc(), step(rt.alloc(), text))?;
@@ -72,11 +82,16 @@ fn log_groups(rt: HostRuntime) -> Result<(), Fail> {
         ("github-actions", LogGroup::GithubActions),
     ];
     for (text, want) in rows {
-        assert!(rt; matches!(log_group(rt.alloc(), text), Ok(found) if found == want), "of {text}");
+        assert!(rt;
+            matches!(log_group(rt.alloc(), text), Ok(found) if found == want),
+            "of {text}"
+        );
     }
     for text in ["", "None", "github", "gïthub-actions"] {
         let found = told(rt.alloc(), log_group(rt.alloc(), text))?;
-        let want = format!(in rt.alloc(); "argument for --log-group must be none or github-actions, but found `{text}`")?;
+        let want = format!(in rt.alloc();
+            "argument for --log-group must be none or github-actions, but found `{text}`"
+        )?;
         assert_eq!(rt; found.as_str(), want.as_str());
     }
     Ok(())
@@ -88,11 +103,16 @@ fn kinds(rt: HostRuntime) -> Result<(), Fail> {
         ("block", PartitionKind::Block),
         ("turn", PartitionKind::Turn),
     ] {
-        assert!(rt; matches!(kind(rt.alloc(), text), Ok(found) if found == want), "of {text}");
+        assert!(rt;
+            matches!(kind(rt.alloc(), text), Ok(found) if found == want),
+            "of {text}"
+        );
     }
     for text in ["", "blocks", "Turn"] {
         let found = told(rt.alloc(), kind(rt.alloc(), text))?;
-        let want = format!(in rt.alloc(); "argument for --partition-kind must be block or turn, but found `{text}`")?;
+        let want = format!(in rt.alloc();
+            "argument for --partition-kind must be block or turn, but found `{text}`"
+        )?;
         assert_eq!(rt; found.as_str(), want.as_str());
     }
     Ok(())

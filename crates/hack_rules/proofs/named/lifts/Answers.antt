@@ -1,4 +1,4 @@
-use Rattle.std.proofs.Common.{rules, ◌≡◌, ap, sym, map, string_bytes}
+use Rattle.std.proofs.Common.{rules, ◌≡◌, map}
 use Rattle.hack_features.specs.Feature.{group_of}
 use Rattle.hack_options.specs.declared.Opt.TheVariants as opt
 use Rattle.hack_uses.specs.Uses.{views}

@@ -1,4 +1,4 @@
-use Rattle.std.proofs.Common.{rules, ◌≡◌, ◌∙◌, [], ap, sym, subst, List, ℕ, String, map, string_bytes, Global}
+use Rattle.std.proofs.Common.{rules, ◌≡◌, ◌∙◌, [], sym, subst, List, ℕ, String, map, string_bytes, Global}
 use Rattle.std.proofs.lemmas.Result.{IfOk-weaker}
 use Rattle.hack_options.specs.declared.Opt.TheVariants as opt
 use Rattle.hack_uses.specs.Uses.{views}
