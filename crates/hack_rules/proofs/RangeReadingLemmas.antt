@@ -1,5 +1,5 @@
 -- What a text of a range of versions is read as, where a call says how it is written.
-use Rattle.std.proofs.Common.{◌≡◌, ◌≢◌, ◌⊎◌, ◌↔◌, inl, inr, ℕ, ◌<◌, ◌≤◌, ◌==◌, ◌++◌, List, [], ◌∷◌, Bool, true, false, cond, length, drop, nat_eq, codes, string_bytes, Option, Some, None, Result, Ok, Err, IfSome, IsTrue, IsSomeAnd, MatchOption, option_map, arith, refl, ap, sym, subst, ◌∙◌}
+use Rattle.std.proofs.Common.{◌≡◌, ◌≢◌, ◌⊎◌, inl, inr, ℕ, ◌==◌, ◌++◌, List, [], ◌∷◌, Bool, true, false, drop, nat_eq, codes, Option, Some, None, Result, Ok, Err, IfSome, IsTrue, IsSomeAnd, MatchOption, option_map, arith, refl, ap, sym, subst, ◌∙◌}
 use Rattle.std.specs.List.{starts_with}
 use Rattle.std.proofs.lemmas.Bool.Decides.{nat_tests, Decides-eqb}
 use Rattle.std.proofs.lemmas.Slice.Eq.{starts_is}
@@ -10,9 +10,8 @@ use Rattle.hack_versions.specs.declared.version.VersionRange.{VersionRange}
 use Rattle.hack_versions.specs.declared.version.VersionFault.{VersionFault}
 use Rattle.hack_versions.specs.declared.version.VersionFault.TheVariants as fault
 use Rattle.hack_versions.specs.VersionTexts.{front_of, rest_of, IsNumber, IsSomeNumber, IsBadNumber, IsVersionText, IsVersionFault, IsCut, IsUncut, IsBare, IsBoundText, IsBoundFault, IsEndText, IsOpen, IsEndFault, IsRangeText, IsRangeTextFault}
-use Rattle.hack_rules.specs.CliFaults.{BadRange, MissingMinor, BadNumber, OpenInclusive, Fault, Range, bad_range_of}
+use Rattle.hack_rules.specs.CliFaults.{BadRange, BadNumber, OpenInclusive, Range, bad_range_of}
 use Rattle.hack_rules.specs.CliValues.{bad_range_fault, range_fault}
-use Rattle.hack_rules.specs.Readings.{number_of}
 use Rattle.hack_rules.specs.RangeReadings.{End, Sides, ReadRange, then_read, read_as, or_bad, part_of, with_patch, with_minor, version_of, bound_of, behind_equals, end_of, at_dots, with_end, range_at, range_of}
 use Rattle.hack_rules.proofs.ReadingLemmas.{number-read, number-unread}
 

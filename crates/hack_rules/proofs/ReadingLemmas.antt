@@ -1,8 +1,8 @@
 -- What a text is read as, where a call says how it is written.
-use Rattle.std.proofs.Common.{◌≡◌, ◌≢◌, ◌⊎◌, ℕ, zero, suc, ◌+◌, ◌<◌, ◌≤◌, ◌^◌, ◌==◌, ◌&&◌, ◌++◌, List, [], ◌∷◌, Bool, true, false, not, cond, length, take, drop, get_or, nat_lt, lt-ltb, codes, string_bytes, length-append, append_assoc, IfSome, IfNone, option_and_then, Option, Some, None, Result, Ok, Err, arith, refl, ap, sym, subst, ◌∙◌, IsTrue}
+use Rattle.std.proofs.Common.{◌≡◌, ◌≢◌, ℕ, ◌+◌, ◌<◌, ◌≤◌, ◌^◌, ◌==◌, ◌&&◌, ◌++◌, List, [], ◌∷◌, Bool, true, false, not, cond, length, take, drop, get_or, nat_lt, lt-ltb, codes, length-append, append_assoc, IfSome, IfNone, option_and_then, Option, Some, None, Result, Ok, Err, arith, refl, ap, sym, subst, ◌∙◌}
 use Rattle.std.specs.Bool.{Decides}
 use Rattle.std.specs.Cmp.{first_so, second_so}
-use Rattle.std.specs.List.{list_all, before_first, after_first, position_or_len}
+use Rattle.std.specs.List.{list_all, after_first, position_or_len}
 use Rattle.std.specs.Result.{result_ok}
 use Rattle.std.specs.Str.{bytes_eq}
 use Rattle.std.specs.Str.Parse.{AllDigits, IsNumeral, ParsesUnsigned, digits_value, without_leading_plus}
@@ -24,11 +24,11 @@ use Rattle.hack_term.specs.declared.log_group.LogGroupFault.{LogGroupFault}
 use Rattle.hack_term.specs.declared.log_group.LogGroupFault.TheVariants as log_group
 use Rattle.hack_term.specs.declared.partition.PartitionFault.{PartitionFault}
 use Rattle.hack_term.specs.declared.partition.PartitionFault.TheVariants as partition
-use Rattle.hack_rules.specs.CliFaults.{Fault, LogGroup as BadGroup, Partition, PartitionKind as BadKind, log_group_fault_of, partition_fault_of}
+use Rattle.hack_rules.specs.CliFaults.{LogGroup as BadGroup, Partition, PartitionKind as BadKind, log_group_fault_of, partition_fault_of}
 use Rattle.hack_rules.specs.CliValues.{unless_read, log_group_fault, kind_fault, partition_fault}
 use Rattle.hack_term.specs.Groups.{group_name, IsNoGroup, RefusesGroup}
 use Rattle.hack_term.specs.Lines.{coloring_name, IsNoColoring}
-use Rattle.hack_term.specs.Partitions.{IsNumber, IsPiece, IsNoPiece, RefusesPiece, kind_name, IsNoKind, RefusesKind}
+use Rattle.hack_term.specs.Partitions.{IsPiece, IsNoPiece, RefusesPiece, kind_name, IsNoKind, RefusesKind}
 use Rattle.hack_rules.specs.Readings.{Piece, coloring_of, log_group_of, kind_of, is_digit, is_digits, number_of, piece_if, piece_of}
 use Rattle.hack_term.proofs.TextLemmas.{IsNumber-no_slash}
 

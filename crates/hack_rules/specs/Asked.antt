@@ -1,12 +1,11 @@
 -- What uses of options ask for: the fields of the arguments.
-use Rattle.std.specs.Prelude.{ℕ, ◌≡◌, ◌<◌, ◌||◌, ◌&&◌, not, ◌++◌, ◌-◌, List, [], ◌∷◌, Bool, true, false, Option, Some, None, Result, Ok, Err, Contains, ◌↔◌, codes, length, map, nat_lt, bytes_eq, option_map, option_and_then, string_bytes, if◌then◌else◌}
+use Rattle.std.specs.Prelude.{ℕ, ◌||◌, ◌&&◌, not, ◌++◌, ◌-◌, List, [], ◌∷◌, Bool, false, Option, Some, None, Result, Ok, Err, codes, nat_lt, bytes_eq, option_map, option_and_then, if◌then◌else◌}
 use Rattle.std.specs.List.{list_any, repeat}
-use Rattle.hack_options.specs.declared.Opt.{Opt}
 use Rattle.hack_options.specs.declared.Opt.TheVariants as opt
 use Rattle.hack_uses.specs.Faults.{LongFlag, ShortFlag}
 use Rattle.hack_uses.specs.Passed.{leading_of, count_of}
-use Rattle.hack_uses.specs.Uses.{Use, Known, Unknown, Word, is_given, subcommand_of}
-use Rattle.hack_uses.specs.Values.{value_given, values_given}
+use Rattle.hack_uses.specs.Uses.{Use, Known, Unknown, Word, is_given}
+use Rattle.hack_uses.specs.Values.{value_given}
 use Rattle.hack_versions.specs.declared.version.VersionRange.{VersionRange}
 use Rattle.hack_versions.specs.declared.version.MaybeVersion.TheVariants.{Msrv}
 use Rattle.hack_term.specs.declared.term.Coloring.{Coloring}
@@ -16,7 +15,7 @@ use Rattle.hack_term.specs.declared.log_group.LogGroup.TheVariants as group
 use Rattle.hack_term.specs.declared.partition.PartitionKind.{PartitionKind}
 use Rattle.hack_term.specs.declared.partition.PartitionKind.TheVariants.{Block}
 use Rattle.hack_rules.specs.CliFaults.{BadRange}
-use Rattle.hack_rules.specs.CliLists.{names_given, groups_given, optional_given}
+use Rattle.hack_rules.specs.CliLists.{names_given}
 use Rattle.hack_rules.specs.Listed.{Listed}
 use Rattle.hack_rules.specs.RangeReadings.{ReadRange, range_of}
 use Rattle.hack_rules.specs.Readings.{Piece, coloring_of, log_group_of, kind_of, number_of, piece_of}

@@ -21,4 +21,5 @@ listed us = record {
   excludes = names_given opt.ExcludeFeatures us;
   optional = optional_given us;
   groups = groups_given opt.GroupFeatures us;
-  exclusive = groups_given opt.MutuallyExclusiveFeatures us }
+  exclusive = groups_given opt.MutuallyExclusiveFeatures us;
+}

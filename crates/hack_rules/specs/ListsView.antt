@@ -13,4 +13,5 @@ listed_in lists = record {
   excludes = names_of lists.exclude_features.items;
   optional = option_map (λ names. names_of names.items) lists.optional_deps;
   groups = groups_of lists.group_features.items;
-  exclusive = groups_of lists.mutually_exclusive_features.items }
+  exclusive = groups_of lists.mutually_exclusive_features.items;
+}

@@ -1,5 +1,5 @@
 -- The rules that uses of options are judged by, each the fault that it gives, if any.
-use Rattle.std.specs.Prelude.{ℕ, ◌&&◌, ◌||◌, not, List, [], ◌∷◌, Bool, true, false, Option, Some, None, codes, length, nat_lt, nat_eq, bytes_eq, option_map, option_and_then, if◌then◌else◌}
+use Rattle.std.specs.Prelude.{ℕ, ◌&&◌, ◌||◌, not, List, [], ◌∷◌, Bool, false, Option, Some, None, codes, length, nat_lt, nat_eq, bytes_eq, option_map, option_and_then, if◌then◌else◌}
 use Rattle.std.specs.List.{list_any, starts_with}
 use Rattle.hack_options.specs.declared.Opt.{Opt}
 use Rattle.hack_options.specs.declared.Opt.TheVariants as opt
@@ -63,7 +63,7 @@ color_rule None env = of_value (coloring_fault TermColor) env
 abbrev pub unknown_rule : Listed → List Use → Option Fault
 unknown_rule l us =
     needs (is_given opt.IgnoreUnknownFeatures us) opt.IgnoreUnknownFeatures beside.FeatureLists
-      (is_nonempty l.features || is_nonempty l.includes || is_given opt.GroupFeatures us)
+    (is_nonempty l.features || is_nonempty l.includes || is_given opt.GroupFeatures us)
 
 -- --each-feature or --feature-powerset is there
 abbrev pub is_each : List Use → Bool
@@ -102,7 +102,7 @@ abbrev pub subcommand_rule : Option (List ℕ) → List Use → Option Fault
 subcommand_rule None us = None
 subcommand_rule (Some word) us =
     if bytes_eq word (codes "test") || bytes_eq word (codes "bench") then
-      (if is_given opt.RemoveDevDeps us then Some (BesideSubcommand opt.RemoveDevDeps word) else fault_if (is_given opt.NoDevDeps us) (BesideSubcommand opt.NoDevDeps word))
+    (if is_given opt.RemoveDevDeps us then Some (BesideSubcommand opt.RemoveDevDeps word) else fault_if (is_given opt.NoDevDeps us) (BesideSubcommand opt.NoDevDeps word))
     else fault_if (bytes_eq word (codes "install")) Install
 
 -- no runs by features under Cargo's own handling of workspaces
@@ -278,4 +278,4 @@ verdict_or None other = other
 abbrev pub verdict_of : Bool → Option (List ℕ) → Option ℕ → List Use → Verdict
 verdict_of cargo term_color rustup us =
     refused_by (first_of (rules_before cargo term_color (listed us) us))
-      (verdict_or (bare_verdict cargo (subcommand_of us) us) (refused_by (first_of (rules_after rustup us)) Accepted))
+    (verdict_or (bare_verdict cargo (subcommand_of us) us) (refused_by (first_of (rules_after rustup us)) Accepted))

@@ -3,9 +3,9 @@
 ghost use Rattle.std.specs.Prelude.{◌≡◌};
 ghost use Rattle.hack_rules.specs.declared.fault.CliFault.TheVariants.{Memory};
 
+use hack_options::Opt;
 use hack_term::partition::PartitionFault;
 use hack_term::term::LogGroupFault;
-use hack_options::Opt;
 use hack_uses::CutFault;
 use hack_versions::version::VersionFault;
 use std::alloc::{AllocError, AllocFailed};

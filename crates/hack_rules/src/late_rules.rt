@@ -1,10 +1,10 @@
 //! The rules behind that on a missing subcommand: ranges of versions, log groups, pieces of a plan and lifted groups.
 
-ghost use Rattle.std.specs.Prelude.{◌≡◌, IfOk, IfSome, map, option_map, option_and_then};
+ghost use Rattle.std.specs.Prelude.{◌≡◌, IfOk, IfSome, option_map, option_and_then};
 ghost use Rattle.std.specs.List.{list_any};
-ghost use Rattle.hack_uses.specs.Uses.{view, views, is_given};
+ghost use Rattle.hack_uses.specs.Uses.{view, views};
 ghost use Rattle.hack_uses.specs.Values.{value_given};
-ghost use Rattle.hack_rules.specs.Asked.{read_range, range_asked, is_old_asked, step_asked, is_message_format as message_format, group_found, log_group_asked, piece_asked, kind_asked};
+ghost use Rattle.hack_rules.specs.Asked.{read_range, range_asked, is_old_asked, step_asked, is_message_format as message_format, log_group_asked, piece_asked, kind_asked};
 ghost use Rattle.hack_rules.specs.CliFaults.{Checks};
 ghost use Rattle.hack_rules.specs.CliGroups.{AreLifts};
 ghost use Rattle.hack_rules.specs.CliLists.{lifts_given};
@@ -13,13 +13,12 @@ ghost use Rattle.hack_rules.specs.LateView.{IsLate};
 ghost use Rattle.hack_rules.specs.Rules.{first_of, of_value, rustup_rule, is_ranged as ranged, range_rules, piece_rules, lift_rules, rules_after};
 
 use crate::fault::{Beside, CliFault};
-use crate::named;
 use crate::rules::{clash, needs};
-use crate::values;
-use hack_term::partition::{Partition, PartitionKind};
-use hack_term::term::LogGroup;
+use crate::{named, values};
 use hack_features::Feature;
 use hack_options::Opt;
+use hack_term::partition::{Partition, PartitionKind};
+use hack_term::term::LogGroup;
 use hack_uses::{OwnedFlag, Use, given, value};
 use hack_versions::version::VersionRange;
 use std::alloc::Global;
@@ -181,7 +180,12 @@ fn lifts(alloc: Global, uses: &[Use]) -> Result<Vec<(String, Feature)>, CliFault
 {
     let option = Opt::AllowTogether;
     let there = given(Opt::MutuallyExclusiveFeatures, uses);
-    needs(given(option, uses), option, Beside::MutuallyExclusive, there)?;
+    needs(
+        given(option, uses),
+        option,
+        Beside::MutuallyExclusive,
+        there,
+    )?;
     named::lifts(alloc, uses)
 }
 

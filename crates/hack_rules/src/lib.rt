@@ -7,9 +7,8 @@ pub mod late_rules;
 pub mod listed;
 pub mod named;
 pub mod rules;
-mod values;
-
 #[cfg(test)]
 mod tests_of_named;
 #[cfg(test)]
 mod tests_of_values;
+mod values;

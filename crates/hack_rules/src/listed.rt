@@ -40,8 +40,11 @@ impl Lists {
         let exclude_features = named::names(alloc, Opt::ExcludeFeatures, uses)?;
         let optional_deps = named::optional_names(alloc, uses)?;
         let group_features = named::groups(alloc, Opt::GroupFeatures, uses)?;
-        let mutually_exclusive_features =
-            named::groups(alloc, Opt::MutuallyExclusiveFeatures, uses)?;
+        let mutually_exclusive_features = named::groups(
+            alloc,
+            Opt::MutuallyExclusiveFeatures,
+            uses,
+        )?;
         Ok(Lists {
             features,
             include_features,

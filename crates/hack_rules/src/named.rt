@@ -14,9 +14,9 @@ ghost use Rattle.hack_term.specs.Lists.{group_names};
 ghost use Rattle.hack_rules.specs.CliGroups.{AreGroupsOf, AreNormalsOf, AreLifts};
 
 use crate::fault::CliFault;
-use hack_term::lists::{has_separator, split_group, split_names, unquoted};
 use hack_features::Feature;
 use hack_options::Opt;
+use hack_term::lists::{has_separator, split_group, split_names, unquoted};
 use hack_uses::{Use, given, value, values};
 use std::alloc::{AllocError, Global};
 use std::collections::BTreeSet;

@@ -1,12 +1,12 @@
 //! The rules that the options of a call keep, up to that on a missing subcommand. Each is checked in its order, and
 //! the first that is broken gives the fault.
 
-ghost use Rattle.std.specs.Prelude.{◌≡◌, IfOk, map, string_bytes, option_map};
+ghost use Rattle.std.specs.Prelude.{◌≡◌, IfOk, string_bytes, option_map};
 ghost use Rattle.hack_features.specs.Feature.{groups_of};
 ghost use Rattle.hack_features.specs.Names.{names_of};
 ghost use Rattle.hack_uses.specs.Passed.{leading_of};
 ghost use Rattle.hack_uses.specs.Uses.{views, is_given, subcommand_of};
-ghost use Rattle.hack_uses.specs.Values.{value_given, values_given};
+ghost use Rattle.hack_uses.specs.Values.{value_given};
 ghost use Rattle.hack_rules.specs.Asked.{coloring_asked, depth_asked};
 ghost use Rattle.hack_rules.specs.CliFaults.{Checks};
 ghost use Rattle.hack_rules.specs.CliValues.{depth_fault};
@@ -16,10 +16,10 @@ ghost use Rattle.hack_rules.specs.Rules.{needs as needs_rule, clash as clash_rul
 use crate::fault::{Beside, CliFault};
 use crate::listed::Lists;
 use crate::values;
-use hack_term::lists::has_separator;
-use hack_term::term::Coloring;
 use hack_features::Feature;
 use hack_options::Opt;
+use hack_term::lists::has_separator;
+use hack_term::term::Coloring;
 use hack_uses::{Use, given, subcommand, value};
 use std::alloc::Global;
 
@@ -365,12 +365,7 @@ fn excluded(lists: &Lists) -> Result<(), CliFault>
 }
 
 /// Groups, and what doesn't stand together. `leading` has the words that are passed on to cargo.
-fn together(
-    cargo: bool,
-    lists: &Lists,
-    leading: &[String],
-    uses: &[Use],
-) -> Result<(), CliFault>
+fn together(cargo: bool, lists: &Lists, leading: &[String], uses: &[Use]) -> Result<(), CliFault>
     requires { names_of leading.now ≡ leading_of cargo (views uses.now) }
     ensures { Checks result (first_of (together_rules cargo (listed_in lists.now) (views uses.now))) }
 {

@@ -5,7 +5,6 @@ pub mod lists;
 mod log_group;
 pub mod partition;
 pub mod term;
-mod writes;
-
 #[cfg(test)]
 mod tests;
+mod writes;

@@ -1,6 +1,5 @@
 -- What is answered to the words of a call.
 use Rattle.std.specs.Prelude.{◌≡◌, ℕ, List, [], Bool, true, false, Option, Some, None, Result, Ok, Err, IfSome, option_map, string_bytes, codes}
-use Rattle.hack_features.specs.Names.{names_of}
 use Rattle.hack_uses.specs.Faults.{Fault as CutFault}
 use Rattle.hack_uses.specs.Reads.{Ends, End, Prints, Fails}
 use Rattle.hack_uses.specs.Uses.{Use, views}

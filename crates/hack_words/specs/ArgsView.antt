@@ -6,7 +6,6 @@ use Rattle.hack_uses.specs.Uses.{Use, is_given, subcommand_of}
 use Rattle.hack_uses.specs.Values.{value_given, values_given}
 use Rattle.hack_words.specs.declared.cli.args.Args.{Args}
 use Rattle.hack_words.specs.declared.cli.args.Read.{Read}
-use Rattle.hack_words.specs.declared.cli.args.WorkspaceBehavior.{WorkspaceBehavior}
 use Rattle.hack_words.specs.declared.cli.args.WorkspaceBehavior.TheVariants.{Cargo, Default}
 use Rattle.hack_rules.specs.Asked.{coloring_asked, depth_asked, range_asked, step_asked, log_group_asked, piece_asked, kind_asked, leading_asked, excluded_asked, excludes_no_default, excludes_all, ignores_private}
 use Rattle.hack_rules.specs.CliGroups.{AreGroupsOf, AreNormalsOf, AreLifts}

@@ -1,5 +1,5 @@
 -- How the words of a call begin, as the code answers it.
-use Rattle.std.specs.Prelude.{ℕ, ◌≡◌, List, Bool, true, false, Option, None, Result, Ok, Err, IfSome, codes, nat_lt}
+use Rattle.std.specs.Prelude.{ℕ, ◌≡◌, List, true, false, None, Result, Ok, Err, IfSome, codes, nat_lt}
 use Rattle.hack_features.specs.Names.{names_of}
 use Rattle.hack_options.specs.declared.Opt.TheVariants as opt
 use Rattle.hack_uses.specs.Faults.{LongFlag, Repeat}

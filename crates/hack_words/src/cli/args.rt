@@ -1,22 +1,22 @@
 //! What a call asks for.
 
-ghost use Rattle.std.specs.Prelude.{◌≡◌, ◌++◌, IfOk, OnOk, codes, map, string_bytes, option_map, if◌then◌else◌};
+ghost use Rattle.std.specs.Prelude.{◌≡◌, ◌++◌, IfOk, OnOk, codes, string_bytes, option_map, if◌then◌else◌};
 ghost use Rattle.std.specs.List.{repeat};
 ghost use Rattle.hack_features.specs.Names.{names_of};
 ghost use Rattle.hack_uses.specs.Passed.{leading_of};
-ghost use Rattle.hack_uses.specs.Uses.{views, subcommand_of};
-ghost use Rattle.hack_uses.specs.Values.{value_given, values_given};
+ghost use Rattle.hack_uses.specs.Uses.{views};
+ghost use Rattle.hack_uses.specs.Values.{values_given};
 ghost use Rattle.hack_rules.specs.Asked.{verbose_words, excludes_no_default, excludes_all, ignores_private as private_ignored};
 ghost use Rattle.hack_rules.specs.ListsView.{listed_in};
 
+use hack_features::Feature;
+use hack_options::Opt;
 use hack_rules::late_rules::Late;
 use hack_rules::listed::Lists;
 use hack_rules::named;
 use hack_rules::rules::{Early, has_some};
 use hack_term::partition::Partition;
 use hack_term::term::{Coloring, LogGroup};
-use hack_features::Feature;
-use hack_options::Opt;
 use hack_uses::{Use, count, given, subcommand, value, values};
 use hack_versions::version::VersionRange;
 use std::alloc::{AllocError, Global};

@@ -1,6 +1,6 @@
 //! What a call looks up beside its words: variables of the environment, and the current folder.
 
-ghost use Rattle.std.specs.Prelude.{◌≡◌, IfOk, codes, string_bytes, option_map};
+ghost use Rattle.std.specs.Prelude.{◌≡◌, IfOk, string_bytes, option_map};
 ghost use Rattle.hack_rules.specs.Asked.{or_else};
 ghost use Rattle.hack_words.specs.EnvView.{IsEnv, variable as variable_named, is_set as set, vars_of};
 

@@ -27,11 +27,7 @@ fn unknown_text(alloc: Global) -> Result<String, AllocError>
 }
 
 /// Tells that unknown features are not ignored everywhere.
-pub fn tell_unknown(
-    alloc: Global,
-    notices: &mut Vec<Notice>,
-    told: bool,
-) -> Result<(), AllocError>
+pub fn tell_unknown(alloc: Global, notices: &mut Vec<Notice>, told: bool) -> Result<(), AllocError>
     ensures { OnOk result (map note_of notices.new.items ≡ map note_of notices.old.items ++ note_if told NoticeKind.QuietWarn unknown_words) }
 {
     if told {
@@ -124,7 +120,9 @@ fn editing(no_dev_deps: bool, no_private: bool) -> &'static str
 fn edits_text(alloc: Global, flags: &str) -> Result<String, AllocError>
     ensures { IfOk result (λ text. string_bytes text ≡ edits_words flags.now) }
 {
-    format!(in alloc; "{flags} real `Cargo.toml` while cargo-hack is running and restores it when finished")
+    format!(in alloc;
+        "{flags} real `Cargo.toml` while cargo-hack is running and restores it when finished"
+    )
 }
 
 /// Tells that manifests are edited while commands run.

@@ -17,14 +17,14 @@ ghost use Rattle.hack_words.specs.RustupView.{known_of, unknown_of};
 
 use crate::cli::args::{Args, Read};
 use crate::cli::env::Env;
+use crate::cli::notes::{tell_edits, tell_old, tell_rustup, tell_unknown};
+use crate::cli::start::Start;
+use hack_options::{Help, Opt};
 use hack_rules::fault::CliFault;
 use hack_rules::late_rules::{self, Late, is_ranged};
 use hack_rules::listed::Lists;
-use crate::cli::notes::{tell_edits, tell_old, tell_rustup, tell_unknown};
 use hack_rules::rules::{self, Early, has, has_some};
-use crate::cli::start::Start;
-use hack_options::{Help, Opt};
-use hack_uses::{Cuts, CutFault, Print, Use, all_uses, given, leading, subcommand, value};
+use hack_uses::{CutFault, Cuts, Print, Use, all_uses, given, leading, subcommand, value};
 use hack_versions::notice::Notice;
 use hack_versions::rustup::Rustup;
 use std::alloc::{AllocError, Global};

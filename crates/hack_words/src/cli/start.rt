@@ -1,13 +1,12 @@
 //! How the words of a call begin, before they are cut into options.
 
-ghost use Rattle.std.specs.Prelude.{◌≡◌, ◌≤◌, ◌++◌, ◌∷◌, IfOk, OnOk, length, map, string_bytes};
+ghost use Rattle.std.specs.Prelude.{◌≡◌, IfOk};
 ghost use Rattle.hack_features.specs.Names.{names_of};
-ghost use Rattle.hack_rules.specs.CliFaults.{Checks};
 ghost use Rattle.hack_words.specs.Start.{front_words, trailing_words, is_behavior as behavior, is_range_option as range_option, has_range as range_with_value, wants_rustup as rustup_wanted};
 ghost use Rattle.hack_words.specs.StartView.{Begins, TakesOut};
 
-use hack_rules::fault::CliFault;
 use hack_options::Opt;
+use hack_rules::fault::CliFault;
 use hack_uses::{CutFault, OwnedFlag};
 use std::alloc::{AllocError, Global};
 

@@ -1,4 +1,4 @@
-use Rattle.std.proofs.Common.{rules, ap, ◌∙◌}
+use Rattle.std.proofs.Common.{ap, ◌∙◌}
 use Rattle.hack_rules.specs.CliLists.{same_names}
 use Rattle.hack_features.specs.Names.{names_of}
 use Rattle.hack_rules.proofs.GroupLemmas.{same-names}

@@ -1,10 +1,7 @@
-use Rattle.std.proofs.Common.{rules, ◌≡◌, ◌+◌, ◌++◌, ◌∷◌, [], ◌∙◌, ap, sym, subst, take, List, ℕ, map, string_bytes, append-nil, Some, None}
-use Rattle.std.specs.List.{filter_map}
-use Rattle.std.proofs.lemmas.List.{map-append, take_more}
-use Rattle.std.proofs.lemmas.List.Elements.{filter_map-append}
+use Rattle.std.proofs.Common.{rules, ◌≡◌, ◌+◌, ◌++◌, ◌∷◌, [], ◌∙◌, ap, sym, take, string_bytes, Some, None}
+use Rattle.std.proofs.lemmas.List.{take_more}
 use Rattle.hack_features.specs.Feature.{IsGroup}
-use Rattle.hack_rules.specs.CliGroups.{AreLifts}
-use Rattle.hack_rules.specs.CliLists.{Lift, lift_of}
+use Rattle.hack_rules.specs.CliLists.{lift_of}
 use Rattle.hack_term.specs.Lists.{group_names}
 use Rattle.hack_rules.proofs.GroupLemmas.{lift-none, lift-some}
 use Rattle.hack_rules.proofs.named.lifts_of.Goals as goal
@@ -18,12 +15,12 @@ loop-text-preserved c =
     let taken : take (i + 1) texts ≡ take i texts ++ text ∷ [] = take_more texts i text c.loop-text-test.true ∙ ap (λ x. take i texts ++ x ∷ []) (sym c.text-item.is) in
     elim c.match-cut_lift.branch [
       | in-Some+in_ok-owner+in_ok-features+in_ok-push w ↦
-        let lift : lift_of (string_bytes text) ≡ Some (record { owner = w.in-Some.owner.now; group = group_names w.in-Some.features.now }) = search rules in
-        let owner : string_bytes w.in_ok-owner.owner ≡ w.in-Some.owner.now = search rules in
-        let group : IsGroup (group_names w.in-Some.features.now) w.in_ok-features.features = search rules in
-        let items : w.push.new.self.items ≡ c.loop-text.lifts.items ++ (w.in_ok-owner.owner, w.in_ok-features.features) ∷ [] = search rules in
-        rw (w.lifts-is, taken, items) (lift-some (take i texts) c.loop-text.lifts.items text _ (w.in_ok-owner.owner, w.in_ok-features.features) c.loop-text.invariant lift owner group)
+          let lift : lift_of (string_bytes text) ≡ Some (record { owner = w.in-Some.owner.now; group = group_names w.in-Some.features.now }) = search rules in
+          let owner : string_bytes w.in_ok-owner.owner ≡ w.in-Some.owner.now = search rules in
+          let group : IsGroup (group_names w.in-Some.features.now) w.in_ok-features.features = search rules in
+          let items : w.push.new.self.items ≡ c.loop-text.lifts.items ++ (w.in_ok-owner.owner, w.in_ok-features.features) ∷ [] = search rules in
+          rw (w.lifts-is, taken, items) (lift-some (take i texts) c.loop-text.lifts.items text _ (w.in_ok-owner.owner, w.in_ok-features.features) c.loop-text.invariant lift owner group)
       | in_default w ↦
-        let lift : lift_of (string_bytes text) ≡ None = search rules in
-        rw (w.lifts-is, taken) (lift-none (take i texts) c.loop-text.lifts.items text c.loop-text.invariant lift)
+          let lift : lift_of (string_bytes text) ≡ None = search rules in
+          rw (w.lifts-is, taken) (lift-none (take i texts) c.loop-text.lifts.items text c.loop-text.invariant lift)
     ]

@@ -1,4 +1,4 @@
-use Rattle.std.proofs.Common.{rules, subst}
+use Rattle.std.proofs.Common.{subst}
 use Rattle.std.specs.Prelude.{MatchOption}
 use Rattle.hack_versions.proofs.CutLemmas.{cut-from_split}
 use Rattle.hack_versions.specs.VersionTexts.{IsCut, IsUncut}

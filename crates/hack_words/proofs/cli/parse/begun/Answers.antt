@@ -30,9 +30,9 @@ returns-in-Uses-clause-ok c =
     let ends = subst (λ (cuts : Cuts). GivesCuts (Ok cuts) (map string_bytes c.args.start.words.items)) c.in-Uses.is c.in_ok-print.ensures in
     let read = subst (λ (us : List Use). Ends (map string_bytes c.args.start.words.items) us End) (sym (ap views c.as_slice.ensures.value)) ends in
     IfOk-weaker c.judged.result
-      (λ answer. IsJudged around c.args.start.cargo trailing us answer.0 (map note_of answer.1.items))
-      (λ answer. Answers around (ComesFrom around (Begun c.args.start.cargo words trailing)) answer.0 (map note_of answer.1.items))
-      (λ answer h. judged-answers around c.args.start.cargo words trailing us answer.0 (map note_of answer.1.items) read h) c.judged.ensures.ok
+    (λ answer. IsJudged around c.args.start.cargo trailing us answer.0 (map note_of answer.1.items))
+    (λ answer. Answers around (ComesFrom around (Begun c.args.start.cargo words trailing)) answer.0 (map note_of answer.1.items))
+    (λ answer h. judged-answers around c.args.start.cargo words trailing us answer.0 (map note_of answer.1.items) read h) c.judged.ensures.ok
 
 pub returns-in-Uses-clause-err : goal.returns-in-Uses-clause-err
 returns-in-Uses-clause-err c =
@@ -43,6 +43,6 @@ returns-in-Uses-clause-err c =
     let ends = subst (λ (cuts : Cuts). GivesCuts (Ok cuts) (map string_bytes c.args.start.words.items)) c.in-Uses.is c.in_ok-print.ensures in
     let read = subst (λ (us : List Use). Ends (map string_bytes c.args.start.words.items) us End) (sym (ap views c.as_slice.ensures.value)) ends in
     IfErr-weaker c.judged.result
-      (λ e. IfSome (fault_of e) (λ fault. outcome_of around c.args.start.cargo trailing us ≡ Faulty fault))
-      (Refuses (ComesFrom around (Begun c.args.start.cargo words trailing)))
-      (λ e h. fault-refuses around c.args.start.cargo words trailing us e read h) c.judged.ensures.err
+    (λ e. IfSome (fault_of e) (λ fault. outcome_of around c.args.start.cargo trailing us ≡ Faulty fault))
+    (Refuses (ComesFrom around (Begun c.args.start.cargo words trailing)))
+    (λ e h. fault-refuses around c.args.start.cargo words trailing us e read h) c.judged.ensures.err
