@@ -1,0 +1,7 @@
+//! Tests over the words of a call: each rule that refuses them, the options that they give, and what is told of them.
+#![tactic(auto)]
+
+#[cfg(test)]
+mod given;
+#[cfg(test)]
+mod early_rules;
