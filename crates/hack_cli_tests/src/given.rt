@@ -1,12 +1,20 @@
 //! The answer to the words of a call, as one text.
 
-use hack_versions::notice::{Notice, NoticeKind};
-use hack_versions::rustup::Rustup;
+use crate::shown::{args_text, notices_text};
 use hack_words::cli::{Args, CliFault, Env, Parsed};
+use hack_words::rustup::Rustup;
+use hack_words::term::Notice;
 use std::alloc::{AllocError, Global};
 
-/// An environment without variables, but for the colour of cargo's lines.
-pub(crate) fn env_of(alloc: Global, term_color: Option<&str>, github_actions: bool) -> Result<Env, AllocError> {
+type Answer = Result<(Parsed, Vec<Notice>), CliFault>;
+
+/// An environment that says nothing but, where it does, how cargo colours its lines and that GitHub Actions runs the
+/// call.
+pub(crate) fn env_of(
+    alloc: Global,
+    term_color: Option<&str>,
+    github_actions: bool,
+) -> Result<Env, AllocError> {
     let term_color = match term_color {
         Some(color) => Some(String::from_str(alloc, color)?),
         None => None,
@@ -21,48 +29,91 @@ pub(crate) fn env_of(alloc: Global, term_color: Option<&str>, github_actions: bo
     })
 }
 
-/// The words of a line, which is cut at its spaces.
+/// The words of a line, which is cut at each space; an empty line has none.
 pub(crate) fn words_of(alloc: Global, line: &str) -> Result<Vec<String>, AllocError> {
     let mut words = Vec::new(alloc);
-    for word in line.split_whitespace() {
+    if line.is_empty() {
+        return Ok(words);
+    }
+    for word in line.split(' ') {
         words.push(String::from_str(alloc, word)?)?;
     }
     Ok(words)
 }
 
-/// One line for each notice: its kind and its text.
-pub(crate) fn told(alloc: Global, notices: &[Notice]) -> Result<String, AllocError> {
-    let mut text = String::new(alloc);
-    for notice in notices {
-        let kind = match notice.kind {
-            NoticeKind::Info => "info: ",
-            NoticeKind::Warn => "warn: ",
-            NoticeKind::QuietWarn => "quiet: ",
-        };
-        text.push_str(kind)?;
-        text.push_str(notice.text.as_str())?;
-        text.push_str("\n")?;
+/// The same of words that are cut already, and may have spaces.
+pub(crate) fn owned(alloc: Global, words: &[&str]) -> Result<Vec<String>, AllocError> {
+    let mut texts = Vec::new(alloc);
+    for word in words {
+        texts.push(String::from_str(alloc, *word)?)?;
     }
+    Ok(texts)
+}
+
+/// The fault, what is printed behind `print: `, `list` or `args`; then the notices, each behind a line feed.
+fn answer_text(alloc: Global, answer: Answer) -> Result<String, AllocError> {
+    let (parsed, notices) = match answer {
+        Ok(answer) => answer,
+        Err(fault) => return format!(in alloc; "{fault}"),
+    };
+    let mut text = match parsed {
+        Parsed::Print(text) => format!(in alloc; "print: {text}")?,
+        Parsed::List => String::from_str(alloc, "list")?,
+        Parsed::Args(_) => String::from_str(alloc, "args")?,
+    };
+    text.push_str(notices_text(alloc, &notices)?.as_str())?;
     Ok(text)
 }
 
-/// What parsing came to, as one text.
-pub(crate) fn shown(
-    alloc: Global,
-    answer: Result<(Parsed, Vec<Notice>), CliFault>,
-) -> Result<String, AllocError> {
+/// The fields that aren't as words without options leave them; of words that give no arguments, their answer.
+fn fields_text(alloc: Global, answer: Answer) -> Result<String, AllocError> {
     match answer {
-        Err(fault) => format!(in alloc; "{fault}"),
-        Ok((Parsed::Print(text), _)) => format!(in alloc; "print: {text}"),
-        Ok((Parsed::List, _)) => String::from_str(alloc, "list"),
-        Ok((Parsed::Args(_), _)) => String::from_str(alloc, "args"),
+        Ok((Parsed::Args(args), _)) => args_text(alloc, &args),
+        answer => answer_text(alloc, answer),
     }
 }
 
-/// The answer to the words of a line, without variables and with a new rustup.
-pub(crate) fn answer(alloc: Global, line: &str) -> Result<String, AllocError> {
+/// The answer to the words of a line, in this environment and with this rustup.
+pub(crate) fn answer_in(
+    alloc: Global,
+    line: &str,
+    env: &Env,
+    rustup: Rustup,
+) -> Result<String, AllocError> {
     let words = words_of(alloc, line)?;
+    answer_text(alloc, Args::parse(alloc, &words, env, rustup))
+}
+
+/// The answer to the words of a line, in an environment that says nothing, and with a rustup that is new enough.
+pub(crate) fn answer(alloc: Global, line: &str) -> Result<String, AllocError> {
     let env = env_of(alloc, None, false)?;
-    let answer = Args::parse(alloc, words.as_slice(), &env, Rustup::Known(26));
-    shown(alloc, answer)
+    answer_in(alloc, line, &env, Rustup::Known(26))
+}
+
+/// The same of words that may have spaces.
+pub(crate) fn answer_to(alloc: Global, words: &[&str]) -> Result<String, AllocError> {
+    let words = owned(alloc, words)?;
+    let env = env_of(alloc, None, false)?;
+    let answer = Args::parse(alloc, &words, &env, Rustup::Known(26));
+    answer_text(alloc, answer)
+}
+
+/// The fields that the words of a line give, in this environment.
+pub(crate) fn fields_in(alloc: Global, line: &str, env: &Env) -> Result<String, AllocError> {
+    let words = words_of(alloc, line)?;
+    fields_text(alloc, Args::parse(alloc, &words, env, Rustup::Known(26)))
+}
+
+/// The fields that the words of a line give, in an environment that says nothing.
+pub(crate) fn fields(alloc: Global, line: &str) -> Result<String, AllocError> {
+    let env = env_of(alloc, None, false)?;
+    fields_in(alloc, line, &env)
+}
+
+/// The same of words that may have spaces.
+pub(crate) fn fields_of(alloc: Global, words: &[&str]) -> Result<String, AllocError> {
+    let words = owned(alloc, words)?;
+    let env = env_of(alloc, None, false)?;
+    let answer = Args::parse(alloc, &words, &env, Rustup::Known(26));
+    fields_text(alloc, answer)
 }

@@ -2,6 +2,8 @@
 #![tactic(auto)]
 
 #[cfg(test)]
+mod cut_rules;
+#[cfg(test)]
 mod given;
 #[cfg(test)]
-mod early_rules;
+mod shown;
