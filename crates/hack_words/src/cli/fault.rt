@@ -55,7 +55,7 @@ pub enum CliFault {
     #[error("CARGO_TERM_COLOR must be auto, always, or never, but found `{found}`")]
     TermColor { found: String },
     /// The option stands only beside others, and none of them is there.
-    #[error("{name} can only be used together with {beside}", name = .option)]
+    #[error("{name} can only be used together with {beside}", name = .option.with_alias())]
     Needs { option: Opt, beside: Beside },
     #[error("invalid number `{found}`")]
     Number { found: String },
