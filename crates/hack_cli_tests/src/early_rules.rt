@@ -64,19 +64,32 @@ fn colour_of_the_environment_is_known_where_words_say_none(rt: HostRuntime) -> R
 
 #[test]
 fn unknown_features_are_ignored_in_a_list(rt: HostRuntime) -> Result<(), Fail> {
-    let alone = "--ignore-unknown-features can only be used together with --features, --include-features, or --group-features";
+    let alone =
+        "--ignore-unknown-features can only be used together with --features, --include-features, or --group-features";
     let rows = [
         ("hack check --ignore-unknown-features", alone),
         ("hack check --ignore-unknown-features --features ''", alone),
         ("hack check --ignore-unknown-features --features=", alone),
-        ("hack check --include-features , --ignore-unknown-features", alone),
+        (
+            "hack check --include-features , --ignore-unknown-features",
+            alone,
+        ),
         (
             "hack check --ignore-unknown-features --feature-powerset --mutually-exclusive-features a,b",
             alone,
         ),
-        ("hack check --each-feature --ignore-unknown-features --skip a", alone),
-        ("hack check --ignore-unknown-features --optional-deps", alone),
-        ("hack check --exclude-features a --ignore-unknown-features", alone),
+        (
+            "hack check --each-feature --ignore-unknown-features --skip a",
+            alone,
+        ),
+        (
+            "hack check --ignore-unknown-features --optional-deps",
+            alone,
+        ),
+        (
+            "hack check --exclude-features a --ignore-unknown-features",
+            alone,
+        ),
         ("hack check --ignore-unknown-features --features a", "args"),
         ("hack check --ignore-unknown-features -F '' -F a", "args"),
         (
@@ -124,7 +137,10 @@ fn what_stands_beside_runs_by_features(rt: HostRuntime) -> Result<(), Fail> {
         ("hack check --exclude-features ''", "args"),
         ("hack check --include-features= --skip ,", "args"),
         ("hack check --optional-deps --each-feature", "args"),
-        ("hack check --include-deps-features --feature-powerset", "args"),
+        (
+            "hack check --include-deps-features --feature-powerset",
+            "args",
+        ),
     ];
     for (line, want) in rows {
         assert_eq!(rt; answer(rt.alloc(), line)?.as_str(), want, "of {line}");
@@ -163,8 +179,14 @@ fn what_stands_beside_runs_by_features_is_told_in_order(rt: HostRuntime) -> Resu
         ),
     ];
     for (line, option) in rows {
-        let want = format!(in rt.alloc(); "{option} can only be used together with either --each-feature or --feature-powerset")?;
-        assert_eq!(rt; answer(rt.alloc(), line)?.as_str(), want.as_str(), "of {line}");
+        let want = format!(in rt.alloc();
+            "{option} can only be used together with either --each-feature or --feature-powerset"
+        )?;
+        assert_eq!(rt;
+            answer(rt.alloc(), line)?.as_str(),
+            want.as_str(),
+            "of {line}"
+        );
     }
     Ok(())
 }
@@ -176,7 +198,10 @@ fn what_stands_beside_a_powerset(rt: HostRuntime) -> Result<(), Fail> {
         ("hack check --depth 2", "--depth"),
         ("hack check --each-feature --depth x", "--depth"),
         ("hack check --group-features a,b", "--group-features"),
-        ("hack check --each-feature --group-features a", "--group-features"),
+        (
+            "hack check --each-feature --group-features a",
+            "--group-features",
+        ),
         (
             "hack check --mutually-exclusive-features a,b",
             "--mutually-exclusive-features",
@@ -194,8 +219,14 @@ fn what_stands_beside_a_powerset(rt: HostRuntime) -> Result<(), Fail> {
         ("hack check --at-least-one-of a,b --depth x", "--depth"),
     ];
     for (line, option) in rows {
-        let want = format!(in rt.alloc(); "{option} can only be used together with --feature-powerset")?;
-        assert_eq!(rt; answer(rt.alloc(), line)?.as_str(), want.as_str(), "of {line}");
+        let want = format!(in rt.alloc();
+            "{option} can only be used together with --feature-powerset"
+        )?;
+        assert_eq!(rt;
+            answer(rt.alloc(), line)?.as_str(),
+            want.as_str(),
+            "of {line}"
+        );
     }
     Ok(())
 }
@@ -203,10 +234,22 @@ fn what_stands_beside_a_powerset(rt: HostRuntime) -> Result<(), Fail> {
 #[test]
 fn depth_is_a_number_before_groups_are_looked_at(rt: HostRuntime) -> Result<(), Fail> {
     let rows = [
-        ("hack check --feature-powerset --depth x", "invalid number `x`"),
-        ("hack check --feature-powerset --depth=", "invalid number ``"),
-        ("hack check --feature-powerset --depth -1", "invalid number `-1`"),
-        ("hack check --feature-powerset --depth 1é", "invalid number `1é`"),
+        (
+            "hack check --feature-powerset --depth x",
+            "invalid number `x`",
+        ),
+        (
+            "hack check --feature-powerset --depth=",
+            "invalid number ``",
+        ),
+        (
+            "hack check --feature-powerset --depth -1",
+            "invalid number `-1`",
+        ),
+        (
+            "hack check --feature-powerset --depth 1é",
+            "invalid number `1é`",
+        ),
         (
             "hack check --feature-powerset --depth 18446744073709551616",
             "invalid number `18446744073709551616`",
@@ -230,8 +273,14 @@ fn depth_is_a_number_before_groups_are_looked_at(rt: HostRuntime) -> Result<(), 
 #[test]
 fn groups_have_a_comma_or_a_space(rt: HostRuntime) -> Result<(), Fail> {
     let rows = [
-        ("hack check --feature-powerset --group-features a", "--group-features"),
-        ("hack check --feature-powerset --group-features=", "--group-features"),
+        (
+            "hack check --feature-powerset --group-features a",
+            "--group-features",
+        ),
+        (
+            "hack check --feature-powerset --group-features=",
+            "--group-features",
+        ),
         (
             "hack check --feature-powerset --group-features a,b --group-features c",
             "--group-features",
@@ -260,16 +309,35 @@ fn groups_have_a_comma_or_a_space(rt: HostRuntime) -> Result<(), Fail> {
             "hack test --feature-powerset --at-least-one-of a --remove-dev-deps",
             "--at-least-one-of",
         ),
-        ("hack install --feature-powerset --group-features a", "--group-features"),
+        (
+            "hack install --feature-powerset --group-features a",
+            "--group-features",
+        ),
     ];
     for (line, option) in rows {
-        let want = format!(in rt.alloc(); "{option} requires a list of two or more features separated by space or comma")?;
-        assert_eq!(rt; answer(rt.alloc(), line)?.as_str(), want.as_str(), "of {line}");
+        let want = format!(in rt.alloc();
+            "{option} requires a list of two or more features separated by space or comma"
+        )?;
+        assert_eq!(rt;
+            answer(rt.alloc(), line)?.as_str(),
+            want.as_str(),
+            "of {line}"
+        );
     }
-    let group = ["hack", "check", "--feature-powerset", "--group-features", "a b"];
+    let group = [
+        "hack",
+        "check",
+        "--feature-powerset",
+        "--group-features",
+        "a b",
+    ];
     assert_eq!(rt; answer_to(rt.alloc(), &group)?.as_str(), "args");
     assert_eq!(rt;
-        answer(rt.alloc(), "hack check --feature-powerset --at-least-one-of ,")?.as_str(),
+        answer(
+            rt.alloc(),
+            "hack check --feature-powerset --at-least-one-of ,"
+        )?
+        .as_str(),
         "args"
     );
     Ok(())
@@ -298,7 +366,10 @@ fn subcommands_that_need_dev_dependencies(rt: HostRuntime) -> Result<(), Fail> {
             "hack test --no-dev-deps --remove-dev-deps",
             "--remove-dev-deps may not be used together with test subcommand",
         ),
-        ("hack install", "cargo-hack may not be used together with install subcommand"),
+        (
+            "hack install",
+            "cargo-hack may not be used together with install subcommand",
+        ),
         (
             "hack install --no-dev-deps --remove-dev-deps",
             "cargo-hack may not be used together with install subcommand",

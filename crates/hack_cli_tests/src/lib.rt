@@ -4,6 +4,10 @@
 #[cfg(test)]
 mod cut_rules;
 #[cfg(test)]
+mod early_rules;
+#[cfg(test)]
 mod given;
 #[cfg(test)]
 mod shown;
+#[cfg(test)]
+mod together_rules;
