@@ -50,26 +50,35 @@ pub(crate) fn owned(alloc: Global, words: &[&str]) -> Result<Vec<String>, AllocE
     Ok(texts)
 }
 
-/// The fault, what is printed behind `print: `, `list` or `args`; then the notices, each behind a line feed.
+/// What is printed behind `print: `, `list` or `args`.
+fn parsed_text(alloc: Global, parsed: Parsed) -> Result<String, AllocError> {
+    match parsed {
+        Parsed::Print(text) => format!(in alloc; "print: {text}"),
+        Parsed::List => String::from_str(alloc, "list"),
+        Parsed::Args(_) => String::from_str(alloc, "args"),
+    }
+}
+
+/// The fault, or what the words come to; then the notices, each behind a line feed.
 fn answer_text(alloc: Global, answer: Answer) -> Result<String, AllocError> {
     let (parsed, notices) = match answer {
         Ok(answer) => answer,
         Err(fault) => return format!(in alloc; "{fault}"),
     };
-    let mut text = match parsed {
-        Parsed::Print(text) => format!(in alloc; "print: {text}")?,
-        Parsed::List => String::from_str(alloc, "list")?,
-        Parsed::Args(_) => String::from_str(alloc, "args")?,
-    };
+    let mut text = parsed_text(alloc, parsed)?;
     text.push_str(notices_text(alloc, &notices)?.as_str())?;
     Ok(text)
 }
 
-/// The fields that aren't as words without options leave them; of words that give no arguments, their answer.
+/// The fields that aren't as words without options leave them; of words that give no arguments, what they come to.
 fn fields_text(alloc: Global, answer: Answer) -> Result<String, AllocError> {
-    match answer {
-        Ok((Parsed::Args(args), _)) => args_text(alloc, &args),
-        answer => answer_text(alloc, answer),
+    let (parsed, _) = match answer {
+        Ok(answer) => answer,
+        Err(fault) => return format!(in alloc; "{fault}"),
+    };
+    match parsed {
+        Parsed::Args(args) => args_text(alloc, &args),
+        parsed => parsed_text(alloc, parsed),
     }
 }
 

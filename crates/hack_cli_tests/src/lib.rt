@@ -2,12 +2,24 @@
 #![tactic(auto)]
 
 #[cfg(test)]
+mod answers;
+#[cfg(test)]
 mod cut_rules;
 #[cfg(test)]
 mod early_rules;
 #[cfg(test)]
+mod feature_lists;
+#[cfg(test)]
+mod fields;
+#[cfg(test)]
 mod given;
+#[cfg(test)]
+mod late_rules;
+#[cfg(test)]
+mod notices;
 #[cfg(test)]
 mod shown;
 #[cfg(test)]
 mod together_rules;
+#[cfg(test)]
+mod worked_words;
