@@ -1,6 +1,6 @@
 //! Words that ask for a text, whole rows of words, and what is looked up beside the words.
 
-use crate::given::{answer, env_of, fields, owned, words_of};
+use crate::given::{answer, answers, words_of};
 use hack_words::cli::{CliFault, CutFault, Env, Help, OwnedFlag, WorkspaceBehavior, wants_rustup};
 use hack_words::lexopt::Arg;
 use std::alloc::{AllocError, Global};
@@ -89,9 +89,7 @@ fn a_fault_of_an_earlier_cut_is_told_before_help(rt: HostRuntime) -> Result<(), 
         ("hack check -h --help -V --version", "args"),
         ("hack check -- -h", "args"),
     ];
-    for (line, want) in rows {
-        assert_eq!(rt; answer(rt.alloc(), line)?.as_str(), want, "of {line}");
-    }
+    answers(&rt, rt.alloc(), &rows)?;
     Ok(())
 }
 

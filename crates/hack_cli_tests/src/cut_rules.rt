@@ -1,6 +1,6 @@
 //! The rules on how words begin and are cut, which come before all others.
 
-use crate::given::{answer, answer_to};
+use crate::given::{answer, answer_to, answers};
 use std::test::Fail;
 
 #[test]
@@ -35,9 +35,7 @@ fn the_first_word_is_hack(rt: HostRuntime) -> Result<(), Fail> {
             "expected subcommand 'hack', found argument 'cargo'",
         ),
     ];
-    for (line, want) in rows {
-        assert_eq!(rt; answer(rt.alloc(), line)?.as_str(), want, "of {line}");
-    }
+    answers(&rt, rt.alloc(), &rows)?;
     assert_eq!(rt;
         answer_to(rt.alloc(), &["hack check"])?.as_str(),
         "expected subcommand 'hack', found argument 'hack check'"
@@ -80,9 +78,7 @@ fn workspace_behavior_is_no_value(rt: HostRuntime) -> Result<(), Fail> {
             "missing argument for option '-p'",
         ),
     ];
-    for (line, want) in rows {
-        assert_eq!(rt; answer(rt.alloc(), line)?.as_str(), want, "of {line}");
-    }
+    answers(&rt, rt.alloc(), &rows)?;
     Ok(())
 }
 
@@ -155,9 +151,7 @@ fn words_can_be_cut(rt: HostRuntime) -> Result<(), Fail> {
             "Found argument '--include-dep-features' which wasn't expected, or isn't valid in this context\n        Did you mean --include-deps-features?\n\nUSAGE:\n    cargo hack prüfe --include-deps-features\n\nFor more information try --help\n",
         ),
     ];
-    for (line, want) in rows {
-        assert_eq!(rt; answer(rt.alloc(), line)?.as_str(), want, "of {line}");
-    }
+    answers(&rt, rt.alloc(), &rows)?;
     Ok(())
 }
 
@@ -198,9 +192,7 @@ fn the_earliest_cut_is_refused(rt: HostRuntime) -> Result<(), Fail> {
         ("hack --all=1 --each-features", unexpected),
         ("hack --workspace-behavior=1 --each-features", form),
     ];
-    for (line, want) in rows {
-        assert_eq!(rt; answer(rt.alloc(), line)?.as_str(), want, "of {line}");
-    }
+    answers(&rt, rt.alloc(), &rows)?;
     Ok(())
 }
 
@@ -224,9 +216,7 @@ fn a_repeat_and_a_similar_name_are_refused_where_they_stand(rt: HostRuntime) -> 
         ("hack --each-features --workspace-behavior", similar),
         ("hack --each-features check -F", similar),
     ];
-    for (line, want) in rows {
-        assert_eq!(rt; answer(rt.alloc(), line)?.as_str(), want, "of {line}");
-    }
+    answers(&rt, rt.alloc(), &rows)?;
     Ok(())
 }
 
@@ -246,8 +236,6 @@ fn cuts_are_judged_before_colour(rt: HostRuntime) -> Result<(), Fail> {
             "The argument '--color' was provided more than once, but cannot be used multiple times\n\nUSAGE:\n    cargo hack check --color <WHEN>\n\nFor more information try --help\n",
         ),
     ];
-    for (line, want) in rows {
-        assert_eq!(rt; answer(rt.alloc(), line)?.as_str(), want, "of {line}");
-    }
+    answers(&rt, rt.alloc(), &rows)?;
     Ok(())
 }

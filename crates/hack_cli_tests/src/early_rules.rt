@@ -1,7 +1,7 @@
 //! The rules behind those on cuts, up to that on a missing subcommand. Words that break two of them are refused by the
 //! one that comes first.
 
-use crate::given::{answer, answer_in, answer_to, env_of};
+use crate::given::{answer, answer_in, answer_to, answers, env_of};
 use hack_words::rustup::Rustup;
 use std::test::Fail;
 
@@ -32,9 +32,7 @@ fn colour_is_known_before_lists_are_looked_at(rt: HostRuntime) -> Result<(), Fai
         ("hack check --color=always", "args"),
         ("hack check -- --color x", "args"),
     ];
-    for (line, want) in rows {
-        assert_eq!(rt; answer(rt.alloc(), line)?.as_str(), want, "of {line}");
-    }
+    answers(&rt, rt.alloc(), &rows)?;
     Ok(())
 }
 
@@ -97,9 +95,7 @@ fn unknown_features_are_ignored_in_a_list(rt: HostRuntime) -> Result<(), Fail> {
             "args",
         ),
     ];
-    for (line, want) in rows {
-        assert_eq!(rt; answer(rt.alloc(), line)?.as_str(), want, "of {line}");
-    }
+    answers(&rt, rt.alloc(), &rows)?;
     Ok(())
 }
 
@@ -142,9 +138,7 @@ fn what_stands_beside_runs_by_features(rt: HostRuntime) -> Result<(), Fail> {
             "args",
         ),
     ];
-    for (line, want) in rows {
-        assert_eq!(rt; answer(rt.alloc(), line)?.as_str(), want, "of {line}");
-    }
+    answers(&rt, rt.alloc(), &rows)?;
     Ok(())
 }
 
@@ -264,9 +258,7 @@ fn depth_is_a_number_before_groups_are_looked_at(rt: HostRuntime) -> Result<(), 
             "args",
         ),
     ];
-    for (line, want) in rows {
-        assert_eq!(rt; answer(rt.alloc(), line)?.as_str(), want, "of {line}");
-    }
+    answers(&rt, rt.alloc(), &rows)?;
     Ok(())
 }
 
@@ -387,9 +379,7 @@ fn subcommands_that_need_dev_dependencies(rt: HostRuntime) -> Result<(), Fail> {
         ("hack check test --remove-dev-deps", "args"),
         ("hack testé --remove-dev-deps install", "args"),
     ];
-    for (line, want) in rows {
-        assert_eq!(rt; answer(rt.alloc(), line)?.as_str(), want, "of {line}");
-    }
+    answers(&rt, rt.alloc(), &rows)?;
     Ok(())
 }
 
@@ -418,8 +408,6 @@ fn cargo_handles_workspaces_without_runs_by_features(rt: HostRuntime) -> Result<
         ),
         ("hack check --workspace-behavior=cargo", "args"),
     ];
-    for (line, want) in rows {
-        assert_eq!(rt; answer(rt.alloc(), line)?.as_str(), want, "of {line}");
-    }
+    answers(&rt, rt.alloc(), &rows)?;
     Ok(())
 }

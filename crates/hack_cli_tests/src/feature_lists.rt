@@ -2,6 +2,7 @@
 
 use crate::given::{fields, fields_of};
 use std::alloc::{AllocError, Global};
+use std::process::Abort;
 use std::test::Fail;
 
 /// The fields behind those of the subcommand, of words behind `hack check`.
@@ -12,6 +13,14 @@ fn given(alloc: Global, options: &str) -> Result<String, AllocError> {
         Some(fields) => String::from_str(alloc, fields),
         None => Ok(text),
     }
+}
+
+/// Asserts which fields the options of each row give behind `hack check`.
+fn behind_check<R: Abort>(rt: &R, alloc: Global, rows: &[(&str, &str)]) -> Result<(), AllocError> {
+    for (options, want) in rows {
+        assert_eq!(rt; given(alloc, *options)?.as_str(), *want, "of {options}");
+    }
+    Ok(())
 }
 
 #[test]
@@ -48,9 +57,7 @@ fn features_are_split_and_join_those_excluded(rt: HostRuntime) -> Result<(), Fai
             "features=a; exclude_features=a; ignore_unknown_features",
         ),
     ];
-    for (options, want) in rows {
-        assert_eq!(rt; given(rt.alloc(), options)?.as_str(), want, "of {options}");
-    }
+    behind_check(&rt, rt.alloc(), &rows)?;
     assert_eq!(rt;
         fields(rt.alloc(), "hack check --features ''")?.as_str(),
         "leading_args=check; subcommand=check"
@@ -126,9 +133,7 @@ fn optional_dependencies_with_names_and_without(rt: HostRuntime) -> Result<(), F
             "leading_args=check; trailing_args=a; subcommand=check; optional_deps; each_feature",
         ),
     ];
-    for (options, want) in rows {
-        assert_eq!(rt; given(rt.alloc(), options)?.as_str(), want, "of {options}");
-    }
+    behind_check(&rt, rt.alloc(), &rows)?;
     Ok(())
 }
 
@@ -152,9 +157,7 @@ fn groups_keep_quotes_and_empty_names(rt: HostRuntime) -> Result<(), Fail> {
             "mutually_exclusive_features=[größe,a]|[b,b]; feature_powerset; exclude_all_features",
         ),
     ];
-    for (options, want) in rows {
-        assert_eq!(rt; given(rt.alloc(), options)?.as_str(), want, "of {options}");
-    }
+    behind_check(&rt, rt.alloc(), &rows)?;
     let words = [
         "hack",
         "check",
@@ -186,9 +189,7 @@ fn lifted_groups_are_kept_with_their_packages(rt: HostRuntime) -> Result<(), Fai
             "mutually_exclusive_features=[a=1,b]; allow_together=p:[a=1,b]|p:[a=1,b]; feature_powerset; exclude_all_features",
         ),
     ];
-    for (options, want) in rows {
-        assert_eq!(rt; given(rt.alloc(), options)?.as_str(), want, "of {options}");
-    }
+    behind_check(&rt, rt.alloc(), &rows)?;
     Ok(())
 }
 
@@ -230,8 +231,6 @@ fn options_leave_out_runs_with_all_features_and_with_none(rt: HostRuntime) -> Re
             "group_features=[a,b]; feature_powerset",
         ),
     ];
-    for (options, want) in rows {
-        assert_eq!(rt; given(rt.alloc(), options)?.as_str(), want, "of {options}");
-    }
+    behind_check(&rt, rt.alloc(), &rows)?;
     Ok(())
 }

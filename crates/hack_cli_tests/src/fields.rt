@@ -1,6 +1,6 @@
 //! The fields of the arguments, each row with all that aren't as words without options leave them.
 
-use crate::given::{env_of, fields, fields_in, fields_of};
+use crate::given::{env_of, fields, fields_in, fields_of, give};
 use std::test::Fail;
 
 #[test]
@@ -52,9 +52,7 @@ fn words_for_cargo_pass_in_order(rt: HostRuntime) -> Result<(), Fail> {
             "leading_args=check|-h|--help|-V|--version=1; subcommand=check",
         ),
     ];
-    for (line, want) in rows {
-        assert_eq!(rt; fields(rt.alloc(), line)?.as_str(), want, "of {line}");
-    }
+    give(&rt, rt.alloc(), &rows)?;
     Ok(())
 }
 
@@ -83,9 +81,7 @@ fn verbose_is_counted(rt: HostRuntime) -> Result<(), Fail> {
         ),
         ("hack check -jv", "leading_args=check|-jv; subcommand=check"),
     ];
-    for (line, want) in rows {
-        assert_eq!(rt; fields(rt.alloc(), line)?.as_str(), want, "of {line}");
-    }
+    give(&rt, rt.alloc(), &rows)?;
     Ok(())
 }
 
@@ -110,9 +106,7 @@ fn words_behind_dashes_are_trailing(rt: HostRuntime) -> Result<(), Fail> {
             "trailing_args=check; remove_dev_deps",
         ),
     ];
-    for (line, want) in rows {
-        assert_eq!(rt; fields(rt.alloc(), line)?.as_str(), want, "of {line}");
-    }
+    give(&rt, rt.alloc(), &rows)?;
     Ok(())
 }
 
@@ -136,9 +130,7 @@ fn the_first_word_that_no_option_takes_is_the_subcommand(rt: HostRuntime) -> Res
         ),
         ("hack hack", "leading_args=hack; subcommand=hack"),
     ];
-    for (line, want) in rows {
-        assert_eq!(rt; fields(rt.alloc(), line)?.as_str(), want, "of {line}");
-    }
+    give(&rt, rt.alloc(), &rows)?;
     Ok(())
 }
 
@@ -178,9 +170,7 @@ fn manifests_and_packages(rt: HostRuntime) -> Result<(), Fail> {
             "leading_args=check; subcommand=check; package=--all",
         ),
     ];
-    for (line, want) in rows {
-        assert_eq!(rt; fields(rt.alloc(), line)?.as_str(), want, "of {line}");
-    }
+    give(&rt, rt.alloc(), &rows)?;
     Ok(())
 }
 
@@ -210,9 +200,7 @@ fn cargo_gets_what_chooses_packages_where_it_handles_workspaces(
             "leading_args=check; subcommand=check; features=a; exclude_features=a; target=t; cargo; keep_going",
         ),
     ];
-    for (line, want) in rows {
-        assert_eq!(rt; fields(rt.alloc(), line)?.as_str(), want, "of {line}");
-    }
+    give(&rt, rt.alloc(), &rows)?;
     Ok(())
 }
 
@@ -228,9 +216,7 @@ fn targets_are_sorted_and_distinct(rt: HostRuntime) -> Result<(), Fail> {
             "leading_args=check; subcommand=check; target=|Z|a,b|z|é",
         ),
     ];
-    for (line, want) in rows {
-        assert_eq!(rt; fields(rt.alloc(), line)?.as_str(), want, "of {line}");
-    }
+    give(&rt, rt.alloc(), &rows)?;
     Ok(())
 }
 
@@ -372,9 +358,7 @@ fn log_groups_where_the_environment_asks_none(rt: HostRuntime) -> Result<(), Fai
             "leading_args=check; subcommand=check; print_command_list",
         ),
     ];
-    for (line, want) in rows {
-        assert_eq!(rt; fields(rt.alloc(), line)?.as_str(), want, "of {line}");
-    }
+    give(&rt, rt.alloc(), &rows)?;
     let env = env_of(rt.alloc(), None, true)?;
     let found = fields_in(rt.alloc(), "hack check --print-command-list", &env)?;
     assert_eq!(rt;

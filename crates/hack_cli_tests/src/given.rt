@@ -5,6 +5,7 @@ use hack_words::cli::{Args, CliFault, Env, Parsed};
 use hack_words::rustup::Rustup;
 use hack_words::term::Notice;
 use std::alloc::{AllocError, Global};
+use std::process::Abort;
 
 type Answer = Result<(Parsed, Vec<Notice>), CliFault>;
 
@@ -125,4 +126,28 @@ pub(crate) fn fields_of(alloc: Global, words: &[&str]) -> Result<String, AllocEr
     let env = env_of(alloc, None, false)?;
     let answer = Args::parse(alloc, &words, &env, Rustup::Known(26));
     fields_text(alloc, answer)
+}
+
+/// Asserts what the words of each line are answered.
+pub(crate) fn answers<R: Abort>(
+    rt: &R,
+    alloc: Global,
+    rows: &[(&str, &str)],
+) -> Result<(), AllocError> {
+    for (line, want) in rows {
+        assert_eq!(rt; answer(alloc, *line)?.as_str(), *want, "of {line}");
+    }
+    Ok(())
+}
+
+/// Asserts which fields the words of each line give.
+pub(crate) fn give<R: Abort>(
+    rt: &R,
+    alloc: Global,
+    rows: &[(&str, &str)],
+) -> Result<(), AllocError> {
+    for (line, want) in rows {
+        assert_eq!(rt; fields(alloc, *line)?.as_str(), *want, "of {line}");
+    }
+    Ok(())
 }

@@ -1,6 +1,6 @@
 //! The rule on a missing subcommand, and those behind it.
 
-use crate::given::{answer, answer_in, env_of};
+use crate::given::{answer, answer_in, answers, env_of};
 use hack_words::rustup::Rustup;
 use std::alloc::{AllocError, Global};
 use std::test::Fail;
@@ -36,9 +36,7 @@ fn there_is_a_subcommand(rt: HostRuntime) -> Result<(), Fail> {
             "--all-features may not be used together with --each-feature",
         ),
     ];
-    for (line, want) in rows {
-        assert_eq!(rt; answer(rt.alloc(), line)?.as_str(), want, "of {line}");
-    }
+    answers(&rt, rt.alloc(), &rows)?;
     Ok(())
 }
 
@@ -64,9 +62,7 @@ fn a_list_without_a_subcommand_ends_the_rules(rt: HostRuntime) -> Result<(), Fai
             "--no-default-features may not be used together with --each-feature",
         ),
     ];
-    for (line, want) in rows {
-        assert_eq!(rt; answer(rt.alloc(), line)?.as_str(), want, "of {line}");
-    }
+    answers(&rt, rt.alloc(), &rows)?;
     Ok(())
 }
 
@@ -190,9 +186,7 @@ fn what_stands_beside_a_range(rt: HostRuntime) -> Result<(), Fail> {
         ),
         ("hack check --version-range .. --clean-per-version", "args"),
     ];
-    for (line, want) in rows {
-        assert_eq!(rt; answer(rt.alloc(), line)?.as_str(), want, "of {line}");
-    }
+    answers(&rt, rt.alloc(), &rows)?;
     Ok(())
 }
 
@@ -260,9 +254,7 @@ fn log_groups_are_known_before_pieces_are_read(rt: HostRuntime) -> Result<(), Fa
         ("hack check --log-group github-actions", "args"),
         ("hack check --log-group=none", "args"),
     ];
-    for (line, want) in rows {
-        assert_eq!(rt; answer(rt.alloc(), line)?.as_str(), want, "of {line}");
-    }
+    answers(&rt, rt.alloc(), &rows)?;
     Ok(())
 }
 
@@ -310,9 +302,7 @@ fn a_kind_stands_beside_a_piece(rt: HostRuntime) -> Result<(), Fail> {
         ("hack check --partition 1/2 --partition-kind turn", "args"),
         ("hack check --partition-kind block --partition 1/2", "args"),
     ];
-    for (line, want) in rows {
-        assert_eq!(rt; answer(rt.alloc(), line)?.as_str(), want, "of {line}");
-    }
+    answers(&rt, rt.alloc(), &rows)?;
     Ok(())
 }
 

@@ -1,6 +1,6 @@
 //! The rules on what doesn't stand together, the last ones before that on a missing subcommand.
 
-use crate::given::answer;
+use crate::given::{answer, answers};
 use std::test::Fail;
 
 #[test]
@@ -60,9 +60,7 @@ fn the_first_target_is_told(rt: HostRuntime) -> Result<(), Fail> {
         ),
         ("hack check --all-targets", "args"),
     ];
-    for (line, want) in rows {
-        assert_eq!(rt; answer(rt.alloc(), line)?.as_str(), want, "of {line}");
-    }
+    answers(&rt, rt.alloc(), &rows)?;
     Ok(())
 }
 
@@ -97,9 +95,7 @@ fn features_to_include_stand_alone(rt: HostRuntime) -> Result<(), Fail> {
         ),
         ("hack check --each-feature --include-features a", "args"),
     ];
-    for (line, want) in rows {
-        assert_eq!(rt; answer(rt.alloc(), line)?.as_str(), want, "of {line}");
-    }
+    answers(&rt, rt.alloc(), &rows)?;
     Ok(())
 }
 

@@ -1,6 +1,6 @@
 //! Worked examples of words: the fault, or the fields that they give.
 
-use crate::given::fields;
+use crate::given::give;
 use std::test::Fail;
 
 #[test]
@@ -53,9 +53,7 @@ fn worked_examples_of_words_that_are_refused(rt: HostRuntime) -> Result<(), Fail
             "feature `a` specified by both --exclude-features and --include-features",
         ),
     ];
-    for (line, want) in rows {
-        assert_eq!(rt; fields(rt.alloc(), line)?.as_str(), want, "of {line}");
-    }
+    give(&rt, rt.alloc(), &rows)?;
     Ok(())
 }
 
@@ -112,9 +110,7 @@ fn worked_examples_of_pieces_and_lifts(rt: HostRuntime) -> Result<(), Fail> {
             "leading_args=check; subcommand=check; mutually_exclusive_features=[tokio,async-std]; allow_together=z:[tokio,async-std]; workspace; feature_powerset; exclude_all_features",
         ),
     ];
-    for (line, want) in rows {
-        assert_eq!(rt; fields(rt.alloc(), line)?.as_str(), want, "of {line}");
-    }
+    give(&rt, rt.alloc(), &rows)?;
     Ok(())
 }
 
@@ -151,8 +147,6 @@ fn worked_examples_of_accepted_words(rt: HostRuntime) -> Result<(), Fail> {
             "leading_args=check; subcommand=check; target=a|b; version_range=1.63..=1.64",
         ),
     ];
-    for (line, want) in rows {
-        assert_eq!(rt; fields(rt.alloc(), line)?.as_str(), want, "of {line}");
-    }
+    give(&rt, rt.alloc(), &rows)?;
     Ok(())
 }
