@@ -1,4 +1,4 @@
-use hack_term::term::{Coloring, LogGroup, Notice, NoticeKind, Term};
+use crate::term::{Coloring, LogGroup, Notice, NoticeKind, Term};
 use std::alloc::Global;
 use std::io;
 use std::io::{ErrorKind, Write};
