@@ -6,12 +6,11 @@ use Rattle.hack_options.specs.declared.Opt.TheVariants as opt
 use Rattle.hack_uses.specs.Passed.{leading_of}
 use Rattle.hack_uses.specs.Uses.{Use, is_given, subcommand_of}
 use Rattle.hack_uses.specs.Values.{value_given, values_given}
-use Rattle.hack_term.specs.declared.term.Coloring.{Coloring}
 use Rattle.hack_rules.specs.declared.fault.Beside.{Beside}
 use Rattle.hack_rules.specs.declared.fault.Beside.TheVariants as beside
 use Rattle.hack_rules.specs.CliFaults.{Fault, Color, TermColor, Needs, Single, BesideSubcommand, Install, Clash, ClashWord, Excluded, NoSubcommand, OldRustup}
 use Rattle.hack_rules.specs.CliLists.{lift_form, lift_group, first_fault_of}
-use Rattle.hack_rules.specs.CliValues.{depth_fault, step_fault, log_group_fault, partition_fault, kind_fault, range_fault}
+use Rattle.hack_rules.specs.CliValues.{unless_read, depth_fault, step_fault, log_group_fault, partition_fault, kind_fault, range_fault}
 use Rattle.hack_term.specs.Lists.{is_list}
 use Rattle.hack_rules.specs.Listed.{Listed, listed}
 use Rattle.hack_rules.specs.Readings.{coloring_of}
@@ -48,11 +47,7 @@ is_among names name = list_any (λ one. bytes_eq one name) names
 
 -- a text that names no colouring
 abbrev pub coloring_fault : (List ℕ → Fault) → List ℕ → Option Fault
-coloring_fault fault text = unless (coloring_of text)
-  where
-    unless : Option Coloring → Option Fault
-    unless (Some coloring) = None
-    unless None = Some (fault text)
+coloring_fault fault text = unless_read (fault text) (coloring_of text)
 
 -- colour: that of the words, else that of the environment
 abbrev pub color_rule : Option (List ℕ) → Option (List ℕ) → Option Fault
@@ -173,11 +168,7 @@ naming l name =
 -- no option names a feature that is excluded
 abbrev pub excluded_rule : Listed → List (List ℕ) → Option Fault
 excluded_rule l [] = None
-excluded_rule l (name ∷ names) = or_later (option_map (Excluded name) (naming l name)) (excluded_rule l names)
-  where
-    or_later : Option Fault → Option Fault → Option Fault
-    or_later (Some fault) later = Some fault
-    or_later None later = later
+excluded_rule l (name ∷ names) = first_fault_of (option_map (Excluded name) (naming l name)) (excluded_rule l names)
 
 -- the rules on colour and on what features are listed for, and the depth
 abbrev pub early_rules : Option (List ℕ) → Listed → List Use → List (Option Fault)
