@@ -1,25 +1,24 @@
-//! Tests over the words of a call: each rule that refuses them, the options that they give, and what is told of them.
+//! Tests of what is made of words, for what stands in no table of rows: the specified examples, types that are made by
+//! hand, writers that fail, and the check of rows itself.
 #![tactic(auto)]
 
 #[cfg(test)]
-mod answers;
+mod cli;
 #[cfg(test)]
-mod cut_rules;
+mod help_texts;
 #[cfg(test)]
-mod early_rules;
+mod lexopt;
 #[cfg(test)]
-mod feature_lists;
+mod lines;
 #[cfg(test)]
-mod fields;
+mod options;
 #[cfg(test)]
-mod given;
+mod process;
 #[cfg(test)]
-mod late_rules;
+mod tables;
 #[cfg(test)]
-mod notices;
+mod uses;
 #[cfg(test)]
-mod shown;
-#[cfg(test)]
-mod together_rules;
+mod versions;
 #[cfg(test)]
 mod worked_words;

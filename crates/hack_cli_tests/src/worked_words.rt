@@ -1,7 +1,17 @@
 //! Worked examples of words: the fault, or the fields that they give.
 
-use crate::given::give;
+use hack_tables::fields;
+use std::alloc::{AllocError, Global};
+use std::process::Abort;
 use std::test::Fail;
+
+/// Asserts which fields the words of each line give, or their fault.
+fn give<R: Abort>(rt: &R, alloc: Global, rows: &[(&str, &str)]) -> Result<(), AllocError> {
+    for (line, want) in rows {
+        assert_eq!(rt; fields(alloc, *line)?.as_str(), *want, "of {line}");
+    }
+    Ok(())
+}
 
 #[test]
 fn worked_examples_of_words_that_are_refused(rt: HostRuntime) -> Result<(), Fail> {

@@ -76,6 +76,3 @@ pub struct Parser {
     ghost boundary: { IsCharBoundary (string_bytes word) spot.at },
     ghost letters: { spot.place ≡ Letters → spot.at < length (string_bytes word) },
 }
-
-#[cfg(test)]
-mod tests;

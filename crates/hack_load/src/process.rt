@@ -340,6 +340,3 @@ fn longer(alloc: Global, features: Option<String>, name: &str) -> Result<String,
         None => String::from_str(alloc, name),
     }
 }
-
-#[cfg(test)]
-mod tests;

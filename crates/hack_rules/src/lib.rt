@@ -7,8 +7,4 @@ pub mod late_rules;
 pub mod listed;
 pub mod named;
 pub mod rules;
-#[cfg(test)]
-mod tests_of_named;
-#[cfg(test)]
-mod tests_of_values;
 mod values;

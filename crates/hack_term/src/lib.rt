@@ -5,6 +5,4 @@ pub mod lists;
 mod log_group;
 pub mod partition;
 pub mod term;
-#[cfg(test)]
-mod tests;
 mod writes;

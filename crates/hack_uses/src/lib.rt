@@ -11,6 +11,3 @@ pub use cut::{Cuts, Print, Use, all_uses};
 pub use fault::{CutFault, OwnedFlag};
 pub use passed::leading;
 pub use seen::{count, given, subcommand, value, values};
-
-#[cfg(test)]
-mod tests;

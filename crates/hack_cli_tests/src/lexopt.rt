@@ -1,4 +1,6 @@
-use crate::{LexFault, Parser};
+//! Values of options, attached and not, and the texts of faults.
+
+use hack_lexopt::{LexFault, Parser};
 use std::alloc::{AllocError, Global};
 use std::test::Fail;
 
@@ -25,42 +27,6 @@ fn cut(alloc: Global, parser: &mut Parser) -> Result<String, AllocError> {
         Some(option) => format!(in alloc; "{option} refuses {value}"),
         None => String::from_str(alloc, "nothing"),
     }
-}
-
-/// The first `count` cuts of a word and of `next` behind it.
-fn cuts(alloc: Global, word: &str, count: usize) -> Result<String, AllocError> {
-    let mut parser = parser_of(alloc, &[word, "next"])?;
-    let mut text = String::new(alloc);
-    for _ in 0..count {
-        text.push_str(cut(alloc, &mut parser)?.as_str())?;
-        text.push_str("; ")?;
-    }
-    Ok(text)
-}
-
-#[test]
-fn cuts_of_a_word(rt: HostRuntime) -> Result<(), Fail> {
-    let rows = [
-        ("-j4", 4, "-j; -4; next; end; "),
-        ("--foo=bar", 4, "--foo; --foo refuses bar; next; end; "),
-        ("-nq", 4, "-n; -q; next; end; "),
-        ("-n=3", 4, "-n; -n refuses 3; next; end; "),
-        ("-ab=c", 5, "-a; -b; -b refuses c; next; end; "),
-        ("--name=", 4, "--name; --name refuses ; next; end; "),
-        ("--a=b=c", 4, "--a; --a refuses b=c; next; end; "),
-        ("-=", 3, "-=; next; end; "),
-        ("-==", 4, "-=; -= refuses ; next; end; "),
-        ("-", 3, "-; next; end; "),
-        ("", 3, "; next; end; "),
-        ("x=-y", 3, "x=-y; next; end; "),
-        ("--", 3, "--; next; end; "),
-        ("-éß4", 5, "-é; -ß; -4; next; end; "),
-        ("--größe=1", 4, "--größe; --größe refuses 1; next; end; "),
-    ];
-    for (word, count, want) in rows {
-        assert_eq!(rt; cuts(rt.alloc(), word, count)?.as_str(), want, "of {word}");
-    }
-    Ok(())
 }
 
 #[test]

@@ -1,5 +1,7 @@
+//! The table of options, and the help whole.
+
 use crate::help_texts::{LONG_HELP, SHORT_HELP};
-use crate::{ALL, Help, Kind, Opt, Usage, long, short};
+use hack_options::{ALL, Help, Kind, Opt, long, short};
 use std::test::Fail;
 
 #[test]
@@ -110,47 +112,6 @@ fn options_in_messages(rt: HostRuntime) -> Result<(), Fail> {
         assert_eq!(rt; shown.as_str(), name);
         let shown = format!(in rt.alloc(); "{}", option.with_alias())?;
         assert_eq!(rt; shown.as_str(), with_alias);
-    }
-    Ok(())
-}
-
-#[test]
-fn usage_by_name(rt: HostRuntime) -> Result<(), Fail> {
-    let rows = [
-        ("all", "--all "),
-        ("locked", "--locked "),
-        ("each-feature", "--each-feature "),
-        ("manifest-path", "--manifest-path <PATH>"),
-        ("color", "--color <WHEN>"),
-        ("depth", "--depth <NUM>"),
-        ("optional-deps", "--optional-deps [DEPS]..."),
-        ("version-range", "--version-range [START]..[=END]"),
-        ("partition", "--partition <M/N>"),
-        ("partition-kind", "--partition-kind <KIND>"),
-        ("include-deps-features", "--include-deps-features"),
-        ("no-default-features", "--no-default-features"),
-        ("workspace-behavior", "--workspace-behavior"),
-        ("quiet", "--quiet"),
-    ];
-    for (name, want) in rows {
-        let shown = format!(in rt.alloc(); "{}", Usage::Long(name))?;
-        assert_eq!(rt; shown.as_str(), want);
-    }
-    Ok(())
-}
-
-#[test]
-fn usage_by_letter(rt: HostRuntime) -> Result<(), Fail> {
-    let rows = [
-        ('m', "-m"),
-        ('p', "--package <SPEC>..."),
-        ('F', "--features <FEATURES>..."),
-        ('v', "--verbose "),
-        ('q', "-q"),
-    ];
-    for (letter, want) in rows {
-        let shown = format!(in rt.alloc(); "{}", Usage::Short(letter))?;
-        assert_eq!(rt; shown.as_str(), want);
     }
     Ok(())
 }

@@ -1,4 +1,7 @@
-use super::*;
+//! The texts of commands.
+
+use hack_load::process::ProcessBuilder;
+use std::alloc::{AllocError, Global};
 use std::process::Abort;
 
 /// Words, cut at each space.

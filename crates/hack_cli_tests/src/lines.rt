@@ -1,4 +1,6 @@
-use crate::term::{Coloring, LogGroup, Notice, NoticeKind, Term};
+//! Lines for the user, and what a writer that fails leaves of them.
+
+use hack_term::term::{Coloring, LogGroup, Notice, NoticeKind, Term};
 use std::alloc::Global;
 use std::io;
 use std::io::{ErrorKind, Write};
@@ -114,40 +116,6 @@ fn statuses(rt: HostRuntime) {
             "{error} {warn} {deny_warnings}"
         );
     }
-}
-
-#[test]
-fn colourings(rt: HostRuntime) {
-    let rows = [
-        ("auto", Some(Coloring::Auto)),
-        ("always", Some(Coloring::Always)),
-        ("never", Some(Coloring::Never)),
-        ("Never", None),
-        ("", None),
-    ];
-    for (text, want) in rows {
-        assert_eq!(rt; Coloring::parse(text), want, "of {text}");
-    }
-}
-
-#[test]
-fn log_groups(rt: HostRuntime) -> Result<(), Fail> {
-    for (text, want) in [
-        ("none", LogGroup::None),
-        ("github-actions", LogGroup::GithubActions),
-    ] {
-        let group = LogGroup::parse(rt.alloc(), text);
-        assert!(rt; matches!(group, Ok(group) if group == want), "of {text}");
-    }
-    let fault = match LogGroup::parse(rt.alloc(), "github") {
-        Ok(_) => String::new(rt.alloc()),
-        Err(fault) => format!(in rt.alloc(); "{fault}")?,
-    };
-    let want = "argument for --log-group must be none or github-actions, but found `github`";
-    assert_eq!(rt; fault.as_str(), want);
-    assert_eq!(rt; LogGroup::auto(true), LogGroup::GithubActions);
-    assert_eq!(rt; LogGroup::auto(false), LogGroup::None);
-    Ok(())
 }
 
 #[test]

@@ -1,0 +1,62 @@
+//! Each kind of row, and the call that answers it.
+
+use crate::table::Group;
+use crate::{commands, lists, paths, uses, versions, words};
+use std::alloc::{AllocError, Global};
+
+/// The answer to the words of a row; none for a kind that there is not.
+pub(crate) fn answer(
+    alloc: Global,
+    group: &Group,
+    words: &[String],
+) -> Result<Option<String>, AllocError> {
+    if let Some(text) = words::answer(alloc, group, words)? {
+        return Ok(Some(text));
+    }
+    if let Some(text) = uses::answer(alloc, group, words)? {
+        return Ok(Some(text));
+    }
+    if let Some(text) = lists::answer(alloc, group, words)? {
+        return Ok(Some(text));
+    }
+    if let Some(text) = versions::answer(alloc, group, words)? {
+        return Ok(Some(text));
+    }
+    if let Some(text) = paths::answer(alloc, group, words)? {
+        return Ok(Some(text));
+    }
+    commands::answer(alloc, group, words)
+}
+
+/// The word at a place; the empty text where there is none.
+pub(crate) fn word(words: &[String], place: usize) -> &str {
+    match words.get(place) {
+        Some(word) => word.as_str(),
+        None => "",
+    }
+}
+
+/// A text that is there, or `none`.
+pub(crate) fn or_none(alloc: Global, text: Option<&str>) -> Result<String, AllocError> {
+    String::from_str(alloc, text.unwrap_or("none"))
+}
+
+/// `yes` or `no`.
+pub(crate) fn yes(alloc: Global, holds: bool) -> Result<String, AllocError> {
+    String::from_str(alloc, if holds { "yes" } else { "no" })
+}
+
+/// The texts, each behind a bar but the first; `nothing` where there is none.
+pub(crate) fn joined(alloc: Global, texts: &[String]) -> Result<String, AllocError> {
+    let mut text = String::new(alloc);
+    for (place, part) in texts.iter().enumerate() {
+        if place > 0 {
+            text.push_str("|")?;
+        }
+        text.push_str(part.as_str())?;
+    }
+    if texts.is_empty() {
+        text.push_str("nothing")?;
+    }
+    Ok(text)
+}

@@ -1,0 +1,249 @@
+//! The form of a table, and the check of its rows.
+//!
+//! A line `[kind] A sentence.` begins a group of rows, of one kind of question, and says the rule that they show. A line
+//! `@ name value` says what the rows of the group are asked with. A row is a line `> question`, whose words stand
+//! between spaces, and the lines of its answer, each behind `| `. In both `\s` is a space, `\n` a line feed, `\t` a tab,
+//! `\0` nothing and `\\` a backslash. Empty lines and those that begin with `#` are left out.
+
+use crate::answers::answer;
+use std::alloc::{AllocError, AllocFailed, Global};
+use std::io;
+use std::io::Write;
+use thiserror::Error;
+
+/// Why a table can't be checked.
+#[derive(Debug, Drop, Error)]
+pub enum Fault {
+    /// The line, from 1, has no form of a table, or stands where it may not.
+    #[error("line {0} is no line of a table here")]
+    Line(u64),
+    /// A group of this line, from 1, has a kind that there is not.
+    #[error("line {0} names no kind of rows")]
+    Kind(u64),
+    #[error("failed to write")]
+    Write,
+    #[error("out of memory")]
+    Memory,
+}
+
+impl From<AllocError> for Fault {
+    fn from(_e: AllocError) -> Fault {
+        Fault::Memory
+    }
+}
+
+impl<T: Drop> From<AllocFailed<T>> for Fault {
+    fn from(_e: AllocFailed<T>) -> Fault {
+        Fault::Memory
+    }
+}
+
+/// How many rows there were, and how many of them were wrong.
+#[derive(Clone, Copy, Debug, PartialEq, Eq)]
+pub struct Counts {
+    pub rows: u64,
+    pub wrong: u64,
+}
+
+/// What the rows of a group are asked with.
+#[derive(Drop)]
+pub(crate) struct Group {
+    pub(crate) kind: String,
+    /// Names with their values; a name may stand without one.
+    settings: Vec<(String, String)>,
+    line: u64,
+}
+
+impl Group {
+    /// The value of a setting, where it is given.
+    pub(crate) fn setting(&self, name: &str) -> Option<&str> {
+        for (known, value) in self.settings.as_slice() {
+            if known.as_str() == name {
+                return Some(value.as_str());
+            }
+        }
+        None
+    }
+
+    pub(crate) fn has(&self, name: &str) -> bool {
+        self.setting(name).is_some()
+    }
+}
+
+/// A row: its question as it is written, and the text of the answer that is wanted.
+#[derive(Drop)]
+struct Row {
+    question: String,
+    want: String,
+    line: u64,
+}
+
+/// A text in which each backslash begins another character.
+fn unescaped(alloc: Global, text: &str) -> Result<String, AllocError> {
+    let mut made = String::new(alloc);
+    let mut escaped = false;
+    for c in text.chars() {
+        if !escaped {
+            match c {
+                '\\' => escaped = true,
+                c => made.push(c)?,
+            }
+            continue;
+        }
+        escaped = false;
+        match c {
+            's' => made.push(' ')?,
+            'n' => made.push('\n')?,
+            't' => made.push('\t')?,
+            '0' => {}
+            c => made.push(c)?,
+        }
+    }
+    Ok(made)
+}
+
+/// The words of a question.
+pub(crate) fn words_of(alloc: Global, question: &str) -> Result<Vec<String>, AllocError> {
+    let mut words = Vec::new(alloc);
+    if question.is_empty() {
+        return Ok(words);
+    }
+    for word in question.split(' ') {
+        words.push(unescaped(alloc, word)?)?;
+    }
+    Ok(words)
+}
+
+/// What stands behind a line's mark and one space.
+fn behind<'a>(line: &'a str, mark: &str) -> Option<&'a str> {
+    let rest = line.strip_prefix(mark)?;
+    Some(rest.strip_prefix(" ").unwrap_or(rest))
+}
+
+/// A table that is being checked: the group and the row whose lines are being read, and what was counted.
+#[derive(Drop)]
+struct Reading {
+    alloc: Global,
+    group: Option<Group>,
+    row: Option<Row>,
+    counts: Counts,
+}
+
+impl Reading {
+    /// Asks the question of the row that was read last, and tells of it where its answer is another one.
+    fn judge<W: Write>(&mut self, out: &mut W) -> Result<(), Fault> {
+        let row = match self.row.take() {
+            Some(row) => row,
+            None => return Ok(()),
+        };
+        let group = match &self.group {
+            Some(group) => group,
+            None => return Err(Fault::Line(row.line)),
+        };
+        let words = words_of(self.alloc, row.question.as_str())?;
+        let found = match answer(self.alloc, group, &words)? {
+            Some(found) => found,
+            None => return Err(Fault::Kind(group.line)),
+        };
+        self.counts.rows = self.counts.rows.saturating_add(1);
+        if found.as_str() == row.want.as_str() {
+            return Ok(());
+        }
+        self.counts.wrong = self.counts.wrong.saturating_add(1);
+        tell(out, group, &row, found.as_str()).map_err(|_| Fault::Write)
+    }
+
+    /// Begins a group.
+    fn begin(&mut self, head: &str, line: u64) -> Result<(), Fault> {
+        let kind = match head.split_once(']') {
+            Some((kind, _)) => String::from_str(self.alloc, kind)?,
+            None => return Err(Fault::Line(line)),
+        };
+        self.group = Some(Group {
+            kind,
+            settings: Vec::new(self.alloc),
+            line,
+        });
+        Ok(())
+    }
+
+    /// Takes a setting.
+    fn set(&mut self, text: &str, line: u64) -> Result<(), Fault> {
+        let (name, value) = text.split_once(' ').unwrap_or((text, ""));
+        let name = String::from_str(self.alloc, name)?;
+        let value = unescaped(self.alloc, value)?;
+        match &mut self.group {
+            Some(group) => group.settings.push((name, value))?,
+            None => return Err(Fault::Line(line)),
+        }
+        Ok(())
+    }
+
+    /// Begins a row.
+    fn ask(&mut self, question: &str, line: u64) -> Result<(), Fault> {
+        self.row = Some(Row {
+            question: String::from_str(self.alloc, question)?,
+            want: String::new(self.alloc),
+            line,
+        });
+        Ok(())
+    }
+
+    /// Takes a line of an answer.
+    fn want(&mut self, text: &str, line: u64, is_first: bool) -> Result<(), Fault> {
+        let text = unescaped(self.alloc, text)?;
+        match &mut self.row {
+            Some(row) => {
+                if !is_first {
+                    row.want.push_str("\n")?;
+                }
+                row.want.push_str(text.as_str())?;
+            }
+            None => return Err(Fault::Line(line)),
+        }
+        Ok(())
+    }
+}
+
+/// Tells of a row whose answer is another one.
+fn tell<W: Write>(out: &mut W, group: &Group, row: &Row, found: &str) -> io::Result<()> {
+    let line = row.line;
+    let kind = group.kind.as_str();
+    let question = row.question.as_str();
+    let want = row.want.as_str();
+    writeln!(out, "line {line}: [{kind}] {question}\nfound:\n{found}\nwanted:\n{want}")
+}
+
+/// Checks the rows of a table, and tells of each wrong one to `out`: its line, its question, what was found and what was
+/// wanted.
+pub fn check<W: Write>(alloc: Global, text: &str, out: &mut W) -> Result<Counts, Fault> {
+    let mut reading = Reading {
+        alloc,
+        group: None,
+        row: None,
+        counts: Counts { rows: 0, wrong: 0 },
+    };
+    let mut number: u64 = 0;
+    let mut answered = false;
+    for line in text.split('\n') {
+        number = number.saturating_add(1);
+        if let Some(text) = behind(line, "|") {
+            reading.want(text, number, !answered)?;
+            answered = true;
+            continue;
+        }
+        reading.judge(out)?;
+        answered = false;
+        if let Some(head) = line.strip_prefix("[") {
+            reading.begin(head, number)?;
+        } else if let Some(text) = behind(line, "@") {
+            reading.set(text, number)?;
+        } else if let Some(question) = behind(line, ">") {
+            reading.ask(question, number)?;
+        } else if !line.is_empty() && !line.starts_with("#") {
+            return Err(Fault::Line(number));
+        }
+    }
+    reading.judge(out)?;
+    Ok(reading.counts)
+}
