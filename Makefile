@@ -5,11 +5,13 @@ PROGRAM := crates/powerset_list/out/powerset_list
 EXCLUSIVE := native-tls,openssl,rustls
 
 .DEFAULT_GOAL := help
-.PHONY: help run program install test bench
+.PHONY: help run program install test quick planted bench
 
 help:
 	@echo 'make run      prints the command list of the sample in examples/, by a trial build without proofs'
 	@echo 'make test     proves and tests everything from nothing: the gate'
+	@echo 'make quick    lays out and checks CRATE=NAME and what stands on it, and the rows, over what is kept'
+	@echo 'make planted  tries the edits that the gate leaves out, of all crates or of CRATE=NAME'
 	@echo 'make install  proves and builds powerset-list, and installs it in PREFIX/bin (PREFIX=$(PREFIX))'
 	@echo 'make bench    proves and builds powerset-list, and prints its times, memory and lines'
 
@@ -19,6 +21,13 @@ run:
 
 test:
 	@rt ci
+
+quick:
+	@tests/quick '$(CRATE)'
+
+# Each edit is a wrong body that the prover has to refuse.
+planted:
+	@tests/planted $(CRATE)
 
 # Proves the program and what it stands on, as far as that is not done yet, and leaves it at PROGRAM.
 program:

@@ -19,7 +19,10 @@ fn told(alloc: Global, table: &str) -> Result<String, AllocError> {
 #[test]
 fn a_wrong_row_is_found(rt: HostRuntime) -> Result<(), Fail> {
     let rows = [
-        ("[stem] A rule.\n> /bin/cargo\n| cargo\n", "0 of 1 are wrong"),
+        (
+            "[stem] A rule.\n> /bin/cargo\n| cargo\n",
+            "0 of 1 are wrong",
+        ),
         (
             "[stem] A rule.\n> /bin/cargo\n| rustup\n> a.b\n| a\n",
             "line 2: [stem] /bin/cargo\nfound:\ncargo\nwanted:\nrustup\n1 of 2 are wrong",
@@ -47,8 +50,14 @@ fn what_is_no_table_is_refused(rt: HostRuntime) -> Result<(), Fail> {
         ("[stem] A rule.\n| a\n", "line 2 is no line of a table here"),
         ("@ color x\n", "line 1 is no line of a table here"),
         ("[stem A rule.\n", "line 1 is no line of a table here"),
-        ("\n[stem] A rule.\nwords\n", "line 3 is no line of a table here"),
-        ("\n[stems] A rule.\n> a\n| a\n", "line 2 names no kind of rows"),
+        (
+            "\n[stem] A rule.\nwords\n",
+            "line 3 is no line of a table here",
+        ),
+        (
+            "\n[stems] A rule.\n> a\n| a\n",
+            "line 2 names no kind of rows",
+        ),
     ];
     for (table, want) in rows {
         assert_eq!(rt; told(rt.alloc(), table)?.as_str(), want, "of {table}");

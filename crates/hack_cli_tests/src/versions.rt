@@ -71,4 +71,3 @@ fn given_patches_are_noticed(rt: HostRuntime) -> Result<(), Fail> {
     assert_eq!(rt; notices[1].kind, NoticeKind::Warn);
     Ok(())
 }
-

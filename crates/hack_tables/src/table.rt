@@ -211,7 +211,10 @@ fn tell<W: Write>(out: &mut W, group: &Group, row: &Row, found: &str) -> io::Res
     let kind = group.kind.as_str();
     let question = row.question.as_str();
     let want = row.want.as_str();
-    writeln!(out, "line {line}: [{kind}] {question}\nfound:\n{found}\nwanted:\n{want}")
+    writeln!(
+        out,
+        "line {line}: [{kind}] {question}\nfound:\n{found}\nwanted:\n{want}"
+    )
 }
 
 /// Checks the rows of a table, and tells of each wrong one to `out`: its line, its question, what was found and what was

@@ -96,7 +96,10 @@ fn passed(alloc: Global, cargo: bool, words: &[String]) -> Result<String, AllocE
 
 /// The option that the group names.
 fn option_of(group: &Group) -> Option<Opt> {
-    group.setting("option").and_then(long)
+    match group.setting("option") {
+        Some(name) => long(name),
+        None => None,
+    }
 }
 
 /// The option of the first word, and the uses of the others.

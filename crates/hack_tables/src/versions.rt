@@ -1,5 +1,7 @@
 //! Versions and ranges of them, their steps, which package uses which, and what cargo and rustup answer.
 
+ghost use Rattle.std.specs.Prelude.{◌<◌};
+
 use crate::answers::{or_none, word, yes};
 use crate::table::Group;
 use hack_load::cargo;
@@ -118,10 +120,7 @@ fn told(alloc: Global, versions: &[Version], notices: &[Notice]) -> Result<Strin
 }
 
 /// Packages p0, p1, .. with the group's own versions.
-fn packages_of(
-    alloc: Global,
-    owns: &[Option<Version>],
-) -> Result<Vec<PackageVersion>, AllocError> {
+fn packages_of(alloc: Global, owns: &[Option<Version>]) -> Result<Vec<PackageVersion>, AllocError> {
     let mut packages = Vec::new(alloc);
     for (place, own) in owns.iter().enumerate() {
         packages.push(PackageVersion {
