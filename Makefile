@@ -37,4 +37,5 @@ install: program
 	install -D -m 755 $(PROGRAM) '$(DESTDIR)$(PREFIX)/bin/powerset-list'
 
 bench: program
-	@tests/bench $(PROGRAM)
+	@cd crates/hack_rows && rt run < stdin > /dev/null
+	@tests/bench $(PROGRAM) crates/hack_rows/out/hack_rows

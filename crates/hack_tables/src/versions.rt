@@ -13,7 +13,7 @@ use hack_versions::version::{Version, VersionRange};
 use std::alloc::{AllocError, Global};
 
 /// `version`, `range`, `minor of rustup`, `release of cargo`: what the text is read as, or its fault; `host of cargo`.
-/// `steps`, `groups`: of a range, where stable is 1.70 and each package has its own version or none. `lockfiles`:
+/// `steps`, `groups`, `how many groups`: of a range, where stable is 1.70 and each package has its own version or none. `lockfiles`:
 /// before which versions the lockfile is made.
 pub(crate) fn answer(
     alloc: Global,
@@ -37,7 +37,8 @@ pub(crate) fn answer(
         },
         "host of cargo" => or_none(alloc, cargo::host(first))?,
         "steps" => steps_text(alloc, group, first)?,
-        "groups" => groups_text(alloc, group, first)?,
+        "groups" => groups_text(alloc, group, first, false)?,
+        "how many groups" => groups_text(alloc, group, first, true)?,
         "lockfiles" => lockfiles_text(alloc, group, words)?,
         _ => return Ok(None),
     };
@@ -131,8 +132,13 @@ fn packages_of(alloc: Global, owns: &[Option<Version>]) -> Result<Vec<PackageVer
     Ok(packages)
 }
 
-/// Which version has which packages, then the notices, or the fault.
-fn groups_text(alloc: Global, group: &Group, text: &str) -> Result<String, AllocError> {
+/// Which version has which packages, then the notices, or just how many versions there are, or the fault.
+fn groups_text(
+    alloc: Global,
+    group: &Group,
+    text: &str,
+    counts: bool,
+) -> Result<String, AllocError> {
     let owns = owns_of(alloc, group)?;
     let range = match range_of(alloc, text) {
         Some(range) => range,
@@ -144,6 +150,10 @@ fn groups_text(alloc: Global, group: &Group, text: &str) -> Result<String, Alloc
     };
     let packages = packages_of(alloc, &owns)?;
     match group_by_version(alloc, range, &steps, &packages) {
+        Ok((groups, _)) if counts => {
+            let count = groups.len();
+            format!(in alloc; "{count}")
+        }
         Ok((groups, notices)) => grouped(alloc, &groups, &notices),
         Err(fault) => format!(in alloc; "{fault}"),
     }
