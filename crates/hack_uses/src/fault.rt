@@ -23,11 +23,11 @@ impl OwnedFlag {
     pub fn new(alloc: Global, arg: Arg<'_>) -> Result<Option<OwnedFlag>, AllocError>
         ensures { IfOk result (λ flag. option_map flag_seen flag ≡ flag_in (cut_in arg.entry)) }
     {
-        Ok(match arg {
-            Arg::Long(name) => Some(OwnedFlag::Long(String::from_str(alloc, name)?)),
-            Arg::Short(letter) => Some(OwnedFlag::Short(letter)),
-            Arg::Value(_) => None,
-        })
+        match arg {
+            Arg::Long(name) => Ok(Some(OwnedFlag::Long(String::from_str(alloc, name)?))),
+            Arg::Short(letter) => Ok(Some(OwnedFlag::Short(letter))),
+            Arg::Value(_) => Ok(None),
+        }
     }
 
     /// The cut that the option comes from.

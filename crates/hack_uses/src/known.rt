@@ -1,11 +1,15 @@
 //! What an option comes to: one of the table by what it takes, another by its name.
 
-ghost use Rattle.std.specs.Prelude.{◌≡◌, IfOk, string_bytes};
+ghost use Rattle.std.specs.Prelude.{◌≡◌, ◌&&◌, IfOk, string_bytes};
 ghost use Rattle.std.specs.Option.{option_map};
 ghost use Rattle.hack_lexopt.specs.Parsers.{left};
 ghost use Rattle.hack_uses.specs.Faults.{flag_seen};
-ghost use Rattle.hack_uses.specs.Reads.{Gives, known as known_reading, unknown as unknown_reading, other_name as other_reading, question as question_reading, is_quote as quote, help_of, removed_of, similar_of};
-ghost use Rattle.hack_uses.specs.Uses.{views, subcommand_of};
+ghost use Rattle.hack_lexopt.specs.Cuts.{value_of, after_value, optional_of, after_optional};
+ghost use Rattle.hack_uses.specs.Reads.{Gives, known as known_reading, unknown as unknown_reading, other_name as other_reading};
+ghost use Rattle.hack_uses.specs.Reads.{with_value as value_reading, with_names as names_reading, with_names_or_none as optional_reading};
+ghost use Rattle.hack_uses.specs.Reads.{by_kind as kind_reading, question as question_reading, is_quote as quote, help_of, removed_of, similar_of};
+ghost use Rattle.hack_options.specs.Table.{entry_of, meaning_of};
+ghost use Rattle.hack_uses.specs.Uses.{views, is_given, subcommand_of};
 
 use crate::cut::Step;
 use crate::fault::{CutFault, OwnedFlag};
@@ -81,6 +85,85 @@ fn help(flag: &OwnedFlag) -> Print
     }
 }
 
+/// An option that wants a value, with the one that stands there.
+fn with_value(
+    alloc: Global,
+    parser: &mut Parser,
+    option: Opt,
+    flag: OwnedFlag,
+) -> Result<Step, CutFault>
+    ensures { Gives result (left parser.new) (value_reading option (flag_seen flag) (value_of (left parser.old)) (after_value (left parser.old))) }
+{
+    match parser.value(alloc) {
+        Ok(value) => Ok(met(option.means(), flag, Some(value))),
+        Err(LexFault::Memory) => Err(CutFault::Memory),
+        Err(_) => Err(CutFault::Missing { flag }),
+    }
+}
+
+/// An option that wants a list of names, with the one that stands there.
+fn with_names(
+    alloc: Global,
+    parser: &mut Parser,
+    option: Opt,
+    flag: OwnedFlag,
+) -> Result<Step, CutFault>
+    ensures { Gives result (left parser.new) (names_reading option (flag_seen flag) (value_of (left parser.old)) (after_value (left parser.old))) }
+{
+    match parser.value(alloc) {
+        Ok(value) if is_quote(&value) => Err(CutFault::LoneQuote { flag }),
+        Ok(value) => Ok(met(option.means(), flag, Some(value))),
+        Err(LexFault::Memory) => Err(CutFault::Memory),
+        Err(_) => Err(CutFault::Missing { flag }),
+    }
+}
+
+/// An option whose list of names may be left out, with the one that stands there.
+fn with_names_or_none(
+    alloc: Global,
+    parser: &mut Parser,
+    option: Opt,
+    flag: OwnedFlag,
+) -> Result<Step, CutFault>
+    ensures { Gives result (left parser.new) (optional_reading option (flag_seen flag) (optional_of (left parser.old)) (after_optional (left parser.old))) }
+{
+    match parser.value_or_none(alloc)? {
+        Some(value) if is_quote(&value) => Err(CutFault::LoneQuote { flag }),
+        value => Ok(met(option.means(), flag, value)),
+    }
+}
+
+/// An option of the table that is no repeat, and its value where it takes one.
+fn by_kind(
+    alloc: Global,
+    parser: &mut Parser,
+    uses: &[Use],
+    option: Opt,
+    flag: OwnedFlag,
+) -> Result<Step, CutFault>
+    ensures { Gives result (left parser.new) (kind_reading (entry_of option).kind (views uses.now) option (flag_seen flag) (left parser.old)) }
+{
+    match option.row().kind {
+        Kind::Flag => Ok(met(option.means(), flag, None)),
+        Kind::Value => with_value(alloc, parser, option, flag),
+        Kind::Names => with_names(alloc, parser, option, flag),
+        Kind::OptionalNames => with_names_or_none(alloc, parser, option, flag),
+        Kind::Help => {
+            let print = help(&flag);
+            question(alloc, parser, uses, flag, print)
+        }
+        Kind::Version => question(alloc, parser, uses, flag, Print::Version),
+        Kind::Refused => Err(CutFault::BehaviorForm),
+    }
+}
+
+/// Whether an option that stands once was met before, by its name or its alias.
+fn is_repeat(option: Opt, uses: &[Use]) -> bool
+    ensures { result ≡ ((entry_of option).once && is_given (meaning_of option) (views uses.now)) }
+{
+    option.row().once && given(option.means(), uses)
+}
+
 /// An option of the table, and its value where it takes one.
 pub(crate) fn known(
     alloc: Global,
@@ -91,39 +174,14 @@ pub(crate) fn known(
 ) -> Result<Step, CutFault>
     ensures { Gives result (left parser.new) (known_reading (views uses.now) option (flag_seen flag) (left parser.old)) }
 {
-    let row = option.row();
-    let meant = option.means();
-    if row.once && given(meant, uses) {
+    if is_repeat(option, uses) {
         return Err(CutFault::Repeat {
             flag,
             option,
             subcommand: subcommand_text(uses)?,
         });
     }
-    match row.kind {
-        Kind::Flag => Ok(met(meant, flag, None)),
-        Kind::Value => match parser.value(alloc) {
-            Ok(value) => Ok(met(meant, flag, Some(value))),
-            Err(LexFault::Memory) => Err(CutFault::Memory),
-            Err(_) => Err(CutFault::Missing { flag }),
-        },
-        Kind::Names => match parser.value(alloc) {
-            Ok(value) if is_quote(&value) => Err(CutFault::LoneQuote { flag }),
-            Ok(value) => Ok(met(meant, flag, Some(value))),
-            Err(LexFault::Memory) => Err(CutFault::Memory),
-            Err(_) => Err(CutFault::Missing { flag }),
-        },
-        Kind::OptionalNames => match parser.value_or_none(alloc)? {
-            Some(value) if is_quote(&value) => Err(CutFault::LoneQuote { flag }),
-            value => Ok(met(meant, flag, value)),
-        },
-        Kind::Help => {
-            let print = help(&flag);
-            question(alloc, parser, uses, flag, print)
-        }
-        Kind::Version => question(alloc, parser, uses, flag, Print::Version),
-        Kind::Refused => Err(CutFault::BehaviorForm),
-    }
+    by_kind(alloc, parser, uses, option, flag)
 }
 
 /// The option to use in place of one of older versions that was removed.
@@ -143,27 +201,18 @@ fn removed(name: &str) -> Option<Opt>
 fn similar(name: &str) -> Option<Opt>
     ensures { result ≡ similar_of name.now }
 {
-    if name == "no-dev-dep" {
-        Some(Opt::NoDevDeps)
-    } else if name == "remove-dev-dep" {
-        Some(Opt::RemoveDevDeps)
-    } else if name == "each-features" {
-        Some(Opt::EachFeature)
-    } else if name == "features-powerset" {
-        Some(Opt::FeaturePowerset)
-    } else if name == "exclude-no-default-feature" {
-        Some(Opt::ExcludeNoDefaultFeatures)
-    } else if name == "exclude-all-feature" {
-        Some(Opt::ExcludeAllFeatures)
-    } else if name == "include-dep-features"
-        || name == "include-dep-feature"
-        || name == "include-deps-feature"
-    {
-        Some(Opt::IncludeDepsFeatures)
-    } else if name == "ignore-unknown-feature" {
-        Some(Opt::IgnoreUnknownFeatures)
-    } else {
-        None
+    match name {
+        "no-dev-dep" => Some(Opt::NoDevDeps),
+        "remove-dev-dep" => Some(Opt::RemoveDevDeps),
+        "each-features" => Some(Opt::EachFeature),
+        "features-powerset" => Some(Opt::FeaturePowerset),
+        "exclude-no-default-feature" => Some(Opt::ExcludeNoDefaultFeatures),
+        "exclude-all-feature" => Some(Opt::ExcludeAllFeatures),
+        "include-dep-features" => Some(Opt::IncludeDepsFeatures),
+        "include-dep-feature" => Some(Opt::IncludeDepsFeatures),
+        "include-deps-feature" => Some(Opt::IncludeDepsFeatures),
+        "ignore-unknown-feature" => Some(Opt::IgnoreUnknownFeatures),
+        _ => None,
     }
 }
 
