@@ -11,7 +11,7 @@ help:
 	@echo 'make run      prints the command list of the sample in examples/, by a trial build without proofs'
 	@echo 'make test     proves and tests everything from nothing: the gate'
 	@echo 'make install  proves and builds powerset-list, and installs it in PREFIX/bin (PREFIX=$(PREFIX))'
-	@echo 'make bench    proves and builds powerset-list, and prints its times, memory and lines'
+	@echo 'make bench    proves and builds powerset-list and group_bench, and prints their times'
 
 # A trial build proves nothing, and so is ready in less than a minute.
 run:
@@ -29,3 +29,5 @@ install: program
 
 bench: program
 	@tests/bench $(PROGRAM)
+	@cd crates/group_bench && rt run -- 1 1 > /dev/null
+	@tests/bench-groups crates/group_bench/out/group_bench
