@@ -5,11 +5,17 @@
 #[cfg(test)]
 mod cli;
 #[cfg(test)]
+mod command_words;
+#[cfg(test)]
+mod failing_writers;
+#[cfg(test)]
 mod help_texts;
 #[cfg(test)]
 mod lexopt;
 #[cfg(test)]
 mod lines;
+#[cfg(test)]
+mod many_steps;
 #[cfg(test)]
 mod options;
 #[cfg(test)]

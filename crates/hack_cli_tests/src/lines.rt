@@ -53,10 +53,10 @@ fn lines_in_each_colouring(rt: HostRuntime) {
     for (coloring, want) in rows {
         let mut page = empty_page(rt.alloc(), 200);
         let mut term = Term::new(coloring, false);
-        assert!(rt; term.info("a", &mut page));
-        assert!(rt; term.warn("b", &mut page));
-        assert!(rt; term.warn("c", &mut page));
-        assert!(rt; term.error("d", &mut page));
+        assert!(rt; term.info("a", &mut page).is_ok());
+        assert!(rt; term.warn("b", &mut page).is_ok());
+        assert!(rt; term.warn("c", &mut page).is_ok());
+        assert!(rt; term.error("d", &mut page).is_ok());
         assert_eq!(rt; page.bytes.as_slice(), want.as_bytes(), "{coloring:?}");
     }
 }
@@ -65,16 +65,25 @@ fn lines_in_each_colouring(rt: HostRuntime) {
 fn flags_without_a_writer(rt: HostRuntime) {
     for writes in [0, 1, 3] {
         let mut term = Term::new(Coloring::Never, false);
-        assert!(rt; !term.info("told", &mut empty_page(rt.alloc(), writes)));
+        assert!(rt;
+            term.info("told", &mut empty_page(rt.alloc(), writes))
+                .is_err()
+        );
         assert_eq!(rt; (term.error, term.warn), (false, false));
-        assert!(rt; !term.warn("told", &mut empty_page(rt.alloc(), writes)));
+        assert!(rt;
+            term.warn("told", &mut empty_page(rt.alloc(), writes))
+                .is_err()
+        );
         assert_eq!(rt; (term.error, term.warn), (false, true));
-        assert!(rt; !term.error("told", &mut empty_page(rt.alloc(), writes)));
+        assert!(rt;
+            term.error("told", &mut empty_page(rt.alloc(), writes))
+                .is_err()
+        );
         assert_eq!(rt; (term.error, term.warn), (true, true));
     }
     let mut page = empty_page(rt.alloc(), 4);
     let mut term = Term::new(Coloring::Never, false);
-    assert!(rt; !term.error("told", &mut page));
+    assert!(rt; term.error("told", &mut page).is_err());
     assert_eq!(rt; page.bytes.as_slice(), b"error: tol".as_slice());
 }
 
@@ -89,7 +98,7 @@ fn notices_by_kind(rt: HostRuntime) -> Result<(), Fail> {
         let text = String::from_str(rt.alloc(), "n")?;
         let mut page = empty_page(rt.alloc(), 200);
         let mut term = Term::new(Coloring::Auto, false);
-        assert!(rt; term.notice(&Notice { kind, text }, &mut page));
+        assert!(rt; term.notice(&Notice { kind, text }, &mut page).is_ok());
         assert_eq!(rt; page.bytes.as_slice(), want.as_bytes());
         assert_eq!(rt; (term.error, term.warn), (false, noted), "{kind:?}");
     }
@@ -132,8 +141,10 @@ fn lines_of_log_groups(rt: HostRuntime) {
         let mut out = empty_page(rt.alloc(), 200);
         let mut err = empty_page(rt.alloc(), 200);
         let term = Term::new(Coloring::Auto, false);
-        if let Some(guard) = group.print(&term, "running x", &mut out, &mut err) {
-            assert!(rt; guard.end(&mut out));
+        let (guard, written) = group.print(&term, "running x", &mut out, &mut err);
+        assert!(rt; written.is_ok());
+        if let Some(guard) = guard {
+            assert!(rt; guard.end(&mut out).is_ok());
         }
         assert_eq!(rt; out.bytes.as_slice(), on_out.as_bytes(), "{group:?}");
         assert_eq!(rt; err.bytes.as_slice(), on_err.as_bytes(), "{group:?}");

@@ -24,6 +24,20 @@ appended list [] = list
 appended None (name ∷ names) = Some (join_with_byte 44 (name ∷ names))
 appended (Some list) (name ∷ names) = Some (join_with_byte 44 (list ∷ name ∷ names))
 
+-- the features as words: none, or the option and its value
+abbrev pub feature_words : Option (List ℕ) → List (List ℕ)
+feature_words None = []
+feature_words (Some list) = codes "--features" ∷ list ∷ []
+
+-- the trailing words behind their mark, where there are any
+abbrev pub marked : List (List ℕ) → List (List ℕ)
+marked [] = []
+marked (word ∷ words) = codes "--" ∷ word ∷ words
+
+-- the words of a command behind its program, in order
+abbrev pub words_behind : Command → List (List ℕ)
+words_behind c = c.leading ++ c.passed ++ c.own ++ feature_words c.features ++ marked c.trailing
+
 -- a word after a space
 abbrev pub spaced : List ℕ → List ℕ
 spaced word = codes " " ++ word

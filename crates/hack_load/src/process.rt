@@ -1,7 +1,7 @@
 //! A command of cargo: the words that it is made of, and how it is shown.
 
 ghost use Rattle.std.specs.Prelude.{◌≡◌, ◌++◌, ◌∷◌, [], ◌||◌, IfOk, OnOk, OnErr, Some, None, map, false, string_bytes, option_map};
-ghost use Rattle.hack_load.specs.CommandTexts.{text_of, listed_of, line_of, each_spaced, shown_words, shown_features, shown_trailing, shown_program, with_name, appended};
+ghost use Rattle.hack_load.specs.CommandTexts.{text_of, listed_of, line_of, each_spaced, shown_words, shown_features, shown_trailing, shown_program, with_name, appended, feature_words, marked, words_behind};
 ghost use Rattle.hack_load.specs.OwnWords.{awaits_path, shown_own};
 ghost use Rattle.hack_load.specs.Commands.{command_of, line_text};
 
@@ -98,6 +98,26 @@ impl<'a> ProcessBuilder<'a> {
         ensures { command_of self.new ≡ record (command_of self.old) { features = None } }
     {
         self.features = None;
+    }
+
+    /// The program, as it was given.
+    pub fn program(&self) -> &str
+        ensures { result.now ≡ (command_of self.now).program }
+    {
+        self.program.as_str()
+    }
+
+    /// The words behind the program, each a word of its own, as they are handed to it.
+    pub fn words(&self, alloc: Global) -> Result<Vec<&str>, AllocError>
+        ensures { IfOk result (λ words. map (λ word. word.now) words.items ≡ words_behind (command_of self.now)) }
+    {
+        let mut words = Vec::new(alloc);
+        push_words(&mut words, &self.leading)?;
+        push_words(&mut words, self.passed)?;
+        push_words(&mut words, &self.own)?;
+        push_features(&mut words, &self.features)?;
+        push_trailing(&mut words, self.trailing)?;
+        Ok(words)
     }
 
     /// The command as a user reads it, in backquotes. A long or a verbose text shows the program's whole path, unless
@@ -304,6 +324,51 @@ impl fmt::Display for Trailing<'_> {
         let words = Spaced(self.0);
         write!(f, " --{words}")
     }
+}
+
+fn push_word<'b>(words: &mut Vec<&'b str>, word: &'b str) -> Result<(), AllocError>
+    ensures { OnOk result (map (λ word. word.now) words.new.items ≡ map (λ word. word.now) words.old.items ++ word.now ∷ []) }
+{
+    words.push(word)?;
+    Ok(())
+}
+
+/// Adds words, in order.
+fn push_words<'b>(words: &mut Vec<&'b str>, more: &'b [String]) -> Result<(), AllocError>
+    ensures { OnOk result (map (λ word. word.now) words.new.items ≡ map (λ word. word.now) words.old.items ++ map string_bytes more.now) }
+{
+    for word in more {
+        push_word(words, word.as_str())?;
+    }
+    Ok(())
+}
+
+/// Adds the features behind their option, where there are any.
+fn push_features<'b>(
+    words: &mut Vec<&'b str>,
+    features: &'b Option<String>,
+) -> Result<(), AllocError>
+    ensures { OnOk result (map (λ word. word.now) words.new.items ≡ map (λ word. word.now) words.old.items ++ feature_words (option_map string_bytes features.now)) }
+{
+    match features {
+        Some(names) => {
+            push_word(words, "--features")?;
+            push_word(words, names.as_str())?;
+            Ok(())
+        }
+        None => Ok(()),
+    }
+}
+
+/// Adds the trailing words behind their mark, where there are any.
+fn push_trailing<'b>(words: &mut Vec<&'b str>, trailing: &'b [String]) -> Result<(), AllocError>
+    ensures { OnOk result (map (λ word. word.now) words.new.items ≡ map (λ word. word.now) words.old.items ++ marked (map string_bytes trailing.now)) }
+{
+    if trailing.is_empty() {
+        return Ok(());
+    }
+    push_word(words, "--")?;
+    push_words(words, trailing)
 }
 
 /// Copies of words.

@@ -1,5 +1,5 @@
 -- What a text is read as, where a call says how it is written.
-use Rattle.std.proofs.Common.{◌≡◌, ◌≢◌, ℕ, ◌+◌, ◌<◌, ◌≤◌, ◌^◌, ◌==◌, ◌&&◌, ◌++◌, List, [], ◌∷◌, Bool, true, false, not, cond, length, take, drop, get_or, nat_lt, lt-ltb, codes, length-append, append_assoc, IfSome, IfNone, option_and_then, Option, Some, None, Result, Ok, Err, arith, refl, ap, sym, subst, ◌∙◌}
+use Rattle.std.proofs.Common.{◌≡◌, ◌≢◌, ℕ, ◌+◌, ◌<◌, ◌≤◌, ◌^◌, ◌==◌, ◌&&◌, ◌++◌, List, [], ◌∷◌, Bool, true, false, not, cond, length, take, drop, get_or, nat_lt, lt-ltb, codes, length-append, append_assoc, IfSome, IfNone, MatchOption, option_and_then, Option, Some, None, Result, Ok, Err, arith, refl, ap, sym, subst, ◌∙◌}
 use Rattle.std.specs.Bool.{Decides}
 use Rattle.std.specs.Cmp.{first_so, second_so}
 use Rattle.std.specs.List.{list_all, after_first, position_or_len}
@@ -241,3 +241,8 @@ pub piece-refused : (text : List ℕ) (e : PartitionFault) → RefusesPiece text
 piece-refused text (partition.Piece s) h = ap (unless_read (Partition text)) (piece-unread text h.1) ∙ ap (λ t. Some (Partition t)) (sym h.0)
 piece-refused text (partition.Kind s) h = absurd h
 piece-refused text partition.Memory h = tt
+
+-- a fault of a part, where want of memory is told as that alone
+pub told-plain : {A Q : Type 0} (P : A → Type 0) (o : Option A) → (o ≡ None → Q) → IfSome o P → MatchOption o Q P
+told-plain P (Some a) q h = h
+told-plain P None q h = q refl

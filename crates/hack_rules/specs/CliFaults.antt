@@ -1,5 +1,5 @@
 -- Why words are refused, without where the texts of a fault lie in memory.
-use Rattle.std.specs.Prelude.{ℕ, ◌≡◌, List, Option, Some, None, Result, Ok, Err, IfSome, string_bytes, option_map}
+use Rattle.std.specs.Prelude.{ℕ, ◌≡◌, List, Option, Some, None, Result, Ok, Err, MatchOption, string_bytes, option_map}
 use Rattle.hack_options.specs.declared.Opt.{Opt}
 use Rattle.hack_uses.specs.Faults.{fault_of as cut_fault_of, Fault as CutFault}
 use Rattle.hack_versions.specs.declared.version.VersionFault.{VersionFault}
@@ -86,7 +86,7 @@ fault_of (code.Partition fault) = partition_fault_of fault
 fault_of (code.LiftForm found) = Some (LiftForm (string_bytes found))
 fault_of (code.LiftGroup found) = Some (LiftGroup (string_bytes found))
 
--- a check passes just where its rule has no fault, and else gives that fault, unless memory ran out
+-- a check passes just where its rule has no fault, and else gives that fault, unless memory ran out, which is told as that alone
 abbrev pub Checks : {A : Type 0} → Result A CliFault → Option Fault → Type 0
 Checks (Ok a) rule = rule ≡ None
-Checks (Err e) rule = IfSome (fault_of e) (λ fault. rule ≡ Some fault)
+Checks (Err e) rule = MatchOption (fault_of e) (e ≡ code.Memory) (λ fault. rule ≡ Some fault)

@@ -35,7 +35,6 @@ fn short(text: &str) -> Option<u16>
 pub fn depth(alloc: Global, text: &str) -> Result<usize, CliFault>
     ensures value { IfOk result (λ n. number_of 64 text.now ≡ Some n) }
     ensures checks { Checks result (depth_fault text.now) }
-    ensures plain { IfErr result IsPlain }
 {
     match whole(text) {
         Some(depth) => Ok(depth),
@@ -49,7 +48,6 @@ pub fn depth(alloc: Global, text: &str) -> Result<usize, CliFault>
 pub fn step(alloc: Global, text: &str) -> Result<u16, CliFault>
     ensures value { IfOk result (λ n. number_of 16 text.now ≡ Some n) }
     ensures checks { Checks result (step_fault text.now) }
-    ensures plain { IfErr result IsPlain }
 {
     match short(text) {
         Some(0) => Err(CliFault::ZeroStep),
@@ -97,7 +95,6 @@ fn of_range(fault: VersionFault) -> CliFault
 pub fn log_group(alloc: Global, text: &str) -> Result<LogGroup, CliFault>
     ensures value { IfOk result (λ group. log_group_of text.now ≡ Some group) }
     ensures checks { Checks result (log_group_fault text.now) }
-    ensures plain { IfErr result IsPlain }
 {
     match LogGroup::parse(alloc, text) {
         Ok(group) => Ok(group),
@@ -110,7 +107,6 @@ pub fn partition(alloc: Global, text: &str) -> Result<Partition, CliFault>
     ensures value { IfOk result (λ p. piece_of text.now ≡ Some (record { piece = p.piece; count = p.count })) }
     ensures blocks { IfOk result (λ p. p.kind ≡ PartitionKind.Block) }
     ensures checks { Checks result (partition_fault text.now) }
-    ensures plain { IfErr result IsPlain }
 {
     match Partition::parse(alloc, text) {
         Ok(partition) => Ok(partition),
@@ -122,7 +118,6 @@ pub fn partition(alloc: Global, text: &str) -> Result<Partition, CliFault>
 pub fn kind(alloc: Global, text: &str) -> Result<PartitionKind, CliFault>
     ensures value { IfOk result (λ kind. kind_of text.now ≡ Some kind) }
     ensures checks { Checks result (kind_fault text.now) }
-    ensures plain { IfErr result IsPlain }
 {
     match PartitionKind::parse(alloc, text) {
         Ok(kind) => Ok(kind),
@@ -134,7 +129,6 @@ pub fn kind(alloc: Global, text: &str) -> Result<PartitionKind, CliFault>
 pub fn range(alloc: Global, text: &str) -> Result<(VersionRange, bool), CliFault>
     ensures value { IfOk result (λ read. range_of text.now ≡ Ok (record { range = read.0; old = read.1 })) }
     ensures checks { Checks result (range_fault text.now) }
-    ensures plain { IfErr result IsPlain }
 {
     match VersionRange::parse(alloc, text) {
         Ok(range) => Ok(range),

@@ -1,7 +1,6 @@
 //! Groups of lines in a log that can be folded.
 
-ghost use Rattle.std.specs.Prelude.{◌≡◌, ◌↔◌, IsTrue, IfOk, IfErr, IsSome};
-ghost use Rattle.std.specs.Bool.{OnTrue};
+ghost use Rattle.std.specs.Prelude.{◌≡◌, ◌↔◌, IsTrue, IfOk, IfErr, OnOk, IsSome};
 ghost use Rattle.std.specs.Io.KnownBytes.{Appends};
 ghost use Rattle.hack_term.specs.Writes.{AppendsFront};
 ghost use Rattle.hack_term.specs.Groups.{group_name, RefusesGroup, opening_line, message_line, closing_line};
@@ -9,6 +8,7 @@ ghost use Rattle.hack_term.specs.Groups.{group_name, RefusesGroup, opening_line,
 use crate::term::Term;
 use crate::writes::{write_front, write_line};
 use std::alloc::{AllocError, Global};
+use std::io;
 use std::io::Write;
 use thiserror::Error;
 
@@ -70,38 +70,39 @@ impl LogGroup {
         }
     }
 
-    /// Opens a group with the text on `out`, or writes an info line with it on `err`. A write that fails is
-    /// ignored; the group counts as open.
+    /// Opens a group with the text on `out`, or writes an info line with it on `err`. The group counts as open even
+    /// where the write of its line fails, so the fault comes beside the guard.
     pub fn print<O: Write, E: Write>(
         self,
         term: &Term,
         text: &str,
         out: &mut O,
         err: &mut E,
-    ) -> Option<LogGroupGuard>
-        ensures guard { IsSome result ↔ (self ≡ LogGroup.GithubActions) }
+    ) -> (Option<LogGroupGuard>, io::Result<()>)
+        ensures guard { IsSome result.0 ↔ (self ≡ LogGroup.GithubActions) }
+        ensures line { OnOk result.1
+            (Appends (O.contents out.old) (O.contents out.new) (opening_line self text.now)
+            × Appends (E.contents err.old) (E.contents err.new)
+            (message_line self term.now.coloring text.now)) }
         ensures out { AppendsFront (O.contents out.old) (O.contents out.new)
             (opening_line self text.now) }
         ensures err { AppendsFront (E.contents err.old) (E.contents err.new)
             (message_line self term.now.coloring text.now) }
     {
         match self {
-            LogGroup::None => {
-                term.info(text, err);
-                None
-            }
+            LogGroup::None => (None, term.info(text, err)),
             LogGroup::GithubActions => {
-                write_line("::group::", text, out);
-                Some(LogGroupGuard { _open: () })
+                let written = write_line("::group::", text, out);
+                (Some(LogGroupGuard { _open: () }), written)
             }
         }
     }
 }
 
 impl LogGroupGuard {
-    /// Ends the group, and answers whether its line was written.
-    pub fn end<O: Write>(self, out: &mut O) -> bool
-        ensures line { OnTrue result (Appends (O.contents out.old) (O.contents out.new)
+    /// Ends the group by its line.
+    pub fn end<O: Write>(self, out: &mut O) -> io::Result<()>
+        ensures line { OnOk result (Appends (O.contents out.old) (O.contents out.new)
             closing_line) }
         ensures front { AppendsFront (O.contents out.old) (O.contents out.new) closing_line }
     {

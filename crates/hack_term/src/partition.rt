@@ -1,6 +1,6 @@
 //! A piece of a plan, as one machine of several runs it: `m/n` is the m-th of n pieces.
 
-ghost use Rattle.std.specs.Prelude.{◌≡◌, ◌<◌, ◌≤◌, ◌↔◌, List, ℕ, length, IsTrue, IfOk, IfErr, IfSome, IfNone};
+ghost use Rattle.std.specs.Prelude.{◌≡◌, ◌<◌, ◌≤◌, ◌↔◌, List, ℕ, IsTrue, IfOk, IfErr, IfSome, IfNone};
 ghost use Rattle.hack_term.specs.declared.partition.PartitionKind.{PartitionKind as Kind};
 ghost use Rattle.hack_term.specs.Pieces.{InPiece, InJustOnePiece, joined};
 ghost use Rattle.hack_term.specs.Partitions.{IsPiece, IsNoPiece, RefusesPiece, kind_name, RefusesKind};
@@ -119,8 +119,9 @@ impl Partition {
         ensures once { (kind : Kind) (p : ℕ) → p < total
             → InJustOnePiece kind self.now.count total p }
 
-        // The blocks, one behind the other, are the plan. Its places may be of any type: numbers stand for them.
-        ensures joined { (plan : List ℕ) → length plan ≡ total → joined self.now.count plan ≡ plan }
+        // The blocks of any plan, one behind the other, are the plan, the empty one too. Its places may be of any
+        // type: numbers stand for them.
+        ensures joined { (plan : List ℕ) → joined self.now.count plan ≡ plan }
     {
         match self.kind {
             PartitionKind::Block => place / total.div_ceil(self.count) == self.piece - 1,

@@ -1,8 +1,8 @@
 //! Lines for the user, and what they leave behind for the exit status. A line goes to a writer that is handed in,
-//! and takes no memory; a write that fails is told by the answer, which a caller may ignore.
+//! and takes no memory. The answer is Ok where the whole line was written, and else the fault of the write, which a
+//! caller may ignore; a front of the line was written then.
 
-ghost use Rattle.std.specs.Prelude.{◌≡◌, ◌↔◌, ◌≤◌, ◌⊎◌, IsTrue, IfSome, IfNone, true, false, string_bytes};
-ghost use Rattle.std.specs.Bool.{OnTrue};
+ghost use Rattle.std.specs.Prelude.{◌≡◌, ◌↔◌, ◌≤◌, ◌⊎◌, IsTrue, IfSome, IfNone, OnOk, true, false, string_bytes};
 ghost use Rattle.std.specs.Io.KnownBytes.{Appends};
 ghost use Rattle.hack_term.specs.Writes.{AppendsFront};
 ghost use Rattle.hack_term.specs.Lines.{coloring_name, IsNoColoring, info_label as label_of_info, warning_label as label_of_warnings, error_label as label_of_errors, info_line, warning_line, error_line, notice_line, after_notice};
@@ -10,6 +10,7 @@ ghost use Rattle.hack_term.specs.Lines.{coloring_name, IsNoColoring, info_label 
 pub use crate::log_group::{LogGroup, LogGroupFault, LogGroupGuard};
 use crate::writes::write_line;
 pub use hack_versions::notice::{Notice, NoticeKind};
+use std::io;
 use std::io::Write;
 
 /// Whether the word that begins a line is coloured.
@@ -88,9 +89,9 @@ impl Term {
         }
     }
 
-    /// Writes a line behind `info: `, and answers whether the whole line was written.
-    pub fn info<W: Write>(&self, text: &str, out: &mut W) -> bool
-        ensures line { OnTrue result (Appends (W.contents out.old) (W.contents out.new)
+    /// Writes a line behind `info: `.
+    pub fn info<W: Write>(&self, text: &str, out: &mut W) -> io::Result<()>
+        ensures line { OnOk result (Appends (W.contents out.old) (W.contents out.new)
             (info_line self.now.coloring text.now)) }
         ensures front { AppendsFront (W.contents out.old) (W.contents out.new)
             (info_line self.now.coloring text.now) }
@@ -98,11 +99,10 @@ impl Term {
         write_line(info_label(self.coloring), text, out)
     }
 
-    /// Writes a line behind `warning: `, and answers whether the whole line was written. The warning is noted
-    /// in any case.
-    pub fn warn<W: Write>(&mut self, text: &str, out: &mut W) -> bool
+    /// Writes a line behind `warning: `. The warning is noted in any case.
+    pub fn warn<W: Write>(&mut self, text: &str, out: &mut W) -> io::Result<()>
         ensures noted { self.new ≡ record self.old { warn = true } }
-        ensures line { OnTrue result (Appends (W.contents out.old) (W.contents out.new)
+        ensures line { OnOk result (Appends (W.contents out.old) (W.contents out.new)
             (warning_line self.old.coloring text.now)) }
         ensures front { AppendsFront (W.contents out.old) (W.contents out.new)
             (warning_line self.old.coloring text.now) }
@@ -111,11 +111,10 @@ impl Term {
         write_line(warning_label(self.coloring), text, out)
     }
 
-    /// Writes a line behind `error: `, and answers whether the whole line was written. The error is noted in
-    /// any case.
-    pub fn error<W: Write>(&mut self, text: &str, out: &mut W) -> bool
+    /// Writes a line behind `error: `. The error is noted in any case.
+    pub fn error<W: Write>(&mut self, text: &str, out: &mut W) -> io::Result<()>
         ensures noted { self.new ≡ record self.old { error = true } }
-        ensures line { OnTrue result (Appends (W.contents out.old) (W.contents out.new)
+        ensures line { OnOk result (Appends (W.contents out.old) (W.contents out.new)
             (error_line self.old.coloring text.now)) }
         ensures front { AppendsFront (W.contents out.old) (W.contents out.new)
             (error_line self.old.coloring text.now) }
@@ -124,10 +123,10 @@ impl Term {
         write_line(error_label(self.coloring), text, out)
     }
 
-    /// Writes a notice as its kind says, and answers whether the whole line was written.
-    pub fn notice<W: Write>(&mut self, notice: &Notice, out: &mut W) -> bool
+    /// Writes a notice as its kind says.
+    pub fn notice<W: Write>(&mut self, notice: &Notice, out: &mut W) -> io::Result<()>
         ensures noted { self.new ≡ after_notice self.old notice.now.kind }
-        ensures line { OnTrue result (Appends (W.contents out.old) (W.contents out.new)
+        ensures line { OnOk result (Appends (W.contents out.old) (W.contents out.new)
             (notice_line self.old.coloring notice.now.kind (string_bytes notice.now.text))) }
         ensures front { AppendsFront (W.contents out.old) (W.contents out.new)
             (notice_line self.old.coloring notice.now.kind (string_bytes notice.now.text)) }

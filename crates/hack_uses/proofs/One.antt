@@ -45,7 +45,7 @@ reads-one before old (u ∷ us) (v ∷ vs) l m r s a x p b y q = joined (reads-o
     joined rest = (ap (λ w. w ∷ us) one ∙ ap (λ ws. v ∷ ws) rest.0, rest.1)
 
 -- what the words come to is one
-ends-one : (words : List (List ℕ)) (us vs : List Use) (r s : Reading) → Ends words us r → IsLast r → Ends words vs s → IsLast s → (us ≡ vs) × (r ≡ s)
+pub ends-one : (words : List (List ℕ)) (us vs : List Use) (r s : Reading) → Ends words us r → IsLast r → Ends words vs s → IsLast s → (us ≡ vs) × (r ≡ s)
 ends-one words us vs r s a p b q = reads-one [] (start words) us vs a.0 b.0 r s a.1 a.2 p b.1 b.2 q
 
 -- an answer that the words come to tells whatever they come to

@@ -1,15 +1,18 @@
 -- What words come to once their uses are judged.
-use Rattle.std.proofs.Common.{◌≡◌, ℕ, Bool, List, Option, Some, None, IfSome, ap, refl, sym}
+use Rattle.std.proofs.Common.{◌≡◌, ℕ, Bool, List, Option, Some, None, MatchOption, ap, refl, sym, subst, ◌∙◌}
 use Rattle.hack_uses.specs.Faults.{Fault as CutFault}
-use Rattle.hack_uses.specs.Reads.{Ends, End, Prints, Fails}
+use Rattle.hack_uses.specs.Reads.{Ends, Reading, Met, End, Prints, Fails, IsLast}
 use Rattle.hack_uses.specs.Uses.{Use}
 use Rattle.hack_uses.specs.declared.cut.Print.{Print as Question}
 use Rattle.hack_versions.specs.Notes.{Note}
-use Rattle.hack_words.specs.Answers.{Answers, Refuses, IsJudged, IsPrinted}
-use Rattle.hack_words.specs.Call.{Around, ComesFrom, Faulty, outcome_of}
+use Rattle.hack_words.specs.Answers.{Answers, Refuses, IsJudged, IsPrinted, BreakNoRule}
+use Rattle.hack_words.specs.Call.{Around, Outcome, IsEnd, ComesFrom, ComesTo, Faulty, outcome_of}
 use Rattle.hack_rules.specs.CliFaults.{Fault, Cut, fault_of}
 use Rattle.hack_rules.specs.declared.fault.CliFault.{CliFault}
-use Rattle.hack_words.specs.Start.{Cuts}
+use Rattle.hack_rules.specs.declared.fault.CliFault.TheVariants as fault
+use Rattle.hack_words.specs.Start.{Start, Refuses as Begun, Cuts, start_of}
+use Rattle.hack_uses.proofs.One.{ends-one}
+use Rattle.hack_rules.specs.Rules.{Verdict, Refused, refused_by, verdict_or}
 use Rattle.hack_words.specs.declared.cli.parse.Parsed.{Parsed}
 use Rattle.hack_words.specs.declared.cli.parse.Parsed.TheVariants as code
 
@@ -23,13 +26,49 @@ printed-answers around cargo cut trailing us print (code.Args args) notes ends h
 printed-answers around cargo cut trailing us print (code.Print text) notes ends h = (print, (us, Prints print, ends, refl), h.0, h.1)
 printed-answers around cargo cut trailing us print code.List notes ends h = absurd h
 
-pub cut-refuses : (around : Around) (cargo : Bool) (cut trailing : List (List ℕ)) (o : Option Fault) → IfSome o (λ fault. (us : List Use) × (f : CutFault) × (fault ≡ Cut f) × Ends cut us (Fails f)) → IfSome o (λ fault. ComesFrom around (Cuts cargo cut trailing) (Faulty fault))
-cut-refuses around cargo cut trailing (Some fault) h = (h.0, Fails h.1, h.3, ap Faulty h.2)
-cut-refuses around cargo cut trailing None h = tt
+pub cut-refuses : (around : Around) (cargo : Bool) (cut trailing : List (List ℕ)) (Q : Type 0) (o : Option Fault) → MatchOption o Q (λ fault. (us : List Use) × (f : CutFault) × (fault ≡ Cut f) × Ends cut us (Fails f)) → MatchOption o Q (λ fault. ComesFrom around (Cuts cargo cut trailing) (Faulty fault))
+cut-refuses around cargo cut trailing Q (Some fault) h = (h.0, Fails h.1, h.3, ap Faulty h.2)
+cut-refuses around cargo cut trailing Q None h = h
 
-judged-refuses : (around : Around) (cargo : Bool) (cut trailing : List (List ℕ)) (us : List Use) (o : Option Fault) → Ends cut us End → IfSome o (λ fault. outcome_of around cargo trailing us ≡ Faulty fault) → IfSome o (λ fault. ComesFrom around (Cuts cargo cut trailing) (Faulty fault))
-judged-refuses around cargo cut trailing us (Some fault) ends h = (us, End, ends, sym h)
-judged-refuses around cargo cut trailing us None ends h = tt
+judged-refuses : (around : Around) (cargo : Bool) (cut trailing : List (List ℕ)) (us : List Use) (Q : Type 0) (o : Option Fault) → Ends cut us End → MatchOption o Q (λ fault. outcome_of around cargo trailing us ≡ Faulty fault) → MatchOption o Q (λ fault. ComesFrom around (Cuts cargo cut trailing) (Faulty fault))
+judged-refuses around cargo cut trailing us Q (Some fault) ends h = (us, End, ends, sym h)
+judged-refuses around cargo cut trailing us Q None ends h = h
 
-pub fault-refuses : (around : Around) (cargo : Bool) (cut trailing : List (List ℕ)) (us : List Use) (e : CliFault) → Ends cut us End → IfSome (fault_of e) (λ fault. outcome_of around cargo trailing us ≡ Faulty fault) → Refuses (ComesFrom around (Cuts cargo cut trailing)) e
-fault-refuses around cargo cut trailing us e ends h = judged-refuses around cargo cut trailing us (fault_of e) ends h
+pub fault-refuses : (around : Around) (cargo : Bool) (cut trailing : List (List ℕ)) (us : List Use) (e : CliFault) → Ends cut us End → MatchOption (fault_of e) (e ≡ fault.Memory) (λ told. outcome_of around cargo trailing us ≡ Faulty told) → Refuses (ComesFrom around (Cuts cargo cut trailing)) e
+fault-refuses around cargo cut trailing us e ends h = judged-refuses around cargo cut trailing us (e ≡ fault.Memory) (fault_of e) ends h
+
+-- where no rule before is broken, a refusal of bare uses is the verdict
+pub bare-refused : (o : Option Fault) (Q : Type 0) (early : Option Fault) (bare : Option Verdict) (after : Verdict) → early ≡ None → MatchOption o Q (λ told. bare ≡ Some (Refused told)) → MatchOption o Q (λ told. refused_by early (verdict_or bare after) ≡ Refused told)
+bare-refused (Some told) Q early bare after e h = ap (λ x. refused_by x (verdict_or bare after)) e ∙ ap (λ b. refused_by None (verdict_or b after)) h
+bare-refused None Q early bare after e h = h
+
+-- what words come to is one thing
+
+end-last : (around : Around) (cargo : Bool) (trailing : List (List ℕ)) (us : List Use) (r : Reading) (o : Outcome) → IsEnd around cargo trailing us r o → IsLast r
+end-last around cargo trailing us (Met one left) o h = h
+end-last around cargo trailing us End o h = tt
+end-last around cargo trailing us (Prints print) o h = tt
+end-last around cargo trailing us (Fails cut) o h = tt
+
+end-one : (around : Around) (cargo : Bool) (trailing : List (List ℕ)) (us : List Use) (r : Reading) (a b : Outcome) → IsEnd around cargo trailing us r a → IsEnd around cargo trailing us r b → a ≡ b
+end-one around cargo trailing us (Met one left) a b h k = absurd h
+end-one around cargo trailing us End a b h k = h ∙ sym k
+end-one around cargo trailing us (Prints print) a b h k = h ∙ sym k
+end-one around cargo trailing us (Fails cut) a b h k = h ∙ sym k
+
+from-one : (around : Around) (start : Start) (a b : Outcome) → ComesFrom around start a → ComesFrom around start b → a ≡ b
+from-one around (Begun told) a b h k = h ∙ sym k
+from-one around (Cuts cargo cut trailing) a b h k =
+    let one = ends-one cut h.0 k.0 h.1 k.1 h.2 (end-last around cargo trailing h.0 h.1 a h.3) k.2 (end-last around cargo trailing k.0 k.1 b k.3) in
+    let at_us = subst (λ us. IsEnd around cargo trailing us k.1 b) (sym one.0) k.3 in
+    let at_end = subst (λ r. IsEnd around cargo trailing h.0 r b) (sym one.1) at_us in
+    end-one around cargo trailing h.0 h.1 a b h.3 at_end
+
+pub outcome-one : (around : Around) (words : List (List ℕ)) (a b : Outcome) → ComesTo around words a → ComesTo around words b → a ≡ b
+outcome-one around words a b = from-one around (start_of words) a b
+
+-- an answer is no fault
+pub answers-never : (around : Around) (words : List (List ℕ)) (parsed : Parsed) (notes : List Note) → Answers around (ComesTo around words) parsed notes → BreakNoRule around words
+answers-never around words (code.Args args) notes h told k = absurd (let e = outcome-one around words _ _ h.3 k in cc e)
+answers-never around words code.List notes h told k = absurd (let e = outcome-one around words _ _ h.1 k in cc e)
+answers-never around words (code.Print text) notes h told k = absurd (let e = outcome-one around words _ _ h.1 k in cc e)

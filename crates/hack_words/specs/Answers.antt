@@ -1,5 +1,5 @@
 -- What is answered to the words of a call.
-use Rattle.std.specs.Prelude.{◌≡◌, ℕ, List, [], Bool, true, false, Option, Some, None, Result, Ok, Err, IfSome, option_map, string_bytes, codes}
+use Rattle.std.specs.Prelude.{◌≡◌, ℕ, List, [], Bool, true, false, Option, Some, None, Result, Ok, Err, MatchOption, option_map, string_bytes, codes}
 use Rattle.hack_uses.specs.Faults.{Fault as CutFault}
 use Rattle.hack_uses.specs.Reads.{Ends, End, Prints, Fails}
 use Rattle.hack_uses.specs.Uses.{Use, views}
@@ -11,14 +11,15 @@ use Rattle.hack_versions.specs.Notes.{Note}
 use Rattle.hack_versions.specs.declared.rustup.Rustup.{Rustup}
 use Rattle.hack_words.specs.declared.cli.env.Env.{Env}
 use Rattle.hack_rules.specs.declared.fault.CliFault.{CliFault}
+use Rattle.hack_rules.specs.declared.fault.CliFault.TheVariants as fault
 use Rattle.hack_words.specs.declared.cli.parse.Checked.{Checked}
 use Rattle.hack_words.specs.declared.cli.parse.Checked.TheVariants as checked
 use Rattle.hack_words.specs.declared.cli.parse.Parsed.{Parsed as CodeParsed}
 use Rattle.hack_words.specs.declared.cli.parse.Parsed.TheVariants as code
 use Rattle.hack_words.specs.ArgsView.{IsAsked}
 use Rattle.hack_rules.specs.Asked.{coloring_asked, depth_asked}
-use Rattle.hack_words.specs.Call.{Around, Outcome, Faulty, Printed, Listing, Parsed, outcome_of, unknown_notes, notes_on}
-use Rattle.hack_rules.specs.CliFaults.{fault_of, Cut}
+use Rattle.hack_words.specs.Call.{Around, Outcome, Faulty, Printed, Listing, Parsed, ComesTo, outcome_of, unknown_notes, notes_on}
+use Rattle.hack_rules.specs.CliFaults.{Fault, fault_of, Cut}
 use Rattle.hack_rules.specs.LateView.{IsLate}
 use Rattle.hack_rules.specs.Rules.{Verdict, Accepted, Lists, Refused, verdict_of}
 use Rattle.hack_words.specs.RustupView.{known_of, unknown_of}
@@ -36,7 +37,7 @@ abbrev pub Judges : Result Checked CliFault → Bool → Around → List Use →
 Judges (Ok checked.List) cargo around us = verdict_around cargo around us ≡ Lists
 Judges (Ok (checked.Accepted early late)) cargo around us =
     (verdict_around cargo around us ≡ Accepted) × (early.coloring ≡ coloring_asked around.term_color us) × (early.depth ≡ depth_asked us) × IsLate around.github_actions us late
-Judges (Err e) cargo around us = IfSome (fault_of e) (λ fault. verdict_around cargo around us ≡ Refused fault)
+Judges (Err e) cargo around us = MatchOption (fault_of e) (e ≡ fault.Memory) (λ told. verdict_around cargo around us ≡ Refused told)
 
 -- the answer to uses that are judged, with its notices
 abbrev pub IsJudged : Around → Bool → List (List ℕ) → List Use → CodeParsed → List Note → Type 0
@@ -65,18 +66,22 @@ Answers around Comes (code.Args args) notes =
 Answers around Comes code.List notes = (us : List Use) × Comes (Listing us) × (notes ≡ unknown_notes us)
 Answers around Comes (code.Print text) notes = (print : Print) × Comes (Printed print) × IsText print (string_bytes text) × (notes ≡ [])
 
--- a fault that the words come to; memory may run out in place of any
+-- a fault that the words come to; memory may run out in place of any, and is told as that alone, not inside another fault
 abbrev pub Refuses : (Outcome → Type 0) → CliFault → Type 0
-Refuses Comes e = IfSome (fault_of e) (λ fault. Comes (Faulty fault))
+Refuses Comes e = MatchOption (fault_of e) (e ≡ fault.Memory) (λ told. Comes (Faulty told))
 
 -- the cuts of words, with a fault as one of the call
 abbrev pub GivesCuts : Result Cuts CliFault → List (List ℕ) → Type 0
 GivesCuts (Ok (cuts.Uses us)) words = Ends words (views us.items) End
 GivesCuts (Ok (cuts.Asks print)) words = (us : List Use) × Ends words us (Prints print)
-GivesCuts (Err e) words = IfSome (fault_of e) (λ fault. (us : List Use) × (cut : CutFault) × (fault ≡ Cut cut) × Ends words us (Fails cut))
+GivesCuts (Err e) words = MatchOption (fault_of e) (e ≡ fault.Memory) (λ told. (us : List Use) × (cut : CutFault) × (told ≡ Cut cut) × Ends words us (Fails cut))
 
 -- what uses that are left of the bare rules come to: they go on, they ask for cargo's list, or there is no subcommand
 abbrev pub GoesOn : Result Bool CliFault → Option Verdict → Type 0
 GoesOn (Ok true) bare = bare ≡ Some Lists
 GoesOn (Ok false) bare = bare ≡ None
-GoesOn (Err e) bare = IfSome (fault_of e) (λ fault. bare ≡ Some (Refused fault))
+GoesOn (Err e) bare = MatchOption (fault_of e) (e ≡ fault.Memory) (λ told. bare ≡ Some (Refused told))
+
+-- words come to no fault
+abbrev pub BreakNoRule : Around → List (List ℕ) → Type 0
+BreakNoRule around words = (told : Fault) → ComesTo around words (Faulty told) → ⊥

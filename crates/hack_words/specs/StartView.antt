@@ -1,9 +1,10 @@
 -- How the words of a call begin, as the code answers it.
-use Rattle.std.specs.Prelude.{ℕ, ◌≡◌, List, true, false, None, Result, Ok, Err, IfSome, codes, nat_lt}
+use Rattle.std.specs.Prelude.{ℕ, ◌≡◌, List, true, false, None, Result, Ok, Err, MatchOption, codes, nat_lt}
 use Rattle.hack_features.specs.Names.{names_of}
 use Rattle.hack_options.specs.declared.Opt.TheVariants as opt
 use Rattle.hack_uses.specs.Faults.{LongFlag, Repeat}
 use Rattle.hack_rules.specs.declared.fault.CliFault.{CliFault}
+use Rattle.hack_rules.specs.declared.fault.CliFault.TheVariants as fault
 use Rattle.hack_words.specs.declared.cli.start.Front.{Front}
 use Rattle.hack_words.specs.declared.cli.start.Start.{Start as CodeStart}
 use Rattle.hack_rules.specs.CliFaults.{fault_of, Cut}
@@ -16,9 +17,9 @@ start_in start = Cuts start.cargo (names_of start.words.items) (names_of start.t
 -- what the code answers is how the words begin
 abbrev pub Begins : Result CodeStart CliFault → List (List ℕ) → Type 0
 Begins (Ok start) words = start_of words ≡ start_in start
-Begins (Err e) words = IfSome (fault_of e) (λ fault. start_of words ≡ Refuses fault)
+Begins (Err e) words = MatchOption (fault_of e) (e ≡ fault.Memory) (λ told. start_of words ≡ Refuses told)
 
 -- what the code takes out of the words in front, or the fault of a second one
 abbrev pub TakesOut : Result Front CliFault → List (List ℕ) → Type 0
 TakesOut (Ok taken) front = (nat_lt 1 (behaviors front) ≡ false) × (taken.cargo ≡ nat_lt 0 (behaviors front)) × (names_of taken.words.items ≡ cut_words front)
-TakesOut (Err e) front = IfSome (fault_of e) (λ fault. (nat_lt 1 (behaviors front) ≡ true) × (fault ≡ Cut (Repeat (LongFlag (codes "workspace-behavior")) opt.WorkspaceBehavior None)))
+TakesOut (Err e) front = MatchOption (fault_of e) (e ≡ fault.Memory) (λ told. (nat_lt 1 (behaviors front) ≡ true) × (told ≡ Cut (Repeat (LongFlag (codes "workspace-behavior")) opt.WorkspaceBehavior None)))

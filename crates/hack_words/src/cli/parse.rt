@@ -1,13 +1,13 @@
 //! Words into arguments, or the first fault.
 
-ghost use Rattle.std.specs.Prelude.{Bool, ◌≡◌, ◌++◌, IfOk, IfErr, IfSome, OnOk, map, string_bytes};
+ghost use Rattle.std.specs.Prelude.{Bool, ℕ, List, ◌≡◌, ◌++◌, IfOk, IfErr, MatchOption, OnOk, map, string_bytes};
 ghost use Rattle.hack_features.specs.Names.{names_of};
 ghost use Rattle.hack_uses.specs.Passed.{leading_of};
 ghost use Rattle.hack_uses.specs.Uses.{views, subcommand_of};
 ghost use Rattle.hack_versions.specs.Notes.{note_of};
-ghost use Rattle.hack_words.specs.Answers.{Judges, GoesOn, IsJudged, IsText, IsPrinted, Answers, Refuses, GivesCuts, around_of};
+ghost use Rattle.hack_words.specs.Answers.{Judges, GoesOn, IsJudged, IsText, IsPrinted, Answers, Refuses, GivesCuts, BreakNoRule, around_of};
 ghost use Rattle.hack_rules.specs.Asked.{is_old_asked};
-ghost use Rattle.hack_words.specs.Call.{ComesFrom, ComesTo, Faulty, outcome_of, later_notes, in_vain};
+ghost use Rattle.hack_words.specs.Call.{Around, Outcome, ComesFrom, ComesTo, Faulty, outcome_of, later_notes, in_vain};
 ghost use Rattle.hack_rules.specs.CliFaults.{fault_of};
 ghost use Rattle.hack_rules.specs.Listed.{listed};
 ghost use Rattle.hack_rules.specs.ListsView.{listed_in};
@@ -127,7 +127,7 @@ fn judged(
     rustup: &Rustup,
 ) -> Result<(Parsed, Vec<Notice>), CliFault>
     ensures ok { IfOk result (λ answer. IsJudged (around_of env.now rustup.now) cargo (names_of trailing.items) (views uses.now) answer.0 (map note_of answer.1.items)) }
-    ensures err { IfErr result (λ e. IfSome (fault_of e) (λ fault. outcome_of (around_of env.now rustup.now) cargo (names_of trailing.items) (views uses.now) ≡ Faulty fault)) }
+    ensures err { IfErr result (λ e. MatchOption (fault_of e) (e ≡ CliFault.Memory) (λ fault. outcome_of (around_of env.now rustup.now) cargo (names_of trailing.items) (views uses.now) ≡ Faulty fault)) }
 {
     let lists = Lists::of(alloc, uses)?;
     let leading = leading(alloc, cargo, uses)?;
@@ -203,6 +203,25 @@ fn begun(
     }
 }
 
+/// What words come to, or the fault of the first rule that they break.
+fn read_words(
+    alloc: Global,
+    words: &[String],
+    env: &Env,
+    rustup: &Rustup,
+) -> Result<(Parsed, Vec<Notice>), CliFault>
+    ensures ok { IfOk result (λ answer. Answers (around_of env.now rustup.now) (ComesTo (around_of env.now rustup.now) (names_of words.now)) answer.0 (map note_of answer.1.items)) }
+    ensures err { IfErr result (Refuses (ComesTo (around_of env.now rustup.now) (names_of words.now))) }
+{
+    let start = Start::of(alloc, words)?;
+    begun(alloc, start, env, rustup)
+}
+
+/// The law that what words come to is one thing. It does nothing; its contract is the law.
+pub fn outcome_is_one()
+    ensures { (around : Around) (words : List (List ℕ)) (a b : Outcome) → ComesTo around words a → ComesTo around words b → a ≡ b }
+{}
+
 impl Args {
     /// What the words behind the program's name ask for, with what the user is to be told of them; or the fault of
     /// the first rule that they break. `rustup` counts where a range of versions is asked.
@@ -213,9 +232,9 @@ impl Args {
         rustup: Rustup,
     ) -> Result<(Parsed, Vec<Notice>), CliFault>
         ensures ok { IfOk result (λ answer. Answers (around_of env.now rustup) (ComesTo (around_of env.now rustup) (names_of words.now)) answer.0 (map note_of answer.1.items)) }
+        ensures never { IfOk result (λ _. BreakNoRule (around_of env.now rustup) (names_of words.now)) }
         ensures err { IfErr result (Refuses (ComesTo (around_of env.now rustup) (names_of words.now))) }
     {
-        let start = Start::of(alloc, words)?;
-        begun(alloc, start, env, &rustup)
+        read_words(alloc, words, env, &rustup)
     }
 }

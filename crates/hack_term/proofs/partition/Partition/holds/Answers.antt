@@ -6,10 +6,10 @@ pub returns-in-Block-clause-once : goal.returns-in-Block-clause-once
 returns-in-Block-clause-once c = in_just_one c.args.self.now.count c.args.total (omega arith)
 
 pub returns-in-Block-clause-joined : goal.returns-in-Block-clause-joined
-returns-in-Block-clause-joined c = λ plan _. joined-all c.args.self.now.count (omega arith) plan
+returns-in-Block-clause-joined c = λ plan. joined-all c.args.self.now.count (omega arith) plan
 
 pub returns-in-Turn-clause-once : goal.returns-in-Turn-clause-once
 returns-in-Turn-clause-once c = in_just_one c.args.self.now.count c.args.total (omega arith)
 
 pub returns-in-Turn-clause-joined : goal.returns-in-Turn-clause-joined
-returns-in-Turn-clause-joined c = λ plan _. joined-all c.args.self.now.count (omega arith) plan
+returns-in-Turn-clause-joined c = λ plan. joined-all c.args.self.now.count (omega arith) plan

@@ -1,4 +1,4 @@
-use Rattle.std.proofs.Common.{◌≡◌, Ok, List, IfSome, ap, sym, subst, map, string_bytes}
+use Rattle.std.proofs.Common.{◌≡◌, Ok, List, MatchOption, ap, sym, subst, map, string_bytes}
 use Rattle.std.proofs.lemmas.Result.{err_from_is_err_and, IfOk-weaker, IfErr-weaker}
 use Rattle.hack_uses.specs.Reads.{Ends, End}
 use Rattle.hack_uses.specs.Uses.{Use, views}
@@ -7,6 +7,7 @@ use Rattle.hack_versions.specs.Notes.{note_of}
 use Rattle.hack_words.specs.Answers.{Answers, IsJudged, Refuses, GivesCuts, around_of}
 use Rattle.hack_words.specs.Call.{ComesFrom, Faulty, outcome_of}
 use Rattle.hack_rules.specs.CliFaults.{fault_of}
+use Rattle.hack_rules.specs.declared.fault.CliFault.TheVariants as fault
 use Rattle.hack_words.specs.Start.{Cuts as Begun}
 use Rattle.hack_words.proofs.AnswerLemmas.{judged-answers, printed-answers, cut-refuses, fault-refuses}
 use Rattle.hack_words.proofs.cli.parse.begun.Goals as goal
@@ -14,7 +15,7 @@ use Rattle.hack_words.proofs.cli.parse.begun.Goals as goal
 pub returns-in_err-print-clause-err : goal.returns-in_err-print-clause-err
 returns-in_err-print-clause-err c =
     let p = err_from_is_err_and c.from_residual.result c.from_residual.ensures.1 in
-    rw (p.1, p.2) (cut-refuses (around_of c.args.env.now c.args.rustup.now) c.args.start.cargo (map string_bytes c.args.start.words.items) (map string_bytes c.args.start.trailing.items) (fault_of c.in_err-print.field-0.0) c.in_err-print.ensures)
+    rw (p.1, p.2) (cut-refuses (around_of c.args.env.now c.args.rustup.now) c.args.start.cargo (map string_bytes c.args.start.words.items) (map string_bytes c.args.start.trailing.items) (c.in_err-print.field-0.0 ≡ fault.Memory) (fault_of c.in_err-print.field-0.0) c.in_err-print.ensures)
 
 pub returns-in_ok-printed-in-Asks-clause-ok : goal.returns-in_ok-printed-in-Asks-clause-ok
 returns-in_ok-printed-in-Asks-clause-ok c =
@@ -43,6 +44,6 @@ returns-in-Uses-clause-err c =
     let ends = subst (λ (cuts : Cuts). GivesCuts (Ok cuts) (map string_bytes c.args.start.words.items)) c.in-Uses.is c.in_ok-print.ensures in
     let read = subst (λ (us : List Use). Ends (map string_bytes c.args.start.words.items) us End) (sym (ap views c.as_slice.ensures.value)) ends in
     IfErr-weaker c.judged.result
-    (λ e. IfSome (fault_of e) (λ fault. outcome_of around c.args.start.cargo trailing us ≡ Faulty fault))
+    (λ e. MatchOption (fault_of e) (e ≡ fault.Memory) (λ told. outcome_of around c.args.start.cargo trailing us ≡ Faulty told))
     (Refuses (ComesFrom around (Begun c.args.start.cargo words trailing)))
     (λ e h. fault-refuses around c.args.start.cargo words trailing us e read h) c.judged.ensures.err
