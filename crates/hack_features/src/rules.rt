@@ -1,18 +1,21 @@
 //! The rules by which sets of features are listed, which answer questions on them, and cover one by another.
 
-ghost use Rattle.std.specs.Prelude.{◌≡◌, ◌≤◌, ◌-◌, ◌^◌, ◌<◌, ℕ, List, [], length, slice_index, vec_len, IsTrue, IfOk, MatchOption, Contains, if◌then◌else◌};
+ghost use Rattle.std.specs.Prelude.{◌≡◌, ◌≤◌, ◌+◌, ◌-◌, ◌^◌, ◌<◌, ℕ, List, [], length, slice_index, vec_len, IsTrue, IfOk, MatchOption, Contains, if◌then◌else◌};
 ghost use Rattle.std.specs.List.{list_any, slice_index_or, remove};
 ghost use Rattle.hack_features.specs.Names.{names_of};
 ghost use Rattle.hack_features.specs.Feature.{candidates_of};
 ghost use Rattle.hack_features.specs.Sets.{IsSelection, rows_of};
+ghost use Rattle.hack_features.specs.FeatureMap.{feature_map};
 ghost use Rattle.hack_features.specs.Deps.{AreDepsOf};
-ghost use Rattle.hack_features.specs.Rules.{Choice, IsPermitted, IsRequired, IsFirstCover, IsWanted};
-ghost use Rattle.hack_features.specs.Tables.{keeps_depth as depth_test, wanted_test};
+ghost use Rattle.hack_features.specs.Rules.{Choice, IsListed, IsPermitted, IsRequired, IsFirstCover, IsWanted};
+ghost use Rattle.hack_features.specs.Tables.{keeps_depth as depth_test, wanted_test, AreTables};
+ghost use Rattle.hack_features.specs.Given.{choice, choice_in};
 ghost use Rattle.hack_features.specs.Cover.{enables_test, set_enables_test, covers_test};
 
 use crate::deps::feature_deps;
 use crate::feature::Feature;
-use crate::questions::Questions;
+use crate::forest::Pruned;
+use crate::questions::{Questions, pruned};
 use crate::tables::{Given, Tables};
 use std::alloc::{AllocError, Global};
 use std::collections::{BTreeMap, BTreeSet};
@@ -21,14 +24,20 @@ use std::collections::{BTreeMap, BTreeSet};
 #[derive(Drop)]
 pub struct Rules<'a> {
     given: Given<'a>,
+    deps: BTreeMap<&'a str, BTreeSet<&'a str>>,
     tables: Tables,
     asked: u128,
     ghost capped: { asked ≤ 2 ^ 128 - 1 },
+    ghost deps_told: { ∥ AreDepsOf (feature_map given.map.now) deps ∥₁ },
+    ghost tables_told: { ∥ AreTables (choice_in given) (rows_of tables.spares.items) (rows_of tables.hits.items) (rows_of tables.serves.items) ∥₁ },
 }
 
 impl<'a> Rules<'a> {
-    ghost use Rattle.std.specs.Prelude.{◌↔◌};
-    ghost use Rattle.hack_features.specs.View.{choice, choice_of, size_of, asked_of, may_of, whole_of, AreTablesOf};
+    ghost use Rattle.std.specs.Prelude.{◌↔◌, ◌++◌, ◌∷◌};
+    ghost use Rattle.hack_features.specs.Forest.{sets_in};
+    ghost use Rattle.hack_features.specs.Sets.{IsListing};
+    ghost use Rattle.hack_features.specs.Questions.{IsCheap};
+    ghost use Rattle.hack_features.specs.View.{choice_of, size_of, asked_of, may_of, whole_of};
 
     /// The rules for the candidates `features` of a package with the feature map `map`: at most `depth` of them in
     /// a set, for each group of `at_least_one_of` one that enables a name of it, and for each group of
@@ -67,14 +76,43 @@ impl<'a> Rules<'a> {
     pub(crate) fn made(alloc: Global, given: Given<'a>) -> Result<Rules<'a>, AllocError>
         ensures given { IfOk result (λ rules. rules.given ≡ given.entry) }
         ensures fresh { IfOk result (λ rules. asked_of rules ≡ 0) }
-        ensures tables { IfOk result (λ rules. AreTablesOf (choice_of rules) rules) }
     {
         let deps = feature_deps(alloc, given.map)?;
+        let tables = Tables::new(alloc, given, &deps)?;
         Ok(Rules {
             given,
-            tables: Tables::new(alloc, given, &deps)?,
+            deps,
+            tables,
             asked: 0,
         })
+    }
+
+    /// The sets that are listed, in the order of sets, and by how much the count of questions rose.
+    pub fn listed(&mut self, alloc: Global) -> Result<Pruned, AllocError>
+        ensures sets { IfOk result (λ pruned. IsListing (size_of self.old) (IsListed (choice_of self.old)) (sets_in pruned.sets)) }
+        ensures asked { IfOk result (λ pruned. asked_of self.new ≡ asked_of self.old + pruned.asked) }
+
+        // At most one question for each permitted set and each candidate.
+        ensures few { IfOk result (λ pruned. IsCheap (IsPermitted (choice_of self.old)) (size_of self.old) pruned.asked) }
+        ensures risen { asked_of self.old ≤ asked_of self.new }
+        ensures same_choice { choice_of self.new ≡ choice_of self.old }
+        ensures same_size { size_of self.new ≡ size_of self.old }
+    {
+        let n = self.given.features.len();
+        pruned(alloc, self, n)
+    }
+
+    /// Whether the set of `positions` and `next` keeps the depth, and is exclusive and not redundant.
+    fn permits(&self, positions: &[usize], next: usize) -> bool
+        ensures { result ≡ may_of self.now (positions.now ++ next ∷ []) }
+    {
+        if !keeps_depth(self.given.depth, positions.len() + 1) {
+            return false;
+        }
+        if !self.tables.is_exclusive(positions, next) {
+            return false;
+        }
+        self.tables.is_lean(positions, next)
     }
 
     /// The first set, in the order of sets, that is listed, lies inside `positions` and enables the same names.
@@ -87,12 +125,10 @@ impl<'a> Rules<'a> {
         requires { IsSelection (size_of self.now) positions.now }
         ensures { IfOk result (λ cover. MatchOption cover (¬ IsWanted (choice_of self.now) positions.now) (λ t. IsWanted (choice_of self.now) positions.now × IsFirstCover (choice_of self.now) positions.now t.items)) }
     {
-        let deps = feature_deps(alloc, self.given.map)?;
-        let tables = Tables::new(alloc, self.given, &deps)?;
-        if !is_wanted(self.given.depth, &tables, positions) {
+        if !is_wanted(self.given.depth, &self.tables, positions) {
             return Ok(None);
         }
-        Ok(Some(first_cover(alloc, self.given.features, positions, &deps)?))
+        Ok(Some(first_cover(alloc, self.given.features, positions, &self.deps)?))
     }
 }
 
@@ -234,7 +270,7 @@ fn first_cover(
 }
 
 impl Questions for Rules<'_> {
-    ghost use Rattle.std.specs.Prelude.{◌≡◌, ◌≤◌, ◌-◌, ◌^◌, ℕ, List};
+    ghost use Rattle.std.specs.Prelude.{◌≡◌, ◌≤◌, ◌+◌, ◌-◌, ◌^◌, ◌++◌, ◌∷◌, ◌↔◌, min, ℕ, List};
     ghost use Rattle.hack_features.specs.View.{choice_of, size_of, asked_of, may_of, whole_of};
     ghost use Rattle.hack_features.specs.Closed.{may_of-empty, may_of-remove};
 
@@ -248,18 +284,26 @@ impl Questions for Rules<'_> {
 
     ghost count = { asked_of };
 
-    fn may_extend(&mut self, positions: &[usize], next: usize) -> bool {
+    fn may_extend(&mut self, positions: &[usize], next: usize) -> bool
+        requires below { IsSelection next positions.now }
+        requires next { next < size_of self.old }
+        ensures answer { result ≡ may_of self.old (positions.now ++ next ∷ []) }
+        ensures permitted { IsTrue result ↔ IsPermitted (choice_of self.old) (positions.now ++ next ∷ []) }
+        ensures counted { asked_of self.new ≡ min (asked_of self.old + 1) (2 ^ 128 - 1) }
+        ensures same_choice { choice_of self.new ≡ choice_of self.old }
+        ensures same_size { size_of self.new ≡ size_of self.old }
+        ensures same_may { may_of self.new ≡ may_of self.old }
+        ensures same_whole { whole_of self.new ≡ whole_of self.old }
+    {
         self.asked = self.asked.saturating_add(1);
-        if !keeps_depth(self.given.depth, positions.len() + 1) {
-            return false;
-        }
-        if !self.tables.is_exclusive(positions, next) {
-            return false;
-        }
-        self.tables.is_lean(positions, next)
+        self.permits(positions, next)
     }
 
-    fn complete(&self, positions: &[usize]) -> bool {
+    fn complete(&self, positions: &[usize]) -> bool
+        requires { IsSelection (size_of self.now) positions.now }
+        ensures answer { result ≡ whole_of self.now positions.now }
+        ensures required { IsTrue result ↔ IsRequired (choice_of self.now) positions.now }
+    {
         self.tables.is_required(positions)
     }
 

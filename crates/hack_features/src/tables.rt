@@ -267,7 +267,7 @@ fn has_some(row: &[bool], positions: &[usize]) -> bool
 
 impl Tables {
     ghost use Rattle.hack_features.specs.Tables.{AreTables};
-    ghost use Rattle.hack_features.specs.View.{choice_in};
+    ghost use Rattle.hack_features.specs.Given.{choice_in};
 
     pub(crate) fn new<'a>(
         alloc: Global,
