@@ -1,13 +1,11 @@
 -- What a feature map says can be told, so what is only known to be so can be had.
-use Rattle.std.proofs.Common.{◌≡◌, ◌≢◌, ℕ, zero, suc, ◌+◌, ◌<◌, ◌≤◌, List, [], ◌∷◌, ◌++◌, length, get_or, refl, sym, ◌∙◌, ap, subst, arith, Option, Some, None, IfSome, IsSome, is_some, Bool, true, false, IsTrue, ◌⊎◌, inl, inr, ◌↔◌, All, Contains, append_assoc, append-nil}
+use Rattle.std.proofs.Common.{◌≡◌, ◌≢◌, ℕ, zero, suc, ◌+◌, ◌<◌, ◌≤◌, List, [], ◌∷◌, ◌++◌, length, get_or, refl, sym, ◌∙◌, ap, subst, arith, Option, Some, None, IfSome, IsSome, is_some, Bool, true, false, IsTrue, ◌⊎◌, inl, inr, ◌↔◌, All, Contains, append_assoc, append-nil, map}
 use Rattle.std.specs.List.{list_any}
 use Rattle.std.specs.Map.{lookup}
 use Rattle.std.specs.Str.{bytes_eq}
-use Rattle.std.specs.Borrow.{Bor}
-use Rattle.std.specs.BTreeMap.{BTreeMap}
 use Rattle.std.specs.Cmp.Lexicographic.{nat_list_eq_equiv}
 use Rattle.std.proofs.Math.Logic.{∥∥₁_map, ∥∥₁_elim}
-use Rattle.std.proofs.lemmas.Bool.{cases_lt}
+use Rattle.std.proofs.lemmas.Bool.{cases_lt, cases_eq}
 use Rattle.std.proofs.lemmas.List.{get_or_default}
 use Rattle.std.proofs.lemmas.List.Elements.{All-head, All-tail, All-nil, All-cons}
 use Rattle.std.proofs.lemmas.Map.Views.{list_any-from_Contains, Contains-from_any}
@@ -17,10 +15,10 @@ use Rattle.hack_features.proofs.ReachLemmas.{all_targets, adds-one, adds-there, 
 use Rattle.hack_features.specs.Names.{Name}
 use Rattle.hack_features.specs.FeatureMap.{FeatureMap, values_at, IsKey, Chain, Enables, EnablesOneOf}
 use Rattle.hack_features.specs.Search.{edge_of, target_of, IsTarget, Adds, IsReach}
-use Rattle.hack_features.specs.Deps.{NameSet, has_name, get_at, IsDepsOf, AreDepsOf}
+use Rattle.hack_features.specs.Places.{name_at, AreAt, AreAllAt, AreRoutes, ArePlaced}
 use Rattle.hack_features.specs.Sets.{IsSelection, Pairwise}
 use Rattle.hack_features.specs.Rules.{Choice, names_at, names_in, SparesNames, NotBothReach, Serves}
-use Rattle.hack_features.specs.Tables.{AreTables, is_exclusive, is_required, cell}
+use Rattle.hack_features.specs.Tables.{AreTables, is_exclusive, is_required, cell, bit, leads}
 use Rattle.hack_features.specs.declared.reach.Edges.{Edges}
 use Rattle.hack_features.specs.declared.reach.Edges.TheVariants.{Enabling}
 
@@ -171,20 +169,58 @@ had (inr n) h = absurd (∥∥₁_elim h never n)
 had_true : (b : Bool) → ∥ IsTrue b ∥₁ → IsTrue b
 had_true b h = had (bool_told b) h
 
-deps_had : (m : FeatureMap) (x : Name) (o : Option NameSet) → ∥ IfSome o (IsDepsOf m x) ∥₁ → IfSome o (IsDepsOf m x)
-deps_had m x None h = tt
-deps_had m x (Some set) h = λ y. (
-  λ t. had (both_told (not_told (same_told y x)) (enables_told m x y)) (∥∥₁_map h (λ d. (d y).0 t)),
-  λ w. had_true (has_name set y) (∥∥₁_map h (λ d. (d y).1 w)),
-)
+number_told : (i j : ℕ) → Told (i ≡ j)
+number_told i j = cases_eq i j
 
-pub are_deps : (m : FeatureMap) (deps : BTreeMap (Bor Name) NameSet) → ∥ AreDepsOf m deps ∥₁ → AreDepsOf m deps
-are_deps m deps h = record {
-  keys = λ x. (
-    λ o. had (key_told m x) (∥∥₁_map h (λ d. (d.keys x).0 o)),
-    λ k. had_true (is_some (get_at deps x)) (∥∥₁_map h (λ d. (d.keys x).1 k)),
+low_told : (i n : ℕ) → Told (i < n)
+low_told i n = elim (cases_lt i n) [ inl lt ↦ inl lt | inr le ↦ inr (λ lt. omega arith) ]
+
+truth_told-by : (a b : Bool) → Told (a ≡ b)
+truth_told-by true true = inl refl
+truth_told-by true false = inr (λ e. cc)
+truth_told-by false true = inr (λ e. cc)
+truth_told-by false false = inl refl
+
+cons_told : (x y : Name) (xs ys : List Name) → Told (x ≡ y) → Told (xs ≡ ys) → Told (x ∷ xs ≡ y ∷ ys)
+cons_told x y xs ys (inl e) (inl f) = inl (cc)
+cons_told x y xs ys (inl e) (inr n) = inr (λ s. n (cc))
+cons_told x y xs ys (inr n) t = inr (λ s. n (cc))
+
+names_told : (xs ys : List Name) → Told (xs ≡ ys)
+names_told [] [] = inl refl
+names_told [] (y ∷ ys) = inr (λ e. cc)
+names_told (x ∷ xs) [] = inr (λ e. cc)
+names_told (x ∷ xs) (y ∷ ys) = cons_told x y xs ys (same_told x y) (names_told xs ys)
+
+at_had : (names : List Name) (places : List ℕ) (shown : List Name) → ∥ AreAt names places shown ∥₁ → AreAt names places shown
+at_had names places shown h = record {
+  within = had (all_told (λ place. place < length names) (λ place. low_told place (length names)) places) (∥∥₁_map h (λ a. a.within));
+  same = had (names_told (map (name_at names) places) shown) (∥∥₁_map h (λ a. a.same));
+}
+
+all_at_had : (names : List Name) (rows : List (List ℕ)) (groups : List (List Name)) → ∥ AreAllAt names rows groups ∥₁ → AreAllAt names rows groups
+all_at_had names rows groups h = record {
+  count = had (number_told (length rows) (length groups)) (∥∥₁_map h (λ a. a.count));
+  each = λ q lt. at_had names (get_or rows q []) (get_or groups q []) (∥∥₁_map h (λ a. a.each q lt));
+}
+
+routes_had : (edges : Edges) (m : FeatureMap) (names : List Name) (keys : List Bool) (marks : List (List Bool)) → ∥ AreRoutes edges m names keys marks ∥₁ → AreRoutes edges m names keys marks
+routes_had edges m names keys marks h = record {
+  known = λ x k. had (member_told names x) (∥∥₁_map h (λ a. a.known x k));
+  apart = λ i j li lj e. had (number_told i j) (∥∥₁_map h (λ a. a.apart i j li lj e));
+  keyed = λ k lt. had (truth_told-by (bit keys k) (is_some (lookup (bytes_eq (name_at names k)) m))) (∥∥₁_map h (λ a. a.keyed k lt));
+  led = λ i j li lj. (
+    λ t. had (chain_told edges m (name_at names i) (name_at names j)) (∥∥₁_map h (λ a. (a.led i j li lj).0 t)),
+    λ c. had_true (leads marks i j) (∥∥₁_map h (λ a. (a.led i j li lj).1 c)),
   );
-  each = λ x. deps_had m x (get_at deps x) (∥∥₁_map h (λ d. d.each x));
+}
+
+pub are_placed : (edges : Edges) (m : FeatureMap) (candidates groups : List (List Name)) (names : List Name) (keys : List Bool) (marks : List (List Bool)) (all each : List (List ℕ))
+    → ∥ ArePlaced edges m candidates groups names keys marks all each ∥₁ → ArePlaced edges m candidates groups names keys marks all each
+are_placed edges m candidates groups names keys marks all each h = record {
+  routes = routes_had edges m names keys marks (∥∥₁_map h (λ a. a.routes));
+  candidates_at = all_at_had names all candidates (∥∥₁_map h (λ a. a.candidates_at));
+  groups_at = all_at_had names each groups (∥∥₁_map h (λ a. a.groups_at));
 }
 
 pairwise_had : (m : FeatureMap) (group : List Name) (names : List Name) → ∥ Pairwise (NotBothReach m group) names ∥₁ → Pairwise (NotBothReach m group) names

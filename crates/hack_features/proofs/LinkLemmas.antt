@@ -8,15 +8,17 @@ use Rattle.std.specs.Str.{bytes_eq}
 use Rattle.std.specs.Borrow.{Bor}
 use Rattle.std.proofs.Math.ListN.{get_or-append}
 use Rattle.std.proofs.lemmas.List.Elements.{Contains-append_left, Contains-append_right, Contains-push, Contains-push_cases, Contains-get_or, All-contains}
-use Rattle.hack_features.proofs.Members.{lt_or_same, Contains-nil}
+use Rattle.std.proofs.lemmas.List.{get_or_default}
+use Rattle.hack_features.proofs.Members.{lt_or_same, Contains-nil, Contains-map, Contains-map_from}
+use Rattle.hack_features.proofs.TableLemmas.{filter_map_from, filter_map_has}
 use Rattle.hack_features.proofs.NameLemmas.{length-le_from_distinct}
 use Rattle.hack_features.proofs.ReachLemmas.{all_targets, target_listed, lookup-feature_map, edge-from_target, target-from_edge}
-use Rattle.hack_features.proofs.PlaceLemmas.{name_at-front, at-front}
+use Rattle.hack_features.proofs.PlaceLemmas.{name_at-front, at-front, one_place}
 use Rattle.hack_features.specs.Names.{Name, names_of}
-use Rattle.hack_features.specs.FeatureMap.{FeatureMap, feature_map, values_at, Chain, here, step}
-use Rattle.hack_features.specs.Search.{edge_of, IsTarget, Adds}
+use Rattle.hack_features.specs.FeatureMap.{FeatureMap, feature_map, values_at, IsKey, Chain, here, step}
+use Rattle.hack_features.specs.Search.{edge_of, target_of, IsTarget, Adds}
 use Rattle.hack_features.specs.Tables.{bit}
-use Rattle.hack_features.specs.Places.{name_at, targets_of, AreAt, HasPlaces, AreRows, IsGrown}
+use Rattle.hack_features.specs.Places.{name_at, targets_of, AreAt, HasPlaces, AreRows, IsGrown, Leads, leads, AreRoutes}
 use Rattle.hack_features.specs.declared.reach.Edges.{Edges}
 
 pub at_last : {X : Type 0} (xs : List X) (x d : X) → get_or (xs ++ x ∷ []) (length xs) d ≡ x
@@ -83,3 +85,56 @@ grown-bound edges m old new places g h = length-le_from_distinct new (old ++ all
   | inl w ↦ Contains-append_left old (all_targets m) y w
   | inr w ↦ Contains-append_right old (all_targets m) y (target_listed edges m w.0 y w.1)
 ])
+
+-- ---- chains of links, and chains of edges
+
+module _ (edges : Edges) (m : FeatureMap) (names : List Name) (keys : List Bool) (rows : List (List ℕ)) (h : AreRows edges m names keys rows) (all : length rows ≡ length names) where
+  edge_link : (k : ℕ) (y : Name) → k < length names → edge_of edges m (name_at names k) y → (j : ℕ) × Leads rows k j × (j < length names) × (name_at names j ≡ y)
+  edge_link k y lt e =
+      let t = target-from_edge edges m (name_at names k) y e in
+      let at = h.led k (omega arith) in
+      let c : Contains (map (name_at names) (get_or rows k [])) y = subst (λ l. Contains l y) (sym at.same) (filter_map_has (target_of edges) (values_at m (name_at names k)) t.value y t.listed t.leads) in
+      let j = Contains-map_from (name_at names) (get_or rows k []) y c in
+      (j.0, j.1, All-contains (λ place. place < length names) (get_or rows k []) j.0 at.within j.1, j.2)
+
+  link_edge : (k j : ℕ) → k < length names → Leads rows k j → (j < length names) × edge_of edges m (name_at names k) (name_at names j)
+  link_edge k j lt c =
+      let at = h.led k (omega arith) in
+      let y = name_at names j in
+      let t = filter_map_from (target_of edges) (values_at m (name_at names k)) y (subst (λ l. Contains l y) at.same (Contains-map (name_at names) (get_or rows k []) j c)) in (
+        All-contains (λ place. place < length names) (get_or rows k []) j at.within c,
+        edge-from_target edges m (name_at names k) y (record { value = t.0; listed = t.1; leads = t.2 }),
+      )
+
+  pub chain_down : {x y : Name} → Chain (edge_of edges m) x y → (i : ℕ) → i < length names → name_at names i ≡ x → (j : ℕ) × (j < length names) × (name_at names j ≡ y) × Chain (Leads rows) i j
+  chain_down here i lt e = (i, lt, e, here)
+  chain_down (step {x} {y = z} {z = y} d c) i lt e =
+      let l = edge_link i z lt (subst (λ n. edge_of edges m n z) (sym e) d) in
+      let r = chain_down c l.0 l.2 l.3 in
+      (r.0, r.1, r.2, step l.1 r.3)
+
+  pub chain_up : {i j : ℕ} → Chain (Leads rows) i j → i < length names → (j < length names) × Chain (edge_of edges m) (name_at names i) (name_at names j)
+  chain_up here lt = (lt, here)
+  chain_up (step {x = i} {y = k} {z = j} d c) lt =
+      let l = link_edge i k lt d in
+      let r = chain_up c l.0 in
+      (r.0, step l.1 r.1)
+
+  -- rows lead nowhere but into the table
+  pub rows_inside : All (All (λ place. place < length rows)) rows
+  rows_inside = λ k d lt.
+      let at : All (λ place. place < length names) (get_or rows k []) = (h.led k lt).within in
+      subst (λ n. All (λ place. place < n) (get_or rows k d)) (sym all) (subst (All (λ place. place < length names)) (get_or_default rows k [] d lt) at)
+
+  pub routes_from : (places : BTreeMap (Bor Name) ℕ) → HasPlaces names places → ((x : Name) → IsKey m x → Contains names x) → (marks : List (List Bool))
+      → ((i j : ℕ) → i < length rows → IsTrue (leads marks i j) ↔ Chain (Leads rows) i j) → AreRoutes edges m names keys marks
+  routes_from places step' known marks told = record {
+    known = known;
+    apart = one_place names places step';
+    keyed = λ k lt. h.keyed k (omega arith);
+    led = λ i j li lj. (
+      λ t. (chain_up ((told i j (omega arith)).0 t) li).1,
+      λ c. let d = chain_down c i li refl in
+          (told i j (omega arith)).1 (subst (Chain (Leads rows) i) (one_place names places step' d.0 j d.1 lj d.2) d.3),
+    );
+  }

@@ -3,7 +3,9 @@ use Rattle.std.proofs.Common.{◌≡◌, ◌≢◌, ℕ, zero, suc, ◌+◌, ◌
 use Rattle.std.proofs.Math.ListN.{get_or-append}
 use Rattle.std.proofs.lemmas.List.{get_or_default, get_or-map, length-map}
 use Rattle.std.proofs.lemmas.List.Elements.{Contains-append_left, Contains-push, Contains-push_cases, Contains-get_or, All-contains}
+use Rattle.std.specs.Prelude.{◌==◌, ◌||◌}
 use Rattle.std.proofs.lemmas.Bool.{cases_eq}
+use Rattle.std.proofs.lemmas.Bool.Decides.{eqb_tells}
 use Rattle.hack_features.proofs.Members.{lt_or_same, Contains-nil}
 use Rattle.hack_features.proofs.ReachLemmas.{Chain-snoc, Chain-kept}
 use Rattle.hack_features.specs.FeatureMap.{Chain, here, step}
@@ -156,3 +158,38 @@ marking-end rows start marks order next h all told j = (
   λ t. h.sound j ((told.told j).0 t),
   λ c. (told.told j).1 (Chain-kept (λ a. Contains order a) (λ a b w e. h.closed w.0 (omega (arith, w.1)) b (subst (λ p. Leads rows p b) (sym (get_or-is order a w)) e)) c h.first),
 )
+
+-- ---- what chains lead to, the place itself told apart
+
+or_with : (a b : Bool) → b ≡ true → (a || b) ≡ true
+or_with true b e = refl
+or_with false b e = e
+
+or_told : (place j : ℕ) (b : Bool) → IsTrue (place == j || b) → (place ≡ j) ⊎ IsTrue b
+or_told place j b t = elim (eqb_tells place j) [ inl w ↦ inl w.1 | inr w ↦ inr (sym (ap (λ u. u || b) w.0) ∙ t) ]
+
+same_or : (place j : ℕ) (b : Bool) → (place ≡ j) ⊎ IsTrue b → IsTrue (place == j || b)
+same_or place j b h = elim h [
+  | inl e ↦ ap (λ t. t || b) (let t : place == j ≡ true = elim (eqb_tells place j) [ inl w ↦ w.0 | inr w ↦ absurd (w.1 e) ] in t)
+  | inr t ↦ or_with (place == j) b t
+]
+
+led_to : (rows : List (List ℕ)) (place j : ℕ) (e : get_or rows place [] ≡ []) → Chain (Leads rows) place j → place ≡ j
+led_to rows place j e here = refl
+led_to rows place j e (step {x} {y} {z} d c) = absurd (Contains-nil y (subst (λ row. Contains row y) e d))
+
+pub led_nowhere : (rows : List (List ℕ)) (place : ℕ) → get_or rows place [] ≡ [] → (j : ℕ) → IsTrue (place == j || bit [] j) ↔ Chain (Leads rows) place j
+led_nowhere rows place e j = (
+  λ t. elim (or_told place j (bit [] j) t) [ inl s ↦ subst (Chain (Leads rows) place) s here | inr f ↦ absurd (let z : false ≡ true = f in cc) ],
+  λ c. same_or place j (bit [] j) (inl (led_to rows place j e c)),
+)
+
+pub led_on : (rows : List (List ℕ)) (place : ℕ) (marks : List Bool) → ((j : ℕ) → IsTrue (bit marks j) ↔ Chain (Leads rows) place j) → (j : ℕ) → IsTrue (place == j || bit marks j) ↔ Chain (Leads rows) place j
+led_on rows place marks h j = (
+  λ t. elim (or_told place j (bit marks j) t) [ inl s ↦ subst (Chain (Leads rows) place) s here | inr f ↦ (h j).0 f ],
+  λ c. same_or place j (bit marks j) (inr ((h j).1 c)),
+)
+
+pub nil_from : {X : Type 0} (xs : List X) → length xs ≡ 0 → xs ≡ []
+nil_from [] e = refl
+nil_from (x ∷ xs) e = absurd (omega arith)

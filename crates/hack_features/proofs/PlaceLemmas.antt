@@ -19,7 +19,7 @@ use Rattle.hack_features.specs.declared.reach.Edges.{Edges}
 use Rattle.hack_features.proofs.NameLemmas.{none_from, same_text, differ}
 use Rattle.hack_features.specs.Names.{Name}
 use Rattle.hack_features.specs.Deps.{get_at}
-use Rattle.hack_features.specs.Places.{name_at, AreAt, HasPlaces, targets_of}
+use Rattle.hack_features.specs.Places.{name_at, AreAt, AreAllAt, HasPlaces, targets_of, IsMore}
 
 pub places-none : (places : BTreeMap (Bor Name) ℕ) → places.entries ≡ [] → HasPlaces [] places
 places-none places e = record {
@@ -130,3 +130,37 @@ targets-found edges values v x e = filter_map-append (target_of edges) values (v
 
 pub targets-missed : (edges : Edges) (values : List Name) (v : Name) → None ≡ target_of edges v → targets_of edges (values ++ v ∷ []) ≡ targets_of edges values
 targets-missed edges values v e = filter_map-append (target_of edges) values (v ∷ []) ∙ ap (λ l. targets_of edges values ++ l) (filter_map-missed (target_of edges) v (sym e)) ∙ append-nil (targets_of edges values)
+
+-- ---- tables that grow, and lists of rows
+
+pub more-none : (names : List Name) → IsMore names names
+more-none names = ([], sym (append-nil names))
+
+pub more-then : (a b c : List Name) → IsMore a b → IsMore b c → IsMore a c
+more-then a b c f g = (f.0 ++ g.0, g.1 ∙ ap (λ l. l ++ g.0) f.1 ∙ append_assoc a f.0 g.0)
+
+pub all_at-nothing : (names : List Name) → AreAllAt names [] []
+all_at-nothing names = record { count = refl; each = λ q lt. absurd (omega arith) }
+
+pub all_at-front : (old new : List Name) → IsMore old new → (rows : List (List ℕ)) (groups : List (List Name)) → AreAllAt old rows groups → AreAllAt new rows groups
+all_at-front old new more rows groups h = record {
+  count = h.count;
+  each = λ q lt. at-front old more.0 new (get_or rows q []) (get_or groups q []) more.1 (h.each q lt);
+}
+
+last-at : {X : Type 0} (xs : List X) (x d : X) → get_or (xs ++ x ∷ []) (length xs) d ≡ x
+last-at [] x d = refl
+last-at (y ∷ xs) x d = last-at xs x d
+
+pub all_at-push : (names : List Name) (rows : List (List ℕ)) (groups : List (List Name)) (row : List ℕ) (group : List Name) → AreAllAt names rows groups → AreAt names row group → AreAllAt names (rows ++ row ∷ []) (groups ++ group ∷ [])
+all_at-push names rows groups row group h at = record {
+  count = omega (arith, length-append rows (row ∷ []), length-append groups (group ∷ []), h.count);
+  each = λ q lt. elim (lt_or_same q (length groups) (omega (arith, length-append groups (group ∷ [])))) [
+    | inl w ↦
+        subst (λ g. AreAt names (get_or (rows ++ row ∷ []) q []) g) (sym (get_or-append groups (group ∷ []) [] q w))
+        (subst (λ r. AreAt names r (get_or groups q [])) (sym (get_or-append rows (row ∷ []) [] q (omega (arith, h.count)))) (h.each q w))
+    | inr e ↦
+        subst (λ g. AreAt names (get_or (rows ++ row ∷ []) q []) g) (sym (ap (λ j. get_or (groups ++ group ∷ []) j []) e ∙ last-at groups group []))
+        (subst (λ r. AreAt names r group) (sym (ap (λ j. get_or (rows ++ row ∷ []) j []) (e ∙ sym h.count) ∙ last-at rows row [])) at)
+  ];
+}

@@ -1,15 +1,16 @@
 -- Names by their places in a table of names, and places that lead to places.
-use Rattle.std.specs.Prelude.{◌≡◌, ◌<◌, ℕ, List, [], ◌∷◌, map, length, Bool, All, Contains, Option, IfSome, Some, is_some, cond, ◌+◌, ◌++◌, ◌⊎◌, ◌↔◌, IsTrue}
+use Rattle.std.specs.Prelude.{◌≡◌, ◌<◌, ℕ, List, [], ◌∷◌, map, length, Bool, All, Contains, Option, IfSome, Some, is_some, cond, ◌+◌, ◌++◌, ◌⊎◌, ◌↔◌, IsTrue, ◌||◌, ◌==◌}
 use Rattle.std.specs.List.{slice_index_or, filter_map, IsDistinct}
 use Rattle.std.specs.Borrow.{Bor}
 use Rattle.std.specs.BTreeMap.{BTreeMap}
 use Rattle.std.specs.Map.{lookup}
 use Rattle.std.specs.Str.{bytes_eq}
 use Rattle.hack_features.specs.Names.{Name}
-use Rattle.hack_features.specs.FeatureMap.{FeatureMap, values_at}
+use Rattle.hack_features.specs.FeatureMap.{FeatureMap, values_at, IsKey, Chain}
 use Rattle.hack_features.specs.Deps.{get_at}
 use Rattle.hack_features.specs.Search.{target_of, edge_of}
 use Rattle.hack_features.specs.Tables.{bit}
+pub use Rattle.hack_features.specs.Tables.{leads}
 use Rattle.hack_features.specs.declared.reach.Edges.{Edges}
 
 -- the name at a place
@@ -57,7 +58,29 @@ pub record AddsPlaces (P : ℕ → Type 0) (old new : List ℕ) : Type 0 where
   pub added : (place : ℕ) → P place → Contains new place
   pub only : (place : ℕ) → Contains new place → Contains old place ⊎ P place
 
+-- new has the names of old in front
+abbrev pub IsMore : List Name → List Name → Type 0
+IsMore old new = (more : List Name) × (new ≡ old ++ more)
+
 -- new has the names of old, and behind them names that an edge leads to
 pub record IsGrown (edges : Edges) (m : FeatureMap) (old new : List Name) : Type 0 where
   pub kept : (more : List Name) × (new ≡ old ++ more)
   pub only : (y : Name) → Contains new y → Contains old y ⊎ ((x : Name) × edge_of edges m x y)
+
+-- the rows are those of these lists of names, one after the other
+pub record AreAllAt (names : List Name) (rows : List (List ℕ)) (groups : List (List Name)) : Type 0 where
+  pub count : length rows ≡ length groups
+  pub each : (q : ℕ) → q < length groups → AreAt names (slice_index_or rows q []) (slice_index_or groups q [])
+
+-- the table has each key, each name at one place, and tells which are keys and what chains of edges lead to
+pub record AreRoutes (edges : Edges) (m : FeatureMap) (names : List Name) (keys : List Bool) (marks : List (List Bool)) : Type 0 where
+  pub known : (x : Name) → IsKey m x → Contains names x
+  pub apart : (i j : ℕ) → i < length names → j < length names → name_at names i ≡ name_at names j → i ≡ j
+  pub keyed : (k : ℕ) → k < length names → bit keys k ≡ is_some (lookup (bytes_eq (name_at names k)) m)
+  pub led : (i j : ℕ) → i < length names → j < length names → IsTrue (leads marks i j) ↔ Chain (edge_of edges m) (name_at names i) (name_at names j)
+
+-- names by place, what is told of them, and the places of candidates and groups among them
+pub record ArePlaced (edges : Edges) (m : FeatureMap) (candidates groups : List (List Name)) (names : List Name) (keys : List Bool) (marks : List (List Bool)) (all each : List (List ℕ)) : Type 0 where
+  pub routes : AreRoutes edges m names keys marks
+  pub candidates_at : AreAllAt names all candidates
+  pub groups_at : AreAllAt names each groups

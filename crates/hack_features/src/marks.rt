@@ -1,11 +1,11 @@
 //! What chains of edges lead to from a place, marked in a row.
 
-ghost use Rattle.std.specs.Prelude.{◌≡◌, ◌<◌, ◌↔◌, ℕ, [], length, All, IfOk, OnOk, IsTrue, Contains};
+ghost use Rattle.std.specs.Prelude.{◌≡◌, ◌<◌, ◌↔◌, ◌==◌, ◌||◌, ℕ, [], length, All, IfOk, OnOk, IsTrue, Contains};
 ghost use Rattle.std.specs.List.{slice_index_or};
 ghost use Rattle.hack_features.specs.FeatureMap.{Chain};
 ghost use Rattle.hack_features.specs.Sets.{rows_of};
 ghost use Rattle.hack_features.specs.Tables.{bit};
-ghost use Rattle.hack_features.specs.Places.{Leads, AddsPlaces, AreMarked};
+ghost use Rattle.hack_features.specs.Places.{Leads, leads, AddsPlaces, AreMarked};
 
 use std::alloc::{AllocError, Global};
 
@@ -80,4 +80,28 @@ pub(crate) fn reached(
         next += 1;
     }
     Ok(found.marks)
+}
+
+/// The marks of what chains lead to from the place; no marks where no edge leads anywhere from it.
+fn marks_from(alloc: Global, rows: &[Vec<usize>], place: usize) -> Result<Vec<bool>, AllocError>
+    requires start { place < length rows.now }
+    requires within { All (All (λ place. place < length rows.now)) (rows_of rows.now) }
+    ensures { IfOk result (λ marks. (j : ℕ) → IsTrue (place == j || bit marks.items j) ↔ Chain (Leads (rows_of rows.now)) place j) }
+{
+    if row_at(rows, place).is_empty() {
+        return Ok(Vec::new(alloc));
+    }
+    Ok(reached(alloc, rows, place)?)
+}
+
+/// For each place the marks of what chains lead to from it.
+pub(crate) fn all_marks(alloc: Global, rows: &[Vec<usize>]) -> Result<Vec<Vec<bool>>, AllocError>
+    requires within { All (All (λ place. place < length rows.now)) (rows_of rows.now) }
+    ensures { IfOk result (λ marks. (i j : ℕ) → i < length rows.now → IsTrue (leads (rows_of marks.items) i j) ↔ Chain (Leads (rows_of rows.now)) i j) }
+{
+    let mut marks = Vec::new(alloc);
+    for place in 0..rows.len() {
+        marks.push(marks_from(alloc, rows, place)?)?;
+    }
+    Ok(marks)
 }

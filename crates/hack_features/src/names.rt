@@ -4,7 +4,7 @@ ghost use Rattle.std.specs.Prelude.{◌≡◌, ◌<◌, length, IfOk, OnOk, Matc
 ghost use Rattle.hack_features.specs.Names.{names_of};
 ghost use Rattle.hack_features.specs.FeatureMap.{feature_map, values_at};
 ghost use Rattle.hack_features.specs.Search.{Adds, IsTarget};
-ghost use Rattle.hack_features.specs.Places.{name_at, targets_of, AreAt};
+ghost use Rattle.hack_features.specs.Places.{name_at, targets_of, AreAt, IsMore};
 
 use crate::reach::Edges;
 use std::alloc::{AllocError, Global};
@@ -108,5 +108,23 @@ impl<'a> Names<'a> {
             Some(values) => Ok(self.targets(alloc, values.as_slice(), edges)?),
             None => Ok(Vec::new(alloc)),
         }
+    }
+
+    /// The places of the texts' names. Those that aren't there are added.
+    pub(crate) fn places_of(
+        &mut self,
+        alloc: Global,
+        texts: &'a [String],
+    ) -> Result<Vec<usize>, AllocError>
+        requires { IsInStep self.old }
+        ensures in_step { OnOk result (IsInStep self.new) }
+        ensures row { IfOk result (λ row. AreAt (table self.new) row.items (names_of texts.now)) }
+        ensures kept { OnOk result (IsMore (table self.old) (table self.new)) }
+    {
+        let mut row = Vec::new(alloc);
+        for text in texts {
+            row.push(self.place_of(text.as_str())?)?;
+        }
+        Ok(row)
     }
 }
