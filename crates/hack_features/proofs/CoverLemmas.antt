@@ -3,8 +3,6 @@ use Rattle.std.proofs.Common.{◌≡◌, ◌≢◌, ℕ, zero, suc, ◌+◌, ◌
 use Rattle.std.specs.Prelude.{not, ◌==◌, ◌||◌, IfSome}
 use Rattle.std.specs.List.{remove, list_any}
 use Rattle.std.specs.Str.{bytes_eq}
-use Rattle.std.specs.Borrow.{Bor}
-use Rattle.std.specs.BTreeMap.{BTreeMap}
 use Rattle.std.proofs.lemmas.Slice.Eq.{bytes_eq-Decides}
 use Rattle.std.proofs.lemmas.Bool.{and_parts, and_from, or_cases, cases_eq, cases_lt, cases_order}
 use Rattle.std.proofs.lemmas.Bool.Decides.{eqb_tells}
@@ -18,10 +16,13 @@ use Rattle.hack_features.proofs.Single.{member_of, key_from}
 use Rattle.hack_features.proofs.Listing.{selection_pop, selection_push, selection_up, before_new, before_push}
 use Rattle.hack_features.specs.Names.{Name}
 use Rattle.hack_features.specs.FeatureMap.{FeatureMap, IsKey, here, Enables}
-use Rattle.hack_features.specs.Deps.{NameSet, get_at, IsDepsOf, AreDepsOf}
+use Rattle.hack_features.specs.Tables.{leads}
+use Rattle.hack_features.specs.Places.{name_at, ArePlaced}
+use Rattle.hack_features.specs.declared.reach.Edges.TheVariants.{Enabling}
+use Rattle.hack_features.proofs.TableLemmas.{placed, shown_at, low_at}
 use Rattle.hack_features.specs.Sets.{IsSelection, IsBefore}
 use Rattle.hack_features.specs.Rules.{Choice, names_at, IsEnabledBy, EnableTheSame, IsRedundant, Serves, IsRequired, IsWanted, IsFirstCover}
-use Rattle.hack_features.specs.Cover.{has_in, enables_test, set_enables_test, covers_test}
+use Rattle.hack_features.specs.Cover.{set_enables_test, covers_test}
 
 -- membership of a number can be told
 
@@ -101,50 +102,28 @@ ordered_within (suc fuel) n s t le hs ht = ordered_cases n s t hs ht (last_of s)
 pub ordered : (n : ℕ) (s t : List ℕ) → IsSelection n s → IsSelection n t → Ordered s t
 ordered n s t hs ht = ordered_within (length s) n s t (omega arith) hs ht
 
--- what a table tells of enabling
-
-in_deps-go : (m : FeatureMap) (x y : Name) (o : Option NameSet) → IfSome o (IsDepsOf m x) → has_in o y ≡ true → Enables m x y
-in_deps-go m x y None h e = absurd (cc)
-in_deps-go m x y (Some set) h e = ((h y).0 e).1
-
-deps_have-go : (m : FeatureMap) (x y : Name) (o : Option NameSet) → IfSome o (IsDepsOf m x) → (IsKey m x → is_some o ≡ true) → x ≢ y → Enables m x y → IsKey m x → has_in o y ≡ true
-deps_have-go m x y None h k ne c key = absurd (let e : false ≡ true = k key in cc)
-deps_have-go m x y (Some set) h k ne c key = (h y).1 (λ e. ne (sym e), c)
-
-or_left : (a b : Bool) → a ≡ true → (a || b) ≡ true
-or_left true b e = refl
-or_left false b e = absurd (cc)
-
-or_right : (a b : Bool) → b ≡ true → (a || b) ≡ true
-or_right true b e = refl
-or_right false b e = e
-
-test_yes : (m : FeatureMap) (deps : BTreeMap (Bor Name) NameSet) (x y : Name) → AreDepsOf m deps → (b : Bool) → bytes_eq x y ≡ b → Enables m x y → enables_test deps x y ≡ true
-test_yes m deps x y h true e c = or_left (bytes_eq x y) (has_in (get_at deps x) y) e
-test_yes m deps x y h false e c =
-    let ne : x ≢ y = λ s. (let t : bytes_eq x y ≡ true = (bytes_eq-Decides x y).1 s in let z : true ≡ false = sym t ∙ e in cc) in
-    or_right (bytes_eq x y) (has_in (get_at deps x) y) (deps_have-go m x y (get_at deps x) (h.each x) (h.keys x).1 ne c (key_from m c ne))
-
-pub enables_iff : (m : FeatureMap) (deps : BTreeMap (Bor Name) NameSet) → AreDepsOf m deps → (x y : Name) → (enables_test deps x y ≡ true) ↔ Enables m x y
-enables_iff m deps h x y = (
-  λ t. elim (or_cases (bytes_eq x y) (has_in (get_at deps x) y) t) [
-    | inl e ↦ subst (λ z. Enables m x z) ((bytes_eq-Decides x y).0 e) here
-    | inr w ↦ in_deps-go m x y (get_at deps x) (h.each x) w
-  ],
-  test_yes m deps x y h (bytes_eq x y) refl,
-)
-
-pub set_enables_iff : (c : Choice) (deps : BTreeMap (Bor Name) NameSet) → AreDepsOf c.map deps → (s : List ℕ) (y : Name) → (set_enables_test deps c.candidates s y ≡ true) ↔ IsEnabledBy c s y
-set_enables_iff c deps h s y =
-    let test : ℕ → Bool = λ p. list_any (λ x. enables_test deps x y) (names_at c p) in (
-      λ t.
-          let p = some_passes test s t in
-          let x = some_passes (λ x. enables_test deps x y) (names_at c p.0) p.2 in
-          record { by = x.0; named = named_in c s p.0 x.0 p.1 x.1; chain = (enables_iff c.map deps h x.0 y).0 x.2 },
-      λ e.
-          let p = member_of c s e.by e.named in
-          any_passes test s p.0 p.1 (any_passes (λ x. enables_test deps x y) (names_at c p.0) e.by p.2 ((enables_iff c.map deps h e.by y).1 e.chain)),
-    )
+-- what marks tell of enabling
+module _ (c : Choice) (names : List Name) (keys : List Bool) (marks : List (List Bool)) (all each : List (List ℕ)) (h : ArePlaced Enabling c.map c.candidates c.at_least_one_of names keys marks all each) where
+  pub set_enables_iff : (s : List ℕ) → All (λ p. p < length c.candidates) s → (y : ℕ) → y < length names → (set_enables_test marks all s y ≡ true) ↔ IsEnabledBy c s (name_at names y)
+  set_enables_iff s low y ly =
+      let test : ℕ → Bool = λ p. list_any (λ x. leads marks x y) (get_or all p []) in (
+        λ t.
+            let p = some_passes test s t in
+            let x = some_passes (λ x. leads marks x y) (get_or all p.0 []) p.2 in
+            let at = h.candidates_at.each p.0 (All-contains (λ p. p < length c.candidates) s p.0 low p.1) in
+            let lx = low_at Enabling c.map names keys marks h.routes (get_or all p.0 []) (names_at c p.0) at x.0 x.1 in
+            record {
+              by = name_at names x.0;
+              named = named_in c s p.0 (name_at names x.0) p.1 (shown_at Enabling c.map names keys marks h.routes (get_or all p.0 []) (names_at c p.0) at x.0 x.1);
+              chain = (h.routes.led x.0 y lx ly).0 x.2;
+            },
+        λ e.
+            let p = member_of c s e.by e.named in
+            let at = h.candidates_at.each p.0 (All-contains (λ p. p < length c.candidates) s p.0 low p.1) in
+            let x = placed Enabling c.map names keys marks h.routes (get_or all p.0 []) (names_at c p.0) at e.by p.2 in
+            any_passes test s p.0 p.1 (any_passes (λ x. leads marks x y) (get_or all p.0 []) x.0 x.1
+            ((h.routes.led x.0 y x.2 ly).1 (subst (λ b. Enables c.map b (name_at names y)) (sym x.3) e.chain))),
+      )
 
 -- the set is not empty and enables each of the names
 pub record EnablesAll (c : Choice) (s : List ℕ) (names : List Name) : Type 0 where
@@ -159,15 +138,22 @@ pub is_not_empty : (s : List ℕ) → s ≢ [] → not (length s == 0) ≡ true
 is_not_empty [] n = absurd (n refl)
 is_not_empty (x ∷ s) n = elim (eqb_tells (length (x ∷ s)) 0) [ inl e ↦ absurd (let z : length (x ∷ s) ≡ 0 = e.1 in omega arith) | inr w ↦ ap not w.0 ]
 
-pub covers_iff : (c : Choice) (deps : BTreeMap (Bor Name) NameSet) → AreDepsOf c.map deps → (s : List ℕ) (names : List Name) → (covers_test deps c.candidates s names ≡ true) ↔ EnablesAll c s names
-covers_iff c deps h s names = (
-  λ t. let w = and_parts (not (length s == 0)) _ t in record {
-    nonempty = not_empty s w.0;
-    all = λ k d lt. (set_enables_iff c deps h s (get_or names k d)).0 (each_passes (set_enables_test deps c.candidates s) names w.1 (get_or names k d) (Contains-get_or names k d lt));
-  },
-  λ e. and_from (not (length s == 0)) _ (is_not_empty s e.nonempty)
-      (all_pass (set_enables_test deps c.candidates s) names (λ y cy. (set_enables_iff c deps h s y).1 (All-contains (IsEnabledBy c s) names y e.all cy))),
-)
+module _ (c : Choice) (names : List Name) (keys : List Bool) (marks : List (List Bool)) (all each : List (List ℕ)) (h : ArePlaced Enabling c.map c.candidates c.at_least_one_of names keys marks all each) where
+  pub covers_iff : (s : List ℕ) → All (λ p. p < length c.candidates) s → (q : ℕ) → q < length c.candidates → (covers_test marks all s (get_or all q []) ≡ true) ↔ EnablesAll c s (names_at c q)
+  covers_iff s low q lq =
+      let at = h.candidates_at.each q lq in
+      let group = get_or all q [] in (
+        λ t. let w = and_parts (not (length s == 0)) _ t in record {
+          nonempty = not_empty s w.0;
+          all = λ k d lt.
+              let y = placed Enabling c.map names keys marks h.routes group (names_at c q) at (get_or (names_at c q) k d) (Contains-get_or (names_at c q) k d lt) in
+              subst (IsEnabledBy c s) y.3 ((set_enables_iff c names keys marks all each h s low y.0 y.2).0 (each_passes (set_enables_test marks all s) group w.1 y.0 y.1));
+        },
+        λ e. and_from (not (length s == 0)) _ (is_not_empty s e.nonempty)
+            (all_pass (set_enables_test marks all s) group (λ y cy.
+            (set_enables_iff c names keys marks all each h s low y (low_at Enabling c.map names keys marks h.routes group (names_at c q) at y cy)).1
+            (All-contains (IsEnabledBy c s) (names_at c q) (name_at names y) e.all (shown_at Enabling c.map names keys marks h.routes group (names_at c q) at y cy)))),
+      )
 
 -- taking out one position
 
@@ -469,19 +455,25 @@ kept_room true kept k at next e = omega (arith, ap length e, length-remove kept 
 kept_room false kept k at next e = omega (arith, ap length e)
 
 -- one turn, by the test
-module _ (c : Choice) (deps : BTreeMap (Bor Name) NameSet) (are : AreDepsOf c.map deps) (s : List ℕ) (hs : IsSelection (length c.candidates) s) (k : ℕ) (kl : k < length s) (kept : List ℕ) (h : Greedy c s (k + 1) kept) where
+module _ (c : Choice) (names : List Name) (keys : List Bool) (marks : List (List Bool)) (all each : List (List ℕ)) (are : ArePlaced Enabling c.map c.candidates c.at_least_one_of names keys marks all each)
+    (s : List ℕ) (hs : IsSelection (length c.candidates) s) (k : ℕ) (kl : k < length s) (kept : List ℕ) (h : Greedy c s (k + 1) kept) where
   test_at : get_or kept k 0 ≡ get_or s k 0
   test_at = same_place c s hs k kl kept h
 
-  turn_by : (b : Bool) (next : List ℕ) → covers_test deps c.candidates (remove kept k) (names_at c (get_or kept k 0)) ≡ b → next ≡ cond b (remove kept k) kept → Greedy c s k next
+  low : All (λ p. p < length c.candidates) (remove kept k)
+  low = λ i d lt. All-contains (λ p. p < length c.candidates) kept (get_or (remove kept k) i d) h.selection.below (removed_member kept k _ (Contains-get_or (remove kept k) i d lt))
+
+  tells : (covers_test marks all (remove kept k) (get_or all (get_or s k 0) []) ≡ true) ↔ EnablesAll c (remove kept k) (names_at c (get_or s k 0))
+  tells = covers_iff c names keys marks all each are (remove kept k) low (get_or s k 0) (hs.below k 0 kl)
+
+  turn_by : (b : Bool) (next : List ℕ) → covers_test marks all (remove kept k) (get_or all (get_or kept k 0) []) ≡ b → next ≡ cond b (remove kept k) kept → Greedy c s k next
   turn_by true next e f =
-      subst (Greedy c s k) (sym f) (greedy_without c s hs k kl kept h
-      ((covers_iff c deps are (remove kept k) (names_at c (get_or s k 0))).0 (subst (λ p. covers_test deps c.candidates (remove kept k) (names_at c p) ≡ true) test_at e)))
+      subst (Greedy c s k) (sym f) (greedy_without c s hs k kl kept h (tells.0 (subst (λ p. covers_test marks all (remove kept k) (get_or all p []) ≡ true) test_at e)))
   turn_by false next e f =
-      subst (Greedy c s k) (sym f) (greedy_with c s hs k kl kept h (λ all.
-      let t = (covers_iff c deps are (remove kept k) (names_at c (get_or s k 0))).1 all in
-      let g = subst (λ p. covers_test deps c.candidates (remove kept k) (names_at c p) ≡ false) test_at e in
+      subst (Greedy c s k) (sym f) (greedy_with c s hs k kl kept h (λ enables.
+      let t = tells.1 enables in
+      let g = subst (λ p. covers_test marks all (remove kept k) (get_or all p []) ≡ false) test_at e in
       let z : true ≡ false = sym t ∙ g in cc))
 
-  pub greedy_turn : (next : List ℕ) → next ≡ cond (covers_test deps c.candidates (remove kept k) (names_at c (get_or kept k 0))) (remove kept k) kept → Greedy c s k next
-  greedy_turn next f = turn_by (covers_test deps c.candidates (remove kept k) (names_at c (get_or kept k 0))) next refl f
+  pub greedy_turn : (next : List ℕ) → next ≡ cond (covers_test marks all (remove kept k) (get_or all (get_or kept k 0) [])) (remove kept k) kept → Greedy c s k next
+  greedy_turn next f = turn_by (covers_test marks all (remove kept k) (get_or all (get_or kept k 0) [])) next refl f

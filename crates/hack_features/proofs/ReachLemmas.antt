@@ -21,12 +21,12 @@ use Rattle.hack_features.specs.declared.reach.Edges.{Edges}
 use Rattle.hack_features.specs.declared.reach.Edges.TheVariants.{Enabling, Reaching}
 
 -- a chain, with one edge more at its end
-pub Chain-snoc : {edge : Name → Name → Type 0} {x y z : Name} → Chain edge x y → edge y z → Chain edge x z
+pub Chain-snoc : {X : Type 0} {edge : X → X → Type 0} {x y z : X} → Chain edge x y → edge y z → Chain edge x z
 Chain-snoc here e = step e here
 Chain-snoc (step d c) e = step d (Chain-snoc c e)
 
 -- what holds of the start and is kept by each edge holds of the end
-pub Chain-kept : {edge : Name → Name → Type 0} {x y : Name} (P : Name → Type 0) → ((a b : Name) → P a → edge a b → P b) → Chain edge x y → P x → P y
+pub Chain-kept : {X : Type 0} {edge : X → X → Type 0} {x y : X} (P : X → Type 0) → ((a b : X) → P a → edge a b → P b) → Chain edge x y → P x → P y
 Chain-kept P keeps here h = h
 Chain-kept P keeps (step {x} {y} {z} d c) h = Chain-kept P keeps c (keeps x y h d)
 
@@ -70,7 +70,7 @@ value_listed (e ∷ m) x v h = value_listed-step e m x v (bytes_eq x e.0) h (val
 abbrev pub all_targets : FeatureMap → List Name
 all_targets m = all_values m ++ map (before_first (λ b. b == 47)) (all_values m)
 
-target_listed : (edges : Edges) (m : FeatureMap) (x y : Name) → edge_of edges m x y → Contains (all_targets m) y
+pub target_listed : (edges : Edges) (m : FeatureMap) (x y : Name) → edge_of edges m x y → Contains (all_targets m) y
 target_listed Enabling m x y e = Contains-append_left (all_values m) (map (before_first (λ b. b == 47)) (all_values m)) y (value_listed m x y e.value)
 target_listed Reaching m x y e =
     Contains-append_right (all_values m) (map (before_first (λ b. b == 47)) (all_values m)) y

@@ -7,13 +7,26 @@ use Rattle.hack_features.specs.Sets.{IsSelection, IsWithin, IsListing, rows_of, 
 use Rattle.hack_features.specs.Rules.{Choice, IsRequired, IsPermitted, IsListed, IsWanted, Covers, AreSingle, EnableTheSame}
 use Rattle.hack_features.specs.Tables.{keeps_depth, is_lean, is_exclusive, is_required, AreTables, wanted_test}
 use Rattle.hack_features.specs.View.{choice_of, size_of, may_of, whole_of, AreTablesOf}
-use Rattle.hack_features.specs.Questions.{IsWhole}
+use Rattle.hack_features.specs.Questions.{IsWhole, IsCheap}
+use Rattle.hack_features.specs.Routed.{names_in}
+use Rattle.hack_features.specs.PlacedView.{IsPlaced}
+use Rattle.hack_features.specs.declared.reach.Edges.TheVariants.{Enabling}
+use Rattle.hack_features.proofs.Decided.{are_tables, are_placed}
 use Rattle.hack_features.proofs.Members.{Contains-map}
 use Rattle.hack_features.proofs.Steps.{length-candidates_of}
 use Rattle.hack_features.proofs.TableLemmas.{lean_iff, tell}
 use Rattle.hack_features.proofs.Coverage.{covered}
 use Rattle.hack_features.proofs.CoverLemmas.{ordered, not_empty, is_not_empty}
 use Rattle.hack_features.proofs.Single.{single_inside}
+
+-- what the tables of rules say, and what is placed for them
+pub tables_of : (r : Rules) → AreTablesOf (choice_of r) r
+tables_of r = are_tables (choice_of r) (rows_of r.tables.spares.items) (rows_of r.tables.hits.items) (rows_of r.tables.serves.items) r.tables_told
+
+pub placed_of : (r : Rules) → IsPlaced Enabling (choice_of r).map (choice_of r).candidates (choice_of r).at_least_one_of r.enabled
+placed_of r =
+    are_placed Enabling (choice_of r).map (choice_of r).candidates (choice_of r).at_least_one_of (names_in r.enabled.routes) r.enabled.routes.keys.items (rows_of r.enabled.routes.marks.items)
+    (rows_of r.enabled.candidates.items) (rows_of r.enabled.groups.items) r.placed_told
 
 pub depth_iff : (depth : Option ℕ) (s : List ℕ) → (keeps_depth depth s ≡ true) ↔ IsWithin depth s
 depth_iff None s = (λ e. tt, λ h. refl)
@@ -58,6 +71,20 @@ module _ (r : Rules) (h : AreTablesOf (choice_of r) r) where
       λ c. let w = (l.exact s).0 c in (w.0, (listed_iff s w.0).0 w.1),
       λ w. (l.exact s).1 (w.0, (listed_iff s w.0).1 w.1),
     );
+  }
+
+  -- what is few for the permitted sets as the tables answer it, is few for the permitted sets
+  pub cheap_of : (asked : ℕ) → IsCheap (λ s. IsTrue (may_of r s)) (size_of r) asked → IsCheap (IsPermitted (choice_of r)) (size_of r) asked
+  cheap_of asked h = record {
+    sets = h.sets;
+    all = record {
+      ordered = h.all.ordered;
+      exact = λ s. (
+        λ c. let w = (h.all.exact s).0 c in (w.0, (permitted_iff s w.0).0 w.1),
+        λ w. (h.all.exact s).1 (w.0, (permitted_iff s w.0).1 w.1),
+      );
+    };
+    few = h.few;
   }
 
   -- each wanted set is covered by one of them

@@ -1,22 +1,27 @@
 -- What the entries of the tables say of the rules.
-use Rattle.std.proofs.Common.{◌≡◌, ◌≢◌, ℕ, zero, suc, ◌+◌, ◌<◌, ◌≤◌, List, [], ◌∷◌, ◌++◌, length, get_or, refl, sym, ◌∙◌, ap, subst, arith, flat_map, Option, Some, None, Bool, true, false, cond, ◌⊎◌, inl, inr, ◌↔◌, IsTrue, All, Contains, append_assoc, append-nil, is_some, take, length-take}
-use Rattle.std.specs.Prelude.{sum_by, not, nat_le, IfSome}
+use Rattle.std.proofs.Common.{◌≡◌, ◌≢◌, ℕ, zero, suc, ◌+◌, ◌<◌, ◌≤◌, List, [], ◌∷◌, ◌++◌, length, get_or, refl, sym, ◌∙◌, ap, subst, arith, flat_map, Option, Some, None, Bool, true, false, cond, ◌⊎◌, inl, inr, ◌↔◌, IsTrue, All, Contains, append_assoc, append-nil, is_some, take, length-take, map, eqb-true}
+use Rattle.std.specs.Prelude.{sum_by, not, nat_le, ◌==◌, ◌||◌, ◌&&◌}
 use Rattle.std.specs.List.{list_all, list_any, filter_map, cons_option}
-use Rattle.std.specs.BTreeMap.{BTreeMap}
-use Rattle.std.specs.Borrow.{Bor}
-use Rattle.std.proofs.lemmas.Bool.{leb-true, le-leb, and_cases}
+use Rattle.std.proofs.lemmas.List.{map-append, get_or_default, take_more}
+use Rattle.hack_features.proofs.MarkLemmas.{nil_from}
+use Rattle.std.proofs.lemmas.Bool.{leb-true, le-leb, and_cases, and_parts, and_from, or_cases}
+use Rattle.std.proofs.lemmas.Bool.Decides.{eqb_tells}
 use Rattle.std.proofs.lemmas.List.Sums.{sum_by-cons}
 use Rattle.std.proofs.lemmas.List.Elements.{All-contains, All-head, All-tail, All-nil, All-cons, All-append, Contains-get_or, Contains-push, Contains-push_cases, Contains-append_left}
-use Rattle.hack_features.proofs.Members.{Contains-nil, Contains-cons_cases, Contains-head, Contains-tail}
+use Rattle.hack_features.proofs.Members.{Contains-nil, Contains-cons_cases, Contains-head, Contains-tail, Contains-map, Contains-map_from}
 use Rattle.hack_features.proofs.Passes.{all_pass, each_passes, some_passes, any_passes}
 use Rattle.hack_features.proofs.Coverage.{named_in}
 use Rattle.hack_features.proofs.Single.{member_of}
 use Rattle.hack_features.specs.Names.{Name}
-use Rattle.hack_features.specs.FeatureMap.{FeatureMap, Enables, Reaches, EnablesOneOf}
-use Rattle.hack_features.specs.Deps.{NameSet, has_name, get_at, IsDepsOf, AreDepsOf, AreServers, IsDropped, ServeGroups, none, dropped, kept}
+use Rattle.hack_features.specs.FeatureMap.{FeatureMap, IsKey, Chain, Enables, Reaches, EnablesOneOf}
+use Rattle.hack_features.specs.Search.{edge_of}
+use Rattle.hack_features.specs.Deps.{IsDropped}
+use Rattle.hack_features.specs.Places.{name_at, AreAt, AreRoutes, ArePlaced}
+use Rattle.hack_features.specs.declared.reach.Edges.{Edges}
+use Rattle.hack_features.specs.declared.reach.Edges.TheVariants.{Enabling, Reaching}
 use Rattle.hack_features.specs.Sets.{IsSelection, Pairwise}
 use Rattle.hack_features.specs.Rules.{Choice, unlifted, names_at, names_in, SparesNames, Spares, IsRedundant, NotBothReach, IsExclusive, Serves, IsRequired}
-use Rattle.hack_features.specs.Tables.{bit, count_at, cell, is_lean, is_exclusive, is_required, spares_test, Counts, Matched, CountsHits, SaysServes}
+use Rattle.hack_features.specs.Tables.{bit, count_at, cell, leads, is_lean, is_exclusive, is_required, spares_test, serves_test, Counts, Matched, CountsHits, SaysServers, RowsServe}
 use Rattle.hack_features.specs.Tables as table
 
 -- who spares whom
@@ -30,7 +35,7 @@ filter_map_from-go f x xs y (Some v) e c again =
       | inr w ↦ let r = again w in (r.0, Contains-tail x xs r.0 r.1, r.2)
     ]
 
-filter_map_from : {A B : Type 0} (f : A → Option B) (xs : List A) (y : B) → Contains (filter_map f xs) y → (x : A) × Contains xs x × (f x ≡ Some y)
+pub filter_map_from : {A B : Type 0} (f : A → Option B) (xs : List A) (y : B) → Contains (filter_map f xs) y → (x : A) × Contains xs x × (f x ≡ Some y)
 filter_map_from f [] y c = absurd (Contains-nil y c)
 filter_map_from f (x ∷ xs) y c = filter_map_from-go f x xs y (f x) refl c (filter_map_from f xs y)
 
@@ -38,7 +43,7 @@ filter_map_has-go : {B : Type 0} (o : Option B) (ys : List B) (y : B) → Contai
 filter_map_has-go None ys y c = c
 filter_map_has-go (Some v) ys y c = Contains-tail v ys y c
 
-filter_map_has : {A B : Type 0} (f : A → Option B) (xs : List A) (x : A) (y : B) → Contains xs x → f x ≡ Some y → Contains (filter_map f xs) y
+pub filter_map_has : {A B : Type 0} (f : A → Option B) (xs : List A) (x : A) (y : B) → Contains xs x → f x ≡ Some y → Contains (filter_map f xs) y
 filter_map_has f [] x y c e = absurd (Contains-nil x c)
 filter_map_has f (z ∷ xs) x y c e =
     elim (Contains-cons_cases z xs x c) [
@@ -46,28 +51,132 @@ filter_map_has f (z ∷ xs) x y c e =
       | inr w ↦ filter_map_has-go (f z) (filter_map f xs) y (filter_map_has f xs x y w e)
     ]
 
-some_of : {A : Type 0} (o : Option A) → is_some o ≡ true → (a : A) × (o ≡ Some a)
-some_of None e = absurd (cc)
-some_of (Some a) e = (a, refl)
+-- names by their places
+module _ (edges : Edges) (m : FeatureMap) (names : List Name) (keys : List Bool) (marks : List (List Bool)) (h : AreRoutes edges m names keys marks) where
+  -- a name among those at the places has one of them
+  pub placed : (ps : List ℕ) (xs : List Name) → AreAt names ps xs → (x : Name) → Contains xs x → (p : ℕ) × Contains ps p × (p < length names) × (name_at names p ≡ x)
+  placed ps xs at x c =
+      let r = Contains-map_from (name_at names) ps x (subst (λ l. Contains l x) (sym at.same) c) in
+      (r.0, r.1, All-contains (λ p. p < length names) ps r.0 at.within r.1, r.2)
 
-pub spares_iff : (m : FeatureMap) (deps : BTreeMap (Bor Name) NameSet) → AreDepsOf m deps → (names others : List Name) → IsTrue (spares_test deps names others) ↔ SparesNames m names others
-spares_iff m deps h names others = (
-  λ t.
-      let found = some_passes (λ set. list_all (has_name set) others) (filter_map (get_at deps) names) t in
-      let at = filter_map_from (get_at deps) names found.0 found.1 in
-      let are : IsDepsOf m at.0 found.0 = subst (λ o. IfSome o (IsDepsOf m at.0)) at.2 (h.each at.0) in
-      record {
-        by = at.0;
-        named = at.1;
-        key = (h.keys at.0).0 (ap is_some at.2);
-        enabled = λ k d lt. (are (get_or others k d)).0 (each_passes (has_name found.0) others found.2 (get_or others k d) (Contains-get_or others k d lt));
-      },
-  λ s.
-      let set = some_of (get_at deps s.by) ((h.keys s.by).1 s.key) in
-      let are : IsDepsOf m s.by set.0 = subst (λ o. IfSome o (IsDepsOf m s.by)) set.1 (h.each s.by) in
-      any_passes (λ set. list_all (has_name set) others) (filter_map (get_at deps) names) set.0 (filter_map_has (get_at deps) names s.by set.0 s.named set.1)
-      (all_pass (has_name set.0) others (λ y c. (are y).1 (All-contains (λ y. (y ≢ s.by) × Enables m s.by y) others y s.enabled c))),
-)
+  pub shown_at : (ps : List ℕ) (xs : List Name) → AreAt names ps xs → (p : ℕ) → Contains ps p → Contains xs (name_at names p)
+  shown_at ps xs at p c = subst (λ l. Contains l (name_at names p)) at.same (Contains-map (name_at names) ps p c)
+
+  pub low_at : (ps : List ℕ) (xs : List Name) → AreAt names ps xs → (p : ℕ) → Contains ps p → p < length names
+  low_at ps xs at p c = All-contains (λ p. p < length names) ps p at.within c
+
+  -- a place leads to one of the group where a chain leads from its name to one of the group's
+  pub leads_one : (group : List ℕ) (gs : List Name) → AreAt names group gs → (x : ℕ) → x < length names
+      → IsTrue (list_any (leads marks x) group) ↔ ((y : Name) × Contains gs y × Chain (edge_of edges m) (name_at names x) y)
+  leads_one group gs at x lt = (
+    λ t. let j = some_passes (leads marks x) group t in
+        (name_at names j.0, shown_at group gs at j.0 j.1, (h.led x j.0 lt (low_at group gs at j.0 j.1)).0 j.2),
+    λ w. let j = placed group gs at w.0 w.1 in
+        any_passes (leads marks x) group j.0 j.1 ((h.led x j.0 lt j.2).1 (subst (Chain (edge_of edges m) (name_at names x)) (sym j.3) w.2)),
+  )
+
+  key_of : (x : ℕ) → x < length names → bit keys x ≡ true → IsKey m (name_at names x)
+  key_of x lt e = sym (h.keyed x lt) ∙ e
+
+  of_key : (x : ℕ) → x < length names → IsKey m (name_at names x) → bit keys x ≡ true
+  of_key x lt k = h.keyed x lt ∙ k
+
+  differ_at : (x y : ℕ) → x < length names → y < length names → not (x == y) ≡ true → name_at names y ≢ name_at names x
+  differ_at x y lx ly e s =
+      let same : x ≡ y = h.apart x y lx ly (sym s) in
+      elim (eqb_tells x y) [ inl w ↦ (let z : false ≡ true = sym (ap not w.0) ∙ e in cc) | inr w ↦ w.1 same ]
+
+  marked_or : (x y : ℕ) → not (x == y) ≡ true → IsTrue (leads marks x y) → cell marks x y ≡ true
+  marked_or x y e t = elim (or_cases (x == y) (cell marks x y) t) [ inl w ↦ absurd (let z : false ≡ true = sym (ap not w) ∙ e in cc) | inr w ↦ w ]
+
+  not_same : (x y : ℕ) → name_at names y ≢ name_at names x → not (x == y) ≡ true
+  not_same x y n = elim (eqb_tells x y) [ inl w ↦ absurd (n (ap (name_at names) (sym w.1))) | inr w ↦ ap not w.0 ]
+
+or_right : (a b : Bool) → b ≡ true → (a || b) ≡ true
+or_right true b e = refl
+or_right false b e = e
+
+module _ (m : FeatureMap) (names : List Name) (keys : List Bool) (marks : List (List Bool)) (h : AreRoutes Enabling m names keys marks) where
+  spares_one : (x : ℕ) → x < length names → (qs : List ℕ) (ys : List Name) → AreAt names qs ys → IsTrue (list_all (λ y. not (x == y) && cell marks x y) qs) ↔ All (λ y. (y ≢ name_at names x) × Enables m (name_at names x) y) ys
+  spares_one x lt qs ys at = (
+    λ t k d l.
+        let j = placed Enabling m names keys marks h qs ys at (get_or ys k d) (Contains-get_or ys k d l) in
+        let w = and_parts (not (x == j.0)) (cell marks x j.0) (each_passes (λ y. not (x == y) && cell marks x y) qs t j.0 j.1) in (
+          subst (λ y. y ≢ name_at names x) j.3 (differ_at Enabling m names keys marks h x j.0 lt j.2 w.0),
+          subst (Enables m (name_at names x)) j.3 ((h.led x j.0 lt j.2).0 (or_right (x == j.0) (cell marks x j.0) w.1)),
+        ),
+    λ a. all_pass (λ y. not (x == y) && cell marks x y) qs (λ j c.
+        let low = low_at Enabling m names keys marks h qs ys at j c in
+        let w = All-contains (λ y. (y ≢ name_at names x) × Enables m (name_at names x) y) ys (name_at names j) a (shown_at Enabling m names keys marks h qs ys at j c) in
+        let n = not_same Enabling m names keys marks h x j w.0 in
+        and_from (not (x == j)) (cell marks x j) n (marked_or Enabling m names keys marks h x j n ((h.led x j lt low).1 w.1))),
+  )
+
+  pub spares_iff : (ps qs : List ℕ) (xs ys : List Name) → AreAt names ps xs → AreAt names qs ys → IsTrue (spares_test keys marks ps qs) ↔ SparesNames m xs ys
+  spares_iff ps qs xs ys ap' aq = (
+    λ t.
+        let x = some_passes (λ x. bit keys x && list_all (λ y. not (x == y) && cell marks x y) qs) ps t in
+        let lt = low_at Enabling m names keys marks h ps xs ap' x.0 x.1 in
+        let w = and_parts (bit keys x.0) (list_all (λ y. not (x.0 == y) && cell marks x.0 y) qs) x.2 in
+        record {
+          by = name_at names x.0;
+          named = shown_at Enabling m names keys marks h ps xs ap' x.0 x.1;
+          key = key_of Enabling m names keys marks h x.0 lt w.0;
+          enabled = (spares_one x.0 lt qs ys aq).0 w.1;
+        },
+    λ s.
+        let x = placed Enabling m names keys marks h ps xs ap' s.by s.named in
+        any_passes (λ x. bit keys x && list_all (λ y. not (x == y) && cell marks x y) qs) ps x.0 x.1
+        (and_from (bit keys x.0) (list_all (λ y. not (x.0 == y) && cell marks x.0 y) qs)
+        (of_key Enabling m names keys marks h x.0 x.2 (subst (IsKey m) (sym x.3) s.key))
+        ((spares_one x.0 x.2 qs ys aq).1 (subst (λ b. All (λ y. (y ≢ b) × Enables m b y) ys) (sym x.3) s.enabled))),
+  )
+
+  pub serves_iff : (group : List ℕ) (gs : List Name) → AreAt names group gs → (x : ℕ) → x < length names → IsTrue (serves_test keys marks group x) ↔ EnablesOneOf m gs (name_at names x)
+  serves_iff group gs at x lt = (
+    λ t.
+        let w = and_parts (bit keys x) (list_any (leads marks x) group) t in
+        let y = (leads_one Enabling m names keys marks h group gs at x lt).0 w.1 in
+        record { key = key_of Enabling m names keys marks h x lt w.0; name = y.0; member = y.1; chain = y.2 },
+    λ e. and_from (bit keys x) (list_any (leads marks x) group) (of_key Enabling m names keys marks h x lt e.key) ((leads_one Enabling m names keys marks h group gs at x lt).1 (e.name, e.member, e.chain)),
+  )
+
+  -- the names at places of which one serves the group
+  pub some_serve : (group : List ℕ) (gs : List Name) → AreAt names group gs → (ps : List ℕ) (xs : List Name) → AreAt names ps xs
+      → IsTrue (list_any (serves_test keys marks group) ps) ↔ ((x : Name) × Contains xs x × EnablesOneOf m gs x)
+  some_serve group gs at ps xs ap' = (
+    λ t. let x = some_passes (serves_test keys marks group) ps t in
+        (name_at names x.0, shown_at Enabling m names keys marks h ps xs ap' x.0 x.1, (serves_iff group gs at x.0 (low_at Enabling m names keys marks h ps xs ap' x.0 x.1)).0 x.2),
+    λ w. let x = placed Enabling m names keys marks h ps xs ap' w.0 w.1 in
+        any_passes (serves_test keys marks group) ps x.0 x.1 ((serves_iff group gs at x.0 x.2).1 (subst (EnablesOneOf m gs) (sym x.3) w.2)),
+  )
+
+  -- where no name in the table serves the group, no key does
+  pub is_dropped_by : (group : List ℕ) (gs : List Name) → AreAt names group gs → ((x : ℕ) → x < length names → serves_test keys marks group x ≡ false) → IsDropped m gs
+  is_dropped_by group gs at none x e =
+      let c = h.known x e.key in
+      let is : name_at names c.0 ≡ x = get_or_default names c.0 [] x c.1 ∙ c.2 in
+      let t = (serves_iff group gs at c.0 c.1).1 (subst (EnablesOneOf m gs) (sym is) e) in
+      let z : true ≡ false = sym t ∙ none c.0 c.1 in cc
+
+-- ends spare none that has names
+ends_mark-by : (keys : List Bool) (marks : List (List Bool)) (names others : List ℕ) (b : Bool) → spares_test keys marks names others ≡ b → list_all (λ x. length (get_or marks x []) == 0) names ≡ true → others ≢ [] → b ≡ false
+ends_mark-by keys marks names others false e ends some = refl
+ends_mark-by keys marks names [] true e ends some = absurd (some refl)
+ends_mark-by keys marks names (y ∷ others) true e ends some =
+    let x = some_passes (λ x. bit keys x && list_all (λ y. not (x == y) && cell marks x y) (y ∷ others)) names e in
+    let w = and_parts (bit keys x.0) (list_all (λ y. not (x.0 == y) && cell marks x.0 y) (y ∷ others)) x.2 in
+    let v = and_parts (not (x.0 == y)) (cell marks x.0 y) (each_passes (λ y. not (x.0 == y) && cell marks x.0 y) (y ∷ others) w.1 y (Contains-head y others)) in
+    let none : get_or marks x.0 [] ≡ [] = nil_from (get_or marks x.0 []) (eqb-true (length (get_or marks x.0 [])) 0 (each_passes (λ x. length (get_or marks x []) == 0) names ends x.0 x.1)) in
+    sym v.1 ∙ ap (λ row. bit row y) none
+
+pub spares_nothing : (keys : List Bool) (marks : List (List Bool)) (names others : List ℕ) → list_all (λ x. length (get_or marks x []) == 0) names ≡ true → others ≢ [] → spares_test keys marks names others ≡ false
+spares_nothing keys marks names others ends some = ends_mark-by keys marks names others (spares_test keys marks names others) refl ends some
+
+pub has_names : (all : List (List ℕ)) (q : ℕ) → q < length all → list_any (λ names. length names == 0) all ≡ false → get_or all q [] ≢ []
+has_names all q lt f e =
+    let t = any_passes (λ (names : List ℕ). length names == 0) all (get_or all q []) (Contains-get_or all q [] lt) (ap (λ (names : List ℕ). length names == 0) e) in
+    let z : true ≡ false = sym t ∙ f in cc
 
 -- counts
 
@@ -177,50 +286,99 @@ exclusive_iff c rows h s sel =
           ]),
     )
 
--- at-least-one groups
+-- what is counted of places is counted of their names
+pub counts-map : {X Y : Type 0} (f : X → Y) (P : X → Type 0) (Q : Y → Type 0) {xs : List X} {n : ℕ} → ((x : X) → Contains xs x → P x ↔ Q (f x)) → Counts P xs n → Counts Q (map f xs) n
+counts-map f P Q same table.none = table.none
+counts-map f P Q same (table.one_more {xs} {x} {n} h p) =
+    subst (λ l. Counts Q l (n + 1)) (sym (map-append f xs (x ∷ []))) (table.one_more (counts-map f P Q (λ y c. same y (Contains-append_left xs (x ∷ []) y c)) h) ((same x (Contains-push xs x)).0 p))
+counts-map f P Q same (table.no_more {xs} {x} {n} h p) =
+    subst (λ l. Counts Q l n) (sym (map-append f xs (x ∷ []))) (table.no_more (counts-map f P Q (λ y c. same y (Contains-append_left xs (x ∷ []) y c)) h) (λ q. p ((same x (Contains-push xs x)).1 q)))
 
-serve_left : {m : FeatureMap} {groups : List (List Name)} {sets : List NameSet} → ServeGroups m groups sets → (group : List Name) → Contains groups group → IsDropped m group ⊎ ((set : NameSet) × Contains sets set × AreServers m group set)
-serve_left none group c = absurd (Contains-nil group c)
-serve_left {m} (dropped {group} {groups} {sets} h d) g c =
-    elim (Contains-push_cases groups group g c) [ inl w ↦ serve_left h g w | inr e ↦ inl (subst (IsDropped m) e d) ]
-serve_left {m} (kept {group} {groups} {sets} {server} set h can are) g c =
+pub reaches_iff : (m : FeatureMap) (names : List Name) (keys : List Bool) (marks : List (List Bool)) → AreRoutes Reaching m names keys marks → (group : List ℕ) (gs : List Name) → AreAt names group gs
+    → (x : ℕ) → x < length names → IsTrue (list_any (leads marks x) group) ↔ Reaches m gs (name_at names x)
+reaches_iff m names keys marks h group gs at x lt =
+    let one = leads_one Reaching m names keys marks h group gs at x lt in (
+      λ t. let y = one.0 t in record { name = y.0; member = y.1; chain = y.2 },
+      λ r. one.1 (r.name, r.member, r.chain),
+    )
+
+-- a row of counts for a group
+pub hits_of : (m : FeatureMap) (candidates groups : List (List Name)) (names : List Name) (keys : List Bool) (marks : List (List Bool)) (all each : List (List ℕ)) → ArePlaced Reaching m candidates groups names keys marks all each
+    → (place : ℕ) → place < length groups → (group : List ℕ) → group ≡ get_or each place [] → (row : List ℕ)
+    → ((q : ℕ) → q < length all → Counts (λ x. IsTrue (list_any (leads marks x) group)) (get_or all q []) (count_at row q)) → CountsHits m candidates (get_or groups place []) row
+hits_of m candidates groups names keys marks all each p place lt group is row h = λ q lq.
+    let gs = get_or groups place [] in
+    let at = p.candidates_at.each q lq in
+    let there : AreAt names group gs = subst (λ g. AreAt names g gs) (sym is) (p.groups_at.each place lt) in
+    subst (λ l. Counts (Reaches m gs) l (count_at row q)) at.same
+    (counts-map (name_at names) (λ x. IsTrue (list_any (leads marks x) group)) (Reaches m gs)
+    (λ x c. reaches_iff m names keys marks p.routes group gs there x (All-contains (λ p. p < length names) (get_or all q []) x at.within c))
+    (h q (omega (arith, p.candidates_at.count))))
+
+-- ---- at-least-one groups
+
+module _ (m : FeatureMap) (candidates groups : List (List Name)) (names : List Name) (keys : List Bool) (marks : List (List Bool)) (all each : List (List ℕ)) (p : ArePlaced Enabling m candidates groups names keys marks all each)
+    (place : ℕ) (lt : place < length groups) (rows : List (List Bool)) where
+  there : (group : List ℕ) → get_or each place [] ≡ group → AreAt names group (get_or groups place [])
+  there group is = subst (λ g. AreAt names g (get_or groups place [])) is (p.groups_at.each place lt)
+
+  -- the group is served, and a row says by which candidates
+  pub rows-kept : (row : List Bool) → RowsServe m candidates (take place groups) rows → (group : List ℕ) → get_or each place [] ≡ group → (x : ℕ) × (x < length names) × IsTrue (serves_test keys marks group x)
+      → ((q : ℕ) → q < length all → bit row q ≡ list_any (serves_test keys marks group) (get_or all q [])) → RowsServe m candidates (take (place + 1) groups) (rows ++ row ∷ [])
+  rows-kept row h group is x says =
+      let at = there group is in
+      subst (λ gs. RowsServe m candidates gs (rows ++ row ∷ [])) (sym (take_more groups place [] lt))
+      (table.kept_row row h ((serves_iff m names keys marks p.routes group (get_or groups place []) at x.0 x.1).0 x.2)
+      (λ q lq.
+      let one = some_serve m names keys marks p.routes group (get_or groups place []) at (get_or all q []) (get_or candidates q []) (p.candidates_at.each q lq) in
+      let same = says q (omega (arith, p.candidates_at.count)) in
+      (λ t. one.0 (sym same ∙ t), λ w. same ∙ one.1 w)))
+
+  -- no key serves the group
+  pub rows-dropped : RowsServe m candidates (take place groups) rows → (group : List ℕ) → get_or each place [] ≡ group → ((x : ℕ) → x < length names → serves_test keys marks group x ≡ false) → RowsServe m candidates (take (place + 1) groups) rows
+  rows-dropped h group is none =
+      subst (λ gs. RowsServe m candidates gs rows) (sym (take_more groups place [] lt))
+      (table.dropped_row h (is_dropped_by m names keys marks p.routes group (get_or groups place []) (there group is) none))
+
+rows_left : {m : FeatureMap} {candidates groups : List (List Name)} {rows : List (List Bool)} → RowsServe m candidates groups rows → (group : List Name) → Contains groups group
+    → IsDropped m group ⊎ ((row : List Bool) × Contains rows row × SaysServers m candidates group row)
+rows_left table.no_rows group c = absurd (Contains-nil group c)
+rows_left {m} (table.dropped_row {group} {groups} {rows} h d) g c =
+    elim (Contains-push_cases groups group g c) [ inl w ↦ rows_left h g w | inr e ↦ inl (subst (IsDropped m) e d) ]
+rows_left {m} {candidates} (table.kept_row {group} {groups} {rows} {server} row h can says) g c =
     elim (Contains-push_cases groups group g c) [
-      | inl w ↦ elim (serve_left h g w) [ inl d ↦ inl d | inr v ↦ inr (v.0, Contains-append_left sets (set ∷ []) v.0 v.1, v.2) ]
-      | inr e ↦ inr (set, Contains-push sets set, subst (λ u. AreServers m u set) e are)
+      | inl w ↦ elim (rows_left h g w) [ inl d ↦ inl d | inr v ↦ inr (v.0, Contains-append_left rows (row ∷ []) v.0 v.1, v.2) ]
+      | inr e ↦ inr (row, Contains-push rows row, subst (λ u. SaysServers m candidates u row) e says)
     ]
 
-serve_right : {m : FeatureMap} {groups : List (List Name)} {sets : List NameSet} → ServeGroups m groups sets → (set : NameSet) → Contains sets set
-    → (group : List Name) × Contains groups group × AreServers m group set × ((server : Name) × EnablesOneOf m group server)
-serve_right none set c = absurd (Contains-nil set c)
-serve_right (dropped {group} {groups} {sets} h d) set c = let r = serve_right h set c in (r.0, Contains-append_left groups (group ∷ []) r.0 r.1, r.2, r.3)
-serve_right {m} (kept {group} {groups} {sets} {server} set h can are) other c =
-    elim (Contains-push_cases sets set other c) [
-      | inl w ↦ let r = serve_right h other w in (r.0, Contains-append_left groups (group ∷ []) r.0 r.1, r.2, r.3)
-      | inr e ↦ (group, Contains-push groups group, subst (AreServers m group) e are, (server, can))
+rows_right : {m : FeatureMap} {candidates groups : List (List Name)} {rows : List (List Bool)} → RowsServe m candidates groups rows → (row : List Bool) → Contains rows row
+    → (group : List Name) × Contains groups group × SaysServers m candidates group row × ((server : Name) × EnablesOneOf m group server)
+rows_right table.no_rows row c = absurd (Contains-nil row c)
+rows_right (table.dropped_row {group} {groups} {rows} h d) row c = let r = rows_right h row c in (r.0, Contains-append_left groups (group ∷ []) r.0 r.1, r.2, r.3)
+rows_right {m} {candidates} (table.kept_row {group} {groups} {rows} {server} row h can says) other c =
+    elim (Contains-push_cases rows row other c) [
+      | inl w ↦ let r = rows_right h other w in (r.0, Contains-append_left groups (group ∷ []) r.0 r.1, r.2, r.3)
+      | inr e ↦ (group, Contains-push groups group, subst (SaysServers m candidates group) e says, (server, can))
     ]
 
-pub required_iff : (c : Choice) (sets : List NameSet) (rows : List (List Bool)) → ServeGroups c.map c.at_least_one_of sets → Matched (SaysServes c.candidates) sets rows
-    → (s : List ℕ) → IsSelection (length c.candidates) s → IsTrue (is_required rows s) ↔ IsRequired c s
-required_iff c sets rows serve says s sel = (
+pub required_iff : (c : Choice) (rows : List (List Bool)) → RowsServe c.map c.candidates c.at_least_one_of rows → (s : List ℕ) → IsSelection (length c.candidates) s → IsTrue (is_required rows s) ↔ IsRequired c s
+required_iff c rows serve s sel = (
   λ t k d lt key can.
       let group = get_or c.at_least_one_of k d in
-      elim (serve_left serve group (Contains-get_or c.at_least_one_of k d lt)) [
+      elim (rows_left serve group (Contains-get_or c.at_least_one_of k d lt)) [
         | inl gone ↦ absurd (gone key can)
-        | inr set ↦
-            let row = matched_left says set.0 set.1 in
+        | inr row ↦
             let member = some_passes (bit row.0) s (each_passes (λ row. list_any (bit row) s) rows t row.0 row.1) in
             let low = All-contains (λ p. p < length c.candidates) s member.0 sel.below member.1 in
-            let name = some_passes (has_name set.0) (names_at c member.0) (sym (row.2 member.0 low) ∙ member.2) in
-            record { name = name.0; named = named_in c s member.0 name.0 member.1 name.1; enables = (set.2 name.0).0 name.2 }
+            let name = (row.2 member.0 low).0 member.2 in
+            record { name = name.0; named = named_in c s member.0 name.0 member.1 name.1; enables = name.2 }
       ],
   λ r. all_pass (λ row. list_any (bit row) s) rows (λ row in'.
-      let set = matched_right says row in' in
-      let group = serve_right serve set.0 set.1 in
+      let group = rows_right serve row in' in
       let serves : Serves c group.0 s = All-contains (λ group. (key : Name) → EnablesOneOf c.map group key → Serves c group s) c.at_least_one_of group.0 r group.1 group.3.0 group.3.1 in
       let member = member_of c s serves.name serves.named in
       let low = All-contains (λ p. p < length c.candidates) s member.0 sel.below member.1 in
-      any_passes (bit row) s member.0 member.1
-      (set.2 member.0 low ∙ any_passes (has_name set.0) (names_at c member.0) serves.name member.2 ((group.2 serves.name).1 serves.enables))),
+      any_passes (bit row) s member.0 member.1 ((group.2 member.0 low).1 (serves.name, member.2, serves.enables))),
 )
 
 -- lifted groups

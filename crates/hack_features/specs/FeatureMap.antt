@@ -26,10 +26,10 @@ IsKey m x = IsTrue (is_some (lookup (bytes_eq x) m))
 abbrev pub IsDependency : Name → Type 0
 IsDependency v = IsTrue (starts_with nat_eq v (codes "dep:"))
 
--- a chain of edges from one name to another, also the empty one
-pub data Chain (edge : Name → Name → Type 0) : Name → Name → Type 0 where
-  here : {x : Name} → Chain edge x x
-  step : {x y z : Name} → edge x y → Chain edge y z → Chain edge x z
+-- a chain of edges from one to another, also the empty one
+pub data Chain {X : Type 0} (edge : X → X → Type 0) : X → X → Type 0 where
+  here : {x : X} → Chain edge x x
+  step : {x y z : X} → edge x y → Chain edge y z → Chain edge x z
 
 -- v is a value of x, taken whole, and no dependency
 pub record HasEdge (m : FeatureMap) (x v : Name) : Type 0 where

@@ -8,10 +8,10 @@ pub record IsWhole (may complete : List ℕ → Bool) (s : List ℕ) : Type 0 wh
   pub allowed : IsTrue (may s)
   pub completed : IsTrue (complete s)
 
--- at most n questions for each set that passes the first test, the empty one included
-pub record IsCheap (may : List ℕ → Bool) (n asked : ℕ) : Type 0 where
+-- at most n questions for each set that is permitted, the empty one included
+pub record IsCheap (P : List ℕ → Type 0) (n asked : ℕ) : Type 0 where
   pub sets : List (List ℕ)
-  pub all : IsListing n (λ s. IsTrue (may s)) sets
+  pub all : IsListing n P sets
   pub few : asked ≤ n * length sets
 
 -- the sets that may have the next position behind them, with it

@@ -1,29 +1,10 @@
 -- What a `Rules` shows: the choice that it was made for, and what its tables answer.
-use Rattle.std.specs.Prelude.{ℕ, List, Bool, Option, String, Vec, ◌&&◌, length}
-use Rattle.std.specs.BTreeMap.{BTreeMap}
-use Rattle.std.specs.Borrow.{Bor}
-use Rattle.hack_features.specs.declared.feature.Feature.{Feature}
+use Rattle.std.specs.Prelude.{ℕ, List, Bool, ◌&&◌, length}
 use Rattle.hack_features.specs.declared.rules.Rules.{Rules}
-use Rattle.hack_features.specs.declared.tables.Given.{Given}
-use Rattle.hack_features.specs.FeatureMap.{feature_map}
-use Rattle.hack_features.specs.Feature.{groups_of, candidates_of}
 use Rattle.hack_features.specs.Sets.{rows_of}
-use Rattle.hack_features.specs.Rules.{Choice, unlifted}
+use Rattle.hack_features.specs.Rules.{Choice}
+pub use Rattle.hack_features.specs.Given.{choice, choice_in}
 use Rattle.hack_features.specs.Tables.{keeps_depth, is_lean, is_exclusive, is_required, AreTables}
-
--- the choice that the arguments of `Rules::new` make
-abbrev pub choice : {Y Z : Type 0} → List (Bor Feature) → Option ℕ → List Feature → List Feature → BTreeMap (String Y) (Vec (String Y) Z) → List Bool → Choice
-choice features depth at_least_one_of exclusive m lifted = record {
-  map = feature_map m;
-  candidates = candidates_of features;
-  depth = depth;
-  at_least_one_of = groups_of at_least_one_of;
-  exclusive = unlifted (groups_of exclusive) lifted;
-}
-
--- the choice that is given
-abbrev pub choice_in : Given → Choice
-choice_in g = choice g.features.now g.depth g.at_least_one_of.now g.exclusive.now g.map.now g.lifted.now
 
 -- the choice that the rules were made for
 abbrev pub choice_of : Rules → Choice

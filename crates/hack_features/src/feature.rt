@@ -4,9 +4,13 @@ ghost use Rattle.std.specs.Prelude.{◌≡◌, ◌↔◌, ◌∷◌, [], ◌++�
 ghost use Rattle.std.specs.List.{join_with_byte};
 ghost use Rattle.hack_features.specs.Names.{names_of};
 ghost use Rattle.hack_features.specs.FeatureMap.{feature_map, Reaches};
+ghost use Rattle.std.specs.Cmp.{IsTotalOrder};
+ghost use Rattle.std.specs.Ordering.{is_eq};
+ghost use Rattle.hack_features.specs.FeatureOrder.{feature_order, AreSame};
 
 use crate::reach::{Edges, names_from};
 use std::alloc::{AllocError, Global};
+use std::cmp::Ordering;
 use std::collections::BTreeMap;
 use std::fmt::Write;
 use std::{fmt, slice};
@@ -118,6 +122,21 @@ impl Feature {
     {
         names.iter().any(|name| self.matches(*name))
     }
+}
+
+/// Which of two features stands first in their order: by variant, `Normal` before `Group` before `Path`, and then by
+/// name, by the list of a group, and by the place of a slash. Texts are ordered by their bytes.
+pub fn compare_features(first: &Feature, second: &Feature) -> Ordering
+    ensures order { result ≡ feature_order first.now second.now }
+
+    // Total and strict: two features stand one way or the other or are the same, and what is before a feature is
+    // before all that is behind it.
+    ensures total { IsTotalOrder feature_order }
+
+    // Neither stands first just where they have the same variant and fields.
+    ensures same { IsTrue (is_eq result) ↔ AreSame first.now second.now }
+{
+    first.cmp(second)
 }
 
 impl fmt::Debug for Feature {

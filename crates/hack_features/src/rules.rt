@@ -1,34 +1,45 @@
 //! The rules by which sets of features are listed, which answer questions on them, and cover one by another.
 
-ghost use Rattle.std.specs.Prelude.{◌≡◌, ◌≤◌, ◌-◌, ◌^◌, ◌<◌, ℕ, List, [], length, slice_index, vec_len, IsTrue, IfOk, MatchOption, Contains, if◌then◌else◌};
+ghost use Rattle.std.specs.Prelude.{◌≡◌, ◌≤◌, ◌+◌, ◌-◌, ◌^◌, ◌<◌, ℕ, List, [], length, slice_index, vec_len, IsTrue, IfOk, MatchOption, if◌then◌else◌};
 ghost use Rattle.std.specs.List.{list_any, slice_index_or, remove};
-ghost use Rattle.hack_features.specs.Names.{names_of};
-ghost use Rattle.hack_features.specs.Feature.{candidates_of};
 ghost use Rattle.hack_features.specs.Sets.{IsSelection, rows_of};
-ghost use Rattle.hack_features.specs.Deps.{AreDepsOf};
-ghost use Rattle.hack_features.specs.Rules.{Choice, IsPermitted, IsRequired, IsFirstCover, IsWanted};
-ghost use Rattle.hack_features.specs.Tables.{keeps_depth as depth_test, wanted_test};
-ghost use Rattle.hack_features.specs.Cover.{enables_test, set_enables_test, covers_test};
+ghost use Rattle.hack_features.specs.Rules.{Choice, IsListed, IsPermitted, IsRequired, IsFirstCover, IsWanted};
+ghost use Rattle.hack_features.specs.Tables.{keeps_depth as depth_test, wanted_test, leads, AreTables};
+ghost use Rattle.hack_features.specs.Given.{choice, choice_in};
+ghost use Rattle.hack_features.specs.PlacedView.{IsPlaced};
+ghost use Rattle.hack_features.specs.Cover.{set_enables_test, covers_test};
+ghost use Rattle.hack_features.specs.declared.reach.Edges.TheVariants.{Enabling};
 
-use crate::deps::feature_deps;
 use crate::feature::Feature;
-use crate::questions::Questions;
+use crate::forest::Pruned;
+use crate::marks::row_at;
+use crate::placed::Placed;
+use crate::questions::{Questions, pruned};
+use crate::reach::Edges;
+use crate::routes::Routes;
 use crate::tables::{Given, Tables};
 use std::alloc::{AllocError, Global};
-use std::collections::{BTreeMap, BTreeSet};
+use std::collections::BTreeMap;
 
 /// The rules of one package, which answer questions on sets of its candidates from tables.
 #[derive(Drop)]
 pub struct Rules<'a> {
     given: Given<'a>,
+    /// What the names of candidates and at-least-one groups enable.
+    enabled: Placed<'a>,
     tables: Tables,
     asked: u128,
     ghost capped: { asked ≤ 2 ^ 128 - 1 },
+    ghost placed_told: { ∥ IsPlaced Enabling (choice_in given).map (choice_in given).candidates (choice_in given).at_least_one_of enabled ∥₁ },
+    ghost tables_told: { ∥ AreTables (choice_in given) (rows_of tables.spares.items) (rows_of tables.hits.items) (rows_of tables.serves.items) ∥₁ },
 }
 
 impl<'a> Rules<'a> {
-    ghost use Rattle.std.specs.Prelude.{◌↔◌};
-    ghost use Rattle.hack_features.specs.View.{choice, choice_of, size_of, asked_of, may_of, whole_of, AreTablesOf};
+    ghost use Rattle.std.specs.Prelude.{◌↔◌, ◌++◌, ◌∷◌};
+    ghost use Rattle.hack_features.specs.Forest.{sets_in};
+    ghost use Rattle.hack_features.specs.Sets.{IsListing};
+    ghost use Rattle.hack_features.specs.Questions.{IsCheap};
+    ghost use Rattle.hack_features.specs.View.{choice_of, size_of, asked_of, may_of, whole_of};
 
     /// The rules for the candidates `features` of a package with the feature map `map`: at most `depth` of them in
     /// a set, for each group of `at_least_one_of` one that enables a name of it, and for each group of
@@ -67,14 +78,49 @@ impl<'a> Rules<'a> {
     pub(crate) fn made(alloc: Global, given: Given<'a>) -> Result<Rules<'a>, AllocError>
         ensures given { IfOk result (λ rules. rules.given ≡ given.entry) }
         ensures fresh { IfOk result (λ rules. asked_of rules ≡ 0) }
-        ensures tables { IfOk result (λ rules. AreTablesOf (choice_of rules) rules) }
     {
-        let deps = feature_deps(alloc, given.map)?;
+        let enabled = Placed::new(
+            alloc,
+            given.map,
+            Edges::Enabling,
+            given.features,
+            given.at_least_one_of,
+        )?;
+        let tables = Tables::new(alloc, given, &enabled)?;
         Ok(Rules {
             given,
-            tables: Tables::new(alloc, given, &deps)?,
+            enabled,
+            tables,
             asked: 0,
         })
+    }
+
+    /// The sets that are listed, in the order of sets, and by how much the count of questions rose.
+    pub fn listed(&mut self, alloc: Global) -> Result<Pruned, AllocError>
+        ensures sets { IfOk result (λ pruned. IsListing (size_of self.old) (IsListed (choice_of self.old)) (sets_in pruned.sets)) }
+        ensures asked { IfOk result (λ pruned. asked_of self.new ≡ asked_of self.old + pruned.asked) }
+
+        // At most one question for each permitted set and each candidate.
+        ensures few { IfOk result (λ pruned. IsCheap (IsPermitted (choice_of self.old)) (size_of self.old) pruned.asked) }
+        ensures risen { asked_of self.old ≤ asked_of self.new }
+        ensures same_choice { choice_of self.new ≡ choice_of self.old }
+        ensures same_size { size_of self.new ≡ size_of self.old }
+    {
+        let n = self.given.features.len();
+        pruned(alloc, self, n)
+    }
+
+    /// Whether the set of `positions` and `next` keeps the depth, and is exclusive and not redundant.
+    fn permits(&self, positions: &[usize], next: usize) -> bool
+        ensures { result ≡ may_of self.now (positions.now ++ next ∷ []) }
+    {
+        if !keeps_depth(self.given.depth, positions.len() + 1) {
+            return false;
+        }
+        if !self.tables.is_exclusive(positions, next) {
+            return false;
+        }
+        self.tables.is_lean(positions, next)
     }
 
     /// The first set, in the order of sets, that is listed, lies inside `positions` and enables the same names.
@@ -87,12 +133,10 @@ impl<'a> Rules<'a> {
         requires { IsSelection (size_of self.now) positions.now }
         ensures { IfOk result (λ cover. MatchOption cover (¬ IsWanted (choice_of self.now) positions.now) (λ t. IsWanted (choice_of self.now) positions.now × IsFirstCover (choice_of self.now) positions.now t.items)) }
     {
-        let deps = feature_deps(alloc, self.given.map)?;
-        let tables = Tables::new(alloc, self.given, &deps)?;
-        if !is_wanted(self.given.depth, &tables, positions) {
+        if !is_wanted(self.given.depth, &self.tables, positions) {
             return Ok(None);
         }
-        Ok(Some(first_cover(alloc, self.given.features, positions, &deps)?))
+        Ok(Some(first_cover(alloc, &self.enabled, positions)?))
     }
 }
 
@@ -122,52 +166,25 @@ fn is_wanted(depth: Option<usize>, tables: &Tables, positions: &[usize]) -> bool
     tables.is_required(positions)
 }
 
-/// Whether the key enables the name.
-fn enables(deps: &BTreeMap<&str, BTreeSet<&str>>, key: &str, name: &str) -> bool
-    ensures { result ≡ enables_test deps.now key.now name.now }
+/// Whether one of the names leads to `y`.
+fn some_leads(routes: &Routes, names: &[usize], y: usize) -> bool
+    ensures { result ≡ list_any (λ x. leads (rows_of routes.now.marks.items) x y) names.now }
 {
-    if key == name {
-        return true;
-    }
-    match deps.get(key) {
-        Some(enabled) => enabled.contains(name),
-        None => false,
-    }
-}
-
-/// The names of the candidate at the position, none past the last.
-fn names_at<'a>(features: &[&'a Feature], p: usize) -> &'a [String]
-    ensures { names_of result.now ≡ slice_index_or (candidates_of features.now) p [] }
-{
-    match features.get(p) {
-        Some(feature) => feature.as_group(),
-        None => &[],
-    }
-}
-
-/// Whether one of the keys enables the name.
-fn some_enables(deps: &BTreeMap<&str, BTreeSet<&str>>, keys: &[String], name: &str) -> bool
-    ensures { result ≡ list_any (λ x. enables_test deps.now x name.now) (names_of keys.now) }
-{
-    for key in keys {
-        if enables(deps, key.as_str(), name) {
+    for x in names {
+        if routes.leads(*x, y) {
             return true;
         }
     }
     false
 }
 
-/// Whether a name of a member of the set enables the name.
-fn set_enables(
-    features: &[&Feature],
-    positions: &[usize],
-    deps: &BTreeMap<&str, BTreeSet<&str>>,
-    name: &str,
-) -> bool
-    ensures { result ≡ set_enables_test deps.now (candidates_of features.now) positions.now name.now }
+/// Whether a name of a member of the set enables `y`.
+fn set_enables(enabled: &Placed, positions: &[usize], y: usize) -> bool
+    ensures { result ≡ set_enables_test (rows_of enabled.now.routes.marks.items) (rows_of enabled.now.candidates.items) positions.now y }
 {
     for p in positions {
-        if some_enables(deps, names_at(features, *p), name) {
+        let names = row_at(enabled.candidates.as_slice(), *p);
+        if some_leads(&enabled.routes, names, y) {
             return true;
         }
     }
@@ -175,19 +192,14 @@ fn set_enables(
 }
 
 /// Whether the set is not empty and enables each of the names.
-fn covers(
-    features: &[&Feature],
-    positions: &[usize],
-    deps: &BTreeMap<&str, BTreeSet<&str>>,
-    names: &[String],
-) -> bool
-    ensures { result ≡ covers_test deps.now (candidates_of features.now) positions.now (names_of names.now) }
+fn covers(enabled: &Placed, positions: &[usize], names: &[usize]) -> bool
+    ensures { result ≡ covers_test (rows_of enabled.now.routes.marks.items) (rows_of enabled.now.candidates.items) positions.now names.now }
 {
     if positions.is_empty() {
         return false;
     }
-    for name in names {
-        if !set_enables(features, positions, deps, name.as_str()) {
+    for y in names {
+        if !set_enables(enabled, positions, *y) {
             return false;
         }
     }
@@ -197,17 +209,17 @@ fn covers(
 /// The set without the place, where what is left covers what stands there, else the set as it is.
 fn without(
     alloc: Global,
-    features: &[&Feature],
+    enabled: &Placed,
     kept: Vec<usize>,
     place: usize,
-    deps: &BTreeMap<&str, BTreeSet<&str>>,
 ) -> Result<Vec<usize>, AllocError>
     requires { place < vec_len kept }
-    ensures { IfOk result (λ next. next.items ≡ (if covers_test deps.now (candidates_of features.now) (remove kept.items place) (slice_index_or (candidates_of features.now) (slice_index kept.items place) []) then remove kept.items place else kept.items)) }
+    ensures { IfOk result (λ next. next.items ≡ (if covers_test (rows_of enabled.now.routes.marks.items) (rows_of enabled.now.candidates.items) (remove kept.items place) (slice_index_or (rows_of enabled.now.candidates.items) (slice_index kept.items place) []) then remove kept.items place else kept.items)) }
 {
     let mut rest = Vec::from_slice(alloc, kept.as_slice())?;
     let p = rest.remove(place);
-    if covers(features, rest.as_slice(), deps, names_at(features, p)) {
+    let names = row_at(enabled.candidates.as_slice(), p);
+    if covers(enabled, rest.as_slice(), names) {
         Ok(rest)
     } else {
         Ok(kept)
@@ -217,24 +229,22 @@ fn without(
 /// The set without each member, from the greatest on, that those left then cover.
 fn first_cover(
     alloc: Global,
-    features: &[&Feature],
+    enabled: &Placed,
     positions: &[usize],
-    deps: &BTreeMap<&str, BTreeSet<&str>>,
 ) -> Result<Vec<usize>, AllocError>
-    requires { IsSelection (length features.now) positions.now }
-    ensures { IfOk result (λ kept. (c : Choice) → c.candidates ≡ candidates_of features.now → AreDepsOf c.map deps.now → IsWanted c positions.now → IsFirstCover c positions.now kept.items) }
+    ensures { IfOk result (λ kept. (c : Choice) → IsPlaced Enabling c.map c.candidates c.at_least_one_of enabled.now → IsSelection (length c.candidates) positions.now → IsWanted c positions.now → IsFirstCover c positions.now kept.items) }
 {
     let mut kept = Vec::from_slice(alloc, positions)?;
     let mut place = positions.len();
     while place > 0 {
         place -= 1;
-        kept = without(alloc, features, kept, place, deps)?;
+        kept = without(alloc, enabled, kept, place)?;
     }
     Ok(kept)
 }
 
 impl Questions for Rules<'_> {
-    ghost use Rattle.std.specs.Prelude.{◌≡◌, ◌≤◌, ◌-◌, ◌^◌, ℕ, List};
+    ghost use Rattle.std.specs.Prelude.{◌≡◌, ◌≤◌, ◌+◌, ◌-◌, ◌^◌, ◌++◌, ◌∷◌, ◌↔◌, min, ℕ, List};
     ghost use Rattle.hack_features.specs.View.{choice_of, size_of, asked_of, may_of, whole_of};
     ghost use Rattle.hack_features.specs.Closed.{may_of-empty, may_of-remove};
 
@@ -248,18 +258,26 @@ impl Questions for Rules<'_> {
 
     ghost count = { asked_of };
 
-    fn may_extend(&mut self, positions: &[usize], next: usize) -> bool {
+    fn may_extend(&mut self, positions: &[usize], next: usize) -> bool
+        requires below { IsSelection next positions.now }
+        requires next { next < size_of self.old }
+        ensures answer { result ≡ may_of self.old (positions.now ++ next ∷ []) }
+        ensures permitted { IsTrue result ↔ IsPermitted (choice_of self.old) (positions.now ++ next ∷ []) }
+        ensures counted { asked_of self.new ≡ min (asked_of self.old + 1) (2 ^ 128 - 1) }
+        ensures same_choice { choice_of self.new ≡ choice_of self.old }
+        ensures same_size { size_of self.new ≡ size_of self.old }
+        ensures same_may { may_of self.new ≡ may_of self.old }
+        ensures same_whole { whole_of self.new ≡ whole_of self.old }
+    {
         self.asked = self.asked.saturating_add(1);
-        if !keeps_depth(self.given.depth, positions.len() + 1) {
-            return false;
-        }
-        if !self.tables.is_exclusive(positions, next) {
-            return false;
-        }
-        self.tables.is_lean(positions, next)
+        self.permits(positions, next)
     }
 
-    fn complete(&self, positions: &[usize]) -> bool {
+    fn complete(&self, positions: &[usize]) -> bool
+        requires { IsSelection (size_of self.now) positions.now }
+        ensures answer { result ≡ whole_of self.now positions.now }
+        ensures required { IsTrue result ↔ IsRequired (choice_of self.now) positions.now }
+    {
         self.tables.is_required(positions)
     }
 

@@ -1,19 +1,25 @@
 //! The tables that answer questions on sets: who spares whom, how many names of a candidate reach an exclusion
 //! group, and which candidates serve an at-least-one group.
 
-ghost use Rattle.std.specs.Prelude.{◌≡◌, ◌<◌, ◌++◌, ◌∷◌, [], ℕ, List, length, map, not, nat_le, sum_by, IfOk};
-ghost use Rattle.std.specs.List.{list_all, list_any, filter_map, slice_index_or};
-ghost use Rattle.hack_features.specs.FeatureMap.{feature_map, FeatureMap, Reaches};
-ghost use Rattle.hack_features.specs.Deps.{AreDepsOf, ServeGroups, has_name, get_at, NameSet};
-ghost use Rattle.hack_features.specs.Feature.{group_of, groups_of, candidates_of};
+ghost use Rattle.std.specs.Prelude.{◌≡◌, ◌<◌, ◌++◌, ◌∷◌, ◌&&◌, ◌==◌, [], ℕ, List, length, map, not, nat_le, sum_by, IfOk, IsTrue, false};
+ghost use Rattle.std.specs.List.{list_all, list_any, slice_index_or};
+ghost use Rattle.hack_features.specs.Names.{Name};
+ghost use Rattle.hack_features.specs.FeatureMap.{feature_map, FeatureMap};
+ghost use Rattle.hack_features.specs.Feature.{groups_of, candidates_of};
 ghost use Rattle.hack_features.specs.Sets.{rows_of};
 ghost use Rattle.hack_features.specs.Rules.{unlifted};
-ghost use Rattle.hack_features.specs.Tables.{bit, count_at, cell, is_lean, is_exclusive, is_required, spares_test, Counts, Matched, CountsHits, SaysServes};
+ghost use Rattle.hack_features.specs.Places.{leads};
+ghost use Rattle.hack_features.specs.PlacedView.{IsPlaced};
+ghost use Rattle.hack_features.specs.Tables.{bit, count_at, cell, is_lean, is_exclusive, is_required, spares_test, serves_test, Counts, Matched, CountsHits, RowsServe};
+ghost use Rattle.hack_features.specs.declared.reach.Edges.TheVariants.{Enabling};
 
-use crate::deps::at_least_one_of_for_package;
 use crate::feature::Feature;
+use crate::marks::row_at;
+use crate::placed::Placed;
+use crate::reach::Edges;
+use crate::routes::{Routes, bit};
 use std::alloc::{AllocError, Global};
-use std::collections::{BTreeMap, BTreeSet};
+use std::collections::BTreeMap;
 
 /// What the sets of a package are chosen from, and by which rules.
 #[derive(Clone, Copy)]
@@ -37,112 +43,131 @@ pub(crate) struct Tables {
     pub serves: Vec<Vec<bool>>,
 }
 
-/// The deps of the candidate's names that are keys.
-fn deps_of_names<'a, 'b>(
-    alloc: Global,
-    feature: &Feature,
-    deps: &'a BTreeMap<&'b str, BTreeSet<&'b str>>,
-) -> Result<Vec<&'a BTreeSet<&'b str>>, AllocError>
-    ensures { IfOk result (λ sets. map (λ set. set.now) sets.items ≡ filter_map (get_at deps.now) (group_of feature.now)) }
+/// Whether the place leads to each of the others, and is none of them.
+fn leads_to_all(routes: &Routes, from: usize, others: &[usize]) -> bool
+    ensures { result ≡ list_all (λ y. not (from == y) && cell (rows_of routes.now.marks.items) from y) others.now }
 {
-    let mut sets = Vec::new(alloc);
-    for name in feature.as_group() {
-        if let Some(set) = deps.get(name.as_str()) {
-            sets.push(set)?;
-        }
-    }
-    Ok(sets)
-}
-
-/// Whether the set has each name of the candidate.
-fn has_all(set: &BTreeSet<&str>, feature: &Feature) -> bool
-    ensures { result ≡ list_all (has_name set.now) (group_of feature.now) }
-{
-    for name in feature.as_group() {
-        if !set.contains(name.as_str()) {
+    for y in others {
+        if from == *y || !routes.has_mark(from, *y) {
             return false;
         }
     }
     true
 }
 
-/// Whether some set has each name of the candidate.
-fn some_has_all(sets: &[&BTreeSet<&str>], feature: &Feature) -> bool
-    ensures { result ≡ list_any (λ set. list_all (has_name set) (group_of feature.now)) (map (λ set. set.now) sets.now) }
+/// Whether one of the names is a key, differs from each of the others, and enables it.
+fn spares(routes: &Routes, names: &[usize], others: &[usize]) -> bool
+    ensures { result ≡ spares_test routes.now.keys.items (rows_of routes.now.marks.items) names.now others.now }
 {
-    for set in sets {
-        if has_all(*set, feature) {
+    for x in names {
+        if routes.is_key(*x) && leads_to_all(routes, *x, others) {
             return true;
         }
     }
     false
 }
 
-/// The candidates that `feature` spares; no entries where it spares none, so that most questions skip the row.
-fn spare_row<'a>(
-    alloc: Global,
-    feature: &Feature,
-    features: &[&Feature],
-    deps: &BTreeMap<&'a str, BTreeSet<&'a str>>,
-) -> Result<Vec<bool>, AllocError>
-    ensures { IfOk result (λ row. (q : ℕ) → q < length (candidates_of features.now) → bit row.items q ≡ spares_test deps.now (group_of feature.now) (slice_index_or (candidates_of features.now) q [])) }
+/// Whether no edge leads anywhere from the names.
+fn are_ends(routes: &Routes, names: &[usize]) -> bool
+    ensures { result ≡ list_all (λ x. length (slice_index_or (rows_of routes.now.marks.items) x []) == 0) names.now }
 {
-    let sets = deps_of_names(alloc, feature, deps)?;
+    for x in names {
+        if !routes.is_end(*x) {
+            return false;
+        }
+    }
+    true
+}
+
+/// Whether a candidate has no names.
+fn is_some_nameless(candidates: &[Vec<usize>]) -> bool
+    ensures { result ≡ list_any (λ names. length names == 0) (rows_of candidates.now) }
+{
+    for names in candidates {
+        if names.is_empty() {
+            return true;
+        }
+    }
+    false
+}
+
+/// The candidates that the one of these names spares; no entries where it spares none, so that most questions skip
+/// the row. `some_nameless` says whether a candidate has no names.
+fn spare_row(
+    alloc: Global,
+    routes: &Routes,
+    names: &[usize],
+    candidates: &[Vec<usize>],
+    some_nameless: bool,
+) -> Result<Vec<bool>, AllocError>
+    requires { some_nameless ≡ list_any (λ names. length names == 0) (rows_of candidates.now) }
+    ensures { IfOk result (λ row. (q : ℕ) → q < length candidates.now → bit row.items q ≡ spares_test routes.now.keys.items (rows_of routes.now.marks.items) names.now (slice_index_or (rows_of candidates.now) q [])) }
+{
+    if !some_nameless && are_ends(routes, names) {
+        return Ok(Vec::new(alloc));
+    }
     let mut row = Vec::new(alloc);
     let mut some = false;
-    for other in features {
-        let spares = some_has_all(sets.as_slice(), *other);
-        some = some || spares;
-        row.push(spares)?;
+    for others in candidates {
+        let spared = spares(routes, names, others.as_slice());
+        some = some || spared;
+        row.push(spared)?;
     }
     if some { Ok(row) } else { Ok(Vec::new(alloc)) }
 }
 
 /// For each candidate the candidates that it spares.
-fn spare_rows<'a>(
-    alloc: Global,
-    features: &[&Feature],
-    deps: &BTreeMap<&'a str, BTreeSet<&'a str>>,
-) -> Result<Vec<Vec<bool>>, AllocError>
-    ensures { IfOk result (λ rows. (p q : ℕ) → p < length (candidates_of features.now) → q < length (candidates_of features.now) → cell (rows_of rows.items) p q ≡ spares_test deps.now (slice_index_or (candidates_of features.now) p []) (slice_index_or (candidates_of features.now) q [])) }
+fn spare_rows(alloc: Global, placed: &Placed) -> Result<Vec<Vec<bool>>, AllocError>
+    ensures { IfOk result (λ rows. (p q : ℕ) → p < length placed.now.candidates.items → q < length placed.now.candidates.items → cell (rows_of rows.items) p q ≡ spares_test placed.now.routes.keys.items (rows_of placed.now.routes.marks.items) (slice_index_or (rows_of placed.now.candidates.items) p []) (slice_index_or (rows_of placed.now.candidates.items) q [])) }
 {
+    let candidates = placed.candidates.as_slice();
+    let some_nameless = is_some_nameless(candidates);
     let mut rows = Vec::new(alloc);
-    for feature in features {
-        rows.push(spare_row(alloc, *feature, features, deps)?)?;
+    for names in candidates {
+        let row = spare_row(
+            alloc,
+            &placed.routes,
+            names.as_slice(),
+            candidates,
+            some_nameless,
+        )?;
+        rows.push(row)?;
     }
     Ok(rows)
 }
 
-/// How many names of the candidate reach the group.
-fn reaching(
-    alloc: Global,
-    group: &Feature,
-    feature: &Feature,
-    map: &BTreeMap<String, Vec<String>>,
-) -> Result<usize, AllocError>
-    ensures { IfOk result (Counts (Reaches (feature_map map.now) (group_of group.now)) (group_of feature.now)) }
+/// Whether the place leads to one of the group.
+fn leads_to_one(routes: &Routes, from: usize, group: &[usize]) -> bool
+    ensures { result ≡ list_any (leads (rows_of routes.now.marks.items) from) group.now }
+{
+    for y in group {
+        if routes.leads(from, *y) {
+            return true;
+        }
+    }
+    false
+}
+
+/// How many of the names lead to the group.
+fn reaching(routes: &Routes, names: &[usize], group: &[usize]) -> usize
+    ensures { Counts (λ x. IsTrue (list_any (leads (rows_of routes.now.marks.items) x) group.now)) names.now result }
 {
     let mut count = 0;
-    for name in feature.as_group() {
-        if group.matches_recursive(alloc, name.as_str(), map)? {
+    for x in names {
+        if leads_to_one(routes, *x, group) {
             count += 1;
         }
     }
-    Ok(count)
+    count
 }
 
-/// For each candidate how many of its names reach the group.
-fn hit_row(
-    alloc: Global,
-    group: &Feature,
-    features: &[&Feature],
-    map: &BTreeMap<String, Vec<String>>,
-) -> Result<Vec<usize>, AllocError>
-    ensures { IfOk result (λ row. CountsHits (feature_map map.now) (candidates_of features.now) (group_of group.now) row.items) }
+/// For each candidate how many of its names lead to the group.
+fn hit_row(alloc: Global, placed: &Placed, group: &[usize]) -> Result<Vec<usize>, AllocError>
+    ensures { IfOk result (λ row. (q : ℕ) → q < length placed.now.candidates.items → Counts (λ x. IsTrue (list_any (leads (rows_of placed.now.routes.marks.items) x) group.now)) (slice_index_or (rows_of placed.now.candidates.items) q []) (count_at row.items q)) }
 {
     let mut row = Vec::new(alloc);
-    for feature in features {
-        row.push(reaching(alloc, group, *feature, map)?)?;
+    for names in placed.candidates.as_slice() {
+        row.push(reaching(&placed.routes, names.as_slice(), group))?;
     }
     Ok(row)
 }
@@ -152,65 +177,78 @@ fn hit_rows(alloc: Global, given: Given<'_>) -> Result<Vec<Vec<usize>>, AllocErr
     ensures { IfOk result (λ rows. Matched (CountsHits (feature_map given.entry.map.now) (candidates_of given.entry.features.now)) (unlifted (groups_of given.entry.exclusive.now) given.entry.lifted.now) (rows_of rows.items)) }
 {
     let mut rows = Vec::new(alloc);
-    for (place, group) in given.exclusive.iter().enumerate() {
+    if given.exclusive.is_empty() {
+        return Ok(rows);
+    }
+    let placed = Placed::new(
+        alloc,
+        given.map,
+        Edges::Reaching,
+        given.features,
+        given.exclusive,
+    )?;
+    for place in 0..given.exclusive.len() {
         if !bit(given.lifted, place) {
-            rows.push(hit_row(alloc, group, given.features, given.map)?)?;
+            rows.push(hit_row(alloc, &placed, row_at(placed.groups.as_slice(), place))?)?;
         }
     }
     Ok(rows)
 }
 
-/// Whether the set has some name of the candidate.
-fn has_any(set: &BTreeSet<&str>, feature: &Feature) -> bool
-    ensures { result ≡ list_any (has_name set.now) (group_of feature.now) }
+/// Whether the name is a key that enables a name of the group.
+fn serves(routes: &Routes, x: usize, group: &[usize]) -> bool
+    ensures { result ≡ serves_test routes.now.keys.items (rows_of routes.now.marks.items) group.now x }
 {
-    for name in feature.as_group() {
-        if set.contains(name.as_str()) {
+    routes.is_key(x) && leads_to_one(routes, x, group)
+}
+
+/// Whether some name serves the group.
+fn is_served(routes: &Routes, group: &[usize]) -> bool
+    ensures some { IsTrue result → (x : ℕ) × (x < length routes.now.names.items) × IsTrue (serves_test routes.now.keys.items (rows_of routes.now.marks.items) group.now x) }
+    ensures none { result ≡ false → (x : ℕ) → x < length routes.now.names.items → serves_test routes.now.keys.items (rows_of routes.now.marks.items) group.now x ≡ false }
+{
+    for x in 0..routes.len() {
+        if serves(routes, x, group) {
             return true;
         }
     }
     false
 }
 
-/// Which candidates have a name among the keys.
-fn serve_row(
-    alloc: Global,
-    features: &[&Feature],
-    keys: &BTreeSet<&str>,
-) -> Result<Vec<bool>, AllocError>
-    ensures { IfOk result (λ row. SaysServes (candidates_of features.now) keys.now row.items) }
+/// Whether one of the names serves the group.
+fn some_serves(routes: &Routes, names: &[usize], group: &[usize]) -> bool
+    ensures { result ≡ list_any (serves_test routes.now.keys.items (rows_of routes.now.marks.items) group.now) names.now }
+{
+    for x in names {
+        if serves(routes, *x, group) {
+            return true;
+        }
+    }
+    false
+}
+
+/// Which candidates serve the group.
+fn serve_row(alloc: Global, placed: &Placed, group: &[usize]) -> Result<Vec<bool>, AllocError>
+    ensures { IfOk result (λ row. (q : ℕ) → q < length placed.now.candidates.items → bit row.items q ≡ list_any (serves_test placed.now.routes.keys.items (rows_of placed.now.routes.marks.items) group.now) (slice_index_or (rows_of placed.now.candidates.items) q [])) }
 {
     let mut row = Vec::new(alloc);
-    for feature in features {
-        row.push(has_any(keys, *feature))?;
+    for names in placed.candidates.as_slice() {
+        row.push(some_serves(&placed.routes, names.as_slice(), group))?;
     }
     Ok(row)
 }
 
 /// For each group that some key serves, which candidates serve it.
-fn serve_rows<'a>(
-    alloc: Global,
-    given: Given<'_>,
-    deps: &BTreeMap<&'a str, BTreeSet<&'a str>>,
-) -> Result<Vec<Vec<bool>>, AllocError>
-    ensures { IfOk result (λ rows. (m : FeatureMap) → AreDepsOf m deps.now → (sets : List NameSet) × ServeGroups m (groups_of given.entry.at_least_one_of.now) sets × Matched (SaysServes (candidates_of given.entry.features.now)) sets (rows_of rows.items)) }
+fn serve_rows(alloc: Global, placed: &Placed) -> Result<Vec<Vec<bool>>, AllocError>
+    ensures { IfOk result (λ rows. (m : FeatureMap) (candidates groups : List (List Name)) → IsPlaced Enabling m candidates groups placed.now → RowsServe m candidates groups (rows_of rows.items)) }
 {
     let mut rows = Vec::new(alloc);
-    let groups = at_least_one_of_for_package(alloc, given.at_least_one_of, deps)?;
-    for keys in groups.as_slice() {
-        rows.push(serve_row(alloc, given.features, keys)?)?;
+    for group in placed.groups.as_slice() {
+        if is_served(&placed.routes, group.as_slice()) {
+            rows.push(serve_row(alloc, placed, group.as_slice())?)?;
+        }
     }
     Ok(rows)
-}
-
-/// The entry of a row, false past its end.
-fn bit(row: &[bool], place: usize) -> bool
-    ensures { result ≡ bit row.now place }
-{
-    match row.get(place) {
-        Some(bit) => *bit,
-        None => false,
-    }
 }
 
 /// The entry of a row, 0 past its end.
@@ -267,19 +305,21 @@ fn has_some(row: &[bool], positions: &[usize]) -> bool
 
 impl Tables {
     ghost use Rattle.hack_features.specs.Tables.{AreTables};
-    ghost use Rattle.hack_features.specs.View.{choice_in};
+    ghost use Rattle.hack_features.specs.Given.{choice_in};
 
-    pub(crate) fn new<'a>(
+    /// The tables of what is given, from what the names of candidates and at-least-one groups enable.
+    pub(crate) fn new(
         alloc: Global,
         given: Given<'_>,
-        deps: &BTreeMap<&'a str, BTreeSet<&'a str>>,
+        enabled: &Placed,
     ) -> Result<Tables, AllocError>
-        ensures { IfOk result (λ t. AreDepsOf (feature_map given.entry.map.now) deps.now → AreTables (choice_in given.entry) (rows_of t.spares.items) (rows_of t.hits.items) (rows_of t.serves.items)) }
+        requires { IsPlaced Enabling (choice_in given).map (choice_in given).candidates (choice_in given).at_least_one_of enabled.now }
+        ensures { IfOk result (λ t. AreTables (choice_in given.entry) (rows_of t.spares.items) (rows_of t.hits.items) (rows_of t.serves.items)) }
     {
         Ok(Tables {
-            spares: spare_rows(alloc, given.features, deps)?,
+            spares: spare_rows(alloc, enabled)?,
             hits: hit_rows(alloc, given)?,
-            serves: serve_rows(alloc, given, deps)?,
+            serves: serve_rows(alloc, enabled)?,
         })
     }
 

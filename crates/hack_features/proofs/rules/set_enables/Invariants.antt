@@ -1,8 +1,7 @@
-use Rattle.std.proofs.Common.{◌≡◌, take, false, [], get_or}
-use Rattle.std.specs.List.{list_any}
-use Rattle.hack_features.specs.Feature.{candidates_of}
-use Rattle.hack_features.specs.Cover.{enables_test}
+use Rattle.std.proofs.Common.{◌≡◌, take, false}
+use Rattle.hack_features.specs.Sets.{rows_of}
+use Rattle.hack_features.specs.Cover.{set_enables_test}
 use Rattle.hack_features.proofs.rules.set_enables.Given as goal
 
 abbrev pub invariant-loop-p : goal.invariant-loop-p
-invariant-loop-p l = list_any (λ p. list_any (λ x. enables_test l.deps x l.name) (get_or (candidates_of l.features) p [])) (take l.p-index l.positions) ≡ false
+invariant-loop-p l = set_enables_test (rows_of l.enabled.routes.marks.items) (rows_of l.enabled.candidates.items) (take l.p-index l.positions) l.y ≡ false

@@ -1,18 +1,22 @@
-use Rattle.std.proofs.Common.{[], sym, arith, ℕ, get_or, subst, List}
-use Rattle.hack_features.specs.Names.{Name}
-use Rattle.hack_features.specs.FeatureMap.{feature_map, Reaches}
-use Rattle.hack_features.specs.Feature.{candidates_of, group_of}
-use Rattle.hack_features.specs.Tables.{Counts}
-use Rattle.hack_features.proofs.Steps.{row-pushed, candidate_at}
+use Rattle.std.proofs.Common.{◌≡◌, [], sym, arith, ℕ, get_or, subst, List, IsTrue, ap, ◌∙◌}
+use Rattle.std.specs.List.{list_any}
+use Rattle.hack_features.specs.Sets.{rows_of}
+use Rattle.hack_features.specs.Tables.{leads, Counts}
+use Rattle.hack_features.proofs.Steps.{row-pushed}
+use Rattle.hack_features.proofs.MarkLemmas.{row_at}
 use Rattle.hack_features.proofs.tables.hit_row.Goals as goal
 
-pub loop-feature-preserved : goal.loop-feature-preserved
-loop-feature-preserved c =
-    let P = Reaches (feature_map c.args.map.now) (group_of c.args.group.now) in
-    let counts : ℕ → ℕ → Type 0 = λ q n. Counts P (get_or (candidates_of c.args.features.now) q []) n in
+pub loop-names-preserved : goal.loop-names-preserved
+loop-names-preserved c =
+    let P : ℕ → Type 0 = λ x. IsTrue (list_any (leads (rows_of c.args.placed.now.routes.marks.items) x) c.args.group.now) in
+    let all : List (List ℕ) = rows_of c.args.placed.now.candidates.items in
+    let k : ℕ = c.loop-names.names-index in
+    let counts : ℕ → ℕ → Type 0 = λ q n. Counts P (get_or all q []) n in
+    let here : get_or all k [] ≡ c.names-item.result.items =
+    ap (λ l. get_or (rows_of l) k []) (sym c.as_slice-names-items.ensures.value) ∙ row_at c.as_slice-names-items.result.now k c.names-item.result c.loop-names-test.true c.names-item.is in
     record {
-      len = omega (arith, c.in_ok-push.ensures.len, c.loop-feature.invariant.len);
+      len = omega (arith, c.in_ok-push.ensures.len, c.loop-names.invariant.len);
       counts = λ q lt. rw c.in_ok-push.ensures.items
-          (row-pushed counts c.loop-feature.row.items c.loop-feature.feature-index c.in_ok-reaching.field-0 0 c.loop-feature.invariant.len c.loop-feature.invariant.counts
-          (subst (λ (names : List Name). Counts P names c.in_ok-reaching.field-0) (sym (candidate_at c.args.features.now c.loop-feature.feature-index c.feature-item.result c.loop-feature-test.true c.feature-item.is)) c.in_ok-reaching.ensures) q lt);
+          (row-pushed counts c.loop-names.row.items k c.reaching.result 0 c.loop-names.invariant.len c.loop-names.invariant.counts
+          (subst (λ (names : List ℕ). Counts P names c.reaching.result) (c.as_slice.ensures.value ∙ sym here) c.reaching.ensures) q lt);
     }

@@ -1,11 +1,12 @@
-use Rattle.std.proofs.Common.{◌≡◌, ◌<◌, ℕ, [], get_or, length}
-use Rattle.hack_features.specs.FeatureMap.{feature_map, Reaches}
-use Rattle.hack_features.specs.Feature.{candidates_of, group_of}
-use Rattle.hack_features.specs.Tables.{Counts, count_at}
+use Rattle.std.proofs.Common.{◌≡◌, ◌<◌, ◌≤◌, ◌+◌, ℕ, [], take, true, false, length, get_or, IsTrue}
+use Rattle.std.specs.Prelude.{not, ◌==◌, ◌&&◌}
+use Rattle.std.specs.List.{list_any, list_all}
+use Rattle.hack_features.specs.Sets.{rows_of}
+use Rattle.hack_features.specs.Tables.{bit, cell, leads, spares_test, serves_test, Counts, count_at}
 use Rattle.hack_features.proofs.tables.hit_row.Given as goal
 
-abbrev pub invariant-loop-feature : goal.invariant-loop-feature
-invariant-loop-feature l = record {
-  len : length l.row.items ≡ l.feature-index;
-  counts : (q : ℕ) → q < l.feature-index → Counts (Reaches (feature_map l.map) (group_of l.group)) (get_or (candidates_of l.features) q []) (count_at l.row.items q);
+abbrev pub invariant-loop-names : goal.invariant-loop-names
+invariant-loop-names l = record {
+  len : length l.row.items ≡ l.names-index;
+  counts : (q : ℕ) → q < l.names-index → Counts (λ x. IsTrue (list_any (leads (rows_of l.placed.routes.marks.items) x) l.group)) (get_or (rows_of l.placed.candidates.items) q []) (count_at l.row.items q);
 }

@@ -1,16 +1,25 @@
-use Rattle.std.proofs.Common.{◌<◌, ◌≤◌, ◌+◌, ◌∷◌, [], arith, List, ℕ, take, length, subst, sym, ap, ◌∙◌}
-use Rattle.std.proofs.lemmas.List.{map-append, take_all, length-map}
+use Rattle.std.proofs.Common.{◌≡◌, ◌<◌, ◌≤◌, ◌+◌, ◌∷◌, [], arith, List, ℕ, take, length, get_or, subst, sym, ap, ◌∙◌, eqb-true}
+use Rattle.std.proofs.lemmas.List.{map-append, take_all, take_more, length-map}
 use Rattle.hack_features.specs.Names.{Name}
 use Rattle.hack_features.specs.FeatureMap.{feature_map}
 use Rattle.hack_features.specs.Feature.{candidates_of, groups_of, group_of}
 use Rattle.hack_features.specs.Rules.{unlifted}
 use Rattle.hack_features.specs.Sets.{rows_of}
+use Rattle.hack_features.specs.Routed.{names_in}
 use Rattle.hack_features.specs.Tables as table
 use Rattle.hack_features.specs.Tables.{Matched, CountsHits, bit}
-use Rattle.hack_features.proofs.Steps.{seen-next, row_items}
-use Rattle.hack_features.proofs.TableLemmas.{unlifted-more, lifted_group, next_group}
+use Rattle.hack_features.proofs.Steps.{row_items}
+use Rattle.hack_features.proofs.MarkLemmas.{nil_from}
+use Rattle.hack_features.proofs.TableLemmas.{unlifted-more, lifted_group, next_group, hits_of}
 use Rattle.hack_features.proofs.tables.hit_rows.Goals as goal
 use Rattle.hack_features.proofs.tables.hit_rows.Goals.{then-not-bit+in_ok-hit_row+in_ok-push, else-not-bit}
+
+pub returns-then-is_empty : goal.returns-then-is_empty
+returns-then-is_empty c =
+    let R = CountsHits (feature_map c.args.given.map.now) (candidates_of c.args.given.features.now) in
+    let none : c.args.given.exclusive.now ≡ [] = nil_from c.args.given.exclusive.now (eqb-true (length c.args.given.exclusive.now) 0 (sym c.is_empty.ensures ∙ c.if-is_empty.true)) in
+    subst (λ (gs : List (List Name)). Matched R (unlifted gs c.args.given.lifted.now) (rows_of c.new-rows.result.items)) (sym (ap groups_of none))
+    (subst (λ (rows : List (List ℕ)). Matched R [] rows) (sym (ap rows_of c.new-rows.ensures.items)) table.nothing)
 
 pub loop-place-init : goal.loop-place-init
 loop-place-init c =
@@ -19,19 +28,25 @@ loop-place-init c =
 
 pub loop-place-preserved : goal.loop-place-preserved
 loop-place-preserved c =
-    let R = CountsHits (feature_map c.args.given.map.now) (candidates_of c.args.given.features.now) in
+    let m = feature_map c.args.given.map.now in
+    let candidates = candidates_of c.args.given.features.now in
+    let R = CountsHits m candidates in
     let groups = groups_of c.args.given.exclusive.now in
     let lifted = c.args.given.lifted.now in
-    let place = c.loop-place.place in
-    let group = group_of c.group-item.result in
+    let place : ℕ = c.loop-place.place in
+    let group : List Name = get_or groups place [] in
     let lt : place < length groups = omega (arith, c.loop-place-test.true, length-map c.args.given.exclusive.now group_of) in
-    let more = unlifted-more groups place group lifted lt (seen-next group_of c.args.given.exclusive.now place c.group-item.result c.loop-place-test.true c.group-item.is) in
+    let more = unlifted-more groups place group lifted lt (take_more groups place [] lt) in
+    let p = c.in_ok-placed.placed in
     elim c.if-not-bit.branch [
       | then-not-bit+in_ok-hit_row+in_ok-push w ↦
           subst (λ (rows : List (List ℕ)). Matched R (unlifted (take (place + 1) groups) lifted) rows)
           (sym (ap (λ v. rows_of v.items) w.rows-is ∙ ap rows_of w.in_ok-push.ensures.items ∙ map-append row_items c.loop-place.rows.items (w.in_ok-hit_row.field-0 ∷ [])))
           (next_group R (unlifted (take place groups) lifted) (unlifted (take (place + 1) groups) lifted) group (bit lifted place) (rows_of c.loop-place.rows.items) w.in_ok-hit_row.field-0.items more
-          (sym c.bit.ensures ∙ w.if-not-bit.true) c.loop-place.invariant w.in_ok-hit_row.ensures)
+          (sym c.bit.ensures ∙ w.if-not-bit.true) c.loop-place.invariant
+          (hits_of m candidates groups (names_in p.routes) p.routes.keys.items (rows_of p.routes.marks.items) (rows_of p.candidates.items) (rows_of p.groups.items) c.in_ok-placed.ensures place lt w.row_at.result.now
+          (w.row_at.ensures ∙ ap (λ gs. get_or (rows_of gs) place []) w.as_slice.ensures.value) w.in_ok-hit_row.field-0.items
+          (λ q l. w.in_ok-hit_row.ensures q (omega (arith, length-map p.candidates.items row_items)))))
       | else-not-bit w ↦
           subst (λ (rows : List (List ℕ)). Matched R (unlifted (take (place + 1) groups) lifted) rows) (sym (ap (λ v. rows_of v.items) w.rows-is))
           (lifted_group R (unlifted (take place groups) lifted) (unlifted (take (place + 1) groups) lifted) group (bit lifted place) (rows_of c.loop-place.rows.items) more

@@ -1,12 +1,12 @@
-use Rattle.std.proofs.Common.{◌≤◌, take}
-use Rattle.hack_features.specs.Names.{names_of}
-use Rattle.hack_features.specs.FeatureMap.{feature_map, Reaches}
-use Rattle.hack_features.specs.Feature.{group_of}
-use Rattle.hack_features.specs.Tables.{Counts}
+use Rattle.std.proofs.Common.{◌≡◌, ◌<◌, ◌≤◌, ◌+◌, ℕ, [], take, true, false, length, get_or, IsTrue}
+use Rattle.std.specs.Prelude.{not, ◌==◌, ◌&&◌}
+use Rattle.std.specs.List.{list_any, list_all}
+use Rattle.hack_features.specs.Sets.{rows_of}
+use Rattle.hack_features.specs.Tables.{bit, cell, leads, spares_test, serves_test, Counts, count_at}
 use Rattle.hack_features.proofs.tables.reaching.Given as goal
 
-abbrev pub invariant-loop-name : goal.invariant-loop-name
-invariant-loop-name l = record {
-  counts : Counts (Reaches (feature_map l.map) (group_of l.group)) (take l.name-index (names_of l.name-items)) l.count;
-  few : l.count ≤ l.name-index;
+abbrev pub invariant-loop-x : goal.invariant-loop-x
+invariant-loop-x l = record {
+  counts : Counts (λ x. IsTrue (list_any (leads (rows_of l.routes.marks.items) x) l.group)) (take l.x-index l.names) l.count;
+  few : l.count ≤ l.x-index;
 }

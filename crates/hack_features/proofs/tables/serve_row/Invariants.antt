@@ -1,13 +1,12 @@
-use Rattle.std.proofs.Common.{◌≡◌, ◌<◌, ℕ, [], get_or}
-use Rattle.std.proofs.Common.{length}
-use Rattle.std.specs.List.{list_any}
-use Rattle.hack_features.specs.Feature.{candidates_of}
-use Rattle.hack_features.specs.Deps.{has_name}
-use Rattle.hack_features.specs.Tables.{bit}
+use Rattle.std.proofs.Common.{◌≡◌, ◌<◌, ◌≤◌, ◌+◌, ℕ, [], take, true, false, length, get_or, IsTrue}
+use Rattle.std.specs.Prelude.{not, ◌==◌, ◌&&◌}
+use Rattle.std.specs.List.{list_any, list_all}
+use Rattle.hack_features.specs.Sets.{rows_of}
+use Rattle.hack_features.specs.Tables.{bit, cell, leads, spares_test, serves_test, Counts, count_at}
 use Rattle.hack_features.proofs.tables.serve_row.Given as goal
 
-abbrev pub invariant-loop-feature : goal.invariant-loop-feature
-invariant-loop-feature l = record {
-  len : length l.row.items ≡ l.feature-index;
-  says : (q : ℕ) → q < l.feature-index → bit l.row.items q ≡ list_any (has_name l.keys) (get_or (candidates_of l.features) q []);
+abbrev pub invariant-loop-names : goal.invariant-loop-names
+invariant-loop-names l = record {
+  len : length l.row.items ≡ l.names-index;
+  says : (q : ℕ) → q < l.names-index → bit l.row.items q ≡ list_any (serves_test l.placed.routes.keys.items (rows_of l.placed.routes.marks.items) l.group) (get_or (rows_of l.placed.candidates.items) q []);
 }

@@ -1,8 +1,11 @@
-use Rattle.std.proofs.Common.{take}
-use Rattle.hack_features.specs.Feature.{candidates_of}
+use Rattle.std.proofs.Common.{List, take}
+use Rattle.hack_features.specs.Names.{Name}
+use Rattle.hack_features.specs.FeatureMap.{FeatureMap}
 use Rattle.hack_features.specs.Sets.{rows_of}
-use Rattle.hack_features.specs.Tables.{Matched, SaysServes}
+use Rattle.hack_features.specs.Tables.{RowsServe}
+use Rattle.hack_features.specs.PlacedView.{IsPlaced}
+use Rattle.hack_features.specs.declared.reach.Edges.TheVariants.{Enabling}
 use Rattle.hack_features.proofs.tables.serve_rows.Given as goal
 
-abbrev pub invariant-loop-keys : goal.invariant-loop-keys
-invariant-loop-keys l = Matched (SaysServes (candidates_of l.given.features.now)) (take l.keys-index l.keys-items) (rows_of l.rows.items)
+abbrev pub invariant-loop-group : goal.invariant-loop-group
+invariant-loop-group l = (m : FeatureMap) (candidates groups : List (List Name)) → IsPlaced Enabling m candidates groups l.placed → RowsServe m candidates (take l.group-index groups) (rows_of l.rows.items)

@@ -1,11 +1,13 @@
-use Rattle.std.proofs.Common.{◌≡◌, ◌<◌, ℕ, [], get_or, false, length}
-use Rattle.hack_features.specs.Feature.{candidates_of, group_of}
-use Rattle.hack_features.specs.Tables.{bit, spares_test}
+use Rattle.std.proofs.Common.{◌≡◌, ◌<◌, ◌≤◌, ◌+◌, ℕ, [], take, true, false, length, get_or, IsTrue}
+use Rattle.std.specs.Prelude.{not, ◌==◌, ◌&&◌}
+use Rattle.std.specs.List.{list_any, list_all}
+use Rattle.hack_features.specs.Sets.{rows_of}
+use Rattle.hack_features.specs.Tables.{bit, cell, leads, spares_test, serves_test, Counts, count_at}
 use Rattle.hack_features.proofs.tables.spare_row.Given as goal
 
-abbrev pub invariant-loop-other : goal.invariant-loop-other
-invariant-loop-other l = record {
-  len : length l.row.items ≡ l.other-index;
-  says : (q : ℕ) → q < l.other-index → bit l.row.items q ≡ spares_test l.deps (group_of l.feature) (get_or (candidates_of l.features) q []);
-  unless : l.some ≡ false → (q : ℕ) → q < l.other-index → bit l.row.items q ≡ false;
+abbrev pub invariant-loop-others : goal.invariant-loop-others
+invariant-loop-others l = record {
+  len : length l.row.items ≡ l.others-index;
+  says : (q : ℕ) → q < l.others-index → bit l.row.items q ≡ spares_test l.routes.keys.items (rows_of l.routes.marks.items) l.names (get_or (rows_of l.candidates) q []);
+  unless : l.some ≡ false → (q : ℕ) → q < l.others-index → bit l.row.items q ≡ false;
 }

@@ -1,11 +1,12 @@
-use Rattle.std.proofs.Common.{◌≡◌, ◌<◌, ℕ, [], get_or, length}
-use Rattle.hack_features.specs.Feature.{candidates_of}
+use Rattle.std.proofs.Common.{◌≡◌, ◌<◌, ◌≤◌, ◌+◌, ℕ, [], take, true, false, length, get_or, IsTrue}
+use Rattle.std.specs.Prelude.{not, ◌==◌, ◌&&◌}
+use Rattle.std.specs.List.{list_any, list_all}
 use Rattle.hack_features.specs.Sets.{rows_of}
-use Rattle.hack_features.specs.Tables.{cell, spares_test}
+use Rattle.hack_features.specs.Tables.{bit, cell, leads, spares_test, serves_test, Counts, count_at}
 use Rattle.hack_features.proofs.tables.spare_rows.Given as goal
 
-abbrev pub invariant-loop-feature : goal.invariant-loop-feature
-invariant-loop-feature l = record {
-  len : length l.rows.items ≡ l.feature-index;
-  says : (p q : ℕ) → p < l.feature-index → q < length (candidates_of l.features) → cell (rows_of l.rows.items) p q ≡ spares_test l.deps (get_or (candidates_of l.features) p []) (get_or (candidates_of l.features) q []);
+abbrev pub invariant-loop-names : goal.invariant-loop-names
+invariant-loop-names l = record {
+  len : length l.rows.items ≡ l.names-index;
+  says : (p : ℕ) → p < l.names-index → (q : ℕ) → q < length l.placed.candidates.items → cell (rows_of l.rows.items) p q ≡ spares_test l.placed.routes.keys.items (rows_of l.placed.routes.marks.items) (get_or (rows_of l.placed.candidates.items) p []) (get_or (rows_of l.placed.candidates.items) q []);
 }

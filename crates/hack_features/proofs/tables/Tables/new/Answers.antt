@@ -1,21 +1,24 @@
-use Rattle.std.proofs.Common.{[], ◌∙◌, sym, get_or}
-use Rattle.hack_features.specs.FeatureMap.{feature_map}
-use Rattle.hack_features.specs.Feature.{candidates_of}
+use Rattle.std.proofs.Common.{[], ◌∙◌, sym, ap, arith, get_or, List, ℕ}
+use Rattle.std.proofs.lemmas.List.{length-map}
 use Rattle.hack_features.specs.Sets.{rows_of}
-use Rattle.hack_features.specs.View.{choice_in}
+use Rattle.hack_features.specs.Given.{choice_in}
+use Rattle.hack_features.specs.Routed.{names_in}
+use Rattle.hack_features.proofs.Steps.{row_items}
 use Rattle.hack_features.proofs.TableLemmas.{spares_iff, exclusive_iff, required_iff}
 use Rattle.hack_features.proofs.tables.Tables.new.Goals as goal
 
 pub returns : goal.returns
-returns c = λ are.
-    let all = candidates_of c.args.given.features.now in
+returns c =
     let choice = choice_in c.args.given in
-    let served = c.in_ok-serve_rows.ensures (feature_map c.args.given.map.now) are in
+    let e = c.args.enabled.now in
+    let p = c.requires in
+    let all : List (List ℕ) = rows_of e.candidates.items in
+    let count = length-map e.candidates.items row_items in
     record {
-      spared = λ p q lp lq.
-          let same = c.in_ok-spare_rows.ensures p q lp lq in
-          let both = spares_iff (feature_map c.args.given.map.now) c.args.deps.now are (get_or all p []) (get_or all q []) in
+      spared = λ a b la lb.
+          let same = c.in_ok-spare_rows.ensures a b (omega (arith, p.candidates_at.count, count)) (omega (arith, p.candidates_at.count, count)) in
+          let both = spares_iff choice.map (names_in e.routes) e.routes.keys.items (rows_of e.routes.marks.items) p.routes (get_or all a []) (get_or all b []) (get_or choice.candidates a []) (get_or choice.candidates b []) (p.candidates_at.each a la) (p.candidates_at.each b lb) in
           (λ t. both.0 (sym same ∙ t), λ s. same ∙ both.1 s);
       exclusive = exclusive_iff choice (rows_of c.in_ok-hit_rows.field-0.items) c.in_ok-hit_rows.ensures;
-      required = required_iff choice served.0 (rows_of c.in_ok-serve_rows.field-0.items) served.1 served.2;
+      required = required_iff choice (rows_of c.in_ok-serve_rows.field-0.items) (c.in_ok-serve_rows.ensures choice.map choice.candidates choice.at_least_one_of p);
     }

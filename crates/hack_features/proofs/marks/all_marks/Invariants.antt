@@ -1,0 +1,11 @@
+use Rattle.std.proofs.Common.{◌≡◌, ◌<◌, ◌↔◌, ℕ, IsTrue, length}
+use Rattle.hack_features.specs.FeatureMap.{Chain}
+use Rattle.hack_features.specs.Sets.{rows_of}
+use Rattle.hack_features.specs.Places.{Leads, leads}
+use Rattle.hack_features.proofs.marks.all_marks.Given as goal
+
+abbrev pub invariant-loop-place : goal.invariant-loop-place
+invariant-loop-place l = record {
+  len : length l.marks.items ≡ l.place;
+  says : (i : ℕ) → i < l.place → (j : ℕ) → IsTrue (leads (rows_of l.marks.items) i j) ↔ Chain (Leads (rows_of l.rows)) i j;
+}

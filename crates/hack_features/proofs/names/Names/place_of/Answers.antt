@@ -1,0 +1,16 @@
+use Rattle.std.proofs.Common.{◌≡◌, sym, ap, subst}
+use Rattle.std.proofs.lemmas.List.{get_or_default}
+use Rattle.hack_features.specs.Search.{Adds}
+use Rattle.hack_features.specs.Table.{table}
+use Rattle.hack_features.proofs.ReachLemmas.{adds-one, adds-there}
+use Rattle.hack_features.proofs.PlaceLemmas.{placed-there}
+use Rattle.hack_features.proofs.names.Names.place_of.Goals as goal
+
+pub returns-in-Some-clause-adds : goal.returns-in-Some-clause-adds
+returns-in-Some-clause-adds c =
+    adds-there (table c.args.self.now) c.args.name.now (placed-there (table c.args.self.now) c.in-Some.place c.args.name.now c.in-Some.ensures.0 c.in-Some.ensures.1)
+
+pub returns-in_ok-add-in-None-clause-adds : goal.returns-in_ok-add-in-None-clause-adds
+returns-in_ok-add-in-None-clause-adds c =
+    subst (λ names. Adds (λ y. c.args.name.now ≡ y) (table c.args.self.now) names) (sym c.in_ok-add-in-None.ensures.added)
+    (adds-one (table c.args.self.now) c.args.name.now c.in-None.ensures)

@@ -1,0 +1,12 @@
+use Rattle.std.proofs.Common.{take}
+use Rattle.hack_features.specs.Names.{names_of}
+use Rattle.hack_features.specs.Places.{AreAt, IsMore}
+use Rattle.hack_features.specs.Table.{table, IsInStep}
+use Rattle.hack_features.proofs.names.Names.places_of.Given as goal
+
+abbrev pub invariant-loop-text : goal.invariant-loop-text
+invariant-loop-text l = record {
+  step : IsInStep l.self;
+  row : AreAt (table l.self) l.row.items (take l.text-index (names_of l.texts));
+  kept : IsMore (table l.fn.self) (table l.self);
+}

@@ -1,0 +1,130 @@
+//! The names of a feature map by their places in one table: texts are compared when it is made, and not again.
+
+ghost use Rattle.std.specs.Prelude.{◌≡◌, ◌<◌, length, IfOk, OnOk, MatchOption, Contains};
+ghost use Rattle.hack_features.specs.Names.{names_of};
+ghost use Rattle.hack_features.specs.FeatureMap.{feature_map, values_at};
+ghost use Rattle.hack_features.specs.Search.{Adds, IsTarget};
+ghost use Rattle.hack_features.specs.Places.{name_at, targets_of, AreAt, IsMore};
+
+use crate::reach::Edges;
+use std::alloc::{AllocError, Global};
+use std::collections::BTreeMap;
+
+/// Distinct names.
+#[derive(Drop)]
+pub(crate) struct Names<'a> {
+    pub texts: Vec<&'a str>,
+    places: BTreeMap<&'a str, usize>,
+}
+
+impl<'a> Names<'a> {
+    ghost use Rattle.std.specs.Prelude.{[], ◌∷◌, ◌++◌};
+    ghost use Rattle.hack_features.specs.Table.{table, IsInStep};
+
+    /// No names.
+    pub(crate) fn new(alloc: Global) -> Names<'a>
+        ensures in_step { IsInStep result }
+        ensures empty { table result ≡ [] }
+    {
+        Names {
+            texts: Vec::new(alloc),
+            places: BTreeMap::new(alloc),
+        }
+    }
+
+    /// The place of the name, if it is there.
+    pub(crate) fn find(&self, name: &str) -> Option<usize>
+        requires { IsInStep self.now }
+        ensures { MatchOption result (¬ Contains (table self.now) name.now) (λ place. (place < length (table self.now)) × (name_at (table self.now) place ≡ name.now)) }
+    {
+        match self.places.get(name) {
+            Some(place) => Some(*place),
+            None => None,
+        }
+    }
+
+    /// Adds the name, and tells its place.
+    fn add(&mut self, name: &'a str) -> Result<usize, AllocError>
+        requires in_step { IsInStep self.old }
+        requires new { ¬ Contains (table self.old) name.now }
+        ensures in_step { OnOk result (IsInStep self.new) }
+        ensures place { IfOk result (λ place. place ≡ length (table self.old)) }
+        ensures added { OnOk result (table self.new ≡ table self.old ++ name.now ∷ []) }
+    {
+        let place = self.texts.len();
+        self.places.insert(name, place)?;
+        self.texts.push(name)?;
+        Ok(place)
+    }
+
+    /// The place of the name, which is added where it isn't there.
+    pub(crate) fn place_of(&mut self, name: &'a str) -> Result<usize, AllocError>
+        requires { IsInStep self.old }
+        ensures in_step { OnOk result (IsInStep self.new) }
+        ensures place { IfOk result (λ place. (place < length (table self.new)) × (name_at (table self.new) place ≡ name.now)) }
+        ensures adds { OnOk result (Adds (λ y. name.now ≡ y) (table self.old) (table self.new)) }
+    {
+        match self.find(name) {
+            Some(place) => Ok(place),
+            None => Ok(self.add(name)?),
+        }
+    }
+
+    /// The places of what the values lead to. Names that aren't there are added.
+    pub(crate) fn targets(
+        &mut self,
+        alloc: Global,
+        values: &'a [String],
+        edges: Edges,
+    ) -> Result<Vec<usize>, AllocError>
+        requires { IsInStep self.old }
+        ensures in_step { OnOk result (IsInStep self.new) }
+        ensures row { IfOk result (λ row. AreAt (table self.new) row.items (targets_of edges (names_of values.now))) }
+        ensures adds { OnOk result (Adds (IsTarget edges (names_of values.now)) (table self.old) (table self.new)) }
+    {
+        let mut row = Vec::new(alloc);
+        for value in values {
+            if let Some(name) = edges.target(value.as_str()) {
+                row.push(self.place_of(name)?)?;
+            }
+        }
+        Ok(row)
+    }
+
+    /// The places of what the map's values of the name lead to. Names that aren't there are added.
+    pub(crate) fn row_of(
+        &mut self,
+        alloc: Global,
+        map: &'a BTreeMap<String, Vec<String>>,
+        name: &str,
+        edges: Edges,
+    ) -> Result<Vec<usize>, AllocError>
+        requires { IsInStep self.old }
+        ensures in_step { OnOk result (IsInStep self.new) }
+        ensures row { IfOk result (λ row. AreAt (table self.new) row.items (targets_of edges (values_at (feature_map map.now) name.now))) }
+        ensures adds { OnOk result (Adds (IsTarget edges (values_at (feature_map map.now) name.now)) (table self.old) (table self.new)) }
+    {
+        match map.get(name) {
+            Some(values) => Ok(self.targets(alloc, values.as_slice(), edges)?),
+            None => Ok(Vec::new(alloc)),
+        }
+    }
+
+    /// The places of the texts' names. Those that aren't there are added.
+    pub(crate) fn places_of(
+        &mut self,
+        alloc: Global,
+        texts: &'a [String],
+    ) -> Result<Vec<usize>, AllocError>
+        requires { IsInStep self.old }
+        ensures in_step { OnOk result (IsInStep self.new) }
+        ensures row { IfOk result (λ row. AreAt (table self.new) row.items (names_of texts.now)) }
+        ensures kept { OnOk result (IsMore (table self.old) (table self.new)) }
+    {
+        let mut row = Vec::new(alloc);
+        for text in texts {
+            row.push(self.place_of(text.as_str())?)?;
+        }
+        Ok(row)
+    }
+}

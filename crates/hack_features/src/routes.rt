@@ -1,0 +1,110 @@
+//! What the names of a feature map lead to by chains of edges, for each kind of edges one table of places.
+
+ghost use Rattle.std.specs.Prelude.{◌≡◌, ◌++◌, [], List, length, IfOk, IsTrue, Contains};
+ghost use Rattle.std.specs.List.{slice_index_or};
+ghost use Rattle.hack_features.specs.Names.{Name};
+ghost use Rattle.hack_features.specs.FeatureMap.{FeatureMap, feature_map};
+ghost use Rattle.hack_features.specs.Sets.{rows_of};
+ghost use Rattle.hack_features.specs.Tables.{bit, cell};
+ghost use Rattle.hack_features.specs.Places.{leads};
+
+use crate::links::Links;
+use crate::marks::all_marks;
+use crate::names::Names;
+use crate::reach::Edges;
+use std::alloc::{AllocError, Global};
+use std::collections::BTreeMap;
+
+/// The entry of a row, false past its end.
+pub(crate) fn bit(row: &[bool], place: usize) -> bool
+    ensures { result ≡ bit row.now place }
+{
+    match row.get(place) {
+        Some(bit) => *bit,
+        None => false,
+    }
+}
+
+/// For each name of a table, by place, whether it is a key and what chains of edges lead to from it.
+#[derive(Drop)]
+pub(crate) struct Routes<'a> {
+    names: Vec<&'a str>,
+    keys: Vec<bool>,
+    /// No marks where no edge leads anywhere from the name, so that most questions skip them.
+    marks: Vec<Vec<bool>>,
+}
+
+impl<'a> Routes<'a> {
+    ghost use Rattle.std.specs.Prelude.{◌↔◌};
+    ghost use Rattle.hack_features.specs.FeatureMap.{IsKey};
+    ghost use Rattle.hack_features.specs.Table.{table, IsInStep};
+    ghost use Rattle.hack_features.specs.Routed.{names_in, AreRoutesOf};
+
+    /// What names lead to, those of the table, which has the keys of the map, and those that they lead to.
+    pub(crate) fn new(
+        alloc: Global,
+        map: &'a BTreeMap<String, Vec<String>>,
+        edges: Edges,
+        names: Names<'a>,
+    ) -> Result<Routes<'a>, AllocError>
+        requires in_step { IsInStep names }
+        requires known { (x : Name) → IsKey (feature_map map.now) x → Contains (table names) x }
+        ensures routes { IfOk result (AreRoutesOf edges (feature_map map.now)) }
+        ensures kept { IfOk result (λ routes. (more : List Name) × (names_in routes ≡ table names.entry ++ more)) }
+    {
+        let links = Links::new(alloc, map, edges, names)?;
+        let marks = all_marks(alloc, links.rows.as_slice())?;
+        let keys = links.keys;
+        let names = links.names;
+        Ok(Routes {
+            names: names.texts,
+            keys,
+            marks,
+        })
+    }
+
+    /// How many names there are.
+    pub(crate) fn len(&self) -> usize
+        ensures { result ≡ length self.now.names.items }
+    {
+        self.names.len()
+    }
+
+    /// Whether the name at the place is a key.
+    pub(crate) fn is_key(&self, place: usize) -> bool
+        ensures { result ≡ bit self.now.keys.items place }
+    {
+        bit(self.keys.as_slice(), place)
+    }
+
+    /// The marks at the place, none past the last.
+    fn marks_at(&self, place: usize) -> &[bool]
+        ensures { result.now ≡ slice_index_or (rows_of self.now.marks.items) place [] }
+    {
+        match self.marks.get(place) {
+            Some(marks) => marks.as_slice(),
+            None => &[],
+        }
+    }
+
+    /// Whether no edge leads anywhere from the place.
+    pub(crate) fn is_end(&self, place: usize) -> bool
+        ensures { IsTrue result ↔ (length (slice_index_or (rows_of self.now.marks.items) place []) ≡ 0) }
+    {
+        self.marks_at(place).is_empty()
+    }
+
+    /// Whether a chain of edges leads from a place to another one.
+    pub(crate) fn has_mark(&self, from: usize, to: usize) -> bool
+        ensures { result ≡ cell (rows_of self.now.marks.items) from to }
+    {
+        bit(self.marks_at(from), to)
+    }
+
+    /// Whether a chain of edges leads from a place to another or the same.
+    pub(crate) fn leads(&self, from: usize, to: usize) -> bool
+        ensures { result ≡ leads (rows_of self.now.marks.items) from to }
+    {
+        from == to || self.has_mark(from, to)
+    }
+}
