@@ -5,13 +5,14 @@ PROGRAM := crates/powerset_list/out/powerset_list
 EXCLUSIVE := native-tls,openssl,rustls
 
 .DEFAULT_GOAL := help
-.PHONY: help run program install test bench
+.PHONY: help run program install test bench faults
 
 help:
 	@echo 'make run      prints the command list of the sample in examples/, by a trial build without proofs'
 	@echo 'make test     proves and tests everything from nothing: the gate'
 	@echo 'make install  proves and builds powerset-list, and installs it in PREFIX/bin (PREFIX=$(PREFIX))'
 	@echo 'make bench    proves and builds powerset-list, and prints its times, memory and lines'
+	@echo 'make faults   proves and builds powerset-list, and compares what it tells of refused calls'
 
 # A trial build proves nothing, and so is ready in less than a minute.
 run:
@@ -29,3 +30,6 @@ install: program
 
 bench: program
 	@tests/bench $(PROGRAM)
+
+faults: program
+	@tests/faults $(PROGRAM)

@@ -5,6 +5,7 @@ use crate::given::words;
 use cargo_hack::plan::Run;
 use cargo_hack::{Ending, ListFault, call_powerset_list, command, powerset_list};
 use hack_features::Feature;
+use hack_load::process::ProcessBuilder;
 use std::alloc::{AllocError, Global};
 use std::env::Args;
 use std::io;
@@ -253,7 +254,10 @@ fn writer_that_is_interrupted(rt: HostRuntime) -> Result<(), Fail> {
 
 #[test]
 fn flush_that_fails(rt: HostRuntime) -> Result<(), Fail> {
-    let rows = [(ErrorKind::StorageFull, WRITE), (ErrorKind::OutOfMemory, MEMORY)];
+    let rows = [
+        (ErrorKind::StorageFull, WRITE),
+        (ErrorKind::OutOfMemory, MEMORY),
+    ];
     for (kind, want) in rows {
         let mut out = FailingWriter::new(rt.alloc(), 1_000, ErrorKind::Other);
         out.flush = Some(kind);
@@ -290,7 +294,11 @@ fn faults_of_errors(rt: HostRuntime) -> Result<(), Fail> {
     let memory = io::Error::from(ErrorKind::OutOfMemory);
     let told = format!(in rt.alloc(); "{}", ListFault::of_error(&memory, ListFault::Read))?;
     assert_eq!(rt; told.as_str(), MEMORY);
-    for kind in [ErrorKind::Interrupted, ErrorKind::Other, ErrorKind::UnexpectedEof] {
+    for kind in [
+        ErrorKind::Interrupted,
+        ErrorKind::Other,
+        ErrorKind::UnexpectedEof,
+    ] {
         let error = io::Error::from(kind);
         let told = format!(in rt.alloc(); "{}", ListFault::of_error(&error, ListFault::Write))?;
         assert_eq!(rt; told.as_str(), WRITE);
@@ -313,7 +321,12 @@ fn list_of_some_pages(rt: HostRuntime) -> Result<(), Fail> {
     input.push_str("}")?;
     let depth = words(rt.alloc(), "--depth 1")?;
     let mut out = Vec::new(rt.alloc());
-    let listed = powerset_list(rt.alloc(), depth.as_slice(), &mut input.as_bytes(), &mut out);
+    let listed = powerset_list(
+        rt.alloc(),
+        depth.as_slice(),
+        &mut input.as_bytes(),
+        &mut out,
+    );
     assert!(rt; listed.is_ok());
     assert!(rt; want.len() > 32_768);
     assert_eq!(rt; out.as_slice(), want.as_bytes());
@@ -322,19 +335,19 @@ fn list_of_some_pages(rt: HostRuntime) -> Result<(), Fail> {
 
 /// What a call comes to.
 #[derive(Drop)]
-struct Called {
+struct Outcome {
     ending: Ending,
     out: Vec<u8>,
     err: Vec<u8>,
 }
 
 /// A call with these arguments, over the map.
-fn called(alloc: Global, arguments: io::Result<Args>, input: &str) -> Called {
+fn called(alloc: Global, arguments: io::Result<Args>, input: &str) -> Outcome {
     let mut out = Vec::new(alloc);
     let mut err = Vec::new(alloc);
     let mut input = input.as_bytes();
     let ending = call_powerset_list(alloc, arguments, &mut input, &mut out, &mut err);
-    Called { ending, out, err }
+    Outcome { ending, out, err }
 }
 
 #[test]
@@ -342,9 +355,21 @@ fn calls(rt: HostRuntime) -> Result<(), Fail> {
     let rows = [
         ("powerset-list", MAP, 0, LIST, ""),
         ("", MAP, 0, LIST, ""),
-        ("powerset-list --depth 0", MAP, 0, "cargo check --no-default-features\n", ""),
+        (
+            "powerset-list --depth 0",
+            MAP,
+            0,
+            "cargo check --no-default-features\n",
+            "",
+        ),
         ("--depth --depth", MAP, 1, "", USAGE),
-        ("powerset-list --depth x", MAP, 1, "", "error: invalid number `x`\n"),
+        (
+            "powerset-list --depth x",
+            MAP,
+            1,
+            "",
+            "error: invalid number `x`\n",
+        ),
         (
             "powerset-list --at-least-one-of a",
             MAP,
@@ -409,6 +434,11 @@ fn calls_that_cannot_tell(rt: HostRuntime) -> Result<(), Fail> {
     Ok(())
 }
 
+/// The command as it stands in a list.
+fn listed(alloc: Global, command: &ProcessBuilder<'_>) -> Result<String, AllocError> {
+    command.listed("").to_string(alloc)
+}
+
 #[test]
 fn commands_of_runs(rt: HostRuntime) -> Result<(), Fail> {
     let passed = words(rt.alloc(), "check")?;
@@ -420,7 +450,10 @@ fn commands_of_runs(rt: HostRuntime) -> Result<(), Fail> {
         (Run::Plain, "cargo check"),
         (Run::AllFeatures, "cargo check --all-features"),
         (Run::NoDefaultFeatures, "cargo check --no-default-features"),
-        (Run::Features, "cargo check --no-default-features --features a,c"),
+        (
+            Run::Features,
+            "cargo check --no-default-features --features a,c",
+        ),
     ];
     for (run, want) in rows {
         let command = command(
@@ -430,9 +463,7 @@ fn commands_of_runs(rt: HostRuntime) -> Result<(), Fail> {
             run,
             &[0, 2],
         )?;
-        let line = command.listed("");
-        let listed = format!(in rt.alloc(); "{line}")?;
-        assert_eq!(rt; listed.as_str(), want);
+        assert_eq!(rt; listed(rt.alloc(), &command)?.as_str(), want);
     }
     Ok(())
 }
