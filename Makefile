@@ -5,7 +5,7 @@ PROGRAM := crates/powerset_list/out/powerset_list
 EXCLUSIVE := native-tls,openssl,rustls
 
 .DEFAULT_GOAL := help
-.PHONY: help run program install test quick planted bench
+.PHONY: help run program install test quick planted bench faults
 
 help:
 	@echo 'make run      prints the command list of the sample in examples/, by a trial build without proofs'
@@ -14,6 +14,7 @@ help:
 	@echo 'make planted  tries the edits that the gate leaves out, of all crates or of CRATE=NAME'
 	@echo 'make install  proves and builds powerset-list, and installs it in PREFIX/bin (PREFIX=$(PREFIX))'
 	@echo 'make bench    proves and builds powerset-list, and prints its times, memory and lines'
+	@echo 'make faults   proves and builds powerset-list, and compares what it tells of refused calls'
 
 # A trial build proves nothing, and so is ready in less than a minute.
 run:
@@ -39,3 +40,6 @@ install: program
 bench: program
 	@cd crates/hack_rows && rt run < stdin > /dev/null
 	@tests/bench $(PROGRAM) crates/hack_rows/out/hack_rows
+
+faults: program
+	@tests/faults $(PROGRAM)

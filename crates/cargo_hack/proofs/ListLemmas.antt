@@ -1,5 +1,6 @@
 -- The sets of a command list.
-use Rattle.std.proofs.Common.{◌≡◌, ◌↔◌, ◌∙◌, ℕ, List, [], ◌∷◌, Bool, IsTrue, true, false, length, map, nat_lt, refl, sym, ap, subst}
+use Rattle.std.proofs.Common.{Option, inr, if◌then◌else◌, ◌≡◌, ◌↔◌, ◌∙◌, ℕ, List, [], ◌∷◌, Bool, IsTrue, true, false, length, map, nat_lt, refl, sym, ap, subst}
+use Rattle.std.specs.declared.io.ErrorKind.{ErrorKind}
 use Rattle.std.proofs.lemmas.List.{length-map}
 use Rattle.hack_features.specs.Names.{Name}
 use Rattle.hack_features.specs.declared.feature.Feature.{Feature}
@@ -11,10 +12,13 @@ use Rattle.hack_features.specs.Questions.{IsWhole}
 use Rattle.cargo_hack.specs.declared.plan.RunOptions.{RunOptions}
 use Rattle.cargo_hack.specs.declared.wishes.Wishes.{Wishes}
 use Rattle.cargo_hack.specs.Runs.{PackageRun, runs_from}
-use Rattle.cargo_hack.specs.Input.{keys_of}
+use Rattle.cargo_hack.specs.declared.fault.ListFault.TheVariants.{Write, Memory}
+use Rattle.cargo_hack.specs.Faults.{is_memory, told_as}
+use Rattle.cargo_hack.specs.Words.{Asks}
+use Rattle.cargo_hack.specs.Input.{IsMapText, keys_of}
 use Rattle.cargo_hack.specs.Lines.{run_lines}
 use Rattle.cargo_hack.specs.ListRuns.{chosen_from, options_from, AreListRuns}
-use Rattle.cargo_hack.specs.CommandList.{choice_for, options_for, IsCommandList}
+use Rattle.cargo_hack.specs.CommandList.{choice_for, options_for, IsCommandList, IsInput, IsListFor, WritesFront, RefusesList}
 
 -- where no group is lifted, all stay
 pub unlifted-none : (groups : List (List Name)) → unlifted groups [] ≡ groups
@@ -65,3 +69,23 @@ command_list w fs m runs l names groups =
           (subst (λ n. IsListing n (IsListed (chosen_from w fs m)) l.sets) size l.listing);
       lines = ap (λ (n : List Name). run_lines n runs) names ∙ ap (run_lines (keys_of m)) (l.made ∙ ap (λ (o : RunOptions). runs_from o l.sets) options);
     }
+
+-- the lines of the runs are the list that the words ask for
+pub list_for : (words : List Name) (left : Option (List ℕ)) (w : Wishes) (bytes : List ℕ) (fs : List Feature) (m : FeatureMap) (runs : List PackageRun)
+    → Asks words w.depth (groups_of w.at_least_one_of.items) (groups_of w.mutually_exclusive.items) → IsInput left bytes → IsMapText bytes m
+    → AreListRuns w fs m runs → map name_of fs ≡ keys_of m → groups_of fs ≡ map (λ name. name ∷ []) (keys_of m) → IsListFor words left (run_lines (map name_of fs) runs)
+list_for words left w bytes fs m runs asks input read l names groups = record {
+  depth = w.depth;
+  at_least_one_of = groups_of w.at_least_one_of.items;
+  exclusive = groups_of w.mutually_exclusive.items;
+  asks = asks;
+  bytes = bytes;
+  input = input;
+  m = m;
+  read = read;
+  list = command_list w fs m runs l names groups;
+}
+
+-- a front is written, whatever the kind of the error
+pub refused-writing : (words : List Name) (left old new : Option (List ℕ)) (kind : ErrorKind) → WritesFront words left old new → RefusesList words left old new (told_as kind Write)
+refused-writing words left old new kind front = elim (is_memory kind) as (λ b. RefusesList words left old new (if b then Memory else Write)) [ true ↦ inr front | false ↦ front ]

@@ -1,5 +1,5 @@
--- Words, lists and groups, one more at a time; and faults of a part that are faults of the whole.
-use Rattle.std.proofs.Common.{◌≡◌, ℕ, ◌+◌, ◌-◌, ◌<◌, ◌≤◌, List, [], ◌∷◌, ◌++◌, length, get_or, take, drop, sym, ◌∙◌, ap, subst, arith, map, Option, Some, inr, String, string_bytes, codes}
+-- Words, lists and groups, one more at a time.
+use Rattle.std.proofs.Common.{◌≡◌, ℕ, ◌+◌, ◌-◌, ◌<◌, ◌≤◌, List, [], ◌∷◌, ◌++◌, length, get_or, take, drop, sym, ◌∙◌, ap, subst, arith, map, Some, String, string_bytes}
 use Rattle.std.specs.Borrow.{Bor}
 use Rattle.std.specs.Option.{option_and_then}
 use Rattle.std.proofs.Math.Seq.{take-length}
@@ -12,10 +12,7 @@ use Rattle.hack_features.specs.declared.feature.Feature.TheVariants.{Normal, Gro
 use Rattle.hack_features.proofs.Members.{Contains-map}
 use Rattle.hack_features.proofs.NameLemmas.{shown-more}
 use Rattle.hack_term.specs.Lists.{HasSeparator, group_names}
-use Rattle.cargo_hack.specs.declared.fault.ListFault.{ListFault}
-use Rattle.cargo_hack.specs.declared.fault.ListFault.TheVariants.{Usage, Number, Group, Input, Read, Write, Memory}
-use Rattle.cargo_hack.specs.Words.{Written, none_written, with_value, with_words, IsDepth, AreGroups, LacksSeparator, RefusesWords}
-use Rattle.cargo_hack.specs.WishesView.{RefusesGroups}
+use Rattle.cargo_hack.specs.Words.{Written, with_value, with_words, AreGroups, LacksSeparator}
 
 -- an option and its value are taken, before the words that are left
 pub words-more : {Y : Type 0} (w more : Written) (texts : List (String Y)) (option value : String Y)
@@ -56,15 +53,3 @@ groups-more lists k d groups group l so_far sep named = subst (λ (texts : List 
 -- a list without a separator
 pub lacks-here : (lists : List (Bor Name)) (k : ℕ) (d : Bor Name) → k < length lists → ¬ HasSeparator (get_or lists k d).now → LacksSeparator (shown lists)
 lacks-here lists k d l single = record { list = (get_or lists k d).now; listed = Contains-map (λ (b : Bor Name). b.now) lists (get_or lists k d) (k, l, get_or_default lists k (get_or lists k d) d l); single = single }
-
--- a fault of a list of which one is wanted, where all before it is right
-pub refused-at_least : (words : List Name) (w : Written) (depth : Option ℕ) (exclusive : List (List Name)) (option : Name) (e : ListFault)
-    → with_words none_written words ≡ Some w → IsDepth w.depth depth → AreGroups w.exclusive exclusive → option ≡ codes "--at-least-one-of"
-    → RefusesGroups option w.at_least_one_of e → RefusesWords words e
-refused-at_least words w depth exclusive option Usage s d x o r = absurd r
-refused-at_least words w depth exclusive option (Number text) s d x o r = absurd r
-refused-at_least words w depth exclusive option (Group name) s d x o r = record { written = w; said = s; depth = depth; depth_of = d; fault = inr (r.0 ∙ o, x.separated, r.1) }
-refused-at_least words w depth exclusive option Input s d x o r = absurd r
-refused-at_least words w depth exclusive option Read s d x o r = absurd r
-refused-at_least words w depth exclusive option Write s d x o r = absurd r
-refused-at_least words w depth exclusive option Memory s d x o r = tt

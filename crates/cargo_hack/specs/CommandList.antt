@@ -1,13 +1,15 @@
 -- What `powerset-list` writes for a feature map and what is asked for, and what it refuses.
-use Rattle.std.specs.Prelude.{◌≡◌, ℕ, List, [], ◌∷◌, map, length, Option, IfSome, nat_lt, true, false}
+use Rattle.std.specs.Prelude.{◌≡◌, ◌⊎◌, ℕ, List, [], ◌∷◌, map, length, Option, IfSome, nat_lt, true, false}
 use Rattle.std.specs.Io.KnownBytes.{Appends}
+use Rattle.hack_term.specs.Writes.{AppendsFront}
 use Rattle.hack_features.specs.Names.{Name}
 use Rattle.hack_features.specs.FeatureMap.{FeatureMap}
 use Rattle.hack_features.specs.Sets.{IsListing}
 use Rattle.hack_features.specs.Rules.{Choice, IsListed}
 use Rattle.cargo_hack.specs.declared.plan.RunOptions.{RunOptions}
 use Rattle.cargo_hack.specs.declared.fault.ListFault.{ListFault}
-use Rattle.cargo_hack.specs.declared.fault.ListFault.TheVariants.{Usage, Number, Group, Input, Read, Write, Memory}
+use Rattle.cargo_hack.specs.declared.fault.ListFault.TheVariants.{Usage, Number, Group, NotText, Input, Read, Write, Memory}
+use Rattle.cargo_hack.specs.declared.wishes.WordsFault.TheVariants as said
 use Rattle.cargo_hack.specs.Runs.{runs_from}
 use Rattle.cargo_hack.specs.Words.{Asks, IsAsking, RefusesWords}
 use Rattle.cargo_hack.specs.Input.{IsMapText, IsNoMapText, keys_of}
@@ -47,8 +49,8 @@ pub record IsCommandList (m : FeatureMap) (depth : Option ℕ) (at_least_one_of 
 abbrev pub IsInput : Option (List ℕ) → List ℕ → Type 0
 IsInput left bytes = IfSome left (λ known. known ≡ bytes)
 
--- the words ask for a list, the bytes left are a map, and the list of its commands was written behind what stood there
-pub record WritesList (words : List Name) (left old new : Option (List ℕ)) : Type 0 where
+-- the words ask for a list, the bytes left are a map, and the text is the list of its commands
+pub record IsListFor (words : List Name) (left : Option (List ℕ)) (text : List ℕ) : Type 0 where
   pub depth : Option ℕ
   pub at_least_one_of : List (List Name)
   pub exclusive : List (List Name)
@@ -57,9 +59,19 @@ pub record WritesList (words : List Name) (left old new : Option (List ℕ)) : T
   pub input : IsInput left bytes
   pub m : FeatureMap
   pub read : IsMapText bytes m
-  pub text : List ℕ
   pub list : IsCommandList m depth at_least_one_of exclusive text
+
+-- the list that is asked for was written behind what stood there
+pub record WritesList (words : List Name) (left old new : Option (List ℕ)) : Type 0 where
+  pub text : List ℕ
+  pub list : IsListFor words left text
   pub written : Appends old new text
+
+-- words and input have no fault, and a front of the list that is asked for was written
+pub record WritesFront (words : List Name) (left old new : Option (List ℕ)) : Type 0 where
+  pub text : List ℕ
+  pub list : IsListFor words left text
+  pub written : AppendsFront old new text
 
 -- the bytes left are no map
 pub record HasNoMap (left : Option (List ℕ)) : Type 0 where
@@ -67,20 +79,15 @@ pub record HasNoMap (left : Option (List ℕ)) : Type 0 where
   pub input : IsInput left bytes
   pub refused : IsNoMapText bytes
 
--- the bytes left are a map
-pub record HasMap (left : Option (List ℕ)) : Type 0 where
-  pub bytes : List ℕ
-  pub input : IsInput left bytes
-  pub m : FeatureMap
-  pub read : IsMapText bytes m
-
--- why no list is written: a fault of the words, and where they have none one of the input; nothing was written then.
--- A fault of writing stands only where words and input have none.
+-- why no list is written, or only a front of it: the first fault of the words, and where they have none one of the
+-- input; nothing was written then. A fault of writing stands only where words and input have none, and it leaves a
+-- front of the list. Where memory runs out nothing was written, or such a front.
 abbrev pub RefusesList : List Name → Option (List ℕ) → Option (List ℕ) → Option (List ℕ) → ListFault → Type 0
-RefusesList words left old new Usage = RefusesWords words Usage × (new ≡ old)
-RefusesList words left old new (Number text) = RefusesWords words (Number text) × (new ≡ old)
-RefusesList words left old new (Group option) = RefusesWords words (Group option) × (new ≡ old)
+RefusesList words left old new Usage = RefusesWords words said.Usage × (new ≡ old)
+RefusesList words left old new (Number text) = RefusesWords words (said.Number text) × (new ≡ old)
+RefusesList words left old new (Group option) = RefusesWords words (said.Group option) × (new ≡ old)
+RefusesList words left old new NotText = ⊥
 RefusesList words left old new Input = IsAsking words × HasNoMap left × (new ≡ old)
 RefusesList words left old new Read = IsAsking words × (new ≡ old)
-RefusesList words left old new Write = IsAsking words × HasMap left
-RefusesList words left old new Memory = Unit {0}
+RefusesList words left old new Write = WritesFront words left old new
+RefusesList words left old new Memory = (new ≡ old) ⊎ WritesFront words left old new

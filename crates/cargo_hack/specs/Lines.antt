@@ -1,17 +1,39 @@
--- The lines of a command list.
-use Rattle.std.specs.Prelude.{ℕ, List, ◌++◌, None, codes, flat_map}
+-- The lines of a command list, and the commands of runs.
+use Rattle.std.specs.Prelude.{ℕ, List, [], ◌∷◌, ◌++◌, Option, None, false, codes, flat_map}
 use Rattle.hack_features.specs.Names.{Name}
 use Rattle.hack_features.specs.Sets.{chosen}
-use Rattle.hack_load.specs.CommandTexts.{appended, shown_features}
+use Rattle.hack_load.specs.CommandTexts.{Command, appended, shown_features}
 use Rattle.cargo_hack.specs.Runs.{PackageRun, Plain, AllFeatures, NoDefaultFeatures, Set}
 
--- the line of a run, where the candidates have these names: its command, and a line feed
+-- the text of a run's command, where the candidates have these names
+abbrev pub run_text : List Name → PackageRun → List ℕ
+run_text names Plain = codes "cargo check"
+run_text names AllFeatures = codes "cargo check --all-features"
+run_text names NoDefaultFeatures = codes "cargo check --no-default-features"
+run_text names (Set s) = codes "cargo check --no-default-features" ++ shown_features (appended None (chosen names s))
+
+-- the line of a run: its text, and a line feed
 abbrev pub run_line : List Name → PackageRun → List ℕ
-run_line names Plain = codes "cargo check\n"
-run_line names AllFeatures = codes "cargo check --all-features\n"
-run_line names NoDefaultFeatures = codes "cargo check --no-default-features\n"
-run_line names (Set s) = codes "cargo check --no-default-features" ++ shown_features (appended None (chosen names s)) ++ codes "\n"
+run_line names run = run_text names run ++ codes "\n"
 
 -- the lines of runs
 abbrev pub run_lines : List Name → List PackageRun → List ℕ
 run_lines names runs = flat_map (run_line names) runs
+
+-- the command's own words that say which features a run has
+abbrev pub own_words : PackageRun → List (List ℕ)
+own_words Plain = []
+own_words AllFeatures = codes "--all-features" ∷ []
+own_words NoDefaultFeatures = codes "--no-default-features" ∷ []
+own_words (Set s) = codes "--no-default-features" ∷ []
+
+-- the features that a run names, joined
+abbrev pub run_features : List Name → PackageRun → Option (List ℕ)
+run_features names Plain = None
+run_features names AllFeatures = None
+run_features names NoDefaultFeatures = None
+run_features names (Set s) = appended None (chosen names s)
+
+-- the command of a run, where the user wrote these words for cargo and the candidates have these names
+abbrev pub run_command : List (List ℕ) → List Name → PackageRun → Command
+run_command passed names run = record { program = codes "cargo"; strip_program_path = false; leading = []; passed = passed; own = own_words run; features = run_features names run; trailing = [] }

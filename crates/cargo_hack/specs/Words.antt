@@ -4,7 +4,9 @@ use Rattle.hack_features.specs.Names.{Name}
 use Rattle.hack_term.specs.Partitions.{IsNumber}
 use Rattle.hack_term.specs.Lists.{HasSeparator, group_names}
 use Rattle.cargo_hack.specs.declared.fault.ListFault.{ListFault}
-use Rattle.cargo_hack.specs.declared.fault.ListFault.TheVariants.{Usage, Number, Group, Input, Read, Write, Memory}
+use Rattle.cargo_hack.specs.declared.fault.ListFault.TheVariants as list
+use Rattle.cargo_hack.specs.declared.wishes.WordsFault.{WordsFault}
+use Rattle.cargo_hack.specs.declared.wishes.WordsFault.TheVariants.{Usage, Number, Group, Memory}
 
 -- the values behind the options, as they are written; those of an option that may be repeated in order
 pub record Written : Type 0 where
@@ -42,6 +44,11 @@ abbrev pub IsDepth : Option Name → Option ℕ → Type 0
 IsDepth None depth = depth ≡ None
 IsDepth (Some text) depth = (n : ℕ) × IsNumber text n × (depth ≡ Some n)
 
+-- a depth is written, as this text, which is no number
+pub record IsNoDepth (depth : Option Name) (text : Name) : Type 0 where
+  pub written : depth ≡ Some text
+  pub bad : (n : ℕ) → IsNumber text n → ⊥
+
 -- each list has a separator, and the groups are the names of the lists
 pub record AreGroups (lists : List Name) (groups : List (List Name)) : Type 0 where
   pub separated : All HasSeparator lists
@@ -77,8 +84,7 @@ IsGroupFault w option = ((option ≡ codes "--mutually-exclusive-features") × L
 pub record IsNumberFault (words : List Name) (text : Name) : Type 0 where
   pub written : Written
   pub said : with_words none_written words ≡ Some written
-  pub depth_of : written.depth ≡ Some text
-  pub bad : (n : ℕ) → IsNumber text n → ⊥
+  pub depth_of : IsNoDepth written.depth text
 
 -- the words keep the usage, their depth is a number, and the first list at fault is one of this option
 pub record IsListFault (words : List Name) (option : Name) : Type 0 where
@@ -89,11 +95,15 @@ pub record IsListFault (words : List Name) (option : Name) : Type 0 where
   pub fault : IsGroupFault written option
 
 -- why words are refused: the first fault that holds
-abbrev pub RefusesWords : List Name → ListFault → Type 0
+abbrev pub RefusesWords : List Name → WordsFault → Type 0
 RefusesWords words Usage = with_words none_written words ≡ None
 RefusesWords words (Number text) = IsNumberFault words (string_bytes text)
 RefusesWords words (Group option) = IsListFault words option.now
-RefusesWords words Input = ⊥
-RefusesWords words Read = ⊥
-RefusesWords words Write = ⊥
 RefusesWords words Memory = Unit {0}
+
+-- the fault of a list that a fault of its words is
+abbrev pub list_fault : WordsFault → ListFault
+list_fault Usage = list.Usage
+list_fault (Number text) = list.Number text
+list_fault (Group option) = list.Group option
+list_fault Memory = list.Memory

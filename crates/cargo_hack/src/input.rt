@@ -1,15 +1,13 @@
 //! The feature map that a reader gives.
 
-ghost use Rattle.std.specs.Prelude.{◌≡◌, [], ◌∷◌, map, IfOk, IfErr, Some};
+ghost use Rattle.std.specs.Prelude.{◌≡◌, [], ◌∷◌, map, IfOk, MatchOption, option_map};
 ghost use Rattle.serde_json.specs.View.{view};
 ghost use Rattle.hack_features.specs.Names.{names_of};
 ghost use Rattle.hack_features.specs.Feature.{groups_of, candidates_of, name_of};
 ghost use Rattle.hack_features.specs.FeatureMap.{feature_map};
-ghost use Rattle.cargo_hack.specs.Input.{values_in, IsMapText, keys_of};
-ghost use Rattle.cargo_hack.specs.InputFaults.{RefusesValues, RefusesMap, CannotRead};
+ghost use Rattle.cargo_hack.specs.Input.{values_in, IsMapText, IsNoMapText, keys_of};
 ghost use Rattle.cargo_hack.specs.CommandList.{IsInput};
 
-use crate::fault::ListFault;
 use hack_features::Feature;
 use serde_json::Value;
 use std::alloc::{AllocError, Global};
@@ -17,55 +15,55 @@ use std::collections::BTreeMap;
 use std::io;
 use std::io::Read;
 
-/// The texts of an array.
-fn texts_of(alloc: Global, value: Value) -> Result<Vec<String>, ListFault>
-    ensures ok { IfOk result (λ texts. values_in (view value) ≡ Some (names_of texts.items)) }
-    ensures err { IfErr result (RefusesValues (view value)) }
+/// The texts of an array; none where the value is no array of texts.
+fn texts_of(alloc: Global, value: Value) -> Result<Option<Vec<String>>, AllocError>
+    ensures { IfOk result (λ found. values_in (view value) ≡ option_map (λ texts. names_of texts.items) found) }
 {
     let Value::Array(items) = value else {
-        return Err(ListFault::Input);
+        return Ok(None);
     };
     let mut texts = Vec::new(alloc);
     for item in items {
         match item {
             Value::String(text) => texts.push(text)?,
-            _ => return Err(ListFault::Input),
+            _ => return Ok(None),
         }
     }
-    Ok(texts)
+    Ok(Some(texts))
 }
 
-/// The feature map that the bytes are.
-pub fn map_of(alloc: Global, bytes: &[u8]) -> Result<BTreeMap<String, Vec<String>>, ListFault>
-    ensures ok { IfOk result (λ found. IsMapText bytes.now (feature_map found)) }
-    ensures err { IfErr result (RefusesMap bytes.now) }
+/// The feature map that the bytes are; none where they are no map.
+pub fn map_of(
+    alloc: Global,
+    bytes: &[u8],
+) -> Result<Option<BTreeMap<String, Vec<String>>>, AllocError>
+    ensures { IfOk result (λ found. MatchOption found (IsNoMapText bytes.now) (λ m. IsMapText bytes.now (feature_map m))) }
 {
     let value = match Value::from_slice(alloc, bytes) {
         Ok(value) => value,
-        Err(error) if error.is_memory() => return Err(ListFault::Memory),
-        Err(_) => return Err(ListFault::Input),
+        Err(error) if error.is_memory() => return Err(AllocError),
+        Err(_) => return Ok(None),
     };
     let Value::Object(members) = value else {
-        return Err(ListFault::Input);
+        return Ok(None);
     };
     let mut map = BTreeMap::new(alloc);
     for (key, value) in members {
-        map.insert(key, texts_of(alloc, value)?)?;
+        let Some(texts) = texts_of(alloc, value)? else {
+            return Ok(None);
+        };
+        map.insert(key, texts)?;
     }
-    Ok(map)
+    Ok(Some(map))
 }
 
 /// All bytes that the reader has left.
-pub fn bytes_of<R: Read>(alloc: Global, input: &mut R) -> Result<Vec<u8>, ListFault>
-    ensures ok { IfOk result (λ bytes. IsInput (R.remaining input.old) bytes.items) }
-    ensures err { IfErr result CannotRead }
+pub fn bytes_of<R: Read>(alloc: Global, input: &mut R) -> io::Result<Vec<u8>>
+    ensures { IfOk result (λ bytes. IsInput (R.remaining input.old) bytes.items) }
 {
     let mut bytes = Vec::new(alloc);
-    match input.read_to_end(&mut bytes) {
-        Ok(_) => Ok(bytes),
-        Err(error) if error.kind() == io::ErrorKind::OutOfMemory => Err(ListFault::Memory),
-        Err(_) => Err(ListFault::Read),
-    }
+    input.read_to_end(&mut bytes)?;
+    Ok(bytes)
 }
 
 /// A feature of its own for each key of the map, in the order of the keys.

@@ -1,21 +1,59 @@
 //! What the words of `powerset-list` ask for.
 
-ghost use Rattle.std.specs.Prelude.{◌≡◌, IfOk, OnOk, IfErr, Some};
+ghost use Rattle.std.specs.Prelude.{◌≡◌, IfOk, IfErr, Some, None, option_map, MatchBool, MatchOption};
 ghost use Rattle.hack_features.specs.Names.{names_of, shown};
 ghost use Rattle.hack_features.specs.Feature.{groups_of as names_in_groups};
-ghost use Rattle.cargo_hack.specs.Words.{none_written, with_value, with_words, Asks, RefusesWords, IsDepth, AreGroups};
-ghost use Rattle.cargo_hack.specs.WishesView.{shown_text, written_in, RefusesValue, RefusesUsage, RefusesDepth, RefusesGroups};
+ghost use Rattle.cargo_hack.specs.Words.{none_written, with_value, with_words, Asks, RefusesWords, IsDepth, IsNoDepth, AreGroups, LacksSeparator};
+ghost use Rattle.cargo_hack.specs.WishesView.{shown_text, written_in};
 
 use crate::fault::ListFault;
 use hack_features::Feature;
 use hack_words::lists::{has_separator, split_group};
-use std::alloc::Global;
+use std::alloc::{AllocError, Global};
 
 const DEPTH: &str = "--depth";
 
 const AT_LEAST_ONE_OF: &str = "--at-least-one-of";
 
 const MUTUALLY_EXCLUSIVE: &str = "--mutually-exclusive-features";
+
+/// Why words ask for nothing.
+#[derive(Drop)]
+pub enum WordsFault {
+    Usage,
+    /// The depth that is no number.
+    Number(String),
+    /// The option of which a list has no separator.
+    Group(&'static str),
+    Memory,
+}
+
+impl From<AllocError> for WordsFault {
+    ghost use Rattle.cargo_hack.specs.declared.wishes.WordsFault.TheVariants.{Memory};
+    ghost use Rattle.std.specs.Prelude.{◌≡◌};
+
+    ghost from_gives = { λ _ e. e ≡ Memory };
+
+    fn from(_e: AllocError) -> WordsFault {
+        WordsFault::Memory
+    }
+}
+
+impl From<WordsFault> for ListFault {
+    ghost use Rattle.cargo_hack.specs.Words.{list_fault};
+    ghost use Rattle.std.specs.Prelude.{◌≡◌};
+
+    ghost from_gives = { λ fault e. e ≡ list_fault fault };
+
+    fn from(fault: WordsFault) -> ListFault {
+        match fault {
+            WordsFault::Usage => ListFault::Usage,
+            WordsFault::Number(text) => ListFault::Number(text),
+            WordsFault::Group(option) => ListFault::Group(option),
+            WordsFault::Memory => ListFault::Memory,
+        }
+    }
+}
 
 /// The values of the options, as they are written.
 #[derive(Drop)]
@@ -26,14 +64,15 @@ struct Values<'a> {
 }
 
 impl<'a> Values<'a> {
-    /// Takes the value of an option.
-    fn take(&mut self, option: &str, value: &'a str) -> Result<(), ListFault>
-        ensures ok { OnOk result (with_value (written_in self.old) option.now value.now ≡ Some (written_in self.new)) }
-        ensures err { IfErr result (RefusesValue (written_in self.old) option.now value.now) }
+    /// Takes the value of an option; answers whether there is such an option, which takes a value more.
+    fn take(&mut self, option: &str, value: &'a str) -> Result<bool, AllocError>
+        ensures { IfOk result (λ taken. MatchBool taken
+            (with_value (written_in self.old) option.now value.now ≡ Some (written_in self.new))
+            (with_value (written_in self.old) option.now value.now ≡ None)) }
     {
         if option == DEPTH {
             if self.depth.is_some() {
-                return Err(ListFault::Usage);
+                return Ok(false);
             }
             self.depth = Some(value);
         } else if option == AT_LEAST_ONE_OF {
@@ -41,15 +80,14 @@ impl<'a> Values<'a> {
         } else if option == MUTUALLY_EXCLUSIVE {
             self.mutually_exclusive.push(value)?;
         } else {
-            return Err(ListFault::Usage);
+            return Ok(false);
         }
-        Ok(())
+        Ok(true)
     }
 
-    /// The values in the words, each behind its option.
-    fn of(alloc: Global, words: &'a [String]) -> Result<Values<'a>, ListFault>
-        ensures ok { IfOk result (λ values. with_words none_written (names_of words.now) ≡ Some (written_in values)) }
-        ensures err { IfErr result (RefusesUsage (names_of words.now)) }
+    /// The values in the words, each behind its option; none where the words keep no usage.
+    fn of(alloc: Global, words: &'a [String]) -> Result<Option<Values<'a>>, AllocError>
+        ensures { IfOk result (λ found. with_words none_written (names_of words.now) ≡ option_map written_in found) }
     {
         let mut values = Values {
             depth: None,
@@ -58,44 +96,46 @@ impl<'a> Values<'a> {
         };
         let mut left = words;
         while let [option, value, rest @ ..] = left {
-            values.take(option.as_str(), value.as_str())?;
+            if !values.take(option.as_str(), value.as_str())? {
+                return Ok(None);
+            }
             left = rest;
         }
         // An option is left without its value.
         if !left.is_empty() {
-            return Err(ListFault::Usage);
+            return Ok(None);
         }
-        Ok(values)
+        Ok(Some(values))
     }
 }
 
-/// The number that a depth is, where one is given.
-fn depth_of(alloc: Global, depth: Option<&str>) -> Result<Option<usize>, ListFault>
+/// The number that a depth is, where one is given; else the text that is no number.
+fn depth_of(depth: Option<&str>) -> Result<Option<usize>, &str>
     ensures ok { IfOk result (IsDepth (shown_text depth.entry)) }
-    ensures err { IfErr result (RefusesDepth (shown_text depth.entry)) }
+    ensures err { IfErr result (λ text. IsNoDepth (shown_text depth.entry) text.now) }
 {
     let Some(text) = depth else {
         return Ok(None);
     };
     match text.parse::<usize>() {
         Ok(number) => Ok(Some(number)),
-        Err(_) => Err(ListFault::Number(String::from_str(alloc, text)?)),
+        Err(_) => Err(text),
     }
 }
 
-/// The groups that the lists of an option name.
-fn groups_of(alloc: Global, option: &'static str, lists: &[&str]) -> Result<Vec<Feature>, ListFault>
-    ensures ok { IfOk result (λ groups. AreGroups (shown lists.now) (names_in_groups groups.items)) }
-    ensures err { IfErr result (RefusesGroups option.now (shown lists.now)) }
+/// The groups that lists name; none where a list has no separator.
+fn groups_of(alloc: Global, lists: &[&str]) -> Result<Option<Vec<Feature>>, AllocError>
+    ensures { IfOk result (λ found. MatchOption found (LacksSeparator (shown lists.now))
+        (λ groups. AreGroups (shown lists.now) (names_in_groups groups.items))) }
 {
     let mut groups = Vec::new(alloc);
     for list in lists {
         if !has_separator(*list) {
-            return Err(ListFault::Group(option));
+            return Ok(None);
         }
         groups.push(Feature::group(alloc, split_group(alloc, *list)?)?)?;
     }
-    Ok(groups)
+    Ok(Some(groups))
 }
 
 /// What the words ask for.
@@ -108,18 +148,24 @@ pub struct Wishes {
 
 impl Wishes {
     /// What the words ask for, or their first fault.
-    pub fn of(alloc: Global, words: &[String]) -> Result<Wishes, ListFault>
+    pub fn of(alloc: Global, words: &[String]) -> Result<Wishes, WordsFault>
         ensures ok { IfOk result (λ wishes. Asks (names_of words.now) wishes.depth (names_in_groups wishes.at_least_one_of.items) (names_in_groups wishes.mutually_exclusive.items)) }
         ensures err { IfErr result (RefusesWords (names_of words.now)) }
     {
-        let values = Values::of(alloc, words)?;
-        let depth = depth_of(alloc, values.depth)?;
-        let mutually_exclusive = groups_of(
-            alloc,
-            MUTUALLY_EXCLUSIVE,
-            values.mutually_exclusive.as_slice(),
-        )?;
-        let at_least_one_of = groups_of(alloc, AT_LEAST_ONE_OF, values.at_least_one_of.as_slice())?;
+        let Some(values) = Values::of(alloc, words)? else {
+            return Err(WordsFault::Usage);
+        };
+        let depth = match depth_of(values.depth) {
+            Ok(depth) => depth,
+            Err(text) => return Err(WordsFault::Number(String::from_str(alloc, text)?)),
+        };
+        let Some(mutually_exclusive) = groups_of(alloc, values.mutually_exclusive.as_slice())?
+        else {
+            return Err(WordsFault::Group(MUTUALLY_EXCLUSIVE));
+        };
+        let Some(at_least_one_of) = groups_of(alloc, values.at_least_one_of.as_slice())? else {
+            return Err(WordsFault::Group(AT_LEAST_ONE_OF));
+        };
         Ok(Wishes {
             depth,
             at_least_one_of,

@@ -251,7 +251,7 @@ fn reader_that_fails(rt: HostRuntime) -> Result<(), Fail> {
     Ok(())
 }
 
-/// Fails once it holds so many lines.
+/// Takes a line at a time, and fails once it holds so many.
 #[derive(Drop)]
 struct ShortPage {
     bytes: Vec<u8>,
@@ -263,8 +263,12 @@ impl Write for ShortPage {
         if count_lines(self.bytes.as_slice()) == self.lines {
             return Err(io::Error::from(ErrorKind::BrokenPipe));
         }
-        self.bytes.extend_from_slice(buf)?;
-        Ok(buf.len())
+        let taken = match buf.iter().position(|byte| *byte == b'\n') {
+            Some(at) => at + 1,
+            None => buf.len(),
+        };
+        self.bytes.extend_from_slice(&buf[..taken])?;
+        Ok(taken)
     }
 
     fn flush(&mut self) -> io::Result<()> {

@@ -10,6 +10,8 @@ mod comparison;
 #[cfg(test)]
 mod given;
 #[cfg(test)]
+mod list_faults;
+#[cfg(test)]
 mod names;
 #[cfg(test)]
 mod plain;

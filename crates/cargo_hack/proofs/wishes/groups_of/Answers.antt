@@ -1,10 +1,10 @@
-use Rattle.std.proofs.Common.{◌≡◌, ◌∙◌, refl, sym, true, false}
+use Rattle.std.proofs.Common.{◌≡◌, ◌∙◌, sym, true, false}
 use Rattle.cargo_hack.proofs.WishLemmas.{groups-more, lacks-here, IsGroup-names}
 use Rattle.cargo_hack.proofs.wishes.groups_of.Goals as goal
 
-pub returns-then-not-has_separator-clause-err : goal.returns-then-not-has_separator-clause-err
-returns-then-not-has_separator-clause-err c =
-    (refl, lacks-here c.args.lists.now c.loop-list.list-index _ c.loop-list-test.true (λ s. let no : true ≡ false = sym (c.has_separator.ensures.separator.1 s) ∙ c.if-not-has_separator.true in absurd (cc)))
+pub returns-then-not-has_separator : goal.returns-then-not-has_separator
+returns-then-not-has_separator c =
+    lacks-here c.args.lists.now c.loop-list.list-index _ c.loop-list-test.true (λ s. let no : true ≡ false = sym (c.has_separator.ensures.separator.1 s) ∙ c.if-not-has_separator.true in absurd (cc))
 
 pub loop-list-preserved : goal.loop-list-preserved
 loop-list-preserved c =

@@ -1,5 +1,5 @@
-use Rattle.std.proofs.Common.{◌∙◌, arith, ap, sym, string_bytes}
-use Rattle.cargo_hack.specs.Words.{with_value}
+use Rattle.std.proofs.Common.{◌≡◌, ◌∙◌, arith, ap, sym, subst, string_bytes, Bool, MatchBool, Option, Some, None}
+use Rattle.cargo_hack.specs.Words.{Written, with_value}
 use Rattle.cargo_hack.specs.WishesView.{written_in}
 use Rattle.cargo_hack.proofs.WishLemmas.{words-more}
 use Rattle.cargo_hack.proofs.wishes.Values.of.Goals as goal
@@ -7,8 +7,11 @@ use Rattle.cargo_hack.proofs.wishes.Values.of.Goals as goal
 pub loop-left-preserved : goal.loop-left-preserved
 loop-left-preserved c =
     let so_far = written_in c.loop-left.values in
+    let more : Written = written_in c.take.new.self in
+    let given : Option Written = with_value so_far c.as_str.result.now c.as_str-in-len2-up.result.now in
+    let taken : given ≡ Some more = subst (λ (b : Bool). MatchBool b (given ≡ Some more) (given ≡ None)) c.if-not-branch.false c.in_ok-take.ensures in
     c.loop-left.invariant
-    ∙ words-more so_far (written_in c.take.new.self) c.loop-left.left.now c.option-item.result c.value-item.result (omega arith) c.option-item.is c.value-item.is
+    ∙ words-more so_far more c.loop-left.left.now c.option-item.result c.value-item.result (omega arith) c.option-item.is c.value-item.is
     (ap (λ option. with_value so_far option (string_bytes c.value-item.result)) (sym c.as_str.ensures.value)
     ∙ ap (with_value so_far c.as_str.result.now) (sym c.as_str-in-len2-up.ensures.value)
-    ∙ c.in_ok-take.ensures.ok)
+    ∙ taken)

@@ -1,0 +1,18 @@
+//! The program `powerset-list` once more, so that the gate runs it on words that it refuses: status 1, and no line of
+//! a list.
+#![tactic(auto)]
+
+use cargo_hack::call_powerset_list;
+use std::process::ExitCode;
+use std::{env, io};
+
+fn main(rt: HostRuntime) -> ExitCode {
+    let ending = call_powerset_list(
+        rt.alloc(),
+        env::args(&rt),
+        &mut rt.reader(),
+        &mut io::writer(&rt),
+        &mut rt.stderr(),
+    );
+    ExitCode::from(ending.status)
+}
