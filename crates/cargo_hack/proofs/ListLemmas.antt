@@ -1,14 +1,13 @@
 -- The sets of a command list.
-use Rattle.std.proofs.Common.{Option, inr, if◌then◌else◌, ◌≡◌, ◌↔◌, ◌∙◌, ℕ, List, [], ◌∷◌, Bool, IsTrue, true, false, length, map, nat_lt, refl, sym, ap, subst}
+use Rattle.std.proofs.Common.{Option, inr, if◌then◌else◌, ◌≡◌, ◌∙◌, ℕ, List, [], ◌∷◌, true, false, length, map, nat_lt, refl, sym, ap, subst}
 use Rattle.std.specs.declared.io.ErrorKind.{ErrorKind}
 use Rattle.std.proofs.lemmas.List.{length-map}
 use Rattle.hack_features.specs.Names.{Name}
 use Rattle.hack_features.specs.declared.feature.Feature.{Feature}
 use Rattle.hack_features.specs.Feature.{name_of, group_of, groups_of}
 use Rattle.hack_features.specs.FeatureMap.{FeatureMap}
-use Rattle.hack_features.specs.Sets.{IsSelection, IsListing}
-use Rattle.hack_features.specs.Rules.{Choice, IsListed, IsPermitted, IsRequired, unlifted}
-use Rattle.hack_features.specs.Questions.{IsWhole}
+use Rattle.hack_features.specs.Sets.{IsListing}
+use Rattle.hack_features.specs.Rules.{Choice, IsListed, unlifted}
 use Rattle.cargo_hack.specs.declared.plan.RunOptions.{RunOptions}
 use Rattle.cargo_hack.specs.declared.wishes.Wishes.{Wishes}
 use Rattle.cargo_hack.specs.Runs.{PackageRun, runs_from}
@@ -24,20 +23,6 @@ use Rattle.cargo_hack.specs.CommandList.{choice_for, options_for, IsCommandList,
 pub unlifted-none : (groups : List (List Name)) → unlifted groups [] ≡ groups
 unlifted-none [] = refl
 unlifted-none (group ∷ groups) = ap (λ l. group ∷ l) (unlifted-none groups)
-
--- what an enumeration by questions lists are the listed sets, where its questions are those of the rules
-pub listing-listed : (n : ℕ) (c : Choice) (may whole : List ℕ → Bool)
-    → ((s : List ℕ) → IsSelection n s → IsTrue (may s) ↔ IsPermitted c s)
-    → ((s : List ℕ) → IsSelection n s → IsTrue (whole s) ↔ IsRequired c s)
-    → (sets : List (List ℕ)) → IsListing n (IsWhole may whole) sets → IsListing n (IsListed c) sets
-listing-listed n c may whole permitted required sets l = record {
-  ordered = l.ordered;
-  exact = λ s. (
-    λ m. let w = (l.exact s).0 m in
-        (w.0, record { nonempty = w.1.nonempty; permitted = (permitted s w.0).0 w.1.allowed; required = (required s w.0).0 w.1.completed }),
-    λ w. (l.exact s).1 (w.0, record { nonempty = w.1.nonempty; allowed = (permitted s w.0).1 w.1.permitted; completed = (required s w.0).1 w.1.required }),
-  );
-}
 
 -- the lines of the runs of a map's features are its command list
 pub command_list : (w : Wishes) (fs : List Feature) (m : FeatureMap) (runs : List PackageRun)
