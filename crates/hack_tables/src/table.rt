@@ -2,8 +2,9 @@
 //!
 //! A line `[kind] A sentence.` begins a group of rows, of one kind of question, and says the rule that they show. A line
 //! `@ name value` says what the rows of the group are asked with. A row is a line `> question`, whose words stand
-//! between spaces, and the lines of its answer, each behind `| `. In both `\s` is a space, `\n` a line feed, `\t` a tab,
-//! `\0` nothing and `\\` a backslash. Empty lines and those that begin with `#` are left out.
+//! between spaces, and the lines of its answer, each behind `| `. In both `\s` is a space, `\n` a line feed, `\r` a
+//! carriage return, `\t` a tab, `\0` nothing and `\\` a backslash. Empty lines and those that begin with `#` are left
+//! out.
 
 use crate::answers::answer;
 use std::alloc::{AllocError, AllocFailed, Global};
@@ -95,6 +96,7 @@ fn unescaped(alloc: Global, text: &str) -> Result<String, AllocError> {
             's' => made.push(' ')?,
             'n' => made.push('\n')?,
             't' => made.push('\t')?,
+            'r' => made.push('\r')?,
             '0' => {}
             c => made.push(c)?,
         }
