@@ -1,10 +1,10 @@
 -- The first set that covers another: take out, from the greatest position on, each that the others cover.
-use Rattle.std.proofs.Common.{◌≡◌, ◌≢◌, ℕ, zero, suc, ◌+◌, ◌<◌, ◌≤◌, List, [], ◌∷◌, ◌++◌, length, get_or, refl, sym, ◌∙◌, ap, subst, arith, Bool, true, false, ◌⊎◌, inl, inr, ◌↔◌, All, Contains, length-append, Option, Some, None, is_some, cond}
-use Rattle.std.specs.Prelude.{not, ◌==◌, ◌||◌, IfSome}
+use Rattle.std.proofs.Common.{◌≡◌, ◌≢◌, ℕ, zero, suc, ◌+◌, ◌<◌, ◌≤◌, List, [], ◌∷◌, ◌++◌, length, get_or, refl, sym, ◌∙◌, ap, subst, arith, Bool, true, false, ◌⊎◌, inl, inr, ◌↔◌, All, Contains, length-append, cond}
+use Rattle.std.specs.Prelude.{not, ◌==◌}
 use Rattle.std.specs.List.{remove, list_any}
 use Rattle.std.specs.Str.{bytes_eq}
 use Rattle.std.proofs.lemmas.Slice.Eq.{bytes_eq-Decides}
-use Rattle.std.proofs.lemmas.Bool.{and_parts, and_from, or_cases, cases_eq, cases_lt, cases_order}
+use Rattle.std.proofs.lemmas.Bool.{and_parts, and_from, cases_eq, cases_lt, cases_order}
 use Rattle.std.proofs.lemmas.Bool.Decides.{eqb_tells}
 use Rattle.std.proofs.lemmas.List.Elements.{All-contains, All-contains_itself, All-nil, Contains-get_or}
 use Rattle.std.proofs.lemmas.List.Edits.{length-remove, get_or-remove_below, get_or-remove_above}
@@ -15,7 +15,7 @@ use Rattle.hack_features.proofs.Coverage.{Chain-append, named_in, within_left, e
 use Rattle.hack_features.proofs.Single.{member_of, key_from}
 use Rattle.hack_features.proofs.Listing.{selection_pop, selection_push, selection_up, before_new, before_push}
 use Rattle.hack_features.specs.Names.{Name}
-use Rattle.hack_features.specs.FeatureMap.{FeatureMap, IsKey, here, Enables}
+use Rattle.hack_features.specs.FeatureMap.{IsKey, here, Enables}
 use Rattle.hack_features.specs.Tables.{leads}
 use Rattle.hack_features.specs.Places.{name_at, ArePlaced}
 use Rattle.hack_features.specs.declared.reach.Edges.TheVariants.{Enabling}

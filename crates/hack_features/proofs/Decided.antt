@@ -1,5 +1,5 @@
 -- What a feature map says can be told, so what is only known to be so can be had.
-use Rattle.std.proofs.Common.{◌≡◌, ◌≢◌, ℕ, zero, suc, ◌+◌, ◌<◌, ◌≤◌, List, [], ◌∷◌, ◌++◌, length, get_or, refl, sym, ◌∙◌, ap, subst, arith, Option, Some, None, IfSome, IsSome, is_some, Bool, true, false, IsTrue, ◌⊎◌, inl, inr, ◌↔◌, All, Contains, append_assoc, append-nil, map}
+use Rattle.std.proofs.Common.{◌≡◌, ◌≢◌, ℕ, zero, suc, ◌+◌, ◌<◌, ◌≤◌, List, [], ◌∷◌, ◌++◌, length, get_or, refl, sym, ◌∙◌, subst, arith, Option, Some, None, is_some, Bool, true, false, IsTrue, ◌⊎◌, inl, inr, All, Contains, append_assoc, append-nil, map}
 use Rattle.std.specs.List.{list_any}
 use Rattle.std.specs.Map.{lookup}
 use Rattle.std.specs.Str.{bytes_eq}
@@ -11,12 +11,12 @@ use Rattle.std.proofs.lemmas.List.Elements.{All-head, All-tail, All-nil, All-con
 use Rattle.std.proofs.lemmas.Map.Views.{list_any-from_Contains, Contains-from_any}
 use Rattle.hack_features.proofs.Members.{Contains-nil, Contains-cons_cases, Contains-head, Contains-tail}
 use Rattle.hack_features.proofs.NameLemmas.{same_text, differ}
-use Rattle.hack_features.proofs.ReachLemmas.{all_targets, adds-one, adds-there, adds-target, adds-no_target, adds-no_targets, adds-edges, adds-none, Searching, searching-start, searching-next, searching-bound, searching-end}
+use Rattle.hack_features.proofs.ReachLemmas.{all_targets, adds-one, adds-there, adds-target, adds-no_target, adds-no_targets, adds-edges, Searching, searching-start, searching-next, searching-bound, searching-end}
 use Rattle.hack_features.specs.Names.{Name}
 use Rattle.hack_features.specs.FeatureMap.{FeatureMap, values_at, IsKey, Chain, Enables, EnablesOneOf}
 use Rattle.hack_features.specs.Search.{edge_of, target_of, IsTarget, Adds, IsReach}
 use Rattle.hack_features.specs.Places.{name_at, AreAt, AreAllAt, AreRoutes, ArePlaced}
-use Rattle.hack_features.specs.Sets.{IsSelection, Pairwise}
+use Rattle.hack_features.specs.Sets.{Pairwise}
 use Rattle.hack_features.specs.Rules.{Choice, names_at, names_in, SparesNames, NotBothReach, Serves}
 use Rattle.hack_features.specs.Tables.{AreTables, is_exclusive, is_required, cell, bit, leads}
 use Rattle.hack_features.specs.declared.reach.Edges.{Edges}

@@ -1,15 +1,14 @@
 -- Links between the names of a table: how their rows are made, and what chains of them say of the map.
-use Rattle.std.proofs.Common.{◌≡◌, ◌≢◌, ℕ, zero, suc, ◌+◌, ◌<◌, ◌≤◌, List, [], ◌∷◌, ◌++◌, length, get_or, refl, sym, ◌∙◌, ap, subst, arith, map, Option, Some, None, is_some, IfSome, Bool, true, false, cond, ◌⊎◌, inl, inr, ◌↔◌, IsTrue, All, Contains, length-append, append_assoc, append-nil, String, Vec}
-use Rattle.std.specs.List.{IsDistinct, filter_map, slice_set}
+use Rattle.std.proofs.Common.{◌≡◌, ℕ, ◌+◌, ◌<◌, ◌≤◌, List, [], ◌∷◌, ◌++◌, length, get_or, refl, sym, ◌∙◌, ap, subst, arith, map, Option, Some, None, is_some, Bool, false, inl, inr, ◌↔◌, IsTrue, All, Contains, length-append, append_assoc, append-nil, String, Vec}
 use Rattle.std.specs.Option.{option_map}
 use Rattle.std.specs.BTreeMap.{BTreeMap, get_by_text}
 use Rattle.std.specs.Map.{lookup}
 use Rattle.std.specs.Str.{bytes_eq}
 use Rattle.std.specs.Borrow.{Bor}
 use Rattle.std.proofs.Math.ListN.{get_or-append}
-use Rattle.std.proofs.lemmas.List.Elements.{Contains-append_left, Contains-append_right, Contains-push, Contains-push_cases, Contains-get_or, All-contains}
+use Rattle.std.proofs.lemmas.List.Elements.{Contains-append_left, Contains-append_right, All-contains}
 use Rattle.std.proofs.lemmas.List.{get_or_default}
-use Rattle.hack_features.proofs.Members.{lt_or_same, Contains-nil, Contains-map, Contains-map_from}
+use Rattle.hack_features.proofs.Members.{lt_or_same, Contains-map, Contains-map_from}
 use Rattle.hack_features.proofs.TableLemmas.{filter_map_from, filter_map_has}
 use Rattle.hack_features.proofs.NameLemmas.{length-le_from_distinct}
 use Rattle.hack_features.proofs.ReachLemmas.{all_targets, target_listed, lookup-feature_map, edge-from_target, target-from_edge}

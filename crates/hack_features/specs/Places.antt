@@ -1,5 +1,5 @@
 -- Names by their places in a table of names, and places that lead to places.
-use Rattle.std.specs.Prelude.{◌≡◌, ◌<◌, ℕ, List, [], ◌∷◌, map, length, Bool, All, Contains, Option, IfSome, Some, is_some, cond, ◌+◌, ◌++◌, ◌⊎◌, ◌↔◌, IsTrue, ◌||◌, ◌==◌}
+use Rattle.std.specs.Prelude.{◌≡◌, ◌<◌, ℕ, List, [], ◌∷◌, map, length, Bool, All, Contains, IfSome, Some, is_some, cond, ◌+◌, ◌++◌, ◌⊎◌, ◌↔◌, IsTrue}
 use Rattle.std.specs.List.{slice_index_or, filter_map, IsDistinct}
 use Rattle.std.specs.Borrow.{Bor}
 use Rattle.std.specs.BTreeMap.{BTreeMap}

@@ -1,4 +1,4 @@
-use Rattle.std.proofs.Common.{◌≡◌, ◌↔◌, ◌==◌, ◌||◌, ◌∷◌, ℕ, List, Bool, [], IsTrue, length, sym, ap, ◌∙◌, subst, arith}
+use Rattle.std.proofs.Common.{◌↔◌, ◌==◌, ◌||◌, ℕ, List, Bool, [], IsTrue, ◌∙◌, arith}
 use Rattle.std.proofs.lemmas.List.{length-map, map-append}
 use Rattle.hack_features.specs.FeatureMap.{Chain}
 use Rattle.hack_features.specs.Sets.{rows_of}

@@ -1,4 +1,4 @@
-use Rattle.std.proofs.Common.{◌≡◌, ◌↔◌, ◌==◌, ◌||◌, ℕ, List, Bool, [], IsTrue, length, sym, ap, ◌∙◌, subst, eqb-true}
+use Rattle.std.proofs.Common.{◌≡◌, ◌↔◌, ◌==◌, ◌||◌, ℕ, List, Bool, [], IsTrue, length, sym, ◌∙◌, subst, eqb-true}
 use Rattle.hack_features.specs.FeatureMap.{Chain}
 use Rattle.hack_features.specs.Sets.{rows_of}
 use Rattle.hack_features.specs.Tables.{bit}

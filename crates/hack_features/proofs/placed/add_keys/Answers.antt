@@ -1,4 +1,4 @@
-use Rattle.std.proofs.Common.{◌≡◌, ◌∷◌, ◌∙◌, ◌⊎◌, inl, inr, Contains, sym, ap, subst, string_bytes}
+use Rattle.std.proofs.Common.{◌∷◌, ◌∙◌, ◌⊎◌, inl, inr, Contains, sym, ap, subst, string_bytes}
 use Rattle.std.specs.Map.Iter.{deref}
 use Rattle.std.proofs.lemmas.Map.Iter.{rest_more}
 use Rattle.std.proofs.lemmas.List.Elements.{Contains-append_left}

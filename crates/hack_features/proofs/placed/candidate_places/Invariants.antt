@@ -1,4 +1,4 @@
-use Rattle.std.proofs.Common.{◌≡◌, take, length}
+use Rattle.std.proofs.Common.{take}
 use Rattle.hack_features.specs.Sets.{rows_of}
 use Rattle.hack_features.specs.Feature.{candidates_of}
 use Rattle.hack_features.specs.Places.{AreAllAt, IsMore}

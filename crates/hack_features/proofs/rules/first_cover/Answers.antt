@@ -1,4 +1,4 @@
-use Rattle.std.proofs.Common.{◌≡◌, ◌<◌, ◌+◌, ◌-◌, [], List, ℕ, Bool, cond, sym, ap, ◌∙◌, subst, length, get_or, arith}
+use Rattle.std.proofs.Common.{◌≡◌, ◌<◌, ◌+◌, ◌-◌, [], List, ℕ, Bool, cond, sym, ap, subst, length, get_or, arith}
 use Rattle.std.specs.List.{remove}
 use Rattle.hack_features.specs.Cover.{covers_test}
 use Rattle.hack_features.specs.Sets.{rows_of}

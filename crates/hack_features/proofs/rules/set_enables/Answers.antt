@@ -1,4 +1,4 @@
-use Rattle.std.proofs.Common.{◌≡◌, [], ◌∙◌, ℕ, List, Bool, true, false, get_or, take, sym, ap, subst}
+use Rattle.std.proofs.Common.{◌≡◌, [], ◌∙◌, ℕ, List, Bool, false, get_or, take, sym, ap, subst}
 use Rattle.std.specs.List.{list_any}
 use Rattle.std.proofs.lemmas.List.{take_more}
 use Rattle.hack_features.specs.Sets.{rows_of}

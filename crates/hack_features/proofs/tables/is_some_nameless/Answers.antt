@@ -1,4 +1,4 @@
-use Rattle.std.proofs.Common.{◌≡◌, ◌==◌, ◌++◌, ◌∷◌, [], ◌∙◌, List, ℕ, Bool, true, false, length, take, sym, ap, subst, arith, vec_len}
+use Rattle.std.proofs.Common.{◌≡◌, ◌==◌, ◌∙◌, List, ℕ, Bool, true, false, length, take, sym, subst, arith, vec_len}
 use Rattle.std.specs.List.{list_any}
 use Rattle.hack_features.specs.Sets.{rows_of}
 use Rattle.hack_features.proofs.Passes.{any_passes}

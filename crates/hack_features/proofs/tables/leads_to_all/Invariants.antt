@@ -1,8 +1,8 @@
-use Rattle.std.proofs.Common.{◌≡◌, ◌<◌, ◌≤◌, ◌+◌, ℕ, [], take, true, false, length, get_or, IsTrue}
+use Rattle.std.proofs.Common.{◌≡◌, take, true}
 use Rattle.std.specs.Prelude.{not, ◌==◌, ◌&&◌}
-use Rattle.std.specs.List.{list_any, list_all}
+use Rattle.std.specs.List.{list_all}
 use Rattle.hack_features.specs.Sets.{rows_of}
-use Rattle.hack_features.specs.Tables.{bit, cell, leads, spares_test, serves_test, Counts, count_at}
+use Rattle.hack_features.specs.Tables.{cell}
 use Rattle.hack_features.proofs.tables.leads_to_all.Given as goal
 
 abbrev pub invariant-loop-y : goal.invariant-loop-y

@@ -1,8 +1,7 @@
-use Rattle.std.proofs.Common.{◌≡◌, ◌<◌, ◌≤◌, ◌+◌, ℕ, [], take, true, false, length, get_or, IsTrue}
-use Rattle.std.specs.Prelude.{not, ◌==◌, ◌&&◌}
-use Rattle.std.specs.List.{list_any, list_all}
+use Rattle.std.proofs.Common.{◌≡◌, take, false}
+use Rattle.std.specs.List.{list_any}
 use Rattle.hack_features.specs.Sets.{rows_of}
-use Rattle.hack_features.specs.Tables.{bit, cell, leads, spares_test, serves_test, Counts, count_at}
+use Rattle.hack_features.specs.Tables.{leads}
 use Rattle.hack_features.proofs.tables.leads_to_one.Given as goal
 
 abbrev pub invariant-loop-y : goal.invariant-loop-y

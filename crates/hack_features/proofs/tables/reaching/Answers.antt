@@ -1,4 +1,4 @@
-use Rattle.std.proofs.Common.{◌≡◌, ◌+◌, ◌++◌, ◌∷◌, [], ◌∙◌, ℕ, List, IsTrue, arith, take, subst, sym, true, false, get_or, length, ◌≤◌}
+use Rattle.std.proofs.Common.{◌≡◌, ◌+◌, ◌∙◌, ℕ, IsTrue, arith, take, subst, sym, true, false, get_or, length, ◌≤◌}
 use Rattle.std.specs.List.{list_any}
 use Rattle.std.proofs.lemmas.List.{take_more, take_all}
 use Rattle.hack_features.specs.Sets.{rows_of}

@@ -1,7 +1,6 @@
-use Rattle.std.proofs.Common.{◌≡◌, ◌<◌, ◌≤◌, ◌+◌, ◌++◌, ◌∷◌, [], sym, ap, ◌∙◌, subst, arith, refl, Bool, ℕ, List, true, false, get_or, take, length, IsTrue}
+use Rattle.std.proofs.Common.{◌≡◌, ◌<◌, ◌≤◌, ◌+◌, ◌∷◌, [], sym, ap, ◌∙◌, subst, arith, Bool, ℕ, List, false, get_or, take, length, IsTrue}
 use Rattle.std.specs.List.{list_any}
-use Rattle.std.proofs.lemmas.List.{take_more, take_all, map-append, length-map}
-use Rattle.hack_features.specs.Names.{Name}
+use Rattle.std.proofs.lemmas.List.{take_all, map-append, length-map}
 use Rattle.hack_features.specs.Sets.{rows_of}
 use Rattle.hack_features.specs.Routed.{names_in}
 use Rattle.hack_features.specs.Tables as table

@@ -1,4 +1,4 @@
-use Rattle.std.proofs.Common.{◌≡◌, ◌++◌, ◌∷◌, [], ◌<◌, ◌∙◌, length, length-append, sym, ap, subst, arith, is_some, ℕ, List}
+use Rattle.std.proofs.Common.{◌≡◌, ◌++◌, ◌∷◌, [], ◌<◌, ◌∙◌, length, length-append, sym, ap, subst, arith, ℕ, List}
 use Rattle.std.proofs.lemmas.List.{get_or_default, map-append, length-map}
 use Rattle.hack_features.specs.FeatureMap.{feature_map}
 use Rattle.hack_features.specs.Places.{AreRows, name_at}

@@ -1,6 +1,4 @@
-use Rattle.std.proofs.Common.{◌≡◌, ◌++◌, ◌<◌, ◌≤◌, [], length, sym, ap, subst, arith, length-append}
-use Rattle.std.proofs.lemmas.List.{length-map}
-use Rattle.hack_features.specs.Names.{shown}
+use Rattle.std.proofs.Common.{◌++◌, ◌<◌, ◌≤◌, [], length, sym, ap, subst, arith}
 use Rattle.hack_features.specs.FeatureMap.{feature_map}
 use Rattle.hack_features.specs.Sets.{rows_of}
 use Rattle.hack_features.specs.Places.{AreRows}

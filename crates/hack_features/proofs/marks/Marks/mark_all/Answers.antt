@@ -1,4 +1,4 @@
-use Rattle.std.proofs.Common.{◌≡◌, ◌+◌, ◌++◌, ◌∷◌, [], take, length, sym, ap, ◌∙◌, subst, Contains, ℕ, get_or}
+use Rattle.std.proofs.Common.{take, sym, ◌∙◌, subst, Contains, ℕ, get_or}
 use Rattle.std.proofs.lemmas.List.{take_more}
 use Rattle.hack_features.specs.Places.{AddsPlaces}
 use Rattle.hack_features.proofs.MarkLemmas.{places-next}

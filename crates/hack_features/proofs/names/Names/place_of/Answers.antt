@@ -1,5 +1,4 @@
-use Rattle.std.proofs.Common.{◌≡◌, sym, ap, subst}
-use Rattle.std.proofs.lemmas.List.{get_or_default}
+use Rattle.std.proofs.Common.{◌≡◌, sym, subst}
 use Rattle.hack_features.specs.Search.{Adds}
 use Rattle.hack_features.specs.Table.{table}
 use Rattle.hack_features.proofs.ReachLemmas.{adds-one, adds-there}

@@ -1,9 +1,8 @@
-use Rattle.std.proofs.Common.{◌≡◌, ◌+◌, ◌++◌, ◌∷◌, [], ◌∙◌, take, sym, ap, subst, length, ◌≤◌, arith}
-use Rattle.std.proofs.lemmas.List.{take_all}
+use Rattle.std.proofs.Common.{◌+◌, ◌++◌, ◌∷◌, [], ◌∙◌, take, sym, ap, subst}
 use Rattle.hack_features.specs.Names.{names_of}
 use Rattle.hack_features.specs.Places.{AreAt}
 use Rattle.hack_features.specs.Table.{table}
-use Rattle.hack_features.proofs.NameLemmas.{names-more, length-names, names-whole}
+use Rattle.hack_features.proofs.NameLemmas.{names-more}
 use Rattle.hack_features.proofs.PlaceLemmas.{at-front, at-push, at-nothing, more-none, more-then}
 use Rattle.hack_features.proofs.names.Names.places_of.Goals as goal
 

@@ -1,8 +1,7 @@
-use Rattle.std.proofs.Common.{◌≡◌, ◌++◌, ◌∷◌, [], List, Some, None, take, length, ◌+◌, ◌∙◌, sym, ap, subst}
-use Rattle.std.specs.List.{filter_map}
-use Rattle.hack_features.specs.Names.{Name, names_of}
-use Rattle.hack_features.specs.Search.{Adds, IsTarget, target_of}
-use Rattle.hack_features.specs.Places.{HasPlaces, AreAt, targets_of}
+use Rattle.std.proofs.Common.{◌≡◌, ◌++◌, ◌∷◌, [], take, ◌+◌, ◌∙◌, sym, ap, subst}
+use Rattle.hack_features.specs.Names.{names_of}
+use Rattle.hack_features.specs.Search.{Adds, IsTarget}
+use Rattle.hack_features.specs.Places.{AreAt, targets_of}
 use Rattle.hack_features.specs.Table.{table, IsInStep}
 use Rattle.hack_features.proofs.NameLemmas.{names-more}
 use Rattle.hack_features.proofs.ReachLemmas.{adds-target, adds-no_target}

@@ -1,4 +1,4 @@
-use Rattle.std.proofs.Common.{◌≡◌, sym, ap, subst, Contains}
+use Rattle.std.proofs.Common.{sym, subst, Contains}
 use Rattle.std.proofs.lemmas.List.Elements.{Contains-append_left}
 use Rattle.hack_features.specs.Places.{IsMore}
 use Rattle.hack_features.specs.Sets.{rows_of}

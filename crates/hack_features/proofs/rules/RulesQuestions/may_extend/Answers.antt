@@ -1,4 +1,4 @@
-use Rattle.std.proofs.Common.{◌≡◌, ◌++◌, ◌∷◌, [], List, ℕ, ◌↔◌, IsTrue, subst, sym, arith}
+use Rattle.std.proofs.Common.{◌++◌, ◌∷◌, [], List, ℕ, ◌↔◌, IsTrue, subst, sym, arith}
 use Rattle.hack_features.specs.Rules.{IsPermitted}
 use Rattle.hack_features.specs.View.{choice_of, size_of}
 use Rattle.hack_features.proofs.Listing.{selection_push, selection_up}

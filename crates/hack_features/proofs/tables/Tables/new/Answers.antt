@@ -1,4 +1,4 @@
-use Rattle.std.proofs.Common.{[], ◌∙◌, sym, ap, arith, get_or, List, ℕ}
+use Rattle.std.proofs.Common.{[], ◌∙◌, sym, arith, get_or, List, ℕ}
 use Rattle.std.proofs.lemmas.List.{length-map}
 use Rattle.hack_features.specs.Sets.{rows_of}
 use Rattle.hack_features.specs.Given.{choice_in}
