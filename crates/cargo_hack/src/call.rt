@@ -34,8 +34,10 @@ fn list_for<R: Read, W: Write>(
     input: &mut R,
     out: &mut W,
 ) -> Result<(), ListFault>
-    ensures ok { OnOk result (WritesForCall arguments (R.remaining input.old) (W.contents out.old) (W.contents out.new)) }
-    ensures err { IfErr result (RefusesCall arguments (R.remaining input.old) (W.contents out.old) (W.contents out.new)) }
+    ensures ok { OnOk result (WritesForCall arguments
+        (R.remaining input.old) (W.contents out.old) (W.contents out.new)) }
+    ensures err { IfErr result (RefusesCall arguments
+        (R.remaining input.old) (W.contents out.old) (W.contents out.new)) }
 {
     match arguments {
         Ok(all) => {
@@ -46,8 +48,8 @@ fn list_for<R: Read, W: Write>(
     }
 }
 
-/// What the program `powerset-list` does: `powerset_list` for the words behind the first of the arguments, which are
-/// handed in as `env::args` answers them. A fault is told by a line on `err`.
+/// What the program `powerset-list` does: `powerset_list` for the words behind the first of the
+/// arguments, which are handed in as `env::args` answers them. A fault is told by a line on `err`.
 pub fn call_powerset_list<R: Read, W: Write, E: Write>(
     alloc: Global,
     arguments: io::Result<Args>,
@@ -55,8 +57,10 @@ pub fn call_powerset_list<R: Read, W: Write, E: Write>(
     out: &mut W,
     err: &mut E,
 ) -> Ending
-    ensures { IsDone arguments (R.remaining input.old) (W.contents out.old) (W.contents out.new) (E.contents err.old) (E.contents err.new) result
-        ⊎ IsRefused arguments (R.remaining input.old) (W.contents out.old) (W.contents out.new) (E.contents err.old) (E.contents err.new) result }
+    ensures { IsDone arguments (R.remaining input.old) (W.contents out.old) (W.contents out.new)
+        (E.contents err.old) (E.contents err.new) result
+        ⊎ IsRefused arguments (R.remaining input.old) (W.contents out.old) (W.contents out.new)
+        (E.contents err.old) (E.contents err.new) result }
 {
     match list_for(alloc, arguments, input, out) {
         Ok(()) => Ending {

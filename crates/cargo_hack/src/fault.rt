@@ -56,8 +56,8 @@ impl<'a> Parts<'a> {
 }
 
 impl ListFault {
-    /// The fault that an error of a reader or a writer is: want of memory exactly where its kind says so, and else
-    /// `other`.
+    /// The fault that an error of a reader or a writer is: want of memory exactly where its kind
+    /// says so, and else `other`.
     pub fn of_error(error: &io::Error, other: ListFault) -> ListFault
         ensures { result ≡ told_as (error_kind error.now) other }
     {
@@ -69,8 +69,10 @@ impl ListFault {
 
     /// Writes the line of the fault: `error: `, its text and a line feed.
     pub fn tell<E: Write>(&self, err: &mut E) -> io::Result<()>
-        ensures all { OnOk result (Appends (E.contents err.old) (E.contents err.new) (fault_line self.now)) }
-        ensures front { AppendsFront (E.contents err.old) (E.contents err.new) (fault_line self.now) }
+        ensures all { OnOk result
+            (Appends (E.contents err.old) (E.contents err.new) (fault_line self.now)) }
+        ensures front { AppendsFront (E.contents err.old) (E.contents err.new)
+            (fault_line self.now) }
     {
         let parts = self.parts();
         write_texts(
@@ -80,7 +82,8 @@ impl ListFault {
     }
 
     fn parts(&self) -> Parts<'_>
-        ensures { result.before.now ++ result.written.now ++ result.behind.now ≡ fault_text self.now }
+        ensures { result.before.now ++ result.written.now ++ result.behind.now
+            ≡ fault_text self.now }
     {
         match self {
             ListFault::Usage => Parts::fixed(USAGE),

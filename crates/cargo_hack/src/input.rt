@@ -17,7 +17,8 @@ use std::io::Read;
 
 /// The texts of an array; none where the value is no array of texts.
 fn texts_of(alloc: Global, value: Value) -> Result<Option<Vec<String>>, AllocError>
-    ensures { IfOk result (λ found. values_in (view value) ≡ option_map (λ texts. names_of texts.items) found) }
+    ensures { IfOk result (λ found. values_in (view value)
+        ≡ option_map (λ texts. names_of texts.items) found) }
 {
     let Value::Array(items) = value else {
         return Ok(None);
@@ -37,7 +38,8 @@ pub fn map_of(
     alloc: Global,
     bytes: &[u8],
 ) -> Result<Option<BTreeMap<String, Vec<String>>>, AllocError>
-    ensures { IfOk result (λ found. MatchOption found (IsNoMapText bytes.now) (λ m. IsMapText bytes.now (feature_map m))) }
+    ensures { IfOk result (λ found. MatchOption found (IsNoMapText bytes.now)
+        (λ m. IsMapText bytes.now (feature_map m))) }
 {
     let value = match Value::from_slice(alloc, bytes) {
         Ok(value) => value,

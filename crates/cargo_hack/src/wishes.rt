@@ -1,9 +1,11 @@
 //! What the words of `powerset-list` ask for.
 
-ghost use Rattle.std.specs.Prelude.{◌≡◌, IfOk, IfErr, Some, None, option_map, MatchBool, MatchOption};
+ghost use Rattle.std.specs.Prelude.{◌≡◌, IfOk, IfErr, Some, None, option_map};
+ghost use Rattle.std.specs.Prelude.{MatchBool, MatchOption};
 ghost use Rattle.hack_features.specs.Names.{names_of, shown};
 ghost use Rattle.hack_features.specs.Feature.{groups_of as names_in_groups};
-ghost use Rattle.cargo_hack.specs.Words.{none_written, with_value, with_words, Asks, RefusesWords, IsDepth, IsNoDepth, AreGroups, LacksSeparator};
+ghost use Rattle.cargo_hack.specs.Words.{none_written, with_value, with_words, Asks, RefusesWords};
+ghost use Rattle.cargo_hack.specs.Words.{IsDepth, IsNoDepth, AreGroups, LacksSeparator};
 ghost use Rattle.cargo_hack.specs.WishesView.{shown_text, written_in};
 
 use crate::fault::ListFault;
@@ -64,7 +66,7 @@ struct Values<'a> {
 }
 
 impl<'a> Values<'a> {
-    /// Takes the value of an option; answers whether there is such an option, which takes a value more.
+    /// Takes the value of an option; answers whether there is such an option, which takes one more.
     fn take(&mut self, option: &str, value: &'a str) -> Result<bool, AllocError>
         ensures { IfOk result (λ taken. MatchBool taken
             (with_value (written_in self.old) option.now value.now ≡ Some (written_in self.new))
@@ -85,9 +87,10 @@ impl<'a> Values<'a> {
         Ok(true)
     }
 
-    /// The values in the words, each behind its option; none where the words keep no usage.
+    /// The values in the words, each behind its option; none where they keep no usage.
     fn of(alloc: Global, words: &'a [String]) -> Result<Option<Values<'a>>, AllocError>
-        ensures { IfOk result (λ found. with_words none_written (names_of words.now) ≡ option_map written_in found) }
+        ensures { IfOk result (λ found. with_words none_written (names_of words.now)
+            ≡ option_map written_in found) }
     {
         let mut values = Values {
             depth: None,
@@ -149,7 +152,9 @@ pub struct Wishes {
 impl Wishes {
     /// What the words ask for, or their first fault.
     pub fn of(alloc: Global, words: &[String]) -> Result<Wishes, WordsFault>
-        ensures ok { IfOk result (λ wishes. Asks (names_of words.now) wishes.depth (names_in_groups wishes.at_least_one_of.items) (names_in_groups wishes.mutually_exclusive.items)) }
+        ensures ok { IfOk result (λ wishes. Asks (names_of words.now) wishes.depth
+            (names_in_groups wishes.at_least_one_of.items)
+            (names_in_groups wishes.mutually_exclusive.items)) }
         ensures err { IfErr result (RefusesWords (names_of words.now)) }
     {
         let Some(values) = Values::of(alloc, words)? else {

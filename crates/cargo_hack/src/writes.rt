@@ -32,8 +32,10 @@ pub fn write_text<W: Write>(text: &str, out: &mut W) -> io::Result<()>
 
 /// Writes texts one after the other, or a front of them all where a write fails.
 pub fn write_texts<W: Write>(texts: &[&str], out: &mut W) -> io::Result<()>
-    ensures all { OnOk result (Appends (W.contents out.old) (W.contents out.new) (flat_map (λ text. text.now) texts.now)) }
-    ensures front { AppendsFront (W.contents out.old) (W.contents out.new) (flat_map (λ text. text.now) texts.now) }
+    ensures all { OnOk result (Appends (W.contents out.old) (W.contents out.new)
+        (flat_map (λ text. text.now) texts.now)) }
+    ensures front { AppendsFront (W.contents out.old) (W.contents out.new)
+        (flat_map (λ text. text.now) texts.now) }
 {
     for text in texts {
         write_text(*text, out)?;
