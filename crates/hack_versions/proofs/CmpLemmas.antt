@@ -1,5 +1,5 @@
 -- The order that versions have in code is that of definitions; lists that it sorts.
-use Rattle.std.proofs.Common.{◌≡◌, ◌↔◌, ◌⊎◌, ◌<◌, ◌+◌, ℕ, arith, true, List, length, get_or, rules, refl, ap, sym, ◌∙◌, subst, inl, inr, Result, Ok, Err, Option, Some, None, [], ◌∷◌, map}
+use Rattle.std.proofs.Common.{◌≡◌, ◌↔◌, ◌+◌, ℕ, arith, true, List, length, get_or, rules, refl, ap, sym, ◌∙◌, subst, inl, inr, Result, Ok, Err, Option, Some, None, [], ◌∷◌, map}
 use Rattle.std.specs.List.{AllPairs, Contains, dedup, filter_map, cons_option}
 use Rattle.std.proofs.lemmas.List.Elements.{Contains-push, Contains-push_cases, Contains-append_left, Contains-append_right, Contains-append_cases}
 use Rattle.std.specs.List.Sorted.{IsSorted, IsBinarySearchResult, IsSearchInRange}
