@@ -1,13 +1,11 @@
 -- Changes, one after another.
 use Rattle.std.specs.Prelude.{string_bytes}
-use Rattle.std.proofs.Common.{◌≡◌, ◌≢◌, ◌⊎◌, inl, inr, ℕ, ◌+◌, ◌<◌, List, [], ◌∷◌, ◌++◌, Option, Some, None, refl, sym, ◌∙◌, arith, subst, ap, true, false, Bool, cond, append_assoc, append-nil, map, take, length, get_or}
+use Rattle.std.proofs.Common.{◌≡◌, ◌≢◌, inl, inr, ℕ, ◌+◌, ◌<◌, List, [], ◌∷◌, ◌++◌, refl, sym, ◌∙◌, ap, false, cond, append_assoc, map, take, length, get_or}
 use Rattle.std.specs.Str.{bytes_eq}
-use Rattle.std.specs.Bool.{Decides}
-use Rattle.std.specs.Option.{option_map}
 use Rattle.std.proofs.lemmas.Slice.Eq.{bytes_eq-Decides}
 use Rattle.std.proofs.lemmas.Bool.{cases_Bool}
 use Rattle.std.proofs.lemmas.List.{take_more, map-append}
-use Rattle.hack_files.specs.Files.{Change, Contents, changed, after, puts, removes, KeepsOthers, Makes}
+use Rattle.hack_files.specs.Files.{Change, Contents, changed, after, KeepsOthers, Makes}
 use Rattle.hack_files.specs.Memory.{change_of, held_after, nothing}
 use Rattle.hack_files.specs.declared.memory.Step.{Step}
 
@@ -42,3 +40,10 @@ held_more steps i step q lt is =
     ap (λ l. held_after l q) (take_more steps i step lt ∙ ap (λ s. take i steps ++ s ∷ []) (sym is))
     ∙ ap (λ l. after l nothing q) (map-append change_of (take i steps) (step ∷ []))
     ∙ ap (λ m. m q) (after_append (map change_of (take i steps)) (change_of step ∷ []) nothing)
+
+-- changes, and then others
+pub makes_more : (xs ys t u v : List Change) (m n w : Contents) → Makes xs t u m n → Makes ys u v n w → Makes (xs ++ ys) t v m w
+makes_more xs ys t u v m n w f g = record {
+  traced = g.traced ∙ ap (λ l. l ++ ys) f.traced ∙ append_assoc t xs ys;
+  holds = g.holds ∙ ap (after ys) f.holds ∙ sym (after_append xs ys m);
+}

@@ -5,3 +5,4 @@ mod disk;
 mod failing;
 pub mod fs;
 mod memory;
+pub mod restore;

@@ -1,6 +1,4 @@
-use Rattle.std.proofs.Common.{◌≡◌, ◌++◌, ◌∷◌, [], map, ap, ◌∙◌}
-use Rattle.hack_files.specs.Files.{Change, Makes, puts, removes}
-use Rattle.hack_files.specs.Memory.{change_of, held_after, nothing}
+use Rattle.hack_files.specs.Memory.{nothing}
 use Rattle.hack_files.proofs.FilesLemmas.{made, makes_here, makes_others}
 use Rattle.hack_files.proofs.memory.MemoryFilesFiles.remove.Goals as goal
 
