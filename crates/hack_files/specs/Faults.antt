@@ -23,8 +23,8 @@ IsOfWrite path Memory = Unit {0}
 abbrev pub HoldsNoText : Type 0 → Option (List ℕ) → Type 0
 HoldsNoText tells held = tells → (bytes : List ℕ) × (held ≡ Some bytes) × (¬ IsUtf8 bytes)
 
--- the path could not be read, and that was counted; or it was read and is no text, and nothing was counted; or
--- memory is out
+-- the path could not be read, and that was counted; or it was read and is no text, and nothing was
+-- counted; or memory is out
 abbrev pub IsOfText : List ℕ → Type 0 → Option (List ℕ) → ℕ → ℕ → FsFault → Type 0
 IsOfText path tells held old new (Read p) = (string_bytes p ≡ path) × GrowsBy 1 old new
 IsOfText path tells held old new (Write p) = ⊥

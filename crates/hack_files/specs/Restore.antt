@@ -20,7 +20,8 @@ registered manager = map kept manager.saved.items
 abbrev pub paths : List Kept → List (List ℕ)
 paths files = map (λ file. file.path) files
 
--- each file's path holds its bytes, but for the paths of `spoilt`, and every other path holds what it held
+-- each file's path holds its bytes, but for the paths of `spoilt`, and every other path holds what
+-- it held
 pub record Back (files : List Kept) (spoilt : List (List ℕ)) (old new : Contents) : Type 0 where
   pub held : All (λ file. Contains spoilt file.path ⊎ (new file.path ≡ Some file.bytes)) files
   pub others : (q : List ℕ) → ¬ Contains (paths files) q → new q ≡ old q
@@ -38,7 +39,8 @@ Brings files old new k =
 abbrev pub write_of : Kept → Change
 write_of file = puts file.path file.bytes
 
--- every file was written in order, and k writes failed: each of them was made all the same, or not at all
+-- every file was written in order, and k writes failed: each of them was made all the same, or not
+-- at all
 pub data Tried : List Kept → List Change → ℕ → Type 0 where
   none : Tried [] [] 0
   written : {files : List Kept} {made : List Change} {k : ℕ} (file : Kept)

@@ -14,11 +14,11 @@ use std::{fs, io, rt};
 
 /// The files of the system.
 ///
-/// A file that is there is replaced as a whole: its new bytes are written to a file beside it and flushed to the
-/// disk, and that file takes its place, with its permissions and owner. So neither a full disk nor the end of the
-/// program in the midst of a write loses what the file held. A symbolic link is followed. What has no file to lose
-/// or can't be replaced is written in place: a new file, a file of several names, a device, and a file in a folder
-/// where none can be made.
+/// A file that is there is replaced as a whole: its new bytes are written to a file beside it and
+/// flushed to the disk, and that file takes its place, with its permissions and owner. So neither a
+/// full disk nor the end of the program in the midst of a write loses what the file held. A
+/// symbolic link is followed. What has no file to lose or can't be replaced is written in place: a
+/// new file, a file of several names, a device, and a file in a folder where none can be made.
 #[derive(Drop)]
 pub struct Disk<R: rt::Files + AllocGlobal + Drop> {
     rt: R,
@@ -33,7 +33,8 @@ struct Successor<F: Drop> {
     target: PathBuf,
 }
 
-// How many names are tried for a file beside another: one may be left from a program that was killed.
+// How many names are tried for a file beside another: one may be left from a program that was
+// killed.
 const NAMES: u64 = 16;
 
 // A new file in the target's folder, and its name. None where it can't be made.
@@ -51,7 +52,8 @@ fn new_file<R: rt::Files + AllocGlobal>(rt: &R, target: &str) -> Option<(R::File
     None
 }
 
-// Gives the file the owner and the permissions of another. The owner first: a change of it may drop permissions.
+// Gives the file the owner and the permissions of another. The owner first: a change of it may drop
+// permissions.
 fn make_like<R: rt::Files>(rt: &R, file: &R::File, name: &str, other: &Metadata) -> io::Result<()> {
     let own = file.metadata()?;
     if own.uid() != other.uid() || own.gid() != other.gid() {
@@ -60,8 +62,8 @@ fn make_like<R: rt::Files>(rt: &R, file: &R::File, name: &str, other: &Metadata)
     file.set_permissions(other.permissions())
 }
 
-// A file that can take the place of the one at the path, behind all links. None where nothing is there, or what is
-// there can't be replaced.
+// A file that can take the place of the one at the path, behind all links. None where nothing is
+// there, or what is there can't be replaced.
 fn successor_of<R: rt::Files + AllocGlobal>(rt: &R, path: &str) -> Option<Successor<R::File>> {
     let target = fs::canonicalize(rt, path).ok()?;
     let held = fs::metadata(rt, target.as_path()).ok()?;

@@ -33,8 +33,9 @@ impl Turns {
     }
 }
 
-/// Files over others, of which one call fails: the first one is call 1, and 0 fails none. A write that fails so
-/// leaves its file empty, as a disk that is full. All other calls go on to the files below.
+/// Files over others, of which one call fails: the first one is call 1, and 0 fails none. A write
+/// that fails so leaves its file empty, as a disk that is full. All other calls go on to the files
+/// below.
 #[derive(Drop)]
 pub struct FailingFiles<F: Files> {
     inner: F,
@@ -45,6 +46,7 @@ pub struct FailingFiles<F: Files> {
 impl<F: Files> FailingFiles<F> {
     pub fn new(inner: F, failing: u64) -> Self
         ensures inner { result.inner ≡ inner }
+        ensures turns { result.turns ≡ record { next = 1; failing = failing } }
         ensures failures { result.failures ≡ 0 }
     {
         FailingFiles {
@@ -141,7 +143,8 @@ impl<F: Files> Files for FailingFiles<F> {
     }
 }
 
-/// A writer over another, of which one write fails: the first one is write 1, and 0 fails none. It goes on after it.
+/// A writer over another, of which one write fails: the first one is write 1, and 0 fails none. It
+/// goes on after it.
 #[derive(Drop)]
 pub struct FailingWriter<W: Write> {
     inner: W,
@@ -150,7 +153,8 @@ pub struct FailingWriter<W: Write> {
 
 impl<W: Write> FailingWriter<W> {
     pub fn new(inner: W, failing: u64) -> Self
-        ensures { result.inner ≡ inner }
+        ensures inner { result.inner ≡ inner }
+        ensures turns { result.turns ≡ record { next = 1; failing = failing } }
     {
         FailingWriter {
             inner,

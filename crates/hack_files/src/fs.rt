@@ -1,8 +1,10 @@
-//! What the program asks of a file system. Code is written over any `Files`: the disk, files in memory, or files
-//! that fail when a test wants it.
+//! What the program asks of a file system. Code is written over any `Files`: the disk, files in
+//! memory, or files that fail when a test wants it.
 
-ghost use Rattle.std.specs.Prelude.{◌≡◌, ◌↔◌, [], ◌∷◌, List, ℕ, Some, None, IfOk, IfErr, OnOk, OnErr, IsTrue, IsSome, string_bytes};
-ghost use Rattle.hack_files.specs.Files.{Change, Contents, Counts, GrowsBy, KeepsOthers, KeepsAll, Makes, MakesOrNot, puts, removes};
+ghost use Rattle.std.specs.Prelude.{◌≡◌, ◌↔◌, [], ◌∷◌, List, ℕ, Some, None, string_bytes};
+ghost use Rattle.std.specs.Prelude.{IfOk, IfErr, OnOk, OnErr, IsTrue, IsSome};
+ghost use Rattle.hack_files.specs.Files.{Change, Contents, Counts, GrowsBy};
+ghost use Rattle.hack_files.specs.Files.{KeepsOthers, KeepsAll, Makes, MakesOrNot, puts, removes};
 ghost use Rattle.hack_files.specs.Faults.{IsOfRead, IsOfText, IsOfWrite};
 
 pub use crate::disk::Disk;
@@ -22,7 +24,8 @@ pub enum FileFault {
 
 /// A map from paths to bytes that can fail.
 pub trait Files {
-    /// Whether the type tells what its paths hold. Where it does, a call that fails changes at most its own path.
+    /// Whether the type tells what its paths hold. Where it does, a call that fails changes at most
+    /// its own path.
     ghost tells: { Type 0 };
 
     /// Whether it tells its trace too, and a change is made whole or not at all.
@@ -34,8 +37,8 @@ pub trait Files {
     /// Each change that was made, the first one first.
     ghost trace: { Self → List Change };
 
-    /// What each call keeps beyond that: a relation of the files before a call and after it, which code over any
-    /// files hands on by the two laws below.
+    /// What each call keeps beyond that: a relation of the files before a call and after it, which
+    /// code over any files hands on by the two laws below.
     ghost stays: { Self → Self → Type 0 };
 
     /// How many calls have failed. The count stays at 2^64 - 1.
@@ -45,7 +48,8 @@ pub trait Files {
     fn read(&mut self, alloc: Global, path: &str) -> Result<Vec<u8>, FileFault>
         ensures stays { stays self.old self.new }
         ensures counted { Counts (failed self.old) (failed self.new) result }
-        ensures bytes { IfOk result (λ bytes. tells → bytes_at self.old path.now ≡ Some bytes.items) }
+        ensures bytes { IfOk result (λ bytes. tells →
+            bytes_at self.old path.now ≡ Some bytes.items) }
         ensures same { tells → KeepsAll (bytes_at self.old) (bytes_at self.new) }
         ensures untraced { whole → Makes [] (trace self.old) (trace self.new)
             (bytes_at self.old) (bytes_at self.new) };
@@ -147,7 +151,8 @@ fn write_fault(alloc: Global, path: &str, fault: FileFault) -> FsFault
 pub fn read<F: Files>(alloc: Global, files: &mut F, path: &str) -> Result<Vec<u8>, FsFault>
     ensures stays { F.stays files.old files.new }
     ensures counted { Counts (F.failed files.old) (F.failed files.new) result }
-    ensures bytes { IfOk result (λ bytes. F.tells → F.bytes_at files.old path.now ≡ Some bytes.items) }
+    ensures bytes { IfOk result (λ bytes. F.tells →
+        F.bytes_at files.old path.now ≡ Some bytes.items) }
     ensures same { F.tells → KeepsAll (F.bytes_at files.old) (F.bytes_at files.new) }
     ensures untraced { F.whole → Makes [] (F.trace files.old) (F.trace files.new)
         (F.bytes_at files.old) (F.bytes_at files.new) }
@@ -163,7 +168,8 @@ pub fn read<F: Files>(alloc: Global, files: &mut F, path: &str) -> Result<Vec<u8
 pub fn read_to_string<F: Files>(alloc: Global, files: &mut F, path: &str) -> Result<String, FsFault>
     ensures stays { F.stays files.old files.new }
     ensures ok { OnOk result (GrowsBy 0 (F.failed files.old) (F.failed files.new)) }
-    ensures text { IfOk result (λ text. F.tells → F.bytes_at files.old path.now ≡ Some (string_bytes text)) }
+    ensures text { IfOk result (λ text. F.tells →
+        F.bytes_at files.old path.now ≡ Some (string_bytes text)) }
     ensures same { F.tells → KeepsAll (F.bytes_at files.old) (F.bytes_at files.new) }
     ensures untraced { F.whole → Makes [] (F.trace files.old) (F.trace files.new)
         (F.bytes_at files.old) (F.bytes_at files.new) }

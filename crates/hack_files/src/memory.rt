@@ -65,8 +65,11 @@ impl MemoryFiles {
 
     // One more change.
     fn add(&mut self, path: &str, bytes: Option<&[u8]>) -> Result<(), AllocError>
-        ensures ok { OnOk result (map change_of self.new.steps.items ≡ map change_of self.old.steps.items
-            ++ record { path = path.now; bytes = option_map (λ bytes. bytes.now) bytes.entry } ∷ []) }
+        ensures ok { OnOk result (map change_of self.new.steps.items ≡
+            map change_of self.old.steps.items ++ record {
+              path = path.now;
+              bytes = option_map (λ bytes. bytes.now) bytes.entry;
+            } ∷ []) }
         ensures err { OnErr result (self.new.steps.items ≡ self.old.steps.items) }
         ensures failures { self.new.failures ≡ self.old.failures }
     {

@@ -1,8 +1,11 @@
-//! Files that come back: what they held is kept before they are edited, and written back at the end.
+//! Files that come back: what they held is kept before they are edited, and written back at the
+//! end.
 
-ghost use Rattle.std.specs.Prelude.{◌≡◌, ◌<◌, ◌↔◌, ◌⊎◌, [], ◌∷◌, ◌++◌, List, Some, OnOk, OnErr, IfErr, IsTrue, cond, true, false};
+ghost use Rattle.std.specs.Prelude.{◌≡◌, ◌<◌, ◌↔◌, ◌⊎◌, [], ◌∷◌, ◌++◌, List, Some, cond, true};
+ghost use Rattle.std.specs.Prelude.{OnOk, OnErr, IfErr, IsTrue};
 ghost use Rattle.std.specs.Bool.{OnTrue, OnFalse};
-ghost use Rattle.hack_files.specs.Files.{GrowsBy, Counts, KeepsAll, KeepsOthers, Makes, Change, MakesOrNot};
+ghost use Rattle.hack_files.specs.Files.{GrowsBy, Counts, KeepsAll, KeepsOthers};
+ghost use Rattle.hack_files.specs.Files.{Makes, MakesOrNot, Change};
 ghost use Rattle.hack_files.specs.Faults.{IsOfWrite};
 ghost use Rattle.hack_files.specs.Restore.{Kept, kept, registered, Brings, Tried, write_of};
 
@@ -11,8 +14,8 @@ use hack_term::term::Term;
 use std::alloc::{AllocError, Global};
 use std::io::Write;
 
-/// A path and the bytes that it held, with the texts that are told when it is written back: they are made before,
-/// since no memory is taken then.
+/// A path and the bytes that it held, with the texts that are told when it is written back: they
+/// are made before, since no memory is taken then.
 #[derive(Debug, Drop)]
 struct Saved {
     path: String,
@@ -76,7 +79,8 @@ impl Manager {
         Ok(())
     }
 
-    /// Writes back the file that was registered last, if there is one. It leaves the list also where its write fails.
+    /// Writes back the file that was registered last, if there is one. It leaves the list also
+    /// where its write fails.
     pub fn restore_last<F: Files>(&mut self, files: &mut F) -> Result<(), FsFault>
         ensures stays { F.stays files.old files.new }
         ensures counted { Counts (F.failed files.old) (F.failed files.new) result }
@@ -100,9 +104,10 @@ impl Manager {
         }
     }
 
-    /// Writes each file back, in the order of registration and also after a failure; answers how many writes failed.
-    /// Each of these is told by a line for the user, and where the user wants to know more, each write is. A line
-    /// that can't be written is left out. It takes no memory, unless the files do.
+    /// Writes each file back, in the order of registration and also after a failure; answers how
+    /// many writes failed. Each of these is told by a line for the user, and where the user wants
+    /// to know more, each write is. A line that can't be written is left out. It takes no memory,
+    /// unless the files do.
     pub fn restore_all<F: Files, W: Write>(self, files: &mut F, term: &mut Term, err: &mut W) -> u64
         ensures stays { F.stays files.old files.new }
         ensures counted { GrowsBy result (F.failed files.old) (F.failed files.new) }
