@@ -70,6 +70,9 @@ fn successor_of<R: rt::Files + AllocGlobal>(rt: &R, path: &str) -> Option<Succes
     if !held.is_file() || held.nlink() != 1 {
         return None;
     }
+    // A file that may not be written is not to be replaced either.
+    let mut options = OpenOptions::new();
+    let _writable = options.write(true).open(rt, target.as_path()).ok()?;
     let (file, name) = new_file(rt, target.as_str())?;
     if make_like(rt, &file, name.as_str(), &held).is_err() {
         let _ = fs::remove_file(rt, name.as_str());

@@ -1,6 +1,6 @@
 //! Files in memory, which keep each change that was made.
 
-ghost use Rattle.std.specs.Prelude.{◌≡◌, ◌++◌, ◌∷◌, [], OnOk, OnErr, map};
+ghost use Rattle.std.specs.Prelude.{◌≡◌, ◌++◌, ◌∷◌, [], List, ℕ, None, OnOk, OnErr, map};
 ghost use Rattle.std.specs.Option.{option_map};
 ghost use Rattle.hack_files.specs.Files.{GrowsBy, Change};
 ghost use Rattle.hack_files.specs.Memory.{held_after, change_of};
@@ -47,6 +47,7 @@ impl MemoryFiles {
     /// Files of which no path holds anything, and of which no call has failed.
     pub fn new(alloc: Global) -> Self
         ensures steps { result.steps.items ≡ [] }
+        ensures absent { (path : List ℕ) → held_after result.steps.items path ≡ None }
         ensures failures { result.failures ≡ 0 }
     {
         MemoryFiles {
