@@ -1,0 +1,49 @@
+-- Changes, one after another.
+use Rattle.std.specs.Prelude.{string_bytes}
+use Rattle.std.proofs.Common.{◌≡◌, ◌≢◌, inl, inr, ℕ, ◌+◌, ◌<◌, List, [], ◌∷◌, ◌++◌, refl, sym, ◌∙◌, ap, false, cond, append_assoc, map, take, length, get_or}
+use Rattle.std.specs.Str.{bytes_eq}
+use Rattle.std.proofs.lemmas.Slice.Eq.{bytes_eq-Decides}
+use Rattle.std.proofs.lemmas.Bool.{cases_Bool}
+use Rattle.std.proofs.lemmas.List.{take_more, map-append}
+use Rattle.hack_files.specs.Files.{Change, Contents, changed, after, KeepsOthers, Makes}
+use Rattle.hack_files.specs.Memory.{change_of, held_after, nothing}
+use Rattle.hack_files.specs.declared.memory.Step.{Step}
+
+-- changes after others
+after_append : (xs ys : List Change) (m : Contents) → after (xs ++ ys) m ≡ after ys (after xs m)
+after_append [] ys m = refl
+after_append (x ∷ xs) ys m = after_append xs ys (changed x m)
+
+-- what a path holds after a change at it
+pub changed_here : (c : Change) (m : Contents) → changed c m c.path ≡ c.bytes
+changed_here c m = ap (λ b. cond b c.bytes (m c.path)) ((bytes_eq-Decides c.path c.path).1 refl)
+
+pub bytes_differ : (p q : List ℕ) → p ≢ q → bytes_eq p q ≡ false
+bytes_differ p q ne = elim (cases_Bool (bytes_eq p q)) [ inl e ↦ absurd (ne ((bytes_eq-Decides p q).0 e)) | inr e ↦ e ]
+
+pub changed_other : (c : Change) (m : Contents) (q : List ℕ) → q ≢ c.path → changed c m q ≡ m q
+changed_other c m q ne = ap (λ b. cond b c.bytes (m q)) (bytes_differ c.path q (λ e. ne (sym e)))
+
+-- one more change
+pub made : (old new : List Change) (c : Change) (m : Contents) → new ≡ old ++ c ∷ [] → Makes (c ∷ []) old new (after old m) (after new m)
+made old new c m h = record { traced = h; holds = ap (λ cs. after cs m) h ∙ after_append old (c ∷ []) m }
+
+pub makes_here : (old new : List Change) (c : Change) (m n : Contents) → Makes (c ∷ []) old new m n → n c.path ≡ c.bytes
+makes_here old new c m n h = ap (λ f. f c.path) h.holds ∙ changed_here c m
+
+pub makes_others : (old new : List Change) (c : Change) (m n : Contents) → Makes (c ∷ []) old new m n → KeepsOthers c.path m n
+makes_others old new c m n h q ne = ap (λ f. f q) h.holds ∙ changed_other c m q ne
+
+pub held_more : (steps : List Step) (i : ℕ) (step : Step) (q : List ℕ) → i < length steps → step ≡ get_or steps i step
+    → held_after (take (i + 1) steps) q ≡ cond (bytes_eq (string_bytes step.path) q) (change_of step).bytes (held_after (take i steps) q)
+held_more steps i step q lt is =
+    ap (λ l. held_after l q) (take_more steps i step lt ∙ ap (λ s. take i steps ++ s ∷ []) (sym is))
+    ∙ ap (λ l. after l nothing q) (map-append change_of (take i steps) (step ∷ []))
+    ∙ ap (λ m. m q) (after_append (map change_of (take i steps)) (change_of step ∷ []) nothing)
+
+-- changes, and then others
+pub makes_more : (xs ys t u v : List Change) (m n w : Contents) → Makes xs t u m n → Makes ys u v n w → Makes (xs ++ ys) t v m w
+makes_more xs ys t u v m n w f g = record {
+  traced = g.traced ∙ ap (λ l. l ++ ys) f.traced ∙ append_assoc t xs ys;
+  holds = g.holds ∙ ap (after ys) f.holds ∙ sym (after_append xs ys m);
+}

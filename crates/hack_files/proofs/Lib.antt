@@ -1,0 +1,2 @@
+mod FilesLemmas
+mod RestoreLemmas

@@ -1,0 +1,157 @@
+-- Files are written back, one after another.
+use Rattle.std.proofs.Common.{◌≡◌, ◌≢◌, ◌⊎◌, inl, inr, ℕ, suc, zero, ◌+◌, ◌<◌, ◌≤◌, List, [], ◌∷◌, ◌++◌, Some, length, map, take, refl, sym, ◌∙◌, arith, subst, ap, below_more, append-nil, Bool, true, IsTrue, ◌↔◌}
+use Rattle.std.specs.Prelude.{Contains, slice_index_or}
+use Rattle.std.proofs.lemmas.List.{get_or-map, take_more, take_all, length-map}
+use Rattle.hack_files.specs.declared.restore.Saved.{Saved}
+use Rattle.hack_files.specs.Files.{Change, Contents, KeepsOthers, GrowsBy, Makes, MakesOrNot}
+use Rattle.hack_files.specs.Restore.{Kept, kept, paths, Brings, AreDistinct, Tried, none, written, failed, made_and_failed, write_of}
+use Rattle.hack_files.proofs.FilesLemmas.{makes_more}
+
+-- counts one after another
+pub grows_more : (a b x y z : ℕ) → GrowsBy a x y → GrowsBy b y z → GrowsBy (a + b) x z
+grows_more a b x y z f g = λ low. let first = f low in let second = g (omega (arith, first)) in omega (arith, first, second)
+
+-- the path of the file at j
+abbrev pub path_at : List Kept → ℕ → Kept → List ℕ
+path_at files j d = (slice_index_or files j d).path
+
+-- the file at j holds its bytes, or its path is spoilt
+abbrev pub IsBack : List Kept → List (List ℕ) → Contents → ℕ → Type 0
+IsBack files spoilt new j = (d : Kept) → j < length files → Contains spoilt (path_at files j d) ⊎ (new (path_at files j d) ≡ Some (slice_index_or files j d).bytes)
+
+-- the first i files are back, but for those of `spoilt`, and what is at no path of theirs is as it was
+pub record BackTo (files : List Kept) (i : ℕ) (spoilt : List (List ℕ)) (old new : Contents) : Type 0 where
+  pub held : (j : ℕ) → j < i → IsBack files spoilt new j
+  pub others : (q : List ℕ) → ((j : ℕ) (d : Kept) → j < i → j < length files → q ≢ path_at files j d) → new q ≡ old q
+
+-- so far, at most `failures` paths are spoilt
+abbrev pub SoFar : List Kept → ℕ → ℕ → Contents → Contents → Type 0
+SoFar files i failures old new = AreDistinct files → (spoilt : List (List ℕ)) × (length spoilt ≤ failures) × BackTo files i spoilt old new
+
+-- the file at i is this one, whatever stands for none
+abbrev pub IsAt : List Kept → ℕ → Kept → Type 0
+IsAt files i file = (d : Kept) → slice_index_or files i d ≡ file
+
+pub is_at : (saved : List Saved) (i : ℕ) (file : Saved) → i < length saved → file ≡ slice_index_or saved i file → IsAt (map kept saved) i (kept file)
+is_at saved i file lt is d = get_or-map kept saved i file d lt ∙ ap kept (sym is)
+
+contains_more : (xs : List (List ℕ)) (x y : List ℕ) → Contains xs y → Contains (x ∷ xs) y
+contains_more xs x y h = (suc h.0, omega (arith, h.1), h.2)
+
+contains_path : (files : List Kept) (j : ℕ) (d : Kept) (q : List ℕ) → j < length files → q ≡ path_at files j d → Contains (paths files) q
+contains_path [] j d q lt is = absurd (omega (arith, lt))
+contains_path (x ∷ xs) zero d q lt is = (zero, omega arith, sym is)
+contains_path (x ∷ xs) (suc j) d q lt is = contains_more (paths xs) x.path q (contains_path xs j d q (omega (arith, lt)) is)
+
+-- what an earlier file holds stays
+still : (files : List Kept) (i j : ℕ) (file : Kept) (spoilt : List (List ℕ)) (mid new : Contents) → AreDistinct files → i < length files → IsAt files i file
+    → KeepsOthers file.path mid new → j < i → IsBack files spoilt mid j → IsBack files spoilt new j
+still files i j file spoilt mid new distinct lt at keeps before here =
+    λ d within.
+    let differ : path_at files j d ≢ file.path = let P : Kept → Type 0 = λ f. path_at files j d ≢ f.path in subst P (at d) (distinct j i d before lt) in
+    elim (here d within) [ inl bad ↦ inl bad | inr good ↦ inr (keeps _ differ ∙ good) ]
+
+-- others than the first i + 1 stay
+others_more : (files : List Kept) (i : ℕ) (file : Kept) (old mid new : Contents) → i < length files → IsAt files i file → KeepsOthers file.path mid new
+    → ((q : List ℕ) → ((j : ℕ) (d : Kept) → j < i → j < length files → q ≢ path_at files j d) → mid q ≡ old q)
+    → (q : List ℕ) → ((j : ℕ) (d : Kept) → j < i + 1 → j < length files → q ≢ path_at files j d) → new q ≡ old q
+others_more files i file old mid new lt at keeps before q absent =
+    let differ : q ≢ file.path = let P : Kept → Type 0 = λ f. q ≢ f.path in subst P (at file) (absent i file (omega arith) lt) in
+    keeps q differ ∙ before q (λ j d h. absent j d (omega arith))
+
+-- a write that succeeds
+pub so_far_written : (files : List Kept) (i failures : ℕ) (file : Kept) (old mid new : Contents) → i < length files → IsAt files i file
+    → KeepsOthers file.path mid new → new file.path ≡ Some file.bytes → SoFar files i failures old mid → SoFar files (i + 1) failures old new
+so_far_written files i failures file old mid new lt at keeps is before =
+    λ distinct.
+    let b = before distinct in (
+      b.0,
+      b.1,
+      record {
+        held = below_more _ _ (λ j h. still files i j file b.0 mid new distinct lt at keeps h (b.2.held j h))
+            (λ d within. let P : Kept → Type 0 = λ f. Contains b.0 f.path ⊎ (new f.path ≡ Some f.bytes) in subst P (sym (at d)) (inr is));
+        others = others_more files i file old mid new lt at keeps b.2.others;
+      },
+    )
+
+-- a write that fails
+pub so_far_failed : (files : List Kept) (i failures : ℕ) (file : Kept) (old mid new : Contents) → i < length files → IsAt files i file
+    → KeepsOthers file.path mid new → SoFar files i failures old mid → SoFar files (i + 1) (failures + 1) old new
+so_far_failed files i failures file old mid new lt at keeps before =
+    λ distinct.
+    let b = before distinct in
+    let spoilt : List (List ℕ) = file.path ∷ b.0 in
+    let more : (j : ℕ) → IsBack files b.0 new j → IsBack files spoilt new j = λ j h d within. elim (h d within) [ inl bad ↦ inl (contains_more b.0 file.path _ bad) | inr good ↦ inr good ] in (
+      spoilt,
+      omega (arith, b.1),
+      record {
+        held = below_more _ _ (λ j h. more j (still files i j file b.0 mid new distinct lt at keeps h (b.2.held j h)))
+            (λ d within. let P : Kept → Type 0 = λ f. Contains spoilt f.path ⊎ (new f.path ≡ Some f.bytes) in subst P (sym (at d)) (inl (zero, omega arith, refl)));
+        others = others_more files i file old mid new lt at keeps b.2.others;
+      },
+    )
+
+-- nothing is written yet
+pub so_far_none : (files : List Kept) (old : Contents) → SoFar files 0 0 old old
+so_far_none files old = λ distinct. ([], omega arith, record { held = λ j lt. absurd (omega (arith, lt)); others = λ q absent. refl })
+
+-- all files are written
+pub brings_all : (files : List Kept) (i failures : ℕ) (old new : Contents) → length files ≤ i → SoFar files i failures old new → Brings files old new failures
+brings_all files i failures old new end so_far =
+    λ distinct.
+    let b = so_far distinct in (
+      b.0,
+      b.1,
+      record {
+        held = λ j d within. b.2.held j (omega arith) d within;
+        others = λ q absent. b.2.others q (λ j d h within is. absent (contains_path files j d q within is));
+      },
+    )
+
+-- what was written of the first i files
+abbrev pub TriedTo : List Kept → ℕ → ℕ → List Change → List Change → Contents → Contents → Type 0
+TriedTo files i k old_trace new_trace old new = (made : List Change) × Tried (take i files) made k × Makes made old_trace new_trace old new
+
+pub tried_none : (files : List Kept) (s : List Change) (old : Contents) → TriedTo files 0 0 s s old old
+tried_none files s old = ([], none, record { traced = sym (append-nil s); holds = refl })
+
+one_more : (files : List Kept) (i : ℕ) (file : Kept) → i < length files → IsAt files i file → take (i + 1) files ≡ take i files ++ file ∷ []
+one_more files i file lt at = take_more files i file lt ∙ ap (λ f. take i files ++ f ∷ []) (at file)
+
+pub tried_written : (files : List Kept) (i k : ℕ) (file : Kept) (s t u : List Change) (old mid new : Contents) → i < length files → IsAt files i file
+    → Makes (write_of file ∷ []) t u mid new → TriedTo files i k s t old mid → TriedTo files (i + 1) k s u old new
+tried_written files i k file s t u old mid new lt at makes b =
+    let P : List Kept → Type 0 = λ l. Tried l (b.0 ++ write_of file ∷ []) k in
+    (b.0 ++ write_of file ∷ [], subst P (sym (one_more files i file lt at)) (written file b.1), makes_more b.0 (write_of file ∷ []) s t u old mid new b.2 makes)
+
+pub tried_failed : (files : List Kept) (i k : ℕ) (file : Kept) (s t u : List Change) (old mid new : Contents) → i < length files → IsAt files i file
+    → MakesOrNot (write_of file) t u mid new → TriedTo files i k s t old mid → TriedTo files (i + 1) (k + 1) s u old new
+tried_failed files i k file s t u old mid new lt at makes b =
+    let P : List Change → List Kept → Type 0 = λ cs l. Tried l cs (k + 1) in
+    let Q : List Change → Type 0 = λ cs. Makes cs s u old new in
+    elim makes [
+      | inl left ↦ (b.0, subst (P b.0) (sym (one_more files i file lt at)) (failed file b.1), subst Q (append-nil b.0) (makes_more b.0 [] s t u old mid new b.2 left))
+      | inr made ↦ (b.0 ++ write_of file ∷ [], subst (P (b.0 ++ write_of file ∷ [])) (sym (one_more files i file lt at)) (made_and_failed file b.1), makes_more b.0 (write_of file ∷ []) s t u old mid new b.2 made)
+    ]
+
+pub tried_all : (files : List Kept) (i k : ℕ) (s t : List Change) (old new : Contents) → length files ≤ i → TriedTo files i k s t old new → (made : List Change) × Tried files made k × Makes made s t old new
+tried_all files i k s t old new end b = let P : List Kept → Type 0 = λ l. Tried l b.0 k in (b.0, subst P (take_all i files end) b.1, b.2)
+
+-- whether an error is noted: at first, after a write that fails, and after one that succeeds
+pub noted_none : (error : Bool) → IsTrue error ↔ (IsTrue error ⊎ (0 < 0))
+noted_none error = (λ h. inl h, λ h. elim h [ inl e ↦ e | inr lt ↦ absurd (omega (arith, lt)) ])
+
+pub below_kept : (saved : List Saved) (i : ℕ) → i < length saved → i < length (map kept saved)
+below_kept saved i lt = let P : ℕ → Type 0 = λ n. i < n in subst P (sym (length-map saved kept)) lt
+
+pub end_kept : (saved : List Saved) (i : ℕ) → length saved ≤ i → length (map kept saved) ≤ i
+end_kept saved i le = let P : ℕ → Type 0 = λ n. n ≤ i in subst P (sym (length-map saved kept)) le
+
+pub noted_failed : (was now : Bool) (k : ℕ) → now ≡ true → IsTrue now ↔ (IsTrue was ⊎ (0 < k + 1))
+noted_failed was now k e = (λ _. inr (omega arith), λ _. e)
+
+pub noted_written : (was mid now : Bool) (k : ℕ) → now ≡ mid → IsTrue mid ↔ (IsTrue was ⊎ (0 < k)) → IsTrue now ↔ (IsTrue was ⊎ (0 < k))
+noted_written was mid now k e h = let P : Bool → Type 0 = λ b. IsTrue b ↔ (IsTrue was ⊎ (0 < k)) in subst P (sym e) h
+
+pub grows_still : (a x y z : ℕ) → GrowsBy a x y → GrowsBy 0 y z → GrowsBy a x z
+grows_still a x y z f g = λ low. let first = f low in let second = g (omega (arith, first)) in omega (arith, first, second)

@@ -1,0 +1,33 @@
+-- What a fault of a file tells.
+use Rattle.std.specs.Prelude.{◌≡◌, ◌⊎◌, ℕ, List, Option, Some, string_bytes}
+use Rattle.std.specs.Str.{IsUtf8}
+use Rattle.hack_files.specs.Files.{GrowsBy}
+use Rattle.hack_files.specs.declared.fs.FsFault.{FsFault}
+use Rattle.hack_files.specs.declared.fs.FsFault.TheVariants.{Read, Write, NotText, Memory}
+
+-- the path could not be read, or memory is out
+abbrev pub IsOfRead : List ℕ → FsFault → Type 0
+IsOfRead path (Read p) = string_bytes p ≡ path
+IsOfRead path (Write p) = ⊥
+IsOfRead path (NotText p) = ⊥
+IsOfRead path Memory = Unit {0}
+
+-- the path could not be written, or memory is out
+abbrev pub IsOfWrite : List ℕ → FsFault → Type 0
+IsOfWrite path (Read p) = ⊥
+IsOfWrite path (Write p) = string_bytes p ≡ path
+IsOfWrite path (NotText p) = ⊥
+IsOfWrite path Memory = Unit {0}
+
+-- where files tell what they hold, these bytes are there and are no text
+abbrev pub HoldsNoText : Type 0 → Option (List ℕ) → Type 0
+HoldsNoText tells held = tells → (bytes : List ℕ) × (held ≡ Some bytes) × (¬ IsUtf8 bytes)
+
+-- the path could not be read, and that was counted; or it was read and is no text, and nothing was
+-- counted; or memory is out
+abbrev pub IsOfText : List ℕ → Type 0 → Option (List ℕ) → ℕ → ℕ → FsFault → Type 0
+IsOfText path tells held old new (Read p) = (string_bytes p ≡ path) × GrowsBy 1 old new
+IsOfText path tells held old new (Write p) = ⊥
+IsOfText path tells held old new (NotText p) =
+    (string_bytes p ≡ path) × GrowsBy 0 old new × HoldsNoText tells held
+IsOfText path tells held old new Memory = GrowsBy 0 old new ⊎ GrowsBy 1 old new

@@ -1,0 +1,56 @@
+-- What files hold, and how a call changes it.
+use Rattle.std.specs.Prelude.{◌≡◌, ◌≢◌, ◌⊎◌, ◌+◌, ◌-◌, ◌^◌, ◌<◌, ◌++◌, [], ◌∷◌, ℕ, List, Option, Some, None, Result, Ok, Err, cond, min}
+use Rattle.std.specs.Str.{bytes_eq}
+
+-- what the paths hold: the bytes of each, and nothing where no file is
+abbrev pub Contents : Type 0
+Contents = List ℕ → Option (List ℕ)
+
+-- a path now holds these bytes, or nothing
+pub record Change : Type 0 where
+  pub path : List ℕ
+  pub bytes : Option (List ℕ)
+
+-- a write of these bytes
+abbrev pub puts : List ℕ → List ℕ → Change
+puts path bytes = record { path = path; bytes = Some bytes }
+
+-- a removal
+abbrev pub removes : List ℕ → Change
+removes path = record { path = path; bytes = None }
+
+-- what the paths hold after a change
+abbrev pub changed : Change → Contents → Contents
+changed c m q = cond (bytes_eq c.path q) c.bytes (m q)
+
+-- what the paths hold after changes in order
+abbrev pub after : List Change → Contents → Contents
+after [] m = m
+after (c ∷ cs) m = after cs (changed c m)
+
+-- these changes were made, and no others
+pub record Makes (cs old_trace new_trace : List Change) (old new : Contents) : Type 0 where
+  pub traced : new_trace ≡ old_trace ++ cs
+  pub holds : new ≡ after cs old
+
+-- this change was made whole, or none at all
+abbrev pub MakesOrNot : Change → List Change → List Change → Contents → Contents → Type 0
+MakesOrNot c old_trace new_trace old new =
+    Makes [] old_trace new_trace old new ⊎ Makes (c ∷ []) old_trace new_trace old new
+
+-- a count of 64 bits has gone up by k, and stays at its greatest value
+abbrev pub GrowsBy : ℕ → ℕ → ℕ → Type 0
+GrowsBy k old new = old < 2 ^ 64 → new ≡ min (old + k) (2 ^ 64 - 1)
+
+-- a call that fails counts one more failure, and one that succeeds none
+abbrev pub Counts : {T E : Type 0} → ℕ → ℕ → Result T E → Type 0
+Counts old new (Ok _) = GrowsBy 0 old new
+Counts old new (Err _) = GrowsBy 1 old new
+
+-- each path but this one holds what it held
+abbrev pub KeepsOthers : List ℕ → Contents → Contents → Type 0
+KeepsOthers path old new = (q : List ℕ) → q ≢ path → new q ≡ old q
+
+-- each path holds what it held
+abbrev pub KeepsAll : Contents → Contents → Type 0
+KeepsAll old new = (q : List ℕ) → new q ≡ old q

@@ -1,0 +1,17 @@
+-- Files in memory are the changes that made them.
+use Rattle.std.specs.Prelude.{List, None, map, string_bytes}
+use Rattle.std.specs.Option.{option_map}
+use Rattle.hack_files.specs.Files.{Change, Contents, after}
+use Rattle.hack_files.specs.declared.memory.Step.{Step}
+
+-- a step without where it lies in memory
+abbrev pub change_of : Step → Change
+change_of s = record { path = string_bytes s.path; bytes = option_map (λ bytes. bytes.items) s.bytes }
+
+-- no path holds anything
+abbrev pub nothing : Contents
+nothing q = None
+
+-- what the paths hold after these steps
+abbrev pub held_after : List Step → Contents
+held_after steps = after (map change_of steps) nothing

@@ -1,0 +1,51 @@
+-- Files that are written back.
+use Rattle.std.specs.Prelude.{◌≡◌, ◌≢◌, ◌⊎◌, ◌≤◌, ◌+◌, ◌++◌, [], ◌∷◌, ℕ, List, Some, length, map, string_bytes, All, AllPairs, Contains}
+use Rattle.hack_files.specs.Files.{Contents, Change, puts}
+use Rattle.hack_files.specs.declared.restore.Saved.{Saved}
+use Rattle.hack_files.specs.declared.restore.Manager.{Manager}
+
+-- a path, and the bytes that it is to hold again
+pub record Kept : Type 0 where
+  pub path : List ℕ
+  pub bytes : List ℕ
+
+-- the same of a file that a manager keeps
+abbrev pub kept : Saved → Kept
+kept file = record { path = string_bytes file.path; bytes = file.bytes.items }
+
+-- the files that a manager keeps, in the order of their registration
+abbrev pub registered : Manager → List Kept
+registered manager = map kept manager.saved.items
+
+abbrev pub paths : List Kept → List (List ℕ)
+paths files = map (λ file. file.path) files
+
+-- each file's path holds its bytes, but for the paths of `spoilt`, and every other path holds what
+-- it held
+pub record Back (files : List Kept) (spoilt : List (List ℕ)) (old new : Contents) : Type 0 where
+  pub held : All (λ file. Contains spoilt file.path ⊎ (new file.path ≡ Some file.bytes)) files
+  pub others : (q : List ℕ) → ¬ Contains (paths files) q → new q ≡ old q
+
+-- no two files have one path
+abbrev pub AreDistinct : List Kept → Type 0
+AreDistinct files = AllPairs (λ a b. a.path ≢ b.path) files
+
+-- where the paths are distinct, all of them but at most k hold their bytes again
+abbrev pub Brings : List Kept → Contents → Contents → ℕ → Type 0
+Brings files old new k =
+    AreDistinct files → (spoilt : List (List ℕ)) × (length spoilt ≤ k) × Back files spoilt old new
+
+-- the write of a file's bytes
+abbrev pub write_of : Kept → Change
+write_of file = puts file.path file.bytes
+
+-- every file was written in order, and k writes failed: each of them was made all the same, or not
+-- at all
+pub data Tried : List Kept → List Change → ℕ → Type 0 where
+  none : Tried [] [] 0
+  written : {files : List Kept} {made : List Change} {k : ℕ} (file : Kept)
+      → Tried files made k → Tried (files ++ file ∷ []) (made ++ write_of file ∷ []) k
+  failed : {files : List Kept} {made : List Change} {k : ℕ} (file : Kept)
+      → Tried files made k → Tried (files ++ file ∷ []) made (k + 1)
+  made_and_failed : {files : List Kept} {made : List Change} {k : ℕ} (file : Kept)
+      → Tried files made k → Tried (files ++ file ∷ []) (made ++ write_of file ∷ []) (k + 1)

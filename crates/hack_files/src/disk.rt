@@ -1,0 +1,191 @@
+//! The files of the system. No contract says what they hold; tests do.
+
+ghost use Rattle.std.specs.Prelude.{◌≡◌, [], None};
+ghost use Rattle.hack_files.specs.Files.{Counts};
+
+use crate::fs::{FileFault, Files};
+use crate::memory::count_failure;
+use std::alloc::Global;
+use std::fs::{Metadata, OpenFile, OpenOptions};
+use std::io::{ErrorKind, Read, Write};
+use std::os::unix::fs::MetadataExt;
+use std::path::PathBuf;
+use std::{fs, io, rt};
+
+/// The files of the system.
+///
+/// A file that is there is replaced as a whole: its new bytes are written to a file beside it and
+/// flushed to the disk, and that file takes its place, with its permissions and owner. So neither a
+/// full disk nor the end of the program in the midst of a write loses what the file held. A
+/// symbolic link is followed. What has no file to lose or can't be replaced is written in place: a
+/// new file, a file of several names, a device, and a file in a folder where none can be made.
+#[derive(Drop)]
+pub struct Disk<R: rt::Files + AllocGlobal + Drop> {
+    rt: R,
+    failures: u64,
+}
+
+// A new file beside another, whose place it can take.
+#[derive(Drop)]
+struct Successor<F: Drop> {
+    file: F,
+    name: String,
+    target: PathBuf,
+}
+
+// How many names are tried for a file beside another: one may be left from a program that was
+// killed.
+const NAMES: u64 = 16;
+
+// A new file in the target's folder, and its name. None where it can't be made.
+fn new_file<R: rt::Files + AllocGlobal>(rt: &R, target: &str) -> Option<(R::File, String)> {
+    for number in 0..NAMES {
+        let name = format!(in rt.alloc(); "{target}.cargo-hack-{number}").ok()?;
+        let mut options = OpenOptions::new();
+        options.write(true).create_new(true);
+        match options.open(rt, name.as_str()) {
+            Ok(file) => return Some((file, name)),
+            Err(e) if e.kind() == ErrorKind::AlreadyExists => {}
+            Err(_) => return None,
+        }
+    }
+    None
+}
+
+// Gives the file the owner and the permissions of another. The owner first: a change of it may drop
+// permissions.
+fn make_like<R: rt::Files>(rt: &R, file: &R::File, name: &str, other: &Metadata) -> io::Result<()> {
+    let own = file.metadata()?;
+    if own.uid() != other.uid() || own.gid() != other.gid() {
+        rt.chown(name, Some(other.uid()), Some(other.gid()))?;
+    }
+    file.set_permissions(other.permissions())
+}
+
+// A file that can take the place of the one at the path, behind all links. None where nothing is
+// there, or what is there can't be replaced.
+fn successor_of<R: rt::Files + AllocGlobal>(rt: &R, path: &str) -> Option<Successor<R::File>> {
+    let target = fs::canonicalize(rt, path).ok()?;
+    let held = fs::metadata(rt, target.as_path()).ok()?;
+    if !held.is_file() || held.nlink() != 1 {
+        return None;
+    }
+    // A file that may not be written is not to be replaced either.
+    let mut options = OpenOptions::new();
+    let _writable = options.write(true).open(rt, target.as_path()).ok()?;
+    let (file, name) = new_file(rt, target.as_str())?;
+    if make_like(rt, &file, name.as_str(), &held).is_err() {
+        let _ = fs::remove_file(rt, name.as_str());
+        return None;
+    }
+    Some(Successor { file, name, target })
+}
+
+// Writes all bytes, and waits until they are on the disk.
+fn fill<F: Write + OpenFile>(file: &mut F, bytes: &[u8]) -> io::Result<()> {
+    file.write_all(bytes)?;
+    if file.metadata()?.is_file() {
+        file.sync_all()?;
+    }
+    Ok(())
+}
+
+// Writes the file beside the target, and puts it there.
+fn replace<R: rt::Files>(rt: &R, successor: Successor<R::File>, bytes: &[u8]) -> io::Result<()> {
+    let Successor {
+        mut file,
+        name,
+        target,
+    } = successor;
+    let placed = match fill(&mut file, bytes) {
+        Ok(()) => fs::rename(rt, name.as_str(), target.as_path()),
+        Err(e) => Err(e),
+    };
+    if placed.is_err() {
+        let _ = fs::remove_file(rt, name.as_str());
+    }
+    placed
+}
+
+fn write_file<R: rt::Files + AllocGlobal>(rt: &R, path: &str, bytes: &[u8]) -> io::Result<()> {
+    match successor_of(rt, path) {
+        Some(successor) => replace(rt, successor, bytes),
+        None => fill(&mut fs::create(rt, path)?, bytes),
+    }
+}
+
+fn read_file<R: rt::Files>(rt: &R, alloc: Global, path: &str) -> io::Result<Vec<u8>> {
+    let mut bytes = Vec::new(alloc);
+    fs::open(rt, path)?.read_to_end(&mut bytes)?;
+    Ok(bytes)
+}
+
+fn remove_file<R: rt::Files>(rt: &R, path: &str) -> io::Result<()> {
+    match fs::remove_file(rt, path) {
+        Err(e) if e.kind() == ErrorKind::NotFound => Ok(()),
+        outcome => outcome,
+    }
+}
+
+// Counts a failure, and says whose it is.
+fn counted<T: Drop>(outcome: io::Result<T>, failures: &mut u64) -> Result<T, FileFault>
+    ensures { Counts failures.old failures.new result }
+{
+    match outcome {
+        Ok(value) => Ok(value),
+        Err(e) => {
+            count_failure(failures);
+            if e.kind() == ErrorKind::OutOfMemory {
+                return Err(FileFault::Memory);
+            }
+            Err(FileFault::Device)
+        }
+    }
+}
+
+impl<R: rt::Files + AllocGlobal + Drop> Disk<R> {
+    /// The files of the system, of which no call has failed.
+    pub fn new(rt: R) -> Self
+        ensures { result.failures ≡ 0 }
+    {
+        Disk { rt, failures: 0 }
+    }
+}
+
+impl<R: rt::Files + AllocGlobal + Drop> Files for Disk<R> {
+    ghost tells = { ⊥ };
+
+    ghost whole = { ⊥ };
+
+    ghost stays = { λ _ _. Unit {0} };
+
+    ghost stays_none = { λ _. tt };
+
+    ghost stays_more = { λ _ _ _ _ _. tt };
+
+    ghost bytes_at = { λ _ _. None };
+
+    ghost trace = { λ _. [] };
+
+    ghost failed = { λ files. files.failures };
+
+    fn read(&mut self, alloc: Global, path: &str) -> Result<Vec<u8>, FileFault> {
+        counted(read_file(&self.rt, alloc, path), &mut self.failures)
+    }
+
+    fn write(&mut self, path: &str, bytes: &[u8]) -> Result<(), FileFault> {
+        counted(write_file(&self.rt, path, bytes), &mut self.failures)
+    }
+
+    fn exists(&mut self, path: &str) -> Result<bool, FileFault> {
+        counted(fs::exists(&self.rt, path), &mut self.failures)
+    }
+
+    fn remove(&mut self, path: &str) -> Result<(), FileFault> {
+        counted(remove_file(&self.rt, path), &mut self.failures)
+    }
+
+    fn failures(&self) -> u64 {
+        self.failures
+    }
+}

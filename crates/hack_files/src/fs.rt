@@ -1,0 +1,207 @@
+//! What the program asks of a file system. Code is written over any `Files`: the disk, files in
+//! memory, or files that fail when a test wants it.
+
+ghost use Rattle.std.specs.Prelude.{◌≡◌, ◌↔◌, [], ◌∷◌, List, ℕ, Some, None, string_bytes};
+ghost use Rattle.std.specs.Prelude.{IfOk, IfErr, OnOk, OnErr, IsTrue, IsSome};
+ghost use Rattle.hack_files.specs.Files.{Change, Contents, Counts, GrowsBy};
+ghost use Rattle.hack_files.specs.Files.{KeepsOthers, KeepsAll, Makes, MakesOrNot, puts, removes};
+ghost use Rattle.hack_files.specs.Faults.{IsOfRead, IsOfText, IsOfWrite};
+
+pub use crate::disk::Disk;
+pub use crate::failing::{FailingFiles, FailingWriter};
+pub use crate::memory::{MemoryFiles, Step};
+use std::alloc::{AllocError, Global};
+use thiserror::Error;
+
+/// Why a call of a `Files` failed.
+#[derive(Clone, Copy, Debug, PartialEq, Eq)]
+pub enum FileFault {
+    /// Memory was refused.
+    Memory,
+    /// The device failed, or nothing is at the path.
+    Device,
+}
+
+/// A map from paths to bytes that can fail.
+pub trait Files {
+    /// Whether the type tells what its paths hold. Where it does, a call that fails changes at most
+    /// its own path.
+    ghost tells: { Type 0 };
+
+    /// Whether it tells its trace too, and a change is made whole or not at all.
+    ghost whole: { Type 0 };
+
+    /// The bytes at each path. It says nothing where the type doesn't tell.
+    ghost bytes_at: { Self → Contents };
+
+    /// Each change that was made, the first one first.
+    ghost trace: { Self → List Change };
+
+    /// What each call keeps beyond that: a relation of the files before a call and after it, which
+    /// code over any files hands on by the two laws below.
+    ghost stays: { Self → Self → Type 0 };
+
+    /// How many calls have failed. The count stays at 2^64 - 1.
+    ghost failed: { Self → ℕ };
+
+    /// The bytes at a path. To read a path that holds nothing is a failure.
+    fn read(&mut self, alloc: Global, path: &str) -> Result<Vec<u8>, FileFault>
+        ensures stays { stays self.old self.new }
+        ensures counted { Counts (failed self.old) (failed self.new) result }
+        ensures bytes { IfOk result (λ bytes. tells →
+            bytes_at self.old path.now ≡ Some bytes.items) }
+        ensures same { tells → KeepsAll (bytes_at self.old) (bytes_at self.new) }
+        ensures untraced { whole → Makes [] (trace self.old) (trace self.new)
+            (bytes_at self.old) (bytes_at self.new) };
+
+    /// Puts these bytes at a path, in place of what is there.
+    fn write(&mut self, path: &str, bytes: &[u8]) -> Result<(), FileFault>
+        ensures stays { stays self.old self.new }
+        ensures counted { Counts (failed self.old) (failed self.new) result }
+        ensures written { OnOk result (tells → bytes_at self.new path.now ≡ Some bytes.now) }
+        ensures others { tells → KeepsOthers path.now (bytes_at self.old) (bytes_at self.new) }
+        ensures traced { OnOk result (whole → Makes (puts path.now bytes.now ∷ [])
+            (trace self.old) (trace self.new) (bytes_at self.old) (bytes_at self.new)) }
+        ensures refused { OnErr result (whole → MakesOrNot (puts path.now bytes.now)
+            (trace self.old) (trace self.new) (bytes_at self.old) (bytes_at self.new)) };
+
+    /// Whether a file, or a folder, is at a path.
+    fn exists(&mut self, path: &str) -> Result<bool, FileFault>
+        ensures stays { stays self.old self.new }
+        ensures counted { Counts (failed self.old) (failed self.new) result }
+        ensures there { IfOk result (λ there. tells →
+            IsTrue there ↔ IsSome (bytes_at self.old path.now)) }
+        ensures same { tells → KeepsAll (bytes_at self.old) (bytes_at self.new) }
+        ensures untraced { whole → Makes [] (trace self.old) (trace self.new)
+            (bytes_at self.old) (bytes_at self.new) };
+
+    /// Removes what is at a path. A path that holds nothing is fine.
+    fn remove(&mut self, path: &str) -> Result<(), FileFault>
+        ensures stays { stays self.old self.new }
+        ensures counted { Counts (failed self.old) (failed self.new) result }
+        ensures removed { OnOk result (tells → bytes_at self.new path.now ≡ None) }
+        ensures others { tells → KeepsOthers path.now (bytes_at self.old) (bytes_at self.new) }
+        ensures traced { OnOk result (whole → Makes (removes path.now ∷ [])
+            (trace self.old) (trace self.new) (bytes_at self.old) (bytes_at self.new)) }
+        ensures refused { OnErr result (whole → MakesOrNot (removes path.now)
+            (trace self.old) (trace self.new) (bytes_at self.old) (bytes_at self.new)) };
+
+    ghost stays_none: { (a : Self) → stays a a };
+
+    ghost stays_more: { (a b c : Self) → stays a b → stays b c → stays a c };
+
+    /// How many calls have failed.
+    fn failures(&self) -> u64
+        ensures { result ≡ failed self.now };
+}
+
+/// Why a file can't be read or written. Each has the path.
+#[derive(Debug, Drop, PartialEq, Eq, Error)]
+pub enum FsFault {
+    /// The device failed, or nothing is at the path.
+    #[error("failed to read from file `{0}`")]
+    Read(String),
+    /// The device failed.
+    #[error("failed to write to file `{0}`")]
+    Write(String),
+    /// The bytes are not UTF-8.
+    #[error("file `{0}` is not UTF-8 text")]
+    NotText(String),
+    #[error("out of memory")]
+    Memory,
+}
+
+impl From<AllocError> for FsFault {
+    ghost use Rattle.hack_files.specs.declared.fs.FsFault.TheVariants.{Memory};
+
+    ghost from_gives = { λ _ e. e ≡ Memory };
+
+    fn from(_e: AllocError) -> FsFault {
+        FsFault::Memory
+    }
+}
+
+// The fault of a failed read, by what the files answered.
+fn read_fault(alloc: Global, path: &str, fault: FileFault) -> FsFault
+    ensures { IsOfRead path.now result }
+{
+    match fault {
+        FileFault::Memory => FsFault::Memory,
+        FileFault::Device => match String::from_str(alloc, path) {
+            Ok(path) => FsFault::Read(path),
+            Err(_) => FsFault::Memory,
+        },
+    }
+}
+
+// The fault of a failed write.
+fn write_fault(alloc: Global, path: &str, fault: FileFault) -> FsFault
+    ensures { IsOfWrite path.now result }
+{
+    match fault {
+        FileFault::Memory => FsFault::Memory,
+        FileFault::Device => match String::from_str(alloc, path) {
+            Ok(path) => FsFault::Write(path),
+            Err(_) => FsFault::Memory,
+        },
+    }
+}
+
+/// The bytes of a file. Want of memory, the files' own too, is `Memory`.
+pub fn read<F: Files>(alloc: Global, files: &mut F, path: &str) -> Result<Vec<u8>, FsFault>
+    ensures stays { F.stays files.old files.new }
+    ensures counted { Counts (F.failed files.old) (F.failed files.new) result }
+    ensures bytes { IfOk result (λ bytes. F.tells →
+        F.bytes_at files.old path.now ≡ Some bytes.items) }
+    ensures same { F.tells → KeepsAll (F.bytes_at files.old) (F.bytes_at files.new) }
+    ensures untraced { F.whole → Makes [] (F.trace files.old) (F.trace files.new)
+        (F.bytes_at files.old) (F.bytes_at files.new) }
+    ensures fault { IfErr result (IsOfRead path.now) }
+{
+    match files.read(alloc, path) {
+        Ok(bytes) => Ok(bytes),
+        Err(fault) => Err(read_fault(alloc, path, fault)),
+    }
+}
+
+/// The text of a file.
+pub fn read_to_string<F: Files>(alloc: Global, files: &mut F, path: &str) -> Result<String, FsFault>
+    ensures stays { F.stays files.old files.new }
+    ensures ok { OnOk result (GrowsBy 0 (F.failed files.old) (F.failed files.new)) }
+    ensures text { IfOk result (λ text. F.tells →
+        F.bytes_at files.old path.now ≡ Some (string_bytes text)) }
+    ensures same { F.tells → KeepsAll (F.bytes_at files.old) (F.bytes_at files.new) }
+    ensures untraced { F.whole → Makes [] (F.trace files.old) (F.trace files.new)
+        (F.bytes_at files.old) (F.bytes_at files.new) }
+    ensures fault { IfErr result (IsOfText path.now F.tells (F.bytes_at files.old path.now)
+        (F.failed files.old) (F.failed files.new)) }
+{
+    let bytes = read(alloc, files, path)?;
+    match String::from_utf8(bytes) {
+        Ok(text) => Ok(text),
+        Err(_) => Err(FsFault::NotText(String::from_str(alloc, path)?)),
+    }
+}
+
+/// Puts these bytes into a file, in place of what it holds. Want of memory is `Memory`.
+pub fn write<F: Files>(
+    alloc: Global,
+    files: &mut F,
+    path: &str,
+    bytes: &[u8],
+) -> Result<(), FsFault>
+    ensures stays { F.stays files.old files.new }
+    ensures counted { Counts (F.failed files.old) (F.failed files.new) result }
+    ensures written { OnOk result (F.tells → F.bytes_at files.new path.now ≡ Some bytes.now) }
+    ensures others { F.tells → KeepsOthers path.now (F.bytes_at files.old) (F.bytes_at files.new) }
+    ensures traced { OnOk result (F.whole → Makes (puts path.now bytes.now ∷ [])
+        (F.trace files.old) (F.trace files.new) (F.bytes_at files.old) (F.bytes_at files.new)) }
+    ensures refused { OnErr result (F.whole → MakesOrNot (puts path.now bytes.now)
+        (F.trace files.old) (F.trace files.new) (F.bytes_at files.old) (F.bytes_at files.new)) }
+    ensures fault { IfErr result (IsOfWrite path.now) }
+{
+    match files.write(path, bytes) {
+        Ok(()) => Ok(()),
+        Err(fault) => Err(write_fault(alloc, path, fault)),
+    }
+}

@@ -1,0 +1,145 @@
+//! Files in memory, which keep each change that was made.
+
+ghost use Rattle.std.specs.Prelude.{◌≡◌, ◌++◌, ◌∷◌, [], List, ℕ, None, OnOk, OnErr, map};
+ghost use Rattle.std.specs.Option.{option_map};
+ghost use Rattle.hack_files.specs.Files.{GrowsBy, Change};
+ghost use Rattle.hack_files.specs.Memory.{held_after, change_of};
+
+use crate::fs::{FileFault, Files};
+use std::alloc::{AllocError, Global};
+
+/// A path and the bytes that it holds from now on, or `None` where it was removed.
+#[derive(Debug, Drop)]
+pub struct Step {
+    pub path: String,
+    pub bytes: Option<Vec<u8>>,
+}
+
+/// Files in memory, for tests. What they hold is what their steps leave.
+#[derive(Debug, Drop)]
+pub struct MemoryFiles {
+    alloc: Global,
+    steps: Vec<Step>,
+    failures: u64,
+}
+
+// One more failure. The count stays at its greatest value.
+pub(crate) fn count_failure(failures: &mut u64)
+    ensures { GrowsBy 1 failures.old failures.new }
+{
+    *failures = failures.saturating_add(1);
+}
+
+// What the path holds after these steps.
+fn held<'a>(steps: &'a [Step], path: &str) -> Option<&'a [u8]>
+    ensures { option_map (λ bytes. bytes.now) result ≡ held_after steps.now path.now }
+{
+    let mut found = None;
+    for step in steps {
+        if step.path.as_str() == path {
+            found = step.bytes.as_deref();
+        }
+    }
+    found
+}
+
+impl MemoryFiles {
+    /// Files of which no path holds anything, and of which no call has failed.
+    pub fn new(alloc: Global) -> Self
+        ensures steps { result.steps.items ≡ [] }
+        ensures absent { (path : List ℕ) → held_after result.steps.items path ≡ None }
+        ensures failures { result.failures ≡ 0 }
+    {
+        MemoryFiles {
+            alloc,
+            steps: Vec::new(alloc),
+            failures: 0,
+        }
+    }
+
+    /// The changes that were made, the first one first.
+    pub fn steps(&self) -> &[Step]
+        ensures { result.now ≡ self.now.steps.items }
+    {
+        &self.steps
+    }
+
+    // One more change.
+    fn add(&mut self, path: &str, bytes: Option<&[u8]>) -> Result<(), AllocError>
+        ensures ok { OnOk result (map change_of self.new.steps.items ≡
+            map change_of self.old.steps.items ++ record {
+              path = path.now;
+              bytes = option_map (λ bytes. bytes.now) bytes.entry;
+            } ∷ []) }
+        ensures err { OnErr result (self.new.steps.items ≡ self.old.steps.items) }
+        ensures failures { self.new.failures ≡ self.old.failures }
+    {
+        let path = String::from_str(self.alloc, path)?;
+        let bytes = match bytes {
+            Some(bytes) => Some(bytes.to_vec(self.alloc)?),
+            None => None,
+        };
+        self.steps.push(Step { path, bytes })?;
+        Ok(())
+    }
+}
+
+impl Files for MemoryFiles {
+    ghost tells = { Unit {0} };
+
+    ghost whole = { Unit {0} };
+
+    ghost stays = { λ _ _. Unit {0} };
+
+    ghost stays_none = { λ _. tt };
+
+    ghost stays_more = { λ _ _ _ _ _. tt };
+
+    ghost bytes_at = { λ files. held_after files.steps.items };
+
+    ghost trace = { λ files. map change_of files.steps.items };
+
+    ghost failed = { λ files. files.failures };
+
+    fn read(&mut self, alloc: Global, path: &str) -> Result<Vec<u8>, FileFault> {
+        let Some(bytes) = held(&self.steps, path) else {
+            count_failure(&mut self.failures);
+            return Err(FileFault::Device);
+        };
+        match bytes.to_vec(alloc) {
+            Ok(copy) => Ok(copy),
+            Err(_) => {
+                count_failure(&mut self.failures);
+                Err(FileFault::Memory)
+            }
+        }
+    }
+
+    fn write(&mut self, path: &str, bytes: &[u8]) -> Result<(), FileFault> {
+        match self.add(path, Some(bytes)) {
+            Ok(()) => Ok(()),
+            Err(_) => {
+                count_failure(&mut self.failures);
+                Err(FileFault::Memory)
+            }
+        }
+    }
+
+    fn exists(&mut self, path: &str) -> Result<bool, FileFault> {
+        Ok(held(&self.steps, path).is_some())
+    }
+
+    fn remove(&mut self, path: &str) -> Result<(), FileFault> {
+        match self.add(path, None) {
+            Ok(()) => Ok(()),
+            Err(_) => {
+                count_failure(&mut self.failures);
+                Err(FileFault::Memory)
+            }
+        }
+    }
+
+    fn failures(&self) -> u64 {
+        self.failures
+    }
+}

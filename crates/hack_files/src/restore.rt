@@ -1,0 +1,163 @@
+//! Files that come back: what they held is kept before they are edited, and written back at the
+//! end.
+
+ghost use Rattle.std.specs.Prelude.{◌≡◌, ◌<◌, ◌↔◌, ◌⊎◌, [], ◌∷◌, ◌++◌, List, Some, cond, true};
+ghost use Rattle.std.specs.Prelude.{OnOk, OnErr, IfErr, IsTrue};
+ghost use Rattle.std.specs.Bool.{OnTrue, OnFalse};
+ghost use Rattle.hack_files.specs.Files.{GrowsBy, Counts, KeepsAll, KeepsOthers};
+ghost use Rattle.hack_files.specs.Files.{Makes, MakesOrNot, Change};
+ghost use Rattle.hack_files.specs.Faults.{IsOfWrite};
+ghost use Rattle.hack_files.specs.Restore.{Kept, kept, registered, Brings, Tried, write_of};
+
+use crate::fs::{FileFault, Files, FsFault};
+use hack_term::term::Term;
+use std::alloc::{AllocError, Global};
+use std::io::Write;
+
+/// A path and the bytes that it held, with the texts that are told when it is written back: they
+/// are made before, since no memory is taken then.
+#[derive(Debug, Drop)]
+struct Saved {
+    path: String,
+    bytes: Vec<u8>,
+    restoring: String,
+    failed: String,
+}
+
+/// The files that have to be written back. It has no `Drop`: it must be spent by `restore_all`.
+#[derive(Debug)]
+pub struct Manager {
+    needs_restore: bool,
+    saved: Vec<Saved>,
+}
+
+impl Manager {
+    /// Keeps no file yet. Where `needs_restore` is false, `register` will keep none.
+    pub fn new(alloc: Global, needs_restore: bool) -> Self
+        ensures nothing { registered result ≡ [] }
+        ensures needs { result.needs_restore ≡ needs_restore }
+    {
+        Manager {
+            needs_restore,
+            saved: Vec::new(alloc),
+        }
+    }
+
+    /// Keeps the bytes of a file, where files have to be restored.
+    pub fn register(&mut self, alloc: Global, path: &str, bytes: &[u8]) -> Result<(), AllocError>
+        ensures ok { OnOk result (registered self.new ≡ cond self.old.needs_restore
+            (registered self.old ++ record { path = path.now; bytes = bytes.now } ∷ [])
+            (registered self.old)) }
+        ensures err { OnErr result (registered self.new ≡ registered self.old) }
+        ensures needs { self.new.needs_restore ≡ self.old.needs_restore }
+    {
+        if self.needs_restore {
+            return self.register_always(alloc, path, bytes);
+        }
+        Ok(())
+    }
+
+    /// Keeps the bytes of a file, whatever the manager needs.
+    pub fn register_always(
+        &mut self,
+        alloc: Global,
+        path: &str,
+        bytes: &[u8],
+    ) -> Result<(), AllocError>
+        ensures ok { OnOk result (registered self.new ≡
+            registered self.old ++ record { path = path.now; bytes = bytes.now } ∷ []) }
+        ensures err { OnErr result (registered self.new ≡ registered self.old) }
+        ensures needs { self.new.needs_restore ≡ self.old.needs_restore }
+    {
+        let saved = Saved {
+            path: String::from_str(alloc, path)?,
+            bytes: bytes.to_vec(alloc)?,
+            restoring: format!(in alloc; "restoring {path}")?,
+            failed: format!(in alloc; "failed to write to file `{path}`")?,
+        };
+        self.saved.push(saved)?;
+        Ok(())
+    }
+
+    /// Writes back the file that was registered last, if there is one. It leaves the list also
+    /// where its write fails.
+    pub fn restore_last<F: Files>(&mut self, files: &mut F) -> Result<(), FsFault>
+        ensures stays { F.stays files.old files.new }
+        ensures counted { Counts (F.failed files.old) (F.failed files.new) result }
+        ensures none { registered self.old ≡ [] → (result ≡ Ok tt) × (registered self.new ≡ [])
+            × (F.tells → KeepsAll (F.bytes_at files.old) (F.bytes_at files.new)) }
+        ensures left { (file : Kept) (earlier : List Kept) →
+            registered self.old ≡ earlier ++ file ∷ [] → registered self.new ≡ earlier }
+        ensures back { (file : Kept) (earlier : List Kept) →
+            registered self.old ≡ earlier ++ file ∷ [] → IfErr result (IsOfWrite file.path)
+            × (F.tells → KeepsOthers file.path (F.bytes_at files.old) (F.bytes_at files.new)
+            × OnOk result (F.bytes_at files.new file.path ≡ Some file.bytes)) }
+        ensures needs { self.new.needs_restore ≡ self.old.needs_restore }
+    {
+        let Some(file) = self.saved.pop() else {
+            return Ok(());
+        };
+        match files.write(file.path.as_str(), &file.bytes) {
+            Ok(()) => Ok(()),
+            Err(FileFault::Memory) => Err(FsFault::Memory),
+            Err(FileFault::Device) => Err(FsFault::Write(file.path)),
+        }
+    }
+
+    /// Writes each file back, in the order of registration and also after a failure; answers how
+    /// many writes failed. Each of these is told by a line for the user, and where the user wants
+    /// to know more, each write is. A line that can't be written is left out. It takes no memory,
+    /// unless the files do.
+    pub fn restore_all<F: Files, W: Write>(self, files: &mut F, term: &mut Term, err: &mut W) -> u64
+        ensures stays { F.stays files.old files.new }
+        ensures counted { GrowsBy result (F.failed files.old) (F.failed files.new) }
+        ensures restored { F.tells → Brings (registered self)
+            (F.bytes_at files.old) (F.bytes_at files.new) result }
+        ensures tried { F.whole → (made : List Change) × Tried (registered self) made result
+            × Makes made (F.trace files.old) (F.trace files.new)
+            (F.bytes_at files.old) (F.bytes_at files.new) }
+        ensures noted { IsTrue term.new.error ↔ (IsTrue term.old.error ⊎ (0 < result)) }
+        ensures term { term.new ≡ record term.old { error = term.new.error } }
+    {
+        let Manager {
+            needs_restore: _,
+            saved,
+        } = self;
+        let mut failures = 0;
+        for file in &saved {
+            if !file.put_back(files, term, err) {
+                failures += 1;
+            }
+        }
+        failures
+    }
+}
+
+impl Saved {
+    // Writes the file back, tells the user, and answers whether it was written.
+    fn put_back<F: Files, W: Write>(&self, files: &mut F, term: &mut Term, err: &mut W) -> bool
+        ensures stays { F.stays files.old files.new }
+        ensures counted { GrowsBy (cond result 0 1) (F.failed files.old) (F.failed files.new) }
+        ensures written { OnTrue result (F.tells →
+            F.bytes_at files.new (kept self.now).path ≡ Some (kept self.now).bytes) }
+        ensures others { F.tells →
+            KeepsOthers (kept self.now).path (F.bytes_at files.old) (F.bytes_at files.new) }
+        ensures traced { OnTrue result (F.whole → Makes (write_of (kept self.now) ∷ [])
+            (F.trace files.old) (F.trace files.new) (F.bytes_at files.old) (F.bytes_at files.new)) }
+        ensures refused { OnFalse result (F.whole → MakesOrNot (write_of (kept self.now))
+            (F.trace files.old) (F.trace files.new) (F.bytes_at files.old) (F.bytes_at files.new)) }
+        ensures noted { term.new ≡
+            record term.old { error = cond result term.old.error true } }
+    {
+        if term.verbose {
+            let _ = term.info(self.restoring.as_str(), err);
+        }
+        match files.write(self.path.as_str(), &self.bytes) {
+            Ok(()) => true,
+            Err(_) => {
+                let _ = term.error(self.failed.as_str(), err);
+                false
+            }
+        }
+    }
+}
