@@ -81,6 +81,14 @@ pub(crate) fn enumerated(alloc: Global, case: &Case) -> Result<(Pruned, u128), A
     Ok((found, rules.asked()))
 }
 
+/// How many sets `Rules::listed` finds for a case, and how many questions it asks.
+pub(crate) fn listed_by_rules(alloc: Global, case: &Case) -> Result<(usize, u128), AllocError> {
+    let refs = case.candidates.refs(alloc)?;
+    let mut rules = rules_of(alloc, case, refs.as_slice())?;
+    let found = rules.listed(alloc)?;
+    Ok((found.sets.len(), found.asked))
+}
+
 /// What `covering` answers; None inside where it is None, and None where the positions are no selection.
 pub(crate) fn covering(
     alloc: Global,

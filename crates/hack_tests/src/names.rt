@@ -1,7 +1,7 @@
 //! Single features, and what the names of a map enable.
 
 use crate::given::{Features, Map, feature, map_of};
-use hack_features::{Feature, at_least_one_of_for_package, feature_deps};
+use hack_features::{Feature, at_least_one_of_for_package, compare_features, feature_deps};
 use std::alloc::{AllocError, Global};
 use std::collections::BTreeSet;
 use std::test::Fail;
@@ -18,6 +18,8 @@ fn features_are_ordered_by_kind_and_then_by_fields(rt: HostRuntime) -> Result<()
         for (j, second) in RISING.iter().enumerate() {
             let other = feature(rt.alloc(), *second)?;
             assert!(rt; one.cmp(&other) == i.cmp(&j), "{first} and {second}");
+            let compared = compare_features(&one, &other);
+            assert!(rt; compared == i.cmp(&j), "{first} and {second}");
             assert_eq!(rt; one == other, i == j, "{first} and {second}");
         }
     }

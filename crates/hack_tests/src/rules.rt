@@ -1,6 +1,6 @@
 //! Questions on sets, and how many of them an enumeration asks.
 
-use crate::calls::{enumerated, listed, questions};
+use crate::calls::{enumerated, listed, listed_by_rules, questions};
 use crate::given::Case;
 use std::alloc::{AllocError, Global};
 use std::process::Abort;
@@ -34,6 +34,7 @@ fn finds<R: Abort>(
     let (found, lists, asked, count) = sizes(alloc, case)?;
     assert_eq!(rt; found, sets);
     assert_eq!(rt; lists, sets);
+    assert_eq!(rt; listed_by_rules(alloc, case)?, (sets, asked));
     assert!(rt; asked <= most, "{asked} questions");
     assert!(rt;
         asked > 0 && asked == count,
