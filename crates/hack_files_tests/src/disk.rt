@@ -103,45 +103,89 @@ fn the_empty_path(rt: HostRuntime) -> Result<(), Fail> {
     Ok(())
 }
 
+/// Writes a text to a file in the folder, and answers whether that went well.
+fn put<R>(rt: &R, folder: &str, name: &str, text: &str) -> io::Result<bool>
+where
+    R: rt::Files + AllocGlobal,
+{
+    let path = format!(in rt.alloc(); "{folder}{name}")?;
+    Ok(Disk::new(rt).write(path.as_str(), text.as_bytes()).is_ok())
+}
+
+/// What the system reads there.
+fn held<R: rt::Files + AllocGlobal>(rt: &R, folder: &str, name: &str) -> io::Result<String> {
+    fs::read_to_string(rt, format!(in rt.alloc(); "{folder}{name}")?.as_str())
+}
+
+/// The permissions after a write over a file that had these.
+fn mode_after<R: rt::Files + AllocGlobal>(rt: &R, folder: &str, mode: u32) -> io::Result<u32> {
+    let path = format!(in rt.alloc(); "{folder}a")?;
+    fs::set_permissions(rt, path.as_str(), Permissions::from_mode(mode))?;
+    put(rt, folder, "a", "new")?;
+    Ok(fs::metadata(rt, path.as_str())?.permissions().mode())
+}
+
 #[test]
 fn a_write_keeps_permissions_and_leaves_nothing_beside(rt: HostRuntime) -> Result<(), Fail> {
     let folder = folder(&rt, "mode")?;
-    let path = format!(in rt.alloc(); "{folder}Cargo.toml")?;
-    let mut files = Disk::new(&rt);
-    assert!(rt; files.write(path.as_str(), b"old").is_ok());
+    assert!(rt; put(&rt, folder.as_str(), "a", "old")?);
     for mode in [0o600, 0o640, 0o755] {
-        fs::set_permissions(&rt, path.as_str(), Permissions::from_mode(mode))?;
-        assert!(rt; files.write(path.as_str(), b"new").is_ok());
-        let found = fs::metadata(&rt, path.as_str())?.permissions().mode();
+        let found = mode_after(&rt, folder.as_str(), mode)?;
         assert_eq!(rt; found & 0o777, mode);
     }
-    assert_eq!(rt; fs::read_to_string(&rt, path.as_str())?.as_str(), "new");
+    assert_eq!(rt; held(&rt, folder.as_str(), "a")?.as_str(), "new");
     assert_eq!(rt; names(&rt, folder.as_str())?, 1);
     fs::remove_dir_all(&rt, folder.as_str())?;
     Ok(())
 }
 
+/// Makes `link` a link to `target`.
+fn link<R: rt::Files + AllocGlobal>(rt: &R, folder: &str) -> io::Result<()> {
+    symlink(
+        rt,
+        "target",
+        format!(in rt.alloc(); "{folder}link")?.as_str(),
+    )
+}
+
+/// Whether `link` is a link.
+fn is_link<R: rt::Files + AllocGlobal>(rt: &R, folder: &str) -> io::Result<bool> {
+    let path = format!(in rt.alloc(); "{folder}link")?;
+    Ok(fs::symlink_metadata(rt, path.as_str())?.is_symlink())
+}
+
+// First the link leads nowhere, and then to a file.
 #[test]
 fn a_link_is_followed_and_stays(rt: HostRuntime) -> Result<(), Fail> {
-    let folder = folder(&rt, "links")?;
-    let target = format!(in rt.alloc(); "{folder}target")?;
-    let link = format!(in rt.alloc(); "{folder}link")?;
-    symlink(&rt, "target", link.as_str())?;
-    let mut files = Disk::new(&rt);
-    // First the link leads nowhere, and then to a file.
+    let folder = folder(&rt, "link")?;
+    link(&rt, folder.as_str())?;
     for text in ["first", "second"] {
-        assert!(rt; files.write(link.as_str(), text.as_bytes()).is_ok());
-        assert!(rt;
-            fs::symlink_metadata(&rt, link.as_str())?.is_symlink(),
-            "{text}"
-        );
-        assert_eq!(rt; fs::read_to_string(&rt, target.as_str())?.as_str(), text);
+        assert!(rt; put(&rt, folder.as_str(), "link", text)?, "{text}");
+        assert!(rt; is_link(&rt, folder.as_str())?, "{text}");
+        assert_eq!(rt; held(&rt, folder.as_str(), "target")?.as_str(), text);
     }
-    let second = format!(in rt.alloc(); "{folder}second")?;
-    fs::hard_link(&rt, target.as_str(), second.as_str())?;
-    assert!(rt; files.write(second.as_str(), b"third").is_ok());
-    assert_eq!(rt; fs::read_to_string(&rt, target.as_str())?.as_str(), "third");
-    assert_eq!(rt; names(&rt, folder.as_str())?, 3);
+    assert_eq!(rt; names(&rt, folder.as_str())?, 2);
+    fs::remove_dir_all(&rt, folder.as_str())?;
+    Ok(())
+}
+
+/// Gives the file `a` a second name `b`.
+fn name_twice<R: rt::Files + AllocGlobal>(rt: &R, folder: &str) -> io::Result<()> {
+    let first = format!(in rt.alloc(); "{folder}a")?;
+    fs::hard_link(
+        rt,
+        first.as_str(),
+        format!(in rt.alloc(); "{folder}b")?.as_str(),
+    )
+}
+
+#[test]
+fn a_file_of_two_names_keeps_both(rt: HostRuntime) -> Result<(), Fail> {
+    let folder = folder(&rt, "names")?;
+    assert!(rt; put(&rt, folder.as_str(), "a", "old")?);
+    name_twice(&rt, folder.as_str())?;
+    assert!(rt; put(&rt, folder.as_str(), "b", "new")?);
+    assert_eq!(rt; held(&rt, folder.as_str(), "a")?.as_str(), "new");
     fs::remove_dir_all(&rt, folder.as_str())?;
     Ok(())
 }
@@ -149,14 +193,14 @@ fn a_link_is_followed_and_stays(rt: HostRuntime) -> Result<(), Fail> {
 #[test]
 fn a_file_that_a_killed_program_left_is_in_nobodys_way(rt: HostRuntime) -> Result<(), Fail> {
     let folder = folder(&rt, "left")?;
-    let path = format!(in rt.alloc(); "{folder}a")?;
-    let left = format!(in rt.alloc(); "{folder}a.cargo-hack-0")?;
-    let mut files = Disk::new(&rt);
-    assert!(rt; files.write(path.as_str(), b"old").is_ok());
-    assert!(rt; files.write(left.as_str(), b"left").is_ok());
-    assert!(rt; files.write(path.as_str(), b"new").is_ok());
-    assert_eq!(rt; fs::read_to_string(&rt, path.as_str())?.as_str(), "new");
-    assert_eq!(rt; fs::read_to_string(&rt, left.as_str())?.as_str(), "left");
+    for (name, text) in [("a", "old"), ("a.cargo-hack-0", "left"), ("a", "new")] {
+        assert!(rt; put(&rt, folder.as_str(), name, text)?, "{name}");
+    }
+    assert_eq!(rt; held(&rt, folder.as_str(), "a")?.as_str(), "new");
+    assert_eq!(rt;
+        held(&rt, folder.as_str(), "a.cargo-hack-0")?.as_str(),
+        "left"
+    );
     assert_eq!(rt; names(&rt, folder.as_str())?, 2);
     fs::remove_dir_all(&rt, folder.as_str())?;
     Ok(())

@@ -5,7 +5,7 @@ ghost use Rattle.hack_files.specs.Files.{GrowsBy};
 
 use hack_files::fs;
 use hack_files::fs::{FailingFiles, FileFault, Files, FsFault, MemoryFiles};
-use std::alloc::Global;
+use std::alloc::{AllocError, Global};
 use std::test::Fail;
 
 /// Files that are always short of memory.
@@ -61,96 +61,84 @@ impl Files for Short {
     }
 }
 
-#[test]
-fn files_short_of_memory_are_no_device_that_failed(rt: HostRuntime) {
-    let mut files = Short { failures: 0 };
-    assert_eq!(rt; fs::read(rt.alloc(), &mut files, "a"), Err(FsFault::Memory));
-    assert_eq!(rt;
-        fs::read_to_string(rt.alloc(), &mut files, "a"),
-        Err(FsFault::Memory)
-    );
-    assert_eq!(rt;
-        fs::write(rt.alloc(), &mut files, "a", b""),
-        Err(FsFault::Memory)
-    );
-    assert_eq!(rt; files.failures(), 3);
+/// A call over the file `a`.
+#[derive(Clone, Copy, Debug)]
+enum Ask<'a> {
+    Bytes,
+    Text,
+    Write(&'a [u8]),
 }
 
-#[test]
-fn the_text_of_each_fault(rt: HostRuntime) -> Result<(), Fail> {
-    let path = String::from_str(rt.alloc(), "/w/Cargo.toml")?;
-    let rows = [
-        (
-            FsFault::Read(path.clone()?),
-            "failed to read from file `/w/Cargo.toml`",
-        ),
-        (
-            FsFault::Write(path.clone()?),
-            "failed to write to file `/w/Cargo.toml`",
-        ),
-        (
-            FsFault::NotText(path),
-            "file `/w/Cargo.toml` is not UTF-8 text",
-        ),
-        (FsFault::Memory, "out of memory"),
-    ];
-    for (fault, want) in rows {
-        assert_eq!(rt; format!(in rt.alloc(); "{fault}")?.as_str(), want);
+/// The bytes as a list, the text between quotes, `ok`, or the fault.
+fn told<F: Files>(alloc: Global, files: &mut F, ask: Ask<'_>) -> Result<String, AllocError> {
+    match ask {
+        Ask::Bytes => match fs::read(alloc, files, "a") {
+            Ok(bytes) => format!(in alloc; "{:?}", bytes.as_slice()),
+            Err(fault) => format!(in alloc; "{fault}"),
+        },
+        Ask::Text => match fs::read_to_string(alloc, files, "a") {
+            Ok(text) => format!(in alloc; "'{text}'"),
+            Err(fault) => format!(in alloc; "{fault}"),
+        },
+        Ask::Write(bytes) => match fs::write(alloc, files, "a", bytes) {
+            Ok(()) => String::from_str(alloc, "ok"),
+            Err(fault) => format!(in alloc; "{fault}"),
+        },
     }
-    Ok(())
 }
 
 #[test]
-fn a_text_is_read_and_written(rt: HostRuntime) -> Result<(), Fail> {
-    let mut files = MemoryFiles::new(rt.alloc());
-    assert!(rt; fs::write(rt.alloc(), &mut files, "a", "Käse".as_bytes()).is_ok());
-    assert_eq!(rt;
-        fs::read(rt.alloc(), &mut files, "a")?.as_slice(),
-        b"K\xc3\xa4se".as_slice()
-    );
-    assert_eq!(rt;
-        fs::read_to_string(rt.alloc(), &mut files, "a")?.as_str(),
-        "Käse"
-    );
-    assert_eq!(rt; files.failures(), 0);
+fn want_of_memory_is_no_failure_of_the_device(rt: HostRuntime) -> Result<(), Fail> {
+    let mut files = Short { failures: 0 };
+    for ask in [Ask::Bytes, Ask::Text, Ask::Write(b"1")] {
+        let found = told(rt.alloc(), &mut files, ask)?;
+        assert_eq!(rt; found.as_str(), "out of memory", "{ask:?}");
+    }
+    assert_eq!(rt; files.failures(), 3);
     Ok(())
 }
 
 #[test]
 fn bytes_that_are_no_text_are_no_failure_of_the_device(rt: HostRuntime) -> Result<(), Fail> {
+    let rows = [
+        (Ask::Write("Käse".as_bytes()), "ok"),
+        (Ask::Bytes, "[75, 195, 164, 115, 101]"),
+        (Ask::Text, "'Käse'"),
+        (Ask::Write(b"x\xff"), "ok"),
+        (Ask::Bytes, "[120, 255]"),
+        (Ask::Text, "file `a` is not UTF-8 text"),
+    ];
     let mut files = MemoryFiles::new(rt.alloc());
-    assert!(rt; fs::write(rt.alloc(), &mut files, "a", b"x\xff").is_ok());
-    assert_eq!(rt;
-        fs::read(rt.alloc(), &mut files, "a")?.as_slice(),
-        b"x\xff".as_slice()
-    );
-    let path = String::from_str(rt.alloc(), "a")?;
-    assert_eq!(rt;
-        fs::read_to_string(rt.alloc(), &mut files, "a"),
-        Err(FsFault::NotText(path))
-    );
+    for (ask, want) in rows {
+        let found = told(rt.alloc(), &mut files, ask)?;
+        assert_eq!(rt; found.as_str(), want, "{ask:?}");
+    }
     assert_eq!(rt; files.failures(), 0);
     Ok(())
 }
 
 #[test]
 fn a_failure_of_the_device_names_the_path(rt: HostRuntime) -> Result<(), Fail> {
+    let rows = [
+        (Ask::Bytes, "failed to read from file `a`"),
+        (Ask::Text, "failed to read from file `a`"),
+        (Ask::Write(b"1"), "failed to write to file `a`"),
+        (Ask::Bytes, "[]"),
+    ];
     let mut files = FailingFiles::new(MemoryFiles::new(rt.alloc()), 3);
-    let path = String::from_str(rt.alloc(), "a")?;
-    assert_eq!(rt;
-        fs::read(rt.alloc(), &mut files, "a"),
-        Err(FsFault::Read(path.clone()?))
-    );
-    let found = fs::read_to_string(rt.alloc(), &mut files, "a");
-    assert_eq!(rt; found, Err(FsFault::Read(path.clone()?)));
-    assert_eq!(rt;
-        fs::write(rt.alloc(), &mut files, "a", b"1"),
-        Err(FsFault::Write(path))
-    );
+    for (ask, want) in rows {
+        let found = told(rt.alloc(), &mut files, ask)?;
+        assert_eq!(rt; found.as_str(), want, "{ask:?}");
+    }
     assert_eq!(rt; files.failures(), 3);
-    assert_eq!(rt;
-        fs::read(rt.alloc(), &mut files, "a")?.as_slice(),
-        b"".as_slice()
-    );
+    Ok(())
+}
+
+#[test]
+fn faults_are_compared_by_kind_and_path(rt: HostRuntime) -> Result<(), Fail> {
+    let path = String::from_str(rt.alloc(), "a")?;
+    let mut files = MemoryFiles::new(rt.alloc());
+    let found = fs::read(rt.alloc(), &mut files, "a");
+    assert_eq!(rt; found, Err(FsFault::Read(path)));
     Ok(())
 }
