@@ -207,6 +207,7 @@ all_at_had names rows groups h = record {
 routes_had : (edges : Edges) (m : FeatureMap) (names : List Name) (keys : List Bool) (marks : List (List Bool)) → ∥ AreRoutes edges m names keys marks ∥₁ → AreRoutes edges m names keys marks
 routes_had edges m names keys marks h = record {
   known = λ x k. had (member_told names x) (∥∥₁_map h (λ a. a.known x k));
+  closed = λ i y lt c. had (member_told names y) (∥∥₁_map h (λ a. a.closed i y lt c));
   apart = λ i j li lj e. had (number_told i j) (∥∥₁_map h (λ a. a.apart i j li lj e));
   keyed = λ k lt. had (truth_told-by (bit keys k) (is_some (lookup (bytes_eq (name_at names k)) m))) (∥∥₁_map h (λ a. a.keyed k lt));
   led = λ i j li lj. (

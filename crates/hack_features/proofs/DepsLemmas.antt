@@ -2,7 +2,7 @@
 use Rattle.std.proofs.Common.{◌≡◌, ◌≢◌, ℕ, suc, ◌+◌, ◌<◌, List, arith, [], ◌∷◌, ◌++◌, refl, sym, ◌∙◌, ap, subst, map, Option, Some, None, IsSome, IfSome, Bool, true, false, cond, IsTrue, ◌⊎◌, inl, inr, ◌↔◌, Contains, ◌||◌, length, get_or, take, ◌≤◌, String, Vec, string_bytes}
 use Rattle.std.specs.List.{All, list_any}
 use Rattle.std.specs.Option.{is_some}
-use Rattle.std.specs.Map.{lookup, update}
+use Rattle.std.specs.Map.{lookup}
 use Rattle.std.specs.BTreeMap.{BTreeMap, is_at}
 use Rattle.std.specs.Str.{bytes_eq}
 use Rattle.std.specs.Borrow.{Bor}
@@ -10,40 +10,16 @@ use Rattle.std.specs.Cmp.Lexicographic.{slice_cmp}
 use Rattle.std.specs.Ordering.{nat_cmp, is_eq}
 use Rattle.std.proofs.lemmas.Slice.Eq.{bytes_eq-Decides}
 use Rattle.std.proofs.lemmas.Map.Text.{is_eq-slice_cmp}
-use Rattle.std.proofs.lemmas.List.Elements.{Contains-append_left, Contains-push, Contains-push_cases}
+use Rattle.std.proofs.lemmas.List.Elements.{Contains-push_cases}
 use Rattle.std.proofs.lemmas.List.{take_more, get_or-map, length-map}
 use Rattle.std.proofs.Math.Seq.{take-length}
 use Rattle.hack_features.proofs.Members.{Contains-head, Contains-tail, Contains-nil, Contains-cons_cases}
 use Rattle.hack_features.proofs.NameLemmas.{same_text, differ, has-more, has_just-nil}
 use Rattle.hack_features.specs.Names.{Name, names_of}
-use Rattle.hack_features.specs.FeatureMap.{FeatureMap, feature_map, IsKey, Enables, here}
+use Rattle.hack_features.specs.FeatureMap.{FeatureMap, IsKey, Enables, here}
 use Rattle.hack_features.specs.Deps.{NameSet, has_name, get_at, IsDepsOf, AreDepsOf, AreServers, IsServedBy, ServeGroups, dropped, kept}
 use Rattle.hack_features.specs.Feature.{group_of, groups_of}
 use Rattle.hack_features.specs.declared.feature.Feature.{Feature}
-
--- ---- what a name enables, without it
-
--- a set of the names so far, without x
-abbrev pub Tells : NameSet → Name → List Name → Type 0
-Tells s x names = (y : Name) → IsTrue (has_name s y) ↔ ((y ≢ x) × Contains names y)
-
--- one name more that is not x
-pub tells-more : (x o : Name) (names : List Name) (old new : NameSet) → Tells old x names → ((y : Name) → has_name new y ≡ cond (is_eq (slice_cmp nat_cmp o y)) true (has_name old y)) → o ≢ x → Tells new x (names ++ o ∷ [])
-tells-more x o names old new h e ne = λ y.
-    let m = has-more o y old new (e y) in (
-      λ k. elim (m.0 k) [
-        | inl w ↦ let r = (h y).0 w in (r.0, Contains-append_left names (o ∷ []) y r.1)
-        | inr s ↦ (λ yx. ne (s ∙ yx), subst (λ u. Contains (names ++ o ∷ []) u) s (Contains-push names o))
-      ],
-      λ k. elim (Contains-push_cases names o y k.1) [ inl w ↦ m.1 (inl ((h y).1 (k.0, w))) | inr s ↦ m.1 (inr s) ],
-    )
-
--- x itself
-pub tells-skip : (x o : Name) (names : List Name) (s : NameSet) → Tells s x names → o ≡ x → Tells s x (names ++ o ∷ [])
-tells-skip x o names s h same = λ y. (
-  λ k. let r = (h y).0 k in (r.0, Contains-append_left names (o ∷ []) y r.1),
-  λ k. elim (Contains-push_cases names o y k.1) [ inl w ↦ (h y).1 (k.0, w) | inr e ↦ absurd (k.0 (sym e ∙ same)) ],
-)
 
 -- ---- the keys of a map
 
@@ -58,54 +34,6 @@ pub is_key-entries : {Y Z : Type 0} (x : Name) (es : List (String Y × Vec (Stri
 is_key-entries x [] = (λ t. absurd (let z : false ≡ true = t in cc), λ c. absurd (Contains-nil x c))
 is_key-entries x (e ∷ es) =
     is_key-step x (string_bytes e.0) (names_of (map (λ e. e.0) es)) (lookup (bytes_eq x) (map (λ e. (string_bytes e.0, names_of e.1.items)) es)) (names_of e.1.items) (bytes_eq x (string_bytes e.0)) refl (is_key-entries x es)
-
--- ---- the table of deps
-
--- the table once some keys are left
-pub record Tabling (m : FeatureMap) (deps : BTreeMap (Bor Name) NameSet) (left : List Name) : Type 0 where
-  pub keys : (x : Name) → IsKey m x ↔ (IsSome (get_at deps x) ⊎ Contains left x)
-  pub each : (x : Name) → IfSome (get_at deps x) (IsDepsOf m x)
-
-pub tabling-start : {Y Z : Type 0} (m : BTreeMap (String Y) (Vec (String Y) Z)) (deps : BTreeMap (Bor Name) NameSet) → deps.entries ≡ [] → Tabling (feature_map m) deps (names_of (map (λ e. e.0) m.entries))
-tabling-start m deps e = record {
-  keys = λ x.
-      let k = is_key-entries x m.entries in (
-        λ t. inr (k.0 t),
-        λ t. elim t [
-          | inl o ↦ absurd (let z : false ≡ true = sym (ap (λ es. is_some (lookup (is_at (λ (b : Bor Name). slice_cmp nat_cmp x b.now)) es)) e) ∙ o in cc)
-          | inr c ↦ k.1 c
-        ],
-      );
-  each = λ x. subst (λ es. IfSome (lookup (is_at (λ (b : Bor Name). slice_cmp nat_cmp x b.now)) es) (IsDepsOf (feature_map m) x)) (sym e) tt;
-}
-
-keys-next : (m : FeatureMap) (x y : Name) (s : NameSet) (left : List Name) (old new : Option NameSet) (b : Bool) → bytes_eq x y ≡ b → new ≡ cond b (Some s) old → (IsKey m y ↔ (IsSome old ⊎ Contains (x ∷ left) y)) → IsKey m y ↔ (IsSome new ⊎ Contains left y)
-keys-next m x y s left old new true t e h =
-    (λ k. inl (ap is_some e), λ k. h.1 (inr (subst (λ n. Contains (x ∷ left) n) (same_text x y t) (Contains-head x left))))
-keys-next m x y s left old new false t e h = (
-  λ k. elim (h.0 k) [
-    | inl o ↦ inl (ap is_some e ∙ o)
-    | inr c ↦ elim (Contains-cons_cases x left y c) [ inl w ↦ absurd (differ x y t w) | inr w ↦ inr w ]
-  ],
-  λ k. elim k [ inl o ↦ h.1 (inl (sym (ap is_some e) ∙ o)) | inr c ↦ h.1 (inr (Contains-tail x left y c)) ],
-)
-
-each-next : (m : FeatureMap) (x y : Name) (s : NameSet) (old new : Option NameSet) (b : Bool) → bytes_eq x y ≡ b → new ≡ cond b (Some s) old → IsDepsOf m x s → IfSome old (IsDepsOf m y) → IfSome new (IsDepsOf m y)
-each-next m x y s old new true t e d h = subst (λ o. IfSome o (IsDepsOf m y)) (sym e) (subst (λ n. IsDepsOf m n s) (same_text x y t) d)
-each-next m x y s old new false t e d h = subst (λ o. IfSome o (IsDepsOf m y)) (sym e) h
-
--- the set of one key goes into the table
-pub tabling-next : (m : FeatureMap) (x : Name) (s : NameSet) (left : List Name) (old new : BTreeMap (Bor Name) NameSet) → Tabling m old (x ∷ left) → ((y : Name) → get_at new y ≡ update bytes_eq (get_at old) x (Some s) y) → IsDepsOf m x s → Tabling m new left
-tabling-next m x s left old new h e d = record {
-  keys = λ y. keys-next m x y s left (get_at old y) (get_at new y) (bytes_eq x y) refl (e y) (h.keys y);
-  each = λ y. each-next m x y s (get_at old y) (get_at new y) (bytes_eq x y) refl (e y) d (h.each y);
-}
-
-pub tabling-end : (m : FeatureMap) (deps : BTreeMap (Bor Name) NameSet) (left : List Name) → Tabling m deps left → left ≡ [] → AreDepsOf m deps
-tabling-end m deps left h e = record {
-  keys = λ x. (λ o. (h.keys x).1 (inl o), λ k. elim ((h.keys x).0 k) [ inl o ↦ o | inr c ↦ absurd (Contains-nil x (subst (λ l. Contains l x) e c)) ]);
-  each = h.each;
-}
 
 -- ---- the keys that serve a group
 

@@ -6,7 +6,7 @@ use Rattle.std.specs.Map.{lookup}
 use Rattle.std.specs.Str.{bytes_eq}
 use Rattle.std.specs.Borrow.{Bor}
 use Rattle.std.proofs.Math.ListN.{get_or-append}
-use Rattle.std.proofs.lemmas.List.Elements.{Contains-append_left, Contains-append_right, All-contains}
+use Rattle.std.proofs.lemmas.List.Elements.{Contains-append_left, Contains-append_right, Contains-get_or, All-contains}
 use Rattle.std.proofs.lemmas.List.{get_or_default}
 use Rattle.hack_features.proofs.Members.{lt_or_same, Contains-map, Contains-map_from}
 use Rattle.hack_features.proofs.TableLemmas.{filter_map_from, filter_map_has}
@@ -129,6 +129,7 @@ module _ (edges : Edges) (m : FeatureMap) (names : List Name) (keys : List Bool)
       → ((i j : ℕ) → i < length rows → IsTrue (leads marks i j) ↔ Chain (Leads rows) i j) → AreRoutes edges m names keys marks
   routes_from places step' known marks told = record {
     known = known;
+    closed = λ i y lt c. let d = chain_down c i lt refl in subst (Contains names) d.2 (Contains-get_or names d.0 [] d.1);
     apart = one_place names places step';
     keyed = λ k lt. h.keyed k (omega arith);
     led = λ i j li lj. (

@@ -75,24 +75,24 @@ module _ (edges : Edges) (m : FeatureMap) (names : List Name) (keys : List Bool)
         any_passes (leads marks x) group j.0 j.1 ((h.led x j.0 lt j.2).1 (subst (Chain (edge_of edges m) (name_at names x)) (sym j.3) w.2)),
   )
 
-  key_of : (x : ℕ) → x < length names → bit keys x ≡ true → IsKey m (name_at names x)
+  pub key_of : (x : ℕ) → x < length names → bit keys x ≡ true → IsKey m (name_at names x)
   key_of x lt e = sym (h.keyed x lt) ∙ e
 
-  of_key : (x : ℕ) → x < length names → IsKey m (name_at names x) → bit keys x ≡ true
+  pub of_key : (x : ℕ) → x < length names → IsKey m (name_at names x) → bit keys x ≡ true
   of_key x lt k = h.keyed x lt ∙ k
 
-  differ_at : (x y : ℕ) → x < length names → y < length names → not (x == y) ≡ true → name_at names y ≢ name_at names x
+  pub differ_at : (x y : ℕ) → x < length names → y < length names → not (x == y) ≡ true → name_at names y ≢ name_at names x
   differ_at x y lx ly e s =
       let same : x ≡ y = h.apart x y lx ly (sym s) in
       elim (eqb_tells x y) [ inl w ↦ (let z : false ≡ true = sym (ap not w.0) ∙ e in cc) | inr w ↦ w.1 same ]
 
-  marked_or : (x y : ℕ) → not (x == y) ≡ true → IsTrue (leads marks x y) → cell marks x y ≡ true
+  pub marked_or : (x y : ℕ) → not (x == y) ≡ true → IsTrue (leads marks x y) → cell marks x y ≡ true
   marked_or x y e t = elim (or_cases (x == y) (cell marks x y) t) [ inl w ↦ absurd (let z : false ≡ true = sym (ap not w) ∙ e in cc) | inr w ↦ w ]
 
-  not_same : (x y : ℕ) → name_at names y ≢ name_at names x → not (x == y) ≡ true
+  pub not_same : (x y : ℕ) → name_at names y ≢ name_at names x → not (x == y) ≡ true
   not_same x y n = elim (eqb_tells x y) [ inl w ↦ absurd (n (ap (name_at names) (sym w.1))) | inr w ↦ ap not w.0 ]
 
-or_right : (a b : Bool) → b ≡ true → (a || b) ≡ true
+pub or_right : (a b : Bool) → b ≡ true → (a || b) ≡ true
 or_right true b e = refl
 or_right false b e = e
 

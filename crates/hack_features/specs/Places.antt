@@ -72,9 +72,11 @@ pub record AreAllAt (names : List Name) (rows : List (List ℕ)) (groups : List 
   pub count : length rows ≡ length groups
   pub each : (q : ℕ) → q < length groups → AreAt names (slice_index_or rows q []) (slice_index_or groups q [])
 
--- the table has each key, each name at one place, and tells which are keys and what chains of edges lead to
+-- the table has each key and all that chains of edges lead to from its names, each name at one place, and tells which
+-- are keys and what chains of edges lead to
 pub record AreRoutes (edges : Edges) (m : FeatureMap) (names : List Name) (keys : List Bool) (marks : List (List Bool)) : Type 0 where
   pub known : (x : Name) → IsKey m x → Contains names x
+  pub closed : (i : ℕ) (y : Name) → i < length names → Chain (edge_of edges m) (name_at names i) y → Contains names y
   pub apart : (i j : ℕ) → i < length names → j < length names → name_at names i ≡ name_at names j → i ≡ j
   pub keyed : (k : ℕ) → k < length names → bit keys k ≡ is_some (lookup (bytes_eq (name_at names k)) m)
   pub led : (i j : ℕ) → i < length names → j < length names → IsTrue (leads marks i j) ↔ Chain (edge_of edges m) (name_at names i) (name_at names j)

@@ -1,31 +1,53 @@
 //! What each key of a feature map enables, and which keys serve an at-least-one group.
 
-ghost use Rattle.std.specs.Prelude.{IsTrue, IfOk, ◌↔◌};
+ghost use Rattle.std.specs.Prelude.{◌<◌, ◌↔◌, length, IsTrue, IfOk};
 ghost use Rattle.hack_features.specs.FeatureMap.{FeatureMap, feature_map};
 ghost use Rattle.hack_features.specs.Deps.{AreDepsOf, AreServers, IsDepsOf, IsServedBy, ServeGroups};
 ghost use Rattle.hack_features.specs.Feature.{group_of, groups_of};
+ghost use Rattle.hack_features.specs.Places.{name_at};
+ghost use Rattle.hack_features.specs.Routed.{names_in, AreRoutesOf};
+ghost use Rattle.hack_features.specs.declared.reach.Edges.TheVariants.{Enabling};
 
 use crate::feature::Feature;
-use crate::reach::{Edges, names_from};
+use crate::names::Names;
+use crate::reach::Edges;
+use crate::routes::Routes;
 use std::alloc::{AllocError, Global};
 use std::collections::{BTreeMap, BTreeSet};
 
-/// All that `name` enables without it.
-fn deps_of<'a>(
+/// All that the name at the place enables without it.
+fn deps_at<'a>(
     alloc: Global,
-    map: &'a BTreeMap<String, Vec<String>>,
-    name: &'a str,
+    routes: &Routes<'a>,
+    from: usize,
 ) -> Result<BTreeSet<&'a str>, AllocError>
-    ensures { IfOk result (λ set. IsDepsOf (feature_map map.now) name.now set) }
+    requires { from < length (names_in routes.now) }
+    ensures { IfOk result (λ set. (m : FeatureMap) → AreRoutesOf Enabling m routes.now → IsDepsOf m (name_at (names_in routes.now) from) set) }
 {
-    let found = names_from(alloc, map, name, Edges::Enabling)?;
     let mut set = BTreeSet::new(alloc);
-    for other in found.as_slice() {
-        if *other != name {
-            set.insert(*other)?;
+    for (to, name) in routes.names().iter().enumerate() {
+        if routes.leads_on(from, to) {
+            set.insert(*name)?;
         }
     }
     Ok(set)
+}
+
+/// For each key, all names that it enables without itself.
+fn deps_by_place<'a>(
+    alloc: Global,
+    routes: &Routes<'a>,
+) -> Result<BTreeMap<&'a str, BTreeSet<&'a str>>, AllocError>
+    ensures { IfOk result (λ deps. (m : FeatureMap) → AreRoutesOf Enabling m routes.now → AreDepsOf m deps) }
+{
+    let mut deps = BTreeMap::new(alloc);
+    for (place, name) in routes.names().iter().enumerate() {
+        if routes.is_key(place) {
+            let set = deps_at(alloc, routes, place)?;
+            deps.insert(*name, set)?;
+        }
+    }
+    Ok(deps)
 }
 
 /// For each key of a package's feature map, all names that it enables without itself.
@@ -35,12 +57,10 @@ pub fn feature_deps<'a>(
 ) -> Result<BTreeMap<&'a str, BTreeSet<&'a str>>, AllocError>
     ensures { IfOk result (λ deps. AreDepsOf (feature_map map.now) deps) }
 {
-    let mut deps = BTreeMap::new(alloc);
-    for key in map.keys() {
-        let set = deps_of(alloc, map, key.as_str())?;
-        deps.insert(key.as_str(), set)?;
-    }
-    Ok(deps)
+    let mut names = Names::new(alloc);
+    names.add_keys(map)?;
+    let routes = Routes::new(alloc, map, Edges::Enabling, names)?;
+    deps_by_place(alloc, &routes)
 }
 
 /// Whether a name of the group is the key or one of its deps.

@@ -1,8 +1,8 @@
 //! The names of a feature map by their places in one table: texts are compared when it is made, and not again.
 
 ghost use Rattle.std.specs.Prelude.{◌≡◌, ◌<◌, length, IfOk, OnOk, MatchOption, Contains};
-ghost use Rattle.hack_features.specs.Names.{names_of};
-ghost use Rattle.hack_features.specs.FeatureMap.{feature_map, values_at};
+ghost use Rattle.hack_features.specs.Names.{Name, names_of};
+ghost use Rattle.hack_features.specs.FeatureMap.{feature_map, values_at, IsKey};
 ghost use Rattle.hack_features.specs.Search.{Adds, IsTarget};
 ghost use Rattle.hack_features.specs.Places.{name_at, targets_of, AreAt, IsMore};
 
@@ -126,5 +126,20 @@ impl<'a> Names<'a> {
             row.push(self.place_of(text.as_str())?)?;
         }
         Ok(row)
+    }
+
+    /// Adds the keys of the map.
+    pub(crate) fn add_keys(
+        &mut self,
+        map: &'a BTreeMap<String, Vec<String>>,
+    ) -> Result<(), AllocError>
+        requires { IsInStep self.old }
+        ensures in_step { OnOk result (IsInStep self.new) }
+        ensures known { OnOk result ((x : Name) → IsKey (feature_map map.now) x → Contains (table self.new) x) }
+    {
+        for key in map.keys() {
+            self.place_of(key.as_str())?;
+        }
+        Ok(())
     }
 }

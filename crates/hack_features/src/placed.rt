@@ -1,8 +1,7 @@
 //! The candidates of a package and groups of names, as places in one table of names.
 
-ghost use Rattle.std.specs.Prelude.{◌≡◌, IfOk, OnOk, Contains};
-ghost use Rattle.hack_features.specs.Names.{Name};
-ghost use Rattle.hack_features.specs.FeatureMap.{feature_map, IsKey};
+ghost use Rattle.std.specs.Prelude.{IfOk, OnOk};
+ghost use Rattle.hack_features.specs.FeatureMap.{feature_map};
 ghost use Rattle.hack_features.specs.Feature.{groups_of, candidates_of};
 ghost use Rattle.hack_features.specs.Sets.{rows_of};
 ghost use Rattle.hack_features.specs.Places.{AreAllAt, IsMore};
@@ -14,21 +13,6 @@ use crate::reach::Edges;
 use crate::routes::Routes;
 use std::alloc::{AllocError, Global};
 use std::collections::BTreeMap;
-
-/// Adds the keys of the map.
-fn add_keys<'a>(
-    names: &mut Names<'a>,
-    map: &'a BTreeMap<String, Vec<String>>,
-) -> Result<(), AllocError>
-    requires { IsInStep names.old }
-    ensures in_step { OnOk result (IsInStep names.new) }
-    ensures known { OnOk result ((x : Name) → IsKey (feature_map map.now) x → Contains (table names.new) x) }
-{
-    for key in map.keys() {
-        names.place_of(key.as_str())?;
-    }
-    Ok(())
-}
 
 /// The places of each candidate's names, which are added.
 fn candidate_places<'a>(
@@ -89,7 +73,7 @@ impl<'a> Placed<'a> {
         ensures { IfOk result (IsPlaced edges (feature_map map.now) (candidates_of candidates.now) (groups_of groups.now)) }
     {
         let mut names = Names::new(alloc);
-        add_keys(&mut names, map)?;
+        names.add_keys(map)?;
         let candidates = candidate_places(alloc, &mut names, candidates)?;
         let groups = group_places(alloc, &mut names, groups)?;
         let routes = Routes::new(alloc, map, edges, names)?;

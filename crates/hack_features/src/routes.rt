@@ -1,6 +1,6 @@
 //! What the names of a feature map lead to by chains of edges, for each kind of edges one table of places.
 
-ghost use Rattle.std.specs.Prelude.{◌≡◌, ◌++◌, [], List, length, IfOk, IsTrue, Contains};
+ghost use Rattle.std.specs.Prelude.{◌≡◌, ◌==◌, ◌&&◌, ◌++◌, [], List, length, not, IfOk, IsTrue, Contains};
 ghost use Rattle.std.specs.List.{slice_index_or};
 ghost use Rattle.hack_features.specs.Names.{Name};
 ghost use Rattle.hack_features.specs.FeatureMap.{FeatureMap, feature_map};
@@ -70,6 +70,13 @@ impl<'a> Routes<'a> {
         self.names.len()
     }
 
+    /// The names, by place.
+    pub(crate) fn names(&self) -> &[&'a str]
+        ensures { result.now ≡ self.now.names.items }
+    {
+        self.names.as_slice()
+    }
+
     /// Whether the name at the place is a key.
     pub(crate) fn is_key(&self, place: usize) -> bool
         ensures { result ≡ bit self.now.keys.items place }
@@ -106,5 +113,12 @@ impl<'a> Routes<'a> {
         ensures { result ≡ leads (rows_of self.now.marks.items) from to }
     {
         from == to || self.has_mark(from, to)
+    }
+
+    /// Whether a chain of edges leads from a place to another one, which is not the same.
+    pub(crate) fn leads_on(&self, from: usize, to: usize) -> bool
+        ensures { result ≡ (not (from == to) && cell (rows_of self.now.marks.items) from to) }
+    {
+        from != to && self.has_mark(from, to)
     }
 }

@@ -10,7 +10,7 @@ use Rattle.hack_features.proofs.placed.Placed.new.Goals as goal
 
 pub new-requires-clause-known : goal.new-requires-clause-known
 new-requires-clause-known c = λ x k.
-    let start = table c.add_keys.new.names in
+    let start = table c.add_keys.new.self in
     let more : IsMore start (table c.group_places.new.names) = more-then start (table c.candidate_places.new.names) (table c.group_places.new.names) c.in_ok-candidates.ensures.kept c.in_ok-groups.ensures.kept in
     subst (λ ns. Contains ns x) (sym more.1) (Contains-append_left start more.0 x (c.in_ok-add_keys.ensures.known x k))
 

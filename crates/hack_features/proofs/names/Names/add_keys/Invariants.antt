@@ -2,10 +2,10 @@ use Rattle.std.proofs.Common.{◌⊎◌, Contains}
 use Rattle.hack_features.specs.Names.{Name, names_of}
 use Rattle.hack_features.specs.FeatureMap.{feature_map, IsKey}
 use Rattle.hack_features.specs.Table.{table, IsInStep}
-use Rattle.hack_features.proofs.placed.add_keys.Given as goal
+use Rattle.hack_features.proofs.names.Names.add_keys.Given as goal
 
 abbrev pub invariant-loop-key : goal.invariant-loop-key
 invariant-loop-key l = record {
-  step : IsInStep l.names;
-  known : (x : Name) → IsKey (feature_map l.map) x → Contains (table l.names) x ⊎ Contains (names_of l.key-iterator) x;
+  step : IsInStep l.self;
+  known : (x : Name) → IsKey (feature_map l.map) x → Contains (table l.self) x ⊎ Contains (names_of l.key-iterator) x;
 }

@@ -7,7 +7,7 @@ use Rattle.hack_features.specs.FeatureMap.{feature_map, IsKey}
 use Rattle.hack_features.specs.Table.{table}
 use Rattle.hack_features.proofs.Members.{Contains-cons_cases, Contains-nil}
 use Rattle.hack_features.proofs.DepsLemmas.{is_key-entries}
-use Rattle.hack_features.proofs.placed.add_keys.Goals as goal
+use Rattle.hack_features.proofs.names.Names.add_keys.Goals as goal
 
 pub loop-key-init : goal.loop-key-init
 loop-key-init c = record {
@@ -19,7 +19,7 @@ pub loop-key-preserved : goal.loop-key-preserved
 loop-key-preserved c =
     let x = string_bytes c.in-Some.key.now in
     let rest = names_of c.next.new.self in
-    let old = table c.loop-key.names in
+    let old = table c.loop-key.self in
     let new = table c.place_of.new.self in
     let adds = c.in_ok-place_of.ensures.adds in
     let before : (y : Name) → IsKey (feature_map c.args.map.now) y → Contains old y ⊎ Contains (x ∷ rest) y =
