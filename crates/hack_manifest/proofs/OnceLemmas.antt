@@ -62,11 +62,11 @@ own_once piece k l (no_front none is) (no_front other also) = is ∙ sym also
 path_once : (header : List Name) (piece : List ℕ) (p q : List Name) → IsPath header piece p → IsPath header piece q → p ≡ q
 path_once header piece p q a b =
     elim (cases_Bool (is_header piece)) [
-      | inl yes ↦ a.own yes ∙ sym (b.own yes)
-      | inr not ↦
-        let (k, own, is) = a.behind not in
-        let (l, other, also) = b.behind not in
-        is ∙ ap (λ key. header ++ key) (own_once piece k l own other) ∙ sym also
+      | inl own ↦ a.own own ∙ sym (b.own own)
+      | inr key ↦
+        let (k, mine, is) = a.behind key in
+        let (l, other, also) = b.behind key in
+        is ∙ ap (λ names. header ++ names) (own_once piece k l mine other) ∙ sym also
     ]
 
 view_same : (p q : View) → p.text ≡ q.text → p.path ≡ q.path → p ≡ q

@@ -1,10 +1,14 @@
 -- What a manifest says of its package and its features, or the name of the first field that can't be read.
-use Rattle.std.specs.Prelude.{◌≡◌, codes, ℕ, Bool, true, false, not, ◌&&◌, nat_lt, if◌then◌else◌, List, [], ◌∷◌, Option, Some, None, Result, Ok, Err, option_map}
+use Rattle.std.specs.Prelude.{◌≡◌, codes, ℕ, Bool, true, false, not, ◌&&◌, nat_lt, if◌then◌else◌, List, [], ◌∷◌, Option, Some, None, Result, Ok, Err, option_map, option_and_then}
 use Rattle.std.specs.List.{list_any}
 use Rattle.std.specs.Option.{ok_or}
 use Rattle.std.specs.Str.{bytes_eq}
-use Rattle.toml.specs.Data.{Data, string, integer, float, boolean, datetime, array, table, Items, no_items, item, Members, no_members, member, get_member}
+use Rattle.std.specs.Ordering.{nat_cmp}
+use Rattle.std.specs.Cmp.Lexicographic.{slice_cmp}
+use Rattle.std.specs.declared.cmp.Ordering.{Ordering}
+use Rattle.toml.specs.Data.{Data, string, boolean, array, Items, no_items, item, Members, no_members, member, get_member, as_table, as_array}
 use Rattle.toml.specs.Parse.{parse_document}
+use Rattle.toml.specs.Text.{has_items}
 use Rattle.hack_features.specs.Names.{Name}
 use Rattle.hack_features.specs.FeatureMap.{FeatureMap}
 use Rattle.hack_manifest.specs.Paths.{View, is_header, AreCut}
@@ -20,6 +24,10 @@ rust_version_key = codes "rust-version"
 
 abbrev pub features_key : Name
 features_key = codes "features"
+
+-- the order of names
+abbrev pub by_bytes : Name → Name → Ordering
+by_bytes = slice_cmp nat_cmp
 
 -- what is read, or the name of the field that can't be read
 abbrev pub Reading : Type 0 → Type 0
@@ -44,24 +52,19 @@ is_value_of name p = is_just name p.path && not (is_header p.text)
 abbrev pub is_inline : Name → List View → Bool
 is_inline name ps = list_any (is_value_of name) ps
 
+-- the table at a key
+abbrev pub table_at : Name → Members → Option Members
+table_at key ms = option_and_then as_table (get_member key ms)
+
 -- the table `package`, which must not be inline
-abbrev pub package_from : Bool → Option Data → Reading Members
-package_from inline None = Err package_key
-package_from inline (Some (table ms)) = if inline then Err package_key else Ok ms
-package_from inline (Some _) = Err package_key
-
 abbrev pub package_in : Bool → Members → Reading Members
-package_in inline tree = package_from inline (get_member package_key tree)
-
-abbrev pub some_items : Items → Bool
-some_items no_items = false
-some_items (item d ds) = true
+package_in inline tree = if inline then Err package_key else ok_or (table_at package_key tree) package_key
 
 -- whether a package may be published: absent is yes, an array is yes where it isn't empty
 abbrev pub publish_from : Option Data → Reading (Option Bool)
 publish_from None = Ok (Some true)
 publish_from (Some (boolean b)) = Ok (Some b)
-publish_from (Some (array ds)) = Ok (Some (some_items ds))
+publish_from (Some (array ds)) = Ok (Some (has_items ds))
 publish_from (Some _) = Err publish_key
 
 -- read below cargo 1.39 alone, whose metadata don't say it
@@ -98,17 +101,16 @@ texts_in (item _ ds) = texts_in ds
 -- the members as a feature map: each is a feature with the texts of its array; none where one is no array
 abbrev pub members_in : Members → Option FeatureMap
 members_in no_members = Some []
-members_in (member name (array ds) ms) = option_map (λ more. (name, texts_in ds) ∷ more) (members_in ms)
-members_in (member name _ ms) = None
+members_in (member name d ms) =
+    option_and_then (λ ds. option_map (λ more. (name, texts_in ds) ∷ more) (members_in ms)) (as_array d)
 
--- the feature map: empty without a table `features`, which must not be inline
-abbrev pub features_from : Bool → Option Data → Reading FeatureMap
-features_from inline None = Ok []
-features_from inline (Some (table ms)) = if inline then Err features_key else ok_or (members_in ms) features_key
-features_from inline (Some _) = Err features_key
+-- the feature map: empty where there are no `features`, which else must be a table that isn't inline
+abbrev pub features_from : Bool → Option Data → Option FeatureMap
+features_from inline None = Some []
+features_from inline (Some d) = if inline then None else option_and_then members_in (as_table d)
 
 abbrev pub features_in : Bool → Members → Reading FeatureMap
-features_in inline tree = features_from inline (get_member features_key tree)
+features_in inline tree = ok_or (features_from inline (get_member features_key tree)) features_key
 
 -- what a manifest says
 pub record Facts : Type 0 where

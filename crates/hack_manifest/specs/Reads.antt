@@ -1,5 +1,6 @@
 -- What is read of a manifest as clauses see it, and its faults.
-use Rattle.std.specs.Prelude.{◌≡◌, ℕ, List, Option, None, option_map, BTreeMap, Vec, String, Result, Ok, Err, string_bytes}
+use Rattle.std.specs.Prelude.{◌≡◌, ℕ, List, Option, None, option_map, Vec, String, Result, Ok, Err, string_bytes}
+use Rattle.std.specs.BTreeMap.{BTreeMap}
 use Rattle.std.specs.declared.alloc.Global.{Global}
 use Rattle.toml.specs.Parse.{parse_document}
 use Rattle.hack_features.specs.Names.{Name}

@@ -1,10 +1,11 @@
 //! The feature map of a manifest.
 
-ghost use Rattle.std.specs.Prelude.{◌≡◌, IfOk, IfSome, IfNone, MatchOption, Some, None};
-ghost use Rattle.toml.specs.View.{view, table_view, array_view};
+ghost use Rattle.std.specs.Prelude.{◌≡◌, IfOk, OnOk, option_map};
+ghost use Rattle.std.specs.BTreeMap.{insert_entry};
+ghost use Rattle.toml.specs.View.{table_view, array_view};
 ghost use Rattle.hack_features.specs.Names.{names_of};
 ghost use Rattle.hack_features.specs.FeatureMap.{feature_map};
-ghost use Rattle.hack_manifest.specs.Manifest.{texts_in, members_in, features_in};
+ghost use Rattle.hack_manifest.specs.Manifest.{by_bytes, texts_in, members_in, features_in};
 ghost use Rattle.hack_manifest.specs.Reads.{Gives};
 
 use crate::fault::ReadFault;
@@ -27,25 +28,41 @@ fn texts_of(alloc: Global, array: &Array) -> Result<Vec<String>, AllocError>
     Ok(texts)
 }
 
+/// Puts a feature with the texts of an array into a map.
+fn put(
+    alloc: Global,
+    map: &mut BTreeMap<String, Vec<String>>,
+    name: &str,
+    array: &Array,
+) -> Result<(), AllocError>
+    ensures { OnOk result (feature_map map.new
+        ≡ insert_entry by_bytes (feature_map map.old) name.now (texts_in (array_view array.now))) }
+{
+    let texts = texts_of(alloc, array)?;
+    map.insert(String::from_str(alloc, name)?, texts)?;
+    Ok(())
+}
+
 /// The feature map that a table is; none where a value is no array.
 fn map_of(
     alloc: Global,
     table: &Table,
 ) -> Result<Option<BTreeMap<String, Vec<String>>>, AllocError>
-    ensures { IfOk result (λ found. MatchOption found (members_in (table_view table.now) ≡ None)
-        (λ map. members_in (table_view table.now) ≡ Some (feature_map map))) }
+    ensures { IfOk result (λ found. members_in (table_view table.now)
+        ≡ option_map feature_map found) }
 {
     let mut map = BTreeMap::new(alloc);
-    for (name, value) in table {
-        let Value::Array(array) = value else {
+    'features: for (name, value) in table.iter() {
+        let Some(array) = value.as_array() else {
             return Ok(None);
         };
-        map.insert(name.clone()?, texts_of(alloc, array)?)?;
+        put(alloc, &mut map, name.as_str(), array)?;
     }
     Ok(Some(map))
 }
 
-/// The features of a manifest: none where it has no table `features`, which must not be inline.
+/// The features of a manifest: none where it has no `features`, which else must be a table that
+/// isn't inline.
 pub fn features_of(
     alloc: Global,
     tree: &Table,
@@ -53,17 +70,17 @@ pub fn features_of(
 ) -> Result<BTreeMap<String, Vec<String>>, ReadFault>
     ensures { Gives feature_map result (features_in inline (table_view tree.now)) }
 {
-    match value_at(tree, "features") {
-        None => Ok(BTreeMap::new(alloc)),
-        Some(Value::Table(table)) => {
-            if inline {
-                return Err(ReadFault::Field("features"));
-            }
-            match map_of(alloc, table)? {
-                Some(map) => Ok(map),
-                None => Err(ReadFault::Field("features")),
-            }
-        }
-        Some(_) => Err(ReadFault::Field("features")),
+    let Some(value) = value_at(tree, "features") else {
+        return Ok(BTreeMap::new(alloc));
+    };
+    if inline {
+        return Err(ReadFault::Field("features"));
+    }
+    let Some(table) = value.as_table() else {
+        return Err(ReadFault::Field("features"));
+    };
+    match map_of(alloc, table)? {
+        Some(map) => Ok(map),
+        None => Err(ReadFault::Field("features")),
     }
 }

@@ -7,7 +7,7 @@ ghost use Rattle.hack_manifest.specs.Reads.{Gives, version_view, package_view};
 ghost use Rattle.hack_manifest.specs.Manifest.{package_facts};
 
 use crate::fault::ReadFault;
-use crate::lookup::value_at;
+use crate::lookup::{find_table, has_values, value_at};
 use std::alloc::Global;
 use toml::{Table, Value};
 
@@ -25,15 +25,12 @@ pub struct Package {
 pub fn package_table(tree: &Table, inline: bool) -> Result<&Table, ReadFault>
     ensures { Gives (λ t. table_view t.now) result (package_in inline (table_view tree.now)) }
 {
-    match value_at(tree, "package") {
-        Some(Value::Table(table)) => {
-            if inline {
-                Err(ReadFault::Field("package"))
-            } else {
-                Ok(table)
-            }
-        }
-        _ => Err(ReadFault::Field("package")),
+    if inline {
+        return Err(ReadFault::Field("package"));
+    }
+    match find_table(tree, "package") {
+        Some(table) => Ok(table),
+        None => Err(ReadFault::Field("package")),
     }
 }
 
@@ -47,7 +44,7 @@ fn publish(table: &Table, cargo_version: u32) -> Result<Option<bool>, ReadFault>
     match value_at(table, "publish") {
         None => Ok(Some(true)),
         Some(Value::Boolean(publish)) => Ok(Some(*publish)),
-        Some(Value::Array(registries)) => Ok(Some(!registries.is_empty())),
+        Some(Value::Array(registries)) => Ok(Some(has_values(registries))),
         Some(_) => Err(ReadFault::Field("publish")),
     }
 }

@@ -1,4 +1,4 @@
-use Rattle.std.proofs.Common.{◌≡◌, ◌++◌, [], ◌∷◌, take, string_bytes, ap, ◌∙◌, arith}
+use Rattle.std.proofs.Common.{◌≡◌, ◌++◌, [], ◌∷◌, take, ap, ◌∙◌, arith, rules}
 use Rattle.hack_manifest.specs.Fronts.{IsFirstFrontTo}
 use Rattle.hack_manifest.specs.Paths.{chain_at, at_front}
 use Rattle.hack_manifest.proofs.RunLemmas.{IsCharBoundary-behind}
@@ -12,4 +12,5 @@ range-requires-clause-end_boundary c =
 pub returns-in_ok-names-in-Some : goal.returns-in_ok-names-in-Some
 returns-in_ok-names-in-Some c =
     let first : IsFirstFrontTo 61 (48 ∷ []) c.args.piece.now c.in-Some.n = rw c.in-Some.is at c.in_ok-n.ensures.found in
-    at_front c.in-Some.n first ?
+    let text : c.as_str.result.now ≡ take c.in-Some.n c.args.piece.now ++ 48 ∷ [] = search rules in
+    at_front c.in-Some.n first (c.in_ok-names-in-Some.ensures ∙ ap chain_at text)

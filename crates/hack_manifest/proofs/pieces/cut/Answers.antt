@@ -22,8 +22,8 @@ pieces-preserved c =
     record {
       utf8 = rw back (IsUtf8-drop _ _ c.pieces.invariant.utf8 (IsCharBoundary-lines _ _ c.pieces.invariant.utf8 first.run.lines));
       texts = λ more tail h. rw new (texts-last _ _ _ p _ first c.split_at.ensures.front c.pieces.invariant.texts more tail (rw back at h));
-      paths = rw new (HavePaths-last [] _ p c.pieces.invariant.paths (rw (← c.pieces.invariant.header) c.in_ok-path.ensures));
-      header = rw new (c.in_ok-header.ensures ∙ ap (λ h. next_header h p) c.pieces.invariant.header ∙ sym (last_header-last [] (map piece_view c.pieces.found.items) p))
+      paths = rw new (HavePaths-last [] _ p c.pieces.invariant.paths (rw (← c.pieces.invariant.header) (rw c.deref.ensures.value at c.in_ok-path.ensures)));
+      header = rw new ((rw c.deref-in-Some.ensures.value at c.in_ok-header.ensures) ∙ ap (λ h. next_header h p) c.pieces.invariant.header ∙ sym (last_header-last [] (map piece_view c.pieces.found.items) p))
     }
 
 pub returns : goal.returns
