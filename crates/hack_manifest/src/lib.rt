@@ -3,7 +3,7 @@
 
 mod fault;
 mod features;
-pub mod fronts;
+mod fronts;
 mod lookup;
 pub mod manifest;
 mod package;

@@ -15,21 +15,23 @@ pub use crate::package::Package;
 use crate::package::{package_of, package_table};
 pub use crate::pieces::{CutFault, Piece, Pieces, cut_is_one, pieces_join};
 use crate::pieces::{cut, is_inline};
-use std::alloc::Global;
+use std::alloc::{AllocError, Global};
 use std::collections::BTreeMap;
 use thiserror::Error;
 use toml::Table;
 
 /// A manifest.
-#[derive(Debug, Drop)]
+#[derive(Drop)]
 pub struct Manifest {
+    /// The text that it was read from.
     pub text: String,
     pub package: Package,
+    /// The features with their values.
     pub features: BTreeMap<String, Vec<String>>,
 }
 
 /// Why a manifest can't be read. Each has its path.
-#[derive(Debug, Drop, PartialEq, Eq, Error)]
+#[derive(Debug, Drop, Error)]
 pub enum ManifestFault {
     #[error("failed to parse manifest `{0}` as toml")]
     Toml(String),
@@ -38,6 +40,16 @@ pub enum ManifestFault {
     Field(&'static str, String),
     #[error("out of memory")]
     Memory,
+}
+
+impl From<AllocError> for ManifestFault {
+    ghost use Rattle.hack_manifest.specs.declared.manifest.ManifestFault.TheVariants.{Memory};
+
+    ghost from_gives = { λ _ e. e ≡ Memory };
+
+    fn from(_e: AllocError) -> ManifestFault {
+        ManifestFault::Memory
+    }
 }
 
 impl Manifest {

@@ -13,7 +13,7 @@ use toml::{Table, Value};
 
 /// What a manifest says of its package. From the versions of cargo on whose metadata say it, the
 /// fields are `None`.
-#[derive(Debug, Drop, PartialEq, Eq)]
+#[derive(Drop)]
 pub struct Package {
     /// Whether it may be published, below cargo 1.39.
     pub publish: Option<bool>,

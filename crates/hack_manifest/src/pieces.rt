@@ -14,22 +14,26 @@ use crate::runs::first_run;
 use std::alloc::{AllocError, Global};
 use thiserror::Error;
 
-/// A piece of a text, with the names that its header and its own key give.
-#[derive(Debug, Drop)]
+/// A piece of a text.
+#[derive(Drop)]
 pub struct Piece<'a> {
+    /// The piece itself, with the blank lines and comments before it.
     pub text: &'a str,
+    /// The names of its header, or of the last header before it and of its own key.
     pub path: Vec<String>,
 }
 
-/// The pieces of a text in their order, and the tail: what is left behind them.
-#[derive(Debug, Drop)]
+/// The pieces of a text.
+#[derive(Drop)]
 pub struct Pieces<'a> {
+    /// The pieces in their order.
     pub pieces: Vec<Piece<'a>>,
+    /// What is left behind the last piece: blank lines and comments.
     pub tail: &'a str,
 }
 
 /// Why a text isn't cut.
-#[derive(Debug, Drop, PartialEq, Eq, Error)]
+#[derive(Debug, Drop, Error)]
 pub enum CutFault {
     /// The whole text is no TOML document.
     #[error("the text is not a TOML document")]
@@ -50,9 +54,9 @@ impl<'a> Pieces<'a> {
     /// Cuts a text that `toml` reads: from the start, again and again, the shortest run of whole
     /// lines that `toml` reads by itself as a document with a nonempty tree.
     pub fn cut(alloc: Global, text: &'a str) -> Result<Pieces<'a>, CutFault>
-        ensures ok { IfOk result (λ cut. AreCut text.entry.now (pieces_view cut) cut.tail.now) }
-        ensures read { IfOk result (λ _. IsSome (parse_document text.entry.now)) }
-        ensures refused { result ≡ Err Toml → parse_document text.entry.now ≡ None }
+        ensures ok { IfOk result (λ cut. AreCut text.now (pieces_view cut) cut.tail.now) }
+        ensures read { IfOk result (λ _. IsSome (parse_document text.now)) }
+        ensures refused { result ≡ Err Toml → parse_document text.now ≡ None }
     {
         match toml::table_from_str(alloc, text) {
             Ok(_) => Ok(cut(alloc, text)?),
