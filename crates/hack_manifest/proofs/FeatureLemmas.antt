@@ -99,9 +99,9 @@ so_far-turn whole m n left rest e ds first is put so_far =
     let more : Option FeatureMap = members_in (members_view rest) in
     subst Q (sym last) (record {
       read = here.read
-        ∙ ap (λ o. option_map (λ t. m ++ t) (option_and_then (λ ds. option_map (λ t. (string_bytes e.0, texts_in ds) ∷ t) more) o)) is
-        ∙ more-first m (string_bytes e.0) (texts_in ds) more;
-      sorted = subst S (keys-last m (string_bytes e.0) (texts_in ds) (names rest)) here.sorted
+          ∙ ap (λ o. option_map (λ t. m ++ t) (option_and_then (λ ds. option_map (λ t. (string_bytes e.0, texts_in ds) ∷ t) more) o)) is
+          ∙ more-first m (string_bytes e.0) (texts_in ds) more;
+      sorted = subst S (keys-last m (string_bytes e.0) (texts_in ds) (names rest)) here.sorted;
     })
 
 -- a value that is no array

@@ -64,9 +64,9 @@ path_once header piece p q a b =
     elim (cases_Bool (is_header piece)) [
       | inl own ↦ a.own own ∙ sym (b.own own)
       | inr key ↦
-        let (k, mine, is) = a.behind key in
-        let (l, other, also) = b.behind key in
-        is ∙ ap (λ names. header ++ names) (own_once piece k l mine other) ∙ sym also
+          let (k, mine, is) = a.behind key in
+          let (l, other, also) = b.behind key in
+          is ∙ ap (λ names. header ++ names) (own_once piece k l mine other) ∙ sym also
     ]
 
 view_same : (p q : View) → p.text ≡ q.text → p.path ≡ q.path → p ≡ q

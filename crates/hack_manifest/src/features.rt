@@ -44,10 +44,7 @@ fn put(
 }
 
 /// The feature map that a table is; none where a value is no array.
-fn map_of(
-    alloc: Global,
-    table: &Table,
-) -> Result<Option<BTreeMap<String, Vec<String>>>, AllocError>
+fn map_of(alloc: Global, table: &Table) -> Result<Option<BTreeMap<String, Vec<String>>>, AllocError>
     ensures { IfOk result (λ found. members_in (table_view table.now)
         ≡ option_map feature_map found) }
 {

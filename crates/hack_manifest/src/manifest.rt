@@ -13,7 +13,7 @@ use crate::fault::ReadFault;
 use crate::features::features_of;
 pub use crate::package::Package;
 use crate::package::{package_of, package_table};
-pub use crate::pieces::{CutFault, Piece, Pieces, cut_is_one, pieces_join};
+pub use crate::pieces::{Piece, Pieces, PiecesFault, cut_is_one, pieces_join};
 use crate::pieces::{cut, is_inline};
 use std::alloc::{AllocError, Global};
 use std::collections::BTreeMap;
@@ -85,8 +85,7 @@ impl Manifest {
 pub fn manifest_is_one()
     ensures { (text : List ℕ) (minor : ℕ) (read other : Reading Facts) → IsReadAs text minor read
         → IsReadAs text minor other → read ≡ other }
-{
-}
+{}
 
 /// The fault of a text that is no TOML.
 fn toml_fault(alloc: Global, path: &str) -> ManifestFault

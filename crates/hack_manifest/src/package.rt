@@ -68,11 +68,7 @@ fn rust_version(
 }
 
 /// What the table `package` says.
-pub fn package_of(
-    alloc: Global,
-    table: &Table,
-    cargo_version: u32,
-) -> Result<Package, ReadFault>
+pub fn package_of(alloc: Global, table: &Table, cargo_version: u32) -> Result<Package, ReadFault>
     ensures { Gives package_view result (package_facts cargo_version (table_view table.now)) }
 {
     let publish = publish(table, cargo_version)?;

@@ -7,7 +7,7 @@ ghost use Rattle.hack_features.specs.Names.{names_of};
 ghost use Rattle.hack_manifest.specs.Paths.{View, AreCut, joined, next_header};
 ghost use Rattle.hack_manifest.specs.View.{pieces_view, slice_view, piece_view};
 ghost use Rattle.hack_manifest.specs.Manifest.{is_value_of, is_inline};
-ghost use Rattle.hack_manifest.specs.declared.pieces.CutFault.TheVariants.{Memory, Toml};
+ghost use Rattle.hack_manifest.specs.declared.pieces.PiecesFault.TheVariants.{Memory, Toml};
 
 use crate::path::{path_of, push_all, starts_table};
 use crate::runs::first_run;
@@ -34,7 +34,7 @@ pub struct Pieces<'a> {
 
 /// Why a text isn't cut.
 #[derive(Debug, Drop, Error)]
-pub enum CutFault {
+pub enum PiecesFault {
     /// The whole text is no TOML document.
     #[error("the text is not a TOML document")]
     Toml,
@@ -42,18 +42,18 @@ pub enum CutFault {
     Memory,
 }
 
-impl From<AllocError> for CutFault {
+impl From<AllocError> for PiecesFault {
     ghost from_gives = { λ _ e. e ≡ Memory };
 
-    fn from(_e: AllocError) -> CutFault {
-        CutFault::Memory
+    fn from(_e: AllocError) -> PiecesFault {
+        PiecesFault::Memory
     }
 }
 
 impl<'a> Pieces<'a> {
     /// Cuts a text that `toml` reads: from the start, again and again, the shortest run of whole
     /// lines that `toml` reads by itself as a document with a nonempty tree.
-    pub fn cut(alloc: Global, text: &'a str) -> Result<Pieces<'a>, CutFault>
+    pub fn cut(alloc: Global, text: &'a str) -> Result<Pieces<'a>, PiecesFault>
         ensures ok { IfOk result (λ cut. AreCut text.now (pieces_view cut) cut.tail.now) }
         ensures read { IfOk result (λ _. IsSome (parse_document text.now)) }
         ensures refused { result ≡ Err Toml → parse_document text.now ≡ None }
@@ -62,9 +62,9 @@ impl<'a> Pieces<'a> {
             Ok(_) => Ok(cut(alloc, text)?),
             Err(e) => {
                 if e.is_memory() {
-                    Err(CutFault::Memory)
+                    Err(PiecesFault::Memory)
                 } else {
-                    Err(CutFault::Toml)
+                    Err(PiecesFault::Toml)
                 }
             }
         }
@@ -114,15 +114,13 @@ pub fn cut(alloc: Global, text: &str) -> Result<Pieces<'_>, AllocError>
 pub fn pieces_join()
     ensures { (text tail : List ℕ) (pieces : List View) → AreCut text pieces tail
         → text ≡ joined pieces ++ tail }
-{
-}
+{}
 
 /// Carries a law: a text is cut in one way.
 pub fn cut_is_one()
     ensures { (text tail end : List ℕ) (pieces others : List View) → AreCut text pieces tail
         → AreCut text others end → (pieces ≡ others) × (tail ≡ end) }
-{
-}
+{}
 
 /// Whether a piece is a key of just that name with its value.
 fn is_value_of(piece: &Piece<'_>, name: &str) -> bool

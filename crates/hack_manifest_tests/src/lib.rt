@@ -1,2 +1,7 @@
-//! Tests of manifests: what is read of them, their faults and their pieces.
+//! Tests of manifests: the pieces of a text, and what is read of package and features.
 #![tactic(auto)]
+
+#[cfg(test)]
+mod cuts;
+#[cfg(test)]
+mod reads;

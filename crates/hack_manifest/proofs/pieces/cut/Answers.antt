@@ -23,7 +23,7 @@ pieces-preserved c =
       utf8 = rw back (IsUtf8-drop _ _ c.pieces.invariant.utf8 (IsCharBoundary-lines _ _ c.pieces.invariant.utf8 first.run.lines));
       texts = λ more tail h. rw new (texts-last _ _ _ p _ first c.split_at.ensures.front c.pieces.invariant.texts more tail (rw back at h));
       paths = rw new (HavePaths-last [] _ p c.pieces.invariant.paths (rw (← c.pieces.invariant.header) (rw c.deref.ensures.value at c.in_ok-path.ensures)));
-      header = rw new ((rw c.deref-in-Some.ensures.value at c.in_ok-header.ensures) ∙ ap (λ h. next_header h p) c.pieces.invariant.header ∙ sym (last_header-last [] (map piece_view c.pieces.found.items) p))
+      header = rw new ((rw c.deref-in-Some.ensures.value at c.in_ok-header.ensures) ∙ ap (λ h. next_header h p) c.pieces.invariant.header ∙ sym (last_header-last [] (map piece_view c.pieces.found.items) p));
     }
 
 pub returns : goal.returns
@@ -31,5 +31,5 @@ returns c =
     let none : HasNoRun c.pieces.rest.now = rw c.in_default.is at c.in_ok-n.ensures.none in
     record {
       texts = rw (← append-nil (map (λ (p : View). p.text) (map piece_view c.pieces.found.items))) (c.pieces.invariant.texts [] c.pieces.rest.now (refl, none));
-      paths = c.pieces.invariant.paths
+      paths = c.pieces.invariant.paths;
     }

@@ -13,7 +13,7 @@ invariant-pieces l = record {
   utf8 : IsUtf8 l.rest;
   texts : (more : List (List ℕ)) (tail : List ℕ) → IsCutInto more tail l.rest → IsCutInto (map (λ p. p.text) (map piece_view l.found.items) ++ more) tail l.text;
   paths : HavePaths [] (map piece_view l.found.items);
-  header : names_of l.header.items ≡ last_header [] (map piece_view l.found.items)
+  header : names_of l.header.items ≡ last_header [] (map piece_view l.found.items);
 }
 
 abbrev pub decreases-pieces : goal.decreases-pieces
