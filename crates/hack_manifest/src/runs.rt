@@ -1,4 +1,4 @@
-//! The shortest run of whole lines that `toml` reads by itself: where the first piece of a text ends.
+//! Runs of whole lines that `toml` reads by themselves: where the first piece of a text ends.
 
 ghost use Rattle.std.specs.Prelude.{◌≡◌, ◌↔◌, ◌≤◌, false, IsTrue, IfOk, IfSome, IfNone, length};
 ghost use Rattle.hack_manifest.specs.Runs.{stands, IsLines, IsRun, IsFirstRun, HasNoRun};
