@@ -1,0 +1,20 @@
+use Rattle.std.proofs.Common.{◌≡◌, ℕ, List, [], ◌++◌, map, length, string_bytes}
+use Rattle.std.specs.Prelude.{IsUtf8}
+use Rattle.hack_features.specs.Names.{names_of}
+use Rattle.hack_manifest.specs.Runs.{IsCutInto}
+use Rattle.hack_manifest.specs.Paths.{HavePaths}
+use Rattle.hack_manifest.proofs.RunLemmas.{last_header}
+use Rattle.hack_manifest.specs.View.{piece_view}
+use Rattle.hack_manifest.proofs.pieces.cut.Given as goal
+
+-- what the rest is cut into stands behind what was found
+abbrev pub invariant-pieces : goal.invariant-pieces
+invariant-pieces l = record {
+  utf8 : IsUtf8 l.rest;
+  texts : (more : List (List ℕ)) (tail : List ℕ) → IsCutInto more tail l.rest → IsCutInto (map (λ p. p.text) (map piece_view l.found.items) ++ more) tail l.text;
+  paths : HavePaths [] (map piece_view l.found.items);
+  header : names_of l.header.items ≡ last_header [] (map piece_view l.found.items);
+}
+
+abbrev pub decreases-pieces : goal.decreases-pieces
+decreases-pieces l = length l.rest

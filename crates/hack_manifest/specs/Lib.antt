@@ -1,0 +1,6 @@
+pub mod Runs
+pub mod Fronts
+pub mod Paths
+pub mod View
+pub mod Manifest
+pub mod Reads

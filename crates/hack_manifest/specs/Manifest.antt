@@ -1,0 +1,135 @@
+-- What a manifest says of its package and its features, or the name of the first field that can't be read.
+use Rattle.std.specs.Prelude.{◌≡◌, codes, ℕ, Bool, true, false, not, ◌&&◌, nat_lt, if◌then◌else◌, List, [], ◌∷◌, Option, Some, None, Result, Ok, Err, option_map, option_and_then}
+use Rattle.std.specs.List.{list_any}
+use Rattle.std.specs.Option.{ok_or}
+use Rattle.std.specs.Str.{bytes_eq}
+use Rattle.std.specs.Ordering.{nat_cmp}
+use Rattle.std.specs.Cmp.Lexicographic.{slice_cmp}
+use Rattle.std.specs.declared.cmp.Ordering.{Ordering}
+use Rattle.toml.specs.Data.{Data, string, boolean, array, Items, no_items, item, Members, no_members, member, get_member, as_table, as_array}
+use Rattle.toml.specs.Parse.{parse_document}
+use Rattle.toml.specs.Text.{has_items}
+use Rattle.hack_features.specs.Names.{Name}
+use Rattle.hack_features.specs.FeatureMap.{FeatureMap}
+use Rattle.hack_manifest.specs.Paths.{View, is_header, AreCut}
+
+abbrev pub package_key : Name
+package_key = codes "package"
+
+abbrev pub publish_key : Name
+publish_key = codes "publish"
+
+abbrev pub rust_version_key : Name
+rust_version_key = codes "rust-version"
+
+abbrev pub features_key : Name
+features_key = codes "features"
+
+-- the order of names
+abbrev pub by_bytes : Name → Name → Ordering
+by_bytes = slice_cmp nat_cmp
+
+-- what is read, or the name of the field that can't be read
+abbrev pub Reading : Type 0 → Type 0
+Reading A = Result A Name
+
+infixl 10 ◌>>=◌
+abbrev pub ◌>>=◌ : {A B : Type 0} → Reading A → (A → Reading B) → Reading B
+(Ok x) >>= f = f x
+(Err name) >>= f = Err name
+
+-- the path is this one name
+abbrev pub is_just : Name → List Name → Bool
+is_just name [] = false
+is_just name (x ∷ []) = bytes_eq x name
+is_just name (x ∷ y ∷ more) = false
+
+-- the piece is a key of just this name with its value, and no header
+abbrev pub is_value_of : Name → View → Bool
+is_value_of name p = is_just name p.path && not (is_header p.text)
+
+-- some piece is: a table of this name is then written inline, and neither under headers nor by dotted keys
+abbrev pub is_inline : Name → List View → Bool
+is_inline name ps = list_any (is_value_of name) ps
+
+-- the table at a key
+abbrev pub table_at : Name → Members → Option Members
+table_at key ms = option_and_then as_table (get_member key ms)
+
+-- the table `package`, which must not be inline
+abbrev pub package_in : Bool → Members → Reading Members
+package_in inline tree = if inline then Err package_key else ok_or (table_at package_key tree) package_key
+
+-- whether a package may be published: absent is yes, an array is yes where it isn't empty
+abbrev pub publish_from : Option Data → Reading (Option Bool)
+publish_from None = Ok (Some true)
+publish_from (Some (boolean b)) = Ok (Some b)
+publish_from (Some (array ds)) = Ok (Some (has_items ds))
+publish_from (Some _) = Err publish_key
+
+-- read below cargo 1.39 alone, whose metadata don't say it
+abbrev pub publish_at : ℕ → Members → Reading (Option Bool)
+publish_at minor ms = if nat_lt minor 39 then publish_from (get_member publish_key ms) else Ok None
+
+-- the package's own `rust-version`, a text or absent
+abbrev pub rust_version_from : Option Data → Reading (Option (Option Name))
+rust_version_from None = Ok (Some None)
+rust_version_from (Some (string text)) = Ok (Some (Some text))
+rust_version_from (Some _) = Err rust_version_key
+
+-- read below cargo 1.58 alone
+abbrev pub rust_version_at : ℕ → Members → Reading (Option (Option Name))
+rust_version_at minor ms = if nat_lt minor 58 then rust_version_from (get_member rust_version_key ms) else Ok None
+
+-- what a package's table says
+pub record PackageFacts : Type 0 where
+  pub publish : Option Bool
+  pub rust_version : Option (Option Name)
+
+abbrev pub package_facts : ℕ → Members → Reading PackageFacts
+package_facts minor ms =
+    publish_at minor ms >>= λ publish.
+    rust_version_at minor ms >>= λ rust_version.
+    Ok (record { publish = publish; rust_version = rust_version })
+
+-- the texts among items
+abbrev pub texts_in : Items → List Name
+texts_in no_items = []
+texts_in (item (string text) ds) = text ∷ texts_in ds
+texts_in (item _ ds) = texts_in ds
+
+-- the members as a feature map: each is a feature with the texts of its array; none where one is no array
+abbrev pub members_in : Members → Option FeatureMap
+members_in no_members = Some []
+members_in (member name d ms) =
+    option_and_then (λ ds. option_map (λ more. (name, texts_in ds) ∷ more) (members_in ms)) (as_array d)
+
+-- the feature map: empty where there are no `features`, which else must be a table that isn't inline
+abbrev pub features_from : Bool → Option Data → Option FeatureMap
+features_from inline None = Some []
+features_from inline (Some d) = if inline then None else option_and_then members_in (as_table d)
+
+abbrev pub features_in : Bool → Members → Reading FeatureMap
+features_in inline tree = ok_or (features_from inline (get_member features_key tree)) features_key
+
+-- what a manifest says
+pub record Facts : Type 0 where
+  pub of_package : PackageFacts
+  pub features : FeatureMap
+
+-- what a manifest of this tree and these pieces says, or its first faulty field
+abbrev pub read_manifest : ℕ → List View → Members → Reading Facts
+read_manifest minor ps tree =
+    package_in (is_inline package_key ps) tree >>= λ ms.
+    package_facts minor ms >>= λ of_package.
+    features_in (is_inline features_key ps) tree >>= λ features.
+    Ok (record { of_package = of_package; features = features })
+
+-- what the text of a manifest is read as
+pub record IsReadAs (text : List ℕ) (minor : ℕ) (read : Reading Facts) : Type 0 where
+  pub tree : Members
+  pub pieces : List View
+  pub tail : List ℕ
+  pub parsed : parse_document text ≡ Some tree
+  pub cut : AreCut text pieces tail
+  pub facts : read_manifest minor pieces tree ≡ read

@@ -1,0 +1,64 @@
+-- The key paths of pieces.
+use Rattle.std.specs.Prelude.{◌≡◌, ◌==◌, ℕ, Bool, true, false, if◌then◌else◌, map, List, [], ◌∷◌, ◌++◌, take, slice_index, Option, Some, None}
+use Rattle.toml.specs.Data.{Data, table, Members, no_members, member}
+use Rattle.toml.specs.Parse.{parse_document, skip_bom}
+use Rattle.toml_parser.specs.Lexical.{skip_blank}
+use Rattle.hack_features.specs.Names.{Name}
+use Rattle.hack_manifest.specs.Runs.{IsCutInto}
+use Rattle.hack_manifest.specs.Fronts.{IsFirstFrontTo, HasNoFrontTo}
+
+-- the names along a tree, by the first of each table
+abbrev mutual
+  pub chain_of : Data → List Name
+  chain_of (table ms) = chain ms
+  chain_of _ = []
+
+  pub chain : Members → List Name
+  chain no_members = []
+  chain (member k d ms) = k ∷ chain_of d
+
+abbrev pub chain_of_tree : Option Members → List Name
+chain_of_tree None = []
+chain_of_tree (Some ms) = chain ms
+
+-- the chain of names in the tree of a text
+abbrev pub chain_at : List ℕ → List Name
+chain_at text = chain_of_tree (parse_document text)
+
+-- the first line that is neither blank nor a comment begins with a bracket
+abbrev pub is_header : List ℕ → Bool
+is_header piece = slice_index (skip_blank (skip_bom piece)) 0 == 91
+
+-- the names before the shortest front that ends in `=` and stands with `0` behind it; none where there is none
+pub data IsOwnKey (piece : List ℕ) (key : List Name) : Type 0 where
+  at_front : (n : ℕ) → IsFirstFrontTo 61 (48 ∷ []) piece n → key ≡ chain_at (take n piece ++ 48 ∷ []) → IsOwnKey piece key
+  no_front : HasNoFrontTo 61 (48 ∷ []) piece → key ≡ [] → IsOwnKey piece key
+
+-- a piece behind the last header's path has this path: a header has its own, a key is put behind the header's
+pub record IsPath (header : List Name) (piece : List ℕ) (path : List Name) : Type 0 where
+  pub own : is_header piece ≡ true → path ≡ chain_at piece
+  pub behind : is_header piece ≡ false → (key : List Name) × IsOwnKey piece key × (path ≡ header ++ key)
+
+-- a piece without where it lies in memory
+pub record View : Type 0 where
+  pub text : List ℕ
+  pub path : List Name
+
+-- the header's path behind a piece
+abbrev pub next_header : List Name → View → List Name
+next_header header p = if is_header p.text then p.path else header
+
+-- each piece has its path, behind the header's path
+abbrev pub HavePaths : List Name → List View → Type 0
+HavePaths header [] = Unit {0}
+HavePaths header (p ∷ ps) = IsPath header p.text p.path × HavePaths (next_header header p) ps
+
+-- the pieces of a text with their paths, and the tail
+pub record AreCut (text : List ℕ) (pieces : List View) (tail : List ℕ) : Type 0 where
+  pub texts : IsCutInto (map (λ p. p.text) pieces) tail text
+  pub paths : HavePaths [] pieces
+
+-- the pieces, one behind the other
+abbrev pub joined : List View → List ℕ
+joined [] = []
+joined (p ∷ ps) = p.text ++ joined ps

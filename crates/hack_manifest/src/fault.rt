@@ -1,0 +1,21 @@
+//! Why a part of a manifest isn't read, without the manifest's path.
+
+ghost use Rattle.std.specs.Prelude.{◌≡◌};
+ghost use Rattle.hack_manifest.specs.declared.fault.ReadFault.TheVariants.{Memory};
+
+use std::alloc::AllocError;
+
+#[derive(Drop)]
+pub enum ReadFault {
+    Memory,
+    /// The name of a field that is missing or ill typed.
+    Field(&'static str),
+}
+
+impl From<AllocError> for ReadFault {
+    ghost from_gives = { λ _ e. e ≡ Memory };
+
+    fn from(_e: AllocError) -> ReadFault {
+        ReadFault::Memory
+    }
+}

@@ -1,0 +1,138 @@
+//! A package's manifest: its text, and what is read of its package and features.
+//! <https://doc.rust-lang.org/cargo/reference/manifest.html>
+
+ghost use Rattle.std.specs.Prelude.{◌≡◌, ℕ, List, Some, IfOk, IfErr, string_bytes};
+ghost use Rattle.toml.specs.Parse.{parse_document};
+ghost use Rattle.toml.specs.View.{table_view};
+ghost use Rattle.hack_manifest.specs.Manifest.{read_manifest, Reading, Facts, IsReadAs};
+ghost use Rattle.hack_manifest.specs.View.{slice_view};
+ghost use Rattle.hack_manifest.specs.Reads.{Gives, Tells, facts_view, IsManifest};
+ghost use Rattle.hack_manifest.specs.Reads.{IsRefusal, IsTomlFault, IsFieldFault};
+
+use crate::fault::ReadFault;
+use crate::features::features_of;
+pub use crate::package::Package;
+use crate::package::{package_of, package_table};
+pub use crate::pieces::{Piece, Pieces, PiecesFault, cut_is_one, pieces_join};
+use crate::pieces::{cut, is_inline};
+use std::alloc::{AllocError, Global};
+use std::collections::BTreeMap;
+use thiserror::Error;
+use toml::Table;
+
+/// A manifest.
+#[derive(Drop)]
+pub struct Manifest {
+    /// The text that it was read from.
+    pub text: String,
+    pub package: Package,
+    /// The features with their values.
+    pub features: BTreeMap<String, Vec<String>>,
+}
+
+/// Why a manifest can't be read. Each has its path.
+#[derive(Debug, Drop, Error)]
+pub enum ManifestFault {
+    #[error("failed to parse manifest `{0}` as toml")]
+    Toml(String),
+    /// A field that is missing or ill typed.
+    #[error("failed to parse `{0}` field from manifest `{1}`")]
+    Field(&'static str, String),
+    #[error("out of memory")]
+    Memory,
+}
+
+impl From<AllocError> for ManifestFault {
+    ghost use Rattle.hack_manifest.specs.declared.manifest.ManifestFault.TheVariants.{Memory};
+
+    ghost from_gives = { λ _ e. e ≡ Memory };
+
+    fn from(_e: AllocError) -> ManifestFault {
+        ManifestFault::Memory
+    }
+}
+
+impl Manifest {
+    /// Reads a manifest. The path stands in faults alone, and `cargo_version` is the minor version
+    /// of the cargo whose metadata are at hand: what they say is not read here.
+    pub fn new(
+        alloc: Global,
+        path: &str,
+        text: String,
+        cargo_version: u32,
+    ) -> Result<Manifest, ManifestFault>
+        ensures ok { IfOk result (IsManifest (string_bytes text) cargo_version) }
+        ensures err { IfErr result (IsRefusal path.now (string_bytes text) cargo_version) }
+    {
+        let tree = match toml::table_from_str(alloc, text.as_str()) {
+            Ok(tree) => tree,
+            Err(e) if e.is_memory() => return Err(ManifestFault::Memory),
+            Err(_) => return Err(toml_fault(alloc, path)),
+        };
+        match facts(alloc, &tree, text.as_str(), cargo_version) {
+            Ok((package, features)) => Ok(Manifest {
+                text,
+                package,
+                features,
+            }),
+            Err(ReadFault::Memory) => Err(ManifestFault::Memory),
+            Err(ReadFault::Field(name)) => Err(field_fault(alloc, path, name)),
+        }
+    }
+}
+
+/// Carries a law: a manifest's text is read in one way.
+pub fn manifest_is_one()
+    ensures { (text : List ℕ) (minor : ℕ) (read other : Reading Facts) → IsReadAs text minor read
+        → IsReadAs text minor other → read ≡ other }
+{}
+
+/// The fault of a text that is no TOML.
+fn toml_fault(alloc: Global, path: &str) -> ManifestFault
+    ensures { IsTomlFault path.now result }
+{
+    match String::from_str(alloc, path) {
+        Ok(path) => ManifestFault::Toml(path),
+        Err(_) => ManifestFault::Memory,
+    }
+}
+
+/// The fault of a field.
+fn field_fault(alloc: Global, path: &str, name: &'static str) -> ManifestFault
+    ensures { IsFieldFault path.now name.now result }
+{
+    match String::from_str(alloc, path) {
+        Ok(path) => ManifestFault::Field(name, path),
+        Err(_) => ManifestFault::Memory,
+    }
+}
+
+/// What a manifest of this tree and this text says.
+fn facts(
+    alloc: Global,
+    tree: &Table,
+    text: &str,
+    cargo_version: u32,
+) -> Result<(Package, BTreeMap<String, Vec<String>>), ReadFault>
+    requires { parse_document text.now ≡ Some (table_view tree.now) }
+    ensures { Tells text.now cargo_version result }
+{
+    let cut = cut(alloc, text)?;
+    read(alloc, tree, &cut.pieces, cargo_version)
+}
+
+/// What a manifest of this tree and these pieces says, in the order in which its faults count.
+fn read(
+    alloc: Global,
+    tree: &Table,
+    pieces: &[Piece<'_>],
+    cargo_version: u32,
+) -> Result<(Package, BTreeMap<String, Vec<String>>), ReadFault>
+    ensures { Gives facts_view result
+        (read_manifest cargo_version (slice_view pieces.now) (table_view tree.now)) }
+{
+    let table = package_table(tree, is_inline(pieces, "package"))?;
+    let package = package_of(alloc, table, cargo_version)?;
+    let features = features_of(alloc, tree, is_inline(pieces, "features"))?;
+    Ok((package, features))
+}

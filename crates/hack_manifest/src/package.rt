@@ -1,0 +1,80 @@
+//! What a manifest says of its package.
+
+ghost use Rattle.std.specs.Prelude.{◌≡◌};
+ghost use Rattle.toml.specs.View.{view, table_view};
+ghost use Rattle.hack_manifest.specs.Manifest.{package_in, publish_at, rust_version_at};
+ghost use Rattle.hack_manifest.specs.Reads.{Gives, version_view, package_view};
+ghost use Rattle.hack_manifest.specs.Manifest.{package_facts};
+
+use crate::fault::ReadFault;
+use crate::lookup::{find_table, has_values, value_at};
+use std::alloc::Global;
+use toml::{Table, Value};
+
+/// What a manifest says of its package. From the versions of cargo on whose metadata say it, the
+/// fields are `None`.
+#[derive(Drop)]
+pub struct Package {
+    /// Whether it may be published, below cargo 1.39.
+    pub publish: Option<bool>,
+    /// Its own `rust-version`, if it has one, below cargo 1.58.
+    pub rust_version: Option<Option<String>>,
+}
+
+/// The table `package`, which must not be inline.
+pub fn package_table(tree: &Table, inline: bool) -> Result<&Table, ReadFault>
+    ensures { Gives (λ t. table_view t.now) result (package_in inline (table_view tree.now)) }
+{
+    if inline {
+        return Err(ReadFault::Field("package"));
+    }
+    match find_table(tree, "package") {
+        Some(table) => Ok(table),
+        None => Err(ReadFault::Field("package")),
+    }
+}
+
+/// Whether the package may be published: absent is yes, an empty list is no.
+fn publish(table: &Table, cargo_version: u32) -> Result<Option<bool>, ReadFault>
+    ensures { Gives (λ o. o) result (publish_at cargo_version (table_view table.now)) }
+{
+    if cargo_version >= 39 {
+        return Ok(None);
+    }
+    match value_at(table, "publish") {
+        None => Ok(Some(true)),
+        Some(Value::Boolean(publish)) => Ok(Some(*publish)),
+        Some(Value::Array(registries)) => Ok(Some(has_values(registries))),
+        Some(_) => Err(ReadFault::Field("publish")),
+    }
+}
+
+/// The `rust-version` of the package, if it has one.
+fn rust_version(
+    alloc: Global,
+    table: &Table,
+    cargo_version: u32,
+) -> Result<Option<Option<String>>, ReadFault>
+    ensures { Gives version_view result (rust_version_at cargo_version (table_view table.now)) }
+{
+    if cargo_version >= 58 {
+        return Ok(None);
+    }
+    match value_at(table, "rust-version") {
+        None => Ok(Some(None)),
+        Some(Value::String(version)) => Ok(Some(Some(String::from_str(alloc, version.as_str())?))),
+        Some(_) => Err(ReadFault::Field("rust-version")),
+    }
+}
+
+/// What the table `package` says.
+pub fn package_of(alloc: Global, table: &Table, cargo_version: u32) -> Result<Package, ReadFault>
+    ensures { Gives package_view result (package_facts cargo_version (table_view table.now)) }
+{
+    let publish = publish(table, cargo_version)?;
+    let rust_version = rust_version(alloc, table, cargo_version)?;
+    Ok(Package {
+        publish,
+        rust_version,
+    })
+}

@@ -1,0 +1,119 @@
+//! The key path of a piece: that of its header, or of the last header and its own key.
+
+ghost use Rattle.std.specs.Prelude.{◌≡◌, ◌++◌, [], ◌∷◌, take, map, is_some, string_bytes};
+ghost use Rattle.std.specs.Prelude.{IfOk, OnOk, IfSome};
+ghost use Rattle.toml.specs.Parse.{skip_bom};
+ghost use Rattle.toml.specs.View.{view, table_view};
+ghost use Rattle.hack_features.specs.Names.{names_of};
+ghost use Rattle.hack_manifest.specs.Runs.{stands};
+ghost use Rattle.hack_manifest.specs.Paths.{chain, chain_of, chain_at, is_header, IsOwnKey, IsPath};
+
+use crate::fronts::first_front;
+use std::alloc::{AllocError, Global};
+use toml::{Table, Value};
+use toml_parser::text::{byte_at, first, skip_blank};
+
+/// Puts the names along a value behind those before it.
+#[cycle(chain)]
+fn push_chain_of(value: &Value, names: &mut Vec<String>) -> Result<(), AllocError>
+    ensures { OnOk result
+        (names_of names.new.items ≡ names_of names.old.items ++ chain_of (view value.now)) }
+{
+    match value {
+        Value::Table(table) => push_chain(table, names),
+        _ => Ok(()),
+    }
+}
+
+/// Puts the names along a table behind those before it.
+#[cycle(chain)]
+fn push_chain(table: &Table, names: &mut Vec<String>) -> Result<(), AllocError>
+    ensures { OnOk result
+        (names_of names.new.items ≡ names_of names.old.items ++ chain (table_view table.now)) }
+{
+    match table.iter().next() {
+        Some((key, value)) => {
+            names.push(key.clone()?)?;
+            push_chain_of(value, names)
+        }
+        None => Ok(()),
+    }
+}
+
+/// The text without a byte order mark.
+fn skip_mark(text: &str) -> &str
+    ensures { result.now ≡ skip_bom text.now }
+{
+    if first(text) == 0xEF && byte_at(text, 1) == 0xBB && byte_at(text, 2) == 0xBF {
+        &text[3..]
+    } else {
+        text
+    }
+}
+
+/// Whether a piece is a header.
+pub fn starts_table(piece: &str) -> bool
+    ensures { result ≡ is_header piece.now }
+{
+    first(skip_blank(skip_mark(piece), true)) == b'['
+}
+
+/// The names in the tree of a text that stands.
+fn names_in(alloc: Global, text: &str) -> Result<Vec<String>, AllocError>
+    ensures { IfOk result (λ names. names_of names.items ≡ chain_at text.now) }
+{
+    let mut names = Vec::new(alloc);
+    match toml::table_from_str(alloc, text) {
+        Ok(table) => {
+            push_chain(&table, &mut names)?;
+            Ok(names)
+        }
+        Err(e) => {
+            if e.is_memory() {
+                Err(AllocError)
+            } else {
+                Ok(names)
+            }
+        }
+    }
+}
+
+/// The own key of a piece: the names before its first `=`.
+fn own_key(alloc: Global, piece: &str) -> Result<Vec<String>, AllocError>
+    ensures { IfOk result (λ names. IsOwnKey piece.now (names_of names.items)) }
+{
+    match first_front(alloc, piece, b'=', "0")? {
+        Some(n) => {
+            let mut front = String::from_str(alloc, &piece[..n])?;
+            front.push_str("0")?;
+            let names = names_in(alloc, front.as_str())?;
+            Ok(names)
+        }
+        None => Ok(Vec::new(alloc)),
+    }
+}
+
+/// Puts copies of names behind those before them.
+pub fn push_all(out: &mut Vec<String>, names: &[String]) -> Result<(), AllocError>
+    ensures { OnOk result
+        (names_of out.new.items ≡ names_of out.old.items ++ names_of names.now) }
+{
+    for name in names {
+        out.push(name.clone()?)?;
+    }
+    Ok(())
+}
+
+/// The path of a piece behind a header.
+pub fn path_of(alloc: Global, header: &[String], piece: &str) -> Result<Vec<String>, AllocError>
+    ensures { IfOk result (λ path.
+        IsPath (names_of header.now) piece.now (names_of path.items)) }
+{
+    if starts_table(piece) {
+        return names_in(alloc, piece);
+    }
+    let mut path = Vec::new(alloc);
+    push_all(&mut path, header)?;
+    push_all(&mut path, &own_key(alloc, piece)?)?;
+    Ok(path)
+}

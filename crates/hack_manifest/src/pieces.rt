@@ -1,0 +1,146 @@
+//! A text cut into pieces with their key paths. A piece is a header or a key with its value, with
+//! the blank lines and comments before it.
+
+ghost use Rattle.std.specs.Prelude.{◌≡◌, ◌++◌, ℕ, List, None, IsSome, IfOk, IsErr};
+ghost use Rattle.toml.specs.Parse.{parse_document};
+ghost use Rattle.hack_features.specs.Names.{names_of};
+ghost use Rattle.hack_manifest.specs.Paths.{View, AreCut, joined, next_header};
+ghost use Rattle.hack_manifest.specs.View.{pieces_view, slice_view, piece_view};
+ghost use Rattle.hack_manifest.specs.Manifest.{is_value_of, is_inline};
+ghost use Rattle.hack_manifest.specs.declared.pieces.PiecesFault.TheVariants.{Memory, Toml};
+
+use crate::path::{path_of, push_all, starts_table};
+use crate::runs::first_run;
+use std::alloc::{AllocError, Global};
+use thiserror::Error;
+
+/// A piece of a text.
+#[derive(Drop)]
+pub struct Piece<'a> {
+    /// The piece itself, with the blank lines and comments before it.
+    pub text: &'a str,
+    /// The names of its header, or of the last header before it and of its own key.
+    pub path: Vec<String>,
+}
+
+/// The pieces of a text.
+#[derive(Drop)]
+pub struct Pieces<'a> {
+    /// The pieces in their order.
+    pub pieces: Vec<Piece<'a>>,
+    /// What is left behind the last piece: blank lines and comments.
+    pub tail: &'a str,
+}
+
+/// Why a text isn't cut.
+#[derive(Debug, Drop, Error)]
+pub enum PiecesFault {
+    /// The whole text is no TOML document.
+    #[error("the text is not a TOML document")]
+    Toml,
+    #[error("out of memory")]
+    Memory,
+}
+
+impl From<AllocError> for PiecesFault {
+    ghost from_gives = { λ _ e. e ≡ Memory };
+
+    fn from(_e: AllocError) -> PiecesFault {
+        PiecesFault::Memory
+    }
+}
+
+impl<'a> Pieces<'a> {
+    /// Cuts a text that `toml` reads: from the start, again and again, the shortest run of whole
+    /// lines that `toml` reads by itself as a document with a nonempty tree.
+    pub fn cut(alloc: Global, text: &'a str) -> Result<Pieces<'a>, PiecesFault>
+        ensures ok { IfOk result (λ cut. AreCut text.now (pieces_view cut) cut.tail.now) }
+        ensures read { IfOk result (λ _. IsSome (parse_document text.now)) }
+        ensures refused { result ≡ Err Toml → parse_document text.now ≡ None }
+    {
+        match toml::table_from_str(alloc, text) {
+            Ok(_) => Ok(cut(alloc, text)?),
+            Err(e) => {
+                if e.is_memory() {
+                    Err(PiecesFault::Memory)
+                } else {
+                    Err(PiecesFault::Toml)
+                }
+            }
+        }
+    }
+}
+
+/// The path of the last header behind a piece.
+fn header_behind(
+    alloc: Global,
+    header: Vec<String>,
+    piece: &str,
+    path: &[String],
+) -> Result<Vec<String>, AllocError>
+    ensures { IfOk result (λ names. names_of names.items ≡ next_header (names_of header.items)
+        (record { text = piece.now; path = names_of path.now })) }
+{
+    if starts_table(piece) {
+        let mut own = Vec::new(alloc);
+        push_all(&mut own, path)?;
+        Ok(own)
+    } else {
+        Ok(header)
+    }
+}
+
+/// The pieces of any text with their paths, and the tail.
+pub fn cut(alloc: Global, text: &str) -> Result<Pieces<'_>, AllocError>
+    ensures { IfOk result (λ cut. AreCut text.now (pieces_view cut) cut.tail.now) }
+{
+    let mut found = Vec::new(alloc);
+    let mut header = Vec::new(alloc);
+    let mut rest = text;
+    'pieces: while let Some(n) = first_run(alloc, rest)? {
+        let (piece, after) = rest.split_at(n);
+        let path = path_of(alloc, &header, piece)?;
+        header = header_behind(alloc, header, piece, &path)?;
+        found.push(Piece { text: piece, path })?;
+        rest = after;
+    }
+    Ok(Pieces {
+        pieces: found,
+        tail: rest,
+    })
+}
+
+/// Carries a law: the pieces and the tail joined are the text.
+pub fn pieces_join()
+    ensures { (text tail : List ℕ) (pieces : List View) → AreCut text pieces tail
+        → text ≡ joined pieces ++ tail }
+{}
+
+/// Carries a law: a text is cut in one way.
+pub fn cut_is_one()
+    ensures { (text tail end : List ℕ) (pieces others : List View) → AreCut text pieces tail
+        → AreCut text others end → (pieces ≡ others) × (tail ≡ end) }
+{}
+
+/// Whether a piece is a key of just that name with its value.
+fn is_value_of(piece: &Piece<'_>, name: &str) -> bool
+    ensures { result ≡ is_value_of name.now (piece_view piece.now) }
+{
+    match piece.path.as_slice() {
+        [only] => only.as_str() == name && !starts_table(piece.text),
+        _ => false,
+    }
+}
+
+/// Whether some piece is a key of just that name with its value: then a table of that name is
+/// written inline.
+pub fn is_inline(pieces: &[Piece<'_>], name: &str) -> bool
+    ensures { result ≡ is_inline name.now (slice_view pieces.now) }
+{
+    for piece in pieces {
+        if is_value_of(piece, name) {
+            return true;
+        }
+    }
+    false
+}

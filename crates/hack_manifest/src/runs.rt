@@ -1,0 +1,56 @@
+//! Runs of whole lines that `toml` reads by themselves: where the first piece of a text ends.
+
+ghost use Rattle.std.specs.Prelude.{◌≡◌, ◌↔◌, ◌≤◌, false, IsTrue, IfOk, IfSome, IfNone, length};
+ghost use Rattle.hack_manifest.specs.Runs.{stands, IsLines, IsRun, IsFirstRun, HasNoRun};
+
+use std::alloc::{AllocError, Global};
+
+/// Whether `toml` reads the text by itself as a document with a nonempty tree.
+pub fn stands_alone(alloc: Global, text: &str) -> Result<bool, AllocError>
+    ensures { IfOk result (λ b. b ≡ stands text.now) }
+{
+    match toml::table_from_str(alloc, text) {
+        Ok(table) => Ok(!table.is_empty()),
+        Err(e) => {
+            if e.is_memory() {
+                Err(AllocError)
+            } else {
+                Ok(false)
+            }
+        }
+    }
+}
+
+/// Whether the first n bytes are whole lines.
+fn ends_line(text: &str, n: usize) -> bool
+    requires { n ≤ length text.now }
+    ensures { IsTrue result ↔ IsLines text.now n }
+{
+    n != 0 && (n == text.len() || text.as_bytes()[n - 1] == b'\n')
+}
+
+/// Whether the first n bytes are whole lines that stand.
+fn run_stands(alloc: Global, text: &str, n: usize) -> Result<bool, AllocError>
+    requires { n ≤ length text.now }
+    ensures yes { IfOk result (λ b. IsTrue b → IsRun text.now n) }
+    ensures no { IfOk result (λ b. b ≡ false → IsRun text.now n → ⊥) }
+{
+    if ends_line(text, n) {
+        stands_alone(alloc, &text[..n])
+    } else {
+        Ok(false)
+    }
+}
+
+/// How long the shortest run of whole lines is that stands.
+pub fn first_run(alloc: Global, text: &str) -> Result<Option<usize>, AllocError>
+    ensures found { IfOk result (λ o. IfSome o (IsFirstRun text.now)) }
+    ensures none { IfOk result (λ o. IfNone o (HasNoRun text.now)) }
+{
+    for i in 0..text.len() {
+        if run_stands(alloc, text, i + 1)? {
+            return Ok(Some(i + 1));
+        }
+    }
+    Ok(None)
+}
