@@ -1,0 +1,4 @@
+mod WholeLemmas
+mod FeatureLemmas
+mod IdLemmas
+mod NodeLemmas

@@ -1,0 +1,47 @@
+-- Nodes, put into a map by the places of their packages.
+use Rattle.std.proofs.Common.{◌≡◌, ℕ, List, [], ◌∷◌, map, BTreeMap, Ordering, Less, Equal, Greater, Ok, Err, nat_cmp, refl, sym, ap, ◌∙◌}
+use Rattle.std.specs.BTreeMap.{insert_entry}
+use Rattle.std.specs.Ordering.{match_ordering}
+use Rattle.serde_json.specs.Data.{Data, Items, item}
+use Rattle.hack_metadata.specs.Fields.{Field, ◌>>=◌, read_all}
+use Rattle.hack_metadata.specs.Read.{with_nodes}
+use Rattle.hack_metadata.specs.Records.{NodeRecord, Nodes}
+use Rattle.hack_metadata.specs.View.{node_view, nodes_view}
+use Rattle.hack_metadata.specs.contracts.resolve.PackageIdOrd.TheImpl as ord
+use Rattle.hack_metadata.specs.declared.resolve.Node.{Node}
+use Rattle.hack_metadata.specs.declared.resolve.PackageId.{PackageId}
+
+-- ids stand in the order of their places
+pub order-at : (a b : PackageId) → ord.cmp-value.it a b ≡ nat_cmp a.index b.index
+order-at a b = refl
+
+abbrev seen : List (PackageId × Node) → Nodes
+seen es = map (λ e. (e.0.index, node_view e.1)) es
+
+seen-match : (o : Ordering) (a b c : List (PackageId × Node)) → seen (match_ordering o a b c) ≡ match_ordering o (seen a) (seen b) (seen c)
+seen-match Less a b c = refl
+seen-match Equal a b c = refl
+seen-match Greater a b c = refl
+
+-- a node that is put in is put in as plain data
+pub seen-insert : (es : List (PackageId × Node)) (id : PackageId) (node : Node) → seen (insert_entry ord.cmp-value.it es id node) ≡ insert_entry nat_cmp (seen es) id.index (node_view node)
+seen-insert [] id node = refl
+seen-insert (e ∷ es) id node = seen-match (ord.cmp-value.it id e.0) _ _ _ ∙ rw (seen-insert es id node, order-at id e.0) refl
+
+pub nodes-insert : (m n : BTreeMap PackageId Node) (id : PackageId) (node : Node) → n.entries ≡ insert_entry ord.cmp-value.it m.entries id node → nodes_view n ≡ insert_entry nat_cmp (nodes_view m) id.index (node_view node)
+nodes-insert m n id node e = ap seen e ∙ seen-insert m.entries id node
+
+-- a node that is read first is put in first
+put_first : (m n : Nodes) (at : ℕ) (node : NodeRecord) (read : Field (List (ℕ × NodeRecord))) → n ≡ insert_entry nat_cmp m at node → (read >>= λ more. Ok (with_nodes n more)) ≡ ((read >>= λ more. Ok ((at, node) ∷ more)) >>= λ more. Ok (with_nodes m more))
+put_first m n at node (Ok more) e = ap (λ nodes. Ok (with_nodes nodes more)) e
+put_first m n at node (Err name) e = refl
+
+-- a turn of the loop over nodes
+pub nodes-turn : (f : Data → Field (ℕ × NodeRecord)) (d : Data) (left rest : Items) (m n : Nodes) (at : ℕ) (node : NodeRecord) (whole : Field Nodes)
+    → left ≡ item d rest → f d ≡ Ok (at, node) → n ≡ insert_entry nat_cmp m at node
+    → (read_all f left >>= λ more. Ok (with_nodes m more)) ≡ whole → (read_all f rest >>= λ more. Ok (with_nodes n more)) ≡ whole
+nodes-turn f d left rest m n at node whole first reads put before =
+    put_first m n at node (read_all f rest) put
+    ∙ ap (λ found. (found >>= λ x. read_all f rest >>= λ xs. Ok (x ∷ xs)) >>= λ more. Ok (with_nodes m more)) (sym reads)
+    ∙ ap (λ l. read_all f l >>= λ more. Ok (with_nodes m more)) (sym first)
+    ∙ before

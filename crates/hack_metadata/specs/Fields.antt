@@ -1,0 +1,72 @@
+-- What a field of an object of JSON holds, or its name, where it is missing or ill typed.
+use Rattle.std.specs.Prelude.{◌≡◌, ℕ, Bool, false, List, [], ◌∷◌, Option, Some, None, Result, Ok, Err, option_map, option_and_then}
+use Rattle.std.specs.Str.{bytes_eq}
+use Rattle.serde_json.specs.Data.{Data, null, boolean, number, string, array, object, Items, no_items, item, Members}
+use Rattle.serde_json.specs.Find.{get_member, as_str, as_bool, as_array, as_object}
+use Rattle.hack_features.specs.Names.{Name}
+
+-- what was read, or the name of the first field that is at fault
+abbrev pub Field : Type 0 → Type 0
+Field A = Result A Name
+
+-- one reading behind another: the first fault stands
+infixl 10 ◌>>=◌
+abbrev pub ◌>>=◌ : {A B : Type 0} → Field A → (A → Field B) → Field B
+(Ok x) >>= f = f x
+(Err name) >>= f = Err name
+
+-- what is there, else the name
+abbrev pub or_name : {A : Type 0} → Name → Option A → Field A
+or_name key None = Err key
+or_name key (Some x) = Ok x
+
+-- a text
+abbrev pub string_in : Name → Members → Field Name
+string_in key ms = or_name key (option_and_then as_str (get_member key ms))
+
+-- a truth value
+abbrev pub bool_in : Name → Members → Field Bool
+bool_in key ms = or_name key (option_and_then as_bool (get_member key ms))
+
+-- an array
+abbrev pub array_in : Name → Members → Field Items
+array_in key ms = or_name key (option_and_then as_array (get_member key ms))
+
+-- an object
+abbrev pub object_in : Name → Members → Field Members
+object_in key ms = or_name key (option_and_then as_object (get_member key ms))
+
+-- data, none where they are null
+abbrev pub unless_null : Data → Option Data
+unless_null null = None
+unless_null (boolean b) = Some (boolean b)
+unless_null (number n) = Some (number n)
+unless_null (string s) = Some (string s)
+unless_null (array ds) = Some (array ds)
+unless_null (object ms) = Some (object ms)
+
+-- what may be null, and then is none
+abbrev pub nullable_in : Name → Members → Field (Option Data)
+nullable_in key ms = or_name key (option_map unless_null (get_member key ms))
+
+-- the text that data are, where there are any
+abbrev pub text_or_none : Name → Option Data → Field (Option Name)
+text_or_none key None = Ok None
+text_or_none key (Some d) = or_name key (option_map Some (as_str d))
+
+-- a text or null
+abbrev pub text_in : Name → Members → Field (Option Name)
+text_in key ms = nullable_in key ms >>= text_or_none key
+
+-- what must be an object, as each element of a list: else the field that holds it is at fault
+abbrev pub element_of : Name → Data → Field Members
+element_of list d = or_name list (as_object d)
+
+-- each item as f reads it, in order
+abbrev pub read_all : {A : Type 0} → (Data → Field A) → Items → Field (List A)
+read_all f no_items = Ok []
+read_all f (item d ds) = f d >>= λ x. read_all f ds >>= λ xs. Ok (x ∷ xs)
+
+-- every other field is as it was
+pub record KeepsOthers (key : Name) (old new : Members) : Type 0 where
+  pub others : (q : Name) → bytes_eq key q ≡ false → get_member q new ≡ get_member q old

@@ -1,0 +1,6 @@
+pub mod Fields
+pub mod Gives
+pub mod Read
+pub mod Records
+pub mod View
+pub mod Whole

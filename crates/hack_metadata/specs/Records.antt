@@ -1,0 +1,47 @@
+-- The records of `cargo metadata` as plain data: a package is known by its place in the list of packages.
+use Rattle.std.specs.Prelude.{ℕ, Bool, List, Option}
+use Rattle.hack_features.specs.Names.{Name}
+use Rattle.hack_features.specs.FeatureMap.{FeatureMap}
+
+-- a dependency as a manifest names it
+pub record DependencyRecord : Type 0 where
+  pub name : Name
+  pub optional : Bool
+  pub rename : Option Name
+
+-- a package
+pub record PackageRecord : Type 0 where
+  pub id : Name
+  pub name : Name
+  pub version : Name
+  pub dependencies : List DependencyRecord
+  pub features : FeatureMap
+  pub manifest_path : Name
+  pub publish : Bool
+  pub rust_version : Option Name
+
+-- how a package is depended on: of which kind, and for which target
+pub record KindRecord : Type 0 where
+  pub kind : Option Name
+  pub target : Option Name
+
+-- a dependency of a node: the place of a package
+pub record NodeDepRecord : Type 0 where
+  pub pkg : ℕ
+  pub dep_kinds : List KindRecord
+
+-- a node of the graph of dependencies
+pub record NodeRecord : Type 0 where
+  pub deps : List NodeDepRecord
+
+-- the nodes by the places of their packages, rising
+abbrev pub Nodes : Type 0
+Nodes = List (ℕ × NodeRecord)
+
+-- all that is told of a workspace
+pub record MetadataRecord : Type 0 where
+  pub cargo_version : ℕ
+  pub packages : List PackageRecord
+  pub workspace_members : List ℕ
+  pub resolve : Nodes
+  pub workspace_root : Name

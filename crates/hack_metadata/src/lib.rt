@@ -1,0 +1,8 @@
+//! What cargo tells of a workspace: the records of `cargo metadata`, and package ID specifications.
+#![tactic(auto)]
+
+mod fault;
+pub mod metadata;
+mod object;
+mod package;
+mod resolve;

@@ -1,0 +1,136 @@
+//! Objects of JSON, and their fields, which are taken out one after another: the first one that is
+//! missing or ill typed is the fault.
+
+ghost use Rattle.std.specs.Prelude.{◌≡◌, ◌≢◌, List, Err, option_map, string_bytes};
+ghost use Rattle.serde_json.specs.Data.{Members};
+ghost use Rattle.serde_json.specs.Find.{get_member, as_object};
+ghost use Rattle.serde_json.specs.View.{view, items_view, members_view};
+ghost use Rattle.hack_metadata.specs.Fields.{string_in, bool_in, array_in, object_in};
+ghost use Rattle.hack_metadata.specs.Fields.{nullable_in, text_in, element_of, KeepsOthers};
+ghost use Rattle.hack_metadata.specs.Gives.{Gives};
+
+use crate::fault::MetadataFault;
+use serde_json::{Map, Value};
+
+/// An object of JSON.
+pub type Object = Map<String, Value>;
+
+/// Fields taken out of an object. Each call leaves all other fields as they are.
+pub trait ObjectExt {
+    /// The fields with what they hold.
+    ghost members: { Self → Members };
+
+    /// Takes a text out.
+    fn remove_string(&mut self, key: &'static str) -> Result<String, MetadataFault>
+        ensures value { Gives string_bytes result (string_in key.now (members self.old)) }
+        ensures no_memory { result ≢ Err MetadataFault.Memory }
+        ensures others { KeepsOthers key.now (members self.old) (members self.new) };
+
+    /// Takes an array out.
+    fn remove_array(&mut self, key: &'static str) -> Result<Vec<Value>, MetadataFault>
+        ensures value { Gives (λ v. items_view v.items) result
+            (array_in key.now (members self.old)) }
+        ensures no_memory { result ≢ Err MetadataFault.Memory }
+        ensures others { KeepsOthers key.now (members self.old) (members self.new) };
+
+    /// Takes an object out.
+    fn remove_object(&mut self, key: &'static str) -> Result<Object, MetadataFault>
+        ensures value { Gives (λ m. members_view m.entries) result
+            (object_in key.now (members self.old)) }
+        ensures no_memory { result ≢ Err MetadataFault.Memory }
+        ensures others { KeepsOthers key.now (members self.old) (members self.new) };
+
+    /// Takes out what may be null; none where it is.
+    fn remove_nullable(&mut self, key: &'static str) -> Result<Option<Value>, MetadataFault>
+        ensures value { Gives (option_map view) result (nullable_in key.now (members self.old)) }
+        ensures no_memory { result ≢ Err MetadataFault.Memory }
+        ensures others { KeepsOthers key.now (members self.old) (members self.new) };
+}
+
+impl ObjectExt for Object {
+    ghost members = { λ m. members_view m.entries };
+
+    fn remove_string(&mut self, key: &'static str) -> Result<String, MetadataFault> {
+        match take(self, key) {
+            Some(Value::String(text)) => Ok(text),
+            _ => Err(MetadataFault::Field(key)),
+        }
+    }
+
+    fn remove_array(&mut self, key: &'static str) -> Result<Vec<Value>, MetadataFault> {
+        match take(self, key) {
+            Some(Value::Array(list)) => Ok(list),
+            _ => Err(MetadataFault::Field(key)),
+        }
+    }
+
+    fn remove_object(&mut self, key: &'static str) -> Result<Object, MetadataFault> {
+        match take(self, key) {
+            Some(value) => into_object(value).ok_or(MetadataFault::Field(key)),
+            None => Err(MetadataFault::Field(key)),
+        }
+    }
+
+    fn remove_nullable(&mut self, key: &'static str) -> Result<Option<Value>, MetadataFault> {
+        match take(self, key) {
+            Some(Value::Null) => Ok(None),
+            Some(value) => Ok(Some(value)),
+            None => Err(MetadataFault::Field(key)),
+        }
+    }
+}
+
+/// What a field holds, or an element of it, which must be an object.
+pub(crate) fn element(value: Value, list: &'static str) -> Result<Object, MetadataFault>
+    ensures value { Gives (λ m. members_view m.entries) result (element_of list.now (view value)) }
+    ensures no_memory { result ≢ Err MetadataFault.Memory }
+{
+    into_object(value).ok_or(MetadataFault::Field(list))
+}
+
+/// Takes a truth value out.
+pub(crate) fn remove_bool(object: &mut Object, key: &'static str) -> Result<bool, MetadataFault>
+    ensures value { Gives (λ b. b) result (bool_in key.now (members_view object.old.entries)) }
+    ensures others { KeepsOthers key.now (members_view object.old.entries)
+        (members_view object.new.entries) }
+{
+    match take(object, key) {
+        Some(Value::Bool(truth)) => Ok(truth),
+        _ => Err(MetadataFault::Field(key)),
+    }
+}
+
+/// Takes a text out that may be null.
+pub(crate) fn remove_text(
+    object: &mut Object,
+    key: &'static str,
+) -> Result<Option<String>, MetadataFault>
+    ensures value { Gives (option_map string_bytes) result
+        (text_in key.now (members_view object.old.entries)) }
+    ensures others { KeepsOthers key.now (members_view object.old.entries)
+        (members_view object.new.entries) }
+{
+    match object.remove_nullable(key)? {
+        None => Ok(None),
+        Some(Value::String(text)) => Ok(Some(text)),
+        Some(_) => Err(MetadataFault::Field(key)),
+    }
+}
+
+/// Takes out what a field holds.
+fn take(object: &mut Object, key: &str) -> Option<Value>
+    ensures value { option_map view result ≡ get_member key.now (members_view object.old.entries) }
+    ensures others { KeepsOthers key.now (members_view object.old.entries)
+        (members_view object.new.entries) }
+{
+    object.remove(key)
+}
+
+fn into_object(value: Value) -> Option<Object>
+    ensures { option_map (λ m. members_view m.entries) result ≡ as_object (view value) }
+{
+    match value {
+        Value::Object(map) => Some(map),
+        _ => None,
+    }
+}

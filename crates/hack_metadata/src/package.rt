@@ -1,0 +1,227 @@
+//! Packages and the dependencies that their manifests name.
+
+ghost use Rattle.std.specs.Prelude.{◌≡◌, map, codes, IfOk, option_map, option_and_then, string_bytes};
+ghost use Rattle.serde_json.specs.Find.{as_array};
+ghost use Rattle.serde_json.specs.View.{view, items_view, members_view};
+ghost use Rattle.hack_features.specs.Names.{names_of};
+ghost use Rattle.hack_features.specs.FeatureMap.{feature_map};
+ghost use Rattle.hack_metadata.specs.Fields.{read_all, KeepsOthers};
+ghost use Rattle.hack_metadata.specs.Gives.{Gives};
+ghost use Rattle.hack_metadata.specs.Read.{read_dependency, read_package, texts_of, features_of, features_in};
+ghost use Rattle.hack_metadata.specs.Read.{has_items, publish_in, rust_version_in};
+ghost use Rattle.hack_metadata.specs.View.{dependency_view, package_view};
+
+use crate::fault::MetadataFault;
+use crate::object::{Object, ObjectExt, element, remove_bool, remove_text};
+use serde_json::Value;
+use std::alloc::{AllocError, Global};
+use std::collections::BTreeMap;
+
+/// A dependency as a manifest names it.
+#[derive(Drop)]
+pub struct Dependency {
+    /// The name of the package.
+    pub name: String,
+    /// Whether it is optional, and so a feature.
+    pub optional: bool,
+    /// The name that the manifest gives it in place of its own. None below cargo 1.26.
+    pub rename: Option<String>,
+}
+
+impl Dependency {
+    fn from_value(value: Value) -> Result<Dependency, MetadataFault>
+        ensures { Gives dependency_view result (read_dependency (view value)) }
+    {
+        let mut map = element(value, "dependencies")?;
+        let name = map.remove_string("name")?;
+        let optional = remove_bool(&mut map, "optional")?;
+        let rename = remove_text(&mut map, "rename")?;
+        Ok(Dependency {
+            name,
+            optional,
+            rename,
+        })
+    }
+
+    fn all_from(alloc: Global, list: Vec<Value>) -> Result<Vec<Dependency>, MetadataFault>
+        ensures { Gives (λ found. map dependency_view found.items) result
+            (read_all read_dependency (items_view list.items)) }
+    {
+        let mut found = Vec::new(alloc);
+        for value in list {
+            found.push(Dependency::from_value(value)?)?;
+        }
+        Ok(found)
+    }
+}
+
+/// A package of a workspace, or one that it depends on.
+#[derive(Drop)]
+pub struct Package {
+    /// The text by which cargo knows the package.
+    pub id: String,
+    pub name: String,
+    pub version: String,
+    /// All dependencies that the manifest names, of each kind.
+    pub dependencies: Vec<Dependency>,
+    /// The features, each with the values that it enables.
+    pub features: BTreeMap<String, Vec<String>>,
+    /// The absolute path of the manifest.
+    pub manifest_path: String,
+    /// Whether the package may be published to some registry. True below cargo 1.39.
+    pub publish: bool,
+    /// The least Rust version that the package works with. None below cargo 1.58.
+    pub rust_version: Option<String>,
+}
+
+impl Package {
+    fn from_value(
+        alloc: Global,
+        value: Value,
+        cargo_version: u32,
+    ) -> Result<Package, MetadataFault>
+        ensures { Gives package_view result (read_package cargo_version (view value)) }
+    {
+        let mut map = element(value, "packages")?;
+        let id = map.remove_string("id")?;
+        let name = map.remove_string("name")?;
+        let version = map.remove_string("version")?;
+        let dependencies = Dependency::all_from(alloc, map.remove_array("dependencies")?)?;
+        let features = remove_features(alloc, &mut map)?;
+        let manifest_path = map.remove_string("manifest_path")?;
+        let publish = remove_publish(&mut map, cargo_version)?;
+        let rust_version = remove_rust_version(&mut map, cargo_version)?;
+        Ok(Package {
+            id,
+            name,
+            version,
+            dependencies,
+            features,
+            manifest_path,
+            publish,
+            rust_version,
+        })
+    }
+
+    pub(crate) fn all_from(
+        alloc: Global,
+        list: Vec<Value>,
+        cargo_version: u32,
+    ) -> Result<Vec<Package>, MetadataFault>
+        ensures { Gives (λ found. map package_view found.items) result
+            (read_all (read_package cargo_version) (items_view list.items)) }
+    {
+        let mut found = Vec::new(alloc);
+        for value in list {
+            found.push(Package::from_value(alloc, value, cargo_version)?)?;
+        }
+        Ok(found)
+    }
+}
+
+/// Takes the features out: an object of arrays of texts.
+fn remove_features(
+    alloc: Global,
+    object: &mut Object,
+) -> Result<BTreeMap<String, Vec<String>>, MetadataFault>
+    ensures value { Gives feature_map result (features_in (members_view object.old.entries)) }
+    ensures others { KeepsOthers (codes "features") (members_view object.old.entries)
+        (members_view object.new.entries) }
+{
+    let features = object.remove_object("features")?;
+    features_from(alloc, features)?.ok_or(MetadataFault::Field("features"))
+}
+
+/// The features of an object; none where a name has anything but an array of texts.
+fn features_from(
+    alloc: Global,
+    object: Object,
+) -> Result<Option<BTreeMap<String, Vec<String>>>, AllocError>
+    ensures { IfOk result (λ found. option_map feature_map found
+        ≡ features_of (members_view object.entries)) }
+{
+    let mut features = BTreeMap::new(alloc);
+    for (name, value) in object {
+        let Some(texts) = texts_in(alloc, value)? else {
+            return Ok(None);
+        };
+        features.insert(name, texts)?;
+    }
+    Ok(Some(features))
+}
+
+/// The texts of an array; none where the value is anything else, or an element is no text.
+fn texts_in(alloc: Global, value: Value) -> Result<Option<Vec<String>>, AllocError>
+    ensures { IfOk result (λ found. option_map (λ texts. names_of texts.items) found
+        ≡ option_and_then texts_of (as_array (view value))) }
+{
+    match value {
+        Value::Array(list) => texts_from(alloc, list),
+        _ => Ok(None),
+    }
+}
+
+/// The texts of a list; none where an element is no text.
+fn texts_from(alloc: Global, list: Vec<Value>) -> Result<Option<Vec<String>>, AllocError>
+    ensures { IfOk result (λ found. option_map (λ texts. names_of texts.items) found
+        ≡ texts_of (items_view list.items)) }
+{
+    let mut texts = Vec::new(alloc);
+    for value in list {
+        match value {
+            Value::String(text) => texts.push(text)?,
+            _ => return Ok(None),
+        }
+    }
+    Ok(Some(texts))
+}
+
+/// Takes out whether the package may be published. Cargo tells it from 1.39 on: null where no
+/// registry is named, and an empty list where it may not be published at all.
+fn remove_publish(object: &mut Object, cargo_version: u32) -> Result<bool, MetadataFault>
+    ensures value { Gives (λ b. b) result
+        (publish_in cargo_version (members_view object.old.entries)) }
+    ensures others { KeepsOthers (codes "publish") (members_view object.old.entries)
+        (members_view object.new.entries) }
+{
+    if cargo_version < 39 {
+        return Ok(true);
+    }
+    match object.remove_nullable("publish")? {
+        None => Ok(true),
+        Some(value) => names_registries(value).ok_or(MetadataFault::Field("publish")),
+    }
+}
+
+/// Whether there is an item.
+fn has_items(list: &[Value]) -> bool
+    ensures { result ≡ has_items (items_view list.now) }
+{
+    !list.is_empty()
+}
+
+/// Whether a list has items; none where the value is no list.
+fn names_registries(value: Value) -> Option<bool>
+    ensures { result ≡ option_map has_items (as_array (view value)) }
+{
+    match value {
+        Value::Array(registries) => Some(has_items(registries.as_slice())),
+        _ => None,
+    }
+}
+
+/// Takes the least Rust version out. Cargo tells it from 1.58 on.
+fn remove_rust_version(
+    object: &mut Object,
+    cargo_version: u32,
+) -> Result<Option<String>, MetadataFault>
+    ensures value { Gives (option_map string_bytes) result
+        (rust_version_in cargo_version (members_view object.old.entries)) }
+    ensures others { KeepsOthers (codes "rust_version") (members_view object.old.entries)
+        (members_view object.new.entries) }
+{
+    if cargo_version < 58 {
+        return Ok(None);
+    }
+    remove_text(object, "rust_version")
+}

@@ -1,0 +1,215 @@
+//! The ids of packages, and the graph of dependencies as cargo resolved it.
+
+ghost use Rattle.std.specs.Prelude.{◌≡◌, ◌<◌, map, option_map, IfOk, IsTrue};
+ghost use Rattle.serde_json.specs.View.{view, items_view, members_view};
+ghost use Rattle.hack_metadata.specs.Fields.{or_name, read_all};
+ghost use Rattle.hack_metadata.specs.Gives.{Gives};
+ghost use Rattle.hack_metadata.specs.Read.{kinds_in, read_kind, read_node_dep, deps_in};
+ghost use Rattle.hack_metadata.specs.Read.{read_node, read_nodes, read_resolve};
+ghost use Rattle.hack_metadata.specs.View.{place_at, place_in, kind_view, node_dep_view};
+ghost use Rattle.hack_metadata.specs.View.{node_view, nodes_view};
+
+use crate::fault::MetadataFault;
+use crate::object::{Object, ObjectExt, element, remove_text};
+use serde_json::Value;
+use std::alloc::Global;
+use std::collections::BTreeMap;
+
+/// Which package of the metadata: an id is of use only with the metadata that it comes from.
+#[derive(Clone, Copy, PartialEq, Eq, PartialOrd, Ord, Hash)]
+pub struct PackageId {
+    pub(crate) index: usize,
+}
+
+/// The package that a text means. The field is at fault where there is none.
+pub(crate) fn known(
+    ids: &BTreeMap<String, PackageId>,
+    id: &str,
+    field: &'static str,
+) -> Result<PackageId, MetadataFault>
+    ensures { Gives place_at result (or_name field.now (place_in ids.now id.now)) }
+{
+    match ids.get(id) {
+        Some(id) => Ok(*id),
+        None => Err(MetadataFault::Field(field)),
+    }
+}
+
+/// How a package depends on another one.
+#[derive(Drop)]
+pub struct DepKindInfo {
+    /// None for a normal dependency, else `build` or `dev`.
+    pub kind: Option<String>,
+    /// The target for which it is one. None where it is one for all.
+    pub target: Option<String>,
+}
+
+impl DepKindInfo {
+    fn from_value(value: Value) -> Result<DepKindInfo, MetadataFault>
+        ensures { Gives kind_view result (read_kind (view value)) }
+    {
+        let mut map = element(value, "dep_kinds")?;
+        let kind = remove_text(&mut map, "kind")?;
+        let target = remove_text(&mut map, "target")?;
+        Ok(DepKindInfo { kind, target })
+    }
+
+    fn all_from(alloc: Global, list: Vec<Value>) -> Result<Vec<DepKindInfo>, MetadataFault>
+        ensures { Gives (λ found. map kind_view found.items) result
+            (read_all read_kind (items_view list.items)) }
+    {
+        let mut found = Vec::new(alloc);
+        for value in list {
+            found.push(DepKindInfo::from_value(value)?)?;
+        }
+        Ok(found)
+    }
+}
+
+/// The kinds of a dependency, which cargo tells from 1.41 on.
+fn remove_kinds(
+    alloc: Global,
+    object: &mut Object,
+    cargo_version: u32,
+) -> Result<Vec<DepKindInfo>, MetadataFault>
+    ensures { Gives (λ found. map kind_view found.items) result
+        (kinds_in cargo_version (members_view object.old.entries)) }
+{
+    if cargo_version < 41 {
+        return Ok(Vec::new(alloc));
+    }
+    DepKindInfo::all_from(alloc, object.remove_array("dep_kinds")?)
+}
+
+/// A dependency of a node.
+#[derive(Drop)]
+pub struct NodeDep {
+    /// The package that is depended on.
+    pub pkg: PackageId,
+    /// How it is depended on. Empty below cargo 1.41.
+    pub dep_kinds: Vec<DepKindInfo>,
+}
+
+impl NodeDep {
+    fn from_value(
+        alloc: Global,
+        value: Value,
+        ids: &BTreeMap<String, PackageId>,
+        cargo_version: u32,
+    ) -> Result<NodeDep, MetadataFault>
+        ensures { Gives node_dep_view result
+            (read_node_dep (place_in ids.now) cargo_version (view value)) }
+    {
+        let mut map = element(value, "deps")?;
+        let id = map.remove_string("pkg")?;
+        let pkg = known(ids, id.as_str(), "pkg")?;
+        let dep_kinds = remove_kinds(alloc, &mut map, cargo_version)?;
+        Ok(NodeDep { pkg, dep_kinds })
+    }
+
+    fn all_from(
+        alloc: Global,
+        list: Vec<Value>,
+        ids: &BTreeMap<String, PackageId>,
+        cargo_version: u32,
+    ) -> Result<Vec<NodeDep>, MetadataFault>
+        ensures { Gives (λ found. map node_dep_view found.items) result
+            (read_all (read_node_dep (place_in ids.now) cargo_version) (items_view list.items)) }
+    {
+        let mut found = Vec::new(alloc);
+        for value in list {
+            found.push(NodeDep::from_value(alloc, value, ids, cargo_version)?)?;
+        }
+        Ok(found)
+    }
+}
+
+/// The dependencies of a node, which cargo tells from 1.30 on.
+fn remove_deps(
+    alloc: Global,
+    object: &mut Object,
+    ids: &BTreeMap<String, PackageId>,
+    cargo_version: u32,
+) -> Result<Vec<NodeDep>, MetadataFault>
+    ensures { Gives (λ found. map node_dep_view found.items) result
+        (deps_in (place_in ids.now) cargo_version (members_view object.old.entries)) }
+{
+    if cargo_version < 30 {
+        return Ok(Vec::new(alloc));
+    }
+    NodeDep::all_from(alloc, object.remove_array("deps")?, ids, cargo_version)
+}
+
+/// What a package depends on, as it was resolved.
+#[derive(Drop)]
+pub struct Node {
+    /// Empty below cargo 1.30.
+    pub deps: Vec<NodeDep>,
+}
+
+impl Node {
+    /// A node and its package, which is looked up behind the node's dependencies.
+    fn from_value(
+        alloc: Global,
+        value: Value,
+        ids: &BTreeMap<String, PackageId>,
+        cargo_version: u32,
+    ) -> Result<(PackageId, Node), MetadataFault>
+        ensures { Gives (λ n. (n.0.index, node_view n.1)) result
+            (read_node (place_in ids.now) cargo_version (view value)) }
+    {
+        let mut map = element(value, "nodes")?;
+        let id = map.remove_string("id")?;
+        let deps = remove_deps(alloc, &mut map, ids, cargo_version)?;
+        let package = known(ids, id.as_str(), "id")?;
+        Ok((package, Node { deps }))
+    }
+}
+
+/// The graph of dependencies of a workspace.
+#[derive(Drop)]
+pub struct Resolve {
+    /// The nodes by their packages. Empty where cargo was asked without dependencies.
+    pub nodes: BTreeMap<PackageId, Node>,
+}
+
+impl Resolve {
+    /// What `resolve` holds: nothing where it is null.
+    pub(crate) fn from_value(
+        alloc: Global,
+        value: Option<Value>,
+        ids: &BTreeMap<String, PackageId>,
+        cargo_version: u32,
+    ) -> Result<Resolve, MetadataFault>
+        ensures { Gives (λ r. nodes_view r.nodes) result
+            (read_resolve (place_in ids.now) cargo_version (option_map view value)) }
+    {
+        let Some(value) = value else {
+            return Ok(Resolve {
+                nodes: BTreeMap::new(alloc),
+            });
+        };
+        let mut map = element(value, "resolve")?;
+        let list = map.remove_array("nodes")?;
+        let nodes = nodes_from(alloc, list, ids, cargo_version)?;
+        Ok(Resolve { nodes })
+    }
+}
+
+/// The nodes of a list. Of two nodes of one package the last counts.
+fn nodes_from(
+    alloc: Global,
+    list: Vec<Value>,
+    ids: &BTreeMap<String, PackageId>,
+    cargo_version: u32,
+) -> Result<BTreeMap<PackageId, Node>, MetadataFault>
+    ensures { Gives nodes_view result
+        (read_nodes (place_in ids.now) cargo_version (items_view list.items)) }
+{
+    let mut nodes = BTreeMap::new(alloc);
+    for value in list {
+        let (package, node) = Node::from_value(alloc, value, ids, cargo_version)?;
+        nodes.insert(package, node)?;
+    }
+    Ok(nodes)
+}
