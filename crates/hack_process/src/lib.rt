@@ -1,0 +1,6 @@
+//! Commands of cargo: how they are shown and run, and what cargo answers.
+#![tactic(auto)]
+
+pub mod cargo;
+pub mod paths;
+pub mod process;

@@ -1,0 +1,407 @@
+//! A command of cargo: the words that it is made of, and how it is shown.
+
+ghost use Rattle.std.specs.Prelude.{◌≡◌, ◌++◌, ◌∷◌, [], ◌||◌, IfOk, OnOk, OnErr, Some, None, map, false, string_bytes, option_map};
+ghost use Rattle.hack_process.specs.CommandTexts.{text_of, listed_of, line_of, each_spaced, shown_words, shown_features, shown_trailing, shown_program, with_name, appended, feature_words, marked, words_behind};
+ghost use Rattle.hack_process.specs.OwnWords.{awaits_path, shown_own};
+ghost use Rattle.hack_process.specs.Commands.{command_of, line_text};
+
+use crate::paths::{stem, under};
+use std::alloc::{AllocError, Global};
+use std::convert::AsStr;
+use std::fmt;
+
+/// Collects the words of a command. They stand in this order: the program, the leading words, the passed words, the
+/// builder's own words, the features behind one `--features`, and behind `--` the trailing words.
+#[derive(Drop)]
+pub struct ProcessBuilder<'a> {
+    program: String,
+    leading: Vec<String>,
+    passed: &'a [String],
+    own: Vec<String>,
+    /// The names joined by `,`, in one word, since cargo before 1.38 takes `--features` only once.
+    features: Option<String>,
+    trailing: &'a [String],
+    /// Whether the program is shown without its folder and its ending in each text.
+    pub strip_program_path: bool,
+}
+
+impl<'a> ProcessBuilder<'a> {
+    /// A command of one word.
+    pub fn new(alloc: Global, program: &str) -> Result<ProcessBuilder<'a>, AllocError>
+        ensures { IfOk result (λ builder. command_of builder ≡ record { program = program.now; strip_program_path = false; leading = []; passed = []; own = []; features = None; trailing = [] }) }
+    {
+        Ok(ProcessBuilder {
+            program: String::from_str(alloc, program)?,
+            leading: Vec::new(alloc),
+            passed: &[],
+            own: Vec::new(alloc),
+            features: None,
+            trailing: &[],
+            strip_program_path: false,
+        })
+    }
+
+    /// Adds an own word.
+    pub fn arg(&mut self, word: &str) -> Result<(), AllocError>
+        ensures ok { OnOk result (command_of self.new ≡ record (command_of self.old) { own = (command_of self.old).own ++ word.now ∷ [] }) }
+        ensures err { OnErr result (command_of self.new ≡ command_of self.old) }
+    {
+        let word = String::from_str(*self.own.allocator(), word)?;
+        self.own.push(word)?;
+        Ok(())
+    }
+
+    /// Adds own words, or none of them where memory runs out.
+    pub fn args<T: AsStr>(&mut self, words: &[T]) -> Result<(), AllocError>
+        ensures ok { OnOk result (command_of self.new ≡ record (command_of self.old) { own = (command_of self.old).own ++ map T.text words.now }) }
+        ensures err { OnErr result (command_of self.new ≡ command_of self.old) }
+    {
+        let mut own = owned(*self.own.allocator(), words)?;
+        self.own.append(&mut own)
+    }
+
+    /// Adds a leading word: one that stands before all but the program.
+    pub fn leading_arg(&mut self, word: &str) -> Result<(), AllocError>
+        ensures ok { OnOk result (command_of self.new ≡ record (command_of self.old) { leading = (command_of self.old).leading ++ word.now ∷ [] }) }
+        ensures err { OnErr result (command_of self.new ≡ command_of self.old) }
+    {
+        let word = String::from_str(*self.leading.allocator(), word)?;
+        self.leading.push(word)?;
+        Ok(())
+    }
+
+    /// Hands in the words that the user wrote for the command, in place of those handed in before: the passed ones,
+    /// and the trailing ones that stood behind `--`.
+    pub fn pass_words(&mut self, passed: &'a [String], trailing: &'a [String])
+        ensures { command_of self.new ≡ record (command_of self.old) { passed = map string_bytes passed.now; trailing = map string_bytes trailing.now } }
+    {
+        self.passed = passed;
+        self.trailing = trailing;
+    }
+
+    /// Appends names to the features, or none of them where memory runs out. An empty name counts as one.
+    pub fn append_features<T: AsStr>(&mut self, names: &[T]) -> Result<(), AllocError>
+        ensures ok { OnOk result (command_of self.new ≡ record (command_of self.old) { features = appended (command_of self.old).features (map T.text names.now) }) }
+        ensures err { OnErr result (command_of self.new ≡ command_of self.old) }
+    {
+        let alloc = *self.own.allocator();
+        let mut features = copied(alloc, &self.features)?;
+        for name in names {
+            features = Some(longer(alloc, features, name.as_str())?);
+        }
+        self.features = features;
+        Ok(())
+    }
+
+    /// Takes all features away, so that the builder can be used for another run.
+    pub fn clear_features(&mut self)
+        ensures { command_of self.new ≡ record (command_of self.old) { features = None } }
+    {
+        self.features = None;
+    }
+
+    /// The program, as it was given.
+    pub fn program(&self) -> &str
+        ensures { result.now ≡ (command_of self.now).program }
+    {
+        self.program.as_str()
+    }
+
+    /// The words behind the program, each a word of its own, as they are handed to it.
+    pub fn words(&self, alloc: Global) -> Result<Vec<&str>, AllocError>
+        ensures { IfOk result (λ words. map (λ word. word.now) words.items ≡ words_behind (command_of self.now)) }
+    {
+        let mut words = Vec::new(alloc);
+        push_words(&mut words, &self.leading)?;
+        push_words(&mut words, self.passed)?;
+        push_words(&mut words, &self.own)?;
+        push_features(&mut words, &self.features)?;
+        push_trailing(&mut words, self.trailing)?;
+        Ok(words)
+    }
+
+    /// The command as a user reads it, in backquotes. A long or a verbose text shows the program's whole path, unless
+    /// this is stripped, and the own manifest path, as it stands inside `dir`.
+    pub fn text(
+        &self,
+        alloc: Global,
+        long: bool,
+        verbose: bool,
+        dir: &str,
+    ) -> Result<String, AllocError>
+        ensures { IfOk result (λ text. string_bytes text ≡ text_of (long || verbose) dir.now (command_of self.now)) }
+    {
+        let line = self.line(long || verbose, dir);
+        format!(in alloc; "`{line}`")
+    }
+
+    /// The command as it stands in a list of commands: the verbose text, without the program's folder and without the
+    /// backquotes. Showing it takes no memory.
+    pub fn listed<'b>(&'b self, dir: &'b str) -> Line<'b>
+        ensures { line_text result ≡ listed_of dir.now (command_of self.now) }
+    {
+        Line {
+            program: stem(&self.program),
+            builder: self,
+            full: true,
+            dir,
+        }
+    }
+
+    /// What a text shows between its backquotes, where `full` says whether it is long or verbose.
+    fn line<'b>(&'b self, full: bool, dir: &'b str) -> Line<'b>
+        ensures { line_text result ≡ line_of full dir.now (command_of self.now) }
+    {
+        Line {
+            program: self.shown_program(full),
+            builder: self,
+            full,
+            dir,
+        }
+    }
+
+    fn shown_program(&self, full: bool) -> &str
+        ensures { result.now ≡ shown_program full (command_of self.now) }
+    {
+        if full && !self.strip_program_path {
+            self.program.as_str()
+        } else {
+            stem(&self.program)
+        }
+    }
+}
+
+/// Shows the short text.
+impl fmt::Display for ProcessBuilder<'_> {
+    ghost output = { λ builder. Some (text_of false [] (command_of builder)) };
+
+    fn fmt<W: fmt::Write>(&self, f: &mut fmt::Formatter<W>) -> fmt::Result {
+        let line = self.line(false, "");
+        write!(f, "`{line}`")
+    }
+}
+
+/// A command on one line, without backquotes and without a line feed.
+#[derive(Drop)]
+pub struct Line<'b> {
+    program: &'b str,
+    builder: &'b ProcessBuilder<'b>,
+    full: bool,
+    dir: &'b str,
+}
+
+impl fmt::Display for Line<'_> {
+    ghost output = { λ line. Some (line_text line) };
+
+    fn fmt<W: fmt::Write>(&self, f: &mut fmt::Formatter<W>) -> fmt::Result {
+        let program = self.program;
+        let leading = Spaced(&self.builder.leading);
+        let passed = Spaced(self.builder.passed);
+        let own = OwnWords {
+            words: &self.builder.own,
+            full: self.full,
+            dir: self.dir,
+        };
+        let features = Features(&self.builder.features);
+        let trailing = Trailing(self.builder.trailing);
+        write!(f, "{program}{leading}{passed}{own}{features}{trailing}")
+    }
+}
+
+/// Words, each after a space.
+#[derive(Drop)]
+struct Spaced<'b>(&'b [String]);
+
+impl fmt::Display for Spaced<'_> {
+    ghost output = { λ words. Some (each_spaced (map string_bytes words.0.now)) };
+
+    fn fmt<W: fmt::Write>(&self, f: &mut fmt::Formatter<W>) -> fmt::Result {
+        for word in self.0 {
+            write!(f, " {word}")?;
+        }
+        Ok(())
+    }
+}
+
+/// The builder's own words, each after a space; an own manifest path and its value only where the text is full.
+#[derive(Drop)]
+struct OwnWords<'b> {
+    words: &'b [String],
+    full: bool,
+    dir: &'b str,
+}
+
+impl fmt::Display for OwnWords<'_> {
+    ghost output = { λ own. Some (each_spaced (shown_words own.full own.dir.now (map string_bytes own.words.now))) };
+
+    fn fmt<W: fmt::Write>(&self, f: &mut fmt::Formatter<W>) -> fmt::Result {
+        // Whether the word before was `--manifest-path`, whose value follows.
+        let mut awaits_path = false;
+        for word in self.words {
+            let own = OwnWord {
+                word: word.as_str(),
+                is_path: awaits_path,
+                full: self.full,
+                dir: self.dir,
+            };
+            write!(f, "{own}")?;
+            awaits_path = own.awaits_path();
+        }
+        // Nothing follows it.
+        if awaits_path {
+            write!(f, " {MANIFEST_PATH}")?;
+        }
+        Ok(())
+    }
+}
+
+const MANIFEST_PATH: &str = "--manifest-path";
+
+/// An own word, where the one before it is known.
+#[derive(Drop)]
+struct OwnWord<'b> {
+    word: &'b str,
+    /// Whether it is the value of `--manifest-path`.
+    is_path: bool,
+    full: bool,
+    dir: &'b str,
+}
+
+impl OwnWord<'_> {
+    /// Whether this is `--manifest-path` itself, which is shown together with its value.
+    fn awaits_path(&self) -> bool
+        ensures { result ≡ awaits_path self.now.is_path self.now.word.now }
+    {
+        !self.is_path && self.word == MANIFEST_PATH
+    }
+}
+
+impl fmt::Display for OwnWord<'_> {
+    ghost output = { λ own. Some (shown_own own.is_path own.full own.dir.now own.word.now) };
+
+    fn fmt<W: fmt::Write>(&self, f: &mut fmt::Formatter<W>) -> fmt::Result {
+        let word = self.word;
+        if self.awaits_path() {
+            return Ok(());
+        }
+        if !self.is_path {
+            return write!(f, " {word}");
+        }
+        if !self.full {
+            return Ok(());
+        }
+        let path = under(word, self.dir);
+        write!(f, " {MANIFEST_PATH} {path}")
+    }
+}
+
+/// The features behind `--features`, where there are any.
+#[derive(Drop)]
+struct Features<'b>(&'b Option<String>);
+
+impl fmt::Display for Features<'_> {
+    ghost output = { λ features. Some (shown_features (option_map string_bytes features.0.now)) };
+
+    fn fmt<W: fmt::Write>(&self, f: &mut fmt::Formatter<W>) -> fmt::Result {
+        match self.0 {
+            Some(names) => write!(f, " --features {names}"),
+            None => Ok(()),
+        }
+    }
+}
+
+/// The trailing words behind `--`, where there are any.
+#[derive(Drop)]
+struct Trailing<'b>(&'b [String]);
+
+impl fmt::Display for Trailing<'_> {
+    ghost output = { λ words. Some (shown_trailing (map string_bytes words.0.now)) };
+
+    fn fmt<W: fmt::Write>(&self, f: &mut fmt::Formatter<W>) -> fmt::Result {
+        if self.0.is_empty() {
+            return Ok(());
+        }
+        let words = Spaced(self.0);
+        write!(f, " --{words}")
+    }
+}
+
+fn push_word<'b>(words: &mut Vec<&'b str>, word: &'b str) -> Result<(), AllocError>
+    ensures { OnOk result (map (λ word. word.now) words.new.items ≡ map (λ word. word.now) words.old.items ++ word.now ∷ []) }
+{
+    words.push(word)?;
+    Ok(())
+}
+
+/// Adds words, in order.
+fn push_words<'b>(words: &mut Vec<&'b str>, more: &'b [String]) -> Result<(), AllocError>
+    ensures { OnOk result (map (λ word. word.now) words.new.items ≡ map (λ word. word.now) words.old.items ++ map string_bytes more.now) }
+{
+    for word in more {
+        push_word(words, word.as_str())?;
+    }
+    Ok(())
+}
+
+/// Adds the features behind their option, where there are any.
+fn push_features<'b>(
+    words: &mut Vec<&'b str>,
+    features: &'b Option<String>,
+) -> Result<(), AllocError>
+    ensures { OnOk result (map (λ word. word.now) words.new.items ≡ map (λ word. word.now) words.old.items ++ feature_words (option_map string_bytes features.now)) }
+{
+    match features {
+        Some(names) => {
+            push_word(words, "--features")?;
+            push_word(words, names.as_str())?;
+            Ok(())
+        }
+        None => Ok(()),
+    }
+}
+
+/// Adds the trailing words behind their mark, where there are any.
+fn push_trailing<'b>(words: &mut Vec<&'b str>, trailing: &'b [String]) -> Result<(), AllocError>
+    ensures { OnOk result (map (λ word. word.now) words.new.items ≡ map (λ word. word.now) words.old.items ++ marked (map string_bytes trailing.now)) }
+{
+    if trailing.is_empty() {
+        return Ok(());
+    }
+    push_word(words, "--")?;
+    push_words(words, trailing)
+}
+
+/// Copies of words.
+fn owned<T: AsStr>(alloc: Global, words: &[T]) -> Result<Vec<String>, AllocError>
+    ensures { IfOk result (λ own. map string_bytes own.items ≡ map T.text words.now) }
+{
+    let mut own = Vec::new(alloc);
+    for word in words {
+        own.push(String::from_str(alloc, word.as_str())?)?;
+    }
+    Ok(own)
+}
+
+/// A copy of the features.
+fn copied(alloc: Global, features: &Option<String>) -> Result<Option<String>, AllocError>
+    ensures { IfOk result (λ copy. option_map string_bytes copy ≡ option_map string_bytes features.now) }
+{
+    match features {
+        Some(names) => Ok(Some(String::from_str(alloc, names.as_str())?)),
+        None => Ok(None),
+    }
+}
+
+/// The features with one more name.
+fn longer(alloc: Global, features: Option<String>, name: &str) -> Result<String, AllocError>
+    ensures { IfOk result (λ names. string_bytes names ≡ with_name (option_map string_bytes features) name.now) }
+{
+    match features {
+        Some(mut names) => {
+            names.push_str(",")?;
+            names.push_str(name)?;
+            Ok(names)
+        }
+        None => String::from_str(alloc, name),
+    }
+}
