@@ -1,3 +1,4 @@
+pub mod Calls
 pub mod CargoTexts
 pub mod CommandTexts
 pub mod Commands

@@ -5,6 +5,7 @@ ghost use Rattle.hack_process.specs.CommandTexts.{text_of, listed_of, line_of, e
 ghost use Rattle.hack_process.specs.OwnWords.{awaits_path, shown_own};
 ghost use Rattle.hack_process.specs.Commands.{command_of, line_text};
 
+pub use crate::caller::{Called, Caller, End};
 use crate::paths::{stem, under};
 use std::alloc::{AllocError, Global};
 use std::convert::AsStr;
