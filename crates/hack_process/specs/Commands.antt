@@ -1,8 +1,9 @@
 -- Builders and lines as the commands that they show.
-use Rattle.std.specs.Prelude.{ℕ, List, string_bytes, map, option_map}
+use Rattle.std.specs.Prelude.{ℕ, Bool, List, string_bytes, map, option_map}
 use Rattle.hack_process.specs.declared.process.ProcessBuilder.{ProcessBuilder}
 use Rattle.hack_process.specs.declared.process.Line.{Line}
-use Rattle.hack_process.specs.CommandTexts.{Command, words_of}
+use Rattle.hack_process.specs.CommandTexts.{Command, words_behind, words_of}
+use Rattle.hack_process.specs.Calls.{Asked}
 
 -- the command that a builder has collected
 abbrev pub command_of : ProcessBuilder → Command
@@ -11,3 +12,7 @@ command_of b = record { program = string_bytes b.program; strip_program_path = b
 -- what a line shows
 abbrev pub line_text : Line → List ℕ
 line_text line = words_of line.program.now line.full line.dir.now (command_of line.builder.now)
+
+-- what a caller is asked for a command
+abbrev pub asked_of : Bool → Command → Asked
+asked_of capture c = record { program = c.program; words = words_behind c; capture = capture }

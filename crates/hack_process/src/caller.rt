@@ -1,10 +1,13 @@
 //! Who runs programs. Code is written over any `Caller`: the system, or one in memory that a test
 //! has told what to answer.
 
-ghost use Rattle.std.specs.Prelude.{◌≡◌, List, IfOk, OnErr, false};
+ghost use Rattle.std.specs.Prelude.{◌≡◌, ◌↔◌, List, IfOk, IsTrue, OnErr, Some, false};
 ghost use Rattle.hack_process.specs.Calls.{Call, Adds, MayAdd, WroteNothing, answer_of, asking};
+ghost use Rattle.hack_process.specs.Calls.{IsSuccess};
+ghost use Rattle.hack_process.specs.Faults.{end_text};
 
 use std::alloc::{AllocError, Global};
+use std::fmt;
 
 /// How a program ended.
 #[derive(Clone, Copy, Debug, PartialEq, Eq)]
@@ -15,6 +18,28 @@ pub enum End {
     Signal(i32),
     /// It could not be started.
     NeverStarted,
+}
+
+impl End {
+    /// Whether it ended with status 0.
+    pub fn is_success(self) -> bool
+        ensures { IsTrue result ↔ IsSuccess self }
+    {
+        self == End::Status(0)
+    }
+}
+
+/// Shows a status or a signal by its number.
+impl fmt::Display for End {
+    ghost output = { λ how. Some (end_text how) };
+
+    fn fmt<W: fmt::Write>(&self, f: &mut fmt::Formatter<W>) -> fmt::Result {
+        match self {
+            End::Status(code) => write!(f, "exit status: {code}"),
+            End::Signal(number) => write!(f, "signal: {number}"),
+            End::NeverStarted => f.write_str("never executed"),
+        }
+    }
 }
 
 /// How a program ended, and what it wrote, where that was captured.

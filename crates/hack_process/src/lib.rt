@@ -3,5 +3,7 @@
 
 mod caller;
 pub mod cargo;
+mod fault;
 pub mod paths;
 pub mod process;
+mod words;

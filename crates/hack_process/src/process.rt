@@ -1,12 +1,17 @@
 //! A command of cargo: the words that it is made of, and how it is shown.
 
-ghost use Rattle.std.specs.Prelude.{◌≡◌, ◌++◌, ◌∷◌, [], ◌||◌, IfOk, OnOk, OnErr, Some, None, map, false, string_bytes, option_map};
-ghost use Rattle.hack_process.specs.CommandTexts.{text_of, listed_of, line_of, each_spaced, shown_words, shown_features, shown_trailing, shown_program, with_name, appended, feature_words, marked, words_behind};
+ghost use Rattle.std.specs.Prelude.{◌≡◌, ◌≢◌, ◌++◌, ◌∷◌, [], ◌||◌, IfOk, IfErr, OnOk, OnErr, Some, None, map};
+ghost use Rattle.std.specs.Prelude.{true, false, string_bytes, option_map};
+ghost use Rattle.hack_process.specs.Calls.{Adds, IsSuccess, answer_of};
+ghost use Rattle.hack_process.specs.CommandTexts.{text_of, listed_of, line_of, each_spaced, shown_words, shown_features, shown_trailing, shown_program, appended, words_behind};
 ghost use Rattle.hack_process.specs.OwnWords.{awaits_path, shown_own};
-ghost use Rattle.hack_process.specs.Commands.{command_of, line_text};
+ghost use Rattle.hack_process.specs.Commands.{asked_of, command_of, line_text};
+ghost use Rattle.hack_process.specs.Faults.{Had, IsFault, IsReadFault, without_line_ends};
 
 pub use crate::caller::{Called, Caller, End};
+pub use crate::fault::{Failure, ProcessFault};
 use crate::paths::{stem, under};
+use crate::words::{copied, longer, owned, push_features, push_trailing, push_words, without_ends};
 use std::alloc::{AllocError, Global};
 use std::convert::AsStr;
 use std::fmt;
@@ -147,6 +152,94 @@ impl<'a> ProcessBuilder<'a> {
             full: true,
             dir,
         }
+    }
+
+    /// Runs the command once, over the streams of this process. `dir` is the current folder, for
+    /// the long text in a fault.
+    pub fn run<C: Caller>(
+        &self,
+        alloc: Global,
+        caller: &mut C,
+        dir: &str,
+    ) -> Result<(), ProcessFault>
+        ensures ok { OnOk result (C.tells → Had (λ answer. IsSuccess answer.end)
+            (asked_of false (command_of self.now)) (C.calls caller.old) (C.calls caller.new)) }
+        ensures named { OnOk result ((command_of self.now).program ≢ []) }
+        ensures err { IfErr result (IsFault C.tells (asked_of false (command_of self.now))
+            (text_of true dir.now (command_of self.now)) (C.calls caller.old) (C.calls caller.new)) }
+    {
+        let _called = self.called(alloc, caller, false, dir)?;
+        Ok(())
+    }
+
+    /// Runs the command once, and answers what it wrote. It reads nothing.
+    pub fn run_with_output<C: Caller>(
+        &self,
+        alloc: Global,
+        caller: &mut C,
+        dir: &str,
+    ) -> Result<Called, ProcessFault>
+        ensures success { IfOk result (λ called. IsSuccess called.end) }
+        ensures ok { IfOk result (λ called. C.tells → Adds (asked_of true (command_of self.now))
+            (answer_of called) (C.calls caller.old) (C.calls caller.new)) }
+        ensures named { OnOk result ((command_of self.now).program ≢ []) }
+        ensures err { IfErr result (IsFault C.tells (asked_of true (command_of self.now))
+            (text_of true dir.now (command_of self.now)) (C.calls caller.old) (C.calls caller.new)) }
+    {
+        self.called(alloc, caller, true, dir)
+    }
+
+    /// Runs the command once, and answers the text that it wrote to its output, without line feeds
+    /// and carriage returns at the end.
+    pub fn read<C: Caller>(
+        &self,
+        alloc: Global,
+        caller: &mut C,
+        dir: &str,
+    ) -> Result<String, ProcessFault>
+        ensures ok { IfOk result (λ text. C.tells → Had (λ answer. IsSuccess answer.end
+            × (string_bytes text ≡ without_line_ends answer.stdout))
+            (asked_of true (command_of self.now)) (C.calls caller.old) (C.calls caller.new)) }
+        ensures named { OnOk result ((command_of self.now).program ≢ []) }
+        ensures err { IfErr result (IsReadFault C.tells (asked_of true (command_of self.now))
+            (text_of true dir.now (command_of self.now)) (C.calls caller.old) (C.calls caller.new)) }
+    {
+        let called = self.called(alloc, caller, true, dir)?;
+        match String::from_utf8(called.stdout) {
+            Ok(text) => Ok(without_ends(text)),
+            Err(_) => Err(ProcessFault::NotText(self.text(alloc, true, false, dir)?)),
+        }
+    }
+
+    /// Calls the command once, and answers what came of it where it ended with status 0.
+    fn called<C: Caller>(
+        &self,
+        alloc: Global,
+        caller: &mut C,
+        capture: bool,
+        dir: &str,
+    ) -> Result<Called, ProcessFault>
+        ensures success { IfOk result (λ called. IsSuccess called.end) }
+        ensures ok { IfOk result (λ called. C.tells → Adds (asked_of capture (command_of self.now))
+            (answer_of called) (C.calls caller.old) (C.calls caller.new)) }
+        ensures named { OnOk result ((command_of self.now).program ≢ []) }
+        ensures err { IfErr result (IsFault C.tells (asked_of capture (command_of self.now))
+            (text_of true dir.now (command_of self.now)) (C.calls caller.old) (C.calls caller.new)) }
+    {
+        let program = self.program();
+        if program.is_empty() {
+            return Err(ProcessFault::EmptyProgram);
+        }
+        let words = owned(alloc, &self.words(alloc)?)?;
+        let called = caller.call(alloc, program, &words, capture)?;
+        if called.end.is_success() {
+            return Ok(called);
+        }
+        let command = self.text(alloc, true, false, dir)?;
+        if called.end == End::NeverStarted {
+            return Err(ProcessFault::NeverExecuted(command));
+        }
+        Err(ProcessFault::Failed(Failure::new(alloc, command, called)))
     }
 
     /// What a text shows between its backquotes, where `full` says whether it is long or verbose.
@@ -324,85 +417,5 @@ impl fmt::Display for Trailing<'_> {
         }
         let words = Spaced(self.0);
         write!(f, " --{words}")
-    }
-}
-
-fn push_word<'b>(words: &mut Vec<&'b str>, word: &'b str) -> Result<(), AllocError>
-    ensures { OnOk result (map (λ word. word.now) words.new.items ≡ map (λ word. word.now) words.old.items ++ word.now ∷ []) }
-{
-    words.push(word)?;
-    Ok(())
-}
-
-/// Adds words, in order.
-fn push_words<'b>(words: &mut Vec<&'b str>, more: &'b [String]) -> Result<(), AllocError>
-    ensures { OnOk result (map (λ word. word.now) words.new.items ≡ map (λ word. word.now) words.old.items ++ map string_bytes more.now) }
-{
-    for word in more {
-        push_word(words, word.as_str())?;
-    }
-    Ok(())
-}
-
-/// Adds the features behind their option, where there are any.
-fn push_features<'b>(
-    words: &mut Vec<&'b str>,
-    features: &'b Option<String>,
-) -> Result<(), AllocError>
-    ensures { OnOk result (map (λ word. word.now) words.new.items ≡ map (λ word. word.now) words.old.items ++ feature_words (option_map string_bytes features.now)) }
-{
-    match features {
-        Some(names) => {
-            push_word(words, "--features")?;
-            push_word(words, names.as_str())?;
-            Ok(())
-        }
-        None => Ok(()),
-    }
-}
-
-/// Adds the trailing words behind their mark, where there are any.
-fn push_trailing<'b>(words: &mut Vec<&'b str>, trailing: &'b [String]) -> Result<(), AllocError>
-    ensures { OnOk result (map (λ word. word.now) words.new.items ≡ map (λ word. word.now) words.old.items ++ marked (map string_bytes trailing.now)) }
-{
-    if trailing.is_empty() {
-        return Ok(());
-    }
-    push_word(words, "--")?;
-    push_words(words, trailing)
-}
-
-/// Copies of words.
-fn owned<T: AsStr>(alloc: Global, words: &[T]) -> Result<Vec<String>, AllocError>
-    ensures { IfOk result (λ own. map string_bytes own.items ≡ map T.text words.now) }
-{
-    let mut own = Vec::new(alloc);
-    for word in words {
-        own.push(String::from_str(alloc, word.as_str())?)?;
-    }
-    Ok(own)
-}
-
-/// A copy of the features.
-fn copied(alloc: Global, features: &Option<String>) -> Result<Option<String>, AllocError>
-    ensures { IfOk result (λ copy. option_map string_bytes copy ≡ option_map string_bytes features.now) }
-{
-    match features {
-        Some(names) => Ok(Some(String::from_str(alloc, names.as_str())?)),
-        None => Ok(None),
-    }
-}
-
-/// The features with one more name.
-fn longer(alloc: Global, features: Option<String>, name: &str) -> Result<String, AllocError>
-    ensures { IfOk result (λ names. string_bytes names ≡ with_name (option_map string_bytes features) name.now) }
-{
-    match features {
-        Some(mut names) => {
-            names.push_str(",")?;
-            names.push_str(name)?;
-            Ok(names)
-        }
-        None => String::from_str(alloc, name),
     }
 }

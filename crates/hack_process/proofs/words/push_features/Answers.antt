@@ -1,5 +1,5 @@
 use Rattle.std.proofs.Common.{◌≡◌, ℕ, List, [], ◌∷◌, ◌++◌, ap, ◌∙◌, append_assoc}
-use Rattle.hack_process.proofs.process.push_features.Goals as goal
+use Rattle.hack_process.proofs.words.push_features.Goals as goal
 
 -- one word behind another
 two : (xs ys zs : List (List ℕ)) (a b c : List ℕ) → ys ≡ xs ++ a ∷ [] → zs ≡ ys ++ b ∷ [] → b ≡ c → zs ≡ xs ++ a ∷ c ∷ []
