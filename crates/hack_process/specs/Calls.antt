@@ -24,7 +24,11 @@ pub record Call : Type 0 where
 
 -- an answer without where it lies in memory
 abbrev pub answer_of : Called → Answer
-answer_of called = record { end = called.end; stdout = called.stdout.items; stderr = called.stderr.items }
+answer_of called = record {
+  end = called.end;
+  stdout = called.stdout.items;
+  stderr = called.stderr.items;
+}
 
 -- the bytes of each text
 abbrev pub texts_of : List (String Global) → List (List ℕ)
@@ -32,7 +36,11 @@ texts_of texts = map string_bytes texts
 
 -- a program with these words is asked
 abbrev pub asking : List ℕ → List (String Global) → Bool → Asked
-asking program words capture = record { program = program; words = texts_of words; capture = capture }
+asking program words capture = record {
+  program = program;
+  words = texts_of words;
+  capture = capture;
+}
 
 -- nothing was captured
 abbrev pub WroteNothing : Answer → Type 0

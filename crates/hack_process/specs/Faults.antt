@@ -1,5 +1,6 @@
 -- What a fault of a command tells.
-use Rattle.std.specs.Prelude.{◌≡◌, ◌≢◌, ◌⊎◌, ◌-◌, ◌==◌, ◌||◌, ℕ, Bool, List, [], ◌∷◌, ◌++◌, codes, length, take, string_bytes}
+use Rattle.std.specs.Prelude.{◌≡◌, ◌≢◌, ◌⊎◌, ◌-◌, ◌==◌, ◌||◌, ℕ, Bool, List, [], ◌∷◌, ◌++◌}
+use Rattle.std.specs.Prelude.{codes, length, take, string_bytes}
 use Rattle.std.specs.Fmt.{signed_decimal}
 use Rattle.std.specs.List.{suffix_len}
 use Rattle.std.specs.Str.{IsUtf8, trim_start}
@@ -7,7 +8,8 @@ use Rattle.hack_process.specs.declared.caller.End.{End}
 use Rattle.hack_process.specs.declared.caller.End.TheVariants.{Status, Signal, NeverStarted}
 use Rattle.hack_process.specs.declared.fault.Failure.{Failure}
 use Rattle.hack_process.specs.declared.fault.ProcessFault.{ProcessFault}
-use Rattle.hack_process.specs.declared.fault.ProcessFault.TheVariants.{Memory, EmptyProgram, NeverExecuted, Failed, NotText}
+use Rattle.hack_process.specs.declared.fault.ProcessFault.TheVariants.{Memory, EmptyProgram, Failed}
+use Rattle.hack_process.specs.declared.fault.ProcessFault.TheVariants.{NeverExecuted, NotText}
 use Rattle.hack_process.specs.Calls.{Asked, Answer, Call, Adds, MayAdd, IsSuccess, IsFailure}
 
 -- these bytes are a text with more than white space
@@ -49,8 +51,10 @@ IsReadFault tells asked shown old new (NotText text) =
     × (tells → Had (λ answer. IsSuccess answer.end × (¬ IsUtf8 answer.stdout)) asked old new)
 IsReadFault tells asked shown old new Memory = IsFault tells asked shown old new Memory
 IsReadFault tells asked shown old new EmptyProgram = IsFault tells asked shown old new EmptyProgram
-IsReadFault tells asked shown old new (NeverExecuted text) = IsFault tells asked shown old new (NeverExecuted text)
-IsReadFault tells asked shown old new (Failed failure) = IsFault tells asked shown old new (Failed failure)
+IsReadFault tells asked shown old new (NeverExecuted text) =
+    IsFault tells asked shown old new (NeverExecuted text)
+IsReadFault tells asked shown old new (Failed failure) =
+    IsFault tells asked shown old new (Failed failure)
 
 -- a byte is a line feed or a carriage return
 abbrev pub ends_line : ℕ → Bool
@@ -71,13 +75,21 @@ abbrev pub output_text : List ℕ → List ℕ → List ℕ
 output_text name [] = []
 output_text name (b ∷ bs) = codes "\n--- " ++ (name ++ (codes "\n" ++ (b ∷ bs)))
 
+-- what was captured of both streams
+abbrev pub outputs_text : Failure → List ℕ
+outputs_text f = output_text (codes "stdout") (string_bytes f.stdout)
+    ++ output_text (codes "stderr") (string_bytes f.stderr)
+
+-- the text of a failure: the command, how it ended, and what was captured
 abbrev pub failure_text : Failure → List ℕ
-failure_text f = codes "process didn't exit successfully: " ++ (string_bytes f.command ++ (codes " (" ++ (end_text f.end ++ (codes ")" ++ (output_text (codes "stdout") (string_bytes f.stdout) ++ output_text (codes "stderr") (string_bytes f.stderr))))))
+failure_text f = codes "process didn't exit successfully: " ++ (string_bytes f.command
+    ++ (codes " (" ++ (end_text f.end ++ (codes ")" ++ outputs_text f))))
 
 -- the text of a fault
 abbrev pub fault_text : ProcessFault → List ℕ
 fault_text Memory = codes "out of memory"
 fault_text EmptyProgram = codes "empty program name"
-fault_text (NeverExecuted command) = codes "could not execute process " ++ (string_bytes command ++ codes " (never executed)")
+fault_text (NeverExecuted command) =
+    codes "could not execute process " ++ (string_bytes command ++ codes " (never executed)")
 fault_text (Failed failure) = failure_text failure
 fault_text (NotText command) = codes "failed to parse output from " ++ string_bytes command

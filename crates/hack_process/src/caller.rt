@@ -1,7 +1,7 @@
 //! Who runs programs. Code is written over any `Caller`: the system, or one in memory that a test
 //! has told what to answer.
 
-ghost use Rattle.std.specs.Prelude.{◌≡◌, ◌↔◌, List, IfOk, IsTrue, OnErr, Some, false};
+ghost use Rattle.std.specs.Prelude.{◌≡◌, ◌↔◌, [], List, IfOk, IsTrue, OnErr, Some, false};
 ghost use Rattle.hack_process.specs.Calls.{Call, Adds, MayAdd, WroteNothing, answer_of, asking};
 ghost use Rattle.hack_process.specs.Calls.{IsSuccess};
 ghost use Rattle.hack_process.specs.Faults.{end_text};
@@ -50,6 +50,19 @@ pub struct Called {
     pub stderr: Vec<u8>,
 }
 
+impl Called {
+    /// A program that ended so, and wrote nothing that was captured.
+    pub fn silent(alloc: Global, end: End) -> Called
+        ensures { answer_of result ≡ record { end = end; stdout = []; stderr = [] } }
+    {
+        Called {
+            end,
+            stdout: Vec::new(alloc),
+            stderr: Vec::new(alloc),
+        }
+    }
+}
+
 /// Runs programs.
 pub trait Caller {
     /// Whether the type tells its calls.
@@ -73,5 +86,6 @@ pub trait Caller {
             (answer_of called) (calls self.old) (calls self.new)) }
         ensures refused { OnErr result (tells → MayAdd (asking program.now words.now capture)
             (calls self.old) (calls self.new)) }
-        ensures silent { capture ≡ false → IfOk result (λ called. WroteNothing (answer_of called)) };
+        ensures silent { capture ≡ false →
+            IfOk result (λ called. WroteNothing (answer_of called)) };
 }

@@ -3,6 +3,8 @@
 
 mod caller;
 pub mod cargo;
+mod child;
+mod fake;
 mod fault;
 pub mod paths;
 pub mod process;

@@ -9,6 +9,8 @@ ghost use Rattle.hack_process.specs.Commands.{asked_of, command_of, line_text};
 ghost use Rattle.hack_process.specs.Faults.{Had, IsFault, IsReadFault, without_line_ends};
 
 pub use crate::caller::{Called, Caller, End};
+pub use crate::child::Child;
+pub use crate::fake::{FakeCaller, Made};
 pub use crate::fault::{Failure, ProcessFault};
 use crate::paths::{stem, under};
 use crate::words::{copied, longer, owned, push_features, push_trailing, push_words, without_ends};
@@ -304,7 +306,7 @@ impl fmt::Display for Line<'_> {
 
 /// Words, each after a space.
 #[derive(Drop)]
-struct Spaced<'b>(&'b [String]);
+pub(crate) struct Spaced<'b>(pub(crate) &'b [String]);
 
 impl fmt::Display for Spaced<'_> {
     ghost output = { λ words. Some (each_spaced (map string_bytes words.0.now)) };
