@@ -10,7 +10,7 @@ use Rattle.hack_stand.specs.Words.{has_line, line_of, printed_by}
 
 -- a file of a folder
 abbrev pub file_in : List ℕ → List ℕ → List ℕ
-file_in dir name = dir ++ codes "/" ++ name
+file_in dir name = dir ++ (codes "/" ++ name)
 
 -- what a path holds, nothing where there is no file
 abbrev pub held_or_none : Option (List ℕ) → List ℕ
@@ -46,10 +46,6 @@ Stands tool dir words old new output status = MatchOption (printed_by tool words
 abbrev pub IsIn : List ℕ → List ℕ → Type 0
 IsIn dir path = (name : List ℕ) × (path ≡ file_in dir name)
 
--- these bytes are there, and no text
-abbrev pub IsNoText : Option (List ℕ) → Type 0
-IsNoText held = (bytes : List ℕ) × (held ≡ Some bytes) × (¬ IsUtf8 bytes)
-
 -- a file can't be read, which was counted, or memory is out
 abbrev pub IsFailedRead : List ℕ → ℕ → ℕ → FsFault → Type 0
 IsFailedRead path before now (Read p) = (string_bytes p ≡ path) × GrowsBy 1 before now
@@ -68,7 +64,7 @@ IsDeviceFault dir before now Memory = Unit {0}
 abbrev pub IsStandFault : List ℕ → Type 0 → Contents → ℕ → ℕ → FsFault → Type 0
 IsStandFault dir tells old before now (NotText path) =
     (string_bytes path ≡ file_in dir (codes "fail")) × GrowsBy 0 before now
-    × (tells → IsNoText (old (file_in dir (codes "fail"))))
+    × (tells → ¬ IsUtf8 (held_or_none (old (file_in dir (codes "fail")))))
 IsStandFault dir tells old before now (Read path) = IsDeviceFault dir before now (Read path)
 IsStandFault dir tells old before now (Write path) = IsDeviceFault dir before now (Write path)
 IsStandFault dir tells old before now Memory = IsDeviceFault dir before now Memory

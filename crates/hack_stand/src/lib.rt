@@ -2,4 +2,5 @@
 //! and note there what else they were asked.
 #![tactic(auto)]
 
+pub mod call;
 pub mod stand;
