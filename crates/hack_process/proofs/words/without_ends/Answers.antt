@@ -1,6 +1,5 @@
-use Rattle.std.proofs.Common.{◌≡◌, ◌+◌, ◌-◌, ◌<◌, ◌≤◌, ℕ, List, Bool, true, false, length, take, get_or, string_bytes, arith, ap, sym, ◌∙◌, refl, subst}
+use Rattle.std.proofs.Common.{◌≡◌, ◌-◌, ◌<◌, ◌≤◌, ℕ, List, Bool, true, false, length, take, get_or, arith, ap, sym, ◌∙◌, refl, subst}
 use Rattle.std.specs.List.{suffix_len}
-use Rattle.std.proofs.lemmas.Bool.{cases_Bool}
 use Rattle.std.proofs.lemmas.List.{get_or-take}
 use Rattle.std.proofs.lemmas.List.Sums.{suffix_len_is}
 use Rattle.hack_process.specs.Faults.{ends_line, without_line_ends}

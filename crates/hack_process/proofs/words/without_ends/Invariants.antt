@@ -1,4 +1,4 @@
-use Rattle.std.proofs.Common.{◌≡◌, ◌<◌, ◌≤◌, ℕ, length, take, get_or, true, string_bytes, string_len}
+use Rattle.std.proofs.Common.{◌≡◌, ◌<◌, ◌≤◌, ℕ, length, take, get_or, true, string_bytes}
 use Rattle.hack_process.specs.Faults.{ends_line}
 use Rattle.hack_process.proofs.words.without_ends.Given as goal
 
