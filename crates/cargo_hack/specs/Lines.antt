@@ -2,7 +2,7 @@
 use Rattle.std.specs.Prelude.{ℕ, List, [], ◌∷◌, ◌++◌, Option, None, false, codes, flat_map}
 use Rattle.hack_features.specs.Names.{Name}
 use Rattle.hack_features.specs.Sets.{chosen}
-use Rattle.hack_load.specs.CommandTexts.{Command, appended, shown_features}
+use Rattle.hack_process.specs.CommandTexts.{Command, appended, shown_features}
 use Rattle.cargo_hack.specs.Runs.{PackageRun, Plain, AllFeatures, NoDefaultFeatures, Set}
 
 -- the text of a run's command, where the candidates have these names

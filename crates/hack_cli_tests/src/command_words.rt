@@ -1,6 +1,6 @@
 //! The words of a command, one by one.
 
-use hack_load::process::ProcessBuilder;
+use hack_process::process::ProcessBuilder;
 use std::alloc::{AllocError, Global};
 use std::test::Fail;
 

@@ -1,6 +1,6 @@
 //! The texts of commands.
 
-use hack_load::process::ProcessBuilder;
+use hack_process::process::ProcessBuilder;
 use std::alloc::{AllocError, Global};
 use std::process::Abort;
 

@@ -5,7 +5,7 @@ use crate::given::words;
 use cargo_hack::plan::Run;
 use cargo_hack::{Ending, ListFault, call_powerset_list, command, powerset_list};
 use hack_features::Feature;
-use hack_load::process::ProcessBuilder;
+use hack_process::process::ProcessBuilder;
 use std::alloc::{AllocError, Global};
 use std::env::Args;
 use std::io;

@@ -1,5 +1,0 @@
-pub mod CargoTexts
-pub mod CommandTexts
-pub mod Commands
-pub mod OwnWords
-pub mod PathTexts

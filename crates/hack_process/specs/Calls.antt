@@ -1,0 +1,63 @@
+-- What a caller is asked, what it answers, and the calls that it tells.
+use Rattle.std.specs.Prelude.{◌≡◌, ◌⊎◌, ℕ, Bool, List, [], ◌∷◌, ◌++◌, map, string_bytes, pos}
+use Rattle.std.proofs.Common.{Global, String}
+use Rattle.hack_process.specs.declared.caller.End.{End}
+use Rattle.hack_process.specs.declared.caller.End.TheVariants.{Status, NeverStarted}
+use Rattle.hack_process.specs.declared.caller.Called.{Called}
+
+-- a program with its words, and whether its output is kept from the terminal
+pub record Asked : Type 0 where
+  pub program : List ℕ
+  pub words : List (List ℕ)
+  pub capture : Bool
+
+-- how a program ended, and the bytes that it wrote, where they were captured
+pub record Answer : Type 0 where
+  pub end : End
+  pub stdout : List ℕ
+  pub stderr : List ℕ
+
+-- what was asked, and what came of it
+pub record Call : Type 0 where
+  pub asked : Asked
+  pub answer : Answer
+
+-- an answer without where it lies in memory
+abbrev pub answer_of : Called → Answer
+answer_of called = record {
+  end = called.end;
+  stdout = called.stdout.items;
+  stderr = called.stderr.items;
+}
+
+-- the bytes of each text
+abbrev pub texts_of : List (String Global) → List (List ℕ)
+texts_of texts = map string_bytes texts
+
+-- a program with these words is asked
+abbrev pub asking : List ℕ → List (String Global) → Bool → Asked
+asking program words capture = record {
+  program = program;
+  words = texts_of words;
+  capture = capture;
+}
+
+-- nothing was captured
+abbrev pub WroteNothing : Answer → Type 0
+WroteNothing answer = (answer.stdout ≡ []) × (answer.stderr ≡ [])
+
+-- just this call was made, and had this answer
+abbrev pub Adds : Asked → Answer → List Call → List Call → Type 0
+Adds asked answer old new = new ≡ old ++ record { asked = asked; answer = answer } ∷ []
+
+-- this call was made, with some answer, or none was
+abbrev pub MayAdd : Asked → List Call → List Call → Type 0
+MayAdd asked old new = (new ≡ old) ⊎ ((answer : Answer) × Adds asked answer old new)
+
+-- a program ended with status 0
+abbrev pub IsSuccess : End → Type 0
+IsSuccess how = how ≡ Status (pos 0)
+
+-- a program was started, and ended another way
+abbrev pub IsFailure : End → Type 0
+IsFailure how = (¬ IsSuccess how) × (¬ (how ≡ NeverStarted))

@@ -1,0 +1,95 @@
+-- What a fault of a command tells.
+use Rattle.std.specs.Prelude.{◌≡◌, ◌≢◌, ◌⊎◌, ◌-◌, ◌==◌, ◌||◌, ℕ, Bool, List, [], ◌∷◌, ◌++◌}
+use Rattle.std.specs.Prelude.{codes, length, take, string_bytes}
+use Rattle.std.specs.Fmt.{signed_decimal}
+use Rattle.std.specs.List.{suffix_len}
+use Rattle.std.specs.Str.{IsUtf8, trim_start}
+use Rattle.hack_process.specs.declared.caller.End.{End}
+use Rattle.hack_process.specs.declared.caller.End.TheVariants.{Status, Signal, NeverStarted}
+use Rattle.hack_process.specs.declared.fault.Failure.{Failure}
+use Rattle.hack_process.specs.declared.fault.ProcessFault.{ProcessFault}
+use Rattle.hack_process.specs.declared.fault.ProcessFault.TheVariants.{Memory, EmptyProgram, Failed}
+use Rattle.hack_process.specs.declared.fault.ProcessFault.TheVariants.{NeverExecuted, NotText}
+use Rattle.hack_process.specs.Calls.{Asked, Answer, Call, Adds, MayAdd, IsSuccess, IsFailure}
+
+-- these bytes are a text with more than white space
+abbrev pub SaysMore : List ℕ → Type 0
+SaysMore bytes = IsUtf8 bytes × (trim_start bytes ≢ [])
+
+-- the text of these bytes where it says more than white space, and else none
+abbrev pub IsShown : List ℕ → List ℕ → Type 0
+IsShown bytes text = (SaysMore bytes × (text ≡ bytes)) ⊎ ((¬ SaysMore bytes) × (text ≡ []))
+
+-- a failure tells of this answer
+pub record Tells (failure : Failure) (answer : Answer) : Type 0 where
+  pub ended : failure.end ≡ answer.end
+  pub stdout : IsShown answer.stdout (string_bytes failure.stdout)
+  pub stderr : IsShown answer.stderr (string_bytes failure.stderr)
+
+-- just this call was made, and its answer is such
+abbrev pub Had : (Answer → Type 0) → Asked → List Call → List Call → Type 0
+Had P asked old new = (answer : Answer) × P answer × Adds asked answer old new
+
+-- why a command failed that was asked so and is shown so: its program has no name, and it was not
+-- called; or just it was called, and could not be started, or ended with another status than 0 or
+-- by a signal; or memory is out, and just it was called or nothing was
+abbrev pub IsFault : Type 0 → Asked → List ℕ → List Call → List Call → ProcessFault → Type 0
+IsFault tells asked shown old new Memory = (asked.program ≢ []) × (tells → MayAdd asked old new)
+IsFault tells asked shown old new EmptyProgram = (asked.program ≡ []) × (tells → new ≡ old)
+IsFault tells asked shown old new (NeverExecuted text) =
+    (asked.program ≢ []) × (string_bytes text ≡ shown)
+    × (tells → Had (λ answer. answer.end ≡ NeverStarted) asked old new)
+IsFault tells asked shown old new (Failed failure) =
+    (asked.program ≢ []) × (string_bytes failure.command ≡ shown) × IsFailure failure.end
+    × (tells → Had (Tells failure) asked old new)
+IsFault tells asked shown old new (NotText text) = ⊥
+
+-- the same of a command whose output is read: it may also have ended well, and written no text
+abbrev pub IsReadFault : Type 0 → Asked → List ℕ → List Call → List Call → ProcessFault → Type 0
+IsReadFault tells asked shown old new (NotText text) =
+    (asked.program ≢ []) × (string_bytes text ≡ shown)
+    × (tells → Had (λ answer. IsSuccess answer.end × (¬ IsUtf8 answer.stdout)) asked old new)
+IsReadFault tells asked shown old new Memory = IsFault tells asked shown old new Memory
+IsReadFault tells asked shown old new EmptyProgram = IsFault tells asked shown old new EmptyProgram
+IsReadFault tells asked shown old new (NeverExecuted text) =
+    IsFault tells asked shown old new (NeverExecuted text)
+IsReadFault tells asked shown old new (Failed failure) =
+    IsFault tells asked shown old new (Failed failure)
+
+-- a byte is a line feed or a carriage return
+abbrev pub ends_line : ℕ → Bool
+ends_line b = b == 10 || b == 13
+
+-- a text without the line feeds and carriage returns at its end
+abbrev pub without_line_ends : List ℕ → List ℕ
+without_line_ends text = take (length text - suffix_len ends_line text) text
+
+-- how a program ended, as a user reads it
+abbrev pub end_text : End → List ℕ
+end_text (Status code) = codes "exit status: " ++ signed_decimal code
+end_text (Signal number) = codes "signal: " ++ signed_decimal number
+end_text NeverStarted = codes "never executed"
+
+-- what was captured, under the name of the stream; nothing where it is empty
+abbrev pub output_text : List ℕ → List ℕ → List ℕ
+output_text name [] = []
+output_text name (b ∷ bs) = codes "\n--- " ++ (name ++ (codes "\n" ++ (b ∷ bs)))
+
+-- what was captured of both streams
+abbrev pub outputs_text : Failure → List ℕ
+outputs_text f = output_text (codes "stdout") (string_bytes f.stdout)
+    ++ output_text (codes "stderr") (string_bytes f.stderr)
+
+-- the text of a failure: the command, how it ended, and what was captured
+abbrev pub failure_text : Failure → List ℕ
+failure_text f = codes "process didn't exit successfully: " ++ (string_bytes f.command
+    ++ (codes " (" ++ (end_text f.end ++ (codes ")" ++ outputs_text f))))
+
+-- the text of a fault
+abbrev pub fault_text : ProcessFault → List ℕ
+fault_text Memory = codes "out of memory"
+fault_text EmptyProgram = codes "empty program name"
+fault_text (NeverExecuted command) =
+    codes "could not execute process " ++ (string_bytes command ++ codes " (never executed)")
+fault_text (Failed failure) = failure_text failure
+fault_text (NotText command) = codes "failed to parse output from " ++ string_bytes command

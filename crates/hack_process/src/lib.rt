@@ -1,0 +1,11 @@
+//! Commands of cargo: how they are shown and run, and what cargo answers.
+#![tactic(auto)]
+
+mod caller;
+pub mod cargo;
+mod child;
+mod fake;
+mod fault;
+pub mod paths;
+pub mod process;
+mod words;

@@ -1,0 +1,423 @@
+//! A command of cargo: the words that it is made of, and how it is shown.
+
+ghost use Rattle.std.specs.Prelude.{◌≡◌, ◌≢◌, ◌++◌, ◌∷◌, [], ◌||◌, IfOk, IfErr, OnOk, OnErr, Some, None, map};
+ghost use Rattle.std.specs.Prelude.{true, false, string_bytes, option_map};
+ghost use Rattle.hack_process.specs.Calls.{Adds, IsSuccess, answer_of};
+ghost use Rattle.hack_process.specs.CommandTexts.{text_of, listed_of, line_of, each_spaced, shown_words, shown_features, shown_trailing, shown_program, appended, words_behind};
+ghost use Rattle.hack_process.specs.OwnWords.{awaits_path, shown_own};
+ghost use Rattle.hack_process.specs.Commands.{asked_of, command_of, line_text};
+ghost use Rattle.hack_process.specs.Faults.{Had, IsFault, IsReadFault, without_line_ends};
+
+pub use crate::caller::{Called, Caller, End};
+pub use crate::child::Child;
+pub use crate::fake::{FakeCaller, Made};
+pub use crate::fault::{Failure, ProcessFault};
+use crate::paths::{stem, under};
+use crate::words::{copied, longer, owned, push_features, push_trailing, push_words, without_ends};
+use std::alloc::{AllocError, Global};
+use std::convert::AsStr;
+use std::fmt;
+
+/// Collects the words of a command. They stand in this order: the program, the leading words, the passed words, the
+/// builder's own words, the features behind one `--features`, and behind `--` the trailing words.
+#[derive(Drop)]
+pub struct ProcessBuilder<'a> {
+    program: String,
+    leading: Vec<String>,
+    passed: &'a [String],
+    own: Vec<String>,
+    /// The names joined by `,`, in one word, since cargo before 1.38 takes `--features` only once.
+    features: Option<String>,
+    trailing: &'a [String],
+    /// Whether the program is shown without its folder and its ending in each text.
+    pub strip_program_path: bool,
+}
+
+impl<'a> ProcessBuilder<'a> {
+    /// A command of one word.
+    pub fn new(alloc: Global, program: &str) -> Result<ProcessBuilder<'a>, AllocError>
+        ensures { IfOk result (λ builder. command_of builder ≡ record { program = program.now; strip_program_path = false; leading = []; passed = []; own = []; features = None; trailing = [] }) }
+    {
+        Ok(ProcessBuilder {
+            program: String::from_str(alloc, program)?,
+            leading: Vec::new(alloc),
+            passed: &[],
+            own: Vec::new(alloc),
+            features: None,
+            trailing: &[],
+            strip_program_path: false,
+        })
+    }
+
+    /// Adds an own word.
+    pub fn arg(&mut self, word: &str) -> Result<(), AllocError>
+        ensures ok { OnOk result (command_of self.new ≡ record (command_of self.old) { own = (command_of self.old).own ++ word.now ∷ [] }) }
+        ensures err { OnErr result (command_of self.new ≡ command_of self.old) }
+    {
+        let word = String::from_str(*self.own.allocator(), word)?;
+        self.own.push(word)?;
+        Ok(())
+    }
+
+    /// Adds own words, or none of them where memory runs out.
+    pub fn args<T: AsStr>(&mut self, words: &[T]) -> Result<(), AllocError>
+        ensures ok { OnOk result (command_of self.new ≡ record (command_of self.old) { own = (command_of self.old).own ++ map T.text words.now }) }
+        ensures err { OnErr result (command_of self.new ≡ command_of self.old) }
+    {
+        let mut own = owned(*self.own.allocator(), words)?;
+        self.own.append(&mut own)
+    }
+
+    /// Adds a leading word: one that stands before all but the program.
+    pub fn leading_arg(&mut self, word: &str) -> Result<(), AllocError>
+        ensures ok { OnOk result (command_of self.new ≡ record (command_of self.old) { leading = (command_of self.old).leading ++ word.now ∷ [] }) }
+        ensures err { OnErr result (command_of self.new ≡ command_of self.old) }
+    {
+        let word = String::from_str(*self.leading.allocator(), word)?;
+        self.leading.push(word)?;
+        Ok(())
+    }
+
+    /// Hands in the words that the user wrote for the command, in place of those handed in before: the passed ones,
+    /// and the trailing ones that stood behind `--`.
+    pub fn pass_words(&mut self, passed: &'a [String], trailing: &'a [String])
+        ensures { command_of self.new ≡ record (command_of self.old) { passed = map string_bytes passed.now; trailing = map string_bytes trailing.now } }
+    {
+        self.passed = passed;
+        self.trailing = trailing;
+    }
+
+    /// Appends names to the features, or none of them where memory runs out. An empty name counts as one.
+    pub fn append_features<T: AsStr>(&mut self, names: &[T]) -> Result<(), AllocError>
+        ensures ok { OnOk result (command_of self.new ≡ record (command_of self.old) { features = appended (command_of self.old).features (map T.text names.now) }) }
+        ensures err { OnErr result (command_of self.new ≡ command_of self.old) }
+    {
+        let alloc = *self.own.allocator();
+        let mut features = copied(alloc, &self.features)?;
+        for name in names {
+            features = Some(longer(alloc, features, name.as_str())?);
+        }
+        self.features = features;
+        Ok(())
+    }
+
+    /// Takes all features away, so that the builder can be used for another run.
+    pub fn clear_features(&mut self)
+        ensures { command_of self.new ≡ record (command_of self.old) { features = None } }
+    {
+        self.features = None;
+    }
+
+    /// The program, as it was given.
+    pub fn program(&self) -> &str
+        ensures { result.now ≡ (command_of self.now).program }
+    {
+        self.program.as_str()
+    }
+
+    /// The words behind the program, each a word of its own, as they are handed to it.
+    pub fn words(&self, alloc: Global) -> Result<Vec<&str>, AllocError>
+        ensures { IfOk result (λ words. map (λ word. word.now) words.items ≡ words_behind (command_of self.now)) }
+    {
+        let mut words = Vec::new(alloc);
+        push_words(&mut words, &self.leading)?;
+        push_words(&mut words, self.passed)?;
+        push_words(&mut words, &self.own)?;
+        push_features(&mut words, &self.features)?;
+        push_trailing(&mut words, self.trailing)?;
+        Ok(words)
+    }
+
+    /// The command as a user reads it, in backquotes. A long or a verbose text shows the program's whole path, unless
+    /// this is stripped, and the own manifest path, as it stands inside `dir`.
+    pub fn text(
+        &self,
+        alloc: Global,
+        long: bool,
+        verbose: bool,
+        dir: &str,
+    ) -> Result<String, AllocError>
+        ensures { IfOk result (λ text. string_bytes text ≡ text_of (long || verbose) dir.now (command_of self.now)) }
+    {
+        let line = self.line(long || verbose, dir);
+        format!(in alloc; "`{line}`")
+    }
+
+    /// The command as it stands in a list of commands: the verbose text, without the program's folder and without the
+    /// backquotes. Showing it takes no memory.
+    pub fn listed<'b>(&'b self, dir: &'b str) -> Line<'b>
+        ensures { line_text result ≡ listed_of dir.now (command_of self.now) }
+    {
+        Line {
+            program: stem(&self.program),
+            builder: self,
+            full: true,
+            dir,
+        }
+    }
+
+    /// Runs the command once, over the streams of this process. `dir` is the current folder, for
+    /// the long text in a fault.
+    pub fn run<C: Caller>(
+        &self,
+        alloc: Global,
+        caller: &mut C,
+        dir: &str,
+    ) -> Result<(), ProcessFault>
+        ensures ok { OnOk result (C.tells → Had (λ answer. IsSuccess answer.end)
+            (asked_of false (command_of self.now)) (C.calls caller.old) (C.calls caller.new)) }
+        ensures named { OnOk result ((command_of self.now).program ≢ []) }
+        ensures err { IfErr result (IsFault C.tells (asked_of false (command_of self.now))
+            (text_of true dir.now (command_of self.now)) (C.calls caller.old) (C.calls caller.new)) }
+    {
+        let _called = self.called(alloc, caller, false, dir)?;
+        Ok(())
+    }
+
+    /// Runs the command once, and answers what it wrote. It reads nothing.
+    pub fn run_with_output<C: Caller>(
+        &self,
+        alloc: Global,
+        caller: &mut C,
+        dir: &str,
+    ) -> Result<Called, ProcessFault>
+        ensures success { IfOk result (λ called. IsSuccess called.end) }
+        ensures ok { IfOk result (λ called. C.tells → Adds (asked_of true (command_of self.now))
+            (answer_of called) (C.calls caller.old) (C.calls caller.new)) }
+        ensures named { OnOk result ((command_of self.now).program ≢ []) }
+        ensures err { IfErr result (IsFault C.tells (asked_of true (command_of self.now))
+            (text_of true dir.now (command_of self.now)) (C.calls caller.old) (C.calls caller.new)) }
+    {
+        self.called(alloc, caller, true, dir)
+    }
+
+    /// Runs the command once, and answers the text that it wrote to its output, without line feeds
+    /// and carriage returns at the end.
+    pub fn read<C: Caller>(
+        &self,
+        alloc: Global,
+        caller: &mut C,
+        dir: &str,
+    ) -> Result<String, ProcessFault>
+        ensures ok { IfOk result (λ text. C.tells → Had (λ answer. IsSuccess answer.end
+            × (string_bytes text ≡ without_line_ends answer.stdout))
+            (asked_of true (command_of self.now)) (C.calls caller.old) (C.calls caller.new)) }
+        ensures named { OnOk result ((command_of self.now).program ≢ []) }
+        ensures err { IfErr result (IsReadFault C.tells (asked_of true (command_of self.now))
+            (text_of true dir.now (command_of self.now)) (C.calls caller.old) (C.calls caller.new)) }
+    {
+        let called = self.called(alloc, caller, true, dir)?;
+        match String::from_utf8(called.stdout) {
+            Ok(text) => Ok(without_ends(text)),
+            Err(_) => Err(ProcessFault::NotText(self.text(alloc, true, false, dir)?)),
+        }
+    }
+
+    /// Calls the command once, and answers what came of it where it ended with status 0.
+    fn called<C: Caller>(
+        &self,
+        alloc: Global,
+        caller: &mut C,
+        capture: bool,
+        dir: &str,
+    ) -> Result<Called, ProcessFault>
+        ensures success { IfOk result (λ called. IsSuccess called.end) }
+        ensures ok { IfOk result (λ called. C.tells → Adds (asked_of capture (command_of self.now))
+            (answer_of called) (C.calls caller.old) (C.calls caller.new)) }
+        ensures named { OnOk result ((command_of self.now).program ≢ []) }
+        ensures err { IfErr result (IsFault C.tells (asked_of capture (command_of self.now))
+            (text_of true dir.now (command_of self.now)) (C.calls caller.old) (C.calls caller.new)) }
+    {
+        let program = self.program();
+        if program.is_empty() {
+            return Err(ProcessFault::EmptyProgram);
+        }
+        let words = owned(alloc, &self.words(alloc)?)?;
+        let called = caller.call(alloc, program, &words, capture)?;
+        if called.end.is_success() {
+            return Ok(called);
+        }
+        let command = self.text(alloc, true, false, dir)?;
+        if called.end == End::NeverStarted {
+            return Err(ProcessFault::NeverExecuted(command));
+        }
+        Err(ProcessFault::Failed(Failure::new(alloc, command, called)))
+    }
+
+    /// What a text shows between its backquotes, where `full` says whether it is long or verbose.
+    fn line<'b>(&'b self, full: bool, dir: &'b str) -> Line<'b>
+        ensures { line_text result ≡ line_of full dir.now (command_of self.now) }
+    {
+        Line {
+            program: self.shown_program(full),
+            builder: self,
+            full,
+            dir,
+        }
+    }
+
+    fn shown_program(&self, full: bool) -> &str
+        ensures { result.now ≡ shown_program full (command_of self.now) }
+    {
+        if full && !self.strip_program_path {
+            self.program.as_str()
+        } else {
+            stem(&self.program)
+        }
+    }
+}
+
+/// Shows the short text.
+impl fmt::Display for ProcessBuilder<'_> {
+    ghost output = { λ builder. Some (text_of false [] (command_of builder)) };
+
+    fn fmt<W: fmt::Write>(&self, f: &mut fmt::Formatter<W>) -> fmt::Result {
+        let line = self.line(false, "");
+        write!(f, "`{line}`")
+    }
+}
+
+/// A command on one line, without backquotes and without a line feed.
+#[derive(Drop)]
+pub struct Line<'b> {
+    program: &'b str,
+    builder: &'b ProcessBuilder<'b>,
+    full: bool,
+    dir: &'b str,
+}
+
+impl fmt::Display for Line<'_> {
+    ghost output = { λ line. Some (line_text line) };
+
+    fn fmt<W: fmt::Write>(&self, f: &mut fmt::Formatter<W>) -> fmt::Result {
+        let program = self.program;
+        let leading = Spaced(&self.builder.leading);
+        let passed = Spaced(self.builder.passed);
+        let own = OwnWords {
+            words: &self.builder.own,
+            full: self.full,
+            dir: self.dir,
+        };
+        let features = Features(&self.builder.features);
+        let trailing = Trailing(self.builder.trailing);
+        write!(f, "{program}{leading}{passed}{own}{features}{trailing}")
+    }
+}
+
+/// Words, each after a space.
+#[derive(Drop)]
+pub(crate) struct Spaced<'b>(pub(crate) &'b [String]);
+
+impl fmt::Display for Spaced<'_> {
+    ghost output = { λ words. Some (each_spaced (map string_bytes words.0.now)) };
+
+    fn fmt<W: fmt::Write>(&self, f: &mut fmt::Formatter<W>) -> fmt::Result {
+        for word in self.0 {
+            write!(f, " {word}")?;
+        }
+        Ok(())
+    }
+}
+
+/// The builder's own words, each after a space; an own manifest path and its value only where the text is full.
+#[derive(Drop)]
+struct OwnWords<'b> {
+    words: &'b [String],
+    full: bool,
+    dir: &'b str,
+}
+
+impl fmt::Display for OwnWords<'_> {
+    ghost output = { λ own. Some (each_spaced (shown_words own.full own.dir.now (map string_bytes own.words.now))) };
+
+    fn fmt<W: fmt::Write>(&self, f: &mut fmt::Formatter<W>) -> fmt::Result {
+        // Whether the word before was `--manifest-path`, whose value follows.
+        let mut awaits_path = false;
+        for word in self.words {
+            let own = OwnWord {
+                word: word.as_str(),
+                is_path: awaits_path,
+                full: self.full,
+                dir: self.dir,
+            };
+            write!(f, "{own}")?;
+            awaits_path = own.awaits_path();
+        }
+        // Nothing follows it.
+        if awaits_path {
+            write!(f, " {MANIFEST_PATH}")?;
+        }
+        Ok(())
+    }
+}
+
+const MANIFEST_PATH: &str = "--manifest-path";
+
+/// An own word, where the one before it is known.
+#[derive(Drop)]
+struct OwnWord<'b> {
+    word: &'b str,
+    /// Whether it is the value of `--manifest-path`.
+    is_path: bool,
+    full: bool,
+    dir: &'b str,
+}
+
+impl OwnWord<'_> {
+    /// Whether this is `--manifest-path` itself, which is shown together with its value.
+    fn awaits_path(&self) -> bool
+        ensures { result ≡ awaits_path self.now.is_path self.now.word.now }
+    {
+        !self.is_path && self.word == MANIFEST_PATH
+    }
+}
+
+impl fmt::Display for OwnWord<'_> {
+    ghost output = { λ own. Some (shown_own own.is_path own.full own.dir.now own.word.now) };
+
+    fn fmt<W: fmt::Write>(&self, f: &mut fmt::Formatter<W>) -> fmt::Result {
+        let word = self.word;
+        if self.awaits_path() {
+            return Ok(());
+        }
+        if !self.is_path {
+            return write!(f, " {word}");
+        }
+        if !self.full {
+            return Ok(());
+        }
+        let path = under(word, self.dir);
+        write!(f, " {MANIFEST_PATH} {path}")
+    }
+}
+
+/// The features behind `--features`, where there are any.
+#[derive(Drop)]
+struct Features<'b>(&'b Option<String>);
+
+impl fmt::Display for Features<'_> {
+    ghost output = { λ features. Some (shown_features (option_map string_bytes features.0.now)) };
+
+    fn fmt<W: fmt::Write>(&self, f: &mut fmt::Formatter<W>) -> fmt::Result {
+        match self.0 {
+            Some(names) => write!(f, " --features {names}"),
+            None => Ok(()),
+        }
+    }
+}
+
+/// The trailing words behind `--`, where there are any.
+#[derive(Drop)]
+struct Trailing<'b>(&'b [String]);
+
+impl fmt::Display for Trailing<'_> {
+    ghost output = { λ words. Some (shown_trailing (map string_bytes words.0.now)) };
+
+    fn fmt<W: fmt::Write>(&self, f: &mut fmt::Formatter<W>) -> fmt::Result {
+        if self.0.is_empty() {
+            return Ok(());
+        }
+        let words = Spaced(self.0);
+        write!(f, " --{words}")
+    }
+}

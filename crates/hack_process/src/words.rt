@@ -1,0 +1,120 @@
+//! Words of a command: gathered and copied, and the text of an answer without its last line ends.
+
+ghost use Rattle.std.specs.Prelude.{◌≡◌, ◌++◌, ◌∷◌, ◌<◌, ◌-◌, [], IfOk, OnOk, IsTrue, length, map, slice_index};
+ghost use Rattle.std.specs.Prelude.{string_bytes, option_map};
+ghost use Rattle.std.specs.Bool.{OnTrue, OnFalse};
+ghost use Rattle.hack_process.specs.CommandTexts.{with_name, feature_words, marked};
+ghost use Rattle.hack_process.specs.Faults.{ends_line, without_line_ends};
+
+use std::alloc::{AllocError, Global};
+use std::convert::AsStr;
+
+fn push_word<'b>(words: &mut Vec<&'b str>, word: &'b str) -> Result<(), AllocError>
+    ensures { OnOk result (map (λ word. word.now) words.new.items ≡ map (λ word. word.now) words.old.items ++ word.now ∷ []) }
+{
+    words.push(word)?;
+    Ok(())
+}
+
+/// Adds words, in order.
+pub(crate) fn push_words<'b>(words: &mut Vec<&'b str>, more: &'b [String]) -> Result<(), AllocError>
+    ensures { OnOk result (map (λ word. word.now) words.new.items ≡ map (λ word. word.now) words.old.items ++ map string_bytes more.now) }
+{
+    for word in more {
+        push_word(words, word.as_str())?;
+    }
+    Ok(())
+}
+
+/// Adds the features behind their option, where there are any.
+pub(crate) fn push_features<'b>(
+    words: &mut Vec<&'b str>,
+    features: &'b Option<String>,
+) -> Result<(), AllocError>
+    ensures { OnOk result (map (λ word. word.now) words.new.items ≡ map (λ word. word.now) words.old.items ++ feature_words (option_map string_bytes features.now)) }
+{
+    match features {
+        Some(names) => {
+            push_word(words, "--features")?;
+            push_word(words, names.as_str())?;
+            Ok(())
+        }
+        None => Ok(()),
+    }
+}
+
+/// Adds the trailing words behind their mark, where there are any.
+pub(crate) fn push_trailing<'b>(
+    words: &mut Vec<&'b str>,
+    trailing: &'b [String],
+) -> Result<(), AllocError>
+    ensures { OnOk result (map (λ word. word.now) words.new.items ≡ map (λ word. word.now) words.old.items ++ marked (map string_bytes trailing.now)) }
+{
+    if trailing.is_empty() {
+        return Ok(());
+    }
+    push_word(words, "--")?;
+    push_words(words, trailing)
+}
+
+/// Copies of words.
+pub(crate) fn owned<T: AsStr>(alloc: Global, words: &[T]) -> Result<Vec<String>, AllocError>
+    ensures { IfOk result (λ own. map string_bytes own.items ≡ map T.text words.now) }
+{
+    let mut own = Vec::new(alloc);
+    for word in words {
+        own.push(String::from_str(alloc, word.as_str())?)?;
+    }
+    Ok(own)
+}
+
+/// A copy of the features.
+pub(crate) fn copied(alloc: Global, features: &Option<String>) -> Result<Option<String>, AllocError>
+    ensures { IfOk result (λ copy. option_map string_bytes copy ≡ option_map string_bytes features.now) }
+{
+    match features {
+        Some(names) => Ok(Some(String::from_str(alloc, names.as_str())?)),
+        None => Ok(None),
+    }
+}
+
+/// The features with one more name.
+pub(crate) fn longer(
+    alloc: Global,
+    features: Option<String>,
+    name: &str,
+) -> Result<String, AllocError>
+    ensures { IfOk result (λ names. string_bytes names ≡ with_name (option_map string_bytes features) name.now) }
+{
+    match features {
+        Some(mut names) => {
+            names.push_str(",")?;
+            names.push_str(name)?;
+            Ok(names)
+        }
+        None => String::from_str(alloc, name),
+    }
+}
+
+/// The text without line feeds and carriage returns at its end.
+pub(crate) fn without_ends(mut text: String) -> String
+    ensures { string_bytes result ≡ without_line_ends (string_bytes text) }
+{
+    while ends_a_line(text.as_bytes()) {
+        text.pop();
+    }
+    text
+}
+
+/// Whether the last byte, if there is one, is a line feed or a carriage return.
+fn ends_a_line(text: &[u8]) -> bool
+    ensures yes { OnTrue result ((0 < length text.now)
+        × IsTrue (ends_line (slice_index text.now (length text.now - 1)))) }
+    ensures no { OnFalse result (0 < length text.now →
+        ¬ IsTrue (ends_line (slice_index text.now (length text.now - 1)))) }
+{
+    match text {
+        [.., last] => *last == b'\n' || *last == b'\r',
+        [] => false,
+    }
+}

@@ -1,0 +1,97 @@
+//! A whole call of a stand-in: its words, the folder that it answers from, its streams and its exit
+//! status.
+
+ghost use Rattle.std.specs.Prelude.{◌≡◌, ◌≢◌, IfOk, drop};
+ghost use Rattle.std.specs.Vec.Iter.{into_iter_items};
+ghost use Rattle.hack_stand.specs.Calls.{Answers};
+
+use crate::stand::{Tool, stand};
+use hack_files::fs::{Files, FsFault};
+use std::alloc::{AllocError, Global};
+use std::env::{Args, VarError};
+use std::io;
+use std::io::Write;
+use thiserror::Error;
+
+/// Why a stand-in can't answer.
+#[derive(Debug, Drop, Error)]
+enum CallFault {
+    #[error("STAND_DIR is not set")]
+    NoFolder,
+    #[error("the words must be UTF-8")]
+    Words,
+    #[error("failed to write the answer")]
+    Output,
+    #[error("{0}")]
+    Files(FsFault),
+    #[error("out of memory")]
+    Memory,
+}
+
+impl From<AllocError> for CallFault {
+    fn from(_e: AllocError) -> CallFault {
+        CallFault::Memory
+    }
+}
+
+/// What a stand-in does, and its exit status: that of `stand` for the words behind the first of the
+/// arguments, or 2 where it can't answer, which a line on `err` tells. `dir` is what `env::var`
+/// answers for the variable `STAND_DIR`, and `arguments` what `env::args` does.
+pub fn call<F: Files, O: Write, E: Write>(
+    alloc: Global,
+    tool: Tool,
+    files: &mut F,
+    dir: Result<String, VarError>,
+    arguments: io::Result<Args>,
+    out: &mut O,
+    err: &mut E,
+) -> u8
+    ensures { result ≢ 2 → Answers tool F.tells dir arguments (F.bytes_at files.old)
+        (F.bytes_at files.new) (O.contents out.old) (O.contents out.new) result }
+{
+    match answer(alloc, tool, files, dir, arguments, out) {
+        Ok(status) => status,
+        Err(fault) => {
+            let _ = writeln!(err, "error: {fault}");
+            2
+        }
+    }
+}
+
+/// The status of a call that is answered.
+fn answer<F: Files, O: Write>(
+    alloc: Global,
+    tool: Tool,
+    files: &mut F,
+    dir: Result<String, VarError>,
+    arguments: io::Result<Args>,
+    out: &mut O,
+) -> Result<u8, CallFault>
+    ensures { IfOk result (Answers tool F.tells dir arguments (F.bytes_at files.old)
+        (F.bytes_at files.new) (O.contents out.old) (O.contents out.new)) }
+{
+    let Ok(dir) = dir else {
+        return Err(CallFault::NoFolder);
+    };
+    let Ok(arguments) = arguments else {
+        return Err(CallFault::Words);
+    };
+    if dir.as_str().is_empty() {
+        return Err(CallFault::NoFolder);
+    }
+    let words = words_of(alloc, arguments)?;
+    match stand(alloc, tool, files, dir.as_str(), &words) {
+        Ok(stood) => match out.write_all(&stood.output) {
+            Ok(()) => Ok(stood.status),
+            Err(_) => Err(CallFault::Output),
+        },
+        Err(fault) => Err(CallFault::Files(fault)),
+    }
+}
+
+/// The words behind the program's name.
+fn words_of(alloc: Global, arguments: Args) -> Result<Vec<String>, AllocError>
+    ensures { IfOk result (λ words. words.items ≡ drop 1 (into_iter_items arguments)) }
+{
+    arguments.skip(1).collect(alloc)
+}
