@@ -1,11 +1,11 @@
 //! Runs programs of the system, and prints a line for each: its name, and `ok`, the text that was
 //! read, how long the outputs are, or the fault. A text stands in quotes, and a line feed in it as
-//! `\n`.
+//! `\n`. With words of its own, it reads the command that they are, and prints what came of it.
 #![tactic(auto)]
 
 use hack_process::process::{Caller, Child, ProcessBuilder, ProcessFault};
 use std::alloc::{AllocError, Global};
-use std::io;
+use std::{env, io};
 
 /// What is asked of a command.
 #[derive(Clone, Copy)]
@@ -112,15 +112,30 @@ fn many_words(alloc: Global) -> Result<ProcessBuilder<'static>, AllocError> {
     Ok(command)
 }
 
-fn main(rt: HostRuntime) -> io::Result<()> {
-    let alloc = rt.alloc();
-    let mut child = Child::new(&rt);
+/// A line for each row, and one for the many words.
+fn rows<R: Print, C: Caller>(rt: &R, alloc: Global, caller: &mut C) -> io::Result<()> {
     for (name, program, words, ask) in ROWS {
         let mut command = ProcessBuilder::new(alloc, program)?;
         command.args(words)?;
-        let told = told(alloc, &mut child, &command, ask)?;
+        let told = told(alloc, caller, &command, ask)?;
         println!(rt; "{name}: {told}")?;
     }
-    let told_of_many = told(alloc, &mut child, &many_words(alloc)?, Ask::Read)?;
-    println!(rt; "ten thousand words: {told_of_many}")
+    let told = told(alloc, caller, &many_words(alloc)?, Ask::Read)?;
+    println!(rt; "ten thousand words: {told}")
+}
+
+fn main(rt: HostRuntime) -> io::Result<()> {
+    let alloc = rt.alloc();
+    let mut child = Child::new(&rt);
+    let all = env::args(&rt)?;
+    let words: Vec<String> = all.skip(1).collect(alloc)?;
+    match words.as_slice() {
+        [program, rest @ ..] => {
+            let mut command = ProcessBuilder::new(alloc, program.as_str())?;
+            command.args(rest)?;
+            let told = told(alloc, &mut child, &command, Ask::Read)?;
+            println!(rt; "{told}")
+        }
+        [] => rows(&rt, alloc, &mut child),
+    }
 }

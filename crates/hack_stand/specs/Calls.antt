@@ -19,13 +19,15 @@ abbrev pub words_in : IntoIter (String Global) Global → List (List ℕ)
 words_in arguments = map string_bytes (drop 1 (into_iter_items arguments))
 
 -- what a stand-in prints in this folder for these words is written, and that is its status
-abbrev pub Writes : Tool → List ℕ → List (List ℕ) → Contents → Contents → Option (List ℕ) → Option (List ℕ) → ℕ → Type 0
+abbrev pub Writes : Tool → List ℕ → List (List ℕ) → Contents → Contents → Option (List ℕ)
+    → Option (List ℕ) → ℕ → Type 0
 Writes tool dir words old new before now status =
     (output : List ℕ) × Stands tool dir words old new output status × Appends before now output
 
 -- there are a folder and arguments, and the stand-in answered to their words in it, where the files
 -- tell what they hold
-abbrev pub Answers : Tool → Type 0 → Result (String Global) VarError → Arguments → Contents → Contents → Option (List ℕ) → Option (List ℕ) → ℕ → Type 0
+abbrev pub Answers : Tool → Type 0 → Result (String Global) VarError → Arguments → Contents
+    → Contents → Option (List ℕ) → Option (List ℕ) → ℕ → Type 0
 Answers tool tells dir arguments old new before now status = MatchResult dir
     (λ d. MatchResult arguments
     (λ all. tells → Writes tool (string_bytes d) (words_in all) old new before now status)

@@ -23,7 +23,8 @@ noted_status dir line old =
 
 -- a call's line stands at the end of the notes, all other files hold what they held, and nothing is
 -- printed
-pub record Notes (dir line : List ℕ) (old new : Contents) (output : List ℕ) (status : ℕ) : Type 0 where
+pub record Notes (dir line : List ℕ) (old new : Contents) (output : List ℕ) (status : ℕ)
+    : Type 0 where
   pub noted : new (file_in dir (codes "calls"))
       ≡ Some (held_or_none (old (file_in dir (codes "calls"))) ++ (line ++ codes "\n"))
   pub others : KeepsOthers (file_in dir (codes "calls")) old new
@@ -31,7 +32,8 @@ pub record Notes (dir line : List ℕ) (old new : Contents) (output : List ℕ) 
   pub ended : status ≡ noted_status dir line old
 
 -- a file is printed, and all files hold what they held
-pub record Prints (dir name : List ℕ) (old new : Contents) (output : List ℕ) (status : ℕ) : Type 0 where
+pub record Prints (dir name : List ℕ) (old new : Contents) (output : List ℕ) (status : ℕ)
+    : Type 0 where
   pub printed : old (file_in dir name) ≡ Some output
   pub kept : KeepsAll old new
   pub ended : status ≡ 0

@@ -16,7 +16,7 @@ use hack_files::fs::{FileFault, Files, FsFault};
 use std::alloc::{AllocError, Global};
 
 /// Which program is stood in for.
-#[derive(Clone, Copy, Debug, PartialEq, Eq)]
+#[derive(Clone, Copy)]
 pub enum Tool {
     Cargo,
     Rustup,
@@ -127,8 +127,9 @@ fn note<F: Files>(
     dir: &str,
     words: &[String],
 ) -> Result<Stood, FsFault>
-    ensures ok { IfOk result (λ stood. F.tells → Notes dir.now (line_of (map string_bytes words.now))
-        (F.bytes_at files.old) (F.bytes_at files.new) stood.output.items stood.status) }
+    ensures ok { IfOk result (λ stood. F.tells →
+        Notes dir.now (line_of (map string_bytes words.now)) (F.bytes_at files.old)
+        (F.bytes_at files.new) stood.output.items stood.status) }
     ensures counted { OnOk result (GrowsBy 0 (F.failed files.old) (F.failed files.new)) }
     ensures err { IfErr result (IsStandFault dir.now F.tells (F.bytes_at files.old)
         (F.failed files.old) (F.failed files.new)) }
