@@ -6,7 +6,7 @@ use Rattle.std.specs.List.Sorted.{IsStrictlySortedBy}
 use Rattle.std.specs.Map.{keys_of}
 use Rattle.std.specs.Ordering.{match_ordering, ordering_reverse}
 use Rattle.std.proofs.lemmas.Cmp.{nat_list_cmp_total}
-use Rattle.toml.specs.Data.{Items, Members, as_array}
+use Rattle.toml.specs.Data.{Items, as_array}
 use Rattle.toml.specs.View.{view, members_view}
 use Rattle.toml.specs.declared.value.Value.{Value}
 use Rattle.hack_features.specs.Names.{Name, names_of}

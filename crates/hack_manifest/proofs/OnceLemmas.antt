@@ -1,9 +1,8 @@
 -- A text is cut in one way, and its pieces make it. So a manifest is read in one way.
-use Rattle.std.proofs.Common.{◌≡◌, ◌⊎◌, ℕ, ◌<◌, List, [], ◌∷◌, ◌++◌, length, map, take, drop, Some, refl, sym, ap, subst, ◌∙◌, inl, inr, arith, append_assoc}
+use Rattle.std.proofs.Common.{◌≡◌, ◌⊎◌, ℕ, ◌<◌, List, [], ◌∷◌, ◌++◌, length, map, take, drop, refl, sym, ap, subst, ◌∙◌, inl, inr, arith, append_assoc}
 use Rattle.std.proofs.lemmas.Bool.{cases_Bool}
 use Rattle.std.proofs.lemmas.List.{take_at, drop_at}
 use Rattle.std.proofs.lemmas.Option.{same_Some}
-use Rattle.toml.specs.Data.{Members}
 use Rattle.hack_features.specs.Names.{Name}
 use Rattle.hack_manifest.specs.Runs.{IsFirstRun, IsCutInto}
 use Rattle.hack_manifest.specs.Fronts.{IsFirstFrontTo}

@@ -3,7 +3,6 @@
 
 mod fault;
 mod features;
-mod fronts;
 mod lookup;
 pub mod manifest;
 mod package;

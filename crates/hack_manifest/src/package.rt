@@ -1,10 +1,9 @@
 //! What a manifest says of its package.
 
-ghost use Rattle.std.specs.Prelude.{◌≡◌};
-ghost use Rattle.toml.specs.View.{view, table_view};
+ghost use Rattle.toml.specs.View.{table_view};
 ghost use Rattle.hack_manifest.specs.Manifest.{package_in, publish_at, rust_version_at};
-ghost use Rattle.hack_manifest.specs.Reads.{Gives, version_view, package_view};
 ghost use Rattle.hack_manifest.specs.Manifest.{package_facts};
+ghost use Rattle.hack_manifest.specs.Reads.{Gives, version_view, package_view};
 
 use crate::fault::ReadFault;
 use crate::lookup::{find_table, has_values, value_at};

@@ -1,14 +1,15 @@
 //! The key path of a piece: that of its header, or of the last header and its own key.
 
-ghost use Rattle.std.specs.Prelude.{◌≡◌, ◌++◌, [], ◌∷◌, take, map, is_some, string_bytes};
-ghost use Rattle.std.specs.Prelude.{IfOk, OnOk, IfSome};
+ghost use Rattle.std.specs.Prelude.{◌≡◌, ◌≤◌, ◌++◌, [], ◌∷◌, length, take, is_some};
+ghost use Rattle.std.specs.Prelude.{IfOk, OnOk, IfSome, IfNone};
 ghost use Rattle.toml.specs.Parse.{skip_bom};
 ghost use Rattle.toml.specs.View.{view, table_view};
 ghost use Rattle.hack_features.specs.Names.{names_of};
 ghost use Rattle.hack_manifest.specs.Runs.{stands};
-ghost use Rattle.hack_manifest.specs.Paths.{chain, chain_of, chain_at, is_header, IsOwnKey, IsPath};
+ghost use Rattle.hack_manifest.specs.Fronts.{IsFrontTo};
+ghost use Rattle.hack_manifest.specs.Paths.{chain, chain_of, chain_at, is_header};
+ghost use Rattle.hack_manifest.specs.Paths.{IsOwnKey, IsPath};
 
-use crate::fronts::first_front;
 use std::alloc::{AllocError, Global};
 use toml::{Table, Value};
 use toml_parser::text::{byte_at, first, skip_blank};
@@ -59,38 +60,55 @@ pub fn starts_table(piece: &str) -> bool
 }
 
 /// The names in the tree of a text that stands.
-fn names_in(alloc: Global, text: &str) -> Result<Vec<String>, AllocError>
-    ensures { IfOk result (λ names. names_of names.items ≡ chain_at text.now) }
+fn names_in(alloc: Global, text: &str) -> Result<Option<Vec<String>>, AllocError>
+    ensures stands { IfOk result (λ o. is_some o ≡ stands text.now) }
+    ensures names { IfOk result (λ o. IfSome o (λ names.
+        names_of names.items ≡ chain_at text.now)) }
 {
-    let mut names = Vec::new(alloc);
     match toml::table_from_str(alloc, text) {
         Ok(table) => {
+            if table.is_empty() {
+                return Ok(None);
+            }
+            let mut names = Vec::new(alloc);
             push_chain(&table, &mut names)?;
-            Ok(names)
+            Ok(Some(names))
         }
         Err(e) => {
             if e.is_memory() {
                 Err(AllocError)
             } else {
-                Ok(names)
+                Ok(None)
             }
         }
     }
+}
+
+/// The names of the front of n bytes, if it ends in `=` and stands with `0` behind it.
+fn front_names(alloc: Global, piece: &str, n: usize) -> Result<Option<Vec<String>>, AllocError>
+    requires { n ≤ length piece.now }
+    ensures front { IfOk result (λ o. IfSome o (λ names. IsFrontTo 61 (48 ∷ []) piece.now n
+        × (names_of names.items ≡ chain_at (take n piece.now ++ 48 ∷ [])))) }
+    ensures none { IfOk result (λ o. IfNone o (IsFrontTo 61 (48 ∷ []) piece.now n → ⊥)) }
+{
+    if n == 0 || piece.as_bytes()[n - 1] != b'=' {
+        return Ok(None);
+    }
+    let mut front = String::from_str(alloc, &piece[..n])?;
+    front.push_str("0")?;
+    names_in(alloc, front.as_str())
 }
 
 /// The own key of a piece: the names before its first `=`.
 fn own_key(alloc: Global, piece: &str) -> Result<Vec<String>, AllocError>
     ensures { IfOk result (λ names. IsOwnKey piece.now (names_of names.items)) }
 {
-    match first_front(alloc, piece, b'=', "0")? {
-        Some(n) => {
-            let mut front = String::from_str(alloc, &piece[..n])?;
-            front.push_str("0")?;
-            let names = names_in(alloc, front.as_str())?;
-            Ok(names)
+    for i in 0..piece.len() {
+        if let Some(names) = front_names(alloc, piece, i + 1)? {
+            return Ok(names);
         }
-        None => Ok(Vec::new(alloc)),
     }
+    Ok(Vec::new(alloc))
 }
 
 /// Puts copies of names behind those before them.
@@ -110,7 +128,10 @@ pub fn path_of(alloc: Global, header: &[String], piece: &str) -> Result<Vec<Stri
         IsPath (names_of header.now) piece.now (names_of path.items)) }
 {
     if starts_table(piece) {
-        return names_in(alloc, piece);
+        return match names_in(alloc, piece)? {
+            Some(names) => Ok(names),
+            None => Ok(Vec::new(alloc)),
+        };
     }
     let mut path = Vec::new(alloc);
     push_all(&mut path, header)?;

@@ -1,7 +1,7 @@
 //! A text cut into pieces with their key paths. A piece is a header or a key with its value, with
 //! the blank lines and comments before it.
 
-ghost use Rattle.std.specs.Prelude.{◌≡◌, ◌++◌, ℕ, List, None, IsSome, IfOk, IsErr};
+ghost use Rattle.std.specs.Prelude.{◌≡◌, ◌++◌, ℕ, List, None, IsSome, IfOk};
 ghost use Rattle.toml.specs.Parse.{parse_document};
 ghost use Rattle.hack_features.specs.Names.{names_of};
 ghost use Rattle.hack_manifest.specs.Paths.{View, AreCut, joined, next_header};

@@ -1,4 +1,4 @@
-use Rattle.std.proofs.Common.{[], ◌∷◌, ◌++◌, map, ◌≡◌, refl, append-nil, ap, ◌∙◌, sym, drop, string_bytes}
+use Rattle.std.proofs.Common.{[], ◌∷◌, ◌++◌, map, ◌≡◌, refl, append-nil, ap, ◌∙◌, sym, drop}
 use Rattle.std.proofs.lemmas.Str.{IsUtf8-drop}
 use Rattle.std.proofs.lemmas.List.{map-append}
 use Rattle.hack_features.specs.Names.{names_of}

@@ -1,4 +1,4 @@
-use Rattle.std.proofs.Common.{◌≡◌, ℕ, List, [], ◌++◌, map, length, string_bytes}
+use Rattle.std.proofs.Common.{◌≡◌, ℕ, List, [], ◌++◌, map, length}
 use Rattle.std.specs.Prelude.{IsUtf8}
 use Rattle.hack_features.specs.Names.{names_of}
 use Rattle.hack_manifest.specs.Runs.{IsCutInto}

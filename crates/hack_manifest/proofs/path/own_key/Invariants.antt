@@ -1,0 +1,7 @@
+use Rattle.std.proofs.Common.{ℕ, ◌+◌, ◌<◌, [], ◌∷◌}
+use Rattle.hack_manifest.specs.Fronts.{IsFrontTo}
+use Rattle.hack_manifest.proofs.path.own_key.Given as goal
+
+-- no front so far
+abbrev pub invariant-loop-i : goal.invariant-loop-i
+invariant-loop-i l = (m : ℕ) → m < l.i + 1 → IsFrontTo 61 (48 ∷ []) l.piece m → ⊥
