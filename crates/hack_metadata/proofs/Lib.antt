@@ -1,4 +1,7 @@
-mod WholeLemmas
 mod FeatureLemmas
 mod IdLemmas
 mod NodeLemmas
+mod TextLemmas
+mod MatchCases
+mod MatchLemmas
+mod WholeLemmas

@@ -3,6 +3,7 @@ use Rattle.std.specs.Prelude.{◌≡◌, ℕ, Bool, false, List, [], ◌∷◌, 
 use Rattle.std.specs.Str.{bytes_eq}
 use Rattle.serde_json.specs.Data.{Data, null, boolean, number, string, array, object, Items, no_items, item, Members}
 use Rattle.serde_json.specs.Find.{get_member, as_str, as_bool, as_array, as_object}
+use Rattle.serde_json.specs.Read.{read as read_text}
 use Rattle.hack_features.specs.Names.{Name}
 
 -- what was read, or the name of the first field that is at fault
@@ -70,3 +71,7 @@ read_all f (item d ds) = f d >>= λ x. read_all f ds >>= λ xs. Ok (x ∷ xs)
 -- every other field is as it was
 pub record KeepsOthers (key : Name) (old new : Members) : Type 0 where
   pub others : (q : Name) → bytes_eq key q ≡ false → get_member q new ≡ get_member q old
+
+-- the object that a text of JSON is
+abbrev pub object_in_text : Name → Option Members
+object_in_text text = option_and_then as_object (read_text text)

@@ -1,6 +1,11 @@
 pub mod Fields
 pub mod Gives
+pub mod Optional
+pub mod OptionalLeft
+pub mod PackageSpecs
 pub mod Read
 pub mod Records
+pub mod SpecAnswers
+pub mod SpecViews
 pub mod View
 pub mod Whole

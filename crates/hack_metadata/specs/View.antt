@@ -3,6 +3,7 @@ use Rattle.std.specs.Prelude.{ℕ, List, Option, map, option_map, string_bytes}
 use Rattle.std.specs.BTreeMap.{BTreeMap, get_by_text}
 use Rattle.std.specs.declared.string.String.{String}
 use Rattle.std.specs.declared.alloc.Global.{Global}
+use Rattle.std.specs.Hash.{HashWrites, usize}
 use Rattle.hack_features.specs.Names.{Name, names_of}
 use Rattle.hack_features.specs.FeatureMap.{feature_map}
 use Rattle.hack_metadata.specs.Records.{DependencyRecord, PackageRecord, KindRecord, NodeDepRecord, NodeRecord, Nodes, MetadataRecord}
@@ -49,3 +50,7 @@ nodes_view nodes = map (λ e. (e.0.index, node_view e.1)) nodes.entries
 -- the ids of packages, in order
 abbrev pub ids_in : List Package → List Name
 ids_in packages = map (λ p. string_bytes p.id) packages
+
+-- what a hasher gets of a place
+abbrev pub place_bytes : ℕ → HashWrites
+place_bytes = usize

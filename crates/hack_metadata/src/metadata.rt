@@ -13,8 +13,8 @@ ghost use Rattle.hack_metadata.specs.View.{package_view, nodes_view, place_at, p
 ghost use Rattle.hack_metadata.specs.Whole.{metadata_view};
 
 pub use crate::fault::MetadataFault;
-pub use crate::object::{Object, ObjectExt};
-pub use crate::package::{Dependency, Package};
+pub use crate::object::{Object, ObjectExt, object_of};
+pub use crate::package::{Dependency, OptionalDeps, Package};
 pub use crate::resolve::{DepKindInfo, Node, NodeDep, PackageId, Resolve};
 use crate::resolve::known;
 use serde_json::Value;

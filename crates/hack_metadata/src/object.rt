@@ -1,19 +1,36 @@
 //! Objects of JSON, and their fields, which are taken out one after another: the first one that is
 //! missing or ill typed is the fault.
 
-ghost use Rattle.std.specs.Prelude.{◌≡◌, ◌≢◌, List, Err, option_map, string_bytes};
+ghost use Rattle.std.specs.Prelude.{◌≡◌, ◌≢◌, ◌⊎◌, List, Some, None, Err};
+ghost use Rattle.std.specs.Prelude.{IfOk, IfErr, option_map, string_bytes};
 ghost use Rattle.serde_json.specs.Data.{Members};
 ghost use Rattle.serde_json.specs.Find.{get_member, as_object};
 ghost use Rattle.serde_json.specs.View.{view, items_view, members_view};
 ghost use Rattle.hack_metadata.specs.Fields.{string_in, bool_in, array_in, object_in};
-ghost use Rattle.hack_metadata.specs.Fields.{nullable_in, text_in, element_of, KeepsOthers};
+ghost use Rattle.hack_metadata.specs.Fields.{nullable_in, text_in, element_of};
+ghost use Rattle.hack_metadata.specs.Fields.{object_in_text, KeepsOthers};
 ghost use Rattle.hack_metadata.specs.Gives.{Gives};
 
 use crate::fault::MetadataFault;
 use serde_json::{Map, Value};
+use std::alloc::Global;
 
 /// An object of JSON.
 pub type Object = Map<String, Value>;
+
+/// The object of JSON that a text is. A name that stands twice in an object counts with its last value.
+pub fn object_of(alloc: Global, text: &str) -> Result<Object, MetadataFault>
+    ensures ok { IfOk result (λ m. object_in_text text.now ≡ Some (members_view m.entries)) }
+    ensures err { IfErr result (λ e. (e ≡ MetadataFault.Memory)
+        ⊎ ((e ≡ MetadataFault.Json) × (object_in_text text.now ≡ None))) }
+{
+    let value = match Value::from_str(alloc, text) {
+        Ok(value) => value,
+        Err(error) if error.is_memory() => return Err(MetadataFault::Memory),
+        Err(_) => return Err(MetadataFault::Json),
+    };
+    into_object(value).ok_or(MetadataFault::Json)
+}
 
 /// Fields taken out of an object. Each call leaves all other fields as they are.
 pub trait ObjectExt {

@@ -1,6 +1,7 @@
 //! Packages and the dependencies that their manifests name.
 
-ghost use Rattle.std.specs.Prelude.{◌≡◌, map, codes, IfOk, option_map, option_and_then, string_bytes};
+ghost use Rattle.std.specs.Prelude.{◌≡◌, map, codes, IfOk, option_map, option_and_then, option_copied};
+ghost use Rattle.std.specs.Prelude.{string_bytes};
 ghost use Rattle.serde_json.specs.Find.{as_array};
 ghost use Rattle.serde_json.specs.View.{view, items_view, members_view};
 ghost use Rattle.hack_features.specs.Names.{names_of};
@@ -10,6 +11,9 @@ ghost use Rattle.hack_metadata.specs.Gives.{Gives};
 ghost use Rattle.hack_metadata.specs.Read.{read_dependency, read_package, texts_of, features_of, features_in};
 ghost use Rattle.hack_metadata.specs.Read.{has_items, publish_in, rust_version_in};
 ghost use Rattle.hack_metadata.specs.View.{dependency_view, package_view};
+ghost use Rattle.hack_metadata.specs.Optional.{feature_of, optional_in, TakesOptional};
+ghost use Rattle.hack_metadata.specs.OptionalLeft.{names_left};
+ghost use Rattle.std.specs.Iterator.{YieldsFirstRef, item_count};
 
 use crate::fault::MetadataFault;
 use crate::object::{Object, ObjectExt, element, remove_bool, remove_text};
@@ -41,6 +45,19 @@ impl Dependency {
             optional,
             rename,
         })
+    }
+
+    /// The name of the feature that the dependency is: none where it isn't optional.
+    pub fn as_feature(&self) -> Option<&str>
+        ensures { option_copied result ≡ feature_of (dependency_view self.now) }
+    {
+        if !self.optional {
+            return None;
+        }
+        match &self.rename {
+            Some(rename) => Some(rename.as_str()),
+            None => Some(self.name.as_str()),
+        }
     }
 
     fn all_from(alloc: Global, list: Vec<Value>) -> Result<Vec<Dependency>, MetadataFault>
@@ -103,6 +120,16 @@ impl Package {
         })
     }
 
+    /// The names of the optional dependencies, in the order of the dependencies. A name that several
+    /// dependencies have comes as often.
+    pub fn optional_deps(&self) -> OptionalDeps<'_>
+        ensures { names_left result ≡ optional_in (package_view self.now).dependencies }
+    {
+        OptionalDeps {
+            left: self.dependencies.as_slice(),
+        }
+    }
+
     pub(crate) fn all_from(
         alloc: Global,
         list: Vec<Value>,
@@ -117,6 +144,40 @@ impl Package {
         }
         Ok(found)
     }
+}
+
+/// The names of a package's optional dependencies, in the order of the dependencies.
+#[derive(Drop)]
+pub struct OptionalDeps<'a> {
+    left: &'a [Dependency],
+}
+
+impl<'a> Iterator for OptionalDeps<'a> {
+    type Item = &'a str;
+
+    ghost next_gives = { YieldsFirstRef names_left };
+
+    ghost remaining = { item_count names_left };
+
+    fn next(&mut self) -> Option<&'a str> {
+        let (name, left) = first_optional(self.left);
+        self.left = left;
+        name
+    }
+}
+
+/// The first name of an optional dependency, and the dependencies behind it.
+fn first_optional(list: &[Dependency]) -> (Option<&str>, &[Dependency])
+    ensures { TakesOptional list.now result.0 result.1.now }
+{
+    let mut left = list;
+    while let [first, rest @ ..] = left {
+        left = rest;
+        if let Some(name) = first.as_feature() {
+            return (Some(name), left);
+        }
+    }
+    (None, left)
 }
 
 /// Takes the features out: an object of arrays of texts.

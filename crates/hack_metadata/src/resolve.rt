@@ -1,6 +1,9 @@
 //! The ids of packages, and the graph of dependencies as cargo resolved it.
 
-ghost use Rattle.std.specs.Prelude.{◌≡◌, ◌<◌, map, option_map, IfOk, IsTrue};
+ghost use Rattle.std.specs.Prelude.{◌≡◌, ◌<◌, ◌↔◌, map, fold, option_map};
+ghost use Rattle.std.specs.declared.cmp.Ordering.{Ordering};
+ghost use Rattle.std.specs.declared.cmp.Ordering.TheVariants.{Less, Equal, Greater};
+ghost use Rattle.hack_metadata.specs.View.{place_bytes};
 ghost use Rattle.serde_json.specs.View.{view, items_view, members_view};
 ghost use Rattle.hack_metadata.specs.Fields.{or_name, read_all};
 ghost use Rattle.hack_metadata.specs.Gives.{Gives};
@@ -13,12 +16,32 @@ use crate::fault::MetadataFault;
 use crate::object::{Object, ObjectExt, element, remove_text};
 use serde_json::Value;
 use std::alloc::Global;
+use std::cmp::Ordering;
 use std::collections::BTreeMap;
+use std::hash::{Hash, Hasher};
 
 /// Which package of the metadata: an id is of use only with the metadata that it comes from.
 #[derive(Clone, Copy, PartialEq, Eq, PartialOrd, Ord, Hash)]
 pub struct PackageId {
     pub(crate) index: usize,
+}
+
+impl PackageId {
+    /// The order of ids, as `cmp` has it: that of the packages in the metadata.
+    pub fn compare(self, other: PackageId) -> Ordering
+        ensures before { (result ≡ Ordering.Less) ↔ (self.index < other.index) }
+        ensures equal { (result ≡ Ordering.Equal) ↔ (self ≡ other) }
+        ensures behind { (result ≡ Ordering.Greater) ↔ (other.index < self.index) }
+    {
+        self.cmp(&other)
+    }
+
+    /// Gives the id to a hasher, as `hash` does: its place alone, so equal ids hash equally.
+    pub fn feed<H: Hasher>(self, state: &mut H)
+        ensures { state.new ≡ fold H.write state.old (place_bytes self.index) }
+    {
+        self.hash(state);
+    }
 }
 
 /// The package that a text means. The field is at fault where there is none.

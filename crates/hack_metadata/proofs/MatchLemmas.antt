@@ -1,0 +1,137 @@
+-- What matching answers, beside what is said of a specification.
+use Rattle.std.proofs.Common.{◌≡◌, ◌≢◌, ◌↔◌, ◌==◌, ◌&&◌, not, ℕ, Bool, true, false, cond, List, [], ◌∷◌, ◌++◌, length, Option, Some, None, Result, Ok, Err, IsSome, IfSome, is_some, append-nil, arith, refl, sym, ap, subst, ◌∙◌, inl, inr}
+use Rattle.std.specs.List.{before_first, after_first}
+use Rattle.std.specs.Str.{bytes_eq}
+use Rattle.std.specs.Cmp.Lexicographic.{bytes_decides}
+use Rattle.std.proofs.lemmas.Bool.{cases_Bool}
+use Rattle.std.proofs.lemmas.List.{append_cancel_left}
+use Rattle.hack_features.specs.Names.{Name}
+use Rattle.hack_metadata.specs.PackageSpecs.{BeginsWith, AgreesIfGiven, VersionText, version_of, IsFull, Agrees, Fits, Url, IsUrl, Identity, AreUrls, IsPlace, AsksVersion, of_name, of_fragment, alone, Matches, named, placed, name_at, versioned, HasBadId, HasBadVersion, has_byte, behind, separates, begins_with_digit, trimmed}
+use Rattle.hack_metadata.specs.SpecAnswers.{Answer, agrees_if_given, agrees, fits, cut_by, parted, behind_name, with_version, alone_in, in_fragment, of_fragments, is_place, of_urls, IsSchemeCut, IsReadAs, IsBehind}
+use Rattle.hack_metadata.specs.declared.cargo.SpecFault.{SpecFault}
+use Rattle.hack_metadata.specs.declared.cargo.SpecFault.TheVariants.{BadId, BadVersion}
+use Rattle.hack_metadata.proofs.TextLemmas.{scheme-same}
+
+-- ---- tests and what they mean
+
+and-left : (a b : Bool) → (a && b) ≡ true → a ≡ true
+and-left true b e = refl
+and-left false b e = e
+
+and-right : (a b : Bool) → (a && b) ≡ true → b ≡ true
+and-right true b e = e
+and-right false b e = absurd (cc)
+
+and-both : (a b : Bool) → a ≡ true → b ≡ true → (a && b) ≡ true
+and-both a b p q = ap (λ x. x && b) p ∙ q
+
+given-holds : (o full : Option Name) → agrees_if_given o full ≡ true → AgreesIfGiven o full
+given-holds None full e = tt
+given-holds (Some part) None e = absurd (cc)
+given-holds (Some part) (Some full) e = ap Some (sym ((bytes_decides part full).0 e))
+
+given-tested : (o full : Option Name) → AgreesIfGiven o full → agrees_if_given o full ≡ true
+given-tested None full h = refl
+given-tested (Some part) full h = ap (agrees_if_given (Some part)) h ∙ (bytes_decides part part).1 refl
+
+agrees-holds : (g f : VersionText) → agrees g f ≡ true → Agrees g f
+agrees-holds g f e =
+    let a = and-left (bytes_eq g.major f.major) _ e in
+    let e1 = and-right (bytes_eq g.major f.major) _ e in
+    let b = and-left (agrees_if_given g.minor f.minor) _ e1 in
+    let e2 = and-right (agrees_if_given g.minor f.minor) _ e1 in
+    let c = and-left (agrees_if_given g.patch f.patch) _ e2 in
+    let e3 = and-right (agrees_if_given g.patch f.patch) _ e2 in
+    record {
+      major = (bytes_decides g.major f.major).0 a;
+      minor = given-holds g.minor f.minor b;
+      patch = given-holds g.patch f.patch c;
+      pre = given-holds g.pre f.pre (and-left (agrees_if_given g.pre f.pre) (agrees_if_given g.build f.build) e3);
+      build = given-holds g.build f.build (and-right (agrees_if_given g.pre f.pre) (agrees_if_given g.build f.build) e3);
+    }
+
+agrees-tested : (g f : VersionText) → Agrees g f → agrees g f ≡ true
+agrees-tested g f h =
+    and-both (bytes_eq g.major f.major) _ ((bytes_decides g.major f.major).1 h.major)
+    (and-both (agrees_if_given g.minor f.minor) _ (given-tested g.minor f.minor h.minor)
+    (and-both (agrees_if_given g.patch f.patch) _ (given-tested g.patch f.patch h.patch)
+    (and-both (agrees_if_given g.pre f.pre) (agrees_if_given g.build f.build) (given-tested g.pre f.pre h.pre) (given-tested g.build f.build h.build))))
+
+pub place-holds : (g o : Url) → is_place g o ≡ true → (g.protocol ≡ o.protocol) × (g.path ≡ o.path) × AgreesIfGiven g.query o.query
+place-holds g o e =
+    let a = and-left (bytes_eq g.protocol o.protocol) _ e in
+    let e1 = and-right (bytes_eq g.protocol o.protocol) _ e in (
+      (bytes_decides g.protocol o.protocol).0 a,
+      (bytes_decides g.path o.path).0 (and-left (bytes_eq g.path o.path) (agrees_if_given g.query o.query) e1),
+      given-holds g.query o.query (and-right (bytes_eq g.path o.path) (agrees_if_given g.query o.query) e1),
+    )
+
+pub place-tested : (g o : Url) → g.protocol ≡ o.protocol → g.path ≡ o.path → AgreesIfGiven g.query o.query → is_place g o ≡ true
+place-tested g o a b c =
+    and-both (bytes_eq g.protocol o.protocol) _ ((bytes_decides g.protocol o.protocol).1 a)
+    (and-both (bytes_eq g.path o.path) (agrees_if_given g.query o.query) ((bytes_decides g.path o.path).1 b) (given-tested g.query o.query c))
+
+-- ---- versions
+
+module _ (g f : Name) where
+  fits-at : (b a : Bool) → is_some (version_of f).patch ≡ b → agrees (version_of g) (version_of f) ≡ a → fits g f ≡ cond b (Ok a) (Err BadVersion)
+  fits-at b a e h = ap (λ x. cond x (Ok (agrees (version_of g) (version_of f))) (Err BadVersion)) e ∙ ap (λ x. cond b (Ok x) (Err BadVersion)) h
+
+  fits-go : (b a : Bool) → is_some (version_of f).patch ≡ b → agrees (version_of g) (version_of f) ≡ a → let answer : Answer = cond b (Ok a) (Err BadVersion) in answer ≡ Ok true → Fits g f
+  fits-go true true e h q = record { whole = e; agrees = agrees-holds (version_of g) (version_of f) h }
+  fits-go true false e h q = absurd (cc)
+  fits-go false a e h q = absurd (cc)
+
+  pub fits-true : fits g f ≡ Ok true → Fits g f
+  fits-true q = fits-go _ _ refl refl (sym (fits-at _ _ refl refl) ∙ q)
+
+  pub fits-tested : Fits g f → fits g f ≡ Ok true
+  fits-tested h = fits-at true true h.whole (agrees-tested (version_of g) (version_of f) h.agrees)
+
+  short-go : (b : Bool) (a : Bool) → is_some (version_of f).patch ≡ b → let answer : Answer = cond b (Ok a) (Err BadVersion) in answer ≡ Err BadVersion → ¬ IsFull f
+  short-go true a e q full = absurd (cc)
+  short-go false a e q full = let clash : true ≡ false = sym full ∙ e in cc
+
+  pub fits-short : fits g f ≡ Err BadVersion → ¬ IsFull f
+  fits-short q = short-go _ (agrees (version_of g) (version_of f)) refl q
+
+  tested-go : (b : Bool) → is_some (version_of f).patch ≡ b → ¬ IsFull f → fits g f ≡ Err BadVersion
+  tested-go true e short = absurd (short e)
+  tested-go false e short = fits-at false _ e refl
+
+  pub short-tested : ¬ IsFull f → fits g f ≡ Err BadVersion
+  short-tested short = tested-go _ refl short
+
+  no_id-go : (b a : Bool) → let answer : Answer = cond b (Ok a) (Err BadVersion) in answer ≡ Err BadId → ⊥
+  no_id-go true a q = cc
+  no_id-go false a q = cc
+
+  pub fits-no_id : fits g f ≡ Err BadId → ⊥
+  fits-no_id q = no_id-go (is_some (version_of f).patch) (agrees (version_of g) (version_of f)) q
+
+-- ---- where an answer comes from
+
+module _ (p : Identity) (spec : Name) where
+  pub data Comes (answer : Answer) : Type 0 where
+    by_version : (given full : Name) → AsksVersion p spec given full → answer ≡ fits given full → Comes answer
+    yes : Matches p spec → answer ≡ Ok true → Comes answer
+    no : answer ≡ Ok false → Comes answer
+    no_id : HasBadId p spec → answer ≡ Err BadId → Comes answer
+
+  pub comes-true : (answer : Answer) → Comes answer → answer ≡ Ok true → Matches p spec
+  comes-true answer (by_version g f asks is) e = versioned g f asks (fits-true g f (sym is ∙ e))
+  comes-true answer (yes m is) e = m
+  comes-true answer (no is) e = absurd (cc)
+  comes-true answer (no_id h is) e = absurd (cc)
+
+  pub comes-bad_id : (answer : Answer) → Comes answer → answer ≡ Err BadId → HasBadId p spec
+  comes-bad_id answer (by_version g f asks is) e = absurd (fits-no_id g f (sym is ∙ e))
+  comes-bad_id answer (yes m is) e = absurd (cc)
+  comes-bad_id answer (no is) e = absurd (cc)
+  comes-bad_id answer (no_id h is) e = h
+
+  pub comes-bad_version : (answer : Answer) → Comes answer → answer ≡ Err BadVersion → HasBadVersion p spec
+  comes-bad_version answer (by_version g f asks is) e = record { given = g; full = f; asks = asks; short = fits-short g f (sym is ∙ e) }
+  comes-bad_version answer (yes m is) e = absurd (cc)
+  comes-bad_version answer (no is) e = absurd (cc)
+  comes-bad_version answer (no_id h is) e = absurd (cc)

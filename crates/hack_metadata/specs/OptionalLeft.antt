@@ -1,0 +1,10 @@
+-- What an iterator over optional dependencies has left.
+use Rattle.std.specs.Prelude.{List, map}
+use Rattle.hack_features.specs.Names.{Name}
+use Rattle.hack_metadata.specs.Optional.{optional_in}
+use Rattle.hack_metadata.specs.View.{dependency_view}
+use Rattle.hack_metadata.specs.declared.package.OptionalDeps.{OptionalDeps}
+
+-- the names to come
+abbrev pub names_left : OptionalDeps → List Name
+names_left deps = optional_in (map dependency_view deps.left.now)

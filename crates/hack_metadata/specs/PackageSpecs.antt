@@ -1,0 +1,159 @@
+-- When a package ID specification matches a package, as the chapter "Package ID Specifications" of the Cargo reference
+-- has it. A specification is the package's name, the name with a version behind `@` or `:`, or a URL.
+use Rattle.std.specs.Prelude.{◌≡◌, ◌≢◌, ◌↔◌, ℕ, ◌+◌, ◌-◌, ◌≤◌, ◌==◌, ◌||◌, ◌&&◌, ◌⊎◌, Bool, true, false, nat_lt, nat_le, if◌then◌else◌, List, [], ◌∷◌, ◌++◌, length, take, codes, Option, Some, None, IsSome, IfSome, IsTrue, option_map, option_and_then, unwrap_or}
+use Rattle.std.specs.List.{before_first, after_first, position_or_len, suffix_len}
+use Rattle.std.specs.Char.{is_ascii_whitespace}
+use Rattle.hack_features.specs.Names.{Name}
+
+-- ---- parts of a text
+
+-- the text has a byte that passes
+abbrev pub has_byte : (ℕ → Bool) → Name → Bool
+has_byte p text = nat_lt (position_or_len p text) (length text)
+
+-- what stands behind the first byte that passes, where there is one
+abbrev pub behind : (ℕ → Bool) → Name → Option Name
+behind p text = if has_byte p text then Some (after_first p text) else None
+
+-- a part, where it isn't empty
+abbrev pub unless_empty : Name → Option Name
+unless_empty [] = None
+unless_empty (x ∷ xs) = Some (x ∷ xs)
+
+-- `@` or `:`
+abbrev pub separates : ℕ → Bool
+separates x = x == 64 || x == 58
+
+-- the one byte
+abbrev pub is_byte : ℕ → ℕ → Bool
+is_byte b x = x == b
+
+-- the text begins so
+abbrev pub BeginsWith : Name → Name → Type 0
+BeginsWith text front = (rest : Name) × (text ≡ front ++ rest)
+
+-- the text without the ASCII white space at its end
+abbrev pub trimmed : Name → Name
+trimmed text = take (length text - suffix_len is_ascii_whitespace text) text
+
+-- a part that is given is the other's
+abbrev pub AgreesIfGiven : Option Name → Option Name → Type 0
+AgreesIfGiven given full = IfSome given (λ part. full ≡ Some part)
+
+-- ---- versions, `major[.minor[.patch[-pre][+build]]]`, compared as texts
+
+pub record VersionText : Type 0 where
+  pub major : Name
+  pub minor : Option Name
+  pub patch : Option Name
+  pub pre : Option Name
+  pub build : Option Name
+
+-- what stands behind the second dot
+abbrev pub third : Name → Option Name
+third text = option_and_then (behind (is_byte 46)) (behind (is_byte 46) text)
+
+-- the parts of a version: the third one is cut at its first `+`, and then at its first `-`
+abbrev pub version_of : Name → VersionText
+version_of text = record {
+  major = before_first (is_byte 46) text;
+  minor = option_map (before_first (is_byte 46)) (behind (is_byte 46) text);
+  patch = option_map (λ last. before_first (is_byte 45) (before_first (is_byte 43) last)) (third text);
+  pre = option_and_then (λ last. unless_empty (after_first (is_byte 45) (before_first (is_byte 43) last))) (third text);
+  build = option_and_then (λ last. unless_empty (after_first (is_byte 43) last)) (third text);
+}
+
+-- the version has three parts
+abbrev pub IsFull : Name → Type 0
+IsFull text = IsSome (version_of text).patch
+
+-- each part that the one gives is the other's
+pub record Agrees (given full : VersionText) : Type 0 where
+  pub major : given.major ≡ full.major
+  pub minor : AgreesIfGiven given.minor full.minor
+  pub patch : AgreesIfGiven given.patch full.patch
+  pub pre : AgreesIfGiven given.pre full.pre
+  pub build : AgreesIfGiven given.build full.build
+
+-- the version fits a full one
+pub record Fits (given full : Name) : Type 0 where
+  pub whole : IsFull full
+  pub agrees : Agrees (version_of given) (version_of full)
+
+-- ---- URLs, `[kind+]protocol://path[?query][#fragment]`
+
+pub record Url : Type 0 where
+  pub protocol : Name
+  pub path : Name
+  pub query : Option Name
+  pub fragment : Option Name
+
+-- the text is that URL: it is cut at its first `://`, in front of it at the first `+`, behind it at the first `#`, and
+-- then at the first `?`; an empty query or fragment is none
+pub record IsUrl (text : Name) (url : Url) : Type 0 where
+  pub scheme : Name
+  pub rest : Name
+  pub whole : text ≡ scheme ++ (codes "://" ++ rest)
+  pub first : (x y : Name) → text ≡ x ++ (codes "://" ++ y) → length scheme ≤ length x
+  pub protocol : url.protocol ≡ unwrap_or (behind (is_byte 43) scheme) scheme
+  pub path : url.path ≡ before_first (is_byte 63) (before_first (is_byte 35) rest)
+  pub query : url.query ≡ unless_empty (after_first (is_byte 63) (before_first (is_byte 35) rest))
+  pub fragment : url.fragment ≡ unless_empty (after_first (is_byte 35) rest)
+
+-- ---- the match
+
+-- what a specification is matched with
+pub record Identity : Type 0 where
+  pub name : Name
+  pub version : Name
+  pub id : Name
+
+-- the first byte is a digit
+abbrev pub begins_with_digit : Name → Bool
+begins_with_digit [] = false
+begins_with_digit (x ∷ xs) = nat_le 48 x && nat_le x 57
+
+module _ (p : Identity) (spec : Name) where
+  -- the specification is a URL, white space at its end aside, and the id is one
+  pub record AreUrls (given own : Url) : Type 0 where
+    pub unnamed : ¬ BeginsWith spec p.name
+    pub spec_is : IsUrl (trimmed spec) given
+    pub id_is : IsUrl p.id own
+
+  -- the same place: protocol and path, and the query where it is given
+  pub record IsPlace (given own : Url) : Type 0 where
+    pub urls : AreUrls given own
+    pub protocol : given.protocol ≡ own.protocol
+    pub path : given.path ≡ own.path
+    pub query : AgreesIfGiven given.query own.query
+
+  -- whether the specification matches is whether the one version fits the other: it is the name and a version, or
+  -- a place whose fragment is a name and a version, as that of the id, or a version alone
+  pub data AsksVersion (given full : Name) : Type 0 where
+    of_name : (by : ℕ) → separates by ≡ true → spec ≡ p.name ++ by ∷ given → p.version ≡ full → AsksVersion given full
+    of_fragment : (url own : Url) (text id_text : Name) → IsPlace url own → url.fragment ≡ Some text → own.fragment ≡ Some id_text
+        → before_first separates text ≡ before_first separates id_text
+        → behind separates text ≡ Some given → behind separates id_text ≡ Some full → AsksVersion given full
+    alone : (url own : Url) → IsPlace url own → url.fragment ≡ Some given → IsSome own.fragment → has_byte separates given ≡ false
+        → given ≢ p.name → begins_with_digit given ≡ true → p.version ≡ full → AsksVersion given full
+
+  -- the specification matches the package
+  pub data Matches : Type 0 where
+    named : spec ≡ p.name → Matches
+    placed : (url own : Url) → IsPlace url own → url.fragment ≡ None → Matches
+    name_at : (url own : Url) → IsPlace url own → url.fragment ≡ Some p.name → IsSome own.fragment → has_byte separates p.name ≡ false → Matches
+    versioned : (given full : Name) → AsksVersion given full → Fits given full → Matches
+
+  -- the specification is a URL, and the id is none
+  pub record HasBadId : Type 0 where
+    pub unnamed : ¬ BeginsWith spec p.name
+    pub url : Url
+    pub spec_is : IsUrl (trimmed spec) url
+    pub id_is : (own : Url) → ¬ IsUrl p.id own
+
+  -- the version to be compared with has no three parts
+  pub record HasBadVersion : Type 0 where
+    pub given : Name
+    pub full : Name
+    pub asks : AsksVersion given full
+    pub short : ¬ IsFull full

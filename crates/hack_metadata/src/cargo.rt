@@ -1,0 +1,357 @@
+//! Package ID specifications, by which cargo's options name packages: see the chapter "Package ID
+//! Specifications" of the Cargo reference.
+
+ghost use Rattle.std.specs.Prelude.{◌≡◌, ◌↔◌, ◌<◌, ◌==◌, true, false, Ok, Err, option_map};
+ghost use Rattle.std.specs.Prelude.{MatchOption, option_copied};
+ghost use Rattle.std.specs.List.{before_first, after_first};
+ghost use Rattle.hack_metadata.specs.PackageSpecs.{behind, is_byte, unless_empty};
+ghost use Rattle.hack_metadata.specs.PackageSpecs.{version_of, begins_with_digit};
+ghost use Rattle.hack_metadata.specs.PackageSpecs.{Matches, HasBadId, HasBadVersion};
+ghost use Rattle.hack_metadata.specs.SpecAnswers.{agrees_if_given, agrees, fits, parted};
+ghost use Rattle.hack_metadata.specs.SpecAnswers.{behind_name, in_fragment, of_fragments};
+ghost use Rattle.hack_metadata.specs.SpecAnswers.{is_place, alone_in};
+ghost use Rattle.hack_metadata.specs.SpecAnswers.{IsReadAs, IsNoUrl, IsSchemeCut, IsBehind};
+ghost use Rattle.hack_metadata.specs.SpecAnswers.{behind_separator, behind_byte, cut_by, earlier, of_urls};
+ghost use Rattle.hack_metadata.specs.SpecViews.{pair_view, version_view, url_view, identity_of};
+
+use crate::package::Package;
+use thiserror::Error;
+
+/// Why it isn't known whether a specification matches.
+#[derive(Debug, PartialEq, Eq, Drop, Error)]
+pub enum SpecFault {
+    /// The specification is a URL, and the package's id is none.
+    #[error("the id of the package is no package ID specification")]
+    BadId,
+    /// The version to be compared with has no three parts.
+    #[error("the version of the package has no three parts")]
+    BadVersion,
+}
+
+/// Whether the specification matches the package: it is the package's name, the name and a version,
+/// or a URL that agrees with the package's id.
+pub fn match_pkg_spec(pkg: &Package, spec: &str) -> Result<bool, SpecFault>
+    ensures matches { (result ≡ Ok true) ↔ Matches (identity_of pkg.now) spec.now }
+    ensures bad_id { (result ≡ Err SpecFault.BadId) ↔ HasBadId (identity_of pkg.now) spec.now }
+    ensures bad_version { (result ≡ Err SpecFault.BadVersion)
+        ↔ HasBadVersion (identity_of pkg.now) spec.now }
+{
+    match without_name(spec, pkg.name.as_str()) {
+        Some(rest) => match_behind_name(pkg.version.as_str(), rest),
+        None => {
+            let given = UrlParts::of(spec.trim_ascii_end());
+            match_urls(pkg, given, UrlParts::of(pkg.id.as_str()))
+        }
+    }
+}
+
+/// What stands behind the name at the front of a specification.
+fn without_name<'a>(spec: &'a str, name: &str) -> Option<&'a str>
+    ensures { IsBehind name.now spec.now (option_copied result) }
+{
+    spec.strip_prefix(name)
+}
+
+/// Whether what stands behind the name matches: nothing, or a separator and a version.
+fn match_behind_name(version: &str, rest: &str) -> Result<bool, SpecFault>
+    ensures { result ≡ behind_name version.now rest.now }
+{
+    if rest.is_empty() {
+        return Ok(true);
+    }
+    match without_separator(rest) {
+        Some(given) => version_fits(given, version),
+        None => Ok(false),
+    }
+}
+
+/// What stands behind a separator at the front.
+fn without_separator(rest: &str) -> Option<&str>
+    ensures { option_copied result ≡ behind_separator rest.now }
+{
+    match without_byte(rest, '@') {
+        Some(given) => Some(given),
+        None => without_byte(rest, ':'),
+    }
+}
+
+/// What stands behind this byte at the front.
+fn without_byte(rest: &str, at: char) -> Option<&str>
+    requires { at < 128 }
+    ensures { option_copied result ≡ behind_byte at rest.now }
+{
+    rest.strip_prefix(at)
+}
+
+/// Whether a specification and an id match that are URLs, or none.
+fn match_urls(
+    pkg: &Package,
+    given: Option<UrlParts<'_>>,
+    own: Option<UrlParts<'_>>,
+) -> Result<bool, SpecFault>
+    ensures { result ≡ of_urls (identity_of pkg.now) (option_map url_view given.entry)
+        (option_map url_view own.entry) }
+{
+    let Some(given) = given else {
+        return Ok(false);
+    };
+    let Some(own) = own else {
+        return Err(SpecFault::BadId);
+    };
+    if !given.is_place(&own) {
+        return Ok(false);
+    }
+    match_fragments(pkg, given.fragment, own.fragment)
+}
+
+/// Whether the fragment of a specification matches that of the id.
+fn match_fragments(
+    pkg: &Package,
+    given: Option<&str>,
+    own: Option<&str>,
+) -> Result<bool, SpecFault>
+    ensures { result ≡ of_fragments (identity_of pkg.now) (option_copied given.entry)
+        (option_copied own.entry) }
+{
+    let Some(given) = given else {
+        return Ok(true);
+    };
+    let Some(own) = own else {
+        return Ok(false);
+    };
+    match_fragment(pkg, given, own)
+}
+
+/// The same for a fragment that is there, as is that of the id.
+fn match_fragment(pkg: &Package, given: &str, own: &str) -> Result<bool, SpecFault>
+    ensures { result ≡ in_fragment (identity_of pkg.now) given.now (parted given.now)
+        (parted own.now) }
+{
+    let Some((name, version)) = cut_at_separator(given) else {
+        return match_alone(pkg, given);
+    };
+    match cut_at_separator(own) {
+        Some((own_name, own_version)) if name == own_name => version_fits(version, own_version),
+        Some(_) => Ok(false),
+        None => Ok(false),
+    }
+}
+
+/// Whether a fragment that is a name or a version alone matches.
+fn match_alone(pkg: &Package, given: &str) -> Result<bool, SpecFault>
+    ensures { result ≡ alone_in (identity_of pkg.now) given.now }
+{
+    if given == pkg.name.as_str() {
+        return Ok(true);
+    }
+    if begins_with_digit(given) {
+        return version_fits(given, pkg.version.as_str());
+    }
+    Ok(false)
+}
+
+fn begins_with_digit(text: &str) -> bool
+    ensures { result ≡ begins_with_digit text.now }
+{
+    match text.as_bytes().first() {
+        Some(byte) => *byte >= b'0' && *byte <= b'9',
+        None => false,
+    }
+}
+
+/// The parts of a URL, `[kind+]protocol://path[?query][#fragment]`. The kind is dropped, and an
+/// empty query or fragment is none.
+#[derive(Clone, Copy)]
+struct UrlParts<'a> {
+    protocol: &'a str,
+    path: &'a str,
+    query: Option<&'a str>,
+    fragment: Option<&'a str>,
+}
+
+impl<'a> UrlParts<'a> {
+    fn of(text: &'a str) -> Option<UrlParts<'a>>
+        ensures { IsReadAs text.now (option_map url_view result) }
+    {
+        let (scheme, rest) = cut_at_scheme(text)?;
+        let (front, kindless) = cut(scheme, '+');
+        let (address, fragment) = cut_part(rest, '#');
+        let (path, query) = cut_part(address, '?');
+        Some(UrlParts {
+            protocol: kindless.unwrap_or(front),
+            path,
+            query,
+            fragment,
+        })
+    }
+
+    /// Whether both are the same place: the same protocol, path, and query where it is given.
+    fn is_place(&self, own: &UrlParts<'_>) -> bool
+        ensures { result ≡ is_place (url_view self.now) (url_view own.now) }
+    {
+        self.protocol == own.protocol
+            && self.path == own.path
+            && agrees_if_given(self.query, own.query)
+    }
+}
+
+/// A text cut at its first `://`.
+fn cut_at_scheme(text: &str) -> Option<(&str, &str)>
+    ensures { MatchOption result (IsNoUrl text.now)
+        (λ parts. IsSchemeCut text.now parts.0.now parts.1.now) }
+{
+    text.split_once("://")
+}
+
+/// The parts of a version, `major[.minor[.patch[-pre][+build]]]`. An empty pre-release or build is
+/// none.
+#[derive(Clone, Copy)]
+struct VersionParts<'a> {
+    major: &'a str,
+    minor: Option<&'a str>,
+    patch: Option<&'a str>,
+    pre: Option<&'a str>,
+    build: Option<&'a str>,
+}
+
+impl<'a> VersionParts<'a> {
+    fn of(text: &'a str) -> VersionParts<'a>
+        ensures { version_view result ≡ version_of text.now }
+    {
+        let (major, rest) = cut(text, '.');
+        let Some(rest) = rest else {
+            return VersionParts {
+                major,
+                minor: None,
+                patch: None,
+                pre: None,
+                build: None,
+            };
+        };
+        let (minor, last) = cut(rest, '.');
+        let Some(last) = last else {
+            return VersionParts {
+                major,
+                minor: Some(minor),
+                patch: None,
+                pre: None,
+                build: None,
+            };
+        };
+        let (core, build) = cut_part(last, '+');
+        let (patch, pre) = cut_part(core, '-');
+        VersionParts {
+            major,
+            minor: Some(minor),
+            patch: Some(patch),
+            pre,
+            build,
+        }
+    }
+
+    /// Whether each part that is given is the other's.
+    fn agrees(&self, full: &VersionParts<'_>) -> bool
+        ensures { result ≡ agrees (version_view self.now) (version_view full.now) }
+    {
+        self.major == full.major
+            && agrees_if_given(self.minor, full.minor)
+            && agrees_if_given(self.patch, full.patch)
+            && agrees_if_given(self.pre, full.pre)
+            && agrees_if_given(self.build, full.build)
+    }
+}
+
+/// Whether a version fits a full one.
+fn version_fits(given: &str, full: &str) -> Result<bool, SpecFault>
+    ensures { result ≡ fits given.now full.now }
+{
+    let full = VersionParts::of(full);
+    if full.patch.is_none() {
+        return Err(SpecFault::BadVersion);
+    }
+    Ok(VersionParts::of(given).agrees(&full))
+}
+
+/// Whether a part that is given is the other's.
+fn agrees_if_given(given: Option<&str>, full: Option<&str>) -> bool
+    ensures { result ≡ agrees_if_given (option_copied given.entry) (option_copied full.entry) }
+{
+    let Some(given) = given else {
+        return true;
+    };
+    match full {
+        Some(full) => given == full,
+        None => false,
+    }
+}
+
+/// A text cut at its first byte of this kind.
+fn cut(text: &str, at: char) -> (&str, Option<&str>)
+    requires { at < 128 }
+    ensures front { result.0.now ≡ before_first (is_byte at) text.now }
+    ensures rest { option_copied result.1 ≡ behind (is_byte at) text.now }
+{
+    match text.split_once(at) {
+        Some((front, rest)) => (front, Some(rest)),
+        None => (text, None),
+    }
+}
+
+/// The same, where an empty rest is none.
+fn cut_part(text: &str, at: char) -> (&str, Option<&str>)
+    requires { at < 128 }
+    ensures front { result.0.now ≡ before_first (is_byte at) text.now }
+    ensures rest { option_copied result.1 ≡ unless_empty (after_first (is_byte at) text.now) }
+{
+    match text.split_once(at) {
+        Some((front, rest)) => (front, unless_empty(rest)),
+        None => (text, None),
+    }
+}
+
+fn unless_empty(text: &str) -> Option<&str>
+    ensures { option_copied result ≡ unless_empty text.now }
+{
+    if text.is_empty() {
+        return None;
+    }
+    Some(text)
+}
+
+/// A text cut at its first `@` or `:`.
+fn cut_at_separator(text: &str) -> Option<(&str, &str)>
+    ensures { option_map pair_view result ≡ parted text.now }
+{
+    earlier(cut_at(text, '@'), cut_at(text, ':'))
+}
+
+/// A text cut at its first byte of this kind, where it has one.
+fn cut_at(text: &str, at: char) -> Option<(&str, &str)>
+    requires { at < 128 }
+    ensures { option_map pair_view result ≡ cut_by (is_byte at) text.now }
+{
+    text.split_once(at)
+}
+
+/// The one of two cuts that has the shorter front.
+fn earlier<'a>(
+    first: Option<(&'a str, &'a str)>,
+    second: Option<(&'a str, &'a str)>,
+) -> Option<(&'a str, &'a str)>
+    ensures { option_map pair_view result
+        ≡ earlier (option_map pair_view first.entry) (option_map pair_view second.entry) }
+{
+    let Some(cut) = first else {
+        return second;
+    };
+    match second {
+        Some(other) => {
+            if other.0.len() < cut.0.len() {
+                Some(other)
+            } else {
+                Some(cut)
+            }
+        }
+        None => Some(cut),
+    }
+}
