@@ -26,6 +26,15 @@ pub record Tells (failure : Failure) (answer : Answer) : Type 0 where
   pub stdout : IsShown answer.stdout (string_bytes failure.stdout)
   pub stderr : IsShown answer.stderr (string_bytes failure.stderr)
 
+-- a fault shows no output
+abbrev pub ShowsNothing : ProcessFault → Type 0
+ShowsNothing (Failed failure) =
+    (string_bytes failure.stdout ≡ []) × (string_bytes failure.stderr ≡ [])
+ShowsNothing Memory = Unit {0}
+ShowsNothing EmptyProgram = Unit {0}
+ShowsNothing (NeverExecuted text) = Unit {0}
+ShowsNothing (NotText text) = Unit {0}
+
 -- just this call was made, and its answer is such
 abbrev pub Had : (Answer → Type 0) → Asked → List Call → List Call → Type 0
 Had P asked old new = (answer : Answer) × P answer × Adds asked answer old new

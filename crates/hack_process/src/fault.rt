@@ -1,8 +1,9 @@
 //! Why a command failed.
 
-ghost use Rattle.std.specs.Prelude.{◌≡◌, Some, string_bytes};
-ghost use Rattle.hack_process.specs.Faults.{IsShown, Tells, failure_text, fault_text, output_text};
-ghost use Rattle.hack_process.specs.Calls.{answer_of};
+ghost use Rattle.std.specs.Prelude.{◌≡◌, [], Some, string_bytes};
+ghost use Rattle.hack_process.specs.Faults.{IsShown, ShowsNothing, Tells, failure_text, fault_text};
+ghost use Rattle.hack_process.specs.Faults.{output_text};
+ghost use Rattle.hack_process.specs.Calls.{WroteNothing, answer_of};
 
 use crate::caller::{Called, End};
 use std::alloc::{AllocError, AllocFailed, Global};
@@ -39,6 +40,7 @@ impl Failure {
     pub(crate) fn new(alloc: Global, command: String, called: Called) -> Failure
         ensures command { result.command ≡ command }
         ensures tells { Tells result (answer_of called) }
+        ensures bare { WroteNothing (answer_of called) → ShowsNothing (ProcessFault.Failed result) }
     {
         Failure {
             command,
@@ -51,7 +53,8 @@ impl Failure {
 
 /// The bytes as a text, or an empty one where they are no text or white space alone.
 fn shown(alloc: Global, bytes: Vec<u8>) -> String
-    ensures { IsShown bytes.items (string_bytes result) }
+    ensures shown { IsShown bytes.items (string_bytes result) }
+    ensures none { bytes.items ≡ [] → string_bytes result ≡ [] }
 {
     match String::from_utf8(bytes) {
         Ok(text) => {

@@ -6,7 +6,7 @@ ghost use Rattle.hack_process.specs.Calls.{Adds, IsSuccess, answer_of};
 ghost use Rattle.hack_process.specs.CommandTexts.{text_of, listed_of, line_of, each_spaced, shown_words, shown_features, shown_trailing, shown_program, appended, words_behind};
 ghost use Rattle.hack_process.specs.OwnWords.{awaits_path, shown_own};
 ghost use Rattle.hack_process.specs.Commands.{asked_of, command_of, line_text};
-ghost use Rattle.hack_process.specs.Faults.{Had, IsFault, IsReadFault, without_line_ends};
+ghost use Rattle.hack_process.specs.Faults.{Had, IsFault, IsReadFault, ShowsNothing, without_line_ends};
 
 pub use crate::caller::{Called, Caller, End};
 pub use crate::child::Child;
@@ -169,6 +169,7 @@ impl<'a> ProcessBuilder<'a> {
         ensures named { OnOk result ((command_of self.now).program ≢ []) }
         ensures err { IfErr result (IsFault C.tells (asked_of false (command_of self.now))
             (text_of true dir.now (command_of self.now)) (C.calls caller.old) (C.calls caller.new)) }
+        ensures bare { IfErr result ShowsNothing }
     {
         let _called = self.called(alloc, caller, false, dir)?;
         Ok(())
@@ -227,6 +228,7 @@ impl<'a> ProcessBuilder<'a> {
         ensures named { OnOk result ((command_of self.now).program ≢ []) }
         ensures err { IfErr result (IsFault C.tells (asked_of capture (command_of self.now))
             (text_of true dir.now (command_of self.now)) (C.calls caller.old) (C.calls caller.new)) }
+        ensures bare { capture ≡ false → IfErr result ShowsNothing }
     {
         let program = self.program();
         if program.is_empty() {

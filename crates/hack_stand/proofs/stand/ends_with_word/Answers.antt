@@ -1,4 +1,4 @@
-use Rattle.std.proofs.Common.{◌≡◌, ◌-◌, List, ℕ, Bool, bytes_eq, get_or, length, string_bytes, ap, sym, ◌∙◌, arith}
+use Rattle.std.proofs.Common.{List, ℕ, bytes_eq, string_bytes, ap, sym, ◌∙◌, arith}
 use Rattle.hack_stand.proofs.LineLemmas.{last-decides}
 use Rattle.hack_stand.proofs.stand.ends_with_word.Goals as goal
 
