@@ -13,6 +13,7 @@ use Rattle.hack_features.specs.Names.{Name}
 use Rattle.hack_features.specs.FeatureMap.{FeatureMap}
 use Rattle.hack_manifest.specs.Paths.{View, is_header, AreCut}
 
+-- the names of the fields that are read
 abbrev pub package_key : Name
 package_key = codes "package"
 
@@ -34,6 +35,7 @@ abbrev pub Reading : Type 0 → Type 0
 Reading A = Result A Name
 
 infixl 10 ◌>>=◌
+-- the second part is read where the first one is: so the first fault counts
 abbrev pub ◌>>=◌ : {A B : Type 0} → Reading A → (A → Reading B) → Reading B
 (Ok x) >>= f = f x
 (Err name) >>= f = Err name
@@ -86,6 +88,7 @@ pub record PackageFacts : Type 0 where
   pub publish : Option Bool
   pub rust_version : Option (Option Name)
 
+-- both fields, or the first faulty one
 abbrev pub package_facts : ℕ → Members → Reading PackageFacts
 package_facts minor ms =
     publish_at minor ms >>= λ publish.
@@ -109,6 +112,7 @@ abbrev pub features_from : Bool → Option Data → Option FeatureMap
 features_from inline None = Some []
 features_from inline (Some d) = if inline then None else option_and_then members_in (as_table d)
 
+-- the feature map, or the name of the field
 abbrev pub features_in : Bool → Members → Reading FeatureMap
 features_in inline tree = ok_or (features_from inline (get_member features_key tree)) features_key
 

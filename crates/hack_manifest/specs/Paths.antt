@@ -17,6 +17,7 @@ abbrev mutual
   chain no_members = []
   chain (member k d ms) = k ∷ chain_of d
 
+-- the chain of names in the tree of a text, if it was read
 abbrev pub chain_of_tree : Option Members → List Name
 chain_of_tree None = []
 chain_of_tree (Some ms) = chain ms

@@ -13,15 +13,19 @@ use Rattle.hack_manifest.specs.declared.manifest.Manifest.{Manifest}
 use Rattle.hack_manifest.specs.declared.manifest.ManifestFault.{ManifestFault}
 use Rattle.hack_manifest.specs.declared.manifest.ManifestFault.TheVariants as faults
 
+-- a version, as its bytes
 abbrev pub version_view : Option (Option (String Global)) → Option (Option Name)
 version_view v = option_map (option_map string_bytes) v
 
+-- what a `Package` says
 abbrev pub package_view : Package → PackageFacts
 package_view p = record { publish = p.publish; rust_version = version_view p.rust_version }
 
+-- what a package and a map of features say
 abbrev pub facts_view : Package × BTreeMap (String Global) (Vec (String Global) Global) → Facts
 facts_view r = record { of_package = package_view r.0; features = feature_map r.1 }
 
+-- what a `Manifest` says
 abbrev pub manifest_view : Manifest → Facts
 manifest_view m = record { of_package = package_view m.package; features = feature_map m.features }
 

@@ -25,6 +25,7 @@ use toml::Table;
 pub struct Manifest {
     /// The text that it was read from.
     pub text: String,
+    /// What it says of its package.
     pub package: Package,
     /// The features with their values.
     pub features: BTreeMap<String, Vec<String>>,
@@ -33,9 +34,10 @@ pub struct Manifest {
 /// Why a manifest can't be read. Each has its path.
 #[derive(Debug, Drop, Error)]
 pub enum ManifestFault {
+    /// The text is no TOML document.
     #[error("failed to parse manifest `{0}` as toml")]
     Toml(String),
-    /// A field that is missing or ill typed.
+    /// The first field that is missing or ill typed.
     #[error("failed to parse `{0}` field from manifest `{1}`")]
     Field(&'static str, String),
     #[error("out of memory")]

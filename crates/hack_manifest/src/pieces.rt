@@ -28,7 +28,7 @@ pub struct Piece<'a> {
 pub struct Pieces<'a> {
     /// The pieces in their order.
     pub pieces: Vec<Piece<'a>>,
-    /// What is left behind the last piece: blank lines and comments.
+    /// What is left behind the last piece, such as comments: no run of its lines has a key.
     pub tail: &'a str,
 }
 
