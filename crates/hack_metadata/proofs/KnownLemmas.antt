@@ -1,5 +1,5 @@
 -- Ids that are read are those of packages.
-use Rattle.std.proofs.Common.{◌≡◌, ◌==◌, ◌&&◌, not, ℕ, zero, suc, ◌+◌, ◌<◌, nat_lt, Bool, true, false, cond, List, [], ◌∷◌, map, length, get_or, Option, Some, None, Result, Ok, Err, Ordering, Less, Equal, Greater, option_and_then, nat_cmp, codes, arith, refl, sym, ap, subst, ◌∙◌, inl, inr}
+use Rattle.std.proofs.Common.{◌≡◌, ◌==◌, ◌&&◌, not, ℕ, zero, suc, ◌+◌, ◌<◌, nat_lt, Bool, true, false, cond, List, [], ◌∷◌, map, length, get_or, Option, Some, None, Ok, Err, Ordering, Less, Equal, Greater, option_and_then, nat_cmp, codes, arith, refl, sym, ap, subst, ◌∙◌}
 use Rattle.std.specs.List.{list_all, filter}
 use Rattle.std.specs.Str.{bytes_eq}
 use Rattle.std.specs.Ordering.{match_ordering}
@@ -12,7 +12,7 @@ use Rattle.serde_json.specs.Find.{as_str}
 use Rattle.hack_features.specs.Names.{Name}
 use Rattle.hack_metadata.specs.Fields.{Field, ◌>>=◌, or_name, string_in, array_in, nullable_in, element_of, read_all}
 use Rattle.hack_metadata.specs.Known.{Bounds, is_known_node, are_known}
-use Rattle.hack_metadata.specs.Read.{later, place_from, place_of, distinct, read_member, members_in, kinds_in, read_node_dep, deps_in, read_node, read_nodes, with_nodes, read_resolve, resolve_in}
+use Rattle.hack_metadata.specs.Read.{later, place_from, place_of, distinct, read_member, members_in, kinds_in, read_node_dep, deps_in, read_node, with_nodes, read_resolve, resolve_in}
 use Rattle.hack_metadata.specs.Read.{ids_of}
 use Rattle.hack_metadata.specs.Records.{PackageRecord, NodeDepRecord, NodeRecord, Nodes}
 use Rattle.hack_metadata.specs.View.{package_view, place_at}
@@ -53,13 +53,13 @@ all-read f p h (item d ds) xs e =
     let same : xs ≡ first.value ∷ rest.value = (let q : Ok (first.value ∷ rest.value) ≡ Ok xs = rest.then in cc) in
     ap (list_all p) same ∙ and-intro (p first.value) (list_all p rest.value) (h d first.value first.read) (all-read f p h ds rest.value rest.read)
 
+kept-go : (b : Bool) (p : ℕ → Bool) (x : ℕ) (xs : List ℕ) → p x ≡ true → list_all p xs ≡ true → list_all p (cond b (x ∷ xs) xs) ≡ true
+kept-go true p x xs here rest = and-intro (p x) (list_all p xs) here rest
+kept-go false p x xs here rest = rest
+
 all-filter : (p q : ℕ → Bool) (xs : List ℕ) → list_all p xs ≡ true → list_all p (filter q xs) ≡ true
 all-filter p q [] h = h
-all-filter p q (x ∷ xs) h = kept (q x) refl
-  where
-    kept : (b : Bool) → q x ≡ b → list_all p (cond b (x ∷ filter q xs) (filter q xs)) ≡ true
-    kept true e = and-intro (p x) (list_all p (filter q xs)) (and-first (p x) (list_all p xs) h) (all-filter p q xs (and-second (p x) (list_all p xs) h))
-    kept false e = all-filter p q xs (and-second (p x) (list_all p xs) h)
+all-filter p q (x ∷ xs) h = kept-go (q x) p x (filter q xs) (and-first (p x) (list_all p xs) h) (all-filter p q xs (and-second (p x) (list_all p xs) h))
 
 all-distinct : (p : ℕ → Bool) (xs : List ℕ) → list_all p xs ≡ true → list_all p (distinct xs) ≡ true
 all-distinct p [] h = h

@@ -2,7 +2,7 @@
 use Rattle.std.specs.Prelude.{◌≡◌, ℕ, Bool, true, ◌&&◌, List, Option, Some, nat_lt}
 use Rattle.std.specs.List.{list_all}
 use Rattle.hack_features.specs.Names.{Name}
-use Rattle.hack_metadata.specs.Records.{NodeDepRecord, NodeRecord, Nodes}
+use Rattle.hack_metadata.specs.Records.{NodeRecord, Nodes}
 
 -- the packages that a node depends on are among the first n
 abbrev pub is_known_node : ℕ → NodeRecord → Bool

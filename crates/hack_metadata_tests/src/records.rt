@@ -75,7 +75,10 @@ fn a_package_as_it_is(rt: HostRuntime) -> Result<(), Fail> {
     assert_eq!(rt; pkg.id.as_str(), "a");
     assert_eq!(rt; pkg.version.as_str(), "1.2.3");
     assert_eq!(rt; pkg.manifest_path.as_str(), "/w/p/Cargo.toml");
-    assert_eq!(rt; features(rt.alloc(), pkg)?.as_str(), "alloc;std log?/std alloc;l,rand,");
+    assert_eq!(rt;
+        features(rt.alloc(), pkg)?.as_str(),
+        "alloc;std log?/std alloc;l,rand,"
+    );
     Ok(())
 }
 
@@ -125,7 +128,9 @@ fn fields_that_came_with_a_later_cargo(rt: HostRuntime) -> Result<(), Fail> {
 
 #[test]
 fn a_graph_of_dependencies(rt: HostRuntime) -> Result<(), Fail> {
-    let text = format!(in rt.alloc(); "{{\"packages\":{TWO},\"workspace_members\":[],\"resolve\":{{\"nodes\":[{{\"id\":\"b\",\"deps\":[]}},{{\"id\":\"a\",\"deps\":[{{\"pkg\":\"b\",\"dep_kinds\":[{{\"kind\":null,\"target\":\"cfg(unix)\"}},{{\"kind\":\"dev\",\"target\":null}}]}}]}}]}},\"workspace_root\":\"/w\"}}")?;
+    let text = format!(in rt.alloc();
+        "{{\"packages\":{TWO},\"workspace_members\":[],\"resolve\":{{\"nodes\":[{{\"id\":\"b\",\"deps\":[]}},{{\"id\":\"a\",\"deps\":[{{\"pkg\":\"b\",\"dep_kinds\":[{{\"kind\":null,\"target\":\"cfg(unix)\"}},{{\"kind\":\"dev\",\"target\":null}}]}}]}}]}},\"workspace_root\":\"/w\"}}"
+    )?;
     let Ok(metadata) = read(rt.alloc(), text.as_str(), 90) else {
         assert!(rt; false);
         return Ok(());
@@ -135,9 +140,15 @@ fn a_graph_of_dependencies(rt: HostRuntime) -> Result<(), Fail> {
         shown.push('|')?;
         for dep in &node.deps {
             for kind in &dep.dep_kinds {
-                shown.push_str(match &kind.kind { Some(kind) => kind.as_str(), None => "normal" })?;
+                shown.push_str(match &kind.kind {
+                    Some(kind) => kind.as_str(),
+                    None => "normal"
+                })?;
                 shown.push(' ')?;
-                shown.push_str(match &kind.target { Some(target) => target.as_str(), None => "all" })?;
+                shown.push_str(match &kind.target {
+                    Some(target) => target.as_str(),
+                    None => "all"
+                })?;
                 shown.push(';')?;
             }
         }

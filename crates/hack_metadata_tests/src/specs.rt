@@ -13,7 +13,9 @@ fn answers<R: Abort + AllocGlobal>(
     rows: &[(&str, &str)],
 ) -> Result<(), AllocError> {
     let (name, version, id) = named;
-    let packages = format!(in rt.alloc(); "[{{\"id\":\"{id}\",\"name\":\"{name}\",\"version\":\"{version}\",\"dependencies\":[],\"features\":{{}},\"manifest_path\":\"m\"}}]")?;
+    let packages = format!(in rt.alloc();
+        "[{{\"id\":\"{id}\",\"name\":\"{name}\",\"version\":\"{version}\",\"dependencies\":[],\"features\":{{}},\"manifest_path\":\"m\"}}]"
+    )?;
     let text = whole(rt.alloc(), packages.as_str(), "[]")?;
     let Ok(metadata) = read(rt.alloc(), text.as_str(), 1) else {
         assert!(rt; false);
@@ -44,9 +46,18 @@ fn a_package_of_a_registry(rt: HostRuntime) -> Result<(), Fail> {
         ("regex:1.4", "true"),
         ("https://github.com/rust-lang/crates.io-index", "true"),
         ("https://github.com/rust-lang/crates.io-index#regex", "true"),
-        ("https://github.com/rust-lang/crates.io-index#regex@1.4", "true"),
-        ("https://github.com/rust-lang/crates.io-index#regex@1.4.3", "true"),
-        ("https://github.com/rust-lang/crates.io-index#regex:1.4.3 \n", "true"),
+        (
+            "https://github.com/rust-lang/crates.io-index#regex@1.4",
+            "true",
+        ),
+        (
+            "https://github.com/rust-lang/crates.io-index#regex@1.4.3",
+            "true",
+        ),
+        (
+            "https://github.com/rust-lang/crates.io-index#regex:1.4.3 \n",
+            "true",
+        ),
         ("https://github.com/rust-lang/crates.io-index#", "true"),
         ("https://github.com/rust-lang/crates.io-index?", "true"),
         ("https://github.com/rust-lang/crates.io-index#1.4", "true"),
@@ -64,8 +75,14 @@ fn a_package_of_a_registry(rt: HostRuntime) -> Result<(), Fail> {
         ("", "false"),
         ("https://github.com/rust-lang/crates.io-index#rege", "false"),
         ("https://github.com/rust-lang/crates.io-index#1.5", "false"),
-        ("https://github.com/rust-lang/crates.io-index#rand@1.4.3", "false"),
-        ("https://github.com/rust-lang/crates.io-index?branch=dev", "false"),
+        (
+            "https://github.com/rust-lang/crates.io-index#rand@1.4.3",
+            "false",
+        ),
+        (
+            "https://github.com/rust-lang/crates.io-index?branch=dev",
+            "false",
+        ),
         ("http://github.com/rust-lang/crates.io-index", "false"),
         ("https://github.com/rust-lang/crates.io", "false"),
         ("https:/github.com", "false"),
@@ -78,10 +95,19 @@ fn a_package_of_a_repository(rt: HostRuntime) -> Result<(), Fail> {
     let id = "git+ssh://git@github.com/rust-lang/regex.git?branch=dev#regex@1.4.3";
     let rows = [
         ("regex", "true"),
-        ("ssh://git@github.com/rust-lang/regex.git#regex@1.4.3", "true"),
-        ("git+ssh://git@github.com/rust-lang/regex.git#regex@1.4.3", "true"),
+        (
+            "ssh://git@github.com/rust-lang/regex.git#regex@1.4.3",
+            "true",
+        ),
+        (
+            "git+ssh://git@github.com/rust-lang/regex.git#regex@1.4.3",
+            "true",
+        ),
         (id, "true"),
-        ("ssh://git@github.com/rust-lang/regex.git?branch=main#regex@1.4.3", "false"),
+        (
+            "ssh://git@github.com/rust-lang/regex.git?branch=main#regex@1.4.3",
+            "false",
+        ),
     ];
     Ok(answers(&rt, ("regex", "1.4.3", id), &rows)?)
 }
@@ -96,7 +122,10 @@ fn a_fragment_that_is_a_version(rt: HostRuntime) -> Result<(), Fail> {
         (id, "true"),
         ("https://github.com/rust-lang/cargo#0.53", "false"),
         ("https://github.com/rust-lang/cargo#cargo-platform", "false"),
-        ("https://github.com/rust-lang/cargo#cargo-platform@0.1.2", "false"),
+        (
+            "https://github.com/rust-lang/cargo#cargo-platform@0.1.2",
+            "false",
+        ),
         ("https://github.com/rust-lang/cargo#cargo@0.52.0", "false"),
     ];
     Ok(answers(&rt, ("cargo", "0.52.0", id), &rows)?)
@@ -156,7 +185,11 @@ fn what_no_answer_is_known_of(rt: HostRuntime) -> Result<(), Fail> {
     answers(&rt, ("n", "1.0", "https://x#n@1.0"), &rows)?;
     let rows = [("https://x#n", "false"), ("https://x", "true")];
     answers(&rt, ("n", "1.0.0", "https://x"), &rows)?;
-    let rows = [("https", "true"), ("https://x", "false"), ("https@1.0", "true")];
+    let rows = [
+        ("https", "true"),
+        ("https://x", "false"),
+        ("https@1.0", "true"),
+    ];
     answers(&rt, ("https", "1.0.0", "https://x#https@1.0.0"), &rows)?;
     Ok(())
 }
