@@ -1,10 +1,10 @@
 -- Members of an object, put into a map of features one after another.
-use Rattle.std.proofs.Common.{arith, ◌≡◌, ◌==◌, not, List, [], ◌∷◌, ◌++◌, map, length, String, Vec, BTreeMap, Global, Less, Greater, Option, Some, None, option_map, option_and_then, string_bytes, append_assoc, refl, sym, subst, ap, ◌∙◌}
+use Rattle.std.proofs.Common.{arith, ◌≡◌, ◌==◌, not, List, [], ◌∷◌, ◌++◌, map, length, String, Vec, BTreeMap, Global, Less, Greater, Option, Some, None, option_map, option_and_then, string_bytes, refl, sym, subst, ap, ◌∙◌}
 use Rattle.std.specs.List.{AllByRecursion}
 use Rattle.std.specs.List.Sorted.{IsStrictlySortedBy}
 use Rattle.std.specs.Map.{keys_of}
 use Rattle.std.specs.String.{string_cmp}
-use Rattle.std.specs.Ordering.{match_ordering, ordering_reverse}
+use Rattle.std.specs.Ordering.{ordering_reverse}
 use Rattle.std.specs.BTreeMap.{insert_entry}
 use Rattle.std.proofs.lemmas.Cmp.{nat_list_cmp_total}
 use Rattle.std.proofs.lemmas.Bool.Decides.{nat_tests}

@@ -1,5 +1,6 @@
 mod FeatureLemmas
 mod IdLemmas
+pub mod KnownLemmas
 mod NodeLemmas
 mod TextLemmas
 mod MatchCases

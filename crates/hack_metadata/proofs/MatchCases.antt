@@ -1,5 +1,5 @@
 -- Matching in its two cases: a specification that begins with the name, and one that doesn't.
-use Rattle.std.proofs.Common.{◌≡◌, ◌≢◌, ◌↔◌, ◌&&◌, ℕ, Bool, true, false, cond, List, [], ◌∷◌, ◌++◌, Option, Some, None, Result, Ok, Err, IsSome, is_some, unwrap_or, append-nil, refl, sym, ap, subst, ◌∙◌, inl, inr}
+use Rattle.std.proofs.Common.{◌≡◌, ◌≢◌, ◌↔◌, ℕ, Bool, true, false, cond, [], ◌∷◌, ◌++◌, Option, Some, None, Ok, Err, is_some, unwrap_or, append-nil, refl, sym, ap, subst, ◌∙◌, inl, inr}
 use Rattle.std.specs.List.{before_first, after_first}
 use Rattle.std.specs.Str.{bytes_eq}
 use Rattle.std.specs.Cmp.Lexicographic.{bytes_decides}
@@ -7,7 +7,7 @@ use Rattle.std.proofs.lemmas.Bool.{cases_Bool}
 use Rattle.std.proofs.lemmas.List.{append_cancel_left}
 use Rattle.hack_features.specs.Names.{Name}
 use Rattle.hack_metadata.specs.PackageSpecs.{BeginsWith, is_byte, unless_empty, Url, IsUrl, Identity, AreUrls, IsPlace, AsksVersion, of_name, of_fragment, alone, Matches, named, placed, name_at, versioned, HasBadId, HasBadVersion, has_byte, behind, separates, begins_with_digit, trimmed}
-use Rattle.hack_metadata.specs.SpecAnswers.{Answer, fits, cut_by, parted, behind_name, with_version, alone_in, in_fragment, of_fragments, is_place, of_urls, IsSchemeCut, IsReadAs, IsBehind}
+use Rattle.hack_metadata.specs.SpecAnswers.{Answer, fits, parted, behind_name, with_version, alone_in, in_fragment, of_fragments, is_place, of_urls, IsReadAs, IsBehind}
 use Rattle.hack_metadata.specs.declared.cargo.SpecFault.TheVariants.{BadId, BadVersion}
 use Rattle.hack_metadata.proofs.TextLemmas.{scheme-same}
 use Rattle.hack_metadata.proofs.MatchLemmas.{Comes, by_version, yes, no, no_id, comes-true, comes-bad_id, comes-bad_version, fits-tested, short-tested, place-holds, place-tested}

@@ -1,16 +1,11 @@
 -- What matching answers, beside what is said of a specification.
-use Rattle.std.proofs.Common.{◌≡◌, ◌≢◌, ◌↔◌, ◌==◌, ◌&&◌, not, ℕ, Bool, true, false, cond, List, [], ◌∷◌, ◌++◌, length, Option, Some, None, Result, Ok, Err, IsSome, IfSome, is_some, append-nil, arith, refl, sym, ap, subst, ◌∙◌, inl, inr}
-use Rattle.std.specs.List.{before_first, after_first}
+use Rattle.std.proofs.Common.{◌≡◌, ◌&&◌, Bool, true, false, cond, Option, Some, None, Ok, Err, is_some, refl, sym, ap, ◌∙◌}
 use Rattle.std.specs.Str.{bytes_eq}
 use Rattle.std.specs.Cmp.Lexicographic.{bytes_decides}
-use Rattle.std.proofs.lemmas.Bool.{cases_Bool}
-use Rattle.std.proofs.lemmas.List.{append_cancel_left}
 use Rattle.hack_features.specs.Names.{Name}
-use Rattle.hack_metadata.specs.PackageSpecs.{BeginsWith, AgreesIfGiven, VersionText, version_of, IsFull, Agrees, Fits, Url, IsUrl, Identity, AreUrls, IsPlace, AsksVersion, of_name, of_fragment, alone, Matches, named, placed, name_at, versioned, HasBadId, HasBadVersion, has_byte, behind, separates, begins_with_digit, trimmed}
-use Rattle.hack_metadata.specs.SpecAnswers.{Answer, agrees_if_given, agrees, fits, cut_by, parted, behind_name, with_version, alone_in, in_fragment, of_fragments, is_place, of_urls, IsSchemeCut, IsReadAs, IsBehind}
-use Rattle.hack_metadata.specs.declared.cargo.SpecFault.{SpecFault}
+use Rattle.hack_metadata.specs.PackageSpecs.{AgreesIfGiven, VersionText, version_of, IsFull, Agrees, Fits, Url, Identity, AsksVersion, Matches, versioned, HasBadId, HasBadVersion}
+use Rattle.hack_metadata.specs.SpecAnswers.{Answer, agrees_if_given, agrees, fits, is_place}
 use Rattle.hack_metadata.specs.declared.cargo.SpecFault.TheVariants.{BadId, BadVersion}
-use Rattle.hack_metadata.proofs.TextLemmas.{scheme-same}
 
 -- ---- tests and what they mean
 

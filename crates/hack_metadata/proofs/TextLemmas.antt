@@ -1,6 +1,6 @@
 -- Texts that are cut: at the first `://`, at the first separator, behind a name.
-use Rattle.std.proofs.Common.{◌≡◌, ◌≢◌, ◌⊎◌, ◌==◌, ◌||◌, not, ℕ, suc, ◌+◌, ◌<◌, ◌≤◌, min, nat_lt, Bool, true, false, cond, List, [], ◌∷◌, ◌++◌, length, take, drop, Option, Some, None, MatchOption, codes, Bor, arith, refl, sym, ap, subst, ◌∙◌, inl, inr}
-use Rattle.std.specs.List.{before_first, after_first, position_or_len}
+use Rattle.std.proofs.Common.{◌≡◌, ◌≢◌, ◌⊎◌, ◌==◌, ◌||◌, not, ℕ, ◌+◌, ◌<◌, ◌≤◌, min, nat_lt, Bool, true, false, cond, [], ◌∷◌, ◌++◌, length, take, drop, Option, Some, None, MatchOption, codes, Bor, arith, refl, sym, ap, ◌∙◌, inl, inr}
+use Rattle.std.specs.List.{position_or_len}
 use Rattle.std.specs.Option.{option_copied}
 use Rattle.std.specs.Str.Pattern.{FindsText, FindsTextPrefix, FindsCharPrefix, SplitsAroundMatch, StripsPrefix}
 use Rattle.std.proofs.lemmas.Bool.{cases_Bool}
@@ -8,7 +8,7 @@ use Rattle.std.proofs.lemmas.Bool.Decides.{nat_tests}
 use Rattle.std.proofs.lemmas.Str.Pattern.{split_text_parts, strip_prefix_char}
 use Rattle.std.proofs.lemmas.List.{append_cancel_left, take_at, drop_at, length-take-le}
 use Rattle.hack_features.specs.Names.{Name}
-use Rattle.hack_metadata.specs.PackageSpecs.{BeginsWith, has_byte, is_byte, separates}
+use Rattle.hack_metadata.specs.PackageSpecs.{is_byte}
 use Rattle.hack_metadata.specs.SpecAnswers.{IsNoUrl, IsSchemeCut, IsBehind, behind_byte, cut_by, parted, earlier}
 
 le_or_lt : (m n : ℕ) → (m ≤ n) ⊎ (n < m)

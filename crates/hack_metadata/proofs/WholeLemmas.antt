@@ -2,10 +2,10 @@
 use Rattle.std.proofs.Common.{◌≡◌, ℕ, List, Option, Result, Ok, codes, refl, sym, ap, subst, ◌∙◌}
 use Rattle.serde_json.specs.Data.{Items, Members}
 use Rattle.hack_features.specs.Names.{Name}
-use Rattle.hack_metadata.specs.Fields.{Field, ◌>>=◌, array_in, read_all, KeepsOthers}
+use Rattle.hack_metadata.specs.Fields.{◌>>=◌, array_in, read_all, KeepsOthers}
 use Rattle.hack_metadata.specs.Gives.{Gives}
 use Rattle.hack_metadata.specs.Read.{read_package, read_behind, read_metadata, place_of, ids_of}
-use Rattle.hack_metadata.specs.Records.{PackageRecord, MetadataRecord}
+use Rattle.hack_metadata.specs.Records.{PackageRecord}
 use Rattle.hack_metadata.specs.Whole.{metadata_view}
 use Rattle.hack_metadata.specs.declared.fault.MetadataFault.{MetadataFault}
 use Rattle.hack_metadata.specs.declared.metadata.Metadata.{Metadata}
@@ -21,8 +21,8 @@ module _ (minor : ℕ) (old new : Members) where
       → Gives metadata_view r (read_behind minor ps place new) → Gives metadata_view r (read_metadata minor old)
   whole-behind list ps place r found read same others gives =
       let whole : read_behind minor ps place new ≡ read_metadata minor old =
-        behind-others ps place others
-        ∙ ap (λ p. read_behind minor ps p old) same
-        ∙ ap (λ packages. packages >>= λ qs. read_behind minor qs (place_of (ids_of qs)) old) (sym read)
-        ∙ ap (λ items. (items >>= read_all (read_package minor)) >>= λ qs. read_behind minor qs (place_of (ids_of qs)) old) (sym found) in
+      behind-others ps place others
+      ∙ ap (λ p. read_behind minor ps p old) same
+      ∙ ap (λ packages. packages >>= λ qs. read_behind minor qs (place_of (ids_of qs)) old) (sym read)
+      ∙ ap (λ items. (items >>= read_all (read_package minor)) >>= λ qs. read_behind minor qs (place_of (ids_of qs)) old) (sym found) in
       subst (λ found. Gives metadata_view r found) whole gives

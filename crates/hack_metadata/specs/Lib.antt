@@ -1,5 +1,6 @@
 pub mod Fields
 pub mod Gives
+pub mod Known
 pub mod Optional
 pub mod OptionalLeft
 pub mod PackageSpecs

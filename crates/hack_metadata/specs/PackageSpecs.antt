@@ -1,6 +1,6 @@
 -- When a package ID specification matches a package, as the chapter "Package ID Specifications" of the Cargo reference
 -- has it. A specification is the package's name, the name with a version behind `@` or `:`, or a URL.
-use Rattle.std.specs.Prelude.{◌≡◌, ◌≢◌, ◌↔◌, ℕ, ◌+◌, ◌-◌, ◌≤◌, ◌==◌, ◌||◌, ◌&&◌, ◌⊎◌, Bool, true, false, nat_lt, nat_le, if◌then◌else◌, List, [], ◌∷◌, ◌++◌, length, take, codes, Option, Some, None, IsSome, IfSome, IsTrue, option_map, option_and_then, unwrap_or}
+use Rattle.std.specs.Prelude.{◌≡◌, ◌≢◌, ℕ, ◌-◌, ◌≤◌, ◌==◌, ◌||◌, ◌&&◌, Bool, true, false, nat_lt, nat_le, if◌then◌else◌, [], ◌∷◌, ◌++◌, length, take, codes, Option, Some, None, IsSome, IfSome, option_map, option_and_then, unwrap_or}
 use Rattle.std.specs.List.{before_first, after_first, position_or_len, suffix_len}
 use Rattle.std.specs.Char.{is_ascii_whitespace}
 use Rattle.hack_features.specs.Names.{Name}

@@ -1,11 +1,11 @@
 -- What is read of the data of `cargo metadata`: the records, or the first field at fault, in this order of fields.
 -- `minor` is the minor version of the cargo that answered: some fields came with a later one.
-use Rattle.std.specs.Prelude.{ℕ, ◌+◌, ◌==◌, Bool, true, false, not, List, [], ◌∷◌, Option, Some, None, Result, Ok, Err, codes, filter, map, is_some, nat_le, option_map, option_and_then, if◌then◌else◌}
+use Rattle.std.specs.Prelude.{ℕ, ◌+◌, ◌==◌, Bool, true, false, not, List, [], ◌∷◌, Option, Some, None, Ok, codes, filter, map, nat_le, option_map, option_and_then, if◌then◌else◌}
 use Rattle.std.specs.Ordering.{nat_cmp}
 use Rattle.std.specs.Str.{bytes_eq}
 use Rattle.std.specs.BTreeMap.{insert_entry}
 use Rattle.serde_json.specs.Data.{Data, Items, no_items, item, Members, no_members, member}
-use Rattle.serde_json.specs.Find.{as_str, as_array, as_object}
+use Rattle.serde_json.specs.Find.{as_str, as_array}
 use Rattle.hack_features.specs.Names.{Name}
 use Rattle.hack_features.specs.FeatureMap.{FeatureMap}
 use Rattle.hack_metadata.specs.Fields.{Field, ◌>>=◌, or_name, string_in, bool_in, array_in, object_in, nullable_in, text_in, element_of, read_all}

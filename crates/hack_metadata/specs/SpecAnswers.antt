@@ -1,9 +1,8 @@
 -- What the steps of matching a specification answer.
-use Rattle.std.specs.Prelude.{◌≡◌, ◌≢◌, ℕ, ◌≤◌, ◌++◌, length, codes, nat_eq, nat_lt, ◌==◌, ◌&&◌, Bool, true, false, if◌then◌else◌, List, [], ◌∷◌, Option, Some, None, Result, Ok, Err, is_some, bytes_eq, MatchOption}
+use Rattle.std.specs.Prelude.{◌≡◌, ◌≢◌, ℕ, ◌≤◌, ◌++◌, length, codes, nat_lt, ◌==◌, ◌&&◌, Bool, true, false, if◌then◌else◌, [], ◌∷◌, Option, Some, None, Result, Ok, Err, is_some, bytes_eq}
 use Rattle.std.specs.List.{before_first, after_first}
-use Rattle.std.specs.Borrow.{Bor}
 use Rattle.hack_features.specs.Names.{Name}
-use Rattle.hack_metadata.specs.PackageSpecs.{BeginsWith, has_byte, behind, separates, VersionText, version_of, Url, IsUrl, Identity, begins_with_digit}
+use Rattle.hack_metadata.specs.PackageSpecs.{BeginsWith, has_byte, separates, VersionText, version_of, Url, IsUrl, Identity, begins_with_digit}
 use Rattle.hack_metadata.specs.declared.cargo.SpecFault.{SpecFault}
 use Rattle.hack_metadata.specs.declared.cargo.SpecFault.TheVariants.{BadId, BadVersion}
 

@@ -4,16 +4,15 @@ use Rattle.std.specs.BTreeMap.{BTreeMap, get_by_text}
 use Rattle.std.specs.declared.string.String.{String}
 use Rattle.std.specs.declared.alloc.Global.{Global}
 use Rattle.std.specs.Hash.{HashWrites, usize}
-use Rattle.hack_features.specs.Names.{Name, names_of}
+use Rattle.hack_features.specs.Names.{Name}
 use Rattle.hack_features.specs.FeatureMap.{feature_map}
-use Rattle.hack_metadata.specs.Records.{DependencyRecord, PackageRecord, KindRecord, NodeDepRecord, NodeRecord, Nodes, MetadataRecord}
+use Rattle.hack_metadata.specs.Records.{DependencyRecord, PackageRecord, KindRecord, NodeDepRecord, NodeRecord, Nodes}
 use Rattle.hack_metadata.specs.declared.package.Dependency.{Dependency}
 use Rattle.hack_metadata.specs.declared.package.Package.{Package}
 use Rattle.hack_metadata.specs.declared.resolve.PackageId.{PackageId}
 use Rattle.hack_metadata.specs.declared.resolve.DepKindInfo.{DepKindInfo}
 use Rattle.hack_metadata.specs.declared.resolve.NodeDep.{NodeDep}
 use Rattle.hack_metadata.specs.declared.resolve.Node.{Node}
-use Rattle.hack_metadata.specs.declared.resolve.Resolve.{Resolve}
 
 -- a dependency
 abbrev pub dependency_view : Dependency → DependencyRecord

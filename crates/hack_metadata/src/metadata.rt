@@ -10,13 +10,13 @@ ghost use Rattle.hack_metadata.specs.Gives.{Gives};
 ghost use Rattle.hack_metadata.specs.Read.{read_metadata, read_behind, read_member};
 ghost use Rattle.hack_metadata.specs.Read.{members_in, resolve_in, ids_of, place_of, distinct};
 ghost use Rattle.hack_metadata.specs.View.{package_view, nodes_view, place_at, place_in};
-ghost use Rattle.hack_metadata.specs.Whole.{metadata_view};
+ghost use Rattle.hack_metadata.specs.Known.{Bounds, are_known};
 
 pub use crate::fault::MetadataFault;
 pub use crate::object::{Object, ObjectExt, object_of};
 pub use crate::package::{Dependency, OptionalDeps, Package};
-pub use crate::resolve::{DepKindInfo, Node, NodeDep, PackageId, Resolve};
 use crate::resolve::known;
+pub use crate::resolve::{DepKindInfo, Node, NodeDep, PackageId, Resolve};
 use serde_json::Value;
 use std::alloc::{AllocError, Global};
 use std::collections::{BTreeMap, BTreeSet};
@@ -34,9 +34,14 @@ pub struct Metadata {
     pub resolve: Resolve,
     /// The absolute path of the folder of the workspace.
     pub workspace_root: String,
+    // Each id is that of a package.
+    ghost known: { are_known (length packages.items) (map place_at workspace_members.items)
+        (nodes_view resolve.nodes) ≡ true },
 }
 
 impl Metadata {
+    ghost use Rattle.hack_metadata.specs.Whole.{metadata_view};
+
     /// Reads the object that `cargo metadata` prints; `cargo_version` is the minor version of that
     /// cargo, since some fields came with a later one. A member that is named again counts once, at
     /// its first place.
@@ -62,6 +67,7 @@ impl Metadata {
         ids: &BTreeMap<String, PackageId>,
         cargo_version: u32,
     ) -> Result<Metadata, MetadataFault>
+        requires { Bounds (place_in ids.now) (length packages.items) }
         ensures { Gives metadata_view result (read_behind cargo_version
             (map package_view packages.items) (place_in ids.now) (members_view object.entries)) }
     {
@@ -146,10 +152,7 @@ fn members_from(
 }
 
 /// The member that an element names.
-fn member_of(
-    value: Value,
-    ids: &BTreeMap<String, PackageId>,
-) -> Result<PackageId, MetadataFault>
+fn member_of(value: Value, ids: &BTreeMap<String, PackageId>) -> Result<PackageId, MetadataFault>
     ensures { Gives place_at result (read_member (place_in ids.now) (view value)) }
 {
     match value {
@@ -178,7 +181,7 @@ fn keep(
 ) -> Result<(), AllocError>
     ensures kept { OnOk result (map place_at kept.new.items
         ≡ (if contains nat_cmp seen.old id.index then map place_at kept.old.items
-            else map place_at kept.old.items ++ id.index ∷ [])) }
+        else map place_at kept.old.items ++ id.index ∷ [])) }
     ensures seen { OnOk result ((y : ℕ) → contains nat_cmp seen.new y
         ≡ (if id.index == y then true else contains nat_cmp seen.old y)) }
 {

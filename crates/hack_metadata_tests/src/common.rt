@@ -11,7 +11,9 @@ pub fn read(alloc: Global, text: &str, minor: u32) -> Result<Metadata, MetadataF
 
 /// The metadata of these packages and members, without a graph.
 pub fn whole(alloc: Global, packages: &str, members: &str) -> Result<String, AllocError> {
-    format!(in alloc; "{{\"packages\":{packages},\"workspace_members\":{members},\"resolve\":null,\"workspace_root\":\"/w\"}}")
+    format!(in alloc;
+        "{{\"packages\":{packages},\"workspace_members\":{members},\"resolve\":null,\"workspace_root\":\"/w\"}}"
+    )
 }
 
 /// The text of the fault, or `read`.

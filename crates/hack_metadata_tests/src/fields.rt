@@ -8,32 +8,85 @@ use std::test::Fail;
 #[test]
 fn fields_of_the_whole(rt: HostRuntime) -> Result<(), Fail> {
     let rows = [
-        (r#"{"packages":[],"workspace_members":[],"resolve":null,"workspace_root":"/w"}"#, 90, "read"),
+        (
+            r#"{"packages":[],"workspace_members":[],"resolve":null,"workspace_root":"/w"}"#,
+            90,
+            "read",
+        ),
         ("{}", 90, "packages"),
         (r#"{"packages":[]}"#, 90, "workspace_members"),
         (r#"{"packages":[],"workspace_members":[]}"#, 90, "resolve"),
-        (r#"{"packages":[],"workspace_members":[],"resolve":null}"#, 90, "workspace_root"),
-        (r#"{"packages":[],"workspace_members":[],"workspace_root":"/w"}"#, 90, "resolve"),
-        (r#"{"packages":[],"workspace_members":[],"resolve":null,"workspace_root":1}"#, 90, "workspace_root"),
-        (r#"{"packages":[],"workspace_members":["x"],"resolve":null,"workspace_root":"/w"}"#, 90, "workspace_members"),
-        (r#"{"packages":[],"workspace_members":[1],"resolve":null,"workspace_root":"/w"}"#, 90, "workspace_members"),
-        (r#"{"packages":[],"workspace_members":{},"resolve":null,"workspace_root":"/w"}"#, 90, "workspace_members"),
-        (r#"{"packages":[1],"workspace_members":["x"],"resolve":null,"workspace_root":"/w"}"#, 90, "packages"),
-        (r#"{"packages":{},"workspace_members":[],"resolve":null,"workspace_root":"/w"}"#, 90, "packages"),
-        (r#"{"packages":[],"workspace_members":[],"resolve":"x","workspace_root":"/w"}"#, 90, "resolve"),
-        (r#"{"packages":[],"workspace_members":[],"resolve":{},"workspace_root":"/w"}"#, 90, "nodes"),
-        (r#"{"packages":[],"workspace_members":[],"resolve":{"nodes":{}},"workspace_root":"/w"}"#, 90, "nodes"),
-        (r#"{"packages":[],"workspace_members":[],"resolve":{"nodes":[[]]},"workspace_root":"/w"}"#, 90, "nodes"),
-        (r#"{"packages":[],"workspace_members":[],"resolve":{"nodes":[]},"workspace_root":"/w"}"#, 90, "read"),
+        (
+            r#"{"packages":[],"workspace_members":[],"resolve":null}"#,
+            90,
+            "workspace_root",
+        ),
+        (
+            r#"{"packages":[],"workspace_members":[],"workspace_root":"/w"}"#,
+            90,
+            "resolve",
+        ),
+        (
+            r#"{"packages":[],"workspace_members":[],"resolve":null,"workspace_root":1}"#,
+            90,
+            "workspace_root",
+        ),
+        (
+            r#"{"packages":[],"workspace_members":["x"],"resolve":null,"workspace_root":"/w"}"#,
+            90,
+            "workspace_members",
+        ),
+        (
+            r#"{"packages":[],"workspace_members":[1],"resolve":null,"workspace_root":"/w"}"#,
+            90,
+            "workspace_members",
+        ),
+        (
+            r#"{"packages":[],"workspace_members":{},"resolve":null,"workspace_root":"/w"}"#,
+            90,
+            "workspace_members",
+        ),
+        (
+            r#"{"packages":[1],"workspace_members":["x"],"resolve":null,"workspace_root":"/w"}"#,
+            90,
+            "packages",
+        ),
+        (
+            r#"{"packages":{},"workspace_members":[],"resolve":null,"workspace_root":"/w"}"#,
+            90,
+            "packages",
+        ),
+        (
+            r#"{"packages":[],"workspace_members":[],"resolve":"x","workspace_root":"/w"}"#,
+            90,
+            "resolve",
+        ),
+        (
+            r#"{"packages":[],"workspace_members":[],"resolve":{},"workspace_root":"/w"}"#,
+            90,
+            "nodes",
+        ),
+        (
+            r#"{"packages":[],"workspace_members":[],"resolve":{"nodes":{}},"workspace_root":"/w"}"#,
+            90,
+            "nodes",
+        ),
+        (
+            r#"{"packages":[],"workspace_members":[],"resolve":{"nodes":[[]]},"workspace_root":"/w"}"#,
+            90,
+            "nodes",
+        ),
+        (
+            r#"{"packages":[],"workspace_members":[],"resolve":{"nodes":[]},"workspace_root":"/w"}"#,
+            90,
+            "read",
+        ),
     ];
     Ok(outcomes(&rt, &rows)?)
 }
 
 /// The same for the packages of metadata without members.
-fn packages<R: Abort + AllocGlobal>(
-    rt: &R,
-    rows: &[(&str, u32, &str)],
-) -> Result<(), AllocError> {
+fn packages<R: Abort + AllocGlobal>(rt: &R, rows: &[(&str, u32, &str)]) -> Result<(), AllocError> {
     for (packages, minor, want) in rows {
         let text = whole(rt.alloc(), packages, "[]")?;
         outcomes(rt, &[(text.as_str(), *minor, *want)])?;
@@ -48,21 +101,81 @@ fn fields_of_a_package(rt: HostRuntime) -> Result<(), Fail> {
         (r#"[{"id":1}]"#, 57, "id"),
         (r#"[{"id":"a"}]"#, 57, "name"),
         (r#"[{"id":"a","name":"p"}]"#, 57, "version"),
-        (r#"[{"id":"a","name":"p","version":"1.0.0"}]"#, 57, "dependencies"),
-        (r#"[{"id":"a","name":"p","version":"1.0.0","dependencies":{}}]"#, 57, "dependencies"),
-        (r#"[{"id":"a","name":"p","version":"1.0.0","dependencies":["d"]}]"#, 57, "dependencies"),
-        (r#"[{"id":"a","name":"p","version":"1.0.0","dependencies":[]}]"#, 57, "features"),
-        (r#"[{"id":"a","name":"p","version":"1.0.0","dependencies":[],"features":[]}]"#, 57, "features"),
-        (r#"[{"id":"a","name":"p","version":"1.0.0","dependencies":[],"features":{"f":[1]}}]"#, 57, "features"),
-        (r#"[{"id":"a","name":"p","version":"1.0.0","dependencies":[],"features":{"f":"g"}}]"#, 57, "features"),
-        (r#"[{"id":"a","name":"p","version":"1.0.0","dependencies":[],"features":{}}]"#, 57, "manifest_path"),
-        (r#"[{"id":"a","name":"p","version":"1.0.0","dependencies":[],"features":{},"manifest_path":"m"}]"#, 38, "read"),
-        (r#"[{"id":"a","name":"p","version":"1.0.0","dependencies":[],"features":{},"manifest_path":"m"}]"#, 39, "publish"),
-        (r#"[{"id":"a","name":"p","version":"1.0.0","dependencies":[],"features":{},"manifest_path":"m","publish":true}]"#, 39, "publish"),
-        (r#"[{"id":"a","name":"p","version":"1.0.0","dependencies":[],"features":{},"manifest_path":"m","publish":null}]"#, 57, "read"),
-        (r#"[{"id":"a","name":"p","version":"1.0.0","dependencies":[],"features":{},"manifest_path":"m","publish":null}]"#, 58, "rust_version"),
-        (r#"[{"id":"a","name":"p","version":"1.0.0","dependencies":[],"features":{},"manifest_path":"m","publish":null,"rust_version":1}]"#, 58, "rust_version"),
-        (r#"[{"id":"a","name":"p","version":"1.0.0","dependencies":[],"features":{},"manifest_path":"m","publish":null,"rust_version":null}]"#, 58, "read"),
+        (
+            r#"[{"id":"a","name":"p","version":"1.0.0"}]"#,
+            57,
+            "dependencies",
+        ),
+        (
+            r#"[{"id":"a","name":"p","version":"1.0.0","dependencies":{}}]"#,
+            57,
+            "dependencies",
+        ),
+        (
+            r#"[{"id":"a","name":"p","version":"1.0.0","dependencies":["d"]}]"#,
+            57,
+            "dependencies",
+        ),
+        (
+            r#"[{"id":"a","name":"p","version":"1.0.0","dependencies":[]}]"#,
+            57,
+            "features",
+        ),
+        (
+            r#"[{"id":"a","name":"p","version":"1.0.0","dependencies":[],"features":[]}]"#,
+            57,
+            "features",
+        ),
+        (
+            r#"[{"id":"a","name":"p","version":"1.0.0","dependencies":[],"features":{"f":[1]}}]"#,
+            57,
+            "features",
+        ),
+        (
+            r#"[{"id":"a","name":"p","version":"1.0.0","dependencies":[],"features":{"f":"g"}}]"#,
+            57,
+            "features",
+        ),
+        (
+            r#"[{"id":"a","name":"p","version":"1.0.0","dependencies":[],"features":{}}]"#,
+            57,
+            "manifest_path",
+        ),
+        (
+            r#"[{"id":"a","name":"p","version":"1.0.0","dependencies":[],"features":{},"manifest_path":"m"}]"#,
+            38,
+            "read",
+        ),
+        (
+            r#"[{"id":"a","name":"p","version":"1.0.0","dependencies":[],"features":{},"manifest_path":"m"}]"#,
+            39,
+            "publish",
+        ),
+        (
+            r#"[{"id":"a","name":"p","version":"1.0.0","dependencies":[],"features":{},"manifest_path":"m","publish":true}]"#,
+            39,
+            "publish",
+        ),
+        (
+            r#"[{"id":"a","name":"p","version":"1.0.0","dependencies":[],"features":{},"manifest_path":"m","publish":null}]"#,
+            57,
+            "read",
+        ),
+        (
+            r#"[{"id":"a","name":"p","version":"1.0.0","dependencies":[],"features":{},"manifest_path":"m","publish":null}]"#,
+            58,
+            "rust_version",
+        ),
+        (
+            r#"[{"id":"a","name":"p","version":"1.0.0","dependencies":[],"features":{},"manifest_path":"m","publish":null,"rust_version":1}]"#,
+            58,
+            "rust_version",
+        ),
+        (
+            r#"[{"id":"a","name":"p","version":"1.0.0","dependencies":[],"features":{},"manifest_path":"m","publish":null,"rust_version":null}]"#,
+            58,
+            "read",
+        ),
     ];
     Ok(packages(&rt, &rows)?)
 }
@@ -70,12 +183,36 @@ fn fields_of_a_package(rt: HostRuntime) -> Result<(), Fail> {
 #[test]
 fn fields_of_a_dependency(rt: HostRuntime) -> Result<(), Fail> {
     let rows = [
-        (r#"[{"id":"a","name":"p","version":"1.0.0","dependencies":[{}]}]"#, 57, "name"),
-        (r#"[{"id":"a","name":"p","version":"1.0.0","dependencies":[{"name":"d"}]}]"#, 57, "optional"),
-        (r#"[{"id":"a","name":"p","version":"1.0.0","dependencies":[{"name":"d","optional":null}]}]"#, 57, "optional"),
-        (r#"[{"id":"a","name":"p","version":"1.0.0","dependencies":[{"name":"d","optional":true}]}]"#, 57, "rename"),
-        (r#"[{"id":"a","name":"p","version":"1.0.0","dependencies":[{"name":"d","optional":true,"rename":1}]}]"#, 57, "rename"),
-        (r#"[{"id":"a","name":"p","version":"1.0.0","dependencies":[{"name":"d","optional":true,"rename":null}]}]"#, 57, "features"),
+        (
+            r#"[{"id":"a","name":"p","version":"1.0.0","dependencies":[{}]}]"#,
+            57,
+            "name",
+        ),
+        (
+            r#"[{"id":"a","name":"p","version":"1.0.0","dependencies":[{"name":"d"}]}]"#,
+            57,
+            "optional",
+        ),
+        (
+            r#"[{"id":"a","name":"p","version":"1.0.0","dependencies":[{"name":"d","optional":null}]}]"#,
+            57,
+            "optional",
+        ),
+        (
+            r#"[{"id":"a","name":"p","version":"1.0.0","dependencies":[{"name":"d","optional":true}]}]"#,
+            57,
+            "rename",
+        ),
+        (
+            r#"[{"id":"a","name":"p","version":"1.0.0","dependencies":[{"name":"d","optional":true,"rename":1}]}]"#,
+            57,
+            "rename",
+        ),
+        (
+            r#"[{"id":"a","name":"p","version":"1.0.0","dependencies":[{"name":"d","optional":true,"rename":null}]}]"#,
+            57,
+            "features",
+        ),
     ];
     Ok(packages(&rt, &rows)?)
 }
@@ -83,7 +220,9 @@ fn fields_of_a_dependency(rt: HostRuntime) -> Result<(), Fail> {
 /// The same for the nodes of metadata with one package, whose id is `a`.
 fn nodes<R: Abort + AllocGlobal>(rt: &R, rows: &[(&str, u32, &str)]) -> Result<(), AllocError> {
     for (nodes, minor, want) in rows {
-        let text = format!(in rt.alloc(); "{{\"packages\":[{{\"id\":\"a\",\"name\":\"p\",\"version\":\"1.0.0\",\"dependencies\":[],\"features\":{{}},\"manifest_path\":\"m\",\"publish\":null}}],\"workspace_members\":[\"a\"],\"resolve\":{{\"nodes\":{nodes}}},\"workspace_root\":\"/w\"}}")?;
+        let text = format!(in rt.alloc();
+            "{{\"packages\":[{{\"id\":\"a\",\"name\":\"p\",\"version\":\"1.0.0\",\"dependencies\":[],\"features\":{{}},\"manifest_path\":\"m\",\"publish\":null}}],\"workspace_members\":[\"a\"],\"resolve\":{{\"nodes\":{nodes}}},\"workspace_root\":\"/w\"}}"
+        )?;
         outcomes(rt, &[(text.as_str(), *minor, *want)])?;
     }
     Ok(())
@@ -102,11 +241,31 @@ fn fields_of_a_node(rt: HostRuntime) -> Result<(), Fail> {
         (r#"[{"id":"a","deps":[{"pkg":"x"}]}]"#, 41, "pkg"),
         (r#"[{"id":"a","deps":[{"pkg":"a"}]}]"#, 40, "read"),
         (r#"[{"id":"a","deps":[{"pkg":"a"}]}]"#, 41, "dep_kinds"),
-        (r#"[{"id":"a","deps":[{"pkg":"a","dep_kinds":[null]}]}]"#, 41, "dep_kinds"),
-        (r#"[{"id":"a","deps":[{"pkg":"a","dep_kinds":[{}]}]}]"#, 41, "kind"),
-        (r#"[{"id":"a","deps":[{"pkg":"a","dep_kinds":[{"kind":1}]}]}]"#, 41, "kind"),
-        (r#"[{"id":"a","deps":[{"pkg":"a","dep_kinds":[{"kind":null}]}]}]"#, 41, "target"),
-        (r#"[{"id":"a","deps":[{"pkg":"a","dep_kinds":[{"kind":null,"target":null}]}]}]"#, 41, "read"),
+        (
+            r#"[{"id":"a","deps":[{"pkg":"a","dep_kinds":[null]}]}]"#,
+            41,
+            "dep_kinds",
+        ),
+        (
+            r#"[{"id":"a","deps":[{"pkg":"a","dep_kinds":[{}]}]}]"#,
+            41,
+            "kind",
+        ),
+        (
+            r#"[{"id":"a","deps":[{"pkg":"a","dep_kinds":[{"kind":1}]}]}]"#,
+            41,
+            "kind",
+        ),
+        (
+            r#"[{"id":"a","deps":[{"pkg":"a","dep_kinds":[{"kind":null}]}]}]"#,
+            41,
+            "target",
+        ),
+        (
+            r#"[{"id":"a","deps":[{"pkg":"a","dep_kinds":[{"kind":null,"target":null}]}]}]"#,
+            41,
+            "read",
+        ),
     ];
     Ok(nodes(&rt, &rows)?)
 }
