@@ -5,7 +5,7 @@ PROGRAM := crates/powerset_list/out/powerset_list
 EXCLUSIVE := native-tls,openssl,rustls
 
 .DEFAULT_GOAL := help
-.PHONY: help run program install test quick planted bench faults
+.PHONY: help run program install test quick planted bench faults stand-ins
 
 help:
 	@echo 'make run      prints the command list of the sample in examples/, by a trial build without proofs'
@@ -14,6 +14,7 @@ help:
 	@echo 'make planted  tries the edits that the gate leaves out, of all crates or of CRATE=NAME'
 	@echo 'make install  proves and builds powerset-list, and installs it in PREFIX/bin (PREFIX=$(PREFIX))'
 	@echo 'make bench    proves and builds powerset-list, and prints its times, memory and lines'
+	@echo 'make stand-ins  proves and builds the programs that stand in for cargo and rustup, and tries them'
 	@echo 'make faults   proves and builds powerset-list, and compares what it tells of refused calls'
 
 # A trial build proves nothing, and so is ready in less than a minute.
@@ -43,3 +44,6 @@ bench: program
 
 faults: program
 	@tests/faults $(PROGRAM)
+
+stand-ins:
+	@tests/stand_ins

@@ -3,6 +3,7 @@
 
 pub mod cli;
 
+pub use hack_files::{fs, restore};
 pub use hack_lexopt as lexopt;
 pub use hack_term::{lists, partition, term};
 pub use hack_versions::{rustup, version};
