@@ -1,9 +1,14 @@
-use Rattle.std.proofs.Common.{length}
-use Rattle.hack_metadata.specs.View.{nodes_view}
+use Rattle.std.proofs.Common.{◌≡◌, true, length, map, sym, subst}
+use Rattle.hack_metadata.specs.Known.{are_known}
+use Rattle.hack_metadata.specs.View.{place_at, nodes_view}
 use Rattle.hack_metadata.proofs.KnownLemmas.{member-below}
 use Rattle.hack_metadata_tests.proofs.records.members.Goals as goal
 
 -- a member is a package of the metadata
 pub get-requires : goal.get-requires
 get-requires c =
-    member-below (length c.args.metadata.now.packages.items) c.args.metadata.now.workspace_members.items (nodes_view c.args.metadata.now.resolve.nodes) c.loop-id.id-index (record { index = 0 }) c.args.metadata.now.known c.loop-id-test.true
+    let metadata = c.args.metadata.now in
+    let nodes = nodes_view metadata.resolve.nodes in
+    member-below (length metadata.packages.items) c.deref-id-items.result.now nodes c.loop-id.id-index (record { index = 0 })
+    (subst (λ ids. are_known (length metadata.packages.items) (map place_at ids) nodes ≡ true) (sym c.deref-id-items.ensures.value) metadata.known)
+    c.loop-id-test.true
