@@ -11,7 +11,8 @@ ghost use Rattle.hack_metadata.specs.SpecAnswers.{agrees_if_given, agrees, fits,
 ghost use Rattle.hack_metadata.specs.SpecAnswers.{behind_name, in_fragment, of_fragments};
 ghost use Rattle.hack_metadata.specs.SpecAnswers.{is_place, alone_in};
 ghost use Rattle.hack_metadata.specs.SpecAnswers.{IsReadAs, IsNoUrl, IsSchemeCut, IsBehind};
-ghost use Rattle.hack_metadata.specs.SpecAnswers.{behind_separator, behind_byte, cut_by, earlier, of_urls};
+ghost use Rattle.hack_metadata.specs.SpecAnswers.{behind_separator, behind_byte, of_urls};
+ghost use Rattle.hack_metadata.specs.SpecAnswers.{cut_by, earlier};
 ghost use Rattle.hack_metadata.specs.SpecViews.{pair_view, version_view, url_view, identity_of};
 
 use crate::package::Package;

@@ -94,7 +94,8 @@ impl Metadata {
 
 /// Which package each id means: of packages with one id the last.
 fn places_of(alloc: Global, packages: &[Package]) -> Result<BTreeMap<String, PackageId>, AllocError>
-    ensures { IfOk result (λ ids. place_in ids ≡ place_of (ids_of (map package_view packages.now))) }
+    ensures { IfOk result (λ ids. place_in ids
+        ≡ place_of (ids_of (map package_view packages.now))) }
 {
     let mut ids = BTreeMap::new(alloc);
     for (index, package) in packages.iter().enumerate() {

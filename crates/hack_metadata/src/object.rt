@@ -18,7 +18,8 @@ use std::alloc::Global;
 /// An object of JSON.
 pub type Object = Map<String, Value>;
 
-/// The object of JSON that a text is. A name that stands twice in an object counts with its last value.
+/// The object of JSON that a text is. A name that stands twice in an object counts with its last
+/// value.
 pub fn object_of(alloc: Global, text: &str) -> Result<Object, MetadataFault>
     ensures ok { IfOk result (λ m. object_in_text text.now ≡ Some (members_view m.entries)) }
     ensures err { IfErr result (λ e. (e ≡ MetadataFault.Memory)

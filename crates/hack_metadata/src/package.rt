@@ -1,14 +1,15 @@
 //! Packages and the dependencies that their manifests name.
 
-ghost use Rattle.std.specs.Prelude.{◌≡◌, map, codes, IfOk, option_map, option_and_then, option_copied};
-ghost use Rattle.std.specs.Prelude.{string_bytes};
+ghost use Rattle.std.specs.Prelude.{◌≡◌, map, codes, IfOk, option_map, option_and_then};
+ghost use Rattle.std.specs.Prelude.{option_copied, string_bytes};
 ghost use Rattle.serde_json.specs.Find.{as_array};
 ghost use Rattle.serde_json.specs.View.{view, items_view, members_view};
 ghost use Rattle.hack_features.specs.Names.{names_of};
 ghost use Rattle.hack_features.specs.FeatureMap.{feature_map};
 ghost use Rattle.hack_metadata.specs.Fields.{read_all, KeepsOthers};
 ghost use Rattle.hack_metadata.specs.Gives.{Gives};
-ghost use Rattle.hack_metadata.specs.Read.{read_dependency, read_package, texts_of, features_of, features_in};
+ghost use Rattle.hack_metadata.specs.Read.{read_dependency, read_package, features_in};
+ghost use Rattle.hack_metadata.specs.Read.{texts_of, features_of};
 ghost use Rattle.hack_metadata.specs.Read.{has_items, publish_in, rust_version_in};
 ghost use Rattle.hack_metadata.specs.View.{dependency_view, package_view};
 ghost use Rattle.hack_metadata.specs.Optional.{feature_of, optional_in, TakesOptional};
@@ -116,8 +117,8 @@ impl Package {
         })
     }
 
-    /// The names of the optional dependencies, in the order of the dependencies. A name that several
-    /// dependencies have comes as often.
+    /// The names of the optional dependencies, in the order of the dependencies. A name that
+    /// several dependencies have comes as often.
     pub fn optional_deps(&self) -> OptionalDeps<'_>
         ensures { names_left result ≡ optional_in (package_view self.now).dependencies }
     {
