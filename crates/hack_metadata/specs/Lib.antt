@@ -10,3 +10,5 @@ pub mod SpecAnswers
 pub mod SpecViews
 pub mod View
 pub mod Whole
+pub mod Left
+pub mod Requests

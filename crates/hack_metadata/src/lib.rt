@@ -1,8 +1,13 @@
 //! What cargo tells of a workspace: the records of `cargo metadata`, and package ID specifications.
 #![tactic(auto)]
 
+mod answers;
+mod ask;
+mod ask_fault;
 pub mod cargo;
+mod commands;
 mod fault;
+mod lockfile;
 pub mod metadata;
 mod object;
 mod package;

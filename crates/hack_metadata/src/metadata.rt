@@ -12,6 +12,7 @@ ghost use Rattle.hack_metadata.specs.Read.{members_in, resolve_in, ids_of, place
 ghost use Rattle.hack_metadata.specs.View.{package_view, nodes_view, place_at, place_in};
 ghost use Rattle.hack_metadata.specs.Known.{Bounds, are_known};
 
+pub use crate::ask_fault::AskFault;
 pub use crate::fault::MetadataFault;
 pub use crate::object::{Object, ObjectExt, object_of};
 pub use crate::package::{Dependency, OptionalDeps, Package};

@@ -1,0 +1,72 @@
+-- The commands that ask cargo for the metadata of a workspace, word by word.
+use Rattle.std.specs.Prelude.{ℕ, Bool, true, false, List, [], ◌∷◌, ◌++◌, Option, Some, None, codes, map, option_map, string_bytes}
+use Rattle.hack_features.specs.Names.{Name}
+use Rattle.hack_process.specs.CommandTexts.{Command}
+use Rattle.hack_words.specs.declared.cli.args.Args.{Args}
+use Rattle.hack_words.specs.declared.cli.env.Env.{Env}
+
+-- a program with these words, and none of a user
+abbrev pub command_line : Name → List Name → Command
+command_line program words = record { program = program; strip_program_path = false; leading = []; passed = []; own = words; features = None; trailing = [] }
+
+-- the manifest path as words
+abbrev pub path_words : Option Name → List Name
+path_words None = []
+path_words (Some path) = codes "--manifest-path" ∷ path ∷ []
+
+-- each platform behind its option
+abbrev pub platform_words : List Name → List Name
+platform_words [] = []
+platform_words (p ∷ ps) = codes "--filter-platform" ∷ p ∷ platform_words ps
+
+-- the words for dependencies on these targets, or else on the host; none where that isn't known
+abbrev pub target_words : List Name → Option Name → Option (List Name)
+target_words [] None = None
+target_words [] (Some host) = Some (platform_words (host ∷ []))
+target_words (t ∷ ts) host = Some (platform_words (t ∷ ts))
+
+-- the words that say whose dependencies are told: nobody's, or those for targets
+abbrev pub scope_words : Bool → List Name → Option Name → Option (List Name)
+scope_words false targets host = Some (codes "--no-deps" ∷ [])
+scope_words true targets host = target_words targets host
+
+-- the full request with these words of scope
+abbrev pub full_with : Option Name → List Name → List Name
+full_with path scope = codes "metadata" ∷ codes "--format-version=1" ∷ (path_words path ++ scope)
+
+-- what is asked, and of whom
+pub record Question : Type 0 where
+  pub cargo : Name
+  pub rustup : Name
+  pub cargo_version : ℕ
+  pub deps : Bool
+  pub path : Option Name
+  -- the words of the full request; none where the host is wanted, and not known
+  pub full : Option (List Name)
+
+-- the question of these arguments
+abbrev pub question : Args → Env → ℕ → Option Name → Question
+question args env minor host = record {
+  cargo = string_bytes env.cargo;
+  rustup = string_bytes env.rustup;
+  cargo_version = minor;
+  deps = args.include_deps_features;
+  path = option_map string_bytes args.manifest_path;
+  full = option_map (full_with (option_map string_bytes args.manifest_path)) (scope_words args.include_deps_features (map string_bytes args.target.items) host);
+}
+
+-- stable's cargo with these words
+abbrev pub by_stable : Question → List Name → Command
+by_stable q words = command_line q.rustup (codes "run" ∷ codes "stable" ∷ codes "cargo" ∷ words)
+
+-- stable's cargo is asked for its version
+abbrev pub version_command : Name → Command
+version_command rustup = command_line rustup (codes "run" ∷ codes "stable" ∷ codes "cargo" ∷ codes "-vV" ∷ [])
+
+-- cargo is asked first, without dependencies
+abbrev pub first_command : Question → Command
+first_command q = command_line q.cargo (codes "metadata" ∷ codes "--format-version=1" ∷ codes "--no-deps" ∷ path_words q.path)
+
+-- cargo is to make the lockfile
+abbrev pub lock_command : Question → Command
+lock_command q = command_line q.cargo (codes "generate-lockfile" ∷ path_words q.path)

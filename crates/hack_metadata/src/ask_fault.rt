@@ -1,0 +1,51 @@
+//! Why cargo isn't had to tell of a workspace.
+
+use crate::fault::MetadataFault;
+use hack_files::fs::FsFault;
+use hack_process::process::ProcessFault;
+use std::alloc::{AllocError, AllocFailed};
+use thiserror::Error;
+
+/// Why the metadata of a workspace can't be had.
+#[derive(Debug, Drop, Error)]
+pub enum AskFault {
+    #[error("out of memory")]
+    Memory,
+    /// The dependencies for the host are wanted, and cargo told no host.
+    #[error("unable to determine host")]
+    NoHost,
+    /// A command failed.
+    #[error("{0}")]
+    Process(ProcessFault),
+    /// The lockfile can't be read, or written back.
+    #[error("{0}")]
+    Files(FsFault),
+    /// What this command, as a user reads it, wrote is no JSON object.
+    #[error("failed to parse output from {0}")]
+    Output(String),
+    /// The first field of the answer that is missing or ill typed.
+    #[error("failed to parse `{0}` field from metadata")]
+    Field(&'static str),
+}
+
+impl From<AllocError> for AskFault {
+    ghost use Rattle.std.specs.Prelude.{◌≡◌};
+    ghost use Rattle.hack_metadata.specs.declared.ask_fault.AskFault.TheVariants.{Memory};
+
+    ghost from_gives = { λ _ e. e ≡ Memory };
+
+    fn from(_: AllocError) -> AskFault {
+        AskFault::Memory
+    }
+}
+
+impl<T: Drop> From<AllocFailed<T>> for AskFault {
+    ghost use Rattle.std.specs.Prelude.{◌≡◌};
+    ghost use Rattle.hack_metadata.specs.declared.ask_fault.AskFault.TheVariants.{Memory};
+
+    ghost from_gives = { λ _ e. e ≡ Memory };
+
+    fn from(_: AllocFailed<T>) -> AskFault {
+        AskFault::Memory
+    }
+}

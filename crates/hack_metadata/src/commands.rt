@@ -1,0 +1,122 @@
+//! The commands that ask cargo for the metadata of a workspace, their words, and how they are run.
+
+use crate::ask_fault::AskFault;
+use hack_process::cargo::version;
+use hack_process::process::{Caller, ProcessBuilder, ProcessFault};
+use hack_versions::rustup::VersionTextFault;
+use hack_words::cli::{Args, Env};
+use std::alloc::{AllocError, Global};
+
+/// The manifest path as words of a command.
+pub(crate) fn manifest_words(alloc: Global, args: &Args) -> Result<Vec<String>, AllocError>
+{
+    let mut words = Vec::new(alloc);
+    match &args.manifest_path {
+        Some(path) => {
+            words.push(String::from_str(alloc, "--manifest-path")?)?;
+            words.push(path.clone()?)?;
+            Ok(words)
+        }
+        None => Ok(words),
+    }
+}
+
+/// The words of the full request.
+pub(crate) fn full_words(
+    alloc: Global,
+    args: &Args,
+    host: Option<&str>,
+) -> Result<Vec<String>, AskFault>
+{
+    let mut words = Vec::new(alloc);
+    words.push(String::from_str(alloc, "metadata")?)?;
+    words.push(String::from_str(alloc, "--format-version=1")?)?;
+    words.append(&mut manifest_words(alloc, args)?)?;
+    words.append(&mut platform_words(alloc, args, host)?)?;
+    Ok(words)
+}
+
+/// The words that say whose dependencies are told: nobody's, or those for each target, or else for
+/// the host.
+fn platform_words(
+    alloc: Global,
+    args: &Args,
+    host: Option<&str>,
+) -> Result<Vec<String>, AskFault>
+{
+    if !args.include_deps_features {
+        return Ok(no_deps(alloc)?);
+    }
+    if !args.target.is_empty() {
+        return Ok(target_words(alloc, &args.target)?);
+    }
+    match host {
+        Some(host) => Ok(host_words(alloc, host)?),
+        None => Err(AskFault::NoHost),
+    }
+}
+
+fn no_deps(alloc: Global) -> Result<Vec<String>, AllocError>
+{
+    let mut words = Vec::new(alloc);
+    words.push(String::from_str(alloc, "--no-deps")?)?;
+    Ok(words)
+}
+
+fn host_words(alloc: Global, host: &str) -> Result<Vec<String>, AllocError>
+{
+    let mut words = Vec::new(alloc);
+    words.push(String::from_str(alloc, "--filter-platform")?)?;
+    words.push(String::from_str(alloc, host)?)?;
+    Ok(words)
+}
+
+fn target_words(alloc: Global, targets: &[String]) -> Result<Vec<String>, AllocError>
+{
+    let mut words = Vec::new(alloc);
+    for target in targets {
+        words.push(String::from_str(alloc, "--filter-platform")?)?;
+        words.push(target.clone()?)?;
+    }
+    Ok(words)
+}
+
+/// A command of these words.
+pub(crate) fn command<'a>(
+    alloc: Global,
+    program: &str,
+    front: &[&str],
+    rest: &[String],
+) -> Result<ProcessBuilder<'a>, AllocError>
+{
+    let mut command = ProcessBuilder::new(alloc, program)?;
+    command.args(front)?;
+    command.args(rest)?;
+    Ok(command)
+}
+
+/// The minor version of stable's cargo, 0 where it can't be told.
+pub(crate) fn stable_minor<C: Caller>(
+    alloc: Global,
+    env: &Env,
+    caller: &mut C,
+) -> Result<u32, AllocError>
+{
+    let words = ["run", "stable", "cargo", "-vV"];
+    let asked = command(alloc, env.rustup.as_str(), &words, &[])?;
+    match asked.read(alloc, caller, env.current_dir.as_str()) {
+        Ok(answer) => told_minor(alloc, answer.as_str()),
+        Err(ProcessFault::Memory) => Err(AllocError),
+        Err(_) => Ok(0),
+    }
+}
+
+/// The minor version that an answer tells, or 0.
+fn told_minor(alloc: Global, answer: &str) -> Result<u32, AllocError>
+{
+    match version(alloc, answer) {
+        Ok(version) => Ok(version.minor),
+        Err(VersionTextFault::Memory) => Err(AllocError),
+        Err(_) => Ok(0),
+    }
+}

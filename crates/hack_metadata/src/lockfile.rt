@@ -1,0 +1,83 @@
+//! The lockfile, which is kept while stable's cargo runs.
+
+ghost use Rattle.std.specs.Prelude.{◌≡◌, ◌↔◌, ◌++◌, ◌∷◌, [], List, ℕ, Some, IfOk, OnOk, OnErr, IsTrue, IsSome};
+ghost use Rattle.hack_files.specs.Files.{KeepsAll};
+ghost use Rattle.hack_files.specs.Restore.{Kept, registered};
+ghost use Rattle.hack_metadata.specs.Left.{Keeps, Leaves, Restores, IsOfFile};
+
+use crate::ask_fault::AskFault;
+use hack_files::fs;
+use hack_files::fs::{FileFault, Files, FsFault};
+use hack_files::restore::Manager;
+use std::alloc::Global;
+
+/// Whether something is at the path.
+pub(crate) fn is_there<F: Files>(
+    alloc: Global,
+    path: &str,
+    files: &mut F,
+) -> Result<bool, AskFault>
+    ensures stays { F.stays files.old files.new }
+    ensures left { Leaves path.now F.tells (F.bytes_at files.old) (F.bytes_at files.new)
+        (F.failed files.old) (F.failed files.new) result }
+    ensures there { IfOk result (λ there. F.tells →
+        IsTrue there ↔ IsSome (F.bytes_at files.old path.now)) }
+{
+    match files.exists(path) {
+        Ok(there) => Ok(there),
+        Err(FileFault::Memory) => Err(AskFault::Memory),
+        Err(FileFault::Device) => {
+            let path = String::from_str(alloc, path)?;
+            Err(AskFault::Files(FsFault::Read(path)))
+        }
+    }
+}
+
+/// Has the manager keep what the path holds.
+pub(crate) fn keep<F: Files>(
+    alloc: Global,
+    path: &str,
+    files: &mut F,
+    manager: &mut Manager,
+) -> Result<(), AskFault>
+    ensures stays { F.stays files.old files.new }
+    ensures left { Leaves path.now F.tells (F.bytes_at files.old) (F.bytes_at files.new)
+        (F.failed files.old) (F.failed files.new) result }
+    ensures ok { OnOk result (Keeps path.now F.tells (F.bytes_at files.old)
+        (registered manager.old) (registered manager.new)) }
+    ensures err { OnErr result (registered manager.new ≡ registered manager.old) }
+    ensures needs { manager.new.needs_restore ≡ manager.old.needs_restore }
+{
+    let bytes = match fs::read(alloc, files, path) {
+        Ok(bytes) => bytes,
+        Err(fault) => return Err(file_fault(fault)),
+    };
+    manager.register_always(alloc, path, &bytes)?;
+    Ok(())
+}
+
+/// Puts back what the manager kept last.
+pub(crate) fn put_back<F: Files>(files: &mut F, manager: &mut Manager) -> Result<(), AskFault>
+    ensures stays { F.stays files.old files.new }
+    ensures back { (file : Kept) (earlier : List Kept)
+        → registered manager.old ≡ earlier ++ file ∷ [] → Restores file F.tells
+        (F.bytes_at files.old) (F.bytes_at files.new)
+        (F.failed files.old) (F.failed files.new) result }
+    ensures kept { (file : Kept) (earlier : List Kept)
+        → registered manager.old ≡ earlier ++ file ∷ [] → registered manager.new ≡ earlier }
+    ensures needs { manager.new.needs_restore ≡ manager.old.needs_restore }
+{
+    match manager.restore_last(files) {
+        Ok(()) => Ok(()),
+        Err(fault) => Err(file_fault(fault)),
+    }
+}
+
+fn file_fault(fault: FsFault) -> AskFault
+    ensures { IsOfFile fault result }
+{
+    match fault {
+        FsFault::Memory => AskFault::Memory,
+        fault => AskFault::Files(fault),
+    }
+}
