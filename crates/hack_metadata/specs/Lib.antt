@@ -10,5 +10,6 @@ pub mod SpecAnswers
 pub mod SpecViews
 pub mod View
 pub mod Whole
+pub mod Asks
 pub mod Left
 pub mod Requests

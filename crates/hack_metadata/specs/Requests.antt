@@ -34,12 +34,19 @@ scope_words true targets host = target_words targets host
 abbrev pub full_with : Option Name → List Name → List Name
 full_with path scope = codes "metadata" ∷ codes "--format-version=1" ∷ (path_words path ++ scope)
 
+-- the words of the full request; none where the host is wanted, and not known
+abbrev pub full_of : Args → Option Name → Option (List Name)
+full_of args host = option_map (full_with (option_map string_bytes args.manifest_path)) (scope_words args.include_deps_features (map string_bytes args.target.items) host)
+
 -- what is asked, and of whom
 pub record Question : Type 0 where
   pub cargo : Name
   pub rustup : Name
   pub cargo_version : ℕ
   pub deps : Bool
+  -- the folder that paths are shown in, and whether commands are shown verbose
+  pub dir : Name
+  pub verbose : Bool
   pub path : Option Name
   -- the words of the full request; none where the host is wanted, and not known
   pub full : Option (List Name)
@@ -51,8 +58,10 @@ question args env minor host = record {
   rustup = string_bytes env.rustup;
   cargo_version = minor;
   deps = args.include_deps_features;
+  dir = string_bytes env.current_dir;
+  verbose = args.verbose;
   path = option_map string_bytes args.manifest_path;
-  full = option_map (full_with (option_map string_bytes args.manifest_path)) (scope_words args.include_deps_features (map string_bytes args.target.items) host);
+  full = full_of args host;
 }
 
 -- stable's cargo with these words

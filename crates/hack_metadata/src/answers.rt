@@ -1,5 +1,17 @@
 //! What the commands that ask for metadata answer.
 
+ghost use Rattle.std.specs.Prelude.{◌≡◌, Some, IfOk, IfErr, OnOk, true, string_bytes};
+ghost use Rattle.serde_json.specs.View.{members_view};
+ghost use Rattle.hack_process.specs.Calls.{MayAdd};
+ghost use Rattle.hack_process.specs.CommandTexts.{text_of};
+ghost use Rattle.hack_process.specs.Commands.{asked_of, command_of};
+ghost use Rattle.hack_process.specs.Faults.{IsFault, IsReadFault};
+ghost use Rattle.hack_metadata.specs.Asks.{FailsAs, IsObjectFault, IsTextFault, Reads, Runs};
+ghost use Rattle.hack_metadata.specs.Asks.{TellsAs, root_of};
+ghost use Rattle.hack_metadata.specs.Fields.{object_in_text};
+ghost use Rattle.hack_metadata.specs.Read.{read_metadata};
+ghost use Rattle.hack_metadata.specs.Whole.{metadata_view};
+
 use crate::ask_fault::AskFault;
 use crate::fault::MetadataFault;
 use crate::metadata::{Metadata, Object, ObjectExt, object_of};
@@ -14,10 +26,18 @@ pub(crate) fn run<C: Caller>(
     env: &Env,
     caller: &mut C,
 ) -> Result<(), AskFault>
+    ensures ok { OnOk result (C.tells → Runs (command_of asked.now)
+        (C.calls caller.old) (C.calls caller.new)) }
+    ensures err { IfErr result (FailsAs (C.tells → MayAdd (asked_of true (command_of asked.now))
+        (C.calls caller.old) (C.calls caller.new)) (IsFault C.tells
+        (asked_of true (command_of asked.now))
+        (text_of true (string_bytes env.now.current_dir) (command_of asked.now))
+        (C.calls caller.old) (C.calls caller.new))) }
 {
     match asked.run_with_output(alloc, caller, env.current_dir.as_str()) {
         Ok(_) => Ok(()),
-        Err(fault) => Err(process_fault(fault)),
+        Err(ProcessFault::Memory) => Err(AskFault::Memory),
+        Err(fault) => Err(AskFault::Process(fault)),
     }
 }
 
@@ -28,18 +48,18 @@ pub(crate) fn read<C: Caller>(
     env: &Env,
     caller: &mut C,
 ) -> Result<String, AskFault>
+    ensures ok { IfOk result (λ text. C.tells → Reads (command_of asked.now)
+        (string_bytes text) (C.calls caller.old) (C.calls caller.new)) }
+    ensures err { IfErr result (FailsAs (C.tells → MayAdd (asked_of true (command_of asked.now))
+        (C.calls caller.old) (C.calls caller.new)) (IsReadFault C.tells
+        (asked_of true (command_of asked.now))
+        (text_of true (string_bytes env.now.current_dir) (command_of asked.now))
+        (C.calls caller.old) (C.calls caller.new))) }
 {
     match asked.read(alloc, caller, env.current_dir.as_str()) {
         Ok(text) => Ok(text),
-        Err(fault) => Err(process_fault(fault)),
-    }
-}
-
-fn process_fault(fault: ProcessFault) -> AskFault
-{
-    match fault {
-        ProcessFault::Memory => AskFault::Memory,
-        fault => AskFault::Process(fault),
+        Err(ProcessFault::Memory) => Err(AskFault::Memory),
+        Err(fault) => Err(AskFault::Process(fault)),
     }
 }
 
@@ -52,8 +72,14 @@ pub(crate) fn metadata_in(
     args: &Args,
     env: &Env,
 ) -> Result<Metadata, AskFault>
+    ensures ok { IfOk result (λ m. TellsAs (read_metadata minor) text.now (metadata_view m)) }
+    ensures err { IfErr result (IsTextFault (read_metadata minor) text.now (text_of args.now.verbose
+        (string_bytes env.now.current_dir) (command_of asked.now))) }
 {
-    let object = object_in(alloc, text, asked, args, env)?;
+    let object = match object_in(alloc, text, asked, args, env) {
+        Ok(object) => object,
+        Err(fault) => return Err(fault),
+    };
     match Metadata::from_obj(alloc, object, minor) {
         Ok(metadata) => Ok(metadata),
         Err(MetadataFault::Field(name)) => Err(AskFault::Field(name)),
@@ -69,8 +95,14 @@ pub(crate) fn root_in(
     args: &Args,
     env: &Env,
 ) -> Result<String, AskFault>
+    ensures ok { IfOk result (λ root. TellsAs root_of text.now (string_bytes root)) }
+    ensures err { IfErr result (IsTextFault root_of text.now (text_of args.now.verbose
+        (string_bytes env.now.current_dir) (command_of asked.now))) }
 {
-    let mut object = object_in(alloc, text, asked, args, env)?;
+    let mut object = match object_in(alloc, text, asked, args, env) {
+        Ok(object) => object,
+        Err(fault) => return Err(fault),
+    };
     match object.remove_string("workspace_root") {
         Ok(root) => Ok(root),
         Err(MetadataFault::Field(name)) => Err(AskFault::Field(name)),
@@ -86,6 +118,9 @@ fn object_in(
     args: &Args,
     env: &Env,
 ) -> Result<Object, AskFault>
+    ensures ok { IfOk result (λ m. object_in_text text.now ≡ Some (members_view m.entries)) }
+    ensures err { IfErr result (IsObjectFault text.now (text_of args.now.verbose
+        (string_bytes env.now.current_dir) (command_of asked.now))) }
 {
     match object_of(alloc, text) {
         Ok(object) => Ok(object),

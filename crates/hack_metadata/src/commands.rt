@@ -1,5 +1,13 @@
 //! The commands that ask cargo for the metadata of a workspace, their words, and how they are run.
 
+ghost use Rattle.std.specs.Prelude.{◌≡◌, ◌⊎◌, ◌++◌, ◌∷◌, [], Some, None, IfOk, IfErr, OnErr};
+ghost use Rattle.std.specs.Prelude.{codes, map, option_copied, option_map, string_bytes, true};
+ghost use Rattle.hack_process.specs.Calls.{MayAdd};
+ghost use Rattle.hack_process.specs.Commands.{asked_of, command_of};
+ghost use Rattle.hack_metadata.specs.Asks.{MinorOf, TellsStable};
+ghost use Rattle.hack_metadata.specs.Requests.{command_line, full_of, path_words};
+ghost use Rattle.hack_metadata.specs.Requests.{platform_words, scope_words, version_command};
+
 use crate::ask_fault::AskFault;
 use hack_process::cargo::version;
 use hack_process::process::{Caller, ProcessBuilder, ProcessFault};
@@ -9,6 +17,8 @@ use std::alloc::{AllocError, Global};
 
 /// The manifest path as words of a command.
 pub(crate) fn manifest_words(alloc: Global, args: &Args) -> Result<Vec<String>, AllocError>
+    ensures { IfOk result (λ words. map string_bytes words.items
+        ≡ path_words (option_map string_bytes args.now.manifest_path)) }
 {
     let mut words = Vec::new(alloc);
     match &args.manifest_path {
@@ -27,6 +37,10 @@ pub(crate) fn full_words(
     args: &Args,
     host: Option<&str>,
 ) -> Result<Vec<String>, AskFault>
+    ensures ok { IfOk result (λ words. full_of args.now (option_copied host.entry)
+        ≡ Some (map string_bytes words.items)) }
+    ensures err { IfErr result (λ e. (e ≡ AskFault.Memory)
+        ⊎ ((e ≡ AskFault.NoHost) × (full_of args.now (option_copied host.entry) ≡ None))) }
 {
     let mut words = Vec::new(alloc);
     words.push(String::from_str(alloc, "metadata")?)?;
@@ -43,6 +57,12 @@ fn platform_words(
     args: &Args,
     host: Option<&str>,
 ) -> Result<Vec<String>, AskFault>
+    ensures ok { IfOk result (λ words. scope_words args.now.include_deps_features
+        (map string_bytes args.now.target.items) (option_copied host.entry)
+        ≡ Some (map string_bytes words.items)) }
+    ensures err { IfErr result (λ e. (e ≡ AskFault.Memory) ⊎ ((e ≡ AskFault.NoHost)
+        × (scope_words args.now.include_deps_features (map string_bytes args.now.target.items)
+        (option_copied host.entry) ≡ None))) }
 {
     if !args.include_deps_features {
         return Ok(no_deps(alloc)?);
@@ -57,6 +77,7 @@ fn platform_words(
 }
 
 fn no_deps(alloc: Global) -> Result<Vec<String>, AllocError>
+    ensures { IfOk result (λ words. map string_bytes words.items ≡ codes "--no-deps" ∷ []) }
 {
     let mut words = Vec::new(alloc);
     words.push(String::from_str(alloc, "--no-deps")?)?;
@@ -64,6 +85,8 @@ fn no_deps(alloc: Global) -> Result<Vec<String>, AllocError>
 }
 
 fn host_words(alloc: Global, host: &str) -> Result<Vec<String>, AllocError>
+    ensures { IfOk result (λ words. map string_bytes words.items
+        ≡ platform_words (host.now ∷ [])) }
 {
     let mut words = Vec::new(alloc);
     words.push(String::from_str(alloc, "--filter-platform")?)?;
@@ -72,6 +95,8 @@ fn host_words(alloc: Global, host: &str) -> Result<Vec<String>, AllocError>
 }
 
 fn target_words(alloc: Global, targets: &[String]) -> Result<Vec<String>, AllocError>
+    ensures { IfOk result (λ words. map string_bytes words.items
+        ≡ platform_words (map string_bytes targets.now)) }
 {
     let mut words = Vec::new(alloc);
     for target in targets {
@@ -88,6 +113,8 @@ pub(crate) fn command<'a>(
     front: &[&str],
     rest: &[String],
 ) -> Result<ProcessBuilder<'a>, AllocError>
+    ensures { IfOk result (λ builder. command_of builder ≡ command_line program.now
+        (map (λ word. word.now) front.now ++ map string_bytes rest.now)) }
 {
     let mut command = ProcessBuilder::new(alloc, program)?;
     command.args(front)?;
@@ -101,6 +128,11 @@ pub(crate) fn stable_minor<C: Caller>(
     env: &Env,
     caller: &mut C,
 ) -> Result<u32, AllocError>
+    ensures ok { IfOk result (λ minor. C.tells → TellsStable (string_bytes env.now.rustup) minor
+        (C.calls caller.old) (C.calls caller.new)) }
+    ensures err { OnErr result (C.tells → MayAdd
+        (asked_of true (version_command (string_bytes env.now.rustup)))
+        (C.calls caller.old) (C.calls caller.new)) }
 {
     let words = ["run", "stable", "cargo", "-vV"];
     let asked = command(alloc, env.rustup.as_str(), &words, &[])?;
@@ -113,6 +145,7 @@ pub(crate) fn stable_minor<C: Caller>(
 
 /// The minor version that an answer tells, or 0.
 fn told_minor(alloc: Global, answer: &str) -> Result<u32, AllocError>
+    ensures { IfOk result (MinorOf answer.now) }
 {
     match version(alloc, answer) {
         Ok(version) => Ok(version.minor),

@@ -1,0 +1,157 @@
+-- Which calls a question to cargo makes, and what counts as its answer.
+use Rattle.std.specs.Prelude.{◌≡◌, ◌⊎◌, ◌<◌, ◌≤◌, ℕ, Bool, true, false, List, [], Option, Some, None, Result, Ok, Err, codes, string_bytes, IsSome}
+use Rattle.std.specs.Str.{IsUtf8}
+use Rattle.serde_json.specs.Data.{Members}
+use Rattle.hack_features.specs.Names.{Name}
+use Rattle.hack_files.specs.Files.{Contents}
+use Rattle.hack_versions.specs.declared.version.Version.{Version}
+use Rattle.hack_versions.specs.declared.rustup.VersionTextFault.{VersionTextFault}
+use Rattle.hack_versions.specs.ToolTexts.{TellsRelease, IsAnswerFault}
+use Rattle.hack_process.specs.Calls.{Call, MayAdd, IsSuccess}
+use Rattle.hack_process.specs.CargoTexts.{release_part}
+use Rattle.hack_process.specs.CommandTexts.{Command, text_of}
+use Rattle.hack_process.specs.Commands.{asked_of}
+use Rattle.hack_process.specs.Faults.{Had, IsReadFault, without_line_ends}
+use Rattle.hack_process.specs.PathTexts.{join_of}
+use Rattle.hack_process.specs.declared.fault.ProcessFault.{ProcessFault}
+use Rattle.hack_metadata.specs.Fields.{Field, object_in_text, string_in}
+use Rattle.hack_metadata.specs.Read.{read_metadata}
+use Rattle.hack_metadata.specs.Requests.{Question, command_line, by_stable, version_command, first_command, lock_command}
+use Rattle.hack_metadata.specs.Whole.{metadata_view}
+use Rattle.hack_metadata.specs.declared.metadata.Metadata.{Metadata}
+use Rattle.hack_metadata.specs.declared.ask_fault.AskFault.{AskFault}
+use Rattle.hack_metadata.specs.declared.ask_fault.AskFault.TheVariants as fault
+
+-- just this command was called, and ended well
+abbrev pub Runs : Command → List Call → List Call → Type 0
+Runs c old new = Had (λ answer. IsSuccess answer.end) (asked_of true c) old new
+
+-- just this command was called, ended well, and wrote this text
+abbrev pub Reads : Command → Name → List Call → List Call → Type 0
+Reads c text old new = Had (λ answer. IsSuccess answer.end × (text ≡ without_line_ends answer.stdout)) (asked_of true c) old new
+
+-- the command has no name, and nothing was called; or just it was called, and didn't end well with a text
+abbrev pub Fails : Command → List Call → List Call → Type 0
+Fails c old new = ((c.program ≡ []) × (new ≡ old)) ⊎ Had (λ answer. ¬ (IsSuccess answer.end × IsUtf8 answer.stdout)) (asked_of true c) old new
+
+-- the minor version that an answer tells, or 0 where it tells none
+abbrev pub MinorOf : Name → ℕ → Type 0
+MinorOf text minor = ((v : Version) × TellsRelease (release_part text) v × (minor ≡ v.minor)) ⊎ (((e : VersionTextFault) × IsAnswerFault text (release_part text) e) × (minor ≡ 0))
+
+-- stable's cargo was asked for its version, and tells this minor; 0 where it fails
+abbrev pub TellsStable : Name → ℕ → List Call → List Call → Type 0
+TellsStable rustup minor old new = ((text : Name) × Reads (version_command rustup) text old new × MinorOf text minor) ⊎ (Fails (version_command rustup) old new × (minor ≡ 0))
+
+-- the answer is an object of JSON, and this is read of it
+abbrev pub TellsAs : {A : Type 0} → (Members → Field A) → Name → A → Type 0
+TellsAs f text a = (ms : Members) × (object_in_text text ≡ Some ms) × (f ms ≡ Ok a)
+
+-- the folder of the workspace
+abbrev pub root_of : Members → Field Name
+root_of ms = string_in (codes "workspace_root") ms
+
+-- the lockfile of the workspace whose folder the answer tells
+abbrev pub IsLockfile : Name → Name → Type 0
+IsLockfile text path = (root : Name) × TellsAs root_of text root × (path ≡ join_of root (codes "Cargo.lock"))
+
+-- how far a question has come
+pub data Stage : Type 0 where
+  -- nothing was asked
+  begun : Stage
+  -- cargo is to be asked the full request
+  to_cargo : Stage
+  -- stable's cargo is of this minor, which is newer
+  newer : ℕ → Stage
+  -- and cargo's first answer is this text
+  first : ℕ → Name → Stage
+  -- and the lockfile is there
+  locked : ℕ → Name → Stage
+  -- this command's answer counts, as that of a cargo of this minor
+  taken : Command → Name → ℕ → Stage
+
+-- `held` is what the files held before, where they tell
+module _ (q : Question) (tells : Type 0) (held : Contents) (old : List Call) where
+  -- these calls lead so far
+  pub data Way : Stage → List Call → Type 0 where
+    starts : Way begun old
+    is_older : {new : List Call} (minor : ℕ) → TellsStable q.rustup minor old new → minor ≤ q.cargo_version → Way to_cargo new
+    is_newer : {new : List Call} (minor : ℕ) → TellsStable q.rustup minor old new → q.cargo_version < minor → Way (newer minor) new
+    answers : {mid new : List Call} {minor : ℕ} (text : Name) → Way (newer minor) mid → Reads (first_command q) text mid new → Way (first minor text) new
+    is_there : {mid : List Call} {minor : ℕ} {text : Name} (path : Name) → Way (first minor text) mid → IsLockfile text path → (tells → IsSome (held path)) → Way (locked minor text) mid
+    is_made : {mid new : List Call} {minor : ℕ} {text : Name} (path : Name) → Way (first minor text) mid → IsLockfile text path → (tells → ¬ IsSome (held path)) → Runs (lock_command q) mid new → Way (locked minor text) new
+    tells_newer : {mid new : List Call} {minor : ℕ} {text : Name} (words : List Name) (told : Name) → q.full ≡ Some words → Way (locked minor text) mid → Reads (by_stable q words) told mid new → Way (taken (by_stable q words) told minor) new
+    first_counts : {mid new : List Call} {minor : ℕ} {text : Name} (words : List Name) → q.full ≡ Some words → Way (locked minor text) mid → Fails (by_stable q words) mid new → q.deps ≡ false → Way (taken (first_command q) text q.cargo_version) new
+    asks_again : {mid new : List Call} {minor : ℕ} {text : Name} (words : List Name) → q.full ≡ Some words → Way (locked minor text) mid → Fails (by_stable q words) mid new → q.deps ≡ true → Way to_cargo new
+    tells_older : {mid new : List Call} (words : List Name) (text : Name) → q.full ≡ Some words → Way to_cargo mid → Reads (command_line q.cargo words) text mid new → Way (taken (command_line q.cargo words) text q.cargo_version) new
+
+-- the command that may be called at a stage
+abbrev pub IsNext : Question → Stage → Command → Type 0
+IsNext q begun c = c ≡ version_command q.rustup
+IsNext q to_cargo c = (words : List Name) × (q.full ≡ Some words) × (c ≡ command_line q.cargo words)
+IsNext q (newer minor) c = c ≡ first_command q
+IsNext q (first minor text) c = c ≡ lock_command q
+IsNext q (locked minor text) c = (words : List Name) × (q.full ≡ Some words) × (c ≡ by_stable q words)
+IsNext q (taken c minor text) next = ⊥
+
+-- nothing more was called, or just the next command
+abbrev pub MayAsk : Question → Stage → List Call → List Call → Type 0
+MayAsk q stage mid new = (new ≡ mid) ⊎ ((c : Command) × IsNext q stage c × MayAdd (asked_of true c) mid new)
+
+-- what the answer of a stage is, and of which command
+abbrev pub IsAnswer : Question → Stage → Command → Name → Type 0
+IsAnswer q begun c text = ⊥
+IsAnswer q to_cargo c text = ⊥
+IsAnswer q (newer minor) c text = ⊥
+IsAnswer q (first minor told) c text = (c ≡ first_command q) × (text ≡ told)
+IsAnswer q (locked minor told) c text = ⊥
+IsAnswer q (taken by told minor) c text = (c ≡ by) × (text ≡ told)
+
+-- the answer of a stage lacks this field: the folder of the workspace, or any of the metadata
+abbrev pub Lacks : Stage → Name → Type 0
+Lacks begun name = ⊥
+Lacks to_cargo name = ⊥
+Lacks (newer minor) name = ⊥
+Lacks (first minor text) name = (ms : Members) × (object_in_text text ≡ Some ms) × (root_of ms ≡ Err name)
+Lacks (locked minor text) name = ⊥
+Lacks (taken c text minor) name = (ms : Members) × (object_in_text text ≡ Some ms) × (read_metadata minor ms ≡ Err name)
+
+-- why a question ends behind a stage; at most one call more was made
+abbrev pub Stops : Question → Stage → List Call → List Call → AskFault → Type 0
+Stops q stage mid new fault.Memory = MayAsk q stage mid new
+Stops q stage mid new fault.NoHost = (new ≡ mid) × (q.full ≡ None)
+Stops q stage mid new (fault.Process p) = (c : Command) × IsNext q stage c × IsReadFault (Unit {0}) (asked_of true c) (text_of true q.dir c) mid new p
+Stops q stage mid new (fault.Files f) = MayAsk q stage mid new
+Stops q stage mid new (fault.Output shown) = (new ≡ mid) × ((c : Command) × (text : Name) × IsAnswer q stage c text × (object_in_text text ≡ None) × (string_bytes shown ≡ text_of q.verbose q.dir c))
+Stops q stage mid new (fault.Field name) = (new ≡ mid) × Lacks stage name.now
+
+-- what came of a question: metadata that an answer tells which counts, or a fault that ended it
+abbrev pub Ends : Question → Type 0 → Contents → List Call → List Call → Result Metadata AskFault → Type 0
+Ends q tells held old new (Ok m) = (c : Command) × (text : Name) × (minor : ℕ) × Way q tells held old (taken c text minor) new × TellsAs (read_metadata minor) text (metadata_view m)
+Ends q tells held old new (Err e) = (stage : Stage) × (mid : List Call) × Way q tells held old stage mid × Stops q stage mid new e
+
+-- why a text isn't read as f says
+abbrev pub IsTextFault : {A : Type 0} → (Members → Field A) → Name → Name → AskFault → Type 0
+IsTextFault f text shown fault.Memory = Unit {0}
+IsTextFault f text shown fault.NoHost = ⊥
+IsTextFault f text shown (fault.Process p) = ⊥
+IsTextFault f text shown (fault.Files e) = ⊥
+IsTextFault f text shown (fault.Output told) = (object_in_text text ≡ None) × (string_bytes told ≡ shown)
+IsTextFault f text shown (fault.Field name) = (ms : Members) × (object_in_text text ≡ Some ms) × (f ms ≡ Err name.now)
+
+-- why a text is no object
+abbrev pub IsObjectFault : Name → Name → AskFault → Type 0
+IsObjectFault text shown fault.Memory = Unit {0}
+IsObjectFault text shown fault.NoHost = ⊥
+IsObjectFault text shown (fault.Process p) = ⊥
+IsObjectFault text shown (fault.Files e) = ⊥
+IsObjectFault text shown (fault.Output told) = (object_in_text text ≡ None) × (string_bytes told ≡ shown)
+IsObjectFault text shown (fault.Field name) = ⊥
+
+-- memory is out, or a command failed so
+abbrev pub FailsAs : Type 0 → (ProcessFault → Type 0) → AskFault → Type 0
+FailsAs M P fault.Memory = M
+FailsAs M P fault.NoHost = ⊥
+FailsAs M P (fault.Process p) = P p
+FailsAs M P (fault.Files e) = ⊥
+FailsAs M P (fault.Output text) = ⊥
+FailsAs M P (fault.Field name) = ⊥
