@@ -1,3 +1,4 @@
+mod AskLemmas
 mod FeatureLemmas
 mod IdLemmas
 pub mod KnownLemmas

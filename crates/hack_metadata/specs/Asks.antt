@@ -124,10 +124,14 @@ Stops q stage mid new (fault.Files f) = MayAsk q stage mid new
 Stops q stage mid new (fault.Output shown) = (new ≡ mid) × ((c : Command) × (text : Name) × IsAnswer q stage c text × (object_in_text text ≡ None) × (string_bytes shown ≡ text_of q.verbose q.dir c))
 Stops q stage mid new (fault.Field name) = (new ≡ mid) × Lacks stage name.now
 
+-- these calls lead to a stage, and this fault ends the question there
+abbrev pub Halts : Question → Type 0 → Contents → List Call → List Call → AskFault → Type 0
+Halts q tells held old new e = (stage : Stage) × (mid : List Call) × Way q tells held old stage mid × Stops q stage mid new e
+
 -- what came of a question: metadata that an answer tells which counts, or a fault that ended it
 abbrev pub Ends : Question → Type 0 → Contents → List Call → List Call → Result Metadata AskFault → Type 0
 Ends q tells held old new (Ok m) = (c : Command) × (text : Name) × (minor : ℕ) × Way q tells held old (taken c text minor) new × TellsAs (read_metadata minor) text (metadata_view m)
-Ends q tells held old new (Err e) = (stage : Stage) × (mid : List Call) × Way q tells held old stage mid × Stops q stage mid new e
+Ends q tells held old new (Err e) = Halts q tells held old new e
 
 -- why a text isn't read as f says
 abbrev pub IsTextFault : {A : Type 0} → (Members → Field A) → Name → Name → AskFault → Type 0

@@ -10,6 +10,7 @@ pub mod SpecAnswers
 pub mod SpecViews
 pub mod View
 pub mod Whole
+pub mod AskView
 pub mod Asks
 pub mod Left
 pub mod Requests

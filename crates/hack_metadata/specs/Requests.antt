@@ -1,5 +1,6 @@
 -- The commands that ask cargo for the metadata of a workspace, word by word.
 use Rattle.std.specs.Prelude.{ℕ, Bool, true, false, List, [], ◌∷◌, ◌++◌, Option, Some, None, codes, map, option_map, string_bytes}
+use Rattle.std.specs.List.{flat_map}
 use Rattle.hack_features.specs.Names.{Name}
 use Rattle.hack_process.specs.CommandTexts.{Command}
 use Rattle.hack_words.specs.declared.cli.args.Args.{Args}
@@ -16,8 +17,7 @@ path_words (Some path) = codes "--manifest-path" ∷ path ∷ []
 
 -- each platform behind its option
 abbrev pub platform_words : List Name → List Name
-platform_words [] = []
-platform_words (p ∷ ps) = codes "--filter-platform" ∷ p ∷ platform_words ps
+platform_words ps = flat_map (λ p. codes "--filter-platform" ∷ p ∷ []) ps
 
 -- the words for dependencies on these targets, or else on the host; none where that isn't known
 abbrev pub target_words : List Name → Option Name → Option (List Name)

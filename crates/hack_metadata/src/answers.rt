@@ -1,12 +1,13 @@
 //! What the commands that ask for metadata answer.
 
-ghost use Rattle.std.specs.Prelude.{◌≡◌, Some, IfOk, IfErr, OnOk, true, string_bytes};
+ghost use Rattle.std.specs.Prelude.{◌≡◌, Some, IfOk, IfErr, OnOk, OnErr, MatchOption, true};
+ghost use Rattle.std.specs.Prelude.{string_bytes};
 ghost use Rattle.serde_json.specs.View.{members_view};
 ghost use Rattle.hack_process.specs.Calls.{MayAdd};
 ghost use Rattle.hack_process.specs.CommandTexts.{text_of};
 ghost use Rattle.hack_process.specs.Commands.{asked_of, command_of};
 ghost use Rattle.hack_process.specs.Faults.{IsFault, IsReadFault};
-ghost use Rattle.hack_metadata.specs.Asks.{FailsAs, IsObjectFault, IsTextFault, Reads, Runs};
+ghost use Rattle.hack_metadata.specs.Asks.{Fails, FailsAs, IsObjectFault, IsTextFault, Reads, Runs};
 ghost use Rattle.hack_metadata.specs.Asks.{TellsAs, root_of};
 ghost use Rattle.hack_metadata.specs.Fields.{object_in_text};
 ghost use Rattle.hack_metadata.specs.Read.{read_metadata};
@@ -17,7 +18,7 @@ use crate::fault::MetadataFault;
 use crate::metadata::{Metadata, Object, ObjectExt, object_of};
 use hack_process::process::{Caller, ProcessBuilder, ProcessFault};
 use hack_words::cli::{Args, Env};
-use std::alloc::Global;
+use std::alloc::{AllocError, Global};
 
 /// Runs a command, and keeps its output from the terminal.
 pub(crate) fn run<C: Caller>(
@@ -60,6 +61,30 @@ pub(crate) fn read<C: Caller>(
         Ok(text) => Ok(text),
         Err(ProcessFault::Memory) => Err(AskFault::Memory),
         Err(fault) => Err(AskFault::Process(fault)),
+    }
+}
+
+/// Reads the text that a command writes. None where it fails, but not for want of memory.
+pub(crate) fn try_read<C: Caller>(
+    alloc: Global,
+    asked: &ProcessBuilder<'_>,
+    env: &Env,
+    caller: &mut C,
+) -> Result<Option<String>, AllocError>
+    ensures ok { IfOk result (λ told. C.tells → MatchOption told
+        (Fails (command_of asked.now) (C.calls caller.old) (C.calls caller.new))
+        (λ text. Reads (command_of asked.now) (string_bytes text)
+        (C.calls caller.old) (C.calls caller.new))) }
+    ensures err { OnErr result (C.tells → MayAdd (asked_of true (command_of asked.now))
+        (C.calls caller.old) (C.calls caller.new)) }
+{
+    match asked.read(alloc, caller, env.current_dir.as_str()) {
+        Ok(text) => Ok(Some(text)),
+        Err(ProcessFault::Memory) => Err(AllocError),
+        Err(ProcessFault::EmptyProgram) => Ok(None),
+        Err(ProcessFault::NeverExecuted(_)) => Ok(None),
+        Err(ProcessFault::Failed(_)) => Ok(None),
+        Err(ProcessFault::NotText(_)) => Ok(None),
     }
 }
 

@@ -1,16 +1,27 @@
 //! The question to cargo for the metadata of a workspace. A cargo can't tell of what needs a newer
 //! one, so stable's cargo is asked where it is newer, and what it does to the lockfile is undone.
 
-use crate::answers::{metadata_in, read, root_in, run};
+ghost use Rattle.std.specs.Prelude.{◌≡◌, ◌⊎◌, ℕ, List, Some, None, IfOk, IfErr, OnOk, MatchOption};
+ghost use Rattle.std.specs.Prelude.{option_copied, string_bytes, true};
+ghost use Rattle.hack_files.specs.Files.{Contents};
+ghost use Rattle.hack_files.specs.Restore.{registered};
+ghost use Rattle.hack_process.specs.Calls.{Call, MayAdd, texts_of};
+ghost use Rattle.hack_process.specs.Commands.{asked_of, command_of};
+ghost use Rattle.hack_metadata.specs.AskView.{asks};
+ghost use Rattle.hack_metadata.specs.Asks.{Ends, Fails, Halts, IsLockfile, Reads, Way};
+ghost use Rattle.hack_metadata.specs.Asks.{first, locked, newer, to_cargo};
+ghost use Rattle.hack_metadata.specs.Left.{IsFileFault, Leaves};
+ghost use Rattle.hack_metadata.specs.Requests.{by_stable, first_command, full_of, question};
+
+use crate::answers::{metadata_in, read, root_in, run, try_read};
 use crate::ask_fault::AskFault;
 use crate::commands::{command, full_words, manifest_words, stable_minor};
 use crate::lockfile::{is_there, keep, put_back};
 use crate::metadata::Metadata;
-
 use hack_files::fs::Files;
 use hack_files::restore::Manager;
 use hack_process::paths::join;
-use hack_process::process::{Caller, ProcessBuilder, ProcessFault};
+use hack_process::process::{Caller, ProcessBuilder};
 use hack_words::cli::{Args, Env};
 use std::alloc::Global;
 
@@ -28,6 +39,14 @@ impl Metadata {
         files: &mut F,
         manager: &mut Manager,
     ) -> Result<Metadata, AskFault>
+        ensures stays { F.stays files.old files.new }
+        ensures left { (path : List ℕ) × Leaves path F.tells (F.bytes_at files.old)
+            (F.bytes_at files.new) (F.failed files.old) (F.failed files.new) result }
+        ensures kept { registered manager.new ≡ registered manager.old }
+        ensures needs { manager.new.needs_restore ≡ manager.old.needs_restore }
+        ensures ends { C.tells →
+            Ends (question args.now env.now cargo_version (option_copied host.entry))
+            F.tells (F.bytes_at files.old) (C.calls caller.old) (C.calls caller.new) result }
     {
         let stable = stable_minor(alloc, env, caller)?;
         let question = Question::new(alloc, args, env, cargo_version, host)?;
@@ -44,8 +63,7 @@ struct Question<'a> {
     args: &'a Args,
     env: &'a Env,
     cargo_version: u32,
-    // The words of the manifest path, and those of the full request.
-    manifest: Vec<String>,
+    // The words of the full request.
     full: Vec<String>,
 }
 
@@ -65,20 +83,25 @@ impl<'a> Question<'a> {
         cargo_version: u32,
         host: Option<&str>,
     ) -> Result<Question<'a>, AskFault>
+        ensures ok { IfOk result (λ q. asks q
+            ≡ question args.now env.now cargo_version (option_copied host.entry)) }
+        ensures err { IfErr result (λ e. (e ≡ AskFault.Memory) ⊎ ((e ≡ AskFault.NoHost)
+            × (full_of args.now (option_copied host.entry) ≡ None))) }
     {
         let full = full_words(alloc, args, host)?;
-        let manifest = manifest_words(alloc, args)?;
         Ok(Question {
             args,
             env,
             cargo_version,
-            manifest,
             full,
         })
     }
 
     /// Asks cargo the full request.
     fn ask_cargo<C: Caller>(&self, alloc: Global, caller: &mut C) -> Result<Metadata, AskFault>
+        ensures { C.tells → (tells : Type 0) (held : Contents) (start : List Call)
+            → Way (asks self.now) tells held start to_cargo (C.calls caller.old)
+            → Ends (asks self.now) tells held start (C.calls caller.new) result }
     {
         let asked = command(alloc, self.env.cargo.as_str(), &[], &self.full)?;
         let text = read(alloc, &asked, self.env, caller)?;
@@ -95,6 +118,15 @@ impl<'a> Question<'a> {
         files: &mut F,
         manager: &mut Manager,
     ) -> Result<Metadata, AskFault>
+        ensures stays { F.stays files.old files.new }
+        ensures left { (path : List ℕ) × Leaves path F.tells (F.bytes_at files.old)
+            (F.bytes_at files.new) (F.failed files.old) (F.failed files.new) result }
+        ensures kept { registered manager.new ≡ registered manager.old }
+        ensures needs { manager.new.needs_restore ≡ manager.old.needs_restore }
+        ensures ends { C.tells → (start : List Call) → Way (asks self.now) F.tells
+            (F.bytes_at files.old) start (newer minor) (C.calls caller.old)
+            → Ends (asks self.now) F.tells (F.bytes_at files.old) start
+            (C.calls caller.new) result }
     {
         let first = self.first(alloc, caller)?;
         self.make_lockfile(alloc, first.lockfile.as_str(), caller, files)?;
@@ -110,9 +142,20 @@ impl<'a> Question<'a> {
 
     /// Asks cargo what it tells without dependencies.
     fn first<C: Caller>(&self, alloc: Global, caller: &mut C) -> Result<First<'a>, AskFault>
+        ensures command { IfOk result (λ f.
+            command_of f.command ≡ first_command (asks self.now)) }
+        ensures lockfile { IfOk result (λ f.
+            IsLockfile (string_bytes f.text) (string_bytes f.lockfile)) }
+        ensures ok { IfOk result (λ f. C.tells → Reads (first_command (asks self.now))
+            (string_bytes f.text) (C.calls caller.old) (C.calls caller.new)) }
+        ensures err { IfErr result (λ e. C.tells →
+            (tells : Type 0) (held : Contents) (start : List Call) (minor : ℕ)
+            → Way (asks self.now) tells held start (newer minor) (C.calls caller.old)
+            → Halts (asks self.now) tells held start (C.calls caller.new) e) }
     {
         let words = ["metadata", "--format-version=1", "--no-deps"];
-        let command = command(alloc, self.env.cargo.as_str(), &words, &self.manifest)?;
+        let rest = manifest_words(alloc, self.args)?;
+        let command = command(alloc, self.env.cargo.as_str(), &words, &rest)?;
         let text = read(alloc, &command, self.env, caller)?;
         let root = root_in(alloc, text.as_str(), &command, self.args, self.env)?;
         let lockfile = join(alloc, root.as_str(), "Cargo.lock")?;
@@ -131,12 +174,24 @@ impl<'a> Question<'a> {
         caller: &mut C,
         files: &mut F,
     ) -> Result<(), AskFault>
+        ensures stays { F.stays files.old files.new }
+        ensures left { Leaves lockfile.now F.tells (F.bytes_at files.old) (F.bytes_at files.new)
+            (F.failed files.old) (F.failed files.new) result }
+        ensures ok { OnOk result (C.tells → (start : List Call) (minor : ℕ) (text : List ℕ)
+            → IsLockfile text lockfile.now → Way (asks self.now) F.tells (F.bytes_at files.old)
+            start (first minor text) (C.calls caller.old) → Way (asks self.now) F.tells
+            (F.bytes_at files.old) start (locked minor text) (C.calls caller.new)) }
+        ensures err { IfErr result (λ e. C.tells → (start : List Call) (minor : ℕ) (text : List ℕ)
+            → Way (asks self.now) F.tells (F.bytes_at files.old)
+            start (first minor text) (C.calls caller.old) → Halts (asks self.now) F.tells
+            (F.bytes_at files.old) start (C.calls caller.new) e) }
     {
         if is_there(alloc, lockfile, files)? {
             return Ok(());
         }
         let words = ["generate-lockfile"];
-        let asked = command(alloc, self.env.cargo.as_str(), &words, &self.manifest)?;
+        let rest = manifest_words(alloc, self.args)?;
+        let asked = command(alloc, self.env.cargo.as_str(), &words, &rest)?;
         run(alloc, &asked, self.env, caller)
     }
 
@@ -151,15 +206,23 @@ impl<'a> Question<'a> {
         files: &mut F,
         manager: &mut Manager,
     ) -> Result<Option<String>, AskFault>
+        ensures stays { F.stays files.old files.new }
+        ensures left { Leaves lockfile.now F.tells (F.bytes_at files.old) (F.bytes_at files.new)
+            (F.failed files.old) (F.failed files.new) result }
+        ensures kept { registered manager.new ≡ registered manager.old }
+        ensures needs { manager.new.needs_restore ≡ manager.old.needs_restore }
+        ensures ok { IfOk result (λ told. C.tells → MatchOption told
+            (Fails (command_of asked.now) (C.calls caller.old) (C.calls caller.new))
+            (λ text. Reads (command_of asked.now) (string_bytes text)
+            (C.calls caller.old) (C.calls caller.new))) }
+        ensures err { IfErr result IsFileFault }
+        ensures refused { IfErr result (λ e. C.tells → MayAdd (asked_of true (command_of asked.now))
+            (C.calls caller.old) (C.calls caller.new)) }
     {
         keep(alloc, lockfile, files, manager)?;
-        let told = asked.read(alloc, caller, self.env.current_dir.as_str());
+        let told = try_read(alloc, asked, self.env, caller);
         put_back(files, manager)?;
-        match told {
-            Ok(text) => Ok(Some(text)),
-            Err(ProcessFault::Memory) => Err(AskFault::Memory),
-            Err(_) => Ok(None),
-        }
+        Ok(told?)
     }
 
     /// What counts where stable's cargo failed: the first answer, which has no dependencies; where
@@ -170,6 +233,13 @@ impl<'a> Question<'a> {
         first: &First<'_>,
         caller: &mut C,
     ) -> Result<Metadata, AskFault>
+        ensures { C.tells → command_of first.now.command ≡ first_command (asks self.now)
+            → (tells : Type 0) (held : Contents) (start mid : List Call) (minor : ℕ)
+            → Way (asks self.now) tells held start
+            (locked minor (string_bytes first.now.text)) mid
+            → Fails (by_stable (asks self.now) (texts_of self.now.full.items)) mid
+            (C.calls caller.old)
+            → Ends (asks self.now) tells held start (C.calls caller.new) result }
     {
         if self.args.include_deps_features {
             return self.ask_cargo(alloc, caller);

@@ -8,9 +8,10 @@ ghost use Rattle.hack_metadata.specs.Asks.{MinorOf, TellsStable};
 ghost use Rattle.hack_metadata.specs.Requests.{command_line, full_of, path_words};
 ghost use Rattle.hack_metadata.specs.Requests.{platform_words, scope_words, version_command};
 
+use crate::answers::try_read;
 use crate::ask_fault::AskFault;
 use hack_process::cargo::version;
-use hack_process::process::{Caller, ProcessBuilder, ProcessFault};
+use hack_process::process::{Caller, ProcessBuilder};
 use hack_versions::rustup::VersionTextFault;
 use hack_words::cli::{Args, Env};
 use std::alloc::{AllocError, Global};
@@ -136,10 +137,9 @@ pub(crate) fn stable_minor<C: Caller>(
 {
     let words = ["run", "stable", "cargo", "-vV"];
     let asked = command(alloc, env.rustup.as_str(), &words, &[])?;
-    match asked.read(alloc, caller, env.current_dir.as_str()) {
-        Ok(answer) => told_minor(alloc, answer.as_str()),
-        Err(ProcessFault::Memory) => Err(AllocError),
-        Err(_) => Ok(0),
+    match try_read(alloc, &asked, env, caller)? {
+        Some(answer) => told_minor(alloc, answer.as_str()),
+        None => Ok(0),
     }
 }
 

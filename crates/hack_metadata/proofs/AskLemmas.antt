@@ -1,0 +1,52 @@
+-- Faults of commands, and what they end.
+use Rattle.std.proofs.Common.{◌≡◌, ◌⊎◌, inl, inr, ℕ, List, [], ◌∷◌, ◌++◌, Some, None, Ok, Err, refl, sym, ◌∙◌, ap, subst, true, false, string_bytes, codes, map}
+use Rattle.hack_features.specs.Names.{Name}
+use Rattle.hack_process.specs.Calls.{Asked, Call, MayAdd}
+use Rattle.hack_process.specs.CommandTexts.{Command}
+use Rattle.hack_process.specs.Commands.{asked_of}
+use Rattle.hack_process.specs.Faults.{IsFault, IsReadFault}
+use Rattle.hack_process.specs.declared.fault.ProcessFault.{ProcessFault}
+use Rattle.hack_process.specs.declared.fault.ProcessFault.TheVariants as p
+use Rattle.std.specs.Prelude.{MatchOption, Option}
+use Rattle.std.proofs.Common.{Global, String}
+use Rattle.hack_metadata.specs.Asks.{Fails, Reads, MinorOf, TellsStable}
+use Rattle.hack_metadata.specs.Requests.{version_command}
+
+-- a command that failed may have been called
+pub read-may : (tells : Type 0) (asked : Asked) (shown : Name) (old new : List Call) (e : ProcessFault) → IsReadFault tells asked shown old new e → tells → MayAdd asked old new
+read-may tells asked shown old new p.Memory h t = h.1 t
+read-may tells asked shown old new p.EmptyProgram h t = inl (h.1 t)
+read-may tells asked shown old new (p.NeverExecuted text) h t = let had = h.2 t in inr (had.0, had.2)
+read-may tells asked shown old new (p.Failed failure) h t = let had = h.3 t in inr (had.0, had.2)
+read-may tells asked shown old new (p.NotText text) h t = let had = h.2 t in inr (had.0, had.2)
+
+-- a fault of running is one of reading
+pub fault-read : (tells : Type 0) (asked : Asked) (shown : Name) (old new : List Call) (e : ProcessFault) → IsFault tells asked shown old new e → IsReadFault tells asked shown old new e
+fault-read tells asked shown old new p.Memory h = h
+fault-read tells asked shown old new p.EmptyProgram h = h
+fault-read tells asked shown old new (p.NeverExecuted text) h = h
+fault-read tells asked shown old new (p.Failed failure) h = h
+fault-read tells asked shown old new (p.NotText text) h = absurd h
+
+-- a command that wrote no text failed
+pub no-text : (tells : Type 0) (c : Command) (shown : Name) (old new : List Call) (e : ProcessFault) (text : String Global) → e ≡ p.NotText text → IsReadFault tells (asked_of true c) shown old new e → tells → Fails c old new
+no-text tells c shown old new e text is h t =
+    let at : IsReadFault tells (asked_of true c) shown old new (p.NotText text) = subst (λ f. IsReadFault tells (asked_of true c) shown old new f) is h in
+    let had = at.2 t in
+    inr (had.0, (λ ok. had.1.1 ok.1), had.2)
+
+-- what was read counts as stable's answer
+pub told-stable : (tells : Type 0) (rustup : Name) (c : Command) (o : Option (String Global)) (answer : String Global) (text : Name) (minor : ℕ) (old new : List Call)
+    → c ≡ version_command rustup → o ≡ Some answer → text ≡ string_bytes answer
+    → (tells → MatchOption o (Fails c old new) (λ t. Reads c (string_bytes t) old new)) → MinorOf text minor → tells → TellsStable rustup minor old new
+told-stable tells rustup c o answer text minor old new asks is at h of told =
+    let read : Reads c (string_bytes answer) old new = subst (λ x. MatchOption x (Fails c old new) (λ t. Reads c (string_bytes t) old new)) is (h told) in
+    inl (string_bytes answer, subst (λ k. Reads k (string_bytes answer) old new) asks read, subst (λ t. MinorOf t minor) at of)
+
+-- stable's cargo that fails tells 0
+pub failed-stable : (tells : Type 0) (rustup : Name) (c : Command) (o : Option (String Global)) (old new : List Call)
+    → c ≡ version_command rustup → o ≡ None
+    → (tells → MatchOption o (Fails c old new) (λ t. Reads c (string_bytes t) old new)) → tells → TellsStable rustup 0 old new
+failed-stable tells rustup c o old new asks is h told =
+    let failed : Fails c old new = subst (λ x. MatchOption x (Fails c old new) (λ t. Reads c (string_bytes t) old new)) is (h told) in
+    inr (subst (λ k. Fails k old new) asks failed, refl)

@@ -1,0 +1,17 @@
+-- A question in the code as plain data.
+use Rattle.std.specs.Prelude.{Some, map, option_map, string_bytes}
+use Rattle.hack_metadata.specs.Requests.{Question}
+use Rattle.hack_metadata.specs.declared.ask.Question.{Question as Asking}
+
+-- what is asked, and of whom
+abbrev pub asks : Asking → Question
+asks q = record {
+  cargo = string_bytes q.env.now.cargo;
+  rustup = string_bytes q.env.now.rustup;
+  cargo_version = q.cargo_version;
+  deps = q.args.now.include_deps_features;
+  dir = string_bytes q.env.now.current_dir;
+  verbose = q.args.now.verbose;
+  path = option_map string_bytes q.args.now.manifest_path;
+  full = Some (map string_bytes q.full.items);
+}
