@@ -10,7 +10,10 @@ use Rattle.hack_process.specs.declared.fault.ProcessFault.TheVariants as p
 use Rattle.std.specs.Prelude.{MatchOption, Option}
 use Rattle.std.proofs.Common.{Global, String}
 use Rattle.hack_metadata.specs.Asks.{Fails, Reads, MinorOf, TellsStable}
-use Rattle.hack_metadata.specs.Requests.{version_command}
+use Rattle.hack_metadata.specs.Requests.{version_command, platform_words}
+use Rattle.std.proofs.Common.{◌<◌, ◌+◌, length, get_or, take}
+use Rattle.std.proofs.lemmas.List.{take_more, map-append}
+use Rattle.std.proofs.lemmas.Grind.{flat_map-append}
 
 -- a command that failed may have been called
 pub read-may : (tells : Type 0) (asked : Asked) (shown : Name) (old new : List Call) (e : ProcessFault) → IsReadFault tells asked shown old new e → tells → MayAdd asked old new
@@ -50,3 +53,10 @@ pub failed-stable : (tells : Type 0) (rustup : Name) (c : Command) (o : Option (
 failed-stable tells rustup c o old new asks is h told =
     let failed : Fails c old new = subst (λ x. MatchOption x (Fails c old new) (λ t. Reads c (string_bytes t) old new)) is (h told) in
     inr (subst (λ k. Fails k old new) asks failed, refl)
+
+-- one platform more
+pub platforms-more : (xs : List (String Global)) (i : ℕ) (x : String Global) → i < length xs → x ≡ get_or xs i x → platform_words (map string_bytes (take (i + 1) xs)) ≡ platform_words (map string_bytes (take i xs)) ++ (codes "--filter-platform" ∷ string_bytes x ∷ [])
+platforms-more xs i x lt is =
+    ap (λ l. platform_words (map string_bytes l)) (take_more xs i x lt ∙ ap (λ s. take i xs ++ s ∷ []) (sym is))
+    ∙ ap platform_words (map-append string_bytes (take i xs) (x ∷ []))
+    ∙ flat_map-append (λ p. codes "--filter-platform" ∷ p ∷ []) (map string_bytes (take i xs)) (string_bytes x ∷ [])

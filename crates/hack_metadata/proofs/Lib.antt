@@ -1,4 +1,5 @@
 mod AskLemmas
+mod AskWays
 mod FeatureLemmas
 mod IdLemmas
 pub mod KnownLemmas

@@ -69,16 +69,16 @@ pub data Stage : Type 0 where
   -- this command's answer counts, as that of a cargo of this minor
   taken : Command → Name → ℕ → Stage
 
--- `held` is what the files held before, where they tell
-module _ (q : Question) (tells : Type 0) (held : Contents) (old : List Call) where
+-- `held` is what the files held before
+module _ (q : Question) (held : Contents) (old : List Call) where
   -- these calls lead so far
   pub data Way : Stage → List Call → Type 0 where
     starts : Way begun old
     is_older : {new : List Call} (minor : ℕ) → TellsStable q.rustup minor old new → minor ≤ q.cargo_version → Way to_cargo new
     is_newer : {new : List Call} (minor : ℕ) → TellsStable q.rustup minor old new → q.cargo_version < minor → Way (newer minor) new
     answers : {mid new : List Call} {minor : ℕ} (text : Name) → Way (newer minor) mid → Reads (first_command q) text mid new → Way (first minor text) new
-    is_there : {mid : List Call} {minor : ℕ} {text : Name} (path : Name) → Way (first minor text) mid → IsLockfile text path → (tells → IsSome (held path)) → Way (locked minor text) mid
-    is_made : {mid new : List Call} {minor : ℕ} {text : Name} (path : Name) → Way (first minor text) mid → IsLockfile text path → (tells → ¬ IsSome (held path)) → Runs (lock_command q) mid new → Way (locked minor text) new
+    is_there : {mid : List Call} {minor : ℕ} {text : Name} (path : Name) → Way (first minor text) mid → IsLockfile text path → IsSome (held path) → Way (locked minor text) mid
+    is_made : {mid new : List Call} {minor : ℕ} {text : Name} (path : Name) → Way (first minor text) mid → IsLockfile text path → ¬ IsSome (held path) → Runs (lock_command q) mid new → Way (locked minor text) new
     tells_newer : {mid new : List Call} {minor : ℕ} {text : Name} (words : List Name) (told : Name) → q.full ≡ Some words → Way (locked minor text) mid → Reads (by_stable q words) told mid new → Way (taken (by_stable q words) told minor) new
     first_counts : {mid new : List Call} {minor : ℕ} {text : Name} (words : List Name) → q.full ≡ Some words → Way (locked minor text) mid → Fails (by_stable q words) mid new → q.deps ≡ false → Way (taken (first_command q) text q.cargo_version) new
     asks_again : {mid new : List Call} {minor : ℕ} {text : Name} (words : List Name) → q.full ≡ Some words → Way (locked minor text) mid → Fails (by_stable q words) mid new → q.deps ≡ true → Way to_cargo new
@@ -125,13 +125,13 @@ Stops q stage mid new (fault.Output shown) = (new ≡ mid) × ((c : Command) × 
 Stops q stage mid new (fault.Field name) = (new ≡ mid) × Lacks stage name.now
 
 -- these calls lead to a stage, and this fault ends the question there
-abbrev pub Halts : Question → Type 0 → Contents → List Call → List Call → AskFault → Type 0
-Halts q tells held old new e = (stage : Stage) × (mid : List Call) × Way q tells held old stage mid × Stops q stage mid new e
+abbrev pub Halts : Question → Contents → List Call → List Call → AskFault → Type 0
+Halts q held old new e = (stage : Stage) × (mid : List Call) × Way q held old stage mid × Stops q stage mid new e
 
 -- what came of a question: metadata that an answer tells which counts, or a fault that ended it
-abbrev pub Ends : Question → Type 0 → Contents → List Call → List Call → Result Metadata AskFault → Type 0
-Ends q tells held old new (Ok m) = (c : Command) × (text : Name) × (minor : ℕ) × Way q tells held old (taken c text minor) new × TellsAs (read_metadata minor) text (metadata_view m)
-Ends q tells held old new (Err e) = Halts q tells held old new e
+abbrev pub Ends : Question → Contents → List Call → List Call → Result Metadata AskFault → Type 0
+Ends q held old new (Ok m) = (c : Command) × (text : Name) × (minor : ℕ) × Way q held old (taken c text minor) new × TellsAs (read_metadata minor) text (metadata_view m)
+Ends q held old new (Err e) = Halts q held old new e
 
 -- why a text isn't read as f says
 abbrev pub IsTextFault : {A : Type 0} → (Members → Field A) → Name → Name → AskFault → Type 0

@@ -18,7 +18,12 @@ Spoilt path tells old new before now = GrowsBy 1 before now × (tells → KeepsO
 
 -- memory is out, or the files failed
 abbrev pub IsFileFault : AskFault → Type 0
-IsFileFault e = (e ≡ fault.Memory) ⊎ ((f : FsFault) × (e ≡ fault.Files f))
+IsFileFault fault.Memory = Unit {0}
+IsFileFault (fault.Files f) = Unit {0}
+IsFileFault fault.NoHost = ⊥
+IsFileFault (fault.Process p) = ⊥
+IsFileFault (fault.Output text) = ⊥
+IsFileFault (fault.Field name) = ⊥
 
 -- what a fault leaves: just where the files themselves failed, the path may hold something else
 abbrev pub LeftBy : Name → Type 0 → Contents → Contents → ℕ → ℕ → AskFault → Type 0

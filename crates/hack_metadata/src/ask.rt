@@ -23,7 +23,7 @@ use hack_files::restore::Manager;
 use hack_process::paths::join;
 use hack_process::process::{Caller, ProcessBuilder};
 use hack_words::cli::{Args, Env};
-use std::alloc::Global;
+use std::alloc::{AllocError, Global};
 
 impl Metadata {
     /// Asks cargo, whose minor version and host these are, for the metadata of the workspace; or
@@ -44,9 +44,9 @@ impl Metadata {
             (F.bytes_at files.new) (F.failed files.old) (F.failed files.new) result }
         ensures kept { registered manager.new ≡ registered manager.old }
         ensures needs { manager.new.needs_restore ≡ manager.old.needs_restore }
-        ensures ends { C.tells →
+        ensures ends { C.tells → F.tells →
             Ends (question args.now env.now cargo_version (option_copied host.entry))
-            F.tells (F.bytes_at files.old) (C.calls caller.old) (C.calls caller.new) result }
+            (F.bytes_at files.old) (C.calls caller.old) (C.calls caller.new) result }
     {
         let stable = stable_minor(alloc, env, caller)?;
         let question = Question::new(alloc, args, env, cargo_version, host)?;
@@ -99,9 +99,9 @@ impl<'a> Question<'a> {
 
     /// Asks cargo the full request.
     fn ask_cargo<C: Caller>(&self, alloc: Global, caller: &mut C) -> Result<Metadata, AskFault>
-        ensures { C.tells → (tells : Type 0) (held : Contents) (start : List Call)
-            → Way (asks self.now) tells held start to_cargo (C.calls caller.old)
-            → Ends (asks self.now) tells held start (C.calls caller.new) result }
+        ensures { C.tells → (held : Contents) (start : List Call)
+            → Way (asks self.now) held start to_cargo (C.calls caller.old)
+            → Ends (asks self.now) held start (C.calls caller.new) result }
     {
         let asked = command(alloc, self.env.cargo.as_str(), &[], &self.full)?;
         let text = read(alloc, &asked, self.env, caller)?;
@@ -123,9 +123,9 @@ impl<'a> Question<'a> {
             (F.bytes_at files.new) (F.failed files.old) (F.failed files.new) result }
         ensures kept { registered manager.new ≡ registered manager.old }
         ensures needs { manager.new.needs_restore ≡ manager.old.needs_restore }
-        ensures ends { C.tells → (start : List Call) → Way (asks self.now) F.tells
+        ensures ends { C.tells → F.tells → (start : List Call) → Way (asks self.now)
             (F.bytes_at files.old) start (newer minor) (C.calls caller.old)
-            → Ends (asks self.now) F.tells (F.bytes_at files.old) start
+            → Ends (asks self.now) (F.bytes_at files.old) start
             (C.calls caller.new) result }
     {
         let first = self.first(alloc, caller)?;
@@ -149,9 +149,9 @@ impl<'a> Question<'a> {
         ensures ok { IfOk result (λ f. C.tells → Reads (first_command (asks self.now))
             (string_bytes f.text) (C.calls caller.old) (C.calls caller.new)) }
         ensures err { IfErr result (λ e. C.tells →
-            (tells : Type 0) (held : Contents) (start : List Call) (minor : ℕ)
-            → Way (asks self.now) tells held start (newer minor) (C.calls caller.old)
-            → Halts (asks self.now) tells held start (C.calls caller.new) e) }
+            (held : Contents) (start : List Call) (minor : ℕ)
+            → Way (asks self.now) held start (newer minor) (C.calls caller.old)
+            → Halts (asks self.now) held start (C.calls caller.new) e) }
     {
         let words = ["metadata", "--format-version=1", "--no-deps"];
         let rest = manifest_words(alloc, self.args)?;
@@ -177,13 +177,15 @@ impl<'a> Question<'a> {
         ensures stays { F.stays files.old files.new }
         ensures left { Leaves lockfile.now F.tells (F.bytes_at files.old) (F.bytes_at files.new)
             (F.failed files.old) (F.failed files.new) result }
-        ensures ok { OnOk result (C.tells → (start : List Call) (minor : ℕ) (text : List ℕ)
-            → IsLockfile text lockfile.now → Way (asks self.now) F.tells (F.bytes_at files.old)
-            start (first minor text) (C.calls caller.old) → Way (asks self.now) F.tells
+        ensures ok { OnOk result (C.tells → F.tells →
+            (start : List Call) (minor : ℕ) (text : List ℕ)
+            → IsLockfile text lockfile.now → Way (asks self.now) (F.bytes_at files.old)
+            start (first minor text) (C.calls caller.old) → Way (asks self.now)
             (F.bytes_at files.old) start (locked minor text) (C.calls caller.new)) }
-        ensures err { IfErr result (λ e. C.tells → (start : List Call) (minor : ℕ) (text : List ℕ)
-            → Way (asks self.now) F.tells (F.bytes_at files.old)
-            start (first minor text) (C.calls caller.old) → Halts (asks self.now) F.tells
+        ensures err { IfErr result (λ e. C.tells → F.tells →
+            (start : List Call) (minor : ℕ) (text : List ℕ)
+            → Way (asks self.now) (F.bytes_at files.old)
+            start (first minor text) (C.calls caller.old) → Halts (asks self.now)
             (F.bytes_at files.old) start (C.calls caller.new) e) }
     {
         if is_there(alloc, lockfile, files)? {
@@ -222,7 +224,10 @@ impl<'a> Question<'a> {
         keep(alloc, lockfile, files, manager)?;
         let told = try_read(alloc, asked, self.env, caller);
         put_back(files, manager)?;
-        Ok(told?)
+        match told {
+            Ok(told) => Ok(told),
+            Err(AllocError) => Err(AskFault::Memory),
+        }
     }
 
     /// What counts where stable's cargo failed: the first answer, which has no dependencies; where
@@ -234,12 +239,12 @@ impl<'a> Question<'a> {
         caller: &mut C,
     ) -> Result<Metadata, AskFault>
         ensures { C.tells → command_of first.now.command ≡ first_command (asks self.now)
-            → (tells : Type 0) (held : Contents) (start mid : List Call) (minor : ℕ)
-            → Way (asks self.now) tells held start
+            → (held : Contents) (start mid : List Call) (minor : ℕ)
+            → Way (asks self.now) held start
             (locked minor (string_bytes first.now.text)) mid
             → Fails (by_stable (asks self.now) (texts_of self.now.full.items)) mid
             (C.calls caller.old)
-            → Ends (asks self.now) tells held start (C.calls caller.new) result }
+            → Ends (asks self.now) held start (C.calls caller.new) result }
     {
         if self.args.include_deps_features {
             return self.ask_cargo(alloc, caller);

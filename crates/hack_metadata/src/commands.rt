@@ -1,6 +1,6 @@
 //! The commands that ask cargo for the metadata of a workspace, their words, and how they are run.
 
-ghost use Rattle.std.specs.Prelude.{◌≡◌, ◌⊎◌, ◌++◌, ◌∷◌, [], Some, None, IfOk, IfErr, OnErr};
+ghost use Rattle.std.specs.Prelude.{◌≡◌, ◌⊎◌, ◌++◌, ◌∷◌, [], Some, None, IfOk, IfErr, OnOk, OnErr};
 ghost use Rattle.std.specs.Prelude.{codes, map, option_copied, option_map, string_bytes, true};
 ghost use Rattle.hack_process.specs.Calls.{MayAdd};
 ghost use Rattle.hack_process.specs.Commands.{asked_of, command_of};
@@ -90,8 +90,7 @@ fn host_words(alloc: Global, host: &str) -> Result<Vec<String>, AllocError>
         ≡ platform_words (host.now ∷ [])) }
 {
     let mut words = Vec::new(alloc);
-    words.push(String::from_str(alloc, "--filter-platform")?)?;
-    words.push(String::from_str(alloc, host)?)?;
+    push_platform(&mut words, host)?;
     Ok(words)
 }
 
@@ -101,10 +100,20 @@ fn target_words(alloc: Global, targets: &[String]) -> Result<Vec<String>, AllocE
 {
     let mut words = Vec::new(alloc);
     for target in targets {
-        words.push(String::from_str(alloc, "--filter-platform")?)?;
-        words.push(target.clone()?)?;
+        push_platform(&mut words, target.as_str())?;
     }
     Ok(words)
+}
+
+/// Adds a platform behind its option.
+fn push_platform(words: &mut Vec<String>, platform: &str) -> Result<(), AllocError>
+    ensures { OnOk result (map string_bytes words.new.items
+        ≡ map string_bytes words.old.items ++ codes "--filter-platform" ∷ platform.now ∷ []) }
+{
+    let alloc = *words.allocator();
+    words.push(String::from_str(alloc, "--filter-platform")?)?;
+    words.push(String::from_str(alloc, platform)?)?;
+    Ok(())
 }
 
 /// A command of these words.

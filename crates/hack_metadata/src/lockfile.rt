@@ -1,9 +1,9 @@
 //! The lockfile, which is kept while stable's cargo runs.
 
-ghost use Rattle.std.specs.Prelude.{◌≡◌, ◌↔◌, ◌++◌, ◌∷◌, [], List, ℕ, Some, IfOk, OnOk, OnErr, IsTrue, IsSome};
+ghost use Rattle.std.specs.Prelude.{◌≡◌, ◌↔◌, ◌++◌, ◌∷◌, [], List, ℕ, Some, IfOk, IfErr, OnOk, OnErr, IsTrue, IsSome};
 ghost use Rattle.hack_files.specs.Files.{KeepsAll};
 ghost use Rattle.hack_files.specs.Restore.{Kept, registered};
-ghost use Rattle.hack_metadata.specs.Left.{Keeps, Leaves, Restores, IsOfFile};
+ghost use Rattle.hack_metadata.specs.Left.{IsFileFault, Keeps, Leaves, Restores, IsOfFile};
 
 use crate::ask_fault::AskFault;
 use hack_files::fs;
@@ -22,6 +22,7 @@ pub(crate) fn is_there<F: Files>(
         (F.failed files.old) (F.failed files.new) result }
     ensures there { IfOk result (λ there. F.tells →
         IsTrue there ↔ IsSome (F.bytes_at files.old path.now)) }
+    ensures fault { IfErr result IsFileFault }
 {
     match files.exists(path) {
         Ok(there) => Ok(there),
@@ -46,6 +47,7 @@ pub(crate) fn keep<F: Files>(
     ensures ok { OnOk result (Keeps path.now F.tells (F.bytes_at files.old)
         (registered manager.old) (registered manager.new)) }
     ensures err { OnErr result (registered manager.new ≡ registered manager.old) }
+    ensures fault { IfErr result IsFileFault }
     ensures needs { manager.new.needs_restore ≡ manager.old.needs_restore }
 {
     let bytes = match fs::read(alloc, files, path) {
@@ -63,6 +65,7 @@ pub(crate) fn put_back<F: Files>(files: &mut F, manager: &mut Manager) -> Result
         → registered manager.old ≡ earlier ++ file ∷ [] → Restores file F.tells
         (F.bytes_at files.old) (F.bytes_at files.new)
         (F.failed files.old) (F.failed files.new) result }
+    ensures fault { IfErr result IsFileFault }
     ensures kept { (file : Kept) (earlier : List Kept)
         → registered manager.old ≡ earlier ++ file ∷ [] → registered manager.new ≡ earlier }
     ensures needs { manager.new.needs_restore ≡ manager.old.needs_restore }
@@ -74,7 +77,8 @@ pub(crate) fn put_back<F: Files>(files: &mut F, manager: &mut Manager) -> Result
 }
 
 fn file_fault(fault: FsFault) -> AskFault
-    ensures { IsOfFile fault result }
+    ensures of { IsOfFile fault result }
+    ensures fault { IsFileFault result }
 {
     match fault {
         FsFault::Memory => AskFault::Memory,
