@@ -1,6 +1,6 @@
 -- Where a question ends.
 use Rattle.std.specs.Prelude.{IfOk, IfErr, Result}
-use Rattle.std.proofs.Common.{◌≡◌, inl, inr, ℕ, List, Some, Ok, Err, refl, sym, true, false}
+use Rattle.std.proofs.Common.{◌≡◌, ◌⊎◌, inl, inr, ℕ, List, Some, None, Ok, Err, refl, sym, true, false}
 use Rattle.serde_json.specs.Data.{Members}
 use Rattle.hack_features.specs.Names.{Name}
 use Rattle.hack_files.specs.Files.{Contents, GrowsBy, KeepsOthers}
@@ -15,11 +15,11 @@ use Rattle.hack_process.specs.Commands.{asked_of}
 use Rattle.hack_process.specs.Faults.{IsFault, IsReadFault}
 use Rattle.hack_process.specs.declared.fault.ProcessFault.{ProcessFault}
 use Rattle.hack_process.specs.declared.fault.ProcessFault.TheVariants as p
-use Rattle.hack_metadata.specs.Asks.{Stage, taken, Way, Ends, MayAsk, Halts, IsAnswer, IsNext, Lacks, IsTextFault, TellsAs, FailsAs}
+use Rattle.hack_metadata.specs.Asks.{Stage, taken, versioned, Way, Ends, MayAsk, Halts, IsAnswer, IsNext, Lacks, IsTextFault, TellsAs, FailsAs}
 use Rattle.hack_metadata.specs.Fields.{Field, object_in_text}
 use Rattle.hack_metadata.specs.Read.{read_metadata}
 use Rattle.hack_metadata.specs.Requests.{Question}
-use Rattle.hack_metadata.specs.Left.{IsFileFault, Whole, Keeps}
+use Rattle.hack_metadata.specs.Left.{IsFileFault, Whole, Spoilt, Keeps, LeftBy, Spares}
 use Rattle.hack_metadata.specs.Whole.{metadata_view}
 use Rattle.hack_metadata.specs.declared.metadata.Metadata.{Metadata}
 use Rattle.hack_metadata.specs.declared.ask_fault.AskFault.{AskFault}
@@ -111,3 +111,33 @@ pub metadata-ends : (q : Question) (held : Contents) (old new : List Call) (c as
 metadata-ends q held old new c asked text shown minor r is same way ok err =
     taken-ends q held old new c text minor r way (subst (λ t. IfOk r (λ m. TellsAs (read_metadata minor) t (metadata_view m))) same ok)
         (subst (λ k. IfErr r (IsTextFault (read_metadata minor) text (text_of q.verbose q.dir k))) is (subst (λ t. IfErr r (IsTextFault (read_metadata minor) t (text_of q.verbose q.dir asked))) same err))
+
+-- an answer that leaves nothing behind
+pub whole-spares : {X : Type 0} (path : Name) (tells : Type 0) (a b : Contents) (x y : ℕ) (r : Result X AskFault) → Whole tells a b x y → Spares path tells a b x y r
+whole-spares path tells a b x y (Ok v) h = h
+whole-spares path tells a b x y (Err e) h = inl h
+
+-- a fault that leaves the lockfile at most
+pub left-over : (path : Name) (tells : Type 0) (a b : Contents) (x y : ℕ) (e : AskFault) → LeftBy path tells a b x y e → Whole tells a b x y ⊎ Spoilt path tells a b x y
+left-over path tells a b x y fault.Memory h = h
+left-over path tells a b x y fault.NoHost h = inl h
+left-over path tells a b x y (fault.Process e) h = inl h
+left-over path tells a b x y (fault.Files e) h = inr h
+left-over path tells a b x y (fault.Output text) h = inl h
+left-over path tells a b x y (fault.Field name) h = inl h
+
+-- the same behind calls that left nothing
+pub spoilt-more : (path : Name) (tells : Type 0) (a b c : Contents) (x y z : ℕ) → Whole tells a b x y → Whole tells b c y z ⊎ Spoilt path tells b c y z → Whole tells a c x z ⊎ Spoilt path tells a c x z
+spoilt-more path tells a b c x y z f (inl g) = inl (whole-more tells a b c x y z f g)
+spoilt-more path tells a b c x y z f (inr g) = inr (
+  (λ low. let first = f.0 low in let second = g.0 (omega (arith, first)) in omega (arith, first, second)),
+  λ t q ne. g.1 t q ne ∙ f.1 t q
+)
+
+pub unchanged : (tells : Type 0) (a : Contents) (x : ℕ) → Whole tells a a x x
+unchanged tells a x = (λ low. omega (arith, low), λ t q. refl)
+
+-- a question that can't be made
+pub question-halts : (q : Question) (held : Contents) (old new : List Call) (minor : ℕ) (e : AskFault) → Way q held old (versioned minor) new → (e ≡ fault.Memory) ⊎ ((e ≡ fault.NoHost) × (q.full ≡ None)) → Halts q held old new e
+question-halts q held old new minor e way (inl is) = subst (λ x. Halts q held old new x) (sym is) (versioned minor, new, way, inl refl)
+question-halts q held old new minor e way (inr h) = subst (λ x. Halts q held old new x) (sym h.0) (versioned minor, new, way, (refl, h.1))

@@ -58,6 +58,8 @@ IsLockfile text path = (root : Name) × TellsAs root_of text root × (path ≡ j
 pub data Stage : Type 0 where
   -- nothing was asked
   begun : Stage
+  -- stable's cargo is of this minor
+  versioned : ℕ → Stage
   -- cargo is to be asked the full request
   to_cargo : Stage
   -- stable's cargo is of this minor, which is newer
@@ -74,8 +76,9 @@ module _ (q : Question) (held : Contents) (old : List Call) where
   -- these calls lead so far
   pub data Way : Stage → List Call → Type 0 where
     starts : Way begun old
-    is_older : {new : List Call} (minor : ℕ) → TellsStable q.rustup minor old new → minor ≤ q.cargo_version → Way to_cargo new
-    is_newer : {new : List Call} (minor : ℕ) → TellsStable q.rustup minor old new → q.cargo_version < minor → Way (newer minor) new
+    tells_minor : {new : List Call} (minor : ℕ) → TellsStable q.rustup minor old new → Way (versioned minor) new
+    is_older : {new : List Call} {minor : ℕ} → Way (versioned minor) new → minor ≤ q.cargo_version → Way to_cargo new
+    is_newer : {new : List Call} {minor : ℕ} → Way (versioned minor) new → q.cargo_version < minor → Way (newer minor) new
     answers : {mid new : List Call} {minor : ℕ} (text : Name) → Way (newer minor) mid → Reads (first_command q) text mid new → Way (first minor text) new
     is_there : {mid : List Call} {minor : ℕ} {text : Name} (path : Name) → Way (first minor text) mid → IsLockfile text path → IsSome (held path) → Way (locked minor text) mid
     is_made : {mid new : List Call} {minor : ℕ} {text : Name} (path : Name) → Way (first minor text) mid → IsLockfile text path → ¬ IsSome (held path) → Runs (lock_command q) mid new → Way (locked minor text) new
@@ -87,6 +90,7 @@ module _ (q : Question) (held : Contents) (old : List Call) where
 -- the command that may be called at a stage
 abbrev pub IsNext : Question → Stage → Command → Type 0
 IsNext q begun c = c ≡ version_command q.rustup
+IsNext q (versioned minor) c = ⊥
 IsNext q to_cargo c = (words : List Name) × (q.full ≡ Some words) × (c ≡ command_line q.cargo words)
 IsNext q (newer minor) c = c ≡ first_command q
 IsNext q (first minor text) c = c ≡ lock_command q
@@ -100,6 +104,7 @@ MayAsk q stage mid new = (new ≡ mid) ⊎ ((c : Command) × IsNext q stage c ×
 -- what the answer of a stage is, and of which command
 abbrev pub IsAnswer : Question → Stage → Command → Name → Type 0
 IsAnswer q begun c text = ⊥
+IsAnswer q (versioned minor) c text = ⊥
 IsAnswer q to_cargo c text = ⊥
 IsAnswer q (newer minor) c text = ⊥
 IsAnswer q (first minor told) c text = (c ≡ first_command q) × (text ≡ told)
@@ -109,6 +114,7 @@ IsAnswer q (taken by told minor) c text = (c ≡ by) × (text ≡ told)
 -- the answer of a stage lacks this field: the folder of the workspace, or any of the metadata
 abbrev pub Lacks : Stage → Name → Type 0
 Lacks begun name = ⊥
+Lacks (versioned minor) name = ⊥
 Lacks to_cargo name = ⊥
 Lacks (newer minor) name = ⊥
 Lacks (first minor text) name = (ms : Members) × (object_in_text text ≡ Some ms) × (root_of ms ≡ Err name)

@@ -54,3 +54,8 @@ IsOfFile fs.Memory e = e ≡ fault.Memory
 IsOfFile (fs.Read path) e = e ≡ fault.Files (fs.Read path)
 IsOfFile (fs.Write path) e = e ≡ fault.Files (fs.Write path)
 IsOfFile (fs.NotText path) e = e ≡ fault.Files (fs.NotText path)
+
+-- nothing is left behind; or, behind a fault, one call of the files failed, and this path alone may hold something else
+abbrev pub Spares : {X : Type 0} → Name → Type 0 → Contents → Contents → ℕ → ℕ → Result X AskFault → Type 0
+Spares path tells old new before now (Ok x) = Whole tells old new before now
+Spares path tells old new before now (Err e) = Whole tells old new before now ⊎ Spoilt path tells old new before now

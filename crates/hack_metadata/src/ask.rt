@@ -10,7 +10,7 @@ ghost use Rattle.hack_process.specs.Commands.{asked_of, command_of};
 ghost use Rattle.hack_metadata.specs.AskView.{asks};
 ghost use Rattle.hack_metadata.specs.Asks.{Ends, Fails, Halts, IsLockfile, Reads, Way};
 ghost use Rattle.hack_metadata.specs.Asks.{first, locked, newer, to_cargo};
-ghost use Rattle.hack_metadata.specs.Left.{IsFileFault, Leaves};
+ghost use Rattle.hack_metadata.specs.Left.{IsFileFault, Leaves, Spares};
 ghost use Rattle.hack_metadata.specs.Requests.{by_stable, first_command, full_of, question};
 
 use crate::answers::{metadata_in, read, root_in, run, try_read};
@@ -40,7 +40,7 @@ impl Metadata {
         manager: &mut Manager,
     ) -> Result<Metadata, AskFault>
         ensures stays { F.stays files.old files.new }
-        ensures left { (path : List ℕ) × Leaves path F.tells (F.bytes_at files.old)
+        ensures left { (path : List ℕ) × Spares path F.tells (F.bytes_at files.old)
             (F.bytes_at files.new) (F.failed files.old) (F.failed files.new) result }
         ensures kept { registered manager.new ≡ registered manager.old }
         ensures needs { manager.new.needs_restore ≡ manager.old.needs_restore }
@@ -119,7 +119,7 @@ impl<'a> Question<'a> {
         manager: &mut Manager,
     ) -> Result<Metadata, AskFault>
         ensures stays { F.stays files.old files.new }
-        ensures left { (path : List ℕ) × Leaves path F.tells (F.bytes_at files.old)
+        ensures left { (path : List ℕ) × Spares path F.tells (F.bytes_at files.old)
             (F.bytes_at files.new) (F.failed files.old) (F.failed files.new) result }
         ensures kept { registered manager.new ≡ registered manager.old }
         ensures needs { manager.new.needs_restore ≡ manager.old.needs_restore }
