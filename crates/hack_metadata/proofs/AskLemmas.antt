@@ -1,5 +1,5 @@
 -- Faults of commands, and what they end.
-use Rattle.std.proofs.Common.{◌≡◌, ◌⊎◌, inl, inr, ℕ, List, [], ◌∷◌, ◌++◌, Some, None, Ok, Err, refl, sym, ◌∙◌, ap, subst, true, false, string_bytes, codes, map}
+use Rattle.std.proofs.Common.{◌≡◌, inl, inr, ℕ, List, [], ◌∷◌, ◌++◌, Some, None, refl, sym, ◌∙◌, ap, subst, true, string_bytes, codes, map}
 use Rattle.hack_features.specs.Names.{Name}
 use Rattle.hack_process.specs.Calls.{Asked, Call, MayAdd}
 use Rattle.hack_process.specs.CommandTexts.{Command}

@@ -1,11 +1,11 @@
 -- Where a question ends.
 use Rattle.std.specs.Prelude.{IfOk, IfErr, Result}
-use Rattle.std.proofs.Common.{◌≡◌, ◌⊎◌, inl, inr, ℕ, List, Some, None, Ok, Err, refl, sym, true, false}
+use Rattle.std.proofs.Common.{◌≡◌, ◌⊎◌, inl, inr, ℕ, List, Some, None, Ok, Err, refl, sym, true}
 use Rattle.serde_json.specs.Data.{Members}
 use Rattle.hack_features.specs.Names.{Name}
 use Rattle.hack_files.specs.Files.{Contents, GrowsBy, KeepsOthers}
 use Rattle.hack_files.specs.Restore.{Kept}
-use Rattle.std.proofs.Common.{◌+◌, ◌++◌, ◌∷◌, [], ◌∙◌, ap, subst, arith}
+use Rattle.std.proofs.Common.{◌++◌, ◌∷◌, [], ◌∙◌, ap, subst, arith}
 use Rattle.std.specs.Str.{bytes_eq}
 use Rattle.std.proofs.lemmas.Slice.Eq.{bytes_eq-Decides}
 use Rattle.std.proofs.lemmas.Bool.{cases_Bool, true≢false}
@@ -101,7 +101,7 @@ restored path tells a b c x y z old mid whole keeps back =
         | inl e ↦ let is : path ≡ q = (bytes_eq-Decides path q).0 e in
             ap c (sym is) ∙ (did.1 t).1 ∙ sym (keeps.2 t) ∙ ap a is
         | inr f ↦ (did.1 t).0 q (λ is. true≢false (sym ((bytes_eq-Decides path q).1 (sym is)) ∙ f)) ∙ whole.1 t q
-      ]
+      ],
     )
 
 -- an answer that counts is read, as it was asked
@@ -110,7 +110,7 @@ pub metadata-ends : (q : Question) (held : Contents) (old new : List Call) (c as
     → IfErr r (IsTextFault (read_metadata minor) shown (text_of q.verbose q.dir asked)) → Ends q held old new r
 metadata-ends q held old new c asked text shown minor r is same way ok err =
     taken-ends q held old new c text minor r way (subst (λ t. IfOk r (λ m. TellsAs (read_metadata minor) t (metadata_view m))) same ok)
-        (subst (λ k. IfErr r (IsTextFault (read_metadata minor) text (text_of q.verbose q.dir k))) is (subst (λ t. IfErr r (IsTextFault (read_metadata minor) t (text_of q.verbose q.dir asked))) same err))
+    (subst (λ k. IfErr r (IsTextFault (read_metadata minor) text (text_of q.verbose q.dir k))) is (subst (λ t. IfErr r (IsTextFault (read_metadata minor) t (text_of q.verbose q.dir asked))) same err))
 
 -- an answer that leaves nothing behind
 pub whole-spares : {X : Type 0} (path : Name) (tells : Type 0) (a b : Contents) (x y : ℕ) (r : Result X AskFault) → Whole tells a b x y → Spares path tells a b x y r
@@ -131,7 +131,7 @@ pub spoilt-more : (path : Name) (tells : Type 0) (a b c : Contents) (x y z : ℕ
 spoilt-more path tells a b c x y z f (inl g) = inl (whole-more tells a b c x y z f g)
 spoilt-more path tells a b c x y z f (inr g) = inr (
   (λ low. let first = f.0 low in let second = g.0 (omega (arith, first)) in omega (arith, first, second)),
-  λ t q ne. g.1 t q ne ∙ f.1 t q
+  λ t q ne. g.1 t q ne ∙ f.1 t q,
 )
 
 pub unchanged : (tells : Type 0) (a : Contents) (x : ℕ) → Whole tells a a x x
@@ -141,3 +141,7 @@ unchanged tells a x = (λ low. omega (arith, low), λ t q. refl)
 pub question-halts : (q : Question) (held : Contents) (old new : List Call) (minor : ℕ) (e : AskFault) → Way q held old (versioned minor) new → (e ≡ fault.Memory) ⊎ ((e ≡ fault.NoHost) × (q.full ≡ None)) → Halts q held old new e
 question-halts q held old new minor e way (inl is) = subst (λ x. Halts q held old new x) (sym is) (versioned minor, new, way, inl refl)
 question-halts q held old new minor e way (inr h) = subst (λ x. Halts q held old new x) (sym h.0) (versioned minor, new, way, (refl, h.1))
+
+-- the same of a result that is a fault
+pub err-spares : {X : Type 0} (path : Name) (tells : Type 0) (a b : Contents) (x y : ℕ) (r : Result X AskFault) (e : AskFault) → r ≡ Err e → Whole tells a b x y ⊎ Spoilt path tells a b x y → Spares path tells a b x y r
+err-spares path tells a b x y r e is h = subst (λ v. Spares path tells a b x y v) (sym is) h

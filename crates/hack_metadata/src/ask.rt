@@ -105,7 +105,14 @@ impl<'a> Question<'a> {
     {
         let asked = command(alloc, self.env.cargo.as_str(), &[], &self.full)?;
         let text = read(alloc, &asked, self.env, caller)?;
-        metadata_in(alloc, text.as_str(), self.cargo_version, &asked, self.args, self.env)
+        metadata_in(
+            alloc,
+            text.as_str(),
+            self.cargo_version,
+            &asked,
+            self.args,
+            self.env,
+        )
     }
 
     /// Asks stable's cargo, of this minor version, behind a first question to cargo, which says
@@ -250,6 +257,13 @@ impl<'a> Question<'a> {
             return self.ask_cargo(alloc, caller);
         }
         let text = first.text.as_str();
-        metadata_in(alloc, text, self.cargo_version, &first.command, self.args, self.env)
+        metadata_in(
+            alloc,
+            text,
+            self.cargo_version,
+            &first.command,
+            self.args,
+            self.env,
+        )
     }
 }

@@ -53,11 +53,7 @@ pub(crate) fn full_words(
 
 /// The words that say whose dependencies are told: nobody's, or those for each target, or else for
 /// the host.
-fn platform_words(
-    alloc: Global,
-    args: &Args,
-    host: Option<&str>,
-) -> Result<Vec<String>, AskFault>
+fn platform_words(alloc: Global, args: &Args, host: Option<&str>) -> Result<Vec<String>, AskFault>
     ensures ok { IfOk result (λ words. scope_words args.now.include_deps_features
         (map string_bytes args.now.target.items) (option_copied host.entry)
         ≡ Some (map string_bytes words.items)) }

@@ -12,11 +12,7 @@ use hack_files::restore::Manager;
 use std::alloc::Global;
 
 /// Whether something is at the path.
-pub(crate) fn is_there<F: Files>(
-    alloc: Global,
-    path: &str,
-    files: &mut F,
-) -> Result<bool, AskFault>
+pub(crate) fn is_there<F: Files>(alloc: Global, path: &str, files: &mut F) -> Result<bool, AskFault>
     ensures stays { F.stays files.old files.new }
     ensures left { Leaves path.now F.tells (F.bytes_at files.old) (F.bytes_at files.new)
         (F.failed files.old) (F.failed files.new) result }

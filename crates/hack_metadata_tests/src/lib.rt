@@ -2,8 +2,6 @@
 #![tactic(auto)]
 
 #[cfg(test)]
-mod ask;
-#[cfg(test)]
 mod common;
 #[cfg(test)]
 mod fields;

@@ -24,4 +24,4 @@ returns g c =
     let new = g.C.Caller.calls c.read.new.caller in
     let text = string_bytes c.in_ok-text.text in
     λ told held start way. metadata-ends q held start new (command_line q.cargo words) (command_of c.in_ok-asked.asked) text c.as_str-2.result.now q.cargo_version c.metadata_in.result is c.as_str-2.ensures.value
-        (tells_older words text refl way (subst (λ k. Reads k text old new) is (c.in_ok-text.ensures.ok told))) c.metadata_in.ensures.ok c.metadata_in.ensures.err
+    (tells_older words text refl way (subst (λ k. Reads k text old new) is (c.in_ok-text.ensures.ok told))) c.metadata_in.ensures.ok c.metadata_in.ensures.err

@@ -14,4 +14,4 @@ pub returns : goal.returns
 returns g c =
     let q = asks c.args.self.now in
     λ told first held start mid minor way failed. metadata-ends q held start (g.C.Caller.calls c.args.caller.now) (first_command q) (command_of c.args.first.now.command) (string_bytes c.args.first.now.text) c.as_str-text.result.now q.cargo_version c.metadata_in.result first c.as_str-text.ensures.value
-        (first_counts (map string_bytes c.args.self.now.full.items) refl way failed c.if-self.false) c.metadata_in.ensures.ok c.metadata_in.ensures.err
+    (first_counts (map string_bytes c.args.self.now.full.items) refl way failed c.if-self.false) c.metadata_in.ensures.ok c.metadata_in.ensures.err

@@ -24,8 +24,8 @@ returns-in_err-root-clause-err g c =
     let new = g.C.Caller.calls c.read.new.caller in
     let text = string_bytes c.in_ok-text.text in
     rw (p.1, p.2) (λ told held start minor way. text-halts q held start new (first minor text) asked text root_of c.in_err-root.field-0.0
-        (answers text way (subst (λ k. Reads k text old new) is (c.in_ok-text.ensures.ok told))) (is, refl) (λ name ms o f. (ms, o, f))
-        (subst (λ t. IsTextFault root_of t (text_of q.verbose q.dir asked) c.in_err-root.field-0.0) c.as_str-2.ensures.value c.in_err-root.ensures.err))
+    (answers text way (subst (λ k. Reads k text old new) is (c.in_ok-text.ensures.ok told))) (is, refl) (λ name ms o f. (ms, o, f))
+    (subst (λ t. IsTextFault root_of t (text_of q.verbose q.dir asked) c.in_err-root.field-0.0) c.as_str-2.ensures.value c.in_err-root.ensures.err))
 
 pub returns-in_err-lockfile-clause-err : goal.returns-in_err-lockfile-clause-err
 returns-in_err-lockfile-clause-err g c =

@@ -22,9 +22,9 @@ pub returns-clause-ok : goal.returns-clause-ok
 returns-clause-ok g c =
     let is : command_of c.in_ok-asked.asked ≡ lock_command (asks c.args.self.now) = search rules in
     on_ok_weaker c.run.result (λ h called told start minor text lock way.
-        is_made c.args.lockfile.now way lock (iff_false (c.in_ok-is_there.ensures.there told) c.if-branch.false)
-            (subst (λ k. Runs k (g.C.Caller.calls c.args.caller.now) (g.C.Caller.calls c.run.new.caller)) is (h called)))
-        c.run.ensures.ok
+    is_made c.args.lockfile.now way lock (iff_false (c.in_ok-is_there.ensures.there told) c.if-branch.false)
+    (subst (λ k. Runs k (g.C.Caller.calls c.args.caller.now) (g.C.Caller.calls c.run.new.caller)) is (h called)))
+    c.run.ensures.ok
 
 pub returns-clause-err : goal.returns-clause-err
 returns-clause-err g c =
@@ -34,6 +34,6 @@ returns-clause-err g c =
     let q = asks c.args.self.now in
     let asked = command_of c.in_ok-asked.asked in
     IfErr-weaker c.run.result _ _ (λ e h called told start minor text way.
-        command-halts g.C.Caller.tells q (g.F.Files.bytes_at c.args.files.now) start old new (first minor text) asked e called way is
-            (run-fails _ g.C.Caller.tells (asked_of true asked) (text_of true q.dir asked) old new e h))
-        c.run.ensures.err
+    command-halts g.C.Caller.tells q (g.F.Files.bytes_at c.args.files.now) start old new (first minor text) asked e called way is
+    (run-fails _ g.C.Caller.tells (asked_of true asked) (text_of true q.dir asked) old new e h))
+    c.run.ensures.err

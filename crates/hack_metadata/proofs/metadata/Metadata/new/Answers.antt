@@ -17,7 +17,7 @@ returns-in_err-question-clause-ends g c =
     let p = err_from_is_err_and c.from_residual-in_err-question.result c.from_residual-in_err-question.ensures.1 in
     let q = question c.args.args.now c.args.env.now c.args.cargo_version (option_copied c.args.host) in
     rw (p.1, p.2) (λ called told. question-halts q (g.F.Files.bytes_at c.args.files.now) (g.C.Caller.calls c.args.caller.now) (g.C.Caller.calls c.stable_minor.new.caller) c.in_ok-stable.stable c.in_err-question.field-0.0
-        (tells_minor c.in_ok-stable.stable (c.in_ok-stable.ensures.ok called)) c.in_err-question.ensures.err)
+    (tells_minor c.in_ok-stable.stable (c.in_ok-stable.ensures.ok called)) c.in_err-question.ensures.err)
 
 pub returns-then-stable-cargo_version-clause-ends : goal.returns-then-stable-cargo_version-clause-ends
 returns-then-stable-cargo_version-clause-ends g c =
@@ -27,8 +27,8 @@ returns-then-stable-cargo_version-clause-ends g c =
     let is : asks c.in_ok-question.question ≡ question c.args.args.now c.args.env.now c.args.cargo_version (option_copied c.args.host) = c.in_ok-question.ensures.ok in
     let lt : c.args.cargo_version < c.in_ok-stable.stable = search rules in
     λ called told. subst (λ x. Ends x held old (g.C.Caller.calls c.ask_stable.new.caller) c.ask_stable.result) is
-        (c.ask_stable.ensures.ends called told old (subst (λ x. Way x held old (newer c.in_ok-stable.stable) (g.C.Caller.calls c.stable_minor.new.caller)) (sym is)
-            (is_newer (tells_minor c.in_ok-stable.stable (c.in_ok-stable.ensures.ok called)) lt)))
+    (c.ask_stable.ensures.ends called told old (subst (λ x. Way x held old (newer c.in_ok-stable.stable) (g.C.Caller.calls c.stable_minor.new.caller)) (sym is)
+    (is_newer (tells_minor c.in_ok-stable.stable (c.in_ok-stable.ensures.ok called)) lt)))
 
 pub returns-clause-left : goal.returns-clause-left
 returns-clause-left g c = ([], whole-spares [] g.F.Files.tells (g.F.Files.bytes_at c.args.files.now) (g.F.Files.bytes_at c.args.files.now) (g.F.Files.failed c.args.files.now) (g.F.Files.failed c.args.files.now) c.ask_cargo.result (unchanged g.F.Files.tells (g.F.Files.bytes_at c.args.files.now) (g.F.Files.failed c.args.files.now)))
@@ -41,5 +41,5 @@ returns-clause-ends g c =
     let is : asks c.in_ok-question.question ≡ question c.args.args.now c.args.env.now c.args.cargo_version (option_copied c.args.host) = c.in_ok-question.ensures.ok in
     let le : c.in_ok-stable.stable ≤ c.args.cargo_version = search rules in
     λ called told. subst (λ x. Ends x held old (g.C.Caller.calls c.ask_cargo.new.caller) c.ask_cargo.result) is
-        (c.ask_cargo.ensures called held old (subst (λ x. Way x held old to_cargo (g.C.Caller.calls c.stable_minor.new.caller)) (sym is)
-            (is_older (tells_minor c.in_ok-stable.stable (c.in_ok-stable.ensures.ok called)) le)))
+    (c.ask_cargo.ensures called held old (subst (λ x. Way x held old to_cargo (g.C.Caller.calls c.stable_minor.new.caller)) (sym is)
+    (is_older (tells_minor c.in_ok-stable.stable (c.in_ok-stable.ensures.ok called)) le)))
