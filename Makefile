@@ -5,7 +5,7 @@ PROGRAM := crates/powerset_list/out/powerset_list
 EXCLUSIVE := native-tls,openssl,rustls
 
 .DEFAULT_GOAL := help
-.PHONY: help run program install test quick planted bench faults
+.PHONY: help run program install test quick planted bench faults stand-ins
 
 help:
 	@echo 'make run      prints the command list of the sample in examples/, by a trial build without proofs'
@@ -15,6 +15,7 @@ help:
 	@echo 'make install  proves and builds powerset-list, and installs it in PREFIX/bin (PREFIX=$(PREFIX))'
 	@echo 'make bench    proves and builds powerset-list, and prints its times, memory and lines'
 	@echo 'make faults   proves and builds powerset-list, and compares what it tells of refused calls'
+	@echo 'make stand-ins proves and builds the programs that stand in for cargo and rustup in tests, and tries them'
 
 # A trial build proves nothing, and so is ready in less than a minute.
 run:
@@ -43,3 +44,6 @@ bench: program
 
 faults: program
 	@tests/faults $(PROGRAM)
+
+stand-ins:
+	@tests/stand_ins
