@@ -16,6 +16,7 @@ help:
 	@echo 'make bench    proves and builds powerset-list, and prints its times, memory and lines'
 	@echo 'make stand-ins  proves and builds the programs that stand in for cargo and rustup, and tries them'
 	@echo 'make faults   proves and builds powerset-list, and compares what it tells of refused calls'
+	@echo 'make stand-ins proves and builds the programs that stand in for cargo and rustup in tests, and tries them'
 
 # A trial build proves nothing, and so is ready in less than a minute.
 run:
