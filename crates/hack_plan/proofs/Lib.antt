@@ -6,3 +6,4 @@ mod Pigeon
 mod Never
 mod SpanLemmas
 mod Below
+mod TwoLemmas

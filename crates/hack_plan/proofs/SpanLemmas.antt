@@ -1,7 +1,7 @@
 -- The places of each version, as the plan grows by a version.
-use Rattle.std.proofs.Common.{◌≡◌, ℕ, ◌+◌, ◌<◌, ◌≤◌, List, [], ◌∷◌, ◌++◌, length, length-map, take, map, arith, refl, ap, sym, ◌∙◌, subst, get_or, length-append, append_assoc, append-nil, Option, Some, None, Bool}
+use Rattle.std.proofs.Common.{◌≡◌, ℕ, ◌+◌, ◌<◌, ◌≤◌, List, [], ◌∷◌, ◌++◌, length, take, map, arith, refl, ap, sym, ◌∙◌, subst, get_or, length-append, append_assoc, append-nil, Option, Some, None, Bool}
 use Rattle.std.specs.List.{All, AllPairs, Contains}
-use Rattle.std.proofs.lemmas.List.{get_or-map, map-append, take_more, take_all}
+use Rattle.std.proofs.lemmas.List.{length-map, get_or-map, map-append, take_more, take_all}
 use Rattle.std.proofs.lemmas.List.Elements.{All-append, All-push, All-map, All-weaker, Contains-get_or}
 use Rattle.hack_versions.specs.declared.version.Version.{Version}
 use Rattle.hack_versions.specs.declared.version.VersionRange.{VersionRange}
@@ -56,7 +56,7 @@ span-last v old added f g = record {
 }
 
 All-unmap : {X Y : Type 0} (f : X → Y) (P : Y → Type 0) (xs : List X) → All P (map f xs) → All (λ x. P (f x)) xs
-All-unmap f P xs h k d l = subst P (get_or-map f xs k d (f d) l) (h k (f d) (omega (arith, length-map f xs, l)))
+All-unmap f P xs h k d l = subst P (get_or-map f xs k d (f d) l) (h k (f d) (omega (arith, length-map xs f, l)))
 
 later-than : (v w : Option Version) (added : List Quad) → IsOlder w v → All (IsHere v) added → All (IsLater w) added
 later-than v w added l h = All-weaker (IsHere v) (IsLater w) (λ q e. subst (IsOlder w) (sym e) l) added h

@@ -87,8 +87,11 @@ fn in_range(
     if scene.as_cargo && have_two(&scene.packages) {
         return Err(RangeFault::SingleMsrv);
     }
-    let (groups, skips) = group_by_version(alloc, range, &steps, &scene.packages)?;
-    notices.extend(skips)?;
+    let (groups, mut skips) = match group_by_version(alloc, range, &steps, &scene.packages) {
+        Ok(answer) => answer,
+        Err(fault) => return Err(fault),
+    };
+    notices.append(&mut skips)?;
     Ok((Versions { stable, groups }, notices))
 }
 
