@@ -50,9 +50,9 @@ abbrev pub GroupsBy : Option VersionRange → Scene → Versions → Type 0
 GroupsBy None s versions = versions.groups.items ≡ []
 GroupsBy (Some range) s versions = (steps : List Version) × AreStepsOf range s.step (owns_of s) versions.stable steps × AreGroups (UsesAt range steps s.packages.items) versions.groups.items
 
--- the versions of a scene, where stable is this one
-abbrev pub AreVersions : Scene → Option Version → Versions → Type 0
-AreVersions s stable versions = (versions.stable ≡ stable) × GroupsBy s.range s versions
+-- the versions of a scene
+abbrev pub AreVersions : Scene → Versions → Type 0
+AreVersions s versions = GroupsBy s.range s versions
 
 -- what is said of a range: of its patches, and of the packages that it skips
 abbrev pub AreNotices : Option VersionRange → Scene → Option Version → List Note → Type 0

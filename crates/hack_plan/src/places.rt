@@ -86,7 +86,7 @@ impl Places {
         versions: &Versions,
         counts: &[usize],
     ) -> Result<Places, PlacesFault>
-        requires versions { AreVersions scene.now versions.now.stable versions.now }
+        requires versions { AreVersions scene.now versions.now }
         requires counted { scene.now.as_cargo ≡ false → length counts.now ≡ length scene.now.packages.items }
         ensures ok { IfOk result (λ p. ArePlaces scene.now counts.now versions.now.stable p.quads) }
         ensures spans { IfOk result (AreSpans (versions_of scene.now.range versions.now.groups.items)) }
@@ -217,7 +217,7 @@ impl Places {
         versions: &Versions,
         counts: &[usize],
     ) -> Result<Places, PlacesFault>
-        requires versions { AreVersions scene.now versions.now.stable versions.now }
+        requires versions { AreVersions scene.now versions.now }
         requires counted { scene.now.as_cargo ≡ false → length counts.now ≡ length scene.now.packages.items }
         ensures ok { IfOk result (λ p. ArePlaces scene.now counts.now versions.now.stable p.quads) }
         ensures spans { IfOk result (AreSpans (versions_of scene.now.range versions.now.groups.items)) }

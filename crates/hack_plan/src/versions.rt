@@ -50,7 +50,8 @@ impl Versions {
         stable: Option<Version>,
     ) -> Result<(Versions, Vec<Notice>), RangeFault>
         requires { IfSome scene.now.range (λ range. NeedsStable range → IsSome stable) }
-        ensures ok { IfOk result (λ answer. AreVersions scene.now stable answer.0) }
+        ensures ok { IfOk result (λ answer. AreVersions scene.now answer.0) }
+        ensures stable { IfOk result (λ answer. answer.0.stable ≡ stable) }
         ensures notices { IfOk result (λ answer. AreNotices scene.now.range scene.now stable (map note_of answer.1.items)) }
         ensures never { IfOk result (λ _. (e : RangeFault) → ¬ IsVersionsFault scene.now.range scene.now stable e) }
         ensures err { IfErr result (λ e. (e ≡ RangeFault.Memory) ⊎ IsVersionsFault scene.now.range scene.now stable e) }
@@ -77,7 +78,8 @@ fn in_range(
 ) -> Result<(Versions, Vec<Notice>), RangeFault>
     requires some { scene.now.range ≡ Some range }
     requires stable { NeedsStable range → IsSome stable }
-    ensures ok { IfOk result (λ answer. AreVersions scene.now stable answer.0) }
+    ensures ok { IfOk result (λ answer. AreVersions scene.now answer.0) }
+    ensures stable { IfOk result (λ answer. answer.0.stable ≡ stable) }
     ensures notices { IfOk result (λ answer. AreNotices (Some range) scene.now stable (map note_of answer.1.items)) }
     ensures never { IfOk result (λ _. (e : RangeFault) → ¬ IsVersionsFault (Some range) scene.now stable e) }
     ensures err { IfErr result (λ e. (e ≡ RangeFault.Memory) ⊎ IsVersionsFault (Some range) scene.now stable e) }
