@@ -1,6 +1,6 @@
 -- Blocks as lists of quadruples.
-use Rattle.std.proofs.Common.{◌≡◌, ℕ, zero, suc, ◌+◌, ◌-◌, ◌<◌, ◌≤◌, ◌^◌, List, [], ◌∷◌, ◌++◌, length, take, arith, refl, ap, sym, ◌∙◌, subst, inl, inr, get_or, length-append, append-nil, Option, Some, slice_get, leb, le-leb, leb-true, leb-false, true, false}
-use Rattle.std.specs.List.{range_with_len, sum_by}
+use Rattle.std.proofs.Common.{◌≡◌, ℕ, zero, suc, ◌+◌, ◌-◌, ◌<◌, ◌≤◌, ◌^◌, List, [], ◌∷◌, ◌++◌, length, take, arith, refl, ap, sym, ◌∙◌, inr, get_or, length-append, append-nil, Option, Some, slice_get, leb, le-leb, leb-true, leb-false, true, false}
+use Rattle.std.specs.List.{sum_by}
 use Rattle.std.specs.List.Sorted.{IsPartitionedBy, IsPartitionPoint}
 use Rattle.std.proofs.lemmas.List.{take_all, take-take}
 use Rattle.std.proofs.lemmas.Option.{slice_get-get_or}
@@ -10,7 +10,7 @@ use Rattle.std.proofs.lemmas.List.Sums.{sum_by-cons, sum_by_more, sum_by-take-le
 use Rattle.hack_versions.specs.declared.version.Version.{Version}
 use Rattle.hack_plan.specs.declared.places.Quad.{Quad}
 use Rattle.hack_plan.specs.declared.blocks.Block.{Block}
-use Rattle.hack_plan.specs.Quads.{Lists, Before, Overfills}
+use Rattle.hack_plan.specs.Quads.{Lists, Overfills}
 use Rattle.hack_plan.specs.Parts.{InBlock}
 use Rattle.hack_plan.specs.Blocks.{quad_at, quads_in, quads_of, runs_in, AreSums}
 

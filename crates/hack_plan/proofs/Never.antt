@@ -1,6 +1,6 @@
 -- A plan leaves no cause.
-use Rattle.std.proofs.Common.{◌≡◌, ◌⊎◌, ◌↔◌, ℕ, ◌+◌, ◌*◌, ◌<◌, ◌≤◌, ◌^◌, List, [], ◌∷◌, length, arith, refl, ap, sym, ◌∙◌, subst, inl, inr, Option, Some, None, Bool, true, false, IfSome}
-use Rattle.std.specs.List.{All, AllPairs, Contains}
+use Rattle.std.proofs.Common.{◌≡◌, ◌⊎◌, ℕ, ◌+◌, ◌*◌, ◌<◌, ◌^◌, List, length, arith, ap, sym, ◌∙◌, subst, inl, inr, Option, Some, None, Bool, true, false, IfSome}
+use Rattle.std.specs.List.{Contains}
 use Rattle.std.proofs.lemmas.List.Elements.{All-contains}
 use Rattle.hack_versions.specs.declared.version.Version.{Version}
 use Rattle.hack_versions.specs.declared.version.MaybeVersion.{MaybeVersion}
@@ -13,7 +13,7 @@ use Rattle.hack_versions.proofs.OrderLemmas.{at_most-both}
 use Rattle.hack_plan.specs.declared.places.Quad.{Quad}
 use Rattle.hack_plan.specs.declared.versions.Scene.{Scene}
 use Rattle.hack_plan.specs.Scenes.{IsStepList, UsesVersion, IsVersion, owns_of}
-use Rattle.hack_plan.specs.Quads.{Lists, IsAdmissible, HasRun, ArePlaces, HasTooMany}
+use Rattle.hack_plan.specs.Quads.{IsAdmissible, HasRun, ArePlaces, HasTooMany}
 use Rattle.hack_plan.proofs.Pigeon.{not-too-many}
 
 abbrev IsOver : Version → Option Version → Type 0

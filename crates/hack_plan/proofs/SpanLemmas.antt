@@ -1,7 +1,7 @@
 -- The places of each version, as the plan grows by a version.
-use Rattle.std.proofs.Common.{◌≡◌, ℕ, ◌+◌, ◌<◌, ◌≤◌, List, [], ◌∷◌, ◌++◌, length, take, map, arith, refl, ap, sym, ◌∙◌, subst, get_or, length-append, append_assoc, append-nil, Option, Some, None, Bool}
-use Rattle.std.specs.List.{All, AllPairs, Contains}
-use Rattle.std.proofs.lemmas.List.{length-map, get_or-map, map-append, take_more, take_all}
+use Rattle.std.proofs.Common.{◌≡◌, ℕ, ◌+◌, ◌<◌, List, [], ◌∷◌, ◌++◌, length, take, map, arith, refl, ap, sym, ◌∙◌, subst, get_or, length-append, append_assoc, append-nil, Option, Some, Bool}
+use Rattle.std.specs.List.{All, Contains}
+use Rattle.std.proofs.lemmas.List.{length-map, get_or-map, map-append, take_more}
 use Rattle.std.proofs.lemmas.List.Elements.{All-append, All-push, All-map, All-weaker, Contains-get_or}
 use Rattle.hack_versions.specs.declared.version.Version.{Version}
 use Rattle.hack_versions.specs.declared.version.VersionRange.{VersionRange}
@@ -11,8 +11,7 @@ use Rattle.hack_versions.specs.Uses.{UsesAt, AreGroups}
 use Rattle.hack_plan.specs.declared.places.Quad.{Quad}
 use Rattle.hack_plan.specs.declared.places.Span.{Span}
 use Rattle.hack_plan.specs.declared.versions.Scene.{Scene}
-use Rattle.hack_plan.specs.Scenes.{slots_of}
-use Rattle.hack_plan.specs.Quads.{Adds, IsOlder, Lists, IsAdmissible}
+use Rattle.hack_plan.specs.Quads.{Adds, IsOlder}
 use Rattle.hack_plan.specs.Parts.{InVersion}
 use Rattle.hack_plan.specs.Spans.{Laid, IsSpan, AreSpans, IsNext, version_in, version_at}
 use Rattle.hack_plan.proofs.Groups.{InGroups, earlier}

@@ -1,5 +1,5 @@
 -- Whether two packages have different own versions.
-use Rattle.std.proofs.Common.{◌≡◌, ◌≢◌, ◌↔◌, ℕ, ◌<◌, zero, suc, List, [], ◌∷◌, length, arith, refl, sym, ◌∙◌, Bool, true, false, IsTrue, Option, Some, None, slice_get}
+use Rattle.std.proofs.Common.{◌≡◌, ◌≢◌, ◌↔◌, List, [], ◌∷◌, arith, refl, sym, ◌∙◌, Bool, true, false, IsTrue, Some, slice_get}
 use Rattle.std.specs.List.{Contains}
 use Rattle.hack_versions.specs.declared.group.PackageVersion.{PackageVersion}
 use Rattle.hack_versions.specs.Uses.{own_of}

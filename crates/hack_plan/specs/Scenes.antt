@@ -1,5 +1,5 @@
 -- What a plan is made of: the versions that packages use.
-use Rattle.std.specs.Prelude.{ℕ, ◌≡◌, ◌≢◌, ◌<◌, ◌++◌, ◌⊎◌, List, [], length, map, Contains, Option, Some, None, Bool, true, false, nat_lt, ◌&&◌, if◌then◌else◌}
+use Rattle.std.specs.Prelude.{ℕ, ◌≡◌, ◌≢◌, ◌<◌, ◌++◌, ◌⊎◌, List, [], length, map, Contains, Option, Some, None, true, false, nat_lt, ◌&&◌, if◌then◌else◌}
 use Rattle.hack_versions.specs.declared.version.Version.{Version}
 use Rattle.hack_versions.specs.declared.version.VersionRange.{VersionRange}
 use Rattle.hack_versions.specs.declared.group.PackageVersion.{PackageVersion}
@@ -53,6 +53,10 @@ GroupsBy (Some range) s versions = (steps : List Version) × AreStepsOf range s.
 -- the versions of a scene
 abbrev pub AreVersions : Scene → Versions → Type 0
 AreVersions s versions = GroupsBy s.range s versions
+
+-- there is a number of runs for each package, where it counts
+abbrev pub AreCounted : Scene → List ℕ → Type 0
+AreCounted s counts = s.as_cargo ≡ false → length counts ≡ length s.packages.items
 
 -- what is said of a range: of its patches, and of the packages that it skips
 abbrev pub AreNotices : Option VersionRange → Scene → Option Version → List Note → Type 0

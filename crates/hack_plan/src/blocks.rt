@@ -1,6 +1,8 @@
-//! The places of a plan as blocks with running sums: a block has the runs of one version, slot and package.
+//! The places of a plan as blocks with running sums: a block has the runs of one version, slot and
+//! package.
 
-ghost use Rattle.std.specs.Prelude.{ℕ, true, false, ◌≡◌, ◌<◌, ◌≤◌, ◌+◌, ◌^◌, ◌⊎◌, [], length, All, AllPairs, OnOk, OnErr, IfOk, IfErr, slice_get, slice_index};
+ghost use Rattle.std.specs.Prelude.{ℕ, true, false, ◌≡◌, ◌<◌, ◌≤◌, ◌+◌, ◌^◌, ◌⊎◌, [], length, All};
+ghost use Rattle.std.specs.Prelude.{AllPairs, OnOk, OnErr, IfOk, IfErr, slice_get, slice_index};
 ghost use Rattle.hack_plan.specs.Quads.{Adds, Overfills};
 ghost use Rattle.hack_plan.specs.Parts.{InBlock, InSlot, InVersion};
 
@@ -83,7 +85,9 @@ impl Blocks {
         runs: usize,
     ) -> Result<(), PlacesFault>
         ensures ok { OnOk result (Adds (InBlock version slot member runs) self.old self.new) }
-        ensures err { IfErr result (λ e. (e ≡ PlacesFault.Memory) ⊎ ((e ≡ PlacesFault.TooManyRuns) × Overfills (InBlock version slot member runs) self.old)) }
+        ensures err { IfErr result (λ e. (e ≡ PlacesFault.Memory)
+            ⊎ ((e ≡ PlacesFault.TooManyRuns) × Overfills (InBlock version slot member runs)
+            self.old)) }
     {
         let end = match self.total.checked_add(runs) {
             Some(end) if end <= MOST_PLACES => end,
@@ -113,8 +117,11 @@ impl Blocks {
     ) -> Result<(), PlacesFault>
         requires increasing { AllPairs (λ a b. a < b) members.now }
         requires within { All (λ p. p < length runs.now) members.now }
-        ensures ok { OnOk result (Adds (InSlot version slot members.now runs.now) self.old self.new) }
-        ensures err { IfErr result (λ e. (e ≡ PlacesFault.Memory) ⊎ ((e ≡ PlacesFault.TooManyRuns) × Overfills (InSlot version slot members.now runs.now) self.old)) }
+        ensures ok { OnOk result (Adds (InSlot version slot members.now runs.now) self.old
+            self.new) }
+        ensures err { IfErr result (λ e. (e ≡ PlacesFault.Memory)
+            ⊎ ((e ≡ PlacesFault.TooManyRuns) × Overfills (InSlot version slot members.now runs.now)
+            self.old)) }
     {
         for member in members {
             if let Err(fault) = self.push(version, slot, Some(*member), runs[*member]) {
@@ -135,8 +142,11 @@ impl Blocks {
     ) -> Result<(), PlacesFault>
         requires increasing { AllPairs (λ a b. a < b) members.now }
         requires within { whole ≡ false → All (λ p. p < length runs.now) members.now }
-        ensures ok { OnOk result (Adds (InVersion whole version slots members.now runs.now) self.old self.new) }
-        ensures err { IfErr result (λ e. (e ≡ PlacesFault.Memory) ⊎ ((e ≡ PlacesFault.TooManyRuns) × Overfills (InVersion whole version slots members.now runs.now) self.old)) }
+        ensures ok { OnOk result (Adds (InVersion whole version slots members.now runs.now)
+            self.old self.new) }
+        ensures err { IfErr result (λ e. (e ≡ PlacesFault.Memory)
+            ⊎ ((e ≡ PlacesFault.TooManyRuns) × Overfills (InVersion whole version slots members.now
+            runs.now) self.old)) }
     {
         if whole {
             self.add_single(version, slots)
@@ -148,7 +158,9 @@ impl Blocks {
     /// One place in each slot.
     fn add_single(&mut self, version: Option<Version>, slots: usize) -> Result<(), PlacesFault>
         ensures ok { OnOk result (Adds (InVersion true version slots [] []) self.old self.new) }
-        ensures err { IfErr result (λ e. (e ≡ PlacesFault.Memory) ⊎ ((e ≡ PlacesFault.TooManyRuns) × Overfills (InVersion true version slots [] []) self.old)) }
+        ensures err { IfErr result (λ e. (e ≡ PlacesFault.Memory)
+            ⊎ ((e ≡ PlacesFault.TooManyRuns) × Overfills (InVersion true version slots [] [])
+            self.old)) }
     {
         for slot in 0..slots {
             if let Err(fault) = self.push(version, slot, None, 1) {
@@ -168,8 +180,11 @@ impl Blocks {
     ) -> Result<(), PlacesFault>
         requires increasing { AllPairs (λ a b. a < b) members.now }
         requires within { All (λ p. p < length runs.now) members.now }
-        ensures ok { OnOk result (Adds (InVersion false version slots members.now runs.now) self.old self.new) }
-        ensures err { IfErr result (λ e. (e ≡ PlacesFault.Memory) ⊎ ((e ≡ PlacesFault.TooManyRuns) × Overfills (InVersion false version slots members.now runs.now) self.old)) }
+        ensures ok { OnOk result (Adds (InVersion false version slots members.now runs.now)
+            self.old self.new) }
+        ensures err { IfErr result (λ e. (e ≡ PlacesFault.Memory)
+            ⊎ ((e ≡ PlacesFault.TooManyRuns) × Overfills (InVersion false version slots members.now
+            runs.now) self.old)) }
     {
         for slot in 0..slots {
             if let Err(fault) = self.add_slot(version, slot, members, runs) {

@@ -1,9 +1,13 @@
-//! The plan of a scene: its runs in order. It is kept as blocks with running sums, and a run is found by halving.
+//! The plan of a scene: its runs in order. It is kept as blocks with running sums, and a run is
+//! found by halving.
 
-ghost use Rattle.std.specs.Prelude.{ℕ, ◌≡◌, ◌<◌, ◌≤◌, ◌^◌, ◌⊎◌, ◌↔◌, ◌++◌, ◌∷◌, [], Some, None, true, false, length, All, AllPairs, Contains, OnOk, OnErr, IfOk, IfErr, slice_get};
+ghost use Rattle.std.specs.Prelude.{ℕ, ◌≡◌, ◌<◌, ◌≤◌, ◌^◌, ◌⊎◌, ◌↔◌, ◌++◌, ◌∷◌, [], Some, None};
+ghost use Rattle.std.specs.Prelude.{true, false, length, All, AllPairs, Contains, OnOk, OnErr};
+ghost use Rattle.std.specs.Prelude.{IfOk, IfErr, slice_get};
 ghost use Rattle.hack_versions.specs.declared.group.VersionGroup.{VersionGroup as Group};
-ghost use Rattle.hack_plan.specs.Scenes.{AreVersions, GroupsBy, slots_of};
-ghost use Rattle.hack_plan.specs.Quads.{ArePlaces, HasTooMany, Lists, IsAdmissible, AreTooMany, Adds, Overfills};
+ghost use Rattle.hack_plan.specs.Scenes.{AreVersions, AreCounted, GroupsBy, slots_of};
+ghost use Rattle.hack_plan.specs.Quads.{ArePlaces, HasTooMany, Lists, IsAdmissible, AreTooMany};
+ghost use Rattle.hack_plan.specs.Quads.{Adds, Overfills};
 ghost use Rattle.hack_plan.specs.Parts.{InVersion};
 ghost use Rattle.hack_plan.specs.declared.places.PlacesFault.TheVariants.{Memory as OutOfMemory};
 
@@ -15,8 +19,8 @@ use std::alloc::{AllocError, AllocFailed, Global};
 use std::marker::Model;
 use thiserror::Error;
 
-/// One run: its version (none without a range), its slot, its package by its place among the chosen ones (none
-/// where one run is for all), and its rank among the package's runs.
+/// One run: its version (none without a range), its slot, its package by its place among the chosen
+/// ones (none where one run is for all), and its rank among the package's runs.
 #[derive(Clone, Copy)]
 pub struct Quad {
     pub version: Option<Version>,
@@ -78,8 +82,8 @@ impl Places {
     ghost use Rattle.std.specs.Prelude.{List};
     ghost use Rattle.hack_plan.specs.Spans.{AreSpans, versions_of};
 
-    /// The plan. `versions` are the scene's, and `counts` the number of runs of each package, which doesn't
-    /// matter where one run is for all.
+    /// The plan. `versions` are the scene's, and `counts` the number of runs of each package, which
+    /// doesn't matter where one run is for all.
     pub fn new(
         alloc: Global,
         scene: &Scene,
@@ -87,11 +91,14 @@ impl Places {
         counts: &[usize],
     ) -> Result<Places, PlacesFault>
         requires versions { AreVersions scene.now versions.now }
-        requires counted { scene.now.as_cargo ≡ false → length counts.now ≡ length scene.now.packages.items }
+        requires counted { AreCounted scene.now counts.now }
         ensures ok { IfOk result (λ p. ArePlaces scene.now counts.now versions.now.stable p.quads) }
-        ensures spans { IfOk result (AreSpans (versions_of scene.now.range versions.now.groups.items)) }
+        ensures spans { IfOk result (AreSpans (versions_of scene.now.range
+            versions.now.groups.items)) }
         ensures never { IfOk result (λ _. ¬ HasTooMany scene.now counts.now versions.now.stable) }
-        ensures err { IfErr result (λ e. (e ≡ PlacesFault.Memory) ⊎ ((e ≡ PlacesFault.TooManyRuns) × HasTooMany scene.now counts.now versions.now.stable)) }
+        ensures err { IfErr result (λ e. (e ≡ PlacesFault.Memory)
+            ⊎ ((e ≡ PlacesFault.TooManyRuns) × HasTooMany scene.now counts.now
+            versions.now.stable)) }
     {
         let places = Places::of(alloc, scene, versions, counts)?;
         let _ = places.len();
@@ -114,7 +121,8 @@ impl Places {
         self.blocks.run(place)
     }
 
-    /// Each version that some package uses, or "none" without a range, with its places. A version may have none.
+    /// Each version that some package uses, or "none" without a range, with its places. A version
+    /// may have none.
     pub fn versions(&self) -> &[Span]
         ensures { result.now ≡ self.now.spans }
     {
@@ -144,10 +152,14 @@ impl Places {
         counts: &[usize],
     ) -> Result<(), PlacesFault>
         requires increasing { AllPairs (λ a b. a < b) packages.now }
-        requires within { scene.now.as_cargo ≡ false → All (λ p. p < length counts.now) packages.now }
-        ensures ok { OnOk result (Adds (InVersion scene.now.as_cargo version (slots_of scene.now version) packages.now counts.now) self.old.quads self.new.quads) }
+        requires within { scene.now.as_cargo ≡ false
+            → All (λ p. p < length counts.now) packages.now }
+        ensures ok { OnOk result (Adds (InVersion scene.now.as_cargo version
+            (slots_of scene.now version) packages.now counts.now) self.old.quads self.new.quads) }
         ensures next { OnOk result (IsNext version self.old self.new) }
-        ensures err { IfErr result (λ e. (e ≡ PlacesFault.Memory) ⊎ ((e ≡ PlacesFault.TooManyRuns) × Overfills (InVersion scene.now.as_cargo version (slots_of scene.now version) packages.now counts.now) self.old.quads)) }
+        ensures err { IfErr result (λ e. (e ≡ PlacesFault.Memory)
+            ⊎ ((e ≡ PlacesFault.TooManyRuns) × Overfills (InVersion scene.now.as_cargo version
+            (slots_of scene.now version) packages.now counts.now) self.old.quads)) }
     {
         let first = self.blocks.len();
         let slots = slots(scene, version);
@@ -172,10 +184,11 @@ impl Places {
     /// The plan of a scene without a range.
     fn without_range(alloc: Global, scene: &Scene, counts: &[usize]) -> Result<Places, PlacesFault>
         requires none { scene.now.range ≡ None }
-        requires counted { scene.now.as_cargo ≡ false → length counts.now ≡ length scene.now.packages.items }
+        requires counted { AreCounted scene.now counts.now }
         ensures ok { IfOk result (λ p. Lists (IsAdmissible scene.now counts.now []) p.quads) }
         ensures spans { IfOk result (AreSpans (None ∷ [])) }
-        ensures err { IfErr result (λ e. (e ≡ PlacesFault.Memory) ⊎ ((e ≡ PlacesFault.TooManyRuns) × AreTooMany (IsAdmissible scene.now counts.now []))) }
+        ensures err { IfErr result (λ e. (e ≡ PlacesFault.Memory)
+            ⊎ ((e ≡ PlacesFault.TooManyRuns) × AreTooMany (IsAdmissible scene.now counts.now []))) }
     {
         let all = all_below(alloc, scene.packages.len())?;
         let mut places = Places::empty(alloc);
@@ -195,10 +208,12 @@ impl Places {
     ) -> Result<Places, PlacesFault>
         requires some { scene.now.range ≡ Some range }
         requires versions { GroupsBy (Some range) scene.now versions.now }
-        requires counted { scene.now.as_cargo ≡ false → length counts.now ≡ length scene.now.packages.items }
+        requires counted { AreCounted scene.now counts.now }
         ensures ok { IfOk result (λ p. ArePlaces scene.now counts.now versions.now.stable p.quads) }
         ensures spans { IfOk result (AreSpans (versions_of (Some range) versions.now.groups.items)) }
-        ensures err { IfErr result (λ e. (e ≡ PlacesFault.Memory) ⊎ ((e ≡ PlacesFault.TooManyRuns) × HasTooMany scene.now counts.now versions.now.stable)) }
+        ensures err { IfErr result (λ e. (e ≡ PlacesFault.Memory)
+            ⊎ ((e ≡ PlacesFault.TooManyRuns) × HasTooMany scene.now counts.now
+            versions.now.stable)) }
     {
         let _ = range;
         let mut places = Places::empty(alloc);
@@ -218,10 +233,13 @@ impl Places {
         counts: &[usize],
     ) -> Result<Places, PlacesFault>
         requires versions { AreVersions scene.now versions.now }
-        requires counted { scene.now.as_cargo ≡ false → length counts.now ≡ length scene.now.packages.items }
+        requires counted { AreCounted scene.now counts.now }
         ensures ok { IfOk result (λ p. ArePlaces scene.now counts.now versions.now.stable p.quads) }
-        ensures spans { IfOk result (AreSpans (versions_of scene.now.range versions.now.groups.items)) }
-        ensures err { IfErr result (λ e. (e ≡ PlacesFault.Memory) ⊎ ((e ≡ PlacesFault.TooManyRuns) × HasTooMany scene.now counts.now versions.now.stable)) }
+        ensures spans { IfOk result (AreSpans (versions_of scene.now.range
+            versions.now.groups.items)) }
+        ensures err { IfErr result (λ e. (e ≡ PlacesFault.Memory)
+            ⊎ ((e ≡ PlacesFault.TooManyRuns) × HasTooMany scene.now counts.now
+            versions.now.stable)) }
     {
         match scene.range {
             None => Places::without_range(alloc, scene, counts),

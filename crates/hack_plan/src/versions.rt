@@ -1,11 +1,13 @@
-//! What a plan is made of, and which versions its packages use. It needs no numbers of runs, so that a bad range
-//! is refused before any set of features is made.
+//! What a plan is made of, and which versions its packages use. It needs no numbers of runs, so
+//! that a bad range is refused before any set of features is made.
 
-ghost use Rattle.std.specs.Prelude.{◌≡◌, ◌≢◌, ◌⊎◌, ◌↔◌, IfOk, IfErr, IsTrue, IsSome, IfSome, Contains, map};
+ghost use Rattle.std.specs.Prelude.{◌≡◌, ◌≢◌, ◌⊎◌, ◌↔◌, IfOk, IfErr, IsTrue, IsSome, IfSome};
+ghost use Rattle.std.specs.Prelude.{Contains, map};
 ghost use Rattle.hack_versions.specs.RangeSteps.{NeedsStable};
 ghost use Rattle.hack_versions.specs.Uses.{own_of};
 ghost use Rattle.hack_versions.specs.Notes.{note_of};
-ghost use Rattle.hack_plan.specs.Scenes.{given_of, HaveTwo, AreVersions, AreNotices, IsVersionsFault};
+ghost use Rattle.hack_plan.specs.Scenes.{given_of, HaveTwo, AreVersions, AreNotices};
+ghost use Rattle.hack_plan.specs.Scenes.{IsVersionsFault};
 ghost use Rattle.hack_versions.specs.declared.group.PackageVersion.{PackageVersion as Member};
 
 use hack_versions::notice::Notice;
@@ -42,8 +44,8 @@ pub struct Versions {
 }
 
 impl Versions {
-    /// The versions, and the notices on patches that the range names and on packages that it skips. `stable` is the
-    /// version of the toolchain `stable`.
+    /// The versions, and the notices on patches that the range names and on packages that it skips.
+    /// `stable` is the version of the toolchain `stable`.
     pub fn new(
         alloc: Global,
         scene: &Scene,
@@ -52,9 +54,12 @@ impl Versions {
         requires { IfSome scene.now.range (λ range. NeedsStable range → IsSome stable) }
         ensures ok { IfOk result (λ answer. AreVersions scene.now answer.0) }
         ensures stable { IfOk result (λ answer. answer.0.stable ≡ stable) }
-        ensures notices { IfOk result (λ answer. AreNotices scene.now.range scene.now stable (map note_of answer.1.items)) }
-        ensures never { IfOk result (λ _. (e : RangeFault) → ¬ IsVersionsFault scene.now.range scene.now stable e) }
-        ensures err { IfErr result (λ e. (e ≡ RangeFault.Memory) ⊎ IsVersionsFault scene.now.range scene.now stable e) }
+        ensures notices { IfOk result (λ answer. AreNotices scene.now.range scene.now stable
+            (map note_of answer.1.items)) }
+        ensures never { IfOk result (λ _. (e : RangeFault)
+            → ¬ IsVersionsFault scene.now.range scene.now stable e) }
+        ensures err { IfErr result (λ e. (e ≡ RangeFault.Memory)
+            ⊎ IsVersionsFault scene.now.range scene.now stable e) }
     {
         match scene.range {
             None => Ok((
@@ -80,9 +85,12 @@ fn in_range(
     requires stable { NeedsStable range → IsSome stable }
     ensures ok { IfOk result (λ answer. AreVersions scene.now answer.0) }
     ensures stable { IfOk result (λ answer. answer.0.stable ≡ stable) }
-    ensures notices { IfOk result (λ answer. AreNotices (Some range) scene.now stable (map note_of answer.1.items)) }
-    ensures never { IfOk result (λ _. (e : RangeFault) → ¬ IsVersionsFault (Some range) scene.now stable e) }
-    ensures err { IfErr result (λ e. (e ≡ RangeFault.Memory) ⊎ IsVersionsFault (Some range) scene.now stable e) }
+    ensures notices { IfOk result (λ answer. AreNotices (Some range) scene.now stable
+        (map note_of answer.1.items)) }
+    ensures never { IfOk result (λ _. (e : RangeFault)
+        → ¬ IsVersionsFault (Some range) scene.now stable e) }
+    ensures err { IfErr result (λ e. (e ≡ RangeFault.Memory)
+        ⊎ IsVersionsFault (Some range) scene.now stable e) }
 {
     let owns = owns_of(alloc, &scene.packages)?;
     let (steps, mut notices) = version_range(alloc, range, scene.step, &owns, stable)?;
@@ -125,7 +133,8 @@ fn is_other(member: &PackageVersion, head: &PackageVersion) -> bool
 
 /// Whether some package's own version is another than this one's.
 fn differs(packages: &[PackageVersion], head: &PackageVersion) -> bool
-    ensures { IsTrue result ↔ ((member : Member) × Contains packages.now member × (own_of member ≢ own_of head.now)) }
+    ensures { IsTrue result ↔ ((member : Member) × Contains packages.now member
+        × (own_of member ≢ own_of head.now)) }
 {
     for member in packages {
         if is_other(member, head) {

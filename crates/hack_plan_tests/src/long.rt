@@ -1,11 +1,12 @@
 //! Plans that are too long for a list of places, and the pieces of a status line.
 
+ghost use Rattle.std.specs.Prelude.{◌<◌};
+
 use crate::scenes::{PLAIN, Row, place_text, scene_of, versions_of};
 use hack_plan::places::Places;
 use hack_plan::progress::Progress;
-use hack_term::partition::Partition;
+use hack_term::partition::{Partition, PartitionFault};
 use std::alloc::{AllocError, Global};
-use std::process::Abort;
 use std::test::Fail;
 
 /// The total of a plan with a run at this place, or the fault.
@@ -28,7 +29,7 @@ fn long_text(alloc: Global, row: Row<'_>, place: usize) -> Result<String, AllocE
 }
 
 #[test]
-fn long_plans<R: Abort>(rt: &R, alloc: Global) {
+fn long_plans(rt: HostRuntime) -> Result<(), Fail> {
     let most = Row {
         counts: &[4_294_967_295],
         ..PLAIN
@@ -60,24 +61,27 @@ fn long_plans<R: Abort>(rt: &R, alloc: Global) {
         (versions, 3_932_159_999, "3932160000 0/0/65535"),
     ];
     for (row, place, wanted) in rows {
-        let told = long_text(alloc, row, place).or_fail(rt);
-        assert_eq!(rt, told.as_str(), wanted);
+        let told = long_text(rt.alloc(), row, place)?;
+        assert_eq!(rt; told.as_str(), wanted);
     }
+    Ok(())
+}
+
+/// Whether a piece has the place behind the first `count` ones.
+fn held(alloc: Global, piece: &str, count: u64, total: u64) -> Result<bool, PartitionFault>
+    requires { count < total }
+{
+    let piece = Partition::parse(alloc, piece)?;
+    let progress = Progress { total, count };
+    Ok(progress.in_partition(&piece))
 }
 
 #[test]
-fn pieces<R: Abort>(rt: &R, alloc: Global) {
-    let rows = [
-        ("1/3", 4, 1, true),
-        ("1/3", 4, 2, false),
-        ("2/3", 4, 2, true),
-        ("3/3", 4, 3, false),
-    ];
-    for (text, total, count, wanted) in rows {
-        let piece = Partition::parse(alloc, text).or_fail(rt);
-        if count < total {
-            let progress = Progress { total, count };
-            assert_eq!(rt, progress.in_partition(&piece), wanted);
-        }
-    }
+fn pieces(rt: HostRuntime) -> Result<(), Fail> {
+    let alloc = rt.alloc();
+    assert_eq!(rt; held(alloc, "1/3", 1, 4)?, true);
+    assert_eq!(rt; held(alloc, "1/3", 2, 4)?, false);
+    assert_eq!(rt; held(alloc, "2/3", 2, 4)?, true);
+    assert_eq!(rt; held(alloc, "3/3", 3, 4)?, false);
+    Ok(())
 }

@@ -1,20 +1,22 @@
 //! Plans of small scenes, whole.
 
 use crate::scenes::{PLAIN, Row, plan_text};
-use std::alloc::Global;
+use std::alloc::{AllocError, Global};
 use std::process::Abort;
 use std::test::Fail;
 
 /// Compares each row's plan with its text.
-fn answers<R: Abort>(rt: &R, alloc: Global, rows: &[(Row<'_>, &str)]) {
-    for (row, wanted) in rows {
-        let told = plan_text(alloc, *row).or_fail(rt);
-        assert_eq!(rt, told.as_str(), *wanted);
+fn answers<R: Abort>(rt: &R, alloc: Global, rows: &[(Row<'_>, &str)]) -> Result<(), AllocError> {
+    for row in rows {
+        let (scene, wanted) = *row;
+        let told = plan_text(alloc, scene)?;
+        assert_eq!(rt; told.as_str(), wanted);
     }
+    Ok(())
 }
 
 #[test]
-fn targets<R: Abort>(rt: &R, alloc: Global) {
+fn targets(rt: HostRuntime) -> Result<(), Fail> {
     let two = Row {
         targets: 2,
         ..PLAIN
@@ -32,19 +34,20 @@ fn targets<R: Abort>(rt: &R, alloc: Global) {
         ..two
     };
     answers(
-        rt,
-        alloc,
+        &rt,
+        rt.alloc(),
         &[
             (two, "2\nnone 0..2: 0/0/0 1/0/0\n"),
             (unknown, "2\nnone 0..2: 0/0/0 1/0/0\n"),
             (later, "1\nnone 0..1: 0/0/0\n"),
             (range, "3\n1.63 0..2: 0/0/0 1/0/0\n1.64 2..3: 0/0/0\n"),
         ],
-    );
+    )?;
+    Ok(())
 }
 
 #[test]
-fn own_versions<R: Abort>(rt: &R, alloc: Global) {
+fn own_versions(rt: HostRuntime) -> Result<(), Fail> {
     let own = Row {
         range: "..=1.64",
         step: 2,
@@ -65,8 +68,8 @@ fn own_versions<R: Abort>(rt: &R, alloc: Global) {
         ..PLAIN
     };
     answers(
-        rt,
-        alloc,
+        &rt,
+        rt.alloc(),
         &[
             (
                 own,
@@ -78,11 +81,12 @@ fn own_versions<R: Abort>(rt: &R, alloc: Global) {
             ),
             (alone, "1\n1.60 0..0:\n1.61 0..1: 0/0/0\n"),
         ],
-    );
+    )?;
+    Ok(())
 }
 
 #[test]
-fn as_cargo<R: Abort>(rt: &R, alloc: Global) {
+fn as_cargo(rt: HostRuntime) -> Result<(), Fail> {
     let plain = Row {
         as_cargo: true,
         targets: 2,
@@ -106,8 +110,8 @@ fn as_cargo<R: Abort>(rt: &R, alloc: Global) {
         ..plain
     };
     answers(
-        rt,
-        alloc,
+        &rt,
+        rt.alloc(),
         &[
             (plain, "2\nnone 0..2: 0/-/0 1/-/0\n"),
             (one, "2\n1.60 0..1: 0/-/0\n1.61 1..2: 0/-/0\n"),
@@ -117,11 +121,12 @@ fn as_cargo<R: Abort>(rt: &R, alloc: Global) {
             ),
             (none, "2\nnone 0..2: 0/-/0 1/-/0\n"),
         ],
-    );
+    )?;
+    Ok(())
 }
 
 #[test]
-fn edges<R: Abort>(rt: &R, alloc: Global) {
+fn edges(rt: HostRuntime) -> Result<(), Fail> {
     let none = Row {
         owns: "",
         counts: &[],
@@ -149,8 +154,8 @@ fn edges<R: Abort>(rt: &R, alloc: Global) {
         ..PLAIN
     };
     answers(
-        rt,
-        alloc,
+        &rt,
+        rt.alloc(),
         &[
             (none, "0\nnone 0..0:\n"),
             (empty, "0\nnone 0..0:\n"),
@@ -164,5 +169,6 @@ fn edges<R: Abort>(rt: &R, alloc: Global) {
                 "no rust-version field in p's Cargo.toml is specified; consider setting rust-version field or excluding p",
             ),
         ],
-    );
+    )?;
+    Ok(())
 }

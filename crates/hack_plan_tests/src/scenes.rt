@@ -1,6 +1,6 @@
 //! Scenes as rows of words, and their plans as text.
 
-use hack_plan::places::{Places, PlacesFault, Quad};
+use hack_plan::places::{Places, Quad};
 use hack_plan::versions::{Scene, Versions};
 use hack_versions::rustup::{PackageVersion, RangeFault};
 use hack_versions::version::{Version, VersionRange};
@@ -59,7 +59,7 @@ pub fn scene_of(alloc: Global, row: Row<'_>) -> Result<Scene, AllocError> {
     })
 }
 
-/// The version of the toolchain `stable`: 1.64.
+/// The versions of a scene, where stable is 1.64.
 pub fn versions_of(alloc: Global, scene: &Scene) -> Result<Versions, RangeFault> {
     let stable = Version {
         major: 1,
@@ -73,13 +73,8 @@ pub fn versions_of(alloc: Global, scene: &Scene) -> Result<Versions, RangeFault>
 /// The plan of a row as text, or the fault.
 pub fn plan_text(alloc: Global, row: Row<'_>) -> Result<String, AllocError> {
     let scene = scene_of(alloc, row)?;
-    let stable = Version {
-        major: 1,
-        minor: 64,
-        patch: None,
-    };
-    let versions = match Versions::new(alloc, &scene, Some(stable)) {
-        Ok((versions, _)) => versions,
+    let versions = match versions_of(alloc, &scene) {
+        Ok(versions) => versions,
         Err(fault) => return format!(in alloc; "{fault}"),
     };
     if row.counts.len() != scene.packages.len() {

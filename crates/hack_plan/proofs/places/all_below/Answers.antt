@@ -1,5 +1,5 @@
-use Rattle.std.proofs.Common.{rules, ◌≡◌, ◌++◌, ◌∷◌, [], arith, List, ℕ}
-use Rattle.hack_plan.proofs.Below.{below-next, below-nil}
+use Rattle.std.proofs.Common.{rules, ◌≡◌, ◌++◌, ◌∷◌, [], arith}
+use Rattle.hack_plan.proofs.Below.{below-next}
 use Rattle.hack_plan.proofs.places.all_below.Goals as goal
 
 pub loop-place-preserved : goal.loop-place-preserved

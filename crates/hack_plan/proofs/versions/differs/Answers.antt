@@ -1,4 +1,4 @@
-use Rattle.std.proofs.Common.{◌≡◌, ◌<◌, take, length, subst, sym, arith}
+use Rattle.std.proofs.Common.{subst, sym, arith}
 use Rattle.std.specs.List.{Contains}
 use Rattle.std.proofs.lemmas.List.{take_all}
 use Rattle.hack_plan.proofs.versions.differs.Goals as goal

@@ -1,4 +1,4 @@
-use Rattle.std.proofs.Common.{refl, inl, inr}
+use Rattle.std.proofs.Common.{inl, inr}
 use Rattle.hack_plan.proofs.Growth.{version-more, version-over}
 use Rattle.hack_plan.proofs.blocks.Blocks.add_packages.Goals as goal
 

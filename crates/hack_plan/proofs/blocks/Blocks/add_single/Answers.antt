@@ -1,4 +1,4 @@
-use Rattle.std.proofs.Common.{refl, inl, inr}
+use Rattle.std.proofs.Common.{inl, inr}
 use Rattle.hack_plan.proofs.Growth.{single-more, single-over}
 use Rattle.hack_plan.proofs.blocks.Blocks.add_single.Goals as goal
 

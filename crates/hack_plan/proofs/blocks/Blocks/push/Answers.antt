@@ -1,8 +1,6 @@
-use Rattle.std.proofs.Common.{rules, ◌≡◌, ◌≤◌, ◌<◌, ◌∙◌, ◌++◌, ◌∷◌, [], ap, sym, refl, length, arith, List, inl, inr}
-use Rattle.hack_plan.specs.declared.places.Quad.{Quad}
+use Rattle.std.proofs.Common.{rules, ◌≡◌, ◌∙◌, ◌++◌, ◌∷◌, [], ap, sym, refl, length, arith, inr}
 use Rattle.hack_plan.specs.declared.blocks.Block.{Block}
 use Rattle.hack_plan.specs.Blocks.{quads_in, quads_of}
-use Rattle.hack_plan.specs.Quads.{Adds}
 use Rattle.hack_plan.proofs.BlockLemmas.{Lists-quads_in, quads_of-push, length-quads_of, Overfills-block}
 use Rattle.hack_plan.proofs.blocks.Blocks.push.Goals as goal
 use Rattle.hack_plan.proofs.blocks.Blocks.push.Goals.{in_default-via-in-Some+else-end-le-MOST_PLACES, in_default-via-in_default}

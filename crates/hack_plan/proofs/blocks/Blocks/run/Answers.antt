@@ -1,10 +1,7 @@
-use Rattle.std.proofs.Common.{◌≡◌, ◌≤◌, ◌<◌, ◌-◌, ◌∙◌, ap, sym, length, get_or, leb, rules, of_calls, arith, Some, None, slice_get, subst, List}
+use Rattle.std.proofs.Common.{◌<◌, ◌-◌, ◌∙◌, ap, sym, length, leb, rules, of_calls, arith, Some, None, slice_get}
 use Rattle.std.proofs.lemmas.Fn.{always_returns_same}
-use Rattle.std.specs.List.Sorted.{IsPartitionPoint}
-use Rattle.std.specs.Vec.{vec_len}
-use Rattle.hack_plan.specs.declared.places.Quad.{Quad}
 use Rattle.hack_plan.specs.declared.blocks.Block.{Block}
-use Rattle.hack_plan.specs.Blocks.{quad_at, quads_of}
+use Rattle.hack_plan.specs.Blocks.{quad_at}
 use Rattle.hack_plan.proofs.BlockLemmas.{IsFound, placed, run_at, ends_rise, length-quads_of}
 use Rattle.hack_plan.proofs.blocks.Blocks.run.Goals as goal
 

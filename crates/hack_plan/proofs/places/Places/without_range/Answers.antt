@@ -1,5 +1,4 @@
-use Rattle.std.proofs.Common.{rules, ◌≡◌, ◌<◌, ◌↔◌, ℕ, [], length, None, inl, inr, arith, sym, ap}
-use Rattle.std.specs.List.{All, Contains}
+use Rattle.std.proofs.Common.{rules, ◌≡◌, length, None, inl, inr, arith}
 use Rattle.std.proofs.lemmas.List.Elements.{Contains-get_or}
 use Rattle.hack_plan.specs.Scenes.{slots_of}
 use Rattle.hack_plan.proofs.Groups.{alone-all, alone-over}
