@@ -1,5 +1,8 @@
 //! Scenes as rows of words, and their plans as text.
 
+ghost use Rattle.std.specs.Prelude.{IfOk};
+ghost use Rattle.hack_plan.specs.Scenes.{AreVersions};
+
 use hack_plan::places::{Places, Quad};
 use hack_plan::versions::{Scene, Versions};
 use hack_versions::rustup::{PackageVersion, RangeFault};
@@ -60,7 +63,9 @@ pub fn scene_of(alloc: Global, row: Row<'_>) -> Result<Scene, AllocError> {
 }
 
 /// The versions of a scene, where stable is 1.64.
-pub fn versions_of(alloc: Global, scene: &Scene) -> Result<Versions, RangeFault> {
+pub fn versions_of(alloc: Global, scene: &Scene) -> Result<Versions, RangeFault>
+    ensures { IfOk result (AreVersions scene.now) }
+{
     let stable = Version {
         major: 1,
         minor: 64,
