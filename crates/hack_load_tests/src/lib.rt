@@ -1,0 +1,5 @@
+//! Tests of what is loaded for one call.
+#![tactic(auto)]
+
+#[cfg(test)]
+mod features;
