@@ -1,7 +1,8 @@
 -- Features that are put behind others, and names that are picked, each once.
-use Rattle.std.proofs.Common.{◌≡◌, ◌&&◌, ◌||◌, not, ℕ, suc, ◌+◌, ◌<◌, get_or, add-one, drop-cons, Bool, true, false, cond, List, [], ◌∷◌, ◌++◌, ◌↔◌, Contains, IsTrue, Vec, map, length, take, drop, Option, Some, None, MatchOption, unwrap_or, option_map, option_copied, String, Global, string_bytes, append_assoc, append-nil, refl, sym, ap, subst, ◌∙◌}
-use Rattle.std.specs.Borrow.{Bor}
-use Rattle.std.specs.List.{AllZip, cons_option, list_any, filter, filter_map}
+use Rattle.std.proofs.Common.{◌≡◌, ◌&&◌, ◌||◌, not, ℕ, suc, ◌+◌, ◌<◌, get_or, add-one, drop-cons, Bool, true, false, cond, List, [], ◌∷◌, ◌++◌, ◌↔◌, Contains, IsTrue, Vec, map, length, drop, Option, Some, None, unwrap_or, option_map, String, Global, Less, nat_cmp, string_cmp, string_bytes, append_assoc, append-nil, refl, sym, ap, subst, ◌∙◌}
+use Rattle.std.specs.Cmp.Lexicographic.{slice_cmp}
+use Rattle.std.specs.List.Sorted.{IsStrictlySortedBy}
+use Rattle.std.specs.List.{AllByRecursion, AllZip, cons_option, list_any, filter}
 use Rattle.std.specs.Map.{keys_of, values_of}
 use Rattle.std.proofs.lemmas.Cmp.{nat_list_eq_equiv}
 use Rattle.std.proofs.lemmas.Map.Views.{Contains-from_any, list_any-from_Contains}
@@ -24,7 +25,7 @@ use Rattle.hack_metadata.specs.declared.package.Dependency.{Dependency}
 use Rattle.hack_metadata.specs.declared.package.Package.{Package}
 use Rattle.hack_metadata.specs.declared.resolve.NodeDep.{NodeDep}
 use Rattle.hack_load.specs.Candidates.{Path as Way, firsts, names_dep, is_implicit, is_normal, optional_names, paths_to, paths_in, node_paths}
-use Rattle.hack_load.specs.Features.{AreNormals, ArePaths, AddsPaths, texts_of}
+use Rattle.hack_load.specs.Features.{AreNormals, ArePaths, AddsPaths, IsRising, texts_of}
 
 -- ---- one for each
 
@@ -94,7 +95,7 @@ grown-turn dep m left rest key f old now new first is push g =
 pub grown-end : (dep : Name) (m : FeatureMap) (left : List (String Global)) (old now : List Feature) → left ≡ [] → Grown dep m left old now → AddsPaths (paths_to dep m) old now
 grown-end dep m left old now none g =
     subst (λ (l : List Name). AddsPaths (map (λ feature. (dep, feature)) l) old now)
-        (sym (append-nil g.came) ∙ ap (λ l. g.came ++ names_of l) (sym none) ∙ g.all) g.adds
+    (sym (append-nil g.came) ∙ ap (λ l. g.came ++ names_of l) (sym none) ∙ g.all) g.adds
 
 -- ---- names, each once
 
@@ -202,7 +203,7 @@ picked-take m all d rest name f fs new e i h is push p =
 pub picked-end : (m : FeatureMap) (all left : List DependencyRecord) (fs : List Feature) → left ≡ [] → Picked m all left fs → AreNormals (optional_names m all) fs
 picked-end m all left fs none p =
     subst (λ (l : List Name). AreNormals l fs)
-        (sym (append-nil (texts_of fs)) ∙ ap (λ ds. texts_of fs ++ picked (texts_of fs) (names_left m ds)) (sym none) ∙ p.whole) p.are
+    (sym (append-nil (texts_of fs)) ∙ ap (λ ds. texts_of fs ++ picked (texts_of fs) (names_left m ds)) (sym none) ∙ p.whole) p.are
 
 -- ---- the names of all candidates
 
@@ -210,8 +211,7 @@ picked-end m all left fs none p =
 pub found-in : (name : Name) (xs ys zs : List Name) (a b c r : Bool) → a ≡ list_any (bytes_eq name) xs → b ≡ list_any (bytes_eq name) ys → c ≡ list_any (bytes_eq name) zs → r ≡ (a || (b || c)) → IsTrue r ↔ Contains (xs ++ (ys ++ zs)) name
 found-in name xs ys zs a b c r x y z e =
     let whole : r ≡ list_any (bytes_eq name) (xs ++ (ys ++ zs)) =
-        e ∙ rw (x, y, z) (sym (list_any-append (bytes_eq name) xs (ys ++ zs) ∙ ap (λ t. list_any (bytes_eq name) xs || t) (list_any-append (bytes_eq name) ys zs))) in
-    (
+    e ∙ rw (x, y, z) (sym (list_any-append (bytes_eq name) xs (ys ++ zs) ∙ ap (λ t. list_any (bytes_eq name) xs || t) (list_any-append (bytes_eq name) ys zs))) in (
       λ h. Contains-from_any (λ u v. (bytes_eq-Decides u v).0) name (xs ++ (ys ++ zs)) (sym whole ∙ h),
       λ h. (whole ∙ list_any-from_Contains nat_list_eq_equiv name (xs ++ (ys ++ zs)) h),
     )
@@ -248,3 +248,15 @@ pub node-unknown : (ps : List Package) (ds : List DependencyRecord) (d : NodeDep
     → node_paths (map package_view ps) ds (node_dep_view d) ≡ []
 node-unknown ps ds d e g =
     chosen (list_any is_normal (map kind_view d.dep_kinds.items)) _ e ∙ ap (λ o. unwrap_or (option_map (paths_in ds) o) []) (get-shown ps d.pkg.index None g)
+
+-- ---- the order of names
+
+below_all : (k : String Global) (ks : List (String Global)) → AllByRecursion (λ y. string_cmp k y ≡ Less) ks → AllByRecursion (λ y. slice_cmp nat_cmp (string_bytes k) y ≡ Less) (names_of ks)
+below_all k [] h = h
+below_all k (x ∷ ks) h = (h.0, below_all k ks h.1)
+
+-- texts that rise are names that do
+pub rising-names : (ks : List (String Global)) → IsStrictlySortedBy string_cmp ks → IsRising (names_of ks)
+unfolding IsStrictlySortedBy
+rising-names [] h = h
+rising-names (k ∷ ks) h = (below_all k ks h.0, rising-names ks h.1)

@@ -1,7 +1,10 @@
 -- Features as values of the code.
 use Rattle.std.specs.Prelude.{◌≡◌, ℕ, Bool, List, ◌++◌, map, codes}
 use Rattle.std.specs.List.{AllZip}
+use Rattle.std.specs.Cmp.Lexicographic.{slice_cmp}
+use Rattle.std.specs.List.Sorted.{IsStrictlySortedBy}
 use Rattle.std.specs.Map.{keys_of}
+use Rattle.std.specs.Ordering.{nat_cmp}
 use Rattle.hack_features.specs.Names.{Name}
 use Rattle.hack_features.specs.FeatureMap.{FeatureMap}
 use Rattle.hack_features.specs.Feature.{IsNormal, IsPath, name_of}
@@ -27,6 +30,10 @@ AddsPaths paths old new = (before : List Path) → ArePaths before old → ArePa
 -- the names of features
 abbrev pub texts_of : List Feature → List Name
 texts_of fs = map name_of fs
+
+-- each name stands before all later ones, in the order of bytes
+abbrev pub IsRising : List Name → Type 0
+IsRising names = IsStrictlySortedBy (slice_cmp nat_cmp) names
 
 -- the names of all candidates
 abbrev pub texts_in : Features → List Name

@@ -12,6 +12,7 @@ ghost use Rattle.hack_load.specs.Candidates.{MissesNode, names_dep, is_named, is
 ghost use Rattle.hack_load.specs.Candidates.{optional_names, is_normal, name_in, known_as, paths_to, paths_in};
 ghost use Rattle.hack_load.specs.Candidates.{node_paths, deps_paths, dependencies_at, paths_at};
 ghost use Rattle.hack_load.specs.Features.{AreNormals, ArePaths, AddsPaths, AreCandidates, IsRefusal};
+ghost use Rattle.hack_load.specs.Features.{IsRising};
 ghost use Rattle.hack_load.specs.Features.{texts_of, texts_in};
 ghost use Rattle.hack_metadata.specs.View.{dependency_view, kind_view, node_dep_view, node_view};
 ghost use Rattle.hack_metadata.specs.View.{package_view};
@@ -19,8 +20,9 @@ ghost use Rattle.hack_metadata.specs.Whole.{metadata_view};
 
 use hack_features::feature::Feature;
 use hack_manifest::manifest::Manifest;
-use hack_metadata::metadata::{DepKindInfo, Dependency, Metadata, MetadataFault, Node, NodeDep, Package};
-use hack_metadata::metadata::PackageId;
+use hack_metadata::metadata::{
+    DepKindInfo, Dependency, Metadata, MetadataFault, Node, NodeDep, Package, PackageId,
+};
 use std::alloc::{AllocError, Global};
 use std::collections::BTreeMap;
 
@@ -49,6 +51,9 @@ impl Features {
             (IsRefusal (metadata_view metadata.now) id.index include_deps_features) }
         ensures never { OnOk result
             (¬ MissesNode (metadata_view metadata.now) id.index include_deps_features) }
+
+        // The features of the manifest come in the order of their bytes.
+        ensures rising { IfOk result (λ features. IsRising (texts_of features.normal.items)) }
     {
         let dependencies = dependencies_of(metadata, id);
         let normal = normals(alloc, &manifest.features)?;
@@ -121,7 +126,8 @@ fn normals(
     alloc: Global,
     features: &BTreeMap<String, Vec<String>>,
 ) -> Result<Vec<Feature>, AllocError>
-    ensures { IfOk result (λ found. AreNormals (keys_of (feature_map features.now)) found.items) }
+    ensures are { IfOk result (λ found. AreNormals (keys_of (feature_map features.now)) found.items) }
+    ensures rising { IfOk result (λ found. IsRising (texts_of found.items)) }
 {
     let mut found = Vec::new(alloc);
     for name in features.keys() {

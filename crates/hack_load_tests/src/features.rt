@@ -16,10 +16,12 @@ fn metadata(alloc: Global, dependencies: &str, nodes: &str) -> Result<String, Al
 "features":{"std":[],"kv":["std"]},"manifest_path":"/log/Cargo.toml","publish":null,"rust_version":null}"#;
     let rand = r#"{"id":"rand","name":"rand","version":"0.8.0","dependencies":[],
 "features":{"small":[]},"manifest_path":"/rand/Cargo.toml","publish":null,"rust_version":null}"#;
-    format!(in alloc; "{{\"packages\":[{{\"id\":\"p\",\"name\":\"p\",\"version\":\"0.1.0\",
+    format!(in alloc;
+        "{{\"packages\":[{{\"id\":\"p\",\"name\":\"p\",\"version\":\"0.1.0\",
 \"dependencies\":[{dependencies}],\"features\":{{}},\"manifest_path\":\"/w/Cargo.toml\",
 \"publish\":null,\"rust_version\":null}},{log},{rand}],\"workspace_members\":[\"p\"],
-\"resolve\":{{\"nodes\":[{nodes}]}},\"workspace_root\":\"/w\"}}")
+\"resolve\":{{\"nodes\":[{nodes}]}},\"workspace_root\":\"/w\"}}"
+    )
 }
 
 /// The features, with their variants.
@@ -82,16 +84,30 @@ fn rows<R: Abort + AllocGlobal>(rt: &R, rows: &[Row<'_>]) -> Result<(), Fail> {
 fn optional_dependencies(rt: HostRuntime) -> Result<(), Fail> {
     let rustls = r#"{"name":"rustls","optional":true,"rename":null}"#;
     let log = r#"{"name":"log","optional":true,"rename":null}"#;
-    let both = r#"{"name":"rustls","optional":true,"rename":null},{"name":"log","optional":true,"rename":null}"#;
-    let renamed = r#"{"name":"log","optional":true,"rename":"l"},{"name":"rand","optional":false,"rename":null},{"name":"l","optional":true,"rename":null},{"name":"log","optional":true,"rename":null}"#;
+    let both =
+        r#"{"name":"rustls","optional":true,"rename":null},{"name":"log","optional":true,"rename":null}"#;
+    let renamed =
+        r#"{"name":"log","optional":true,"rename":"l"},{"name":"rand","optional":false,"rename":null},{"name":"l","optional":true,"rename":null},{"name":"log","optional":true,"rename":null}"#;
     rows(
         &rt,
         &[
-            ("tls = [\"dep:rustls\"]\ndefault = []", both, "", false, "default tls | log | "),
+            (
+                "tls = [\"dep:rustls\"]\ndefault = []",
+                both,
+                "",
+                false,
+                "default tls | log | ",
+            ),
             ("", rustls, "", false, "| rustls | "),
             ("b = []\na = [\"log\"]", log, "", false, "a b | log | "),
             ("log = []", log, "", false, "log | | "),
-            ("a = [\"dep:lo\", \"dep:logs\", \"log/std\", \"xdep:log\"]", log, "", false, "a | log | "),
+            (
+                "a = [\"dep:lo\", \"dep:logs\", \"log/std\", \"xdep:log\"]",
+                log,
+                "",
+                false,
+                "a | log | ",
+            ),
             ("a = [\"b\", \"dep:l\"]", renamed, "", false, "a | log | "),
             ("", renamed, "", false, "| l log | "),
         ],
@@ -108,14 +124,28 @@ fn node(alloc: Global, deps: &str) -> Result<String, AllocError> {
 #[test]
 fn features_of_dependencies(rt: HostRuntime) -> Result<(), Fail> {
     let alloc = rt.alloc();
-    let l = r#"{"name":"log","optional":false,"rename":"l"},{"name":"log","optional":false,"rename":null}"#;
-    let plain = r#"{"name":"log","optional":false,"rename":null},{"name":"rand","optional":false,"rename":"r"}"#;
+    let l =
+        r#"{"name":"log","optional":false,"rename":"l"},{"name":"log","optional":false,"rename":null}"#;
+    let plain =
+        r#"{"name":"log","optional":false,"rename":null},{"name":"rand","optional":false,"rename":"r"}"#;
     let table = [
         (l, LOG, "| | 1:l/kv 1:l/std "),
         (plain, LOG, "| | 3:log/kv 3:log/std "),
-        (plain, r#"{"pkg":"log","dep_kinds":[{"kind":"dev","target":null}]}"#, "| | "),
-        (plain, r#"{"pkg":"log","dep_kinds":[{"kind":"build","target":null}]}"#, "| | "),
-        (plain, r#"{"pkg":"log","dep_kinds":[{"kind":null,"target":"cfg(unix)"}]}"#, "| | "),
+        (
+            plain,
+            r#"{"pkg":"log","dep_kinds":[{"kind":"dev","target":null}]}"#,
+            "| | ",
+        ),
+        (
+            plain,
+            r#"{"pkg":"log","dep_kinds":[{"kind":"build","target":null}]}"#,
+            "| | ",
+        ),
+        (
+            plain,
+            r#"{"pkg":"log","dep_kinds":[{"kind":null,"target":"cfg(unix)"}]}"#,
+            "| | ",
+        ),
         (
             plain,
             r#"{"pkg":"rand","dep_kinds":[{"kind":"dev","target":null},{"kind":null,"target":null}]},{"pkg":"log","dep_kinds":[{"kind":null,"target":null}]}"#,
@@ -147,16 +177,15 @@ fn a_missing_node(rt: HostRuntime) -> Result<(), Fail> {
 #[test]
 fn names_that_are_there(rt: HostRuntime) -> Result<(), Fail> {
     let alloc = rt.alloc();
-    let dependencies = r#"{"name":"log","optional":false,"rename":null},{"name":"rand","optional":true,"rename":null}"#;
+    let dependencies =
+        r#"{"name":"log","optional":false,"rename":null},{"name":"rand","optional":true,"rename":null}"#;
     let node = node(alloc, LOG)?;
     let text = metadata(alloc, dependencies, node.as_str())?;
     let read = Metadata::from_obj(alloc, object_of(alloc, text.as_str())?, 90)?;
     let manifest = String::from_str(alloc, "[package]\n[features]\na = []\n")?;
     let manifest = Manifest::new(alloc, "/w/Cargo.toml", manifest, 90)?;
-    let Some(id) = read.workspace_members.get(0) else {
-        return Err(Fail);
-    };
-    let features = Features::new(alloc, &read, &manifest, *id, true)?;
+    let id = read.workspace_members.get(0).copied();
+    let features = Features::new(alloc, &read, &manifest, id.expect(&rt, "a member"), true)?;
     for name in ["a", "rand", "log/kv", "log/std"] {
         assert!(rt; features.contains(name));
     }

@@ -53,13 +53,13 @@ places-turn packages k pkg x p m n lt is text at updates before =
     let front = take k (ids_in packages) in
     let here : length front ≡ k = simp (length-take, length-map) (omega arith) in
     fun_ext (λ id.
-      ap (option_map place_at) (updates id)
-      ∙ place-map (bytes_eq x id) p (get_by_text m id)
-      ∙ ap (λ o. cond (bytes_eq x id) (Some p.index) o) (ap (λ f. f id) before)
-      ∙ ap (λ i. cond (bytes_eq x id) (Some i) (place_of front id)) (at ∙ sym here ∙ (let e : length front ≡ 0 + length front = omega arith in e))
-      ∙ ap (λ y. cond (bytes_eq y id) (Some (0 + length front)) (place_of front id)) text
-      ∙ sym (place-next 0 front (string_bytes pkg.id) id)
-      ∙ ap (λ ids. place_of ids id) (sym (seen-next (λ (q : Package). string_bytes q.id) packages k pkg lt is)))
+    ap (option_map place_at) (updates id)
+    ∙ place-map (bytes_eq x id) p (get_by_text m id)
+    ∙ ap (λ o. cond (bytes_eq x id) (Some p.index) o) (ap (λ f. f id) before)
+    ∙ ap (λ i. cond (bytes_eq x id) (Some i) (place_of front id)) (at ∙ sym here ∙ (let e : length front ≡ 0 + length front = omega arith in e))
+    ∙ ap (λ y. cond (bytes_eq y id) (Some (0 + length front)) (place_of front id)) text
+    ∙ sym (place-next 0 front (string_bytes pkg.id) id)
+    ∙ ap (λ ids. place_of ids id) (sym (seen-next (λ (q : Package). string_bytes q.id) packages k pkg lt is)))
 
 -- all packages are in the map of ids
 pub places-end : (packages : List Package) (k : ℕ) (m : BTreeMap (String Global) PackageId) → length packages ≤ k → place_in m ≡ place_of (take k (ids_in packages)) → place_in m ≡ place_of (ids_of (map package_view packages))

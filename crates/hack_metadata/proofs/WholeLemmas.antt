@@ -21,8 +21,8 @@ module _ (minor : ℕ) (old new : Members) where
       → Gives metadata_view r (read_behind minor ps place new) → Gives metadata_view r (read_metadata minor old)
   whole-behind list ps place r found read same others gives =
       let whole : read_behind minor ps place new ≡ read_metadata minor old =
-        behind-others ps place others
-        ∙ ap (λ p. read_behind minor ps p old) same
-        ∙ ap (λ packages. packages >>= λ qs. read_behind minor qs (place_of (ids_of qs)) old) (sym read)
-        ∙ ap (λ items. (items >>= read_all (read_package minor)) >>= λ qs. read_behind minor qs (place_of (ids_of qs)) old) (sym found) in
+      behind-others ps place others
+      ∙ ap (λ p. read_behind minor ps p old) same
+      ∙ ap (λ packages. packages >>= λ qs. read_behind minor qs (place_of (ids_of qs)) old) (sym read)
+      ∙ ap (λ items. (items >>= read_all (read_package minor)) >>= λ qs. read_behind minor qs (place_of (ids_of qs)) old) (sym found) in
       subst (λ found. Gives metadata_view r found) whole gives

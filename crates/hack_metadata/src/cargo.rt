@@ -105,11 +105,7 @@ fn match_urls(
 }
 
 /// Whether the fragment of a specification matches that of the id.
-fn match_fragments(
-    pkg: &Package,
-    given: Option<&str>,
-    own: Option<&str>,
-) -> Result<bool, SpecFault>
+fn match_fragments(pkg: &Package, given: Option<&str>, own: Option<&str>) -> Result<bool, SpecFault>
     ensures { result ≡ of_fragments (identity_of pkg.now) (option_copied given.entry)
         (option_copied own.entry) }
 {

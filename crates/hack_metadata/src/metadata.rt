@@ -17,8 +17,8 @@ ghost use Rattle.hack_metadata.specs.Whole.{metadata_view};
 pub use crate::fault::MetadataFault;
 pub use crate::object::{Object, ObjectExt, object_of};
 pub use crate::package::{Dependency, OptionalDeps, Package};
-pub use crate::resolve::{DepKindInfo, Node, NodeDep, PackageId, Resolve};
 use crate::resolve::known;
+pub use crate::resolve::{DepKindInfo, Node, NodeDep, PackageId, Resolve};
 use serde_json::Value;
 use std::alloc::{AllocError, Global};
 use std::collections::{BTreeMap, BTreeSet};
@@ -163,10 +163,7 @@ fn members_from(
 }
 
 /// The member that an element names.
-fn member_of(
-    value: Value,
-    ids: &BTreeMap<String, PackageId>,
-) -> Result<PackageId, MetadataFault>
+fn member_of(value: Value, ids: &BTreeMap<String, PackageId>) -> Result<PackageId, MetadataFault>
     ensures { Gives place_at result (read_member (place_in ids.now) (view value)) }
 {
     match value {
@@ -195,7 +192,7 @@ fn keep(
 ) -> Result<(), AllocError>
     ensures kept { OnOk result (map place_at kept.new.items
         ≡ (if contains nat_cmp seen.old id.index then map place_at kept.old.items
-            else map place_at kept.old.items ++ id.index ∷ [])) }
+        else map place_at kept.old.items ++ id.index ∷ [])) }
     ensures seen { OnOk result ((y : ℕ) → contains nat_cmp seen.new y
         ≡ (if id.index == y then true else contains nat_cmp seen.old y)) }
 {

@@ -92,11 +92,7 @@ pub struct Package {
 }
 
 impl Package {
-    fn from_value(
-        alloc: Global,
-        value: Value,
-        cargo_version: u32,
-    ) -> Result<Package, MetadataFault>
+    fn from_value(alloc: Global, value: Value, cargo_version: u32) -> Result<Package, MetadataFault>
         ensures { Gives package_view result (read_package cargo_version (view value)) }
     {
         let mut map = element(value, "packages")?;

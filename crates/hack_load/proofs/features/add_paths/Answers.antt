@@ -1,9 +1,8 @@
-use Rattle.std.proofs.Common.{ap, sym, ◌∙◌, string_bytes}
+use Rattle.std.proofs.Common.{ap, ◌∙◌}
 use Rattle.std.specs.Map.Iter.{deref}
 use Rattle.std.proofs.lemmas.Map.Iter.{rest_more}
 use Rattle.hack_features.specs.Names.{names_of}
 use Rattle.hack_features.specs.FeatureMap.{feature_map}
-use Rattle.hack_features.specs.Feature.{IsPath}
 use Rattle.hack_load.proofs.FeatureLemmas.{keys-shown, grown-start, grown-turn, grown-end}
 use Rattle.hack_load.proofs.features.add_paths.Goals as goal
 

@@ -1,4 +1,4 @@
-use Rattle.std.proofs.Common.{◌≡◌, ◌∙◌, ◌&&◌, not, Bool, true, false, ap, sym, refl}
+use Rattle.std.proofs.Common.{◌≡◌, ◌∙◌, ◌&&◌, not, Bool, true, false, ap, sym}
 use Rattle.hack_features.proofs.LinkLemmas.{key_at}
 use Rattle.hack_load.proofs.features.is_implicit.Goals as goal
 

@@ -1,11 +1,12 @@
-use Rattle.std.proofs.Common.{ap, sym, ◌∙◌, string_bytes, subst, append-nil, List, [], ◌++◌}
+use Rattle.std.proofs.Common.{ap, sym, ◌∙◌, string_bytes, subst, append-nil, List, ◌++◌}
+use Rattle.std.specs.Map.{keys_of}
 use Rattle.std.specs.Map.Iter.{deref}
 use Rattle.std.proofs.lemmas.Map.Iter.{rest_more}
 use Rattle.hack_features.specs.Names.{Name, names_of}
 use Rattle.hack_features.specs.Feature.{IsNormal}
 use Rattle.hack_features.specs.declared.feature.Feature.{Feature}
-use Rattle.hack_load.specs.Features.{AreNormals, texts_of}
-use Rattle.hack_load.proofs.FeatureLemmas.{keys-shown, normals-push, texts-pushed}
+use Rattle.hack_load.specs.Features.{AreNormals, IsRising, texts_of}
+use Rattle.hack_load.proofs.FeatureLemmas.{keys-shown, normals-push, rising-names, texts-pushed}
 use Rattle.hack_load.proofs.features.normals.Goals as goal
 
 pub loop-name-init : goal.loop-name-init
@@ -25,8 +26,14 @@ loop-name-preserved c =
           ∙ c.loop-name.invariant.all;
     }
 
-pub returns : goal.returns
-returns c =
+pub returns-clause-are : goal.returns-clause-are
+returns-clause-are c =
     subst (λ (names : List Name). AreNormals names c.loop-name.found.items)
     (sym (append-nil (texts_of c.loop-name.found.items)) ∙ ap (λ l. texts_of c.loop-name.found.items ++ names_of l) (sym c.in-None.ensures.steps.0) ∙ c.loop-name.invariant.all)
     c.loop-name.invariant.are
+
+pub returns-clause-rising : goal.returns-clause-rising
+returns-clause-rising c =
+    subst (λ (names : List Name). IsRising names)
+    (keys-shown c.args.features.now.entries ∙ sym c.loop-name.invariant.all ∙ ap (λ l. texts_of c.loop-name.found.items ++ names_of l) c.in-None.ensures.steps.0 ∙ append-nil (texts_of c.loop-name.found.items))
+    (rising-names (keys_of c.args.features.now.entries) c.keys-name-items.ensures.ordered)

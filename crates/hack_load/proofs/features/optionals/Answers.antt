@@ -1,10 +1,10 @@
-use Rattle.std.proofs.Common.{◌≡◌, ◌+◌, ◌∙◌, ap, sym, subst, map, drop, List, ◌∷◌}
+use Rattle.std.proofs.Common.{◌+◌, ◌∙◌, ap, sym, subst, map, drop, List, ◌∷◌}
 use Rattle.hack_features.specs.FeatureMap.{feature_map}
 use Rattle.hack_features.specs.declared.feature.Feature.{Feature}
 use Rattle.hack_metadata.specs.Records.{DependencyRecord}
 use Rattle.hack_metadata.specs.View.{dependency_view}
 use Rattle.hack_load.specs.Features.{texts_of}
-use Rattle.hack_load.proofs.FeatureLemmas.{Picked, picked, picked-start, picked-pass, left-none, left-named, pass-old, picked-take, picked-end, left-at}
+use Rattle.hack_load.proofs.FeatureLemmas.{Picked, picked, picked-start, picked-pass, left-none, left-named, pass-old, picked-take, left-at}
 use Rattle.hack_load.proofs.features.optionals.Goals as goal
 use Rattle.hack_load.proofs.features.optionals.Goals.{in-Some+then-is_implicit+then-not-has_name+in_ok-normal+in_ok-push, in-Some+else-is_implicit, else-is_implicit-via-then-is_implicit+else-not-has_name, else-is_implicit-via-else-is_implicit, in_default}
 
