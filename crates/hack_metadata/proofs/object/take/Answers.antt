@@ -11,7 +11,7 @@ returns-clause-value c = ap (option_map view) c.remove.ensures.value ∙ view-lo
 pub returns-clause-others : goal.returns-clause-others
 returns-clause-others c = record {
   others = λ q other.
-      let same : get_by_text c.remove.new.self q ≡ get_by_text c.args.object.now q =
+    let same : get_by_text c.remove.new.self q ≡ get_by_text c.args.object.now q =
       btree_map_updates_text c.args.key.now c.args.object.now c.remove.new.self None c.remove.ensures.updates q ∙ rw other refl in
-      sym (view-lookup q c.remove.new.self.entries) ∙ ap (option_map view) same ∙ view-lookup q c.args.object.now.entries;
+    sym (view-lookup q c.remove.new.self.entries) ∙ ap (option_map view) same ∙ view-lookup q c.args.object.now.entries
 }
