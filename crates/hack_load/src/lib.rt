@@ -1,4 +1,7 @@
-//! What is loaded for one call: the features of packages that sets are made of.
+//! What is loaded for one call: the features of packages that sets are made of, and the package that
+//! the call stands in.
 #![tactic(auto)]
 
+mod fault;
 pub mod features;
+mod located;
