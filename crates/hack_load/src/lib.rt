@@ -2,6 +2,7 @@
 //! the call stands in.
 #![tactic(auto)]
 
+pub mod context;
 mod fault;
 pub mod features;
 mod located;

@@ -3,3 +3,5 @@
 
 #[cfg(test)]
 mod features;
+#[cfg(test)]
+mod located;
