@@ -4,6 +4,7 @@ use Rattle.std.specs.List.{range_with_len, flat_map}
 use Rattle.hack_plan.specs.declared.places.Quad.{Quad}
 use Rattle.hack_plan.specs.declared.blocks.Block.{Block}
 
+-- the run of a block at a rank
 abbrev pub quad_at : Block → ℕ → Quad
 quad_at b rank = record { version = b.version; slot = b.slot; «package» = b.package; rank = rank }
 
@@ -11,9 +12,11 @@ quad_at b rank = record { version = b.version; slot = b.slot; «package» = b.pa
 abbrev pub quads_in : Block → List Quad
 quads_in b = map (quad_at b) (range_with_len 0 b.runs)
 
+-- the places of blocks, one behind the other
 abbrev pub quads_of : List Block → List Quad
 quads_of blocks = flat_map quads_in blocks
 
+-- the number of runs of a block
 abbrev pub runs_in : Block → ℕ
 runs_in b = b.runs
 

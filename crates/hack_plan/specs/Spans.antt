@@ -24,6 +24,7 @@ pub record IsSpan (quads : List Quad) (s : Span) : Type 0 where
   pub same : All (λ q. q.version ≡ s.version) here
   pub behind : All (λ q. IsOlder s.version q.version) later
 
+-- the version of a group
 abbrev pub version_in : VersionGroup → Option Version
 version_in group = Some group.version
 
@@ -36,6 +37,7 @@ versions_of (Some range) groups = map version_in groups
 abbrev pub IsNext : Option Version → Laid → Laid → Type 0
 IsNext version old new = new.spans ≡ old.spans ++ record { version = version; first = length old.quads; end = length new.quads } ∷ []
 
+-- the version of a span
 abbrev pub version_at : Span → Option Version
 version_at s = s.version
 
