@@ -1,5 +1,5 @@
 -- The package that a call stands in.
-use Rattle.std.specs.Prelude.{◌≡◌, ℕ, Bool, false, List, Option, codes, option_and_then, option_map, slice_get, unwrap_or}
+use Rattle.std.specs.Prelude.{ℕ, Bool, false, List, Option, codes, option_and_then, option_map, slice_get, unwrap_or}
 use Rattle.std.specs.List.{find}
 use Rattle.std.specs.Str.{bytes_eq}
 use Rattle.serde_json.specs.Data.{Members}

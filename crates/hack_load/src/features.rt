@@ -1,5 +1,5 @@
-//! The features of a package that sets are made of: its own, its optional dependencies, and those of
-//! its dependencies. <https://doc.rust-lang.org/cargo/reference/features.html>
+//! The features of a package that sets are made of: its own, its optional dependencies, and those
+//! of its dependencies. <https://doc.rust-lang.org/cargo/reference/features.html>
 
 ghost use Rattle.std.specs.Prelude.{◌≡◌, ◌↔◌, map, Contains, IfErr, IfOk, IsTrue, OnOk};
 ghost use Rattle.std.specs.Prelude.{option_copied};
@@ -9,9 +9,11 @@ ghost use Rattle.std.specs.Str.{bytes_eq};
 ghost use Rattle.hack_features.specs.FeatureMap.{feature_map};
 ghost use Rattle.hack_features.specs.Names.{names_of};
 ghost use Rattle.hack_load.specs.Candidates.{MissesNode, names_dep, is_named, is_implicit};
-ghost use Rattle.hack_load.specs.Candidates.{optional_names, is_normal, name_in, known_as, paths_to, paths_in};
+ghost use Rattle.hack_load.specs.Candidates.{optional_names, is_normal, name_in, known_as};
+ghost use Rattle.hack_load.specs.Candidates.{paths_to, paths_in};
 ghost use Rattle.hack_load.specs.Candidates.{node_paths, deps_paths, dependencies_at, paths_at};
-ghost use Rattle.hack_load.specs.Features.{AreNormals, ArePaths, AddsPaths, AreCandidates, IsRefusal};
+ghost use Rattle.hack_load.specs.Features.{AreNormals, ArePaths, AddsPaths};
+ghost use Rattle.hack_load.specs.Features.{AreCandidates, IsRefusal};
 ghost use Rattle.hack_load.specs.Features.{IsRising};
 ghost use Rattle.hack_load.specs.Features.{texts_of, texts_in};
 ghost use Rattle.hack_metadata.specs.View.{dependency_view, kind_view, node_dep_view, node_view};
@@ -126,7 +128,8 @@ fn normals(
     alloc: Global,
     features: &BTreeMap<String, Vec<String>>,
 ) -> Result<Vec<Feature>, AllocError>
-    ensures are { IfOk result (λ found. AreNormals (keys_of (feature_map features.now)) found.items) }
+    ensures are { IfOk result (λ found.
+        AreNormals (keys_of (feature_map features.now)) found.items) }
     ensures rising { IfOk result (λ found. IsRising (texts_of found.items)) }
 {
     let mut found = Vec::new(alloc);
@@ -226,7 +229,8 @@ fn deps_paths(
     dependencies: &[Dependency],
     node: &Node,
 ) -> Result<Vec<Feature>, AllocError>
-    ensures { IfOk result (λ found. ArePaths (deps_paths (map package_view metadata.now.packages.items)
+    ensures { IfOk result (λ found. ArePaths
+        (deps_paths (map package_view metadata.now.packages.items)
         (map dependency_view dependencies.now) (node_view node.now)) found.items) }
 {
     let mut found = Vec::new(alloc);
@@ -245,7 +249,8 @@ fn add_node_paths(
     dep: &NodeDep,
 ) -> Result<(), AllocError>
     ensures { OnOk result (AddsPaths (node_paths (map package_view metadata.now.packages.items)
-        (map dependency_view dependencies.now) (node_dep_view dep.now)) found.old.items found.new.items) }
+        (map dependency_view dependencies.now) (node_dep_view dep.now))
+        found.old.items found.new.items) }
 {
     if !one_is_normal(dep.dep_kinds.as_slice()) {
         return Ok(());

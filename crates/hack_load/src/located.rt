@@ -73,7 +73,8 @@ pub fn current_package(metadata: &Metadata, root: &str) -> Option<PackageId>
 
 /// Whether this is the manifest of a package.
 fn has_manifest(metadata: &Metadata, id: PackageId, path: &str) -> bool
-    ensures { result ≡ has_manifest (map package_view metadata.now.packages.items) path.now id.index }
+    ensures { result
+        ≡ has_manifest (map package_view metadata.now.packages.items) path.now id.index }
 {
     match metadata.find(id) {
         Some(package) => package.manifest_path.as_str() == path,
