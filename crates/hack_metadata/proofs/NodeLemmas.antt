@@ -1,12 +1,17 @@
 -- Nodes, put into a map by the places of their packages.
-use Rattle.std.proofs.Common.{◌≡◌, ℕ, List, [], ◌∷◌, map, BTreeMap, Ordering, Less, Equal, Greater, Ok, Err, nat_cmp, refl, sym, ap, ◌∙◌}
+use Rattle.std.proofs.Common.{◌≡◌, ◌==◌, ℕ, Bool, true, false, cond, List, [], ◌∷◌, map, BTreeMap, Option, Some, None, option_map, option_copied, Ordering, Less, Equal, Greater, Ok, Err, nat_cmp, refl, sym, ap, ◌∙◌}
+use Rattle.std.specs.Borrow.{Bor}
+use Rattle.std.specs.Map.{lookup}
+use Rattle.std.specs.BTreeMap.{is_at}
+use Rattle.std.specs.Ordering.{is_eq}
 use Rattle.std.specs.BTreeMap.{insert_entry}
 use Rattle.std.specs.Ordering.{match_ordering}
 use Rattle.serde_json.specs.Data.{Data, Items, item}
 use Rattle.hack_metadata.specs.Fields.{Field, ◌>>=◌, read_all}
 use Rattle.hack_metadata.specs.Read.{with_nodes}
-use Rattle.hack_metadata.specs.Records.{NodeRecord, Nodes}
+use Rattle.hack_metadata.specs.Records.{NodeRecord, Nodes, node_at}
 use Rattle.hack_metadata.specs.View.{node_view, nodes_view}
+use Rattle.hack_metadata.proofs.IdLemmas.{cmp-eq}
 use Rattle.hack_metadata.specs.contracts.resolve.PackageIdOrd.TheImpl as ord
 use Rattle.hack_metadata.specs.declared.resolve.Node.{Node}
 use Rattle.hack_metadata.specs.declared.resolve.PackageId.{PackageId}
@@ -45,3 +50,22 @@ nodes-turn f d left rest m n at node whole first reads put before =
     ∙ ap (λ found. (found >>= λ x. read_all f rest >>= λ xs. Ok (x ∷ xs)) >>= λ more. Ok (with_nodes m more)) (sym reads)
     ∙ ap (λ l. read_all f l >>= λ more. Ok (with_nodes m more)) (sym first)
     ∙ before
+
+found-seen : (b c : Bool) (e : PackageId × Node) (rest : Option Node) (more : Option NodeRecord) → b ≡ c → option_map node_view rest ≡ more
+    → option_map node_view (cond b (Some e.1) rest) ≡ cond c (Some (node_view e.1)) more
+found-seen true c e rest more same h = rw (sym same) refl
+found-seen false c e rest more same h = rw (sym same) h
+
+-- the node that a map has for an id, as plain data
+pub node-seen : (es : List (PackageId × Node)) (id : PackageId) → option_map node_view (lookup (is_at (ord.cmp-value.it id)) es) ≡ node_at (seen es) id.index
+node-seen [] id = refl
+node-seen (e ∷ es) id =
+    found-seen (is_at (ord.cmp-value.it id) e.0) (id.index == e.0.index) e (lookup (is_at (ord.cmp-value.it id)) es) (node_at (seen es) id.index)
+    (ap is_eq (order-at id e.0) ∙ cmp-eq id.index e.0.index) (node-seen es id)
+
+pub node-found : (r : Option (Bor Node)) (m : BTreeMap PackageId Node) (id : PackageId) → option_copied r ≡ lookup (is_at (ord.cmp-value.it id)) m.entries → option_map (λ n. node_view n.now) r ≡ node_at (nodes_view m) id.index
+node-found r m id e = shown r ∙ ap (option_map node_view) e ∙ node-seen m.entries id
+  where
+    shown : (r : Option (Bor Node)) → option_map (λ n. node_view n.now) r ≡ option_map node_view (option_copied r)
+    shown None = refl
+    shown (Some x) = refl

@@ -1,5 +1,6 @@
 -- The records of `cargo metadata` as plain data: a package is known by its place in the list of packages.
-use Rattle.std.specs.Prelude.{ℕ, Bool, List, Option}
+use Rattle.std.specs.Prelude.{ℕ, ◌==◌, Bool, List, Option}
+use Rattle.std.specs.Map.{lookup}
 use Rattle.hack_features.specs.Names.{Name}
 use Rattle.hack_features.specs.FeatureMap.{FeatureMap}
 
@@ -37,6 +38,10 @@ pub record NodeRecord : Type 0 where
 -- the nodes by the places of their packages, rising
 abbrev pub Nodes : Type 0
 Nodes = List (ℕ × NodeRecord)
+
+-- the node of the package at a place
+abbrev pub node_at : Nodes → ℕ → Option NodeRecord
+node_at nodes at = lookup (λ place. at == place) nodes
 
 -- all that is told of a workspace
 pub record MetadataRecord : Type 0 where

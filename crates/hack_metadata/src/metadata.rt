@@ -2,6 +2,7 @@
 
 ghost use Rattle.std.specs.Prelude.{◌≡◌, ◌<◌, ◌==◌, ◌++◌, ◌∷◌, [], ℕ, true};
 ghost use Rattle.std.specs.Prelude.{IfOk, OnOk, Some, codes, if◌then◌else◌, length, map, slice_get};
+ghost use Rattle.std.specs.Prelude.{option_copied, option_map};
 ghost use Rattle.std.specs.BTreeSet.{contains};
 ghost use Rattle.std.specs.Ordering.{nat_cmp};
 ghost use Rattle.serde_json.specs.View.{view, items_view, members_view};
@@ -9,8 +10,9 @@ ghost use Rattle.hack_metadata.specs.Fields.{read_all, KeepsOthers};
 ghost use Rattle.hack_metadata.specs.Gives.{Gives};
 ghost use Rattle.hack_metadata.specs.Read.{read_metadata, read_behind, read_member};
 ghost use Rattle.hack_metadata.specs.Read.{members_in, resolve_in, ids_of, place_of, distinct};
-ghost use Rattle.hack_metadata.specs.View.{package_view, nodes_view, place_at, place_in};
 ghost use Rattle.hack_metadata.specs.Known.{Bounds, are_known};
+ghost use Rattle.hack_metadata.specs.Records.{node_at};
+ghost use Rattle.hack_metadata.specs.View.{package_view, node_view, nodes_view, place_at, place_in};
 
 pub use crate::ask_fault::AskFault;
 pub use crate::fault::MetadataFault;
@@ -90,6 +92,21 @@ impl Metadata {
         ensures { slice_get self.now.packages.items id.index ≡ Some result.now }
     {
         &self.packages[id.index]
+    }
+
+    /// The package that an id means, if it is of these metadata.
+    pub fn find(&self, id: PackageId) -> Option<&Package>
+        ensures { option_copied result ≡ slice_get self.now.packages.items id.index }
+    {
+        self.packages.get(id.index)
+    }
+
+    /// The node of a package in the graph of dependencies, if there is one.
+    pub fn node(&self, id: PackageId) -> Option<&Node>
+        ensures { option_map (λ node. node_view node.now) result
+            ≡ node_at (nodes_view self.now.resolve.nodes) id.index }
+    {
+        self.resolve.nodes.get(&id)
     }
 }
 

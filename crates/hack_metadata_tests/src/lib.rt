@@ -2,6 +2,8 @@
 #![tactic(auto)]
 
 #[cfg(test)]
+mod ask;
+#[cfg(test)]
 mod common;
 #[cfg(test)]
 mod fields;

@@ -5,6 +5,7 @@
 mod answers;
 mod commands;
 mod lists;
+mod packages;
 mod paths;
 mod shown;
 mod table;

@@ -1,0 +1,13 @@
+use Rattle.std.proofs.Common.{◌≡◌, ◌++◌}
+use Rattle.std.specs.Map.{keys_of}
+use Rattle.hack_features.specs.FeatureMap.{feature_map}
+use Rattle.hack_features.specs.Names.{names_of}
+use Rattle.hack_load.specs.Features.{AreNormals, texts_of}
+use Rattle.hack_load.proofs.features.normals.Given as goal
+
+-- the features so far and the keys left are all
+abbrev pub invariant-loop-name : goal.invariant-loop-name
+invariant-loop-name l = record {
+  are : AreNormals (texts_of l.found.items) l.found.items;
+  all : texts_of l.found.items ++ names_of l.name-iterator ≡ keys_of (feature_map l.features);
+}

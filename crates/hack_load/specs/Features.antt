@@ -1,0 +1,52 @@
+-- Features as values of the code.
+use Rattle.std.specs.Prelude.{◌≡◌, ℕ, Bool, List, ◌++◌, map, codes}
+use Rattle.std.specs.List.{AllZip}
+use Rattle.std.specs.Cmp.Lexicographic.{slice_cmp}
+use Rattle.std.specs.List.Sorted.{IsStrictlySortedBy}
+use Rattle.std.specs.Map.{keys_of}
+use Rattle.std.specs.Ordering.{nat_cmp}
+use Rattle.hack_features.specs.Names.{Name}
+use Rattle.hack_features.specs.FeatureMap.{FeatureMap}
+use Rattle.hack_features.specs.Feature.{IsNormal, IsPath, name_of}
+use Rattle.hack_features.specs.declared.feature.Feature.{Feature}
+use Rattle.hack_metadata.specs.Records.{MetadataRecord}
+use Rattle.hack_load.specs.Candidates.{Path, MissesNode, dependencies_at, optional_names, paths_at}
+use Rattle.hack_metadata.specs.declared.fault.MetadataFault.{MetadataFault}
+use Rattle.hack_metadata.specs.declared.fault.MetadataFault.TheVariants as faults
+use Rattle.hack_load.specs.declared.features.Features.{Features}
+
+-- one feature of the package for each name, in order
+abbrev pub AreNormals : List Name → List Feature → Type 0
+AreNormals names fs = AllZip IsNormal names fs
+
+-- one feature of a dependency for each path, in order
+abbrev pub ArePaths : List Path → List Feature → Type 0
+ArePaths paths fs = AllZip (λ path f. IsPath path.0 path.1 f) paths fs
+
+-- these features stand behind others, one for each path, in order
+abbrev pub AddsPaths : List Path → List Feature → List Feature → Type 0
+AddsPaths paths old new = (before : List Path) → ArePaths before old → ArePaths (before ++ paths) new
+
+-- the names of features
+abbrev pub texts_of : List Feature → List Name
+texts_of fs = map name_of fs
+
+-- each name stands before all later ones, in the order of bytes
+abbrev pub IsRising : List Name → Type 0
+IsRising names = IsStrictlySortedBy (slice_cmp nat_cmp) names
+
+-- the names of all candidates
+abbrev pub texts_in : Features → List Name
+texts_in fs = texts_of fs.normal.items ++ (texts_of fs.optional_deps.items ++ texts_of fs.deps_features.items)
+
+-- the candidates of the package at a place, whose manifest has this feature map
+pub record AreCandidates (m : MetadataRecord) (features : FeatureMap) (at : ℕ) (asked : Bool) (fs : Features) : Type 0 where
+  pub normal : AreNormals (keys_of features) fs.normal.items
+  pub optional : AreNormals (optional_names features (dependencies_at m.packages at)) fs.optional_deps.items
+  pub of_deps : ArePaths (paths_at m at asked) fs.deps_features.items
+
+-- memory ran out, or the node that is asked for is missing, and the fault names `nodes`
+abbrev pub IsRefusal : MetadataRecord → ℕ → Bool → MetadataFault → Type 0
+IsRefusal m at asked faults.Memory = Unit {0}
+IsRefusal m at asked (faults.Field name) = (name.now ≡ codes "nodes") × MissesNode m at asked
+IsRefusal m at asked faults.Json = ⊥

@@ -1,0 +1,4 @@
+pub mod Candidates
+pub mod Features
+pub mod Located
+pub mod RootFaults

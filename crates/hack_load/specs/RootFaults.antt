@@ -1,0 +1,32 @@
+-- Why no manifest's path is told.
+use Rattle.std.specs.Prelude.{◌≡◌, ℕ, List, Some, None, string_bytes}
+use Rattle.serde_json.specs.Data.{Members}
+use Rattle.hack_features.specs.Names.{Name}
+use Rattle.hack_metadata.specs.Fields.{object_in_text}
+use Rattle.hack_load.specs.Located.{root_at}
+use Rattle.hack_load.specs.declared.fault.ContextFault.{ContextFault}
+use Rattle.hack_load.specs.declared.fault.ContextFault.TheVariants.{Memory, Metadata, Manifest, OldCargo, NotJson, Root}
+
+-- an object of JSON without a text at `root`
+pub record LacksRoot (text : List ℕ) : Type 0 where
+  pub members : Members
+  pub object : object_in_text text ≡ Some members
+  pub root : root_at members ≡ None
+
+-- the fault shows the command, unless memory ran out
+abbrev pub IsNotJson : Name → ContextFault → Type 0
+IsNotJson command Memory = Unit {0}
+IsNotJson command (NotJson shown) = string_bytes shown ≡ command
+IsNotJson command (Metadata e) = ⊥
+IsNotJson command (Manifest e) = ⊥
+IsNotJson command OldCargo = ⊥
+IsNotJson command Root = ⊥
+
+-- the answer to a command is no object of JSON, and the fault shows the command; it lacks `root`; or memory ran out
+abbrev pub IsRefusal : Name → List ℕ → ContextFault → Type 0
+IsRefusal command text Memory = Unit {0}
+IsRefusal command text (NotJson shown) = (string_bytes shown ≡ command) × (object_in_text text ≡ None)
+IsRefusal command text Root = LacksRoot text
+IsRefusal command text (Metadata e) = ⊥
+IsRefusal command text (Manifest e) = ⊥
+IsRefusal command text OldCargo = ⊥

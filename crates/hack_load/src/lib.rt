@@ -1,0 +1,8 @@
+//! What is loaded for one call: the features of packages that sets are made of, and the package
+//! that the call stands in.
+#![tactic(auto)]
+
+pub mod context;
+mod fault;
+pub mod features;
+mod located;

@@ -1,0 +1,83 @@
+//! The package that a call stands in, as `cargo locate-project` tells it: its manifest's path.
+
+ghost use Rattle.std.specs.Prelude.{◌≡◌, IfErr, IfOk, Some, None, map, option_map, string_bytes};
+ghost use Rattle.serde_json.specs.View.{members_view};
+ghost use Rattle.hack_load.specs.Located.{root_at, root_in, current_of, has_manifest};
+ghost use Rattle.hack_load.specs.RootFaults.{IsNotJson, IsRefusal};
+ghost use Rattle.hack_metadata.specs.View.{package_view, place_at};
+ghost use Rattle.hack_metadata.specs.Whole.{metadata_view};
+
+use crate::fault::ContextFault;
+use hack_metadata::metadata::{Metadata, MetadataFault, Object, ObjectExt, PackageId, object_of};
+use std::alloc::Global;
+
+/// What `cargo locate-project` answered.
+#[derive(Drop)]
+pub struct Located {
+    /// The command's text, for a fault.
+    pub command: String,
+    /// What it wrote.
+    pub text: String,
+}
+
+impl Located {
+    /// The path of the manifest that was found.
+    pub fn root(&self, alloc: Global) -> Result<String, ContextFault>
+        ensures ok { IfOk result (λ root.
+            root_in (string_bytes self.now.text) ≡ Some (string_bytes root)) }
+        ensures err { IfErr result
+            (IsRefusal (string_bytes self.now.command) (string_bytes self.now.text)) }
+    {
+        match object_of(alloc, self.text.as_str()) {
+            Ok(object) => remove_root(object),
+            Err(MetadataFault::Json) => Err(not_json(alloc, self.command.as_str())),
+            Err(_) => Err(ContextFault::Memory),
+        }
+    }
+}
+
+/// The text at `root`.
+fn remove_root(mut object: Object) -> Result<String, ContextFault>
+    ensures ok { IfOk result (λ root.
+        root_at (members_view object.entries) ≡ Some (string_bytes root)) }
+    ensures err { IfErr result (λ e. (e ≡ ContextFault.Root)
+        × (root_at (members_view object.entries) ≡ None)) }
+{
+    match object.remove_string("root") {
+        Ok(root) => Ok(root),
+        Err(_) => Err(ContextFault::Root),
+    }
+}
+
+/// The fault of an answer that is no object of JSON.
+fn not_json(alloc: Global, command: &str) -> ContextFault
+    ensures { IsNotJson command.now result }
+{
+    match String::from_str(alloc, command) {
+        Ok(command) => ContextFault::NotJson(command),
+        Err(_) => ContextFault::Memory,
+    }
+}
+
+/// The first member of the workspace whose manifest this is.
+pub fn current_package(metadata: &Metadata, root: &str) -> Option<PackageId>
+    ensures { option_map place_at result ≡ current_of (metadata_view metadata.now) root.now }
+{
+    for id in &metadata.workspace_members {
+        if has_manifest(metadata, *id, root) {
+            return Some(*id);
+        }
+    }
+    None
+}
+
+/// Whether this is the manifest of a package.
+fn has_manifest(metadata: &Metadata, id: PackageId, path: &str) -> bool
+    ensures { result
+        ≡ has_manifest (map package_view metadata.now.packages.items) path.now id.index }
+{
+    match metadata.find(id) {
+        Some(package) => package.manifest_path.as_str() == path,
+        None => false,
+    }
+}

@@ -1,0 +1,7 @@
+//! Tests of what is loaded for one call.
+#![tactic(auto)]
+
+#[cfg(test)]
+mod features;
+#[cfg(test)]
+mod located;

@@ -1,0 +1,111 @@
+-- Blocks as lists of quadruples.
+use Rattle.std.proofs.Common.{◌≡◌, ℕ, zero, suc, ◌+◌, ◌-◌, ◌<◌, ◌≤◌, ◌^◌, List, [], ◌∷◌, ◌++◌, length, take, arith, refl, ap, sym, ◌∙◌, inr, get_or, length-append, append-nil, Option, Some, slice_get, leb, le-leb, leb-true, leb-false, true, false}
+use Rattle.std.specs.List.{sum_by}
+use Rattle.std.specs.List.Sorted.{IsPartitionedBy, IsPartitionPoint}
+use Rattle.std.proofs.lemmas.List.{take_all, take-take}
+use Rattle.std.proofs.lemmas.Option.{slice_get-get_or}
+use Rattle.std.proofs.lemmas.List.FromFn.{length-map-range_with_len, get_or-map-range_with_len}
+use Rattle.std.proofs.lemmas.List.Concat.{get_or-flat_map, flat_map-append}
+use Rattle.std.proofs.lemmas.List.Sums.{sum_by-cons, sum_by_more, sum_by-take-le}
+use Rattle.hack_versions.specs.declared.version.Version.{Version}
+use Rattle.hack_plan.specs.declared.places.Quad.{Quad}
+use Rattle.hack_plan.specs.declared.blocks.Block.{Block}
+use Rattle.hack_plan.specs.Quads.{Lists, Overfills}
+use Rattle.hack_plan.specs.Parts.{InBlock}
+use Rattle.hack_plan.specs.Blocks.{quad_at, quads_in, quads_of, runs_in, AreSums}
+
+pub length-quads_in : (b : Block) → length (quads_in b) ≡ b.runs
+length-quads_in b = length-map-range_with_len (quad_at b) 0 b.runs
+
+pub length-quads_of : (blocks : List Block) → length (quads_of blocks) ≡ sum_by runs_in blocks
+length-quads_of [] = refl
+length-quads_of (b ∷ bs) = omega (arith, length-append (quads_in b) (quads_of bs), length-quads_in b, length-quads_of bs, sum_by-cons runs_in b bs)
+
+pub at-quads_in : (b : Block) (k : ℕ) (d : Quad) → k < b.runs → get_or (quads_in b) k d ≡ quad_at b k
+at-quads_in b k d h = get_or-map-range_with_len (quad_at b) 0 b.runs k k d h (omega arith)
+
+same_quad : (b : Block) (q : Quad) → q.version ≡ b.version → q.slot ≡ b.slot → q.package ≡ b.package → quad_at b q.rank ≡ q
+same_quad b q v s p =
+    ap (λ (n : Option Version). make n b.slot b.package q.rank) (sym v)
+    ∙ ap (λ (n : ℕ). make q.version n b.package q.rank) (sym s)
+    ∙ ap (λ (n : Option ℕ). make q.version q.slot n q.rank) (sym p)
+  where
+    make : Option Version → ℕ → Option ℕ → ℕ → Quad
+    make v s p r = record { version = v; slot = s; «package» = p; rank = r }
+
+pub Lists-quads_in : (b : Block) → Lists (InBlock b.version b.slot b.package b.runs) (quads_in b)
+Lists-quads_in b = record {
+  increasing = λ i j d l h.
+      let below : j < b.runs = omega (arith, length-quads_in b) in
+      let low : i < b.runs = omega arith in
+      rw (at-quads_in b i d low, at-quads_in b j d below) (inr (refl, inr (refl, inr (refl, l))));
+  sound = λ k d h.
+      let below : k < b.runs = omega (arith, length-quads_in b) in
+      rw (at-quads_in b k d below) (refl, refl, refl, below);
+  complete = λ q h. (q.rank, omega (arith, length-quads_in b, h.3), at-quads_in b q.rank q h.3 ∙ same_quad b q h.0 h.1 h.2);
+}
+
+-- where each block before `at` ends at the place or before it, and the one at `at` behind it, the place is in that one
+pub record IsFound (blocks : List Block) (place at : ℕ) (b : Block) : Type 0 where
+  pub bound : at < length blocks
+  pub start : (get_or blocks at b).end ≡ sum_by runs_in (take at blocks) + (get_or blocks at b).runs
+  pub low : sum_by runs_in (take at blocks) ≤ place
+  pub high : place < (get_or blocks at b).end
+
+ends_below : (blocks : List Block) (total place at : ℕ) (b : Block) → AreSums blocks total → at ≤ length blocks → ((k : ℕ) → k < at → (get_or blocks k b).end ≤ place) → sum_by runs_in (take at blocks) ≤ place
+ends_below blocks total place zero b sums bound before = omega arith
+ends_below blocks total place (suc k) b sums bound before =
+    omega (arith, before k (omega arith), sums.ends k b (omega arith), ap (λ (n : ℕ). sum_by runs_in (take n blocks)) (one k))
+  where
+    one : (k : ℕ) → suc k ≡ k + 1
+    one k = omega arith
+
+pub found : (blocks : List Block) (total place at : ℕ) (b : Block) → AreSums blocks total → place < total → at ≤ length blocks → ((k : ℕ) → k < at → (get_or blocks k b).end ≤ place) → (at < length blocks → place < (get_or blocks at b).end) → IsFound blocks place at b
+found blocks total place at b sums l bound before after =
+    let low : sum_by runs_in (take at blocks) ≤ place = ends_below blocks total place at b sums bound before in
+    let inside : at < length blocks = lt-from_le_ne bound (λ e. absurd (omega (arith, low, sums.all, ap (sum_by runs_in) (take_all at blocks (le-from_eq (sym e)))))) in
+    record { bound = inside; start = sums.ends at b inside ∙ sum_by_more runs_in blocks at b inside; low = low; high = after inside }
+  where
+    le-from_eq : {m n : ℕ} → m ≡ n → m ≤ n
+    le-from_eq e = omega arith
+
+    lt-from_le_ne : {m n : ℕ} → m ≤ n → (m ≡ n → ⊥) → m < n
+    lt-from_le_ne h ne = omega arith
+
+pub run_at : (blocks : List Block) (place at : ℕ) (b : Block) → IsFound blocks place at b → slice_get (quads_of blocks) place ≡ Some (quad_at (get_or blocks at b) (place - ((get_or blocks at b).end - (get_or blocks at b).runs)))
+run_at blocks place at b f =
+    let rank : ℕ = place - sum_by runs_in (take at blocks) in
+    let d : Quad = quad_at b 0 in
+    let inside : rank < (get_or blocks at b).runs = omega (arith, f.start, f.low, f.high) in
+    let fits : rank < length (quads_in (get_or blocks at b)) = omega (arith, length-quads_in (get_or blocks at b)) in
+    let where' : length (quads_of (take at blocks)) + rank ≡ place = omega (arith, length-quads_of (take at blocks), f.low) in
+    let same : rank ≡ place - ((get_or blocks at b).end - (get_or blocks at b).runs) = omega (arith, f.start) in
+    let all : place < length (quads_of blocks) = omega (arith, length-quads_of blocks, sum_by_more runs_in blocks at b f.bound, sum_by-take-le runs_in blocks (at + 1), f.start, f.high) in
+    slice_get-get_or (quads_of blocks) place d all
+    ∙ ap Some (ap (λ (n : ℕ). get_or (quads_of blocks) n d) (sym where') ∙ get_or-flat_map quads_in blocks at rank b d f.bound fits ∙ at-quads_in (get_or blocks at b) rank d inside ∙ ap (quad_at (get_or blocks at b)) same)
+
+-- a sum up to a later block is no less
+pub ends_rise : (blocks : List Block) (total : ℕ) → AreSums blocks total → (place : ℕ) → IsPartitionedBy (λ b. leb b.end place) blocks
+ends_rise blocks total sums place i j d low inside t =
+    le-leb _ _ (omega (
+      arith,
+      leb-true _ _ t,
+      sums.ends i d (omega arith),
+      sums.ends j d inside,
+      ap (sum_by runs_in) (take-take (i + 1) (j + 1) blocks (omega arith)),
+      sum_by-take-le runs_in (take (j + 1) blocks) (i + 1),
+    ))
+
+-- the first block that ends behind the place
+pub placed : (blocks : List Block) (total place at : ℕ) (b : Block) → AreSums blocks total → place < total → at ≤ length blocks → IsPartitionPoint (λ b. leb b.end place ≡ true) (λ b. leb b.end place ≡ false) blocks at → IsFound blocks place at b
+placed blocks total place at b sums l bound point =
+    found blocks total place at b sums l bound
+    (λ k h. leb-true _ _ (point.0 k b (omega arith) h))
+    (λ h. leb-false _ _ (point.1 at b (omega arith) h))
+
+pub quads_of-push : (blocks : List Block) (b : Block) → quads_of (blocks ++ b ∷ []) ≡ quads_of blocks ++ quads_in b
+quads_of-push blocks b = flat_map-append quads_in blocks (b ∷ []) ∙ ap (λ t. quads_of blocks ++ t) (append-nil (quads_in b))
+
+-- a block that is too long
+pub Overfills-block : (b : Block) (old : List Quad) → 2 ^ 32 ≤ length old + b.runs → Overfills (InBlock b.version b.slot b.package b.runs) old
+Overfills-block b old h = let l = Lists-quads_in b in record { added = quads_in b; increasing = l.increasing; sound = l.sound; many = omega (arith, h, length-quads_in b) }

@@ -1,0 +1,9 @@
+mod Joins
+mod BlockLemmas
+mod Growth
+mod Groups
+mod Pigeon
+mod Never
+mod SpanLemmas
+mod Below
+mod TwoLemmas

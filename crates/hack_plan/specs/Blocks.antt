@@ -1,0 +1,27 @@
+-- A plan as blocks of places.
+use Rattle.std.specs.Prelude.{ℕ, ◌≡◌, ◌+◌, ◌<◌, ◌^◌, List, map, take, length, sum_by, slice_index_or}
+use Rattle.std.specs.List.{range_with_len, flat_map}
+use Rattle.hack_plan.specs.declared.places.Quad.{Quad}
+use Rattle.hack_plan.specs.declared.blocks.Block.{Block}
+
+-- the run of a block at a rank
+abbrev pub quad_at : Block → ℕ → Quad
+quad_at b rank = record { version = b.version; slot = b.slot; «package» = b.package; rank = rank }
+
+-- the places of a block
+abbrev pub quads_in : Block → List Quad
+quads_in b = map (quad_at b) (range_with_len 0 b.runs)
+
+-- the places of blocks, one behind the other
+abbrev pub quads_of : List Block → List Quad
+quads_of blocks = flat_map quads_in blocks
+
+-- the number of runs of a block
+abbrev pub runs_in : Block → ℕ
+runs_in b = b.runs
+
+-- each block's end is the sum of the runs up to and with it, and the total is that of all, and no more than 4294967295
+pub record AreSums (blocks : List Block) (total : ℕ) : Type 0 where
+  pub ends : (k : ℕ) (d : Block) → k < length blocks → (slice_index_or blocks k d).end ≡ sum_by runs_in (take (k + 1) blocks)
+  pub all : total ≡ sum_by runs_in blocks
+  pub short : total < 2 ^ 32

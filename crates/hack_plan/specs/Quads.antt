@@ -1,0 +1,75 @@
+-- The plan as a set of quadruples with an order.
+use Rattle.std.specs.Prelude.{ℕ, ◌≡◌, ◌+◌, ◌<◌, ◌≤◌, ◌^◌, ◌⊎◌, ◌++◌, List, length, slice_index, AllPairs, All, Contains, Option, Some, None, Bool, true, false}
+use Rattle.hack_versions.specs.declared.version.Version.{Version}
+use Rattle.hack_versions.specs.VersionOrder.{IsBefore}
+use Rattle.hack_plan.specs.declared.versions.Scene.{Scene}
+use Rattle.hack_plan.specs.declared.places.Quad.{Quad}
+use Rattle.hack_plan.specs.Scenes.{IsStepList, UsesVersion, IsVersion, slots_of}
+
+-- the package uses the version, and the rank is below the number of its runs; as cargo does it, one run for all packages
+abbrev pub HasRun : Bool → Scene → List ℕ → List Version → Quad → Type 0
+HasRun false s counts steps q = (p : ℕ) × (q.package ≡ Some p) × UsesVersion s.range s steps q.version p × (q.rank < slice_index counts p)
+HasRun true s counts steps q = (q.package ≡ None) × (q.rank ≡ 0) × IsVersion s.range s steps q.version
+
+-- there is such a run, and the slot is one of the version's
+pub record IsAdmissible (s : Scene) (counts : List ℕ) (steps : List Version) (q : Quad) : Type 0 where
+  pub run : HasRun s.as_cargo s counts steps q
+  pub slot : q.slot < slots_of s q.version
+
+-- of two places of packages the first is the lower
+abbrev pub IsLower : Option ℕ → Option ℕ → Type 0
+IsLower (Some a) (Some b) = a < b
+IsLower None b = ⊥
+IsLower (Some a) None = ⊥
+
+-- of two versions the first is the lower
+abbrev pub IsOlder : Option Version → Option Version → Type 0
+IsOlder (Some a) (Some b) = IsBefore a b
+IsOlder None b = ⊥
+IsOlder (Some a) None = ⊥
+
+-- by package, rank
+abbrev pub ByPackage : Quad → Quad → Type 0
+ByPackage a b = IsLower a.package b.package ⊎ ((a.package ≡ b.package) × (a.rank < b.rank))
+
+-- by slot, package, rank
+abbrev pub BySlot : Quad → Quad → Type 0
+BySlot a b = (a.slot < b.slot) ⊎ ((a.slot ≡ b.slot) × ByPackage a b)
+
+-- by version, slot, package, rank
+abbrev pub Before : Quad → Quad → Type 0
+Before a b = IsOlder a.version b.version ⊎ ((a.version ≡ b.version) × BySlot a b)
+
+-- strictly increasing, and exactly the quadruples that pass
+pub record Lists (Passes : Quad → Type 0) (quads : List Quad) : Type 0 where
+  pub increasing : AllPairs Before quads
+  pub sound : All Passes quads
+  pub complete : (q : Quad) → Passes q → Contains quads q
+
+-- the plan: for the steps of the range, just the admissible quadruples, in order
+abbrev pub ArePlaces : Scene → List ℕ → Option Version → List Quad → Type 0
+ArePlaces s counts stable quads = (steps : List Version) × IsStepList s.range s stable steps × Lists (IsAdmissible s counts steps) quads
+
+-- an increasing list of more than 4294967295 quadruples that pass
+pub record AreTooMany (Passes : Quad → Type 0) : Type 0 where
+  pub quads : List Quad
+  pub increasing : AllPairs Before quads
+  pub sound : All Passes quads
+  pub many : 2 ^ 32 ≤ length quads
+
+-- there are more than 4294967295 admissible quadruples
+abbrev pub HasTooMany : Scene → List ℕ → Option Version → Type 0
+HasTooMany s counts stable = (steps : List Version) × IsStepList s.range s stable steps × AreTooMany (IsAdmissible s counts steps)
+
+-- new is old with just the quadruples that pass behind it, in order
+pub record Adds (Passes : Quad → Type 0) (old new : List Quad) : Type 0 where
+  pub added : List Quad
+  pub grown : new ≡ old ++ added
+  pub lists : Lists Passes added
+
+-- old with some quadruples that pass behind it, in order, is too long
+pub record Overfills (Passes : Quad → Type 0) (old : List Quad) : Type 0 where
+  pub added : List Quad
+  pub increasing : AllPairs Before added
+  pub sound : All Passes added
+  pub many : 2 ^ 32 ≤ length old + length added

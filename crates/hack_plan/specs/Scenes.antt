@@ -1,0 +1,81 @@
+-- What a plan is made of: the versions that packages use.
+use Rattle.std.specs.Prelude.{ℕ, ◌≡◌, ◌≢◌, ◌<◌, ◌++◌, ◌⊎◌, List, [], length, map, Contains, Option, Some, None, true, false, nat_lt, ◌&&◌, if◌then◌else◌}
+use Rattle.hack_versions.specs.declared.version.Version.{Version}
+use Rattle.hack_versions.specs.declared.version.VersionRange.{VersionRange}
+use Rattle.hack_versions.specs.declared.group.PackageVersion.{PackageVersion}
+use Rattle.hack_versions.specs.declared.rustup.RangeFault.{RangeFault}
+use Rattle.hack_versions.specs.declared.rustup.RangeFault.TheVariants.{SingleMsrv}
+use Rattle.hack_versions.specs.RangeSteps.{AreStepsOf, IsRangeFault, range_notes}
+use Rattle.hack_versions.specs.Uses.{own_of, UsesAt, AreGroups, IsGroupFault, AreSkipNotes}
+use Rattle.hack_versions.specs.Notes.{Note}
+use Rattle.hack_plan.specs.declared.versions.Scene.{Scene}
+use Rattle.hack_plan.specs.declared.versions.Versions.{Versions}
+
+-- a package's own version as the package gives it
+abbrev pub given_of : PackageVersion → Option Version
+given_of member = member.rust_version
+
+-- the own versions of a scene's packages
+abbrev pub owns_of : Scene → List (Option Version)
+owns_of s = map given_of s.packages.items
+
+-- the steps of a call: none without a range
+abbrev pub IsStepList : Option VersionRange → Scene → Option Version → List Version → Type 0
+IsStepList None s stable steps = steps ≡ []
+IsStepList (Some range) s stable steps = AreStepsOf range s.step (owns_of s) stable steps
+
+-- the package at a place uses the version: "none" without a range
+abbrev pub UsesVersion : Option VersionRange → Scene → List Version → Option Version → ℕ → Type 0
+UsesVersion None s steps None p = p < length s.packages.items
+UsesVersion (Some range) s steps (Some v) p = UsesAt range steps s.packages.items v p
+UsesVersion None s steps (Some v) p = ⊥
+UsesVersion (Some range) s steps None p = ⊥
+
+-- some package uses the version: "none" without a range, and without packages too
+abbrev pub IsVersion : Option VersionRange → Scene → List Version → Option Version → Type 0
+IsVersion None s steps v = v ≡ None
+IsVersion (Some range) s steps v = (p : ℕ) × UsesVersion (Some range) s steps v p
+
+-- cargo's minor for a version: its own without one
+abbrev pub minor_of : ℕ → Option Version → ℕ
+minor_of own None = own
+minor_of own (Some v) = v.minor
+
+-- the slots of a version: one for each target below 1.64, else one for all
+abbrev pub slots_of : Scene → Option Version → ℕ
+slots_of s version = if nat_lt 0 s.targets && nat_lt (minor_of s.cargo_minor version) 64 then s.targets else 1
+
+-- the groups of a range: each version that a package uses, with its packages
+abbrev pub GroupsBy : Option VersionRange → Scene → Versions → Type 0
+GroupsBy None s versions = versions.groups.items ≡ []
+GroupsBy (Some range) s versions = (steps : List Version) × AreStepsOf range s.step (owns_of s) versions.stable steps × AreGroups (UsesAt range steps s.packages.items) versions.groups.items
+
+-- the versions of a scene
+abbrev pub AreVersions : Scene → Versions → Type 0
+AreVersions s versions = GroupsBy s.range s versions
+
+-- there is a number of runs for each package, where it counts
+abbrev pub AreCounted : Scene → List ℕ → Type 0
+AreCounted s counts = s.as_cargo ≡ false → length counts ≡ length s.packages.items
+
+-- what is said of a range: of its patches, and of the packages that it skips
+abbrev pub AreNotices : Option VersionRange → Scene → Option Version → List Note → Type 0
+AreNotices None s stable notes = notes ≡ []
+AreNotices (Some range) s stable notes = (steps : List Version) × (skips : List Note) × AreStepsOf range s.step (owns_of s) stable steps × AreSkipNotes range steps s.packages.items skips × (notes ≡ range_notes range ++ skips)
+
+-- two packages have different own versions, or just one of them has none
+pub record HaveTwo (packages : List PackageVersion) : Type 0 where
+  pub one : PackageVersion
+  pub other : PackageVersion
+  pub first : Contains packages one
+  pub second : Contains packages other
+  pub differ : own_of one ≢ own_of other
+
+-- one run is to be for packages with different own versions
+abbrev pub IsTwoFault : Scene → RangeFault → Type 0
+IsTwoFault s e = (s.as_cargo ≡ true) × HaveTwo s.packages.items × (e ≡ SingleMsrv)
+
+-- why there are no versions: the range is refused, or a package under it, or own versions differ
+abbrev pub IsVersionsFault : Option VersionRange → Scene → Option Version → RangeFault → Type 0
+IsVersionsFault None s stable e = ⊥
+IsVersionsFault (Some range) s stable e = IsRangeFault range (owns_of s) stable e ⊎ (IsGroupFault range s.packages.items e ⊎ IsTwoFault s e)

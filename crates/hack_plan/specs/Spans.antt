@@ -1,0 +1,47 @@
+-- The places of each version.
+use Rattle.std.specs.Prelude.{◌≡◌, ◌+◌, ◌++◌, List, [], ◌∷◌, map, length, All, Option, Some, None}
+use Rattle.hack_versions.specs.declared.version.Version.{Version}
+use Rattle.hack_versions.specs.declared.version.VersionRange.{VersionRange}
+use Rattle.hack_versions.specs.declared.group.VersionGroup.{VersionGroup}
+use Rattle.hack_plan.specs.declared.places.Quad.{Quad}
+use Rattle.hack_plan.specs.declared.places.Span.{Span}
+use Rattle.hack_plan.specs.Quads.{IsOlder}
+
+-- a plan, and the places of each of its versions
+pub record Laid : Type 0 where
+  pub quads : List Quad
+  pub spans : List Span
+
+-- the plan has older versions, then this one's places from first to end, then later versions
+pub record IsSpan (quads : List Quad) (s : Span) : Type 0 where
+  pub older : List Quad
+  pub here : List Quad
+  pub later : List Quad
+  pub all : quads ≡ older ++ here ++ later
+  pub first : s.first ≡ length older
+  pub end : s.end ≡ length older + length here
+  pub before : All (λ q. IsOlder q.version s.version) older
+  pub same : All (λ q. q.version ≡ s.version) here
+  pub behind : All (λ q. IsOlder s.version q.version) later
+
+-- the version of a group
+abbrev pub version_in : VersionGroup → Option Version
+version_in group = Some group.version
+
+-- the versions of groups: "none" alone without a range
+abbrev pub versions_of : Option VersionRange → List VersionGroup → List (Option Version)
+versions_of None groups = None ∷ []
+versions_of (Some range) groups = map version_in groups
+
+-- the version's places are put behind the plan so far
+abbrev pub IsNext : Option Version → Laid → Laid → Type 0
+IsNext version old new = new.spans ≡ old.spans ++ record { version = version; first = length old.quads; end = length new.quads } ∷ []
+
+-- the version of a span
+abbrev pub version_at : Span → Option Version
+version_at s = s.version
+
+-- each version, in order, with its places
+pub record AreSpans (versions : List (Option Version)) (p : Laid) : Type 0 where
+  pub names : map version_at p.spans ≡ versions
+  pub each : All (IsSpan p.quads) p.spans

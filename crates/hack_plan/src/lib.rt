@@ -1,0 +1,8 @@
+//! The plan of a call: which versions its packages use, its runs in order, and the numbers of a
+//! status line. Nothing here knows a loaded workspace: a `Scene` has all that counts.
+#![tactic(auto)]
+
+mod blocks;
+pub mod places;
+pub mod progress;
+pub mod versions;

@@ -1,0 +1,276 @@
+//! The plan of a scene: its runs in order. It is kept as blocks with running sums, and a run is
+//! found by halving.
+
+ghost use Rattle.std.specs.Prelude.{ℕ, ◌≡◌, ◌<◌, ◌≤◌, ◌^◌, ◌⊎◌, ◌↔◌, ◌++◌, ◌∷◌, [], Some, None};
+ghost use Rattle.std.specs.Prelude.{true, false, length, All, AllPairs, Contains, OnOk, OnErr};
+ghost use Rattle.std.specs.Prelude.{IfOk, IfErr, slice_get};
+ghost use Rattle.hack_versions.specs.declared.group.VersionGroup.{VersionGroup as Group};
+ghost use Rattle.hack_plan.specs.Scenes.{AreVersions, AreCounted, GroupsBy, slots_of};
+ghost use Rattle.hack_plan.specs.Quads.{ArePlaces, HasTooMany, Lists, IsAdmissible, AreTooMany};
+ghost use Rattle.hack_plan.specs.Quads.{Adds, Overfills};
+ghost use Rattle.hack_plan.specs.Parts.{InVersion};
+ghost use Rattle.hack_plan.specs.declared.places.PlacesFault.TheVariants.{Memory as OutOfMemory};
+
+use crate::blocks::Blocks;
+use crate::versions::{Scene, Versions};
+use hack_versions::rustup::VersionGroup;
+use hack_versions::version::{Version, VersionRange};
+use std::alloc::{AllocError, AllocFailed, Global};
+use std::marker::Model;
+use thiserror::Error;
+
+/// One run: its version (none without a range), its slot, its package by its place among the chosen
+/// ones (none where one run is for all), and its rank among the package's runs.
+#[derive(Clone, Copy)]
+pub struct Quad {
+    pub version: Option<Version>,
+    pub slot: usize,
+    pub package: Option<usize>,
+    pub rank: usize,
+}
+
+/// A version, and its places from the first one to the end, which is the next one's first.
+#[derive(Clone, Copy)]
+pub struct Span {
+    pub version: Option<Version>,
+    pub first: usize,
+    pub end: usize,
+}
+
+/// Why there is no plan.
+#[derive(Debug, Drop, Error)]
+pub enum PlacesFault {
+    /// There are more than 4294967295 places.
+    #[error("too many runs")]
+    TooManyRuns,
+    #[error("out of memory")]
+    Memory,
+}
+
+impl From<AllocError> for PlacesFault {
+    ghost from_gives = { λ _ e. e ≡ OutOfMemory };
+
+    fn from(_e: AllocError) -> PlacesFault {
+        PlacesFault::Memory
+    }
+}
+
+impl<T: Drop> From<AllocFailed<T>> for PlacesFault {
+    ghost from_gives = { λ _ e. e ≡ OutOfMemory };
+
+    fn from(_e: AllocFailed<T>) -> PlacesFault {
+        PlacesFault::Memory
+    }
+}
+
+/// The runs of a scene, in order.
+#[derive(Drop)]
+pub struct Places {
+    blocks: Blocks,
+    spans: Vec<Span>,
+}
+
+impl Model for Places {
+    ghost use Rattle.hack_plan.specs.Spans.{Laid};
+
+    ghost Value = { Laid };
+
+    ghost view = { λ p. record { quads = p.blocks; spans = p.spans.items } };
+}
+
+impl Places {
+    ghost use Rattle.std.specs.Prelude.{List};
+    ghost use Rattle.hack_plan.specs.Spans.{AreSpans, versions_of};
+
+    /// The plan. `versions` are the scene's, and `counts` the number of runs of each package, which
+    /// doesn't matter where one run is for all.
+    pub fn new(
+        alloc: Global,
+        scene: &Scene,
+        versions: &Versions,
+        counts: &[usize],
+    ) -> Result<Places, PlacesFault>
+        requires versions { AreVersions scene.now versions.now }
+        requires counted { AreCounted scene.now counts.now }
+        ensures ok { IfOk result (λ p. ArePlaces scene.now counts.now versions.now.stable p.quads) }
+        ensures spans { IfOk result (AreSpans (versions_of scene.now.range
+            versions.now.groups.items)) }
+        ensures never { IfOk result (λ _. ¬ HasTooMany scene.now counts.now versions.now.stable) }
+        ensures err { IfErr result (λ e. (e ≡ PlacesFault.Memory)
+            ⊎ ((e ≡ PlacesFault.TooManyRuns) × HasTooMany scene.now counts.now
+            versions.now.stable)) }
+    {
+        let places = Places::of(alloc, scene, versions, counts)?;
+        let _ = places.len();
+        Ok(places)
+    }
+
+    /// The number of places, at most 4294967295.
+    pub fn len(&self) -> usize
+        ensures value { result ≡ length self.now.quads }
+        ensures short { length self.now.quads < 2 ^ 32 }
+    {
+        self.blocks.len()
+    }
+
+    /// The run at a place.
+    pub fn run(&self, place: usize) -> Quad
+        requires { place < length self.now.quads }
+        ensures { slice_get self.now.quads place ≡ Some result }
+    {
+        self.blocks.run(place)
+    }
+
+    /// Each version that some package uses, or "none" without a range, with its places. A version
+    /// may have none.
+    pub fn versions(&self) -> &[Span]
+        ensures { result.now ≡ self.now.spans }
+    {
+        &self.spans
+    }
+}
+
+impl Places {
+    ghost use Rattle.hack_plan.specs.Spans.{AreSpans, IsNext, versions_of};
+
+    fn empty(alloc: Global) -> Places
+        ensures quads { result.quads ≡ [] }
+        ensures spans { result.spans ≡ [] }
+    {
+        Places {
+            blocks: Blocks::empty(alloc),
+            spans: Vec::new(alloc),
+        }
+    }
+
+    /// Puts the places of one version behind those so far.
+    fn add(
+        &mut self,
+        scene: &Scene,
+        version: Option<Version>,
+        packages: &[usize],
+        counts: &[usize],
+    ) -> Result<(), PlacesFault>
+        requires increasing { AllPairs (λ a b. a < b) packages.now }
+        requires within { scene.now.as_cargo ≡ false
+            → All (λ p. p < length counts.now) packages.now }
+        ensures ok { OnOk result (Adds (InVersion scene.now.as_cargo version
+            (slots_of scene.now version) packages.now counts.now) self.old.quads self.new.quads) }
+        ensures next { OnOk result (IsNext version self.old self.new) }
+        ensures err { IfErr result (λ e. (e ≡ PlacesFault.Memory)
+            ⊎ ((e ≡ PlacesFault.TooManyRuns) × Overfills (InVersion scene.now.as_cargo version
+            (slots_of scene.now version) packages.now counts.now) self.old.quads)) }
+    {
+        let first = self.blocks.len();
+        let slots = slots(scene, version);
+        if let Err(fault) = self
+            .blocks
+            .add_version(scene.as_cargo, version, slots, packages, counts)
+        {
+            return Err(fault);
+        }
+        let end = self.blocks.len();
+        let span = Span {
+            version,
+            first,
+            end,
+        };
+        if self.spans.push(span).is_err() {
+            return Err(PlacesFault::Memory);
+        }
+        Ok(())
+    }
+
+    /// The plan of a scene without a range.
+    fn without_range(alloc: Global, scene: &Scene, counts: &[usize]) -> Result<Places, PlacesFault>
+        requires none { scene.now.range ≡ None }
+        requires counted { AreCounted scene.now counts.now }
+        ensures ok { IfOk result (λ p. Lists (IsAdmissible scene.now counts.now []) p.quads) }
+        ensures spans { IfOk result (AreSpans (None ∷ [])) }
+        ensures err { IfErr result (λ e. (e ≡ PlacesFault.Memory)
+            ⊎ ((e ≡ PlacesFault.TooManyRuns) × AreTooMany (IsAdmissible scene.now counts.now []))) }
+    {
+        let all = all_below(alloc, scene.packages.len())?;
+        let mut places = Places::empty(alloc);
+        match places.add(scene, None, &all, counts) {
+            Ok(()) => Ok(places),
+            Err(fault) => Err(fault),
+        }
+    }
+
+    /// The plan of a scene with a range.
+    fn with_range(
+        alloc: Global,
+        scene: &Scene,
+        range: VersionRange,
+        versions: &Versions,
+        counts: &[usize],
+    ) -> Result<Places, PlacesFault>
+        requires some { scene.now.range ≡ Some range }
+        requires versions { GroupsBy (Some range) scene.now versions.now }
+        requires counted { AreCounted scene.now counts.now }
+        ensures ok { IfOk result (λ p. ArePlaces scene.now counts.now versions.now.stable p.quads) }
+        ensures spans { IfOk result (AreSpans (versions_of (Some range) versions.now.groups.items)) }
+        ensures err { IfErr result (λ e. (e ≡ PlacesFault.Memory)
+            ⊎ ((e ≡ PlacesFault.TooManyRuns) × HasTooMany scene.now counts.now
+            versions.now.stable)) }
+    {
+        let _ = range;
+        let mut places = Places::empty(alloc);
+        for group in versions.groups.as_slice() {
+            if let Err(fault) = places.add(scene, Some(group.version), &group.packages, counts) {
+                return Err(fault);
+            }
+        }
+        Ok(places)
+    }
+
+    /// The plan of a scene.
+    fn of(
+        alloc: Global,
+        scene: &Scene,
+        versions: &Versions,
+        counts: &[usize],
+    ) -> Result<Places, PlacesFault>
+        requires versions { AreVersions scene.now versions.now }
+        requires counted { AreCounted scene.now counts.now }
+        ensures ok { IfOk result (λ p. ArePlaces scene.now counts.now versions.now.stable p.quads) }
+        ensures spans { IfOk result (AreSpans (versions_of scene.now.range
+            versions.now.groups.items)) }
+        ensures err { IfErr result (λ e. (e ≡ PlacesFault.Memory)
+            ⊎ ((e ≡ PlacesFault.TooManyRuns) × HasTooMany scene.now counts.now
+            versions.now.stable)) }
+    {
+        match scene.range {
+            None => Places::without_range(alloc, scene, counts),
+            Some(range) => Places::with_range(alloc, scene, range, versions, counts),
+        }
+    }
+}
+
+/// The slots of a version: below 1.64 cargo takes one target at a time.
+fn slots(scene: &Scene, version: Option<Version>) -> usize
+    ensures { result ≡ slots_of scene.now version }
+{
+    let minor = match version {
+        Some(version) => version.minor,
+        None => scene.cargo_minor,
+    };
+    if scene.targets > 0 && minor < 64 {
+        scene.targets
+    } else {
+        1
+    }
+}
+
+/// The numbers below n.
+fn all_below(alloc: Global, n: usize) -> Result<Vec<usize>, AllocError>
+    ensures rising { IfOk result (λ places. AllPairs (λ p q. p < q) places.items) }
+    ensures exact { IfOk result (λ places. (p : ℕ) → Contains places.items p ↔ p < n) }
+{
+    let mut places = Vec::new(alloc);
+    for place in 0..n {
+        places.push(place)?;
+    }
+    Ok(places)
+}

@@ -1,0 +1,29 @@
+//! How far a call has come in its plan.
+
+ghost use Rattle.std.specs.Prelude.{◌<◌, ◌↔◌, ℕ, IsTrue};
+ghost use Rattle.hack_term.specs.Pieces.{InPiece, InJustOnePiece};
+ghost use Rattle.hack_term.specs.declared.partition.PartitionKind.{PartitionKind as Kind};
+
+use hack_term::partition::Partition;
+
+/// The length of a plan, and how many of its places have been passed.
+#[derive(Clone, Copy)]
+pub struct Progress {
+    pub total: u64,
+    pub count: u64,
+}
+
+impl Progress {
+    /// Whether the next place is in a piece.
+    pub fn in_partition(&self, partition: &Partition) -> bool
+        requires { self.now.count < self.now.total }
+        ensures holds { IsTrue result ↔ InPiece partition.now.kind partition.now.piece
+            partition.now.count self.now.total self.now.count }
+
+        // Each place of the plan is in exactly one of the pieces, however they are dealt.
+        ensures once { (kind : Kind) (place : ℕ) → place < self.now.total
+            → InJustOnePiece kind partition.now.count self.now.total place }
+    {
+        partition.holds(self.count, self.total)
+    }
+}
