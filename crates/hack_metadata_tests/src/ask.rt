@@ -13,9 +13,13 @@ use std::test::Fail;
 
 const WHOLE: &str =
     r#"{"packages":[],"workspace_members":[],"resolve":null,"workspace_root":"/w"}"#;
+
 const VERSION: &str = "rustup run stable cargo -vV";
+
 const FIRST: &str = "cargo metadata --format-version=1 --no-deps --manifest-path p";
+
 const LOCK: &str = "cargo generate-lockfile --manifest-path p";
+
 const STABLE: &str =
     "rustup run stable cargo metadata --format-version=1 --manifest-path p --no-deps";
 
