@@ -1,7 +1,7 @@
 -- The commands of a plan.
 use Rattle.std.specs.Prelude.{ℕ, Bool, true, false, List, [], ◌∷◌, ◌++◌, Option, Some, None, map, take, drop, length, codes, decimal, slice_get, nat_lt, ◌&&◌, if◌then◌else◌}
 use Rattle.std.specs.List.{flat_map, slice_index_or}
-use Rattle.hack_features.specs.Sets.{chosen}
+use Rattle.hack_features.specs.Names.{Name}
 use Rattle.hack_versions.specs.declared.version.Version.{Version}
 use Rattle.hack_process.specs.CommandTexts.{Command, appended}
 use Rattle.hack_plan.specs.Runs.{PackageRun, Plain, AllFeatures, NoDefaultFeatures, Set}
@@ -47,12 +47,16 @@ run_words AllFeatures = codes "--all-features" ∷ []
 run_words NoDefaultFeatures = codes "--no-default-features" ∷ []
 run_words (Set s) = codes "--no-default-features" ∷ []
 
+-- the names of the candidates at the positions, one after another
+abbrev pub names_at : List (List Name) → List ℕ → List Name
+names_at candidates positions = flat_map (λ p. slice_index_or candidates p []) positions
+
 -- the names of a run's set
-abbrev pub run_names : List (List ℕ) → PackageRun → List (List ℕ)
-run_names names Plain = []
-run_names names AllFeatures = []
-run_names names NoDefaultFeatures = []
-run_names names (Set s) = chosen names s
+abbrev pub run_names : List (List Name) → PackageRun → List Name
+run_names candidates Plain = []
+run_names candidates AllFeatures = []
+run_names candidates NoDefaultFeatures = []
+run_names candidates (Set s) = names_at candidates s
 
 -- a command with the words that the call hands on
 abbrev pub call_command : CallView → Option Version → List (List ℕ) → List (List ℕ) → Command

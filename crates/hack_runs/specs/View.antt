@@ -1,6 +1,6 @@
 -- A plan as plain data.
 use Rattle.std.specs.Prelude.{ℕ, Bool, List, Option, string_bytes, option_map, map}
-use Rattle.hack_features.specs.Feature.{name_of}
+use Rattle.hack_features.specs.Feature.{groups_of}
 use Rattle.hack_plan.specs.Runs.{PackageRun}
 use Rattle.hack_plan.specs.RunsView.{runs_in}
 use Rattle.hack_plan.specs.declared.places.Quad.{Quad}
@@ -23,12 +23,12 @@ pub record CallView : Type 0 where
   pub current_manifest : Option (List ℕ)
   pub dir : List ℕ
 
--- a chosen package: its candidates by name, and its runs by rank
+-- a chosen package: its candidates, each with the names that it stands for, and its runs by rank
 pub record PackageView : Type 0 where
   pub name : List ℕ
   pub manifest_path : Option (List ℕ)
   pub features : List (List ℕ)
-  pub candidates : List (List ℕ)
+  pub candidates : List (List (List ℕ))
   pub runs : List PackageRun
 
 -- a plan: its places as quadruples in order, its versions, and what its commands are made of
@@ -44,4 +44,4 @@ call_view w = record { cargo = string_bytes w.cargo; rustup = string_bytes w.rus
 
 -- a package as its texts and runs
 abbrev pub package_view : PlanPackage → PackageView
-package_view p = record { name = string_bytes p.name; manifest_path = option_map string_bytes p.manifest_path; features = map string_bytes p.features.items; candidates = map name_of p.candidates.items; runs = runs_in p.runs }
+package_view p = record { name = string_bytes p.name; manifest_path = option_map string_bytes p.manifest_path; features = map string_bytes p.features.items; candidates = groups_of p.candidates.items; runs = runs_in p.runs }

@@ -3,15 +3,14 @@
 ghost use Rattle.std.specs.Prelude.{◌≡◌, ◌++◌, ◌∷◌, [], Some, None, map, option_map, IfOk, OnOk, List, ℕ, take, drop};
 ghost use Rattle.std.specs.Prelude.{string_bytes, codes};
 ghost use Rattle.std.specs.List.{flat_map};
-ghost use Rattle.hack_features.specs.Feature.{name_of};
-ghost use Rattle.hack_features.specs.Sets.{chosen};
+ghost use Rattle.hack_features.specs.Feature.{groups_of};
 ghost use Rattle.hack_plan.specs.Runs.{run_of};
 ghost use Rattle.hack_process.specs.Commands.{command_of};
 ghost use Rattle.hack_process.specs.CommandTexts.{appended};
 ghost use Rattle.hack_runs.specs.View.{call_view, package_view};
 ghost use Rattle.hack_runs.specs.Commands.{toolchain_of, program_of, leading_of, is_split};
 ghost use Rattle.hack_runs.specs.Commands.{targets_in, target_pair, manifest_words, run_words};
-ghost use Rattle.hack_runs.specs.Commands.{run_names, call_command, whole_command, run_command};
+ghost use Rattle.hack_runs.specs.Commands.{names_at, call_command, whole_command, run_command};
 ghost use Rattle.hack_runs.specs.Commands.{plain_command, locked_words, cleaned_words, cleaning};
 ghost use Rattle.hack_runs.specs.Commands.{lockfile_command};
 
@@ -228,7 +227,7 @@ fn add_names(
 {
     for position in positions {
         if let Some(feature) = candidates.get(*position) {
-            command.append_features(&[feature.name()])?;
+            command.append_features(feature.as_group())?;
         }
     }
     Ok(())
