@@ -2,7 +2,7 @@
 
 ghost use Rattle.std.specs.Prelude.{◌≡◌, ◌++◌, ◌∷◌, [], Some, None, map, option_map, IfOk, OnOk, List, ℕ, take, drop};
 ghost use Rattle.std.specs.Prelude.{string_bytes, codes};
-ghost use Rattle.std.specs.List.{flat_map};
+ghost use Rattle.std.specs.List.{flat_map, slice_index_or};
 ghost use Rattle.hack_features.specs.Feature.{groups_of};
 ghost use Rattle.hack_plan.specs.Runs.{run_of};
 ghost use Rattle.hack_process.specs.Commands.{command_of};
@@ -10,7 +10,7 @@ ghost use Rattle.hack_process.specs.CommandTexts.{appended};
 ghost use Rattle.hack_runs.specs.View.{call_view, package_view};
 ghost use Rattle.hack_runs.specs.Commands.{toolchain_of, program_of, leading_of, is_split};
 ghost use Rattle.hack_runs.specs.Commands.{targets_in, target_pair, manifest_words, run_words};
-ghost use Rattle.hack_runs.specs.Commands.{names_at, call_command, whole_command, run_command};
+ghost use Rattle.hack_runs.specs.Commands.{names_at, run_names, call_command, whole_command, run_command};
 ghost use Rattle.hack_runs.specs.Commands.{plain_command, locked_words, cleaned_words, cleaning};
 ghost use Rattle.hack_runs.specs.Commands.{lockfile_command};
 
@@ -122,10 +122,7 @@ impl CallWords {
         add_targets(&mut command, self.targets_in(version, slot))?;
         add_manifest(&mut command, &member.manifest_path)?;
         add_run(&mut command, run)?;
-        command.append_features(member.features.as_slice())?;
-        if run == Run::Features {
-            add_names(&mut command, member.candidates.as_slice(), positions)?;
-        }
+        add_features(&mut command, member, run, positions)?;
         Ok(command)
     }
 
@@ -136,7 +133,7 @@ impl CallWords {
         member: Option<&PlanPackage>,
     ) -> Result<ProcessBuilder<'_>, AllocError>
         ensures { IfOk result (λ command. command_of command
-            ≡ cleaning (call_view self.now) (option_map (λ k. package_view k.now) member)) }
+            ≡ cleaning (call_view self.now) (option_map (λ k. package_view k.now) member.entry)) }
     {
         let mut command = self.program(alloc, None)?;
         command.arg("clean")?;
@@ -173,15 +170,25 @@ fn one_at(texts: &[String], place: usize) -> &[String]
     }
 }
 
+/// Adds an option and its value.
+fn add_pair(command: &mut ProcessBuilder<'_>, option: &str, value: &str) -> Result<(), AllocError>
+    ensures { OnOk result (command_of command.new ≡ record (command_of command.old) {
+      own = (command_of command.old).own ++ option.now ∷ value.now ∷ [];
+    }) }
+{
+    command.arg(option)?;
+    command.arg(value)
+}
+
 /// Adds each target behind its option.
 fn add_targets(command: &mut ProcessBuilder<'_>, targets: &[String]) -> Result<(), AllocError>
     ensures { OnOk result (command_of command.new ≡ record (command_of command.old) {
-      own = (command_of command.old).own ++ flat_map target_pair (map string_bytes targets.now);
+      own = (command_of command.old).own
+          ++ flat_map target_pair (map string_bytes targets.now);
     }) }
 {
     for target in targets {
-        command.arg("--target")?;
-        command.arg(target.as_str())?;
+        add_pair(command, "--target", target.as_str())?;
     }
     Ok(())
 }
@@ -192,11 +199,10 @@ fn add_manifest(command: &mut ProcessBuilder<'_>, path: &Option<String>) -> Resu
       own = (command_of command.old).own ++ manifest_words (option_map string_bytes path.now);
     }) }
 {
-    if let Some(path) = path {
-        command.arg("--manifest-path")?;
-        command.arg(path.as_str())?;
+    match path {
+        Some(path) => add_pair(command, "--manifest-path", path.as_str()),
+        None => Ok(()),
     }
-    Ok(())
 }
 
 /// Adds the word that says which features a run has.
@@ -214,6 +220,16 @@ fn add_run(command: &mut ProcessBuilder<'_>, run: Run) -> Result<(), AllocError>
     }
 }
 
+/// The names that the candidate at a place stands for.
+fn names_of(candidates: &[Feature], place: usize) -> &[String]
+    ensures { map string_bytes result.now ≡ slice_index_or (groups_of candidates.now) place [] }
+{
+    match candidates.get(place) {
+        Some(feature) => feature.as_group(),
+        None => &[],
+    }
+}
+
 /// Appends the names of the candidates at the positions.
 fn add_names(
     command: &mut ProcessBuilder<'_>,
@@ -222,15 +238,35 @@ fn add_names(
 ) -> Result<(), AllocError>
     ensures { OnOk result (command_of command.new ≡ record (command_of command.old) {
       features = appended (command_of command.old).features
-          (chosen (map name_of candidates.now) positions.now);
+          (names_at (groups_of candidates.now) positions.now);
     }) }
 {
     for position in positions {
-        if let Some(feature) = candidates.get(*position) {
-            command.append_features(feature.as_group())?;
-        }
+        command.append_features(names_of(candidates, *position))?;
     }
     Ok(())
+}
+
+/// Appends the features that the words name, and those of the run's set, where it is one of a set.
+fn add_features(
+    command: &mut ProcessBuilder<'_>,
+    member: &PlanPackage,
+    run: Run,
+    positions: &[usize],
+) -> Result<(), AllocError>
+    ensures { OnOk result (command_of command.new ≡ record (command_of command.old) {
+      features = appended (command_of command.old).features
+          ((package_view member.now).features
+          ++ run_names (package_view member.now).candidates (run_of run positions.now));
+    }) }
+{
+    command.append_features(member.features.as_slice())?;
+    match run {
+        Run::Features => add_names(command, member.candidates.as_slice(), positions),
+        Run::Plain => Ok(()),
+        Run::AllFeatures => Ok(()),
+        Run::NoDefaultFeatures => Ok(()),
+    }
 }
 
 /// Adds the package that is cleaned, where it is one.
@@ -240,12 +276,11 @@ fn add_cleaned(
 ) -> Result<(), AllocError>
     ensures { OnOk result (command_of command.new ≡ record (command_of command.old) {
       own = (command_of command.old).own
-          ++ cleaned_words (option_map (λ k. package_view k.now) member);
+          ++ cleaned_words (option_map (λ k. package_view k.now) member.entry);
     }) }
 {
-    if let Some(member) = member {
-        command.arg("--package")?;
-        command.arg(member.name.as_str())?;
+    match member {
+        Some(member) => add_pair(command, "--package", member.name.as_str()),
+        None => Ok(()),
     }
-    Ok(())
 }

@@ -189,7 +189,7 @@ impl Plan {
 }
 
 impl Plan {
-    ghost use Rattle.std.specs.Prelude.{◌⊎◌, ¬◌, IfErr};
+    ghost use Rattle.std.specs.Prelude.{◌⊎◌, IfErr, []};
     ghost use Rattle.hack_plan.specs.Scenes.{AreVersions};
     ghost use Rattle.hack_plan.specs.Spans.{versions_of};
     ghost use Rattle.hack_plan.specs.Quads.{ArePlaces, HasTooMany};

@@ -1,7 +1,7 @@
 //! What is done before the runs of each version.
 
-ghost use Rattle.std.specs.Prelude.{◌≡◌, ◌++◌, ◌∷◌, [], List, ℕ, IfOk, length, map, filter_map};
-ghost use Rattle.std.specs.Prelude.{not, slice_get, Some, None, option_map, IsTrue, ◌↔◌, ◌&&◌};
+ghost use Rattle.std.specs.Prelude.{◌≡◌, ◌++◌, ◌∷◌, [], List, ℕ, IfOk, OnOk, length, map, filter_map};
+ghost use Rattle.std.specs.Prelude.{not, slice_get, Some, None, option_map, IsTrue, ◌↔◌, ◌&&◌, true};
 ghost use Rattle.hack_plan.specs.Spans.{version_at};
 ghost use Rattle.hack_runs.specs.Prepared.{ArePrepared, IsPrepared, AreFlags, preparations_of};
 ghost use Rattle.hack_runs.specs.Prepared.{span_of};
@@ -27,14 +27,29 @@ pub fn prepared(
     let mut versions = Vec::with_capacity(alloc, spans.len())?;
     for (place, span) in spans.iter().enumerate() {
         let remakes = is_set(flags.as_slice(), place);
-        versions.push(PlanVersion {
-            version: span.version,
-            preparations: preparations(alloc, span.version, place, remakes, clean)?,
-            first: span.first,
-            end: span.end,
-        })?;
+        versions.push(version(alloc, *span, place, remakes, clean)?)?;
     }
     Ok(versions)
+}
+
+/// The version of a span, with what is done before its runs.
+fn version(
+    alloc: Global,
+    span: Span,
+    place: usize,
+    remakes: bool,
+    clean: bool,
+) -> Result<PlanVersion, AllocError>
+    ensures span { IfOk result (λ v. span_of v ≡ span) }
+    ensures made { IfOk result (λ v.
+        v.preparations.items ≡ preparations_of span.version place remakes clean) }
+{
+    Ok(PlanVersion {
+        version: span.version,
+        preparations: preparations(alloc, span.version, place, remakes, clean)?,
+        first: span.first,
+        end: span.end,
+    })
 }
 
 /// Whether the flag at a place is set.
@@ -53,11 +68,20 @@ fn lockfile_flags(alloc: Global, spans: &[Span], locked: bool) -> Result<Vec<boo
 {
     let mut versions = Vec::new(alloc);
     for span in spans {
-        if let Some(version) = span.version {
-            versions.push(version)?;
-        }
+        add_version(&mut versions, span)?;
     }
     lockfile_before(alloc, versions.as_slice(), locked)
+}
+
+/// Adds the version of a span, where it is one.
+fn add_version(versions: &mut Vec<Version>, span: &Span) -> Result<(), AllocError>
+    ensures { OnOk result (versions.new.items
+        ≡ versions.old.items ++ filter_map version_at (span.now ∷ [])) }
+{
+    match span.version {
+        Some(version) => Ok(versions.push(version)?),
+        None => Ok(()),
+    }
 }
 
 /// What is done before the runs of a version.
