@@ -2,7 +2,7 @@ use Rattle.std.proofs.Common.{◌∙◌, ◌++◌, ◌∷◌, [], ap, map, sym, 
 use Rattle.std.specs.List.{filter_map, slice_get}
 use Rattle.std.proofs.lemmas.List.{take_all, take_more, map-append, length-map, length-take-le}
 use Rattle.hack_plan.specs.Spans.{version_at}
-use Rattle.hack_runs.specs.Prepared.{span_of}
+use Rattle.hack_runs.specs.Prepared.{span_of, preparations_of}
 use Rattle.hack_runs.proofs.Ready.{AreReady, ready-more, prepared-end, spans-more, as-many}
 use Rattle.hack_runs.proofs.prepared.prepared.Goals as goal
 
@@ -15,7 +15,7 @@ loop-place-preserved c =
      subst (AreReady c.args.locked c.args.clean (filter_map version_at spans)) (sym c.in_ok-push.ensures.items)
         (ready-more c.args.locked c.args.clean (filter_map version_at spans) c.in_ok-flags.flags.items c.loop-place.versions.items v i c.is_set-remakes.result
             c.in_ok-flags.ensures (rw c.as_slice.ensures.value at c.is_set-remakes.ensures) (as-many spans c.loop-place.versions.items i c.loop-place-test.true c.loop-place.invariant.0)
-            c.in_ok-version.ensures.made c.loop-place.invariant.1))
+            (c.in_ok-version.ensures.made ∙ ap (λ o. preparations_of o i c.is_set-remakes.result c.args.clean) (sym (ap version_at c.in_ok-version.ensures.span))) c.loop-place.invariant.1))
 
 pub returns-clause-each : goal.returns-clause-each
 returns-clause-each c =
