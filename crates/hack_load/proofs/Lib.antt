@@ -1,2 +1,5 @@
+pub mod AskLemmas
 pub mod ContextLemmas
 pub mod FeatureLemmas
+pub mod LeaveLemmas
+pub mod MemberLemmas

@@ -12,6 +12,7 @@ ghost use Rattle.hack_load.specs.Contexts.{features_at, is_private_at, rust_vers
 ghost use Rattle.hack_load.specs.Contexts.{denies, verbose_name, version_in};
 ghost use Rattle.hack_load.specs.Names.{name_text};
 
+pub use crate::answers::{Answers, Loaded};
 pub use crate::fault::ContextFault;
 use crate::features::Features;
 pub use crate::located::{Located, current_package};
@@ -60,7 +61,8 @@ impl Context {
 
     /// The members of the workspace, each once. Each has a package, a manifest and candidates.
     pub fn workspace_members(&self) -> &[PackageId]
-        ensures members { map place_at result.now ≡ (context_view self.now).metadata.workspace_members }
+        ensures members { map place_at result.now
+            ≡ (context_view self.now).metadata.workspace_members }
         ensures whole { IsWhole (context_view self.now) }
     {
         self.metadata.workspace_members.as_slice()
@@ -82,7 +84,8 @@ impl Context {
 
     /// The program to run as cargo, as a command without words.
     pub fn cargo<'a>(&self, alloc: Global) -> Result<ProcessBuilder<'a>, AllocError>
-        ensures { IfOk result (λ builder. command_of builder ≡ command_line (context_view self.now).cargo []) }
+        ensures { IfOk result (λ builder.
+            command_of builder ≡ command_line (context_view self.now).cargo []) }
     {
         ProcessBuilder::new(alloc, self.cargo.as_str())
     }
@@ -159,8 +162,8 @@ impl Context {
     /// The name of a package, in a verbose call with the folder of its manifest behind it.
     pub fn name_verbose(&self, id: PackageId) -> VerboseName<'_>
         requires { id.index < length (context_view self.now).metadata.packages }
-        ensures { option_map (verbose_name (context_view self.now).args.verbose) (package_at (context_view self.now) id.index)
-            ≡ Some (name_text result) }
+        ensures { option_map (verbose_name (context_view self.now).args.verbose)
+            (package_at (context_view self.now) id.index) ≡ Some (name_text result) }
     {
         shown_name(self.packages(id), self.args.verbose)
     }
