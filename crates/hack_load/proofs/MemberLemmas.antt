@@ -1,6 +1,8 @@
 -- Manifests of members, and faults on the way.
-use Rattle.std.proofs.Common.{◌≡◌, ◌⊎◌, inl, inr, ℕ, List, [], ◌∷◌, Option, Some, Ok, Err, refl, sym, ◌∙◌, subst}
-use Rattle.std.specs.Prelude.{Contains, slice_get, string_bytes}
+use Rattle.std.proofs.Common.{◌≡◌, ◌⊎◌, inl, inr, ℕ, ◌+◌, ◌<◌, List, [], ◌∷◌, ◌++◌, Some, length, map, get_or, take, refl, sym, ap, ◌∙◌, subst, arith}
+use Rattle.std.specs.Prelude.{Contains, option_map, slice_get}
+use Rattle.std.proofs.lemmas.List.{get_or-map, length-map, map-append, take_more}
+use Rattle.std.proofs.lemmas.Option.{slice_get-map}
 use Rattle.std.specs.List.{AllZip}
 use Rattle.hack_features.specs.Names.{Name}
 use Rattle.hack_files.specs.Files.{Contents, GrowsBy, KeepsAll}
@@ -8,13 +10,17 @@ use Rattle.hack_files.specs.Faults.{IsOfText}
 use Rattle.hack_files.specs.declared.fs.FsFault.{FsFault}
 use Rattle.hack_files.specs.declared.fs.FsFault.TheVariants as fs
 use Rattle.hack_metadata.specs.Records.{PackageRecord, MetadataRecord}
-use Rattle.hack_manifest.specs.Reads.{IsRefusal}
+use Rattle.hack_metadata.specs.View.{package_view, place_at}
+use Rattle.hack_metadata.specs.declared.package.Package.{Package}
+use Rattle.hack_metadata.specs.declared.resolve.PackageId.{PackageId}
+use Rattle.hack_manifest.specs.Reads.{IsManifest, IsRefusal}
 use Rattle.hack_manifest.specs.declared.manifest.Manifest.{Manifest}
 use Rattle.hack_manifest.specs.declared.manifest.ManifestFault.{ManifestFault}
 use Rattle.hack_manifest.specs.declared.manifest.ManifestFault.TheVariants as manifest
 use Rattle.hack_load.specs.Loads.{AreOfMembers, CantRead, IsIllFormed, IsMemberFault, IsOfFile, IsOfManifest, IsOfMember, IsPackageFault}
 use Rattle.hack_load.specs.declared.fault.ContextFault.{ContextFault}
 use Rattle.hack_load.specs.declared.fault.ContextFault.TheVariants as faults
+use Rattle.hack_load.proofs.FeatureLemmas.{each-join}
 use Rattle.hack_load.proofs.LeaveLemmas.{count-more}
 
 -- the file of a package can't be read
@@ -66,3 +72,29 @@ module _ (T U : Type 0) (a b : Contents) (to : U → T) (keep : U → KeepsAll a
     pub member-fault-earlier : (e : ContextFault) → IsMemberFault T b m y z e → IsMemberFault U a m x z e
     member-fault-earlier e (inl h) = inl h
     member-fault-earlier e (inr h) = inr (h.0, h.1, fault-earlier h.0 e h.2)
+
+-- ---- packages and members as plain data
+
+pub package-at : (xs : List Package) (k : ℕ) (p : Package) → slice_get xs k ≡ Some p → slice_get (map package_view xs) k ≡ Some (package_view p)
+package-at xs k p is = slice_get-map package_view xs k ∙ ap (λ o. option_map package_view o) is
+
+-- a manifest that was read
+pub member-of : (T : Type 0) (held : Contents) (m : MetadataRecord) (id : ℕ) (p : PackageRecord) (path text : Name) (x : Manifest) → slice_get m.packages id ≡ Some p → path ≡ p.manifest_path
+    → (T → held path ≡ Some text) → IsManifest text m.cargo_version x → IsOfMember T held m id x
+member-of T held m id p path text x at is read says = record {
+  of = p;
+  at = at;
+  says = subst (λ t. IsManifest t m.cargo_version x) (sym says.kept) says;
+  read = λ t. ap held (sym is) ∙ read t ∙ ap Some (sym says.kept);
+}
+
+pub id-contained : (ms : List PackageId) (k : ℕ) (d : PackageId) → k < length ms → Contains (map place_at ms) (get_or ms k d).index
+id-contained ms k d lt = (k, omega (arith, lt, length-map ms place_at), get_or-map place_at ms k d (get_or ms k d).index lt)
+
+-- one manifest more
+pub each-more : (R : ℕ → Manifest → Type 0) (ms : List PackageId) (i : ℕ) (d : PackageId) (xs now : List Manifest) (x : Manifest) → i < length ms
+    → AllZip R (map place_at (take i ms)) xs → R (get_or ms i d).index x → now ≡ xs ++ x ∷ [] → AllZip R (map place_at (take (i + 1) ms)) now
+each-more R ms i d xs now x lt before here push =
+    subst (λ l. AllZip R (map place_at (take (i + 1) ms)) l) (sym push)
+    (subst (λ l. AllZip R l (xs ++ x ∷ [])) (sym (ap (map place_at) (take_more ms i d lt) ∙ map-append place_at (take i ms) (get_or ms i d ∷ [])))
+    (each-join R (map place_at (take i ms)) ((get_or ms i d).index ∷ []) xs (x ∷ []) before (here, tt)))
