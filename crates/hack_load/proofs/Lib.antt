@@ -1,3 +1,4 @@
+pub mod AnswerLemmas
 pub mod AskLemmas
 pub mod ContextLemmas
 pub mod FeatureLemmas
