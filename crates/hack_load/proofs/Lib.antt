@@ -1,5 +1,6 @@
 pub mod AnswerLemmas
 pub mod AskLemmas
+pub mod BuildLemmas
 pub mod ContextLemmas
 pub mod FeatureLemmas
 pub mod LeaveLemmas

@@ -1,5 +1,6 @@
 pub mod Answers
 pub mod Candidates
+pub mod ContextOf
 pub mod ContextView
 pub mod Contexts
 pub mod Features
