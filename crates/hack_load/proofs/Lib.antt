@@ -1,2 +1,7 @@
+pub mod AnswerLemmas
+pub mod AskLemmas
+pub mod BuildLemmas
 pub mod ContextLemmas
 pub mod FeatureLemmas
+pub mod LeaveLemmas
+pub mod MemberLemmas

@@ -1,7 +1,11 @@
+pub mod Answers
 pub mod Candidates
+pub mod ContextOf
 pub mod ContextView
 pub mod Contexts
 pub mod Features
+pub mod LeavesFew
+pub mod Loads
 pub mod Located
 pub mod Names
 pub mod RootFaults

@@ -1,7 +1,8 @@
 //! All that is loaded for one call: what its words ask for, what cargo tells of the workspace, the
 //! manifest and the candidates of each member, and where the call stands.
 
-ghost use Rattle.std.specs.Prelude.{◌≡◌, ◌<◌, Contains, Some, IfOk, [], true};
+ghost use Rattle.std.specs.Prelude.{◌≡◌, ◌<◌, ◌⊎◌, ◌↔◌, [], ℕ, true};
+ghost use Rattle.std.specs.Prelude.{Contains, Some, IfOk, IfErr, IsTrue, OnOk};
 ghost use Rattle.std.specs.Prelude.{length, map, option_copied, option_map, string_bytes};
 ghost use Rattle.hack_process.specs.Commands.{command_of};
 ghost use Rattle.hack_metadata.specs.Requests.{command_line};
@@ -10,16 +11,26 @@ ghost use Rattle.hack_metadata.specs.Whole.{metadata_view};
 ghost use Rattle.hack_load.specs.Contexts.{IsWhole, is_among, place_among, package_at, manifest_at};
 ghost use Rattle.hack_load.specs.Contexts.{features_at, is_private_at, rust_version_at};
 ghost use Rattle.hack_load.specs.Contexts.{denies, verbose_name, version_in};
+ghost use Rattle.hack_load.specs.ContextOf.{AreFeatures, IsCause, IsContextFrom, IsContextOf};
+ghost use Rattle.hack_load.specs.ContextOf.{IsLoadCause, IsNodeFault, IsOfNode, IsTooOld};
+ghost use Rattle.hack_load.specs.ContextOf.{warnings_of};
+ghost use Rattle.hack_load.specs.Candidates.{MissesNode};
+ghost use Rattle.hack_load.specs.Features.{IsRefusal};
+ghost use Rattle.hack_load.specs.Loads.{told_version};
 ghost use Rattle.hack_load.specs.Names.{name_text};
+ghost use Rattle.hack_versions.specs.Notes.{note_of};
 
+pub use crate::answers::{Answers, Loaded};
 pub use crate::fault::ContextFault;
 use crate::features::Features;
 pub use crate::located::{Located, current_package};
 pub use crate::name::VerboseName;
 use hack_manifest::manifest::Manifest;
-use hack_metadata::metadata::{Metadata, Package, PackageId};
+use crate::told::minor_of;
+use hack_metadata::metadata::{Metadata, MetadataFault, Package, PackageId};
 use hack_process::paths::parent;
 use hack_process::process::ProcessBuilder;
+use hack_versions::notice::{Notice, NoticeKind};
 use hack_words::cli::Args;
 use std::alloc::{AllocError, Global};
 
@@ -44,6 +55,77 @@ pub struct Context {
 impl Context {
     ghost use Rattle.hack_load.specs.ContextView.{context_view};
 
+    /// Puts together what was loaded. The notices tell that cargo's version isn't known.
+    pub fn new(
+        alloc: Global,
+        args: Args,
+        answers: Answers,
+    ) -> Result<(Context, Vec<Notice>), ContextFault>
+        ensures ok { IfOk result (λ r. IsContextFrom args answers (context_view r.0)) }
+        ensures notices { IfOk result (λ r.
+            map note_of r.1.items ≡ warnings_of (told_version answers.cargo_version)) }
+        ensures never { IfOk result (λ _. (e : ContextFault) → ¬ IsCause args answers e) }
+        ensures err { IfErr result (λ e. (e ≡ ContextFault.Memory) ⊎ IsCause args answers e) }
+    {
+        let Answers {
+            cargo_version,
+            loaded,
+        } = answers;
+        let loaded = match loaded {
+            Ok(loaded) => loaded,
+            Err(fault) => return Err(fault),
+        };
+        let minor = minor_of(&cargo_version);
+        let notices = warnings(alloc, cargo_version)?;
+        match Context::of(alloc, args, minor, loaded) {
+            Ok(context) => Ok((context, notices)),
+            Err(fault) => Err(fault),
+        }
+    }
+
+    /// The context of what was loaded, where cargo's own minor version is this.
+    fn of(
+        alloc: Global,
+        args: Args,
+        minor: u32,
+        loaded: Loaded,
+    ) -> Result<Context, ContextFault>
+        ensures ok { IfOk result (λ cx. IsContextOf args minor loaded (context_view cx)) }
+        ensures never { IfOk result (λ _. (e : ContextFault) → ¬ IsLoadCause args loaded e) }
+        ensures err { IfErr result (λ e. (e ≡ ContextFault.Memory) ⊎ IsLoadCause args loaded e) }
+    {
+        let asked = args.include_deps_features;
+        if is_too_old(asked, loaded.metadata.cargo_version) {
+            return Err(ContextFault::OldCargo);
+        }
+        let features = match features_of(alloc, &loaded.metadata, &loaded.manifests, asked) {
+            Ok(features) => features,
+            Err(fault) => return Err(of_node(fault)),
+        };
+        let root = match loaded.located.root(alloc) {
+            Ok(root) => root,
+            Err(fault) => return Err(fault),
+        };
+        let current_package = current_package(&loaded.metadata, root.as_str());
+        let Loaded {
+            cargo,
+            current_dir,
+            metadata,
+            manifests,
+            located: _,
+        } = loaded;
+        Ok(Context {
+            args,
+            metadata,
+            manifests,
+            features,
+            cargo,
+            cargo_version: minor,
+            current_dir,
+            current_package,
+        })
+    }
+
     /// What the words of the call ask for.
     pub fn args(&self) -> &Args
         ensures { result.now ≡ (context_view self.now).args }
@@ -60,7 +142,8 @@ impl Context {
 
     /// The members of the workspace, each once. Each has a package, a manifest and candidates.
     pub fn workspace_members(&self) -> &[PackageId]
-        ensures members { map place_at result.now ≡ (context_view self.now).metadata.workspace_members }
+        ensures members { map place_at result.now
+            ≡ (context_view self.now).metadata.workspace_members }
         ensures whole { IsWhole (context_view self.now) }
     {
         self.metadata.workspace_members.as_slice()
@@ -82,7 +165,8 @@ impl Context {
 
     /// The program to run as cargo, as a command without words.
     pub fn cargo<'a>(&self, alloc: Global) -> Result<ProcessBuilder<'a>, AllocError>
-        ensures { IfOk result (λ builder. command_of builder ≡ command_line (context_view self.now).cargo []) }
+        ensures { IfOk result (λ builder.
+            command_of builder ≡ command_line (context_view self.now).cargo []) }
     {
         ProcessBuilder::new(alloc, self.cargo.as_str())
     }
@@ -159,10 +243,70 @@ impl Context {
     /// The name of a package, in a verbose call with the folder of its manifest behind it.
     pub fn name_verbose(&self, id: PackageId) -> VerboseName<'_>
         requires { id.index < length (context_view self.now).metadata.packages }
-        ensures { option_map (verbose_name (context_view self.now).args.verbose) (package_at (context_view self.now) id.index)
-            ≡ Some (name_text result) }
+        ensures { option_map (verbose_name (context_view self.now).args.verbose)
+            (package_at (context_view self.now) id.index) ≡ Some (name_text result) }
     {
         shown_name(self.packages(id), self.args.verbose)
+    }
+}
+
+/// Whether cargo is too old to tell which dependencies are normal ones, and that is asked.
+fn is_too_old(asked: bool, cargo_version: u32) -> bool
+    ensures { IsTrue result ↔ IsTooOld asked cargo_version }
+{
+    asked && cargo_version < 41
+}
+
+/// The notice that cargo's version isn't known.
+fn warnings(alloc: Global, version: Result<u32, String>) -> Result<Vec<Notice>, AllocError>
+    ensures { IfOk result (λ notices.
+        map note_of notices.items ≡ warnings_of (told_version version)) }
+{
+    let mut notices = Vec::new(alloc);
+    match version {
+        Ok(_) => Ok(notices),
+        Err(text) => {
+            let kind = NoticeKind::Warn;
+            notices.push(Notice { kind, text })?;
+            Ok(notices)
+        }
+    }
+}
+
+/// The candidates of each member, by its manifest.
+fn features_of(
+    alloc: Global,
+    metadata: &Metadata,
+    manifests: &[Manifest],
+    asked: bool,
+) -> Result<Vec<Features>, MetadataFault>
+    requires { length manifests.now ≡ length metadata.now.workspace_members.items }
+    ensures ok { IfOk result (λ found. AreFeatures (metadata_view metadata.now) asked
+        (map place_at metadata.now.workspace_members.items) manifests.now found.items) }
+    ensures never { OnOk result ((id : ℕ) →
+        Contains (map place_at metadata.now.workspace_members.items) id
+        → ¬ MissesNode (metadata_view metadata.now) id asked) }
+    ensures err { IfErr result (λ e. (e ≡ MetadataFault.Memory)
+        ⊎ IsNodeFault (metadata_view metadata.now) asked e) }
+{
+    let mut found = Vec::new(alloc);
+    for (at, manifest) in manifests.iter().enumerate() {
+        let id = metadata.workspace_members[at];
+        let features = match Features::new(alloc, metadata, manifest, id, asked) {
+            Ok(features) => features,
+            Err(fault) => return Err(fault),
+        };
+        found.push(features)?;
+    }
+    Ok(found)
+}
+
+fn of_node(fault: MetadataFault) -> ContextFault
+    ensures { IsOfNode fault result }
+{
+    match fault {
+        MetadataFault::Memory => ContextFault::Memory,
+        fault => ContextFault::Metadata(fault),
     }
 }
 
