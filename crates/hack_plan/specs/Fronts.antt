@@ -1,8 +1,8 @@
 -- The runs that stand before those of the sets.
 use Rattle.std.specs.Prelude.{List, map}
-use Rattle.cargo_hack.specs.declared.plan.Front.{Front}
-use Rattle.cargo_hack.specs.declared.plan.Front.TheVariants as code
-use Rattle.cargo_hack.specs.Runs.{PackageRun, Plain, AllFeatures, NoDefaultFeatures}
+use Rattle.hack_plan.specs.declared.runs.Front.{Front}
+use Rattle.hack_plan.specs.declared.runs.Front.TheVariants as code
+use Rattle.hack_plan.specs.Runs.{PackageRun, Plain, AllFeatures, NoDefaultFeatures}
 
 -- the run that a front run is
 abbrev pub front_run : Front → PackageRun
