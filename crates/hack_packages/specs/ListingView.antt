@@ -1,5 +1,5 @@
 -- What the steps by which packages are chosen answer.
-use Rattle.std.specs.Prelude.{ℕ, List, [], ◌∷◌, Bool, true, false, ◌&&◌, if◌then◌else◌, string_bytes}
+use Rattle.std.specs.Prelude.{ℕ, List, [], ◌∷◌, Bool, true, false, not, ◌&&◌, if◌then◌else◌, string_bytes}
 use Rattle.hack_features.specs.Names.{Name}
 use Rattle.hack_packages.specs.declared.fault.PackagesFault.{PackagesFault}
 use Rattle.hack_packages.specs.declared.fault.PackagesFault.TheVariants.{Memory, Unmatched}
@@ -17,4 +17,4 @@ IsNamedFault members specs (Unmatched spec) = IsFirstUnmatched members specs (st
 
 -- the place of a member that isn't skipped
 abbrev pub kept_place : Bool → Member → List ℕ
-kept_place ignored m = if ignored && m.is_private then [] else m.place ∷ []
+kept_place ignored m = if not (ignored && m.is_private) then m.place ∷ [] else []

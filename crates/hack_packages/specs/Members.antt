@@ -1,5 +1,5 @@
 -- The members of a workspace, and which of them a call runs on.
-use Rattle.std.specs.Prelude.{◌≡◌, ◌==◌, ◌++◌, ℕ, List, [], ◌∷◌, Bool, true, false, not, ◌&&◌, Option, None, Some, All, Contains, map, filter, length}
+use Rattle.std.specs.Prelude.{◌≡◌, ◌==◌, ◌++◌, ℕ, List, [], ◌∷◌, Bool, true, false, not, ◌&&◌, Option, None, Some, Contains, map, filter, length}
 use Rattle.std.specs.List.{find, list_any}
 use Rattle.std.specs.Str.{bytes_eq}
 use Rattle.hack_features.specs.Names.{Name}
@@ -55,12 +55,16 @@ pub data Collects {X Y : Type 0} (P : X → Type 0) (f : X → Y) : List X → L
 abbrev pub Keeps : (Member → Type 0) → List Member → List Member → Type 0
 Keeps P members kept = Collects P (λ m. m) members kept
 
+-- each of the specifications matches one of the members
+abbrev pub AllMatch : List Member → List Name → Type 0
+AllMatch members specs = (spec : Name) → Contains specs spec → MatchesSome members spec
+
 -- the specification is the first that matches no member
 pub record IsFirstUnmatched (members : List Member) (specs : List Name) (spec : Name) : Type 0 where
   pub before : List Name
   pub behind : List Name
   pub whole : specs ≡ before ++ spec ∷ behind
-  pub matched : All (MatchesSome members) before
+  pub matched : AllMatch members before
   pub unmatched : ¬ MatchesSome members spec
 
 -- the call names packages, and not the whole workspace

@@ -7,27 +7,27 @@ use Rattle.hack_metadata.specs.Records.{PackageRecord}
 
 -- an excluded package that no member is
 abbrev pub exclusion_text : Name → Name → List ℕ
-exclusion_text root spec = codes "excluded package(s) `" ++ spec ++ codes "` not found in workspace `" ++ root ++ codes "`"
+exclusion_text root spec = codes "excluded package(s) `" ++ (spec ++ (codes "` not found in workspace `" ++ (root ++ codes "`")))
 
 -- a package of `--allow-together` that no member is called
 abbrev pub lift_text : Name → Name → List ℕ
-lift_text root owner = codes "package `" ++ owner ++ codes "` of --allow-together not found in workspace `" ++ root ++ codes "`"
+lift_text root owner = codes "package `" ++ (owner ++ (codes "` of --allow-together not found in workspace `" ++ (root ++ codes "`")))
 
 -- an excluded feature that the package doesn't have
 abbrev pub feature_text : Name → Name → List ℕ
-feature_text pkg name = codes "specified feature `" ++ name ++ codes "` not found in package `" ++ pkg ++ codes "`"
+feature_text pkg name = codes "specified feature `" ++ (name ++ (codes "` not found in package `" ++ (pkg ++ codes "`")))
 
 -- an optional dependency that the package doesn't have
 abbrev pub dependency_text : Name → Name → List ℕ
-dependency_text pkg name = codes "specified optional dependency `" ++ name ++ codes "` not found in package `" ++ pkg ++ codes "`"
+dependency_text pkg name = codes "specified optional dependency `" ++ (name ++ (codes "` not found in package `" ++ (pkg ++ codes "`")))
 
 -- a group that isn't applied to the package
 abbrev pub group_text : Name → List Name → List ℕ
-group_text pkg names = codes "skipped applying group `" ++ join_with_byte 44 names ++ codes "` to " ++ pkg
+group_text pkg names = codes "skipped applying group `" ++ (join_with_byte 44 names ++ (codes "` to " ++ pkg))
 
 -- a name with a folder
 abbrev pub verbose_text : Name → Name → List ℕ
-verbose_text name folder = name ++ codes " (" ++ folder ++ codes ")"
+verbose_text name folder = name ++ (codes " (" ++ (folder ++ codes ")"))
 
 -- a package's name, where asked with the folder of its manifest
 abbrev pub name_verbose : Bool → PackageRecord → List ℕ

@@ -167,6 +167,21 @@ fn add_if(
     Ok(())
 }
 
+/// Whether the feature stays a candidate by itself, where it is wanted.
+fn stays_if(args: &Args, feature: &Feature, wanted: bool) -> bool
+    ensures { result ≡ (wanted && stays_for (wishes args.now) (group_of feature.now)) }
+{
+    wanted && stays(args, feature)
+}
+
+/// Whether the optional dependency is asked for, and stays a candidate by itself.
+fn is_offered(args: &Args, feature: &Feature) -> bool
+    ensures { result ≡ (asked_by (wishes args.now).optional_deps (group_of feature.now)
+        && stays_for (wishes args.now) (group_of feature.now)) }
+{
+    is_asked(args, feature) && stays(args, feature)
+}
+
 /// The features that stay candidates by themselves, where they are wanted.
 fn staying(
     alloc: Global,
@@ -179,7 +194,7 @@ fn staying(
 {
     let mut found = Vec::new(alloc);
     for feature in features {
-        let taken = wanted && stays(args, feature);
+        let taken = stays_if(args, feature, wanted);
         add_if(alloc, &mut found, feature, taken)?;
     }
     Ok(found)
@@ -193,7 +208,7 @@ fn asked(alloc: Global, args: &Args, features: &[Feature]) -> Result<Vec<Feature
 {
     let mut found = Vec::new(alloc);
     for feature in features {
-        let taken = is_asked(args, feature) && stays(args, feature);
+        let taken = is_offered(args, feature);
         add_if(alloc, &mut found, feature, taken)?;
     }
     Ok(found)

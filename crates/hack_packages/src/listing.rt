@@ -1,10 +1,10 @@
 //! The steps by which packages are chosen, each over all members or specifications.
 
-ghost use Rattle.std.specs.Prelude.{◌≡◌, ◌⊎◌, ◌++◌, ◌&&◌, IfOk, IfErr, OnOk, All, map, filter, not, string_bytes};
+ghost use Rattle.std.specs.Prelude.{◌≡◌, ◌⊎◌, ◌↔◌, ◌++◌, ◌&&◌, IfOk, IfErr, OnOk, IsTrue, map, filter, not, string_bytes};
 ghost use Rattle.hack_features.specs.Names.{names_of};
 ghost use Rattle.hack_versions.specs.Notes.{note_of};
 ghost use Rattle.hack_packages.specs.Texts.{exclusion_text, lift_text as lift_words, private_text};
-ghost use Rattle.hack_packages.specs.Members.{MatchesSome, Keeps, Collects, IsFirstUnmatched};
+ghost use Rattle.hack_packages.specs.Members.{MatchesSome, AllMatch, Keeps, Collects};
 ghost use Rattle.hack_packages.specs.Members.{is_called as has_called, warning, info};
 ghost use Rattle.hack_packages.specs.Members.{first_called as first_of};
 ghost use Rattle.hack_packages.specs.MembersView.{member_view};
@@ -20,7 +20,7 @@ use std::alloc::{AllocError, Global};
 
 /// Each specification matches a member.
 pub(crate) fn check_named(members: &[Member<'_>], specs: &[String]) -> Result<(), PackagesFault>
-    ensures ok { OnOk result (All (MatchesSome (map member_view members.now)) (names_of specs.now)) }
+    ensures ok { OnOk result (AllMatch (map member_view members.now) (names_of specs.now)) }
     ensures err { IfErr result (λ e. (e ≡ PackagesFault.Memory)
         ⊎ IsNamedFault (map member_view members.now) (names_of specs.now) e) }
 {
@@ -30,6 +30,17 @@ pub(crate) fn check_named(members: &[Member<'_>], specs: &[String]) -> Result<()
         }
     }
     Ok(())
+}
+
+/// Whether one of the specifications matches the member, or none does.
+fn is_picked(member: &Member<'_>, specs: &[String], matched: bool) -> bool
+    ensures { IsTrue result ↔ IsMatchedAs matched (names_of specs.now) (member_view member.now) }
+{
+    if matched {
+        is_matched(member, specs)
+    } else {
+        !is_matched(member, specs)
+    }
 }
 
 /// The members that one of the specifications matches, or those that none matches.
@@ -44,7 +55,7 @@ pub(crate) fn picked<'a>(
 {
     let mut kept = Vec::new(alloc);
     for member in members {
-        if is_matched(member, specs) != matched {
+        if !is_picked(member, specs, matched) {
             continue;
         }
         kept.push(*member)?;
@@ -118,6 +129,13 @@ pub(crate) fn lift_notes(
     Ok(notices)
 }
 
+/// Whether the member is skipped: it is private, and private ones are ignored.
+fn is_skipped(member: &Member<'_>, ignored: bool) -> bool
+    ensures { result ≡ (ignored && (member_view member.now).is_private) }
+{
+    ignored && member.is_private
+}
+
 /// A notice for each private member, where private ones are ignored.
 pub(crate) fn skip_notes(
     alloc: Global,
@@ -132,7 +150,7 @@ pub(crate) fn skip_notes(
     let mut notices = Vec::new(alloc);
     for member in members {
         let text = private_text(alloc, member.pkg, verbose)?;
-        let told = ignored && member.is_private;
+        let told = is_skipped(member, ignored);
         note(&mut notices, told, NoticeKind::Info, text)?;
     }
     Ok(notices)
@@ -160,9 +178,8 @@ fn keep(ids: &mut Vec<PackageId>, member: &Member<'_>, ignored: bool) -> Result<
     ensures { OnOk result (map (λ id. id.index) ids.new.items ≡ map (λ id. id.index) ids.old.items
         ++ kept_place ignored (member_view member.now)) }
 {
-    if ignored && member.is_private {
-        return Ok(());
+    if !is_skipped(member, ignored) {
+        ids.push(member.id)?;
     }
-    ids.push(member.id)?;
     Ok(())
 }
