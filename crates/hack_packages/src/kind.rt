@@ -4,6 +4,7 @@ ghost use Rattle.std.specs.Prelude.{◌≡◌, ◌<◌, ◌++◌, [], IfOk, OnOk
 ghost use Rattle.std.specs.List.{slice_index_or};
 ghost use Rattle.hack_features.specs.Feature.{groups_of, candidates_of};
 ghost use Rattle.hack_features.specs.Forest.{sets_in};
+ghost use Rattle.hack_features.specs.Rules.{AreCovers};
 ghost use Rattle.hack_features.specs.Names.{names_of, shown};
 ghost use Rattle.hack_load.specs.declared.features.Features.{Features as Loaded};
 ghost use Rattle.hack_plan.specs.Runs.{run_of};
@@ -12,7 +13,7 @@ ghost use Rattle.hack_packages.specs.Candidates.{candidates as are_candidates, c
 ghost use Rattle.hack_packages.specs.CandidatesView.{wishes, known};
 ghost use Rattle.hack_packages.specs.Kinds.{AreSets, AreRuns, options_of};
 ghost use Rattle.hack_packages.specs.Kinds.{takes_all as all_taken, names_at};
-ghost use Rattle.hack_packages.specs.Kinds.{IsDepthOne, as_each, AreCovering};
+ghost use Rattle.hack_packages.specs.Kinds.{AreCovering, choice_of};
 ghost use Rattle.hack_packages.specs.KindsView.{IsKind, runs_of, candidates_in};
 
 use crate::candidates::{candidates, is_bare, notes_on};
@@ -153,8 +154,13 @@ fn listed_sets(
     pkg: &Package,
     candidates: &[Feature],
 ) -> Result<FeatureSets, AllocError>
-    ensures { (features : Loaded) → groups_of candidates.now ≡ are_candidates (wishes args.now) (known pkg.now features)
+    ensures sets { (features : Loaded)
+        → groups_of candidates.now ≡ are_candidates (wishes args.now) (known pkg.now features)
         → IfOk result (λ sets. AreSets true (wishes args.now) (known pkg.now features) (sets_in sets)) }
+    ensures covers { (features : Loaded)
+        → groups_of candidates.now ≡ are_candidates (wishes args.now) (known pkg.now features)
+        → IfOk result (λ sets. AreCovers (choice_of (wishes args.now) (known pkg.now features))
+        (length candidates.now) (sets_in sets)) }
 {
     let lifted = lifted(alloc, args, pkg.name.as_str())?;
     let all = all_of(alloc, candidates)?;
@@ -178,8 +184,15 @@ fn sets_of(
     pkg: &Package,
     candidates: &[Feature],
 ) -> Result<FeatureSets, AllocError>
-    ensures { (features : Loaded) → groups_of candidates.now ≡ are_candidates (wishes args.now) (known pkg.now features)
-        → IfOk result (λ sets. AreSets args.now.feature_powerset (wishes args.now) (known pkg.now features) (sets_in sets)) }
+    ensures sets { (features : Loaded)
+        → groups_of candidates.now ≡ are_candidates (wishes args.now) (known pkg.now features)
+        → IfOk result (λ sets. AreSets args.now.feature_powerset (wishes args.now)
+        (known pkg.now features) (sets_in sets)) }
+    ensures covers { (features : Loaded)
+        → groups_of candidates.now ≡ are_candidates (wishes args.now) (known pkg.now features)
+        → args.now.feature_powerset ≡ true
+        → IfOk result (λ sets. AreCovers (choice_of (wishes args.now) (known pkg.now features))
+        (length candidates.now) (sets_in sets)) }
 {
     if args.feature_powerset {
         listed_sets(alloc, args, pkg, candidates)
@@ -223,6 +236,8 @@ fn kind_of(
     features: &Features,
 ) -> Result<Kind, AllocError>
     ensures kind { IfOk result (IsKind (wishes args.now) (known pkg.now features.now)) }
+    ensures covered { IfOk result (λ kind. args.now.feature_powerset ≡ true
+        → AreCovering (wishes args.now) (known pkg.now features.now) (runs_of kind)) }
 {
     if !args.each_feature && !args.feature_powerset {
         return Ok(Kind::Normal);
@@ -261,10 +276,6 @@ pub fn determine_runs(
     ensures covered { IfOk result (λ answer. args.now.feature_powerset ≡ true
         → AreCovering (wishes args.now) (known pkg.now features.now) (runs_of answer.0.kind)) }
 
-    // Sets of one candidate give the runs of each feature, for a package with optional dependencies.
-    ensures depth_one { IfOk result (λ answer. IsDepthOne (wishes args.now)
-        → 0 < length features.now.optional_deps.items
-        → AreRuns (as_each (wishes args.now)) (known pkg.now features.now) (runs_of answer.0.kind)) }
     ensures notices { IfOk result (λ answer. map note_of answer.1.items
         ≡ candidate_notes single (wishes args.now) (known pkg.now features.now)) }
 {
