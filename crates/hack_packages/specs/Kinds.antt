@@ -1,5 +1,5 @@
 -- Which runs a package has.
-use Rattle.std.specs.Prelude.{◌≡◌, ◌==◌, ◌×◌, ◌⊎◌, ℕ, List, [], ◌∷◌, Bool, true, false, not, ◌||◌, Option, None, Some, length, Contains}
+use Rattle.std.specs.Prelude.{◌≡◌, ◌==◌, ◌⊎◌, ℕ, List, [], ◌∷◌, Bool, true, false, not, ◌||◌, Option, None, Some, length, Contains}
 use Rattle.std.specs.List.{flat_map, slice_index_or}
 use Rattle.hack_features.specs.Names.{Name}
 use Rattle.hack_features.specs.Sets.{IsListing, IsSelection, singles}

@@ -83,6 +83,13 @@ fn about<'a>(
     Ok(picked(alloc, members, &args.package, true)?)
 }
 
+/// Whether there is one member.
+fn is_one(members: &[Member<'_>]) -> bool
+    ensures { result ≡ (length (map member_view members.now) == 1) }
+{
+    members.len() == 1
+}
+
 /// The packages that a call runs on, and what the user is told of them. `members` are those of the
 /// workspace in their order, `current` is the name of the package that the call stands in, where it
 /// stands in one, and `root` the folder of the workspace.
@@ -113,7 +120,7 @@ pub fn choose_packages(
     notices.append(&mut skips)?;
     let list = PackageList {
         ids: kept_ids(alloc, &left, args.ignore_private)?,
-        is_single: left.len() == 1,
+        is_single: is_one(&left),
     };
     Ok((list, notices))
 }
