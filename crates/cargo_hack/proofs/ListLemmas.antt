@@ -8,9 +8,9 @@ use Rattle.hack_features.specs.Feature.{name_of, group_of, groups_of}
 use Rattle.hack_features.specs.FeatureMap.{FeatureMap}
 use Rattle.hack_features.specs.Sets.{IsListing}
 use Rattle.hack_features.specs.Rules.{Choice, IsListed, unlifted}
-use Rattle.cargo_hack.specs.declared.plan.RunOptions.{RunOptions}
+use Rattle.hack_plan.specs.declared.runs.RunOptions.{RunOptions}
 use Rattle.cargo_hack.specs.declared.wishes.Wishes.{Wishes}
-use Rattle.cargo_hack.specs.Runs.{PackageRun, runs_from}
+use Rattle.hack_plan.specs.Runs.{PackageRun, runs_from}
 use Rattle.cargo_hack.specs.declared.fault.ListFault.TheVariants.{Write, Memory}
 use Rattle.cargo_hack.specs.Faults.{is_memory, told_as}
 use Rattle.cargo_hack.specs.Words.{Asks}

@@ -6,11 +6,11 @@ use Rattle.hack_features.specs.Names.{Name}
 use Rattle.hack_features.specs.FeatureMap.{FeatureMap}
 use Rattle.hack_features.specs.Sets.{IsListing}
 use Rattle.hack_features.specs.Rules.{Choice, IsListed}
-use Rattle.cargo_hack.specs.declared.plan.RunOptions.{RunOptions}
+use Rattle.hack_plan.specs.declared.runs.RunOptions.{RunOptions}
 use Rattle.cargo_hack.specs.declared.fault.ListFault.{ListFault}
 use Rattle.cargo_hack.specs.declared.fault.ListFault.TheVariants.{Usage, Number, Group, NotText, Input, Read, Write, Memory}
 use Rattle.cargo_hack.specs.declared.wishes.WordsFault.TheVariants as said
-use Rattle.cargo_hack.specs.Runs.{runs_from}
+use Rattle.hack_plan.specs.Runs.{runs_from}
 use Rattle.cargo_hack.specs.Words.{Asks, IsAsking, RefusesWords}
 use Rattle.cargo_hack.specs.Input.{IsMapText, IsNoMapText, keys_of}
 use Rattle.cargo_hack.specs.Lines.{run_lines}

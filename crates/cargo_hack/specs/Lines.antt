@@ -3,7 +3,7 @@ use Rattle.std.specs.Prelude.{ℕ, List, [], ◌∷◌, ◌++◌, Option, None, 
 use Rattle.hack_features.specs.Names.{Name}
 use Rattle.hack_features.specs.Sets.{chosen}
 use Rattle.hack_process.specs.CommandTexts.{Command, appended, shown_features}
-use Rattle.cargo_hack.specs.Runs.{PackageRun, Plain, AllFeatures, NoDefaultFeatures, Set}
+use Rattle.hack_plan.specs.Runs.{PackageRun, Plain, AllFeatures, NoDefaultFeatures, Set}
 
 -- the text of a run's command, where the candidates have these names
 abbrev pub run_text : List Name → PackageRun → List ℕ

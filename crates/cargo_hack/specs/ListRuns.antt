@@ -5,9 +5,9 @@ use Rattle.hack_features.specs.Feature.{groups_of}
 use Rattle.hack_features.specs.FeatureMap.{FeatureMap}
 use Rattle.hack_features.specs.Sets.{IsListing}
 use Rattle.hack_features.specs.Rules.{Choice, IsListed}
-use Rattle.cargo_hack.specs.declared.plan.RunOptions.{RunOptions}
+use Rattle.hack_plan.specs.declared.runs.RunOptions.{RunOptions}
 use Rattle.cargo_hack.specs.declared.wishes.Wishes.{Wishes}
-use Rattle.cargo_hack.specs.Runs.{PackageRun, runs_from}
+use Rattle.hack_plan.specs.Runs.{PackageRun, runs_from}
 
 -- what the sets are chosen from
 abbrev pub chosen_from : Wishes → List Feature → FeatureMap → Choice

@@ -6,7 +6,6 @@ mod fault;
 mod input;
 mod lines;
 mod list;
-pub mod plan;
 mod wishes;
 mod writes;
 

@@ -4,7 +4,7 @@ use Rattle.std.specs.Prelude.{◌==◌, not}
 use Rattle.std.proofs.lemmas.Bool.{and_parts, and_from, leb-true, le-leb}
 use Rattle.hack_features.specs.declared.rules.Rules.{Rules}
 use Rattle.hack_features.specs.Sets.{IsSelection, IsWithin, IsListing, rows_of, chosen}
-use Rattle.hack_features.specs.Rules.{Choice, IsRequired, IsPermitted, IsListed, IsWanted, Covers, AreSingle, EnableTheSame}
+use Rattle.hack_features.specs.Rules.{Choice, IsRequired, IsPermitted, IsListed, IsWanted, Covers, AreSingle, EnableTheSame, AreCovers}
 use Rattle.hack_features.specs.Tables.{keeps_depth, is_lean, is_exclusive, is_required, AreTables, wanted_test}
 use Rattle.hack_features.specs.View.{choice_of, size_of, may_of, whole_of, AreTablesOf}
 use Rattle.hack_features.specs.Questions.{IsWhole, IsCheap}
@@ -97,6 +97,12 @@ module _ (r : Rules) (h : AreTablesOf (choice_of r) r) where
         subst (λ ls. Contains ls (chosen items t.0)) (sym e)
             (Contains-map (chosen items) sets t.0 ((l.exact t.0).1 (down t.0 t.1.selection, t.1.listed))),
       )
+
+  -- each wanted set is covered by one of the listed sets
+  pub covers_of : (sets : List (List ℕ)) → IsListing (size_of r) (IsListed (choice_of r)) sets → AreCovers (choice_of r) (size_of r) sets
+  covers_of sets l s sel w =
+      let t = covered (choice_of r) (λ s sel. tell (choice_of r) (rows_of r.tables.spares.items) h.spared s sel) s (up s sel) w in
+      (t.0, t.1, (l.exact t.0).1 (down t.0 t.1.selection, t.1.listed))
 
 pub wanted_iff : (c : Choice) (spares : List (List Bool)) (hits : List (List ℕ)) (serves : List (List Bool)) → AreTables c spares hits serves
     → (s : List ℕ) → IsSelection (length c.candidates) s → (wanted_test c.depth hits serves s ≡ true) ↔ IsWanted c s

@@ -100,6 +100,10 @@ pub record Covers (c : Choice) (s t : List ℕ) : Type 0 where
   pub inside : All (Contains s) t
   pub same : EnableTheSame c s t
 
+-- each set that has to be covered is covered by one of these
+abbrev pub AreCovers : Choice → ℕ → List (List ℕ) → Type 0
+AreCovers c n sets = (s : List ℕ) → IsSelection n s → IsWanted c s → (t : List ℕ) × Covers c s t × Contains sets t
+
 -- t is the first, in the order of sets, of those that cover s
 pub record IsFirstCover (c : Choice) (s t : List ℕ) : Type 0 where
   pub covers : Covers c s t

@@ -3,7 +3,7 @@
 ghost use Rattle.std.specs.Prelude.{◌≡◌, ◌≤◌, ◌+◌, ◌-◌, ◌^◌, ◌<◌, ℕ, List, [], length, slice_index, vec_len, IsTrue, IfOk, MatchOption, if◌then◌else◌};
 ghost use Rattle.std.specs.List.{list_any, slice_index_or, remove};
 ghost use Rattle.hack_features.specs.Sets.{IsSelection, rows_of};
-ghost use Rattle.hack_features.specs.Rules.{Choice, IsListed, IsPermitted, IsRequired, IsFirstCover, IsWanted};
+ghost use Rattle.hack_features.specs.Rules.{Choice, IsListed, IsPermitted, IsRequired, IsFirstCover, IsWanted, AreCovers};
 ghost use Rattle.hack_features.specs.Tables.{keeps_depth as depth_test, wanted_test, leads, AreTables};
 ghost use Rattle.hack_features.specs.Given.{choice, choice_in};
 ghost use Rattle.hack_features.specs.PlacedView.{IsPlaced};
@@ -98,6 +98,9 @@ impl<'a> Rules<'a> {
     /// The sets that are listed, in the order of sets, and by how much the count of questions rose.
     pub fn listed(&mut self, alloc: Global) -> Result<Pruned, AllocError>
         ensures sets { IfOk result (λ pruned. IsListing (size_of self.old) (IsListed (choice_of self.old)) (sets_in pruned.sets)) }
+
+        // For each set that has to be covered there is a listed one inside it that enables the same names.
+        ensures covered { IfOk result (λ pruned. AreCovers (choice_of self.old) (size_of self.old) (sets_in pruned.sets)) }
         ensures asked { IfOk result (λ pruned. asked_of self.new ≡ asked_of self.old + pruned.asked) }
 
         // At most one question for each permitted set and each candidate.

@@ -1,7 +1,7 @@
 use Rattle.std.proofs.Common.{◌≡◌, ◌++◌, List, ℕ, map, take, string_bytes}
 use Rattle.std.specs.Io.KnownBytes.{Appends}
 use Rattle.hack_features.specs.Feature.{name_of}
-use Rattle.cargo_hack.specs.RunsView.{runs_in}
+use Rattle.hack_plan.specs.RunsView.{runs_in}
 use Rattle.cargo_hack.specs.Lines.{run_lines}
 use Rattle.cargo_hack.proofs.lines.write_lines.Given as goal
 

@@ -6,7 +6,7 @@ use Rattle.hack_features.specs.declared.feature.Feature.{Feature}
 use Rattle.hack_features.specs.Names.{names_of}
 use Rattle.hack_features.specs.Feature.{name_of}
 use Rattle.hack_features.specs.FeatureMap.{FeatureMap, feature_map}
-use Rattle.cargo_hack.specs.RunsView.{runs_in}
+use Rattle.hack_plan.specs.RunsView.{runs_in}
 use Rattle.cargo_hack.specs.Input.{IsMapText, IsNoMapText}
 use Rattle.cargo_hack.specs.Lines.{run_lines}
 use Rattle.cargo_hack.specs.ListRuns.{AreListRuns}

@@ -3,10 +3,10 @@ use Rattle.std.proofs.lemmas.Result.{IfOk-weaker}
 use Rattle.hack_features.specs.declared.forest.Pruned.{Pruned}
 use Rattle.hack_features.specs.Sets.{IsListing}
 use Rattle.hack_features.specs.Forest.{sets_in}
-use Rattle.hack_features.specs.Rules.{IsListed, IsPermitted}
+use Rattle.hack_features.specs.Rules.{IsListed, IsPermitted, AreCovers}
 use Rattle.hack_features.specs.Questions.{IsWhole, IsCheap}
 use Rattle.hack_features.specs.View.{choice_of, size_of, may_of, whole_of}
-use Rattle.hack_features.proofs.RuleLemmas.{tables_of, listing_of, cheap_of}
+use Rattle.hack_features.proofs.RuleLemmas.{tables_of, listing_of, covers_of, cheap_of}
 use Rattle.hack_features.proofs.rules.Rules.listed.Goals as goal
 
 pub returns-clause-sets : goal.returns-clause-sets
@@ -20,3 +20,9 @@ returns-clause-few c =
     let r = c.args.self.now in
     IfOk-weaker c.pruned.result (λ (p : Pruned). IsCheap (λ s. IsTrue (may_of r s)) (size_of r) p.asked) (λ (p : Pruned). IsCheap (IsPermitted (choice_of r)) (size_of r) p.asked)
     (λ (p : Pruned). cheap_of r (tables_of r) p.asked) c.pruned.ensures.few
+
+pub returns-clause-covered : goal.returns-clause-covered
+returns-clause-covered c =
+    let r = c.args.self.now in
+    IfOk-weaker c.pruned.result (λ (p : Pruned). IsListing (size_of r) (IsWhole (may_of r) (whole_of r)) (sets_in p.sets)) (λ (p : Pruned). AreCovers (choice_of r) (size_of r) (sets_in p.sets))
+    (λ (p : Pruned) (l : IsListing (size_of r) (IsWhole (may_of r) (whole_of r)) (sets_in p.sets)). covers_of r (tables_of r) (sets_in p.sets) (listing_of r (tables_of r) (sets_in p.sets) l)) c.pruned.ensures.sets

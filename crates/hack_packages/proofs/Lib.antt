@@ -1,0 +1,4 @@
+pub mod Growth
+pub mod CandidateLemmas
+pub mod KindLemmas
+pub mod PackageLemmas

@@ -1,0 +1,81 @@
+-- Which runs a package has.
+use Rattle.std.specs.Prelude.{◌≡◌, ◌==◌, ◌⊎◌, ℕ, List, [], ◌∷◌, Bool, true, false, not, ◌||◌, Option, None, Some, length, Contains}
+use Rattle.std.specs.List.{flat_map, slice_index_or}
+use Rattle.hack_features.specs.Names.{Name}
+use Rattle.hack_features.specs.Sets.{IsListing, IsSelection, singles}
+use Rattle.hack_features.specs.Rules.{Choice, IsListed, IsWanted, Covers, unlifted}
+use Rattle.hack_plan.specs.declared.runs.RunOptions.{RunOptions}
+use Rattle.hack_plan.specs.Runs.{PackageRun, Plain, Set, is_plain, runs_from}
+use Rattle.hack_packages.specs.Candidates.{Names, Wishes, Known, candidates, is_bare, lifted_for}
+
+-- what the sets of a package are chosen from
+abbrev pub choice_of : Wishes → Known → Choice
+choice_of w p = record { map = p.map; candidates = candidates w p; depth = w.depth; at_least_one_of = w.at_least_one_of; exclusive = unlifted w.exclusive (lifted_for w p.name) }
+
+-- `--optional-deps` is given without names
+abbrev pub takes_all : Option (List Name) → Bool
+takes_all None = false
+takes_all (Some asked) = is_bare asked
+
+-- what decides, beside its sets, which runs a package has
+abbrev pub options_of : Wishes → Known → RunOptions
+options_of w p = record {
+  powerset = w.powerset;
+  depth = w.depth;
+  normal = length p.normal;
+  optional = length p.optional;
+  all_optional_deps = takes_all w.optional_deps;
+  included = not (is_bare w.included);
+  exclude_all_features = w.exclude_all_features;
+  exclude_no_default_features = w.exclude_no_default_features;
+}
+
+-- the sets of a package: under a powerset those that are listed, else each candidate alone
+abbrev pub AreSets : Bool → Wishes → Known → List (List ℕ) → Type 0
+AreSets true w p sets = IsListing (length (candidates w p)) (IsListed (choice_of w p)) sets
+AreSets false w p sets = sets ≡ singles (length (candidates w p))
+
+-- the runs are those of the package's sets
+pub record AreSetRuns (w : Wishes) (p : Known) (runs : List PackageRun) : Type 0 where
+  pub sets : List (List ℕ)
+  pub are_sets : AreSets w.powerset w p sets
+  pub made : runs ≡ runs_from (options_of w p) sets
+
+-- the call asks for combinations of features
+abbrev pub asks : Wishes → Bool
+asks w = w.each || w.powerset
+
+-- the runs, where combinations of features are asked for, or not
+abbrev pub RunsBy : Bool → Wishes → Known → List PackageRun → Type 0
+RunsBy true w p runs = AreSetRuns w p runs
+RunsBy false w p runs = runs ≡ Plain ∷ []
+
+-- the runs of a package, by rank
+abbrev pub AreRuns : Wishes → Known → List PackageRun → Type 0
+AreRuns w p runs = RunsBy (asks w) w p runs
+
+-- the package has its plain run alone: no combinations are asked for, or the run stands for no set
+pub record HasPlainRun (w : Wishes) (p : Known) : Type 0 where
+  pub sets : List (List ℕ)
+  pub are_sets : asks w ≡ true → AreSets w.powerset w p sets
+  pub plain : asks w ≡ true → is_plain (options_of w p) sets ≡ true
+
+-- each set that has to be covered has a run whose set lies in it and enables the same names
+abbrev pub AreCovering : Wishes → Known → List PackageRun → Type 0
+AreCovering w p runs = (s : List ℕ) → IsSelection (length (candidates w p)) s → IsWanted (choice_of w p) s
+    → (t : List ℕ) × Covers (choice_of w p) s t × Contains runs (Set t)
+
+-- the names of the candidates at the positions, one after another
+abbrev pub names_at : List Names → List ℕ → List Name
+names_at list positions = flat_map (λ p. slice_index_or list p []) positions
+
+-- the call asks for a powerset of sets of one candidate, and for no exclusions and none of which some feature is wanted
+pub record IsDepthOne (w : Wishes) : Type 0 where
+  pub powerset : w.powerset ≡ true
+  pub depth : w.depth ≡ Some 1
+  pub exclusive : w.exclusive ≡ []
+  pub at_least_one_of : w.at_least_one_of ≡ []
+
+-- the same for each feature, other words being equal
+abbrev pub as_each : Wishes → Wishes
+as_each w = record w { each = true; powerset = false; depth = None }

@@ -1,0 +1,9 @@
+pub mod Texts
+pub mod Members
+pub mod MembersView
+pub mod ListingView
+pub mod PackagesView
+pub mod Candidates
+pub mod CandidatesView
+pub mod Kinds
+pub mod KindsView

@@ -1,0 +1,291 @@
+//! The runs of a package, and its candidates.
+
+ghost use Rattle.std.specs.Prelude.{◌≡◌, ◌<◌, ◌++◌, [], IfOk, OnOk, Some, length, map, slice_get, true};
+ghost use Rattle.std.specs.List.{slice_index_or};
+ghost use Rattle.hack_features.specs.Feature.{groups_of, candidates_of};
+ghost use Rattle.hack_features.specs.Forest.{sets_in};
+ghost use Rattle.hack_features.specs.Rules.{AreCovers};
+ghost use Rattle.hack_features.specs.Names.{names_of, shown};
+ghost use Rattle.hack_load.specs.declared.features.Features.{Features as Loaded};
+ghost use Rattle.hack_plan.specs.Runs.{run_of};
+ghost use Rattle.hack_versions.specs.Notes.{note_of};
+ghost use Rattle.hack_packages.specs.Candidates.{candidates as are_candidates, candidate_notes};
+ghost use Rattle.hack_packages.specs.CandidatesView.{wishes, known};
+ghost use Rattle.hack_packages.specs.Kinds.{AreSets, AreRuns, options_of};
+ghost use Rattle.hack_packages.specs.Kinds.{takes_all as all_taken, names_at};
+ghost use Rattle.hack_packages.specs.Kinds.{AreCovering, choice_of};
+ghost use Rattle.hack_packages.specs.KindsView.{IsKind, runs_of, candidates_in};
+
+use crate::candidates::{candidates, is_bare, notes_on};
+use crate::lifts::lifted;
+use hack_features::{Feature, FeatureSets, Rules};
+use hack_load::features::Features;
+use hack_metadata::metadata::{Package, PackageId};
+use hack_plan::runs::{Run, RunOptions, Runs};
+use hack_versions::notice::Notice;
+use hack_words::cli::Args;
+use std::alloc::{AllocError, Global};
+
+/// How a package runs.
+#[derive(Drop)]
+pub enum Kind {
+    /// One run with what cargo enables by itself.
+    Normal,
+    /// A run for each candidate, and those without.
+    Each { candidates: Vec<Feature>, runs: Runs },
+    /// A run for each set of candidates that is listed, and those without.
+    Powerset { candidates: Vec<Feature>, runs: Runs },
+}
+
+impl Kind {
+    /// What the sets of runs are made of.
+    pub fn candidates(&self) -> &[Feature]
+        ensures { groups_of result.now ≡ candidates_in self.now }
+    {
+        match self {
+            Kind::Normal => &[],
+            Kind::Each { candidates, .. } => candidates.as_slice(),
+            Kind::Powerset { candidates, .. } => candidates.as_slice(),
+        }
+    }
+
+    /// How many runs there are.
+    pub fn count(&self) -> usize
+        ensures { result ≡ length (runs_of self.now) }
+    {
+        match self {
+            Kind::Normal => 1,
+            Kind::Each { runs, .. } => runs.len(),
+            Kind::Powerset { runs, .. } => runs.len(),
+        }
+    }
+
+    /// The run of the rank. The positions of its candidates, where it is one of a set, stand in
+    /// `positions` then, in place of what was there.
+    pub fn run(&self, rank: usize, positions: &mut Vec<usize>) -> Result<Run, AllocError>
+        requires { rank < length (runs_of self.now) }
+        ensures { IfOk result (λ run. slice_get (runs_of self.now) rank
+            ≡ Some (run_of run positions.new.items)) }
+    {
+        match self {
+            Kind::Normal => Ok(Run::Plain),
+            Kind::Each { runs, .. } => runs.run(rank, positions),
+            Kind::Powerset { runs, .. } => runs.run(rank, positions),
+        }
+    }
+
+    /// The names that a run of these positions has behind `--features`: of a group each name.
+    pub fn names<'a>(
+        &'a self,
+        alloc: Global,
+        positions: &[usize],
+    ) -> Result<Vec<&'a str>, AllocError>
+        ensures { IfOk result (λ names. shown names.items
+            ≡ names_at (candidates_in self.now) positions.now) }
+    {
+        let candidates = self.candidates();
+        let mut names = Vec::new(alloc);
+        for p in positions {
+            push_names(&mut names, candidates, *p)?;
+        }
+        Ok(names)
+    }
+}
+
+/// Puts the names of the candidate at the position behind others.
+fn push_names<'a>(
+    names: &mut Vec<&'a str>,
+    candidates: &'a [Feature],
+    p: usize,
+) -> Result<(), AllocError>
+    ensures { OnOk result (shown names.new.items
+        ≡ shown names.old.items ++ slice_index_or (groups_of candidates.now) p []) }
+{
+    match candidates.get(p) {
+        Some(feature) => push_all(names, feature.as_group()),
+        None => Ok(()),
+    }
+}
+
+/// Puts the names behind others.
+fn push_all<'a>(names: &mut Vec<&'a str>, more: &'a [String]) -> Result<(), AllocError>
+    ensures { OnOk result (shown names.new.items ≡ shown names.old.items ++ names_of more.now) }
+{
+    for name in more {
+        names.push(name.as_str())?;
+    }
+    Ok(())
+}
+
+/// The runs of a package.
+#[derive(Drop)]
+pub struct PackageRuns {
+    pub id: PackageId,
+    pub kind: Kind,
+    /// How many runs there are.
+    pub feature_count: usize,
+    ghost counted: { feature_count ≡ length (runs_of kind) },
+}
+
+impl PackageRuns {
+    /// How many runs there are.
+    pub fn len(&self) -> usize
+        ensures { result ≡ length (runs_of self.now.kind) }
+    {
+        self.feature_count
+    }
+}
+
+/// References to all features.
+fn all_of<'a>(alloc: Global, features: &'a [Feature]) -> Result<Vec<&'a Feature>, AllocError>
+    ensures { IfOk result (λ all. candidates_of all.items ≡ groups_of features.now) }
+{
+    let mut all = Vec::with_capacity(alloc, features.len())?;
+    for feature in features {
+        all.push(feature)?;
+    }
+    Ok(all)
+}
+
+/// The sets of candidates that are listed.
+fn listed_sets(
+    alloc: Global,
+    args: &Args,
+    pkg: &Package,
+    candidates: &[Feature],
+) -> Result<FeatureSets, AllocError>
+    ensures sets { (features : Loaded)
+        → groups_of candidates.now ≡ are_candidates (wishes args.now) (known pkg.now features)
+        → IfOk result (λ sets. AreSets true (wishes args.now) (known pkg.now features) (sets_in sets)) }
+    ensures covers { (features : Loaded)
+        → groups_of candidates.now ≡ are_candidates (wishes args.now) (known pkg.now features)
+        → IfOk result (λ sets. AreCovers (choice_of (wishes args.now) (known pkg.now features))
+        (length candidates.now) (sets_in sets)) }
+{
+    let lifted = lifted(alloc, args, pkg.name.as_str())?;
+    let all = all_of(alloc, candidates)?;
+    let mut rules = Rules::new(
+        alloc,
+        all.as_slice(),
+        args.depth,
+        args.at_least_one_of.as_slice(),
+        args.mutually_exclusive_features.as_slice(),
+        &pkg.features,
+        lifted.as_slice(),
+    )?;
+    let found = rules.listed(alloc)?;
+    Ok(found.sets)
+}
+
+/// The sets of a package.
+fn sets_of(
+    alloc: Global,
+    args: &Args,
+    pkg: &Package,
+    candidates: &[Feature],
+) -> Result<FeatureSets, AllocError>
+    ensures sets { (features : Loaded)
+        → groups_of candidates.now ≡ are_candidates (wishes args.now) (known pkg.now features)
+        → IfOk result (λ sets. AreSets args.now.feature_powerset (wishes args.now)
+        (known pkg.now features) (sets_in sets)) }
+    ensures covers { (features : Loaded)
+        → groups_of candidates.now ≡ are_candidates (wishes args.now) (known pkg.now features)
+        → args.now.feature_powerset ≡ true
+        → IfOk result (λ sets. AreCovers (choice_of (wishes args.now) (known pkg.now features))
+        (length candidates.now) (sets_in sets)) }
+{
+    if args.feature_powerset {
+        listed_sets(alloc, args, pkg, candidates)
+    } else {
+        FeatureSets::singles(alloc, candidates.len())
+    }
+}
+
+/// Whether `--optional-deps` is given without names.
+fn takes_all(args: &Args) -> bool
+    ensures { result ≡ all_taken (wishes args.now).optional_deps }
+{
+    match &args.optional_deps {
+        None => false,
+        Some(asked) => asked.is_empty(),
+    }
+}
+
+/// What decides, beside its sets, which runs a package has.
+fn options(args: &Args, pkg: &Package, features: &Features) -> RunOptions
+    ensures { result ≡ options_of (wishes args.now) (known pkg.now features.now) }
+{
+    let _ = pkg;
+    RunOptions {
+        powerset: args.feature_powerset,
+        depth: args.depth,
+        normal: features.normal().len(),
+        optional: features.optional_deps().len(),
+        all_optional_deps: takes_all(args),
+        included: !is_bare(&args.include_features),
+        exclude_all_features: args.exclude_all_features,
+        exclude_no_default_features: args.exclude_no_default_features,
+    }
+}
+
+/// How a package runs.
+fn kind_of(
+    alloc: Global,
+    args: &Args,
+    pkg: &Package,
+    features: &Features,
+) -> Result<Kind, AllocError>
+    ensures kind { IfOk result (IsKind (wishes args.now) (known pkg.now features.now)) }
+    ensures covered { IfOk result (λ kind. args.now.feature_powerset ≡ true
+        → AreCovering (wishes args.now) (known pkg.now features.now) (runs_of kind)) }
+{
+    if !args.each_feature && !args.feature_powerset {
+        return Ok(Kind::Normal);
+    }
+    let candidates = candidates(alloc, args, pkg, features)?;
+    let sets = sets_of(alloc, args, pkg, &candidates)?;
+    let options = options(args, pkg, features);
+    if options.is_plain(sets.len()) {
+        return Ok(Kind::Normal);
+    }
+    let runs = Runs::new(alloc, options, sets)?;
+    if args.feature_powerset {
+        Ok(Kind::Powerset { candidates, runs })
+    } else {
+        Ok(Kind::Each { candidates, runs })
+    }
+}
+
+/// The runs of a package, and what the user is told of its features. `single` says whether it is the
+/// only package that is left after exclusions.
+pub fn determine_runs(
+    alloc: Global,
+    args: &Args,
+    id: PackageId,
+    pkg: &Package,
+    features: &Features,
+    single: bool,
+) -> Result<(PackageRuns, Vec<Notice>), AllocError>
+    ensures id { IfOk result (λ answer. answer.0.id ≡ id) }
+    ensures kind { IfOk result (λ answer.
+        IsKind (wishes args.now) (known pkg.now features.now) answer.0.kind) }
+    ensures runs { IfOk result (λ answer.
+        AreRuns (wishes args.now) (known pkg.now features.now) (runs_of answer.0.kind)) }
+
+    // Under a powerset each set of candidates that has to be covered has a run that covers it.
+    ensures covered { IfOk result (λ answer. args.now.feature_powerset ≡ true
+        → AreCovering (wishes args.now) (known pkg.now features.now) (runs_of answer.0.kind)) }
+
+    ensures notices { IfOk result (λ answer. map note_of answer.1.items
+        ≡ candidate_notes single (wishes args.now) (known pkg.now features.now)) }
+{
+    let notices = notes_on(alloc, args, pkg, features, single)?;
+    let kind = kind_of(alloc, args, pkg, features)?;
+    let feature_count = kind.count();
+    let runs = PackageRuns {
+        id,
+        kind,
+        feature_count,
+    };
+    Ok((runs, notices))
+}

@@ -1,0 +1,11 @@
+//! Which packages of a workspace a call runs on, and which runs each of them has.
+#![tactic(auto)]
+
+mod candidates;
+pub mod fault;
+pub mod kind;
+mod lifts;
+mod listing;
+pub mod member;
+mod notes;
+pub mod packages;

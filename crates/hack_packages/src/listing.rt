@@ -1,0 +1,185 @@
+//! The steps by which packages are chosen, each over all members or specifications.
+
+ghost use Rattle.std.specs.Prelude.{◌≡◌, ◌⊎◌, ◌↔◌, ◌++◌, ◌&&◌, IfOk, IfErr, OnOk, IsTrue, map, filter, not, string_bytes};
+ghost use Rattle.hack_features.specs.Names.{names_of};
+ghost use Rattle.hack_versions.specs.Notes.{note_of};
+ghost use Rattle.hack_packages.specs.Texts.{exclusion_text, lift_text as lift_words, private_text};
+ghost use Rattle.hack_packages.specs.Members.{MatchesSome, AllMatch, Keeps, Collects};
+ghost use Rattle.hack_packages.specs.Members.{is_called as has_called, warning, info};
+ghost use Rattle.hack_packages.specs.Members.{first_called as first_of};
+ghost use Rattle.hack_packages.specs.MembersView.{member_view};
+ghost use Rattle.hack_packages.specs.ListingView.{IsMatchedAs, IsNamedFault, kept_place};
+
+use crate::fault::PackagesFault;
+use crate::member::{Member, is_called, is_matched, matches_some};
+use crate::notes::{exclusion_text, lift_text, note, private_text};
+use hack_features::Feature;
+use hack_metadata::metadata::PackageId;
+use hack_versions::notice::{Notice, NoticeKind};
+use std::alloc::{AllocError, Global};
+
+/// Each specification matches a member.
+pub(crate) fn check_named(members: &[Member<'_>], specs: &[String]) -> Result<(), PackagesFault>
+    ensures ok { OnOk result (AllMatch (map member_view members.now) (names_of specs.now)) }
+    ensures err { IfErr result (λ e. (e ≡ PackagesFault.Memory)
+        ⊎ IsNamedFault (map member_view members.now) (names_of specs.now) e) }
+{
+    for spec in specs {
+        if !matches_some(members, spec.as_str()) {
+            return Err(PackagesFault::Unmatched(spec.clone()?));
+        }
+    }
+    Ok(())
+}
+
+/// Whether one of the specifications matches the member, or none does.
+fn is_picked(member: &Member<'_>, specs: &[String], matched: bool) -> bool
+    ensures { IsTrue result ↔ IsMatchedAs matched (names_of specs.now) (member_view member.now) }
+{
+    if matched {
+        is_matched(member, specs)
+    } else {
+        !is_matched(member, specs)
+    }
+}
+
+/// The members that one of the specifications matches, or those that none matches.
+pub(crate) fn picked<'a>(
+    alloc: Global,
+    members: &[Member<'a>],
+    specs: &[String],
+    matched: bool,
+) -> Result<Vec<Member<'a>>, AllocError>
+    ensures { IfOk result (λ kept. Keeps (IsMatchedAs matched (names_of specs.now))
+        (map member_view members.now) (map member_view kept.items)) }
+{
+    let mut kept = Vec::new(alloc);
+    for member in members {
+        if !is_picked(member, specs, matched) {
+            continue;
+        }
+        kept.push(*member)?;
+    }
+    Ok(kept)
+}
+
+/// The first member of the name, where there is one.
+pub(crate) fn first_called<'a>(
+    alloc: Global,
+    members: &[Member<'a>],
+    name: &str,
+) -> Result<Vec<Member<'a>>, AllocError>
+    ensures { IfOk result (λ kept. map member_view kept.items
+        ≡ first_of (map member_view members.now) name.now) }
+{
+    let mut kept = Vec::new(alloc);
+    for member in members {
+        if member.pkg.name.as_str() == name {
+            kept.push(*member)?;
+            return Ok(kept);
+        }
+    }
+    Ok(kept)
+}
+
+/// A warning for each exclusion that no member matches.
+pub(crate) fn exclusion_notes(
+    alloc: Global,
+    members: &[Member<'_>],
+    exclude: &[String],
+    root: &str,
+) -> Result<Vec<Notice>, AllocError>
+    ensures { IfOk result (λ notices. Collects (λ spec. ¬ MatchesSome (map member_view members.now) spec)
+        (λ spec. warning (exclusion_text root.now spec))
+        (names_of exclude.now) (map note_of notices.items)) }
+{
+    let mut notices = Vec::new(alloc);
+    for spec in exclude {
+        if matches_some(members, spec.as_str()) {
+            continue;
+        }
+        let text = exclusion_text(alloc, spec.as_str(), root)?;
+        notices.push(Notice {
+            kind: NoticeKind::Warn,
+            text,
+        })?;
+    }
+    Ok(notices)
+}
+
+/// A warning for each package of `--allow-together` that no member is called.
+pub(crate) fn lift_notes(
+    alloc: Global,
+    members: &[Member<'_>],
+    lifts: &[(String, Feature)],
+    root: &str,
+) -> Result<Vec<Notice>, AllocError>
+    ensures { IfOk result (λ notices. map note_of notices.items
+        ≡ map (λ owner. warning (lift_words root.now owner))
+        (filter (λ owner. not (has_called (map member_view members.now) owner))
+        (map (λ lift. string_bytes lift.0) lifts.now))) }
+{
+    let mut notices = Vec::new(alloc);
+    for lift in lifts {
+        let owner = lift.0.as_str();
+        let text = lift_text(alloc, owner, root)?;
+        let told = !is_called(members, owner);
+        note(&mut notices, told, NoticeKind::Warn, text)?;
+    }
+    Ok(notices)
+}
+
+/// Whether the member is skipped: it is private, and private ones are ignored.
+fn is_skipped(member: &Member<'_>, ignored: bool) -> bool
+    ensures { result ≡ (ignored && (member_view member.now).is_private) }
+{
+    ignored && member.is_private
+}
+
+/// A notice for each private member, where private ones are ignored.
+pub(crate) fn skip_notes(
+    alloc: Global,
+    members: &[Member<'_>],
+    ignored: bool,
+    verbose: bool,
+) -> Result<Vec<Notice>, AllocError>
+    ensures { IfOk result (λ notices. map note_of notices.items
+        ≡ map (λ m. info (private_text verbose m.pkg))
+        (filter (λ m. ignored && m.is_private) (map member_view members.now))) }
+{
+    let mut notices = Vec::new(alloc);
+    for member in members {
+        let text = private_text(alloc, member.pkg, verbose)?;
+        let told = is_skipped(member, ignored);
+        note(&mut notices, told, NoticeKind::Info, text)?;
+    }
+    Ok(notices)
+}
+
+/// The ids of the members that aren't private, or of all where private ones aren't ignored.
+pub(crate) fn kept_ids(
+    alloc: Global,
+    members: &[Member<'_>],
+    ignored: bool,
+) -> Result<Vec<PackageId>, AllocError>
+    ensures { IfOk result (λ ids. map (λ id. id.index) ids.items
+        ≡ map (λ m. m.place) (filter (λ m. not (ignored && m.is_private))
+        (map member_view members.now))) }
+{
+    let mut ids = Vec::new(alloc);
+    for member in members {
+        keep(&mut ids, member, ignored)?;
+    }
+    Ok(ids)
+}
+
+/// Puts the id of a member behind others, unless the member is skipped.
+fn keep(ids: &mut Vec<PackageId>, member: &Member<'_>, ignored: bool) -> Result<(), AllocError>
+    ensures { OnOk result (map (λ id. id.index) ids.new.items ≡ map (λ id. id.index) ids.old.items
+        ++ kept_place ignored (member_view member.now)) }
+{
+    if !is_skipped(member, ignored) {
+        ids.push(member.id)?;
+    }
+    Ok(())
+}
