@@ -28,7 +28,7 @@ pub ready-more : (locked cleans : Bool) (numbers : List Version) (flags : List B
     → v.preparations.items ≡ preparations_of v.version place remakes cleans → AreReady locked cleans numbers versions → AreReady locked cleans numbers (versions ++ v ∷ [])
 ready-more locked cleans numbers flags versions v place remakes are set here made before =
     cases-push (IsPrepared locked cleans numbers) versions v before
-        (subst (λ k. IsPrepared locked cleans numbers k v) (sym here) (record { remakes = remakes; exact = ((λ t. (are place).0 (set.0 t)), (λ r. set.1 ((are place).1 r))); made = made }))
+    (subst (λ k. IsPrepared locked cleans numbers k v) (sym here) (record { remakes = remakes; exact = ((λ t. (are place).0 (set.0 t)), (λ r. set.1 ((are place).1 r))); made = made }))
 
 -- as many versions as places passed
 pub as-many : (spans : List Span) (versions : List PlanVersion) (i : ℕ) → i < length spans → map span_of versions ≡ take i spans → length versions ≡ i

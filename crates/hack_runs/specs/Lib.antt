@@ -1,4 +1,5 @@
 pub mod View
 pub mod Commands
 pub mod Plans
+pub mod Calls
 pub mod Prepared

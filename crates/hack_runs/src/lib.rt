@@ -2,6 +2,9 @@
 #![tactic(auto)]
 
 mod commands;
+pub mod fault;
 pub mod parts;
 pub mod plan;
 mod prepared;
+mod scene;
+mod words;

@@ -113,7 +113,7 @@ impl Plan {
             quad.rank) }
     {
         let mut positions = Vec::new(alloc);
-        let run = member.runs.run(quad.rank, &mut positions)?;
+        let run = member.runs.kind.run(quad.rank, &mut positions)?;
         self.words.run(
             alloc,
             quad.version,
