@@ -3,5 +3,6 @@ pub mod AskLemmas
 pub mod BuildLemmas
 pub mod ContextLemmas
 pub mod FeatureLemmas
+pub mod GivenLemmas
 pub mod LeaveLemmas
 pub mod MemberLemmas

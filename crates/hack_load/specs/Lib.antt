@@ -4,6 +4,7 @@ pub mod ContextOf
 pub mod ContextView
 pub mod Contexts
 pub mod Features
+pub mod GivenFeatures
 pub mod LeavesFew
 pub mod Loads
 pub mod Located

@@ -11,6 +11,7 @@ mod loaded;
 mod located;
 mod members;
 mod name;
+pub mod process;
 mod told;
 
 pub use hack_manifest::manifest;
