@@ -1,6 +1,6 @@
 //! Commands, and what a context gives them: the words of the call for cargo, and its features.
 
-ghost use Rattle.std.specs.Prelude.{◌≡◌, ◌++◌, ◌∷◌, [], Contains, IfOk, OnOk, OnErr, IfSome};
+ghost use Rattle.std.specs.Prelude.{◌≡◌, ◌++◌, ◌∷◌, [], Contains, IfOk, OnOk, OnErr, IfSome, Some};
 ghost use Rattle.std.specs.Prelude.{cond, filter, map, not, option_map, string_bytes};
 ghost use Rattle.hack_features.specs.Names.{names_of};
 ghost use Rattle.hack_metadata.specs.View.{place_at};
@@ -49,16 +49,16 @@ pub fn append_features_from_args(
     ensures err { OnErr result (command_of command.new ≡ command_of command.old) }
 {
     match id {
-        Some(id) if cx.args().ignore_unknown_features => append_known(alloc, command, cx, id),
-        _ => {
+        Some(id) => append_features_for(alloc, command, cx, id),
+        None => {
             command.append_features(cx.args().features.as_slice())?;
             Ok(Vec::new(alloc))
         }
     }
 }
 
-/// Appends the features that a package has, and tells of the others.
-fn append_known(
+/// Appends the features of the call that the commands of a package get.
+fn append_features_for(
     alloc: Global,
     command: &mut ProcessBuilder<'_>,
     cx: &Context,
@@ -67,21 +67,68 @@ fn append_known(
     requires { Contains (context_view cx.now).metadata.workspace_members id.index }
     ensures ok { OnOk result (command_of command.new ≡ record (command_of command.old) {
       features = appended (command_of command.old).features
-          (filter (knows (context_view cx.now) id.index) (given (context_view cx.now)));
+          (passed_for (context_view cx.now) (Some id.index));
     }) }
     ensures notices { IfOk result (λ notices. map note_of notices.items
+        ≡ left_out_for (context_view cx.now) (Some id.index)) }
+    ensures err { OnErr result (command_of command.new ≡ command_of command.old) }
+{
+    let (names, notices) = features_for(alloc, cx, id)?;
+    command.append_features(&names)?;
+    Ok(notices)
+}
+
+/// The features of the call that the commands of a package get, and what the user is told of those
+/// that are left out under `--ignore-unknown-features`, since the package doesn't have them.
+pub fn features_for<'a>(
+    alloc: Global,
+    cx: &'a Context,
+    id: PackageId,
+) -> Result<(Vec<&'a str>, Vec<Notice>), AllocError>
+    requires { Contains (context_view cx.now).metadata.workspace_members id.index }
+    ensures names { IfOk result (λ answer. map (λ word. word.now) answer.0.items
+        ≡ passed_for (context_view cx.now) (Some id.index)) }
+    ensures notices { IfOk result (λ answer. map note_of answer.1.items
+        ≡ left_out_for (context_view cx.now) (Some id.index)) }
+{
+    if cx.args().ignore_unknown_features {
+        return known_features(alloc, cx, id);
+    }
+    Ok((all_features(alloc, cx)?, Vec::new(alloc)))
+}
+
+/// The features of the call.
+fn all_features<'a>(alloc: Global, cx: &'a Context) -> Result<Vec<&'a str>, AllocError>
+    ensures { IfOk result (λ names. map (λ word. word.now) names.items
+        ≡ given (context_view cx.now)) }
+{
+    let mut names = Vec::new(alloc);
+    for name in &cx.args().features {
+        names.push(name.as_str())?;
+    }
+    Ok(names)
+}
+
+/// The features of the call that a package has, and what is told of the others.
+fn known_features<'a>(
+    alloc: Global,
+    cx: &'a Context,
+    id: PackageId,
+) -> Result<(Vec<&'a str>, Vec<Notice>), AllocError>
+    requires { Contains (context_view cx.now).metadata.workspace_members id.index }
+    ensures names { IfOk result (λ answer. map (λ word. word.now) answer.0.items
+        ≡ filter (knows (context_view cx.now) id.index) (given (context_view cx.now))) }
+    ensures notices { IfOk result (λ answer. map note_of answer.1.items
         ≡ map (left_out (name_at (context_view cx.now) id.index))
         (filter (λ f. not (knows (context_view cx.now) id.index f))
         (given (context_view cx.now)))) }
-    ensures err { OnErr result (command_of command.new ≡ command_of command.old) }
 {
     let mut names = Vec::new(alloc);
     let mut notices = Vec::new(alloc);
     for name in &cx.args().features {
         sort(alloc, &mut names, &mut notices, cx, id, name.as_str())?;
     }
-    command.append_features(&names)?;
-    Ok(notices)
+    Ok((names, notices))
 }
 
 /// Puts a feature among those that the package has, or tells of it.

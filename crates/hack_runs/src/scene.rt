@@ -2,6 +2,7 @@
 
 ghost use Rattle.std.specs.Prelude.{◌≡◌, ◌⊎◌, ◌↔◌, All, Contains, IfOk, IfErr, IsTrue, map};
 ghost use Rattle.hack_metadata.specs.View.{place_at};
+ghost use Rattle.hack_load.specs.ContextView.{context_view};
 ghost use Rattle.hack_load.specs.Contexts.{rust_version_at};
 ghost use Rattle.hack_words.specs.declared.cli.args.WorkspaceBehavior.TheVariants.{Cargo};
 ghost use Rattle.hack_runs.specs.Calls.{IsOwn, IsBadOwn, IsMember, AreMembers, IsSceneOf};
@@ -18,12 +19,12 @@ use std::alloc::Global;
 
 /// The own version of a chosen package, which is read only where versions are asked for.
 fn own_version(alloc: Global, cx: &Context, id: PackageId) -> Result<Option<Version>, VersionFault>
-    requires { Contains cx.now.metadata.workspace_members id.index }
-    ensures ok { IfOk result (IsOwn cx.now.args.version_range (rust_version_at cx.now id.index)) }
+    requires { Contains (context_view cx.now).metadata.workspace_members id.index }
+    ensures ok { IfOk result (IsOwn (context_view cx.now).args.version_range (rust_version_at (context_view cx.now) id.index)) }
     ensures never { IfOk result (λ _. (e : VersionFault)
-        → ¬ IsBadOwn cx.now.args.version_range (rust_version_at cx.now id.index) e) }
+        → ¬ IsBadOwn (context_view cx.now).args.version_range (rust_version_at (context_view cx.now) id.index) e) }
     ensures err { IfErr result (λ e. (e ≡ VersionFault.Memory)
-        ⊎ IsBadOwn cx.now.args.version_range (rust_version_at cx.now id.index) e) }
+        ⊎ IsBadOwn (context_view cx.now).args.version_range (rust_version_at (context_view cx.now) id.index) e) }
 {
     if cx.args().version_range.is_none() {
         return Ok(None);
@@ -39,12 +40,12 @@ fn own_version(alloc: Global, cx: &Context, id: PackageId) -> Result<Option<Vers
 
 /// A chosen package, with its own version.
 fn member(alloc: Global, cx: &Context, id: PackageId) -> Result<PackageVersion, VersionFault>
-    requires { Contains cx.now.metadata.workspace_members id.index }
-    ensures ok { IfOk result (IsMember cx.now id.index) }
+    requires { Contains (context_view cx.now).metadata.workspace_members id.index }
+    ensures ok { IfOk result (IsMember (context_view cx.now) id.index) }
     ensures never { IfOk result (λ _. (e : VersionFault)
-        → ¬ IsBadOwn cx.now.args.version_range (rust_version_at cx.now id.index) e) }
+        → ¬ IsBadOwn (context_view cx.now).args.version_range (rust_version_at (context_view cx.now) id.index) e) }
     ensures err { IfErr result (λ e. (e ≡ VersionFault.Memory)
-        ⊎ IsBadOwn cx.now.args.version_range (rust_version_at cx.now id.index) e) }
+        ⊎ IsBadOwn (context_view cx.now).args.version_range (rust_version_at (context_view cx.now) id.index) e) }
 {
     let rust_version = own_version(alloc, cx, id)?;
     let _ = cx.workspace_members();
@@ -56,12 +57,12 @@ fn member(alloc: Global, cx: &Context, id: PackageId) -> Result<PackageVersion, 
 
 /// The chosen packages, in order.
 fn members(alloc: Global, cx: &Context, ids: &[PackageId]) -> Result<Vec<PackageVersion>, PlanFault>
-    requires { All (λ id. Contains cx.now.metadata.workspace_members id.index) ids.now }
-    ensures ok { IfOk result (λ members. AreMembers cx.now (map place_at ids.now) members.items) }
+    requires { All (λ id. Contains (context_view cx.now).metadata.workspace_members id.index) ids.now }
+    ensures ok { IfOk result (λ members. AreMembers (context_view cx.now) (map place_at ids.now) members.items) }
     ensures never { IfOk result (λ _. (e : VersionFault)
-        → ¬ HasBadOwn cx.now (map place_at ids.now) e) }
+        → ¬ HasBadOwn (context_view cx.now) (map place_at ids.now) e) }
     ensures err { IfErr result (λ e. (e ≡ PlanFault.Memory)
-        ⊎ IsOwnFault cx.now (map place_at ids.now) e) }
+        ⊎ IsOwnFault (context_view cx.now) (map place_at ids.now) e) }
 {
     let mut members = Vec::with_capacity(alloc, ids.len())?;
     for id in ids {
@@ -76,12 +77,12 @@ fn members(alloc: Global, cx: &Context, ids: &[PackageId]) -> Result<Vec<Package
 
 /// What the versions and places of a plan depend on.
 pub(crate) fn scene(alloc: Global, cx: &Context, ids: &[PackageId]) -> Result<Scene, PlanFault>
-    requires { All (λ id. Contains cx.now.metadata.workspace_members id.index) ids.now }
-    ensures ok { IfOk result (IsSceneOf cx.now (map place_at ids.now)) }
+    requires { All (λ id. Contains (context_view cx.now).metadata.workspace_members id.index) ids.now }
+    ensures ok { IfOk result (IsSceneOf (context_view cx.now) (map place_at ids.now)) }
     ensures never { IfOk result (λ _. (e : VersionFault)
-        → ¬ HasBadOwn cx.now (map place_at ids.now) e) }
+        → ¬ HasBadOwn (context_view cx.now) (map place_at ids.now) e) }
     ensures err { IfErr result (λ e. (e ≡ PlanFault.Memory)
-        ⊎ IsOwnFault cx.now (map place_at ids.now) e) }
+        ⊎ IsOwnFault (context_view cx.now) (map place_at ids.now) e) }
 {
     let packages = match members(alloc, cx, ids) {
         Ok(packages) => packages,

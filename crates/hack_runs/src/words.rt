@@ -3,6 +3,7 @@
 ghost use Rattle.std.specs.Prelude.{◌≡◌, IfOk, option_map, string_bytes};
 ghost use Rattle.hack_features.specs.Names.{names_of};
 ghost use Rattle.hack_metadata.specs.View.{package_view as package_record};
+ghost use Rattle.hack_load.specs.ContextView.{context_view};
 ghost use Rattle.hack_runs.specs.View.{call_view};
 ghost use Rattle.hack_runs.specs.Calls.{given_path, call_of, current_of};
 
@@ -48,7 +49,7 @@ pub(crate) fn given_path(
 
 /// The package that the call stands in.
 fn current(cx: &Context) -> Option<&Package>
-    ensures { option_map (λ p. package_record p.now) result ≡ current_of cx.now }
+    ensures { option_map (λ p. package_record p.now) result ≡ current_of (context_view cx.now) }
 {
     match cx.current_package() {
         Some(id) => cx.metadata().find(id),
@@ -58,7 +59,7 @@ fn current(cx: &Context) -> Option<&Package>
 
 /// What all commands of the call share. `rustup` is rustup's program.
 pub(crate) fn call_words(alloc: Global, cx: &Context, rustup: &str) -> Result<CallWords, AllocError>
-    ensures { IfOk result (λ words. call_view words ≡ call_of cx.now rustup.now) }
+    ensures { IfOk result (λ words. call_view words ≡ call_of (context_view cx.now) rustup.now) }
 {
     let args = cx.args();
     let cargo = cx.cargo(alloc)?;

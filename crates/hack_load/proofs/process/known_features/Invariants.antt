@@ -4,7 +4,7 @@ use Rattle.hack_features.specs.Names.{names_of}
 use Rattle.hack_versions.specs.Notes.{note_of}
 use Rattle.hack_load.specs.ContextView.{context_view}
 use Rattle.hack_load.specs.GivenFeatures.{knows, left_out, name_at}
-use Rattle.hack_load.proofs.process.append_known.Given as goal
+use Rattle.hack_load.proofs.process.known_features.Given as goal
 
 -- the features so far are sorted
 abbrev pub invariant-loop-name : goal.invariant-loop-name

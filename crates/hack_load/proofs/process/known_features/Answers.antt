@@ -1,14 +1,12 @@
-use Rattle.std.proofs.Common.{◌≡◌, ◌++◌, ◌∷◌, [], ◌<◌, ◌≤◌, ◌∙◌, ap, sym, subst, cond, length, map, get_or, List, ℕ, Bor, String, Global, string_bytes}
+use Rattle.std.proofs.Common.{◌≡◌, ◌++◌, ◌∷◌, [], ◌<◌, ◌≤◌, not, ◌∙◌, ap, sym, subst, cond, length, map, get_or, List, ℕ, Bor, String, Global, string_bytes}
 use Rattle.std.specs.List.{filter}
 use Rattle.std.proofs.lemmas.List.{take_all}
 use Rattle.hack_features.specs.Names.{Name, names_of}
-use Rattle.hack_process.specs.CommandTexts.{appended}
-use Rattle.hack_process.specs.Commands.{command_of}
 use Rattle.hack_versions.specs.Notes.{note_of}
 use Rattle.hack_load.specs.ContextView.{context_view}
 use Rattle.hack_load.specs.GivenFeatures.{given, knows, left_out, name_at}
 use Rattle.hack_load.proofs.GivenLemmas.{known-more, unknown-more}
-use Rattle.hack_load.proofs.process.append_known.Goals as goal
+use Rattle.hack_load.proofs.process.known_features.Goals as goal
 
 pub loop-name-preserved : goal.loop-name-preserved
 loop-name-preserved c =
@@ -28,14 +26,22 @@ loop-name-preserved c =
       unknown-more (knows cx id) items i x lt is (left_out (name_at cx id)) notes more (subst (λ (t : Name). more ≡ notes ++ cond (knows cx id t) [] (left_out (name_at cx id) t ∷ [])) c.as_str.ensures.value c.in_ok-sort.ensures.unknown) c.loop-name.invariant.1,
     )
 
-pub returns-clause-ok : goal.returns-clause-ok
-returns-clause-ok c =
+pub returns-clause-names : goal.returns-clause-names
+returns-clause-names c =
     let cx = context_view c.args.cx.now in
     let id = c.args.id.index in
     let items = c.args.cx.now.args.features.items in
     let i = c.loop-name.name-index in
     let at : c.deref-name-items.result.now ≡ items = c.deref-name-items.ensures.value ∙ ap (λ a. a.features.items) c.args-2.ensures in
     let le : length items ≤ i = subst (λ (xs : List (String Global)). length xs ≤ i) at c.loop-name-test.false in
-    let e : map (λ (word : Bor (List ℕ)). word.now) c.deref.result.now ≡ filter (knows cx id) (given cx) =
-        ap (map (λ (word : Bor (List ℕ)). word.now)) c.deref.ensures.value ∙ c.loop-name.invariant.0 ∙ ap (λ (xs : List (String Global)). filter (knows cx id) (names_of xs)) (take_all i items le) in
-    c.in_ok-append_features.ensures.ok ∙ ap (λ names. record (command_of c.args.command.now) { features = appended (command_of c.args.command.now).features names }) e
+    c.loop-name.invariant.0 ∙ ap (λ (xs : List (String Global)). filter (knows cx id) (names_of xs)) (take_all i items le)
+
+pub returns-clause-notices : goal.returns-clause-notices
+returns-clause-notices c =
+    let cx = context_view c.args.cx.now in
+    let id = c.args.id.index in
+    let items = c.args.cx.now.args.features.items in
+    let i = c.loop-name.name-index in
+    let at : c.deref-name-items.result.now ≡ items = c.deref-name-items.ensures.value ∙ ap (λ a. a.features.items) c.args-2.ensures in
+    let le : length items ≤ i = subst (λ (xs : List (String Global)). length xs ≤ i) at c.loop-name-test.false in
+    c.loop-name.invariant.1 ∙ ap (λ (xs : List (String Global)). map (left_out (name_at cx id)) (filter (λ f. not (knows cx id f)) (names_of xs))) (take_all i items le)
