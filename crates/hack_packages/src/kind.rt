@@ -160,7 +160,7 @@ fn listed_sets(
     ensures covers { (features : Loaded)
         → groups_of candidates.now ≡ are_candidates (wishes args.now) (known pkg.now features)
         → IfOk result (λ sets. AreCovers (choice_of (wishes args.now) (known pkg.now features))
-        (length candidates.now) (sets_in sets)) }
+        (length (are_candidates (wishes args.now) (known pkg.now features))) (sets_in sets)) }
 {
     let lifted = lifted(alloc, args, pkg.name.as_str())?;
     let all = all_of(alloc, candidates)?;
@@ -192,7 +192,7 @@ fn sets_of(
         → groups_of candidates.now ≡ are_candidates (wishes args.now) (known pkg.now features)
         → args.now.feature_powerset ≡ true
         → IfOk result (λ sets. AreCovers (choice_of (wishes args.now) (known pkg.now features))
-        (length candidates.now) (sets_in sets)) }
+        (length (are_candidates (wishes args.now) (known pkg.now features))) (sets_in sets)) }
 {
     if args.feature_powerset {
         listed_sets(alloc, args, pkg, candidates)
