@@ -1,4 +1,12 @@
+pub mod Answers
 pub mod Candidates
+pub mod ContextOf
+pub mod ContextView
+pub mod Contexts
 pub mod Features
+pub mod GivenFeatures
+pub mod LeavesFew
+pub mod Loads
 pub mod Located
+pub mod Names
 pub mod RootFaults

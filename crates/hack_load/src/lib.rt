@@ -2,7 +2,17 @@
 //! that the call stands in.
 #![tactic(auto)]
 
+mod answers;
+pub mod cargo;
 pub mod context;
 mod fault;
 pub mod features;
+mod loaded;
 mod located;
+mod members;
+mod name;
+pub mod process;
+mod told;
+
+pub use hack_manifest::manifest;
+pub use hack_metadata::metadata;

@@ -4,12 +4,19 @@ ghost use Rattle.std.specs.Prelude.{◌≡◌, IfErr, IfOk, Some, None, map, opt
 ghost use Rattle.serde_json.specs.View.{members_view};
 ghost use Rattle.hack_load.specs.Located.{root_at, root_in, current_of, has_manifest};
 ghost use Rattle.hack_load.specs.RootFaults.{IsNotJson, IsRefusal};
+ghost use Rattle.hack_load.specs.Loads.{FailsLocate, IsOfProcess, locate};
+ghost use Rattle.hack_metadata.specs.Asks.{Reads};
 ghost use Rattle.hack_metadata.specs.View.{package_view, place_at};
 ghost use Rattle.hack_metadata.specs.Whole.{metadata_view};
 
+ghost use Rattle.hack_process.specs.CommandTexts.{text_of};
+ghost use Rattle.hack_process.specs.Commands.{command_of};
+
 use crate::fault::ContextFault;
 use hack_metadata::metadata::{Metadata, MetadataFault, Object, ObjectExt, PackageId, object_of};
-use std::alloc::Global;
+use hack_process::process::{Caller, ProcessBuilder, ProcessFault};
+use hack_words::cli::{Args, Env};
+use std::alloc::{AllocError, Global};
 
 /// What `cargo locate-project` answered.
 #[derive(Drop)]
@@ -21,6 +28,28 @@ pub struct Located {
 }
 
 impl Located {
+    /// Asks cargo where the call stands.
+    pub(crate) fn ask<C: Caller>(
+        alloc: Global,
+        args: &Args,
+        env: &Env,
+        caller: &mut C,
+    ) -> Result<Located, ContextFault>
+        ensures shown { IfOk result (λ l. string_bytes l.command ≡ text_of args.now.verbose
+            (string_bytes env.now.current_dir) (locate args.now env.now)) }
+        ensures ok { IfOk result (λ l. C.tells → Reads (locate args.now env.now)
+            (string_bytes l.text) (C.calls caller.old) (C.calls caller.new)) }
+        ensures err { IfErr result (FailsLocate C.tells (locate args.now env.now)
+            (string_bytes env.now.current_dir) (C.calls caller.old) (C.calls caller.new)) }
+    {
+        let asked = locate_command(alloc, args, env)?;
+        let command = asked.text(alloc, false, args.verbose, env.current_dir.as_str())?;
+        match asked.read(alloc, caller, env.current_dir.as_str()) {
+            Ok(text) => Ok(Located { command, text }),
+            Err(fault) => Err(of_process(fault)),
+        }
+    }
+
     /// The path of the manifest that was found.
     pub fn root(&self, alloc: Global) -> Result<String, ContextFault>
         ensures ok { IfOk result (λ root.
@@ -33,6 +62,35 @@ impl Located {
             Err(MetadataFault::Json) => Err(not_json(alloc, self.command.as_str())),
             Err(_) => Err(ContextFault::Memory),
         }
+    }
+}
+
+/// The command that asks it.
+fn locate_command<'a>(
+    alloc: Global,
+    args: &Args,
+    env: &Env,
+) -> Result<ProcessBuilder<'a>, AllocError>
+    ensures { IfOk result (λ asked. command_of asked ≡ locate args.now env.now) }
+{
+    let mut asked = ProcessBuilder::new(alloc, env.cargo.as_str())?;
+    asked.arg("locate-project")?;
+    match &args.manifest_path {
+        Some(path) => {
+            asked.arg("--manifest-path")?;
+            asked.arg(path.as_str())?;
+            Ok(asked)
+        }
+        None => Ok(asked),
+    }
+}
+
+fn of_process(fault: ProcessFault) -> ContextFault
+    ensures { IsOfProcess fault result }
+{
+    match fault {
+        ProcessFault::Memory => ContextFault::Memory,
+        fault => ContextFault::Process(fault),
     }
 }
 

@@ -13,7 +13,7 @@ ghost use Rattle.hack_packages.specs.Candidates.{candidates as are_candidates, c
 ghost use Rattle.hack_packages.specs.CandidatesView.{wishes, known};
 ghost use Rattle.hack_packages.specs.Kinds.{AreSets, AreRuns, options_of};
 ghost use Rattle.hack_packages.specs.Kinds.{takes_all as all_taken, names_at};
-ghost use Rattle.hack_packages.specs.Kinds.{AreCovering, choice_of};
+ghost use Rattle.hack_packages.specs.Kinds.{AreCovering, choice_of, IsDepthOne, as_each};
 ghost use Rattle.hack_packages.specs.KindsView.{IsKind, runs_of, candidates_in};
 
 use crate::candidates::{candidates, is_bare, notes_on};
@@ -276,6 +276,10 @@ pub fn determine_runs(
     ensures covered { IfOk result (λ answer. args.now.feature_powerset ≡ true
         → AreCovering (wishes args.now) (known pkg.now features.now) (runs_of answer.0.kind)) }
 
+    // Sets of one candidate give the runs of each feature, for a package with optional dependencies.
+    ensures depth_one { IfOk result (λ answer. IsDepthOne (wishes args.now)
+        → 0 < length (known pkg.now features.now).optional
+        → AreRuns (as_each (wishes args.now)) (known pkg.now features.now) (runs_of answer.0.kind)) }
     ensures notices { IfOk result (λ answer. map note_of answer.1.items
         ≡ candidate_notes single (wishes args.now) (known pkg.now features.now)) }
 {

@@ -1,0 +1,58 @@
+-- What calls of files leave, one after the other.
+use Rattle.std.proofs.Common.{◌≡◌, ◌⊎◌, inl, inr, ℕ, List, [], ◌∷◌, Some, Result, Ok, Err, refl, sym, ◌∙◌, arith}
+use Rattle.hack_features.specs.Names.{Name}
+use Rattle.hack_files.specs.Files.{Contents, GrowsBy, KeepsAll}
+use Rattle.hack_files.specs.Faults.{IsOfText}
+use Rattle.hack_files.specs.declared.fs.FsFault.{FsFault}
+use Rattle.hack_files.specs.declared.fs.FsFault.TheVariants as fs
+use Rattle.hack_metadata.specs.Left.{Whole, Spoilt, Spares}
+use Rattle.hack_metadata.specs.declared.ask_fault.AskFault.{AskFault}
+use Rattle.hack_load.specs.LeavesFew.{LeavesFew, MayFail, ReadsOnly}
+
+-- nothing is done yet
+pub nothing : (tells : Type 0) (a : Contents) (x : ℕ) → Whole tells a a x x
+nothing tells a x = (λ low. omega (arith, low), λ t q. refl)
+
+-- counts that grow behind one that stays
+pub count-more : (k x y z : ℕ) → GrowsBy 0 x y → GrowsBy k y z → GrowsBy k x z
+count-more k x y z f g = λ low. let first = f low in let second = g (omega (arith, first)) in omega (arith, first, second)
+
+pub whole-more : (tells : Type 0) (a b c : Contents) (x y z : ℕ) → Whole tells a b x y → Whole tells b c y z → Whole tells a c x z
+whole-more tells a b c x y z f g = (count-more 0 x y z f.0 g.0, λ t q. g.1 t q ∙ f.1 t q)
+
+pub may-more : (tells : Type 0) (a b c : Contents) (x y z : ℕ) → Whole tells a b x y → MayFail tells b c y z → MayFail tells a c x z
+may-more tells a b c x y z f (inl g) = inl (whole-more tells a b c x y z f g)
+may-more tells a b c x y z f (inr g) = inr (count-more 1 x y z f.0 g.0, λ t q. g.1 t q ∙ f.1 t q)
+
+-- ---- as many paths as calls that failed
+
+pub few-whole : (tells : Type 0) (a b : Contents) (x y : ℕ) → Whole tells a b x y → LeavesFew tells a b x y
+few-whole tells a b x y h = record { spoilt = []; failed = h.0; others = λ t q no. h.1 t q }
+
+pub few-spoilt : (path : Name) (tells : Type 0) (a b : Contents) (x y : ℕ) → Spoilt path tells a b x y → LeavesFew tells a b x y
+few-spoilt path tells a b x y h = record { spoilt = path ∷ []; failed = h.0; others = λ t q no. h.1 t q (λ is. no (0, omega arith, sym is)) }
+
+-- what a question for metadata leaves
+pub few-spares : {X : Type 0} (path : Name) (tells : Type 0) (a b : Contents) (x y : ℕ) (r : Result X AskFault) → Spares path tells a b x y r → LeavesFew tells a b x y
+few-spares path tells a b x y (Ok v) h = few-whole tells a b x y h
+few-spares path tells a b x y (Err e) (inl h) = few-whole tells a b x y h
+few-spares path tells a b x y (Err e) (inr h) = few-spoilt path tells a b x y h
+
+few-may : (tells : Type 0) (a b : Contents) (x y : ℕ) → MayFail tells a b x y → LeavesFew tells a b x y
+few-may tells a b x y (inl h) = few-whole tells a b x y h
+few-may tells a b x y (inr h) = few-spoilt [] tells a b x y (h.0, λ t q ne. h.1 t q)
+
+-- files that are read behind a question that left nothing
+pub few-reads : {X E : Type 0} (tells : Type 0) (a b c : Contents) (x y z : ℕ) (r : Result X E) → Whole tells a b x y → ReadsOnly tells b c y z r → LeavesFew tells a c x z
+few-reads tells a b c x y z (Ok v) f g = few-whole tells a c x z (whole-more tells a b c x y z f g)
+few-reads tells a b c x y z (Err e) f g = few-may tells a c x z (may-more tells a b c x y z f g)
+
+-- ---- one file that is read
+
+-- a file that can't be read
+pub text-may : (path : Name) (tells : Type 0) (a b : Contents) (x y : ℕ) (e : FsFault) → (tells → KeepsAll a b) → IsOfText path tells (a path) x y e → MayFail tells a b x y
+text-may path tells a b x y (fs.Read p) keep h = inr (h.1, keep)
+text-may path tells a b x y (fs.Write p) keep h = absurd h
+text-may path tells a b x y (fs.NotText p) keep h = inl (h.1, keep)
+text-may path tells a b x y fs.Memory keep (inl h) = inl (h, keep)
+text-may path tells a b x y fs.Memory keep (inr h) = inr (h, keep)

@@ -1,0 +1,14 @@
+use Rattle.std.proofs.Common.{take, map}
+use Rattle.std.specs.List.{AllZip}
+use Rattle.hack_metadata.specs.Left.{Whole}
+use Rattle.hack_metadata.specs.View.{place_at}
+use Rattle.hack_metadata.specs.Whole.{metadata_view}
+use Rattle.hack_load.specs.Loads.{IsOfMember}
+use Rattle.hack_load.proofs.members.manifests_of.Given as goal
+
+-- the members so far have their manifests, and nothing else happened to the files
+abbrev pub invariant-loop-id : goal.invariant-loop-id
+invariant-loop-id g l =
+    g.F.Files.stays l.fn.files l.files
+    × Whole g.F.Files.tells (g.F.Files.bytes_at l.fn.files) (g.F.Files.bytes_at l.files) (g.F.Files.failed l.fn.files) (g.F.Files.failed l.files)
+    × AllZip (IsOfMember g.F.Files.tells (g.F.Files.bytes_at l.fn.files) (metadata_view l.metadata)) (map place_at (take l.id-index l.metadata.workspace_members.items)) l.found.items

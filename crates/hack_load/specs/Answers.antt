@@ -1,0 +1,77 @@
+-- What came of all that is asked for a call.
+use Rattle.std.specs.Prelude.{◌≡◌, ◌⊎◌, ℕ, true, List, Option, Result, Ok, Err, string_bytes}
+use Rattle.std.proofs.Common.{Global, String}
+use Rattle.hack_features.specs.Names.{Name}
+use Rattle.hack_files.specs.Files.{Contents}
+use Rattle.hack_process.specs.Calls.{Call, MayAdd}
+use Rattle.hack_process.specs.Commands.{asked_of}
+use Rattle.hack_metadata.specs.Asks.{Ends}
+use Rattle.hack_metadata.specs.Requests.{question}
+use Rattle.hack_metadata.specs.Whole.{metadata_view}
+use Rattle.hack_metadata.specs.declared.ask_fault.AskFault.{AskFault}
+use Rattle.hack_metadata.specs.declared.ask_fault.AskFault.TheVariants as ask
+use Rattle.hack_metadata.specs.declared.metadata.Metadata.{Metadata}
+use Rattle.hack_manifest.specs.declared.manifest.Manifest.{Manifest}
+use Rattle.hack_words.specs.declared.cli.args.Args.{Args}
+use Rattle.hack_words.specs.declared.cli.env.Env.{Env}
+use Rattle.hack_load.specs.Loads.{AreOfMembers, IsMemberFault, IsLocated, FailsLocate, IsSelf, locate, self_command, minor_told, told_version}
+use Rattle.hack_load.specs.declared.fault.ContextFault.{ContextFault}
+use Rattle.hack_load.specs.declared.fault.ContextFault.TheVariants as faults
+use Rattle.hack_load.specs.declared.loaded.Loaded.{Loaded}
+use Rattle.hack_load.specs.declared.answers.Answers.{Answers}
+
+-- what was loaded names cargo and the folder of the call, and has the manifests of the members
+pub record IsLoaded (tells : Type 0) (held : Contents) (env : Env) (l : Loaded) : Type 0 where
+  pub cargo : string_bytes l.cargo ≡ string_bytes env.cargo
+  pub folder : string_bytes l.current_dir ≡ string_bytes env.current_dir
+  pub manifests : AreOfMembers tells held (metadata_view l.metadata) l.manifests.items
+
+-- a fault of the question for metadata
+abbrev pub IsAskFault : AskFault → ContextFault → Type 0
+IsAskFault ask.Memory e = e ≡ faults.Memory
+IsAskFault ask.NoHost e = e ≡ faults.Asked ask.NoHost
+IsAskFault (ask.Process p) e = e ≡ faults.Asked (ask.Process p)
+IsAskFault (ask.Files f) e = e ≡ faults.Asked (ask.Files f)
+IsAskFault (ask.Output text) e = e ≡ faults.Asked (ask.Output text)
+IsAskFault (ask.Field name) e = e ≡ faults.Asked (ask.Field name)
+
+-- `held` is what the files held before, and so many of their calls had failed before and behind
+module _ (args : Args) (env : Env) (held : Contents) (before now : ℕ) where
+  -- behind the metadata the manifests were read, and cargo told where the call stands; or a fault ended it
+  abbrev pub Follows : Metadata → List Call → List Call → Result Loaded ContextFault → Type 0
+  Follows m mid new (Ok l) = (l.metadata ≡ m) × IsLocated args env mid new l.located
+  Follows m mid new (Err e) = ((new ≡ mid) × IsMemberFault (Unit {0}) held (metadata_view m) before now e)
+      ⊎ ((xs : List Manifest) × AreOfMembers (Unit {0}) held (metadata_view m) xs
+      × FailsLocate (Unit {0}) (locate args env) (string_bytes env.current_dir) mid new e)
+
+  -- the question for metadata ended in a fault, and nothing followed it
+  pub record HasNone (minor : ℕ) (host : Option Name) (old new : List Call) (r : Result Loaded ContextFault) : Type 0 where
+    pub asked : AskFault
+    pub fault : ContextFault
+    pub ends : Ends (question args env minor host) held old new (Err asked)
+    pub of : IsAskFault asked fault
+    pub is : r ≡ Err fault
+
+  -- it was answered, and the other questions followed
+  pub record HasSome (minor : ℕ) (host : Option Name) (old new : List Call) (r : Result Loaded ContextFault) : Type 0 where
+    pub metadata : Metadata
+    pub mid : List Call
+    pub ends : Ends (question args env minor host) held old mid (Ok metadata)
+    pub follows : Follows metadata mid new r
+
+  -- the questions behind that on the version
+  abbrev pub LoadsTo : ℕ → Option Name → List Call → List Call → Result Loaded ContextFault → Type 0
+  LoadsTo minor host old new r = HasNone minor host old new r ⊎ HasSome minor host old new r
+
+-- the questions of a call in their order, with what came of each; none follows one that ended them
+pub record AreAsked (args : Args) (env : Env) (held : Contents) (before now : ℕ) (old new : List Call) (a : Answers) : Type 0 where
+  pub host : Option Name
+  pub mid : List Call
+  pub own : IsSelf args env (told_version a.cargo_version) host old mid
+  pub loads : LoadsTo args env held before now (minor_told (told_version a.cargo_version)) host mid new a.loaded
+
+-- the same; or memory ran out at the first question
+abbrev pub AreAnswers : Args → Env → Contents → ℕ → ℕ → List Call → List Call → Answers → Type 0
+AreAnswers args env held before now old new a =
+    AreAsked args env held before now old new a
+    ⊎ ((a.loaded ≡ Err faults.Memory) × MayAdd (asked_of true (self_command (string_bytes env.cargo))) old new)

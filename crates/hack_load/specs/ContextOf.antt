@@ -1,0 +1,87 @@
+-- The context that answers make, and why they make none.
+use Rattle.std.specs.Prelude.{◌≡◌, ◌≢◌, ◌⊎◌, ◌<◌, ◌∷◌, [], ℕ, Bool, true, List, Some, None, Result, Ok, Err, Contains, map, string_bytes}
+use Rattle.std.proofs.Common.{Global, String}
+use Rattle.hack_features.specs.Names.{Name}
+use Rattle.hack_features.specs.FeatureMap.{feature_map}
+use Rattle.hack_versions.specs.Notes.{Note}
+use Rattle.hack_versions.specs.declared.notice.NoticeKind.TheVariants.{Warn}
+use Rattle.hack_metadata.specs.Fields.{object_in_text}
+use Rattle.hack_metadata.specs.Records.{MetadataRecord}
+use Rattle.hack_metadata.specs.Whole.{metadata_view}
+use Rattle.hack_metadata.specs.declared.fault.MetadataFault.{MetadataFault}
+use Rattle.hack_metadata.specs.declared.fault.MetadataFault.TheVariants as metadata
+use Rattle.hack_manifest.specs.declared.manifest.Manifest.{Manifest}
+use Rattle.hack_words.specs.declared.cli.args.Args.{Args}
+use Rattle.hack_load.specs.Candidates.{MissesNode}
+use Rattle.hack_load.specs.Contexts.{ContextRecord}
+use Rattle.hack_load.specs.Features.{AreCandidates, IsRefusal}
+use Rattle.hack_load.specs.Loads.{minor_told, told_version}
+use Rattle.hack_load.specs.Located.{root_in, current_of}
+use Rattle.hack_load.specs.RootFaults.{LacksRoot}
+use Rattle.hack_load.specs.declared.answers.Answers.{Answers}
+use Rattle.hack_load.specs.declared.fault.ContextFault.{ContextFault}
+use Rattle.hack_load.specs.declared.fault.ContextFault.TheVariants as faults
+use Rattle.hack_load.specs.declared.features.Features.{Features}
+use Rattle.hack_load.specs.declared.loaded.Loaded.{Loaded}
+
+-- the candidates of each member, by its manifest
+abbrev pub AreFeatures : MetadataRecord → Bool → List ℕ → List Manifest → List Features → Type 0
+AreFeatures m asked [] [] [] = Unit {0}
+AreFeatures m asked (id ∷ ids) (x ∷ xs) (f ∷ fs) = AreCandidates m (feature_map x.features) id asked f × AreFeatures m asked ids xs fs
+AreFeatures m asked ids xs fs = ⊥
+
+-- the call stands in the first member whose manifest was told
+pub record IsCurrent (l : Loaded) (cx : ContextRecord) : Type 0 where
+  pub root : Name
+  pub told : root_in (string_bytes l.located.text) ≡ Some root
+  pub is : cx.current_package ≡ current_of (metadata_view l.metadata) root
+
+-- the context has what was loaded for these arguments, and cargo's own minor version
+pub record IsContextOf (given : Args) (minor : ℕ) (l : Loaded) (cx : ContextRecord) : Type 0 where
+  pub args : cx.args ≡ given
+  pub metadata : cx.metadata ≡ metadata_view l.metadata
+  pub manifests : cx.manifests ≡ l.manifests.items
+  pub features : AreFeatures (metadata_view l.metadata) given.include_deps_features (metadata_view l.metadata).workspace_members l.manifests.items cx.features
+  pub cargo : cx.cargo ≡ string_bytes l.cargo
+  pub cargo_version : cx.cargo_version ≡ minor
+  pub current_dir : cx.current_dir ≡ string_bytes l.current_dir
+  pub current_package : IsCurrent l cx
+
+-- nothing ended the questions, and the context has what they loaded
+abbrev pub IsContextFrom : Args → Answers → ContextRecord → Type 0
+IsContextFrom args a cx = (l : Loaded) × (a.loaded ≡ Ok l) × IsContextOf args (minor_told (told_version a.cargo_version)) l cx
+
+-- the node of some member is missing, and the fault names that
+abbrev pub IsNodeFault : MetadataRecord → Bool → MetadataFault → Type 0
+IsNodeFault m asked e = (e ≢ metadata.Memory) × ((id : ℕ) × Contains m.workspace_members id × IsRefusal m id asked e)
+
+-- a fault of the candidates
+abbrev pub IsOfNode : MetadataFault → ContextFault → Type 0
+IsOfNode metadata.Memory e = e ≡ faults.Memory
+IsOfNode (metadata.Field name) e = e ≡ faults.Metadata (metadata.Field name)
+IsOfNode metadata.Json e = e ≡ faults.Metadata metadata.Json
+
+-- cargo can't tell which dependencies are normal ones, and that is asked
+abbrev pub IsTooOld : Bool → ℕ → Type 0
+IsTooOld asked minor = (asked ≡ true) × (minor < 41)
+
+-- why what was loaded makes no context
+abbrev pub IsLoadCause : Args → Loaded → ContextFault → Type 0
+IsLoadCause args l faults.OldCargo = IsTooOld args.include_deps_features l.metadata.cargo_version
+IsLoadCause args l (faults.Metadata e) = IsNodeFault (metadata_view l.metadata) args.include_deps_features e
+IsLoadCause args l (faults.NotJson shown) = (string_bytes shown ≡ string_bytes l.located.command) × (object_in_text (string_bytes l.located.text) ≡ None)
+IsLoadCause args l faults.Root = LacksRoot (string_bytes l.located.text)
+IsLoadCause args l faults.Memory = ⊥
+IsLoadCause args l (faults.Asked e) = ⊥
+IsLoadCause args l (faults.Files e) = ⊥
+IsLoadCause args l (faults.Manifest e) = ⊥
+IsLoadCause args l (faults.Process e) = ⊥
+
+-- why answers make no context: a fault ended the questions, or what they loaded makes none
+abbrev pub IsCause : Args → Answers → ContextFault → Type 0
+IsCause args a e = (a.loaded ≡ Err e) ⊎ ((l : Loaded) × (a.loaded ≡ Ok l) × IsLoadCause args l e)
+
+-- the warning that cargo's version can't be told
+abbrev pub warnings_of : Result ℕ Name → List Note
+warnings_of (Ok minor) = []
+warnings_of (Err warning) = record { kind = Warn; text = warning } ∷ []

@@ -1,0 +1,35 @@
+-- The features that a call gives to each command.
+use Rattle.std.specs.Prelude.{◌++◌, [], ℕ, Bool, false, not, List, Option, Some, None, codes, filter, map, option_map, unwrap_or, if◌then◌else◌}
+use Rattle.std.specs.List.{list_any}
+use Rattle.std.specs.Str.{bytes_eq}
+use Rattle.hack_features.specs.Names.{Name, names_of}
+use Rattle.hack_versions.specs.Notes.{Note}
+use Rattle.hack_versions.specs.declared.notice.NoticeKind.TheVariants.{Info}
+use Rattle.hack_load.specs.Contexts.{ContextRecord, package_at, features_at}
+use Rattle.hack_load.specs.Features.{texts_in}
+
+-- a member has a feature of this name
+abbrev pub knows : ContextRecord → ℕ → Name → Bool
+knows cx id name = unwrap_or (option_map (λ fs. list_any (bytes_eq name) (texts_in fs)) (features_at cx id)) false
+
+-- the name of a package
+abbrev pub name_at : ContextRecord → ℕ → Name
+name_at cx id = unwrap_or (option_map (λ p. p.name) (package_at cx id)) (codes "")
+
+-- the features of `--features`
+abbrev pub given : ContextRecord → List Name
+given cx = names_of cx.args.features.items
+
+-- those that a command gets: unknown ones may be left out, where it is for a package
+abbrev pub passed_for : ContextRecord → Option ℕ → List Name
+passed_for cx None = given cx
+passed_for cx (Some id) = if cx.args.ignore_unknown_features then filter (knows cx id) (given cx) else given cx
+
+-- a feature is left out
+abbrev pub left_out : Name → Name → Note
+left_out of name = record { kind = Info; text = codes "skipped applying unknown `" ++ (name ++ (codes "` feature to " ++ of)) }
+
+-- the notices on those that are left out
+abbrev pub left_out_for : ContextRecord → Option ℕ → List Note
+left_out_for cx None = []
+left_out_for cx (Some id) = if cx.args.ignore_unknown_features then map (left_out (name_at cx id)) (filter (λ f. not (knows cx id f)) (given cx)) else []

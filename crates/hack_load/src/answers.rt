@@ -1,0 +1,151 @@
+//! The questions of a call, before its context is put together: cargo's version, the metadata of
+//! the workspace, the manifests of its members, and where the call stands.
+
+ghost use Rattle.std.specs.Prelude.{◌≡◌, Err, IfOk, OnOk, option_copied};
+ghost use Rattle.hack_files.specs.Restore.{registered};
+ghost use Rattle.hack_load.specs.Answers.{AreAnswers, Follows, IsAskFault, IsLoaded, LoadsTo};
+ghost use Rattle.hack_load.specs.LeavesFew.{LeavesFew, ReadsOnly};
+ghost use Rattle.hack_metadata.specs.Left.{Whole};
+
+use crate::fault::ContextFault;
+pub use crate::loaded::Loaded;
+use crate::located::Located;
+use crate::members::manifests_of;
+use crate::told::{Told, minor_of};
+use hack_files::fs::Files;
+use hack_files::restore::Manager;
+use hack_metadata::metadata::{AskFault, Metadata};
+use hack_process::process::Caller;
+use hack_words::cli::{Args, Env};
+use std::alloc::{AllocError, Global};
+
+/// What came of the questions of a call.
+#[derive(Drop)]
+pub struct Answers {
+    /// Cargo's own minor version, or the warning that it can't be told.
+    pub cargo_version: Result<u32, String>,
+    /// The rest, or the fault that ended the questions.
+    pub loaded: Result<Loaded, ContextFault>,
+}
+
+impl Answers {
+    /// Asks cargo for its version, has it or stable's cargo tell the metadata, reads the manifest of
+    /// each member, and asks cargo where the call stands. A fault but that of the version ends the
+    /// questions, and so does want of memory.
+    pub fn ask<C: Caller, F: Files>(
+        alloc: Global,
+        args: &Args,
+        env: &Env,
+        caller: &mut C,
+        files: &mut F,
+        manager: &mut Manager,
+    ) -> Answers
+        ensures stays { F.stays files.old files.new }
+        ensures left { LeavesFew F.tells (F.bytes_at files.old) (F.bytes_at files.new)
+            (F.failed files.old) (F.failed files.new) }
+        ensures whole { OnOk result.loaded (Whole F.tells (F.bytes_at files.old)
+            (F.bytes_at files.new) (F.failed files.old) (F.failed files.new)) }
+        ensures kept { registered manager.new ≡ registered manager.old }
+        ensures needs { manager.new.needs_restore ≡ manager.old.needs_restore }
+        ensures read { IfOk result.loaded (IsLoaded F.tells (F.bytes_at files.new) env.now) }
+        ensures asked { C.tells → F.tells → AreAnswers args.now env.now (F.bytes_at files.old)
+            (F.failed files.old) (F.failed files.new) (C.calls caller.old) (C.calls caller.new)
+            result }
+    {
+        let told = match Told::ask(alloc, args, env, caller) {
+            Ok(told) => told,
+            Err(AllocError) => return out_of_memory(),
+        };
+        let minor = minor_of(&told.version);
+        let host = told.host.as_deref();
+        let loaded = load(alloc, args, env, minor, host, caller, files, manager);
+        Answers {
+            cargo_version: told.version,
+            loaded,
+        }
+    }
+}
+
+/// Memory ran out before anything was told.
+fn out_of_memory() -> Answers
+    ensures { result.loaded ≡ Err ContextFault.Memory }
+{
+    Answers {
+        cargo_version: Ok(0),
+        loaded: Err(ContextFault::Memory),
+    }
+}
+
+/// Asks for the rest, where cargo has this minor version and this host.
+fn load<C: Caller, F: Files>(
+    alloc: Global,
+    args: &Args,
+    env: &Env,
+    minor: u32,
+    host: Option<&str>,
+    caller: &mut C,
+    files: &mut F,
+    manager: &mut Manager,
+) -> Result<Loaded, ContextFault>
+    ensures stays { F.stays files.old files.new }
+    ensures left { LeavesFew F.tells (F.bytes_at files.old) (F.bytes_at files.new)
+        (F.failed files.old) (F.failed files.new) }
+    ensures whole { OnOk result (Whole F.tells (F.bytes_at files.old)
+        (F.bytes_at files.new) (F.failed files.old) (F.failed files.new)) }
+    ensures kept { registered manager.new ≡ registered manager.old }
+    ensures needs { manager.new.needs_restore ≡ manager.old.needs_restore }
+    ensures read { IfOk result (IsLoaded F.tells (F.bytes_at files.new) env.now) }
+    ensures asked { C.tells → F.tells → LoadsTo args.now env.now (F.bytes_at files.old)
+        (F.failed files.old) (F.failed files.new) minor (option_copied host.entry)
+        (C.calls caller.old) (C.calls caller.new) result }
+{
+    match Metadata::new(alloc, args, env, minor, host, caller, files, manager) {
+        Ok(metadata) => load_behind(alloc, args, env, metadata, caller, files),
+        Err(fault) => Err(of_question(fault)),
+    }
+}
+
+/// Asks for the rest, where these are the metadata.
+fn load_behind<C: Caller, F: Files>(
+    alloc: Global,
+    args: &Args,
+    env: &Env,
+    metadata: Metadata,
+    caller: &mut C,
+    files: &mut F,
+) -> Result<Loaded, ContextFault>
+    ensures stays { F.stays files.old files.new }
+    ensures left { ReadsOnly F.tells (F.bytes_at files.old) (F.bytes_at files.new)
+        (F.failed files.old) (F.failed files.new) result }
+    ensures read { IfOk result (IsLoaded F.tells (F.bytes_at files.old) env.now) }
+    ensures asked { C.tells → F.tells → Follows args.now env.now (F.bytes_at files.old)
+        (F.failed files.old) (F.failed files.new) metadata
+        (C.calls caller.old) (C.calls caller.new) result }
+{
+    let manifests = match manifests_of(alloc, &metadata, files) {
+        Ok(manifests) => manifests,
+        Err(fault) => return Err(fault),
+    };
+    let located = match Located::ask(alloc, args, env, caller) {
+        Ok(located) => located,
+        Err(fault) => return Err(fault),
+    };
+    let cargo = env.cargo.clone()?;
+    let current_dir = env.current_dir.clone()?;
+    Ok(Loaded {
+        cargo,
+        current_dir,
+        metadata,
+        manifests,
+        located,
+    })
+}
+
+fn of_question(fault: AskFault) -> ContextFault
+    ensures { IsAskFault fault result }
+{
+    match fault {
+        AskFault::Memory => ContextFault::Memory,
+        fault => ContextFault::Asked(fault),
+    }
+}

@@ -1,0 +1,149 @@
+//! What cargo tells of itself: its minor version and its host, by `cargo -vV`.
+
+ghost use Rattle.std.specs.Prelude.{◌≡◌, IfOk, OnErr, option_map, option_copied, string_bytes, true};
+ghost use Rattle.hack_process.specs.Calls.{MayAdd};
+ghost use Rattle.hack_process.specs.CommandTexts.{text_of};
+ghost use Rattle.hack_process.specs.Commands.{asked_of, command_of};
+ghost use Rattle.hack_load.specs.Loads.{FailsSelf, IsSelf, TellsSelf, TellsVersion, self_command};
+ghost use Rattle.hack_load.specs.Loads.{minor_told, told_version, unknown_version};
+ghost use Rattle.hack_versions.specs.ToolTexts.{answer_fault_text};
+
+use hack_process::cargo::{host, version};
+use hack_process::process::{Caller, ProcessBuilder, ProcessFault};
+use hack_versions::rustup::{AnswerFault, VersionTextFault};
+use hack_words::cli::{Args, Env};
+use std::alloc::{AllocError, Global};
+
+/// What cargo tells of itself.
+#[derive(Drop)]
+pub(crate) struct Told {
+    /// Its minor version, or the warning that it can't be told.
+    pub version: Result<u32, String>,
+    /// The target that it was built for.
+    pub host: Option<String>,
+}
+
+impl Told {
+    /// Asks cargo.
+    pub fn ask<C: Caller>(
+        alloc: Global,
+        args: &Args,
+        env: &Env,
+        caller: &mut C,
+    ) -> Result<Told, AllocError>
+        ensures ok { IfOk result (λ t. C.tells → IsSelf args.now env.now (told_version t.version)
+            (option_map string_bytes t.host) (C.calls caller.old) (C.calls caller.new)) }
+        ensures err { OnErr result (C.tells → MayAdd
+            (asked_of true (self_command (string_bytes env.now.cargo)))
+            (C.calls caller.old) (C.calls caller.new)) }
+    {
+        let asked = self_command(alloc, env)?;
+        match asked.read(alloc, caller, env.current_dir.as_str()) {
+            Ok(text) => Told::of(alloc, text.as_str(), &asked, args, env),
+            Err(fault) => Told::failed(alloc, fault),
+        }
+    }
+
+    /// What an answer to the command tells.
+    fn of(
+        alloc: Global,
+        answer: &str,
+        asked: &ProcessBuilder<'_>,
+        args: &Args,
+        env: &Env,
+    ) -> Result<Told, AllocError>
+        ensures { IfOk result (λ t. TellsSelf (text_of args.now.verbose
+            (string_bytes env.now.current_dir) (command_of asked.now)) answer.now
+            (told_version t.version) (option_map string_bytes t.host)) }
+    {
+        let version = version_in(alloc, answer, asked, args, env)?;
+        let host = owned(alloc, host(answer))?;
+        Ok(Told { version, host })
+    }
+
+    /// What is known where the command failed.
+    fn failed(alloc: Global, fault: ProcessFault) -> Result<Told, AllocError>
+        ensures { IfOk result (λ t.
+            FailsSelf fault (told_version t.version) (option_map string_bytes t.host)) }
+    {
+        match fault {
+            ProcessFault::Memory => Err(AllocError),
+            fault => {
+                let warning = format!(in alloc; "unable to determine cargo version: {fault}")?;
+                Ok(Told {
+                    version: Err(warning),
+                    host: None,
+                })
+            }
+        }
+    }
+}
+
+/// The version, or 0 where it isn't known.
+pub(crate) fn minor_of(version: &Result<u32, String>) -> u32
+    ensures { result ≡ minor_told (told_version version.now) }
+{
+    match version {
+        Ok(minor) => *minor,
+        Err(_) => 0,
+    }
+}
+
+fn self_command<'a>(alloc: Global, env: &Env) -> Result<ProcessBuilder<'a>, AllocError>
+    ensures { IfOk result (λ asked.
+        command_of asked ≡ self_command (string_bytes env.now.cargo)) }
+{
+    let mut asked = ProcessBuilder::new(alloc, env.cargo.as_str())?;
+    asked.arg("-vV")?;
+    Ok(asked)
+}
+
+fn owned(alloc: Global, text: Option<&str>) -> Result<Option<String>, AllocError>
+    ensures { IfOk result (λ copy. option_map string_bytes copy ≡ option_copied text.entry) }
+{
+    match text {
+        Some(text) => Ok(Some(String::from_str(alloc, text)?)),
+        None => Ok(None),
+    }
+}
+
+/// The minor version in an answer, or the warning that it tells none.
+fn version_in(
+    alloc: Global,
+    answer: &str,
+    asked: &ProcessBuilder<'_>,
+    args: &Args,
+    env: &Env,
+) -> Result<Result<u32, String>, AllocError>
+    ensures { IfOk result (λ v. TellsVersion (text_of args.now.verbose
+        (string_bytes env.now.current_dir) (command_of asked.now)) answer.now (told_version v)) }
+{
+    match version(alloc, answer) {
+        Ok(version) => Ok(Ok(version.minor)),
+        Err(VersionTextFault::Memory) => Err(AllocError),
+        Err(fault) => Ok(Err(warning_of(alloc, &fault, asked, args, env)?)),
+    }
+}
+
+/// The warning that an answer tells no version.
+fn warning_of(
+    alloc: Global,
+    fault: &VersionTextFault,
+    asked: &ProcessBuilder<'_>,
+    args: &Args,
+    env: &Env,
+) -> Result<String, AllocError>
+    ensures { IfOk result (λ text. string_bytes text ≡ unknown_version (answer_fault_text
+        (text_of args.now.verbose (string_bytes env.now.current_dir) (command_of asked.now))
+        fault.now)) }
+{
+    let command = asked.text(alloc, false, args.verbose, env.current_dir.as_str())?;
+    unknown(alloc, fault.of(command.as_str()))
+}
+
+fn unknown(alloc: Global, fault: AnswerFault<'_>) -> Result<String, AllocError>
+    ensures { IfOk result (λ text. string_bytes text ≡ unknown_version
+        (answer_fault_text fault.entry.command.now fault.entry.fault.now)) }
+{
+    format!(in alloc; "unable to determine cargo version: {fault}")
+}
