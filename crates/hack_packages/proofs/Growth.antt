@@ -1,13 +1,14 @@
 -- What loops have collected so far, one item more.
-use Rattle.std.proofs.Common.{◌≡◌, ◌∙◌, ℕ, suc, ◌+◌, ◌<◌, ◌≤◌, List, [], ◌∷◌, ◌++◌, length, get_or, map, take, drop, Contains, inl, inr, Bool, true, false, cond, not, refl, sym, ap, subst, arith}
+use Rattle.std.proofs.Common.{◌≡◌, ◌∙◌, ℕ, suc, ◌+◌, ◌<◌, ◌≤◌, List, [], ◌∷◌, ◌++◌, length, get_or, map, take, drop, Contains, Option, Some, inl, inr, Bool, true, false, cond, not, refl, sym, ap, subst, arith}
 use Rattle.std.specs.Prelude.{filter}
+use Rattle.std.specs.List.{filter_map}
 use Rattle.std.proofs.lemmas.List.{length-map, map-append, take_all, take-append-drop, get_or-map}
 use Rattle.std.proofs.Math.Seq.{drop-cons}
-use Rattle.std.proofs.lemmas.List.Elements.{filter-append, Contains-push_cases}
+use Rattle.std.proofs.lemmas.List.Elements.{filter-append, filter_map-append, Contains-push_cases}
 use Rattle.hack_versions.specs.Notes.{Note}
 use Rattle.hack_versions.specs.declared.notice.NoticeKind.{NoticeKind}
 use Rattle.hack_words.specs.Call.{note_if}
-use Rattle.hack_features.proofs.Steps.{seen-next, seen_here}
+use Rattle.hack_features.proofs.Steps.{seen-next, seen_here, filter_map-found}
 use Rattle.hack_packages.specs.Members.{Collects, ends, taken, left}
 
 -- the items, where the test is true
@@ -121,3 +122,13 @@ map-next f v xs k x old new lt is grown so_far =
     ∙ ap (λ t. t ++ f (v x) ∷ []) so_far
     ∙ sym (map-append f (take k (map v xs)) (v x ∷ []))
     ∙ ap (map f) (sym (seen-next v xs k x lt is))
+
+-- what f gives of the items so far, one item more
+pub filter_map-next : {X Y Z : Type 0} (f : Y → Option Z) (v : X → Y) (xs : List X) (k : ℕ) (x : X) (y : Z) (old new : List Z) → k < length xs → x ≡ get_or xs k x → f (v x) ≡ Some y
+    → new ≡ old ++ y ∷ [] → old ≡ filter_map f (take k (map v xs)) → new ≡ filter_map f (take (k + 1) (map v xs))
+filter_map-next f v xs k x y old new lt is found grown so_far =
+    grown
+    ∙ ap (λ t. t ++ y ∷ []) so_far
+    ∙ ap (λ t. filter_map f (take k (map v xs)) ++ t) (sym (filter_map-found f (v x) y found))
+    ∙ sym (filter_map-append f (take k (map v xs)) (v x ∷ []))
+    ∙ ap (filter_map f) (sym (seen-next v xs k x lt is))

@@ -2,3 +2,4 @@ pub mod Growth
 pub mod CandidateLemmas
 pub mod KindLemmas
 pub mod PackageLemmas
+pub mod DepthLemmas

@@ -7,3 +7,4 @@ pub mod Candidates
 pub mod CandidatesView
 pub mod Kinds
 pub mod KindsView
+pub mod ContextMembers

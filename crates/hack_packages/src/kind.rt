@@ -13,7 +13,7 @@ ghost use Rattle.hack_packages.specs.Candidates.{candidates as are_candidates, c
 ghost use Rattle.hack_packages.specs.CandidatesView.{wishes, known};
 ghost use Rattle.hack_packages.specs.Kinds.{AreSets, AreRuns, options_of};
 ghost use Rattle.hack_packages.specs.Kinds.{takes_all as all_taken, names_at};
-ghost use Rattle.hack_packages.specs.Kinds.{AreCovering, choice_of};
+ghost use Rattle.hack_packages.specs.Kinds.{AreCovering, choice_of, IsDepthOne, as_each};
 ghost use Rattle.hack_packages.specs.KindsView.{IsKind, runs_of, candidates_in};
 
 use crate::candidates::{candidates, is_bare, notes_on};
@@ -160,7 +160,7 @@ fn listed_sets(
     ensures covers { (features : Loaded)
         → groups_of candidates.now ≡ are_candidates (wishes args.now) (known pkg.now features)
         → IfOk result (λ sets. AreCovers (choice_of (wishes args.now) (known pkg.now features))
-        (length candidates.now) (sets_in sets)) }
+        (length (are_candidates (wishes args.now) (known pkg.now features))) (sets_in sets)) }
 {
     let lifted = lifted(alloc, args, pkg.name.as_str())?;
     let all = all_of(alloc, candidates)?;
@@ -192,7 +192,7 @@ fn sets_of(
         → groups_of candidates.now ≡ are_candidates (wishes args.now) (known pkg.now features)
         → args.now.feature_powerset ≡ true
         → IfOk result (λ sets. AreCovers (choice_of (wishes args.now) (known pkg.now features))
-        (length candidates.now) (sets_in sets)) }
+        (length (are_candidates (wishes args.now) (known pkg.now features))) (sets_in sets)) }
 {
     if args.feature_powerset {
         listed_sets(alloc, args, pkg, candidates)
@@ -276,6 +276,10 @@ pub fn determine_runs(
     ensures covered { IfOk result (λ answer. args.now.feature_powerset ≡ true
         → AreCovering (wishes args.now) (known pkg.now features.now) (runs_of answer.0.kind)) }
 
+    // Sets of one candidate give the runs of each feature, for a package with optional dependencies.
+    ensures depth_one { IfOk result (λ answer. IsDepthOne (wishes args.now)
+        → 0 < length (known pkg.now features.now).optional
+        → AreRuns (as_each (wishes args.now)) (known pkg.now features.now) (runs_of answer.0.kind)) }
     ensures notices { IfOk result (λ answer. map note_of answer.1.items
         ≡ candidate_notes single (wishes args.now) (known pkg.now features.now)) }
 {

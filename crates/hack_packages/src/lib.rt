@@ -2,6 +2,7 @@
 #![tactic(auto)]
 
 mod candidates;
+pub mod determine;
 pub mod fault;
 pub mod kind;
 mod lifts;

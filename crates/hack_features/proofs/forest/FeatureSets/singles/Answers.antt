@@ -13,4 +13,4 @@ more sets new n is pushed =
     ∙ ap (λ t. [] ∷ t) (sym (map-range_with_len_more (λ (p : ℕ). p ∷ []) 0 n n (omega arith)))
 
 pub loop-position-preserved : goal.loop-position-preserved
-loop-position-preserved c = more _ _ c.loop-position.position c.loop-position.invariant c.push.ensures
+loop-position-preserved c = more _ _ c.loop-position.position c.loop-position.invariant c.in_ok-push.ensures

@@ -1,0 +1,46 @@
+use Rattle.std.proofs.Common.{◌≡◌, ◌∙◌, IfOk, Some, map, sym, ap, subst, true}
+use Rattle.std.proofs.lemmas.Result.{IfOk-weaker}
+use Rattle.hack_load.specs.ContextView.{context_view}
+use Rattle.hack_load.specs.declared.features.Features.{Features}
+use Rattle.hack_metadata.specs.Records.{PackageRecord}
+use Rattle.hack_metadata.specs.View.{package_view}
+use Rattle.hack_versions.specs.Notes.{note_of}
+use Rattle.hack_words.specs.declared.cli.args.Args.{Args}
+use Rattle.hack_packages.specs.Candidates.{candidate_notes}
+use Rattle.hack_packages.specs.CandidatesView.{wishes}
+use Rattle.hack_packages.specs.Kinds.{AreRuns, AreCovering}
+use Rattle.hack_packages.specs.KindsView.{IsKind, runs_of}
+use Rattle.hack_packages.specs.ContextMembers.{known_as}
+use Rattle.hack_packages.proofs.determine.determine_kind.Goals as goal
+
+pub packages-pkg-requires : goal.packages-pkg-requires
+packages-pkg-requires c = c.workspace_members.ensures.whole.packages c.args.id.index c.requires
+
+-- what is known is that of the package and the candidates
+moved : {A X Y : Type 0} (F : A → X → Y → Type 0) (a b : A) (x x' : X) (y y' : Y) → a ≡ b → Some x' ≡ Some x → Some y' ≡ Some y → F a x y → F b x' y'
+moved F a b x x' y y' ea ex ey h =
+    let e : x' ≡ x = cc in
+    let g : y' ≡ y = cc in
+    subst (λ t. F t x' y') ea (subst (λ t. F a t y') (sym e) (subst (λ t. F a x t) (sym g) h))
+
+pub returns-clause-kind : goal.returns-clause-kind
+returns-clause-kind c = λ (p : PackageRecord) (f : Features) ep ef.
+    moved (λ (args : Args) (q : PackageRecord) (g : Features). IfOk c.determine_runs.result (λ answer. IsKind (wishes args) (known_as q g) answer.0.kind)) _ _ _ _ _ _
+    c.args-2.ensures (sym ep ∙ c.packages-pkg.ensures) (sym ef ∙ c.pkg_features-features.ensures) c.determine_runs.ensures.kind
+
+pub returns-clause-runs : goal.returns-clause-runs
+returns-clause-runs c = λ (p : PackageRecord) (f : Features) ep ef.
+    moved (λ (args : Args) (q : PackageRecord) (g : Features). IfOk c.determine_runs.result (λ answer. AreRuns (wishes args) (known_as q g) (runs_of answer.0.kind))) _ _ _ _ _ _
+    c.args-2.ensures (sym ep ∙ c.packages-pkg.ensures) (sym ef ∙ c.pkg_features-features.ensures) c.determine_runs.ensures.runs
+
+pub returns-clause-notices : goal.returns-clause-notices
+returns-clause-notices c = λ (p : PackageRecord) (f : Features) ep ef.
+    moved (λ (args : Args) (q : PackageRecord) (g : Features). IfOk c.determine_runs.result (λ answer. map note_of answer.1.items ≡ candidate_notes c.args.single (wishes args) (known_as q g))) _ _ _ _ _ _
+    c.args-2.ensures (sym ep ∙ c.packages-pkg.ensures) (sym ef ∙ c.pkg_features-features.ensures) c.determine_runs.ensures.notices
+
+pub returns-clause-covered : goal.returns-clause-covered
+returns-clause-covered c = λ (p : PackageRecord) (f : Features) ep ef powerset.
+    let before : IfOk c.determine_runs.result (λ answer. (context_view c.args.context.now).args.feature_powerset ≡ true → AreCovering (wishes (context_view c.args.context.now).args) (known_as p f) (runs_of answer.0.kind)) =
+    moved (λ (args : Args) (q : PackageRecord) (g : Features). IfOk c.determine_runs.result (λ answer. args.feature_powerset ≡ true → AreCovering (wishes args) (known_as q g) (runs_of answer.0.kind))) _ _ _ _ _ _
+    c.args-2.ensures (sym ep ∙ c.packages-pkg.ensures) (sym ef ∙ c.pkg_features-features.ensures) c.determine_runs.ensures.covered in
+    IfOk-weaker c.determine_runs.result _ _ (λ answer h. h powerset) before

@@ -1,0 +1,130 @@
+//! Which packages a loaded call runs on, and which runs each of them has.
+
+ghost use Rattle.std.specs.Prelude.{◌≡◌, ◌<◌, ◌⊎◌, Contains, IfOk, IfErr, Some, length, map, true};
+ghost use Rattle.std.specs.Prelude.{option_copied};
+ghost use Rattle.hack_load.specs.Contexts.{IsWhole, package_at, features_at};
+ghost use Rattle.hack_load.specs.ContextView.{context_view};
+ghost use Rattle.hack_load.specs.declared.features.Features.{Features as Loaded};
+ghost use Rattle.hack_metadata.specs.Records.{PackageRecord};
+ghost use Rattle.hack_versions.specs.Notes.{note_of};
+ghost use Rattle.hack_packages.specs.MembersView.{member_view};
+ghost use Rattle.hack_packages.specs.Candidates.{candidate_notes};
+ghost use Rattle.hack_packages.specs.CandidatesView.{wishes};
+ghost use Rattle.hack_packages.specs.Kinds.{AreRuns, AreCovering};
+ghost use Rattle.hack_packages.specs.KindsView.{IsKind, runs_of};
+ghost use Rattle.hack_packages.specs.ContextMembers.{member_at, members_in, name_at as named_at};
+ghost use Rattle.hack_packages.specs.ContextMembers.{current_name as current_called};
+ghost use Rattle.hack_packages.specs.ContextMembers.{AreChosen, IsChoiceFault, known_as};
+
+use crate::fault::PackagesFault;
+use crate::kind::{PackageRuns, determine_runs};
+use crate::member::Member;
+use crate::packages::{PackageList, choose_packages};
+use hack_load::context::Context;
+use hack_metadata::metadata::PackageId;
+use hack_versions::notice::Notice;
+use std::alloc::{AllocError, Global};
+
+/// A member of the workspace.
+fn member_of<'a>(context: &'a Context, id: PackageId) -> Member<'a>
+    requires member { Contains (context_view context.now).metadata.workspace_members id.index }
+    requires whole { IsWhole (context_view context.now) }
+    ensures { member_at (context_view context.now) id.index ≡ Some (member_view result) }
+{
+    Member {
+        id,
+        pkg: context.packages(id),
+        is_private: context.is_private(id),
+    }
+}
+
+/// The members of the workspace, in their order.
+fn members_of<'a>(alloc: Global, context: &'a Context) -> Result<Vec<Member<'a>>, AllocError>
+    ensures { IfOk result (λ members.
+        map member_view members.items ≡ members_in (context_view context.now)) }
+{
+    let mut members = Vec::new(alloc);
+    for id in context.workspace_members() {
+        members.push(member_of(context, *id))?;
+    }
+    Ok(members)
+}
+
+/// The name of a package.
+fn name_at(context: &Context, id: PackageId) -> &str
+    requires { id.index < length (context_view context.now).metadata.packages }
+    ensures { named_at (context_view context.now) id.index ≡ Some result.now }
+{
+    context.packages(id).name.as_str()
+}
+
+/// The name of the package that the call stands in, where it stands in one.
+fn current_name(context: &Context) -> Option<&str>
+    ensures { option_copied result ≡ current_called (context_view context.now) }
+{
+    let _ = context.workspace_members();
+    match context.current_package() {
+        Some(id) => Some(name_at(context, id)),
+        None => None,
+    }
+}
+
+/// The packages that a call runs on: those that it names, else the one that it stands in, else all
+/// of the workspace; less the excluded ones, and under `--ignore-private` less private ones. With
+/// them comes what the user is told of them.
+pub fn determine_package_list(
+    alloc: Global,
+    context: &Context,
+) -> Result<(PackageList, Vec<Notice>), PackagesFault>
+    ensures ok { IfOk result (λ answer. AreChosen (context_view context.now)
+        (map (λ id. id.index) answer.0.ids.items) answer.0.is_single (map note_of answer.1.items)) }
+    ensures never { IfOk result (λ _. (e : PackagesFault)
+        → ¬ IsChoiceFault (context_view context.now) e) }
+    ensures err { IfErr result (λ e. (e ≡ PackagesFault.Memory)
+        ⊎ IsChoiceFault (context_view context.now) e) }
+{
+    let members = members_of(alloc, context)?;
+    let current = current_name(context);
+    let root = context.workspace_root();
+    choose_packages(alloc, context.args(), members.as_slice(), current, root)
+}
+
+/// The runs of a member of the workspace, and what the user is told of its features. `single` says
+/// whether it is the only package that is left after exclusions.
+pub fn determine_kind(
+    alloc: Global,
+    context: &Context,
+    id: PackageId,
+    single: bool,
+) -> Result<(PackageRuns, Vec<Notice>), AllocError>
+    requires { Contains (context_view context.now).metadata.workspace_members id.index }
+    ensures id { IfOk result (λ answer. answer.0.id ≡ id) }
+    ensures kind { (p : PackageRecord) (features : Loaded)
+        → package_at (context_view context.now) id.index ≡ Some p
+        → features_at (context_view context.now) id.index ≡ Some features
+        → IfOk result (λ answer.
+        IsKind (wishes (context_view context.now).args) (known_as p features) answer.0.kind) }
+    ensures runs { (p : PackageRecord) (features : Loaded)
+        → package_at (context_view context.now) id.index ≡ Some p
+        → features_at (context_view context.now) id.index ≡ Some features
+        → IfOk result (λ answer. AreRuns (wishes (context_view context.now).args)
+        (known_as p features) (runs_of answer.0.kind)) }
+
+    // Under a powerset each set of candidates that has to be covered has a run that covers it.
+    ensures covered { (p : PackageRecord) (features : Loaded)
+        → package_at (context_view context.now) id.index ≡ Some p
+        → features_at (context_view context.now) id.index ≡ Some features
+        → (context_view context.now).args.feature_powerset ≡ true
+        → IfOk result (λ answer. AreCovering (wishes (context_view context.now).args)
+        (known_as p features) (runs_of answer.0.kind)) }
+    ensures notices { (p : PackageRecord) (features : Loaded)
+        → package_at (context_view context.now) id.index ≡ Some p
+        → features_at (context_view context.now) id.index ≡ Some features
+        → IfOk result (λ answer. map note_of answer.1.items
+        ≡ candidate_notes single (wishes (context_view context.now).args) (known_as p features)) }
+{
+    let _ = context.workspace_members();
+    let pkg = context.packages(id);
+    let features = context.pkg_features(id);
+    determine_runs(alloc, context.args(), id, pkg, features, single)
+}
