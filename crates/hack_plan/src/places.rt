@@ -250,7 +250,7 @@ impl Places {
 }
 
 /// The slots of a version: below 1.64 cargo takes one target at a time.
-fn slots(scene: &Scene, version: Option<Version>) -> usize
+pub fn slots(scene: &Scene, version: Option<Version>) -> usize
     ensures { result ≡ slots_of scene.now version }
 {
     let minor = match version {

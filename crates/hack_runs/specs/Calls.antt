@@ -1,19 +1,30 @@
 -- What a plan is made of, from what is loaded.
-use Rattle.std.specs.Prelude.{ℕ, ◌≡◌, ◌++◌, ◌↔◌, List, [], ◌∷◌, Bool, true, false, Option, Some, None, length, Contains, IsTrue, option_and_then, string_bytes}
+use Rattle.std.specs.Prelude.{ℕ, ◌≡◌, ◌++◌, ◌↔◌, ◌⊎◌, List, [], ◌∷◌, Bool, true, false, Option, Some, None, length, Contains, IsTrue, option_and_then, slice_get, string_bytes, if◌then◌else◌}
+use Rattle.std.specs.List.{flat_map, range_with_len}
 use Rattle.hack_features.specs.Names.{Name, names_of}
 use Rattle.hack_process.specs.PathTexts.{under_of}
 use Rattle.hack_metadata.specs.Records.{PackageRecord}
-use Rattle.hack_load.specs.Contexts.{ContextRecord, package_at, rust_version_at}
+use Rattle.hack_load.specs.Contexts.{ContextRecord, package_at, features_at, rust_version_at}
+use Rattle.hack_load.specs.GivenFeatures.{passed_for, left_out_for}
+use Rattle.hack_load.specs.declared.features.Features.{Features}
 use Rattle.hack_versions.specs.declared.version.Version.{Version}
 use Rattle.hack_versions.specs.declared.version.VersionFault.{VersionFault}
 use Rattle.hack_versions.specs.declared.version.VersionRange.{VersionRange}
 use Rattle.hack_versions.specs.declared.group.PackageVersion.{PackageVersion}
+use Rattle.hack_versions.specs.declared.group.VersionGroup.{VersionGroup}
+use Rattle.hack_versions.specs.Notes.{Note}
 use Rattle.hack_versions.specs.VersionTexts.{IsVersionText, IsVersionFault}
 use Rattle.hack_words.specs.declared.cli.args.WorkspaceBehavior.TheVariants.{Cargo}
+use Rattle.hack_packages.specs.Candidates.{candidates, candidate_notes}
+use Rattle.hack_packages.specs.CandidatesView.{wishes}
+use Rattle.hack_packages.specs.ContextMembers.{known_as}
+use Rattle.hack_packages.specs.Kinds.{AreRuns, AreCovering}
+use Rattle.hack_plan.specs.Runs.{Plain}
+use Rattle.hack_plan.specs.Scenes.{slots_of}
 use Rattle.hack_plan.specs.declared.versions.Scene.{Scene}
 use Rattle.hack_runs.specs.declared.fault.PlanFault.{PlanFault}
 use Rattle.hack_runs.specs.declared.fault.PlanFault.TheVariants as fault
-use Rattle.hack_runs.specs.View.{CallView}
+use Rattle.hack_runs.specs.View.{CallView, PackageView}
 
 -- the path of a package's manifest as a command is given it: none where commands are given none
 abbrev pub given_path : Bool → Name → Option PackageRecord → Option Name
@@ -92,3 +103,35 @@ IsOwnFault cx ids (fault.Packages e) = ⊥
 IsOwnFault cx ids (fault.Version e) = HasBadOwn cx ids e
 IsOwnFault cx ids (fault.Range e) = ⊥
 IsOwnFault cx ids fault.TooManyRuns = ⊥
+
+-- a chosen package as a plan has it: its texts, the features of `--features` that it gets, and its runs
+pub record IsPlanned (cx : ContextRecord) (single : Bool) (id : ℕ) (k : PackageView) (notes : List Note) : Type 0 where
+  pub pkg : PackageRecord
+  pub features : Features
+  pub known : package_at cx id ≡ Some pkg
+  pub loaded : features_at cx id ≡ Some features
+  pub name : k.name ≡ pkg.name
+  pub path : k.manifest_path ≡ given_path cx.args.no_manifest_path cx.current_dir (Some pkg)
+  pub given : k.features ≡ passed_for cx (Some id)
+  pub candidates : (k.candidates ≡ candidates (wishes cx.args) (known_as pkg features)) ⊎ (k.runs ≡ Plain ∷ [])
+  pub runs : AreRuns (wishes cx.args) (known_as pkg features) k.runs
+  pub covered : cx.args.feature_powerset ≡ true → AreCovering (wishes cx.args) (known_as pkg features) k.runs
+  pub told : notes ≡ candidate_notes single (wishes cx.args) (known_as pkg features)
+
+-- the chosen packages, in order, and what the user is told of their features
+pub data ArePlanned (cx : ContextRecord) (single : Bool) : List ℕ → List PackageView → List Note → Type 0 where
+  begins : ArePlanned cx single [] [] []
+  adds : {ids : List ℕ} {packages : List PackageView} {notes : List Note} {id : ℕ} {k : PackageView} {more : List Note} → ArePlanned cx single ids packages notes → IsPlanned cx single id k more → ArePlanned cx single (ids ++ id ∷ []) (packages ++ k ∷ []) (notes ++ more)
+
+-- what the user is told of features that a version's packages don't get, in each slot
+abbrev pub version_notes : ContextRecord → List ℕ → Scene → Option Version → List ℕ → List Note
+version_notes cx ids s version places = flat_map (λ slot. flat_map (λ p. left_out_for cx (slice_get ids p)) places) (range_with_len 0 (slots_of s version))
+
+-- the same for all versions of a range, or without one
+abbrev pub ranged_notes : ContextRecord → List ℕ → Scene → List VersionGroup → Option VersionRange → List Note
+ranged_notes cx ids s groups None = version_notes cx ids s None (range_with_len 0 (length ids))
+ranged_notes cx ids s groups (Some range) = flat_map (λ group. version_notes cx ids s (Some group.version) group.packages.items) groups
+
+-- for each version, slot and package; nothing where one run is for all
+abbrev pub left_out_notes : ContextRecord → List ℕ → Scene → List VersionGroup → List Note
+left_out_notes cx ids s groups = if s.as_cargo then [] else ranged_notes cx ids s groups s.range

@@ -3,3 +3,4 @@ pub mod Commands
 pub mod Plans
 pub mod Calls
 pub mod Prepared
+pub mod Made
