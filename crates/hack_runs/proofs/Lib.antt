@@ -1,3 +1,4 @@
 mod Joins
 mod Ready
 mod Within
+mod ChosenLemmas
