@@ -43,15 +43,15 @@ completes-more m asked ids xs i id x f fs now long lt isx isid are push before =
     let h' : AreFeatures m asked (drop (suc i) ids) (drop (suc i) xs) more = subst (λ n. AreFeatures m asked (drop n ids) (drop n xs) more) (add-one i) h in
     let both : AreFeatures m asked (id ∷ drop (suc i) ids) (x ∷ drop (suc i) xs) (f ∷ more) = (are, h') in
     let first : AreFeatures m asked (get_or ids i id ∷ drop (suc i) ids) (get_or xs i x ∷ drop (suc i) xs) (f ∷ more) =
-        subst (λ a. AreFeatures m asked (a ∷ drop (suc i) ids) (get_or xs i x ∷ drop (suc i) xs) (f ∷ more)) isid (subst (λ b. AreFeatures m asked (id ∷ drop (suc i) ids) (b ∷ drop (suc i) xs) (f ∷ more)) isx both) in
+    subst (λ a. AreFeatures m asked (a ∷ drop (suc i) ids) (get_or xs i x ∷ drop (suc i) xs) (f ∷ more)) isid (subst (λ b. AreFeatures m asked (id ∷ drop (suc i) ids) (b ∷ drop (suc i) xs) (f ∷ more)) isx both) in
     let here : AreFeatures m asked (drop i ids) (drop i xs) (f ∷ more) =
-        subst (λ a. AreFeatures m asked a (drop i xs) (f ∷ more)) (sym e1) (subst (λ b. AreFeatures m asked (get_or ids i id ∷ drop (suc i) ids) b (f ∷ more)) (sym e2) first) in
+    subst (λ a. AreFeatures m asked a (drop i xs) (f ∷ more)) (sym e1) (subst (λ b. AreFeatures m asked (get_or ids i id ∷ drop (suc i) ids) b (f ∷ more)) (sym e2) first) in
     subst (λ l. AreFeatures m asked ids xs l) (sym (ap (λ l. l ++ more) push ∙ append_assoc fs (f ∷ []) more)) (before (f ∷ more) here)
 
 pub completes-all : (m : MetadataRecord) (asked : Bool) (ids : List ℕ) (xs : List Manifest) (i : ℕ) (fs : List Features) → length xs ≡ length ids → length xs ≤ i → Completes m asked ids xs i fs → AreFeatures m asked ids xs fs
 completes-all m asked ids xs i fs long le before =
     let none : AreFeatures m asked (drop i ids) (drop i xs) [] =
-        subst (λ a. AreFeatures m asked a (drop i xs) []) (sym (drop_all i ids (omega (arith, le, long)))) (subst (λ b. AreFeatures m asked [] b []) (sym (drop_all i xs le)) tt) in
+    subst (λ a. AreFeatures m asked a (drop i xs) []) (sym (drop_all i ids (omega (arith, le, long)))) (subst (λ b. AreFeatures m asked [] b []) (sym (drop_all i xs le)) tt) in
     subst (λ l. AreFeatures m asked ids xs l) (append-nil fs) (before [] none)
 
 -- no member misses its node
@@ -63,8 +63,8 @@ misses-more m asked ids i id lt is here before k d l =
     elim (cases_lt k i) [
       | inl less ↦ before k d less
       | inr ge ↦
-        let same : k ≡ i = omega (arith, l, ge) in
-        λ miss. here (subst (λ v. MissesNode m v asked) (ap (λ n. get_or ids n d) same ∙ get_or_default ids i d id lt ∙ sym is) miss)
+          let same : k ≡ i = omega (arith, l, ge) in
+          λ miss. here (subst (λ v. MissesNode m v asked) (ap (λ n. get_or ids n d) same ∙ get_or_default ids i d id lt ∙ sym is) miss)
     ]
 
 -- candidates that aren't had

@@ -24,9 +24,9 @@ place-below ms id h =
     elim (cases_lt (place_among ms id) (length ms)) [
       | inl lt ↦ lt
       | inr ge ↦
-        let here : (get_or ms h.0 id == id) ≡ true = eq-eqb (get_or ms h.0 id) id h.2 in
-        let no : (get_or ms h.0 id == id) ≡ false = fails_before_first (λ m. m == id) ms h.0 id (omega (arith, h.1, ge)) in
-        absurd (true≢false (sym here ∙ no))
+          let here : (get_or ms h.0 id == id) ≡ true = eq-eqb (get_or ms h.0 id) id h.2 in
+          let no : (get_or ms h.0 id == id) ≡ false = fails_before_first (λ m. m == id) ms h.0 id (omega (arith, h.1, ge)) in
+          absurd (true≢false (sym here ∙ no))
     ]
 
 -- members that pass a test are below its bound
@@ -75,8 +75,8 @@ module _ (xs : List PackageId) (id i : ℕ) (before : (k d : ℕ) → k < i → 
       elim (cases_lt k i) [
         | inl less ↦ before k e less
         | inr ge ↦
-          let same : k ≡ i = omega (arith, l, ge) in
-          ap (λ n. get_or (map place_at xs) n e == id) same ∙ ap (λ n. n == id) (get_or-map place_at xs i d e lt) ∙ other
+            let same : k ≡ i = omega (arith, l, ge) in
+            ap (λ n. get_or (map place_at xs) n e == id) same ∙ ap (λ n. n == id) (get_or-map place_at xs i d e lt) ∙ other
       ]
 
   pub place-none : length xs ≤ i → length xs ≡ place_among (map place_at xs) id

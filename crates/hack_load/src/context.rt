@@ -25,8 +25,8 @@ pub use crate::fault::ContextFault;
 use crate::features::Features;
 pub use crate::located::{Located, current_package};
 pub use crate::name::VerboseName;
-use hack_manifest::manifest::Manifest;
 use crate::told::minor_of;
+use hack_manifest::manifest::Manifest;
 use hack_metadata::metadata::{Metadata, MetadataFault, Package, PackageId};
 use hack_process::paths::parent;
 use hack_process::process::ProcessBuilder;
@@ -84,12 +84,7 @@ impl Context {
     }
 
     /// The context of what was loaded, where cargo's own minor version is this.
-    fn of(
-        alloc: Global,
-        args: Args,
-        minor: u32,
-        loaded: Loaded,
-    ) -> Result<Context, ContextFault>
+    fn of(alloc: Global, args: Args, minor: u32, loaded: Loaded) -> Result<Context, ContextFault>
         ensures ok { IfOk result (λ cx. IsContextOf args minor loaded (context_view cx)) }
         ensures never { IfOk result (λ _. (e : ContextFault) → ¬ IsLoadCause args loaded e) }
         ensures err { IfErr result (λ e. (e ≡ ContextFault.Memory) ⊎ IsLoadCause args loaded e) }

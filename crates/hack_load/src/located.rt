@@ -8,7 +8,6 @@ ghost use Rattle.hack_load.specs.Loads.{FailsLocate, IsOfProcess, locate};
 ghost use Rattle.hack_metadata.specs.Asks.{Reads};
 ghost use Rattle.hack_metadata.specs.View.{package_view, place_at};
 ghost use Rattle.hack_metadata.specs.Whole.{metadata_view};
-
 ghost use Rattle.hack_process.specs.CommandTexts.{text_of};
 ghost use Rattle.hack_process.specs.Commands.{command_of};
 

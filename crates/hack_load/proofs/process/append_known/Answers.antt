@@ -37,5 +37,5 @@ returns-clause-ok c =
     let at : c.deref-name-items.result.now ≡ items = c.deref-name-items.ensures.value ∙ ap (λ a. a.features.items) c.args-2.ensures in
     let le : length items ≤ i = subst (λ (xs : List (String Global)). length xs ≤ i) at c.loop-name-test.false in
     let e : map (λ (word : Bor (List ℕ)). word.now) c.deref.result.now ≡ filter (knows cx id) (given cx) =
-        ap (map (λ (word : Bor (List ℕ)). word.now)) c.deref.ensures.value ∙ c.loop-name.invariant.0 ∙ ap (λ (xs : List (String Global)). filter (knows cx id) (names_of xs)) (take_all i items le) in
+    ap (map (λ (word : Bor (List ℕ)). word.now)) c.deref.ensures.value ∙ c.loop-name.invariant.0 ∙ ap (λ (xs : List (String Global)). filter (knows cx id) (names_of xs)) (take_all i items le) in
     c.in_ok-append_features.ensures.ok ∙ ap (λ names. record (command_of c.args.command.now) { features = appended (command_of c.args.command.now).features names }) e
