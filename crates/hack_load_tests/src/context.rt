@@ -95,7 +95,9 @@ fn shown(alloc: Global, cx: &Context) -> Result<String, AllocError> {
         },
         None => "none",
     };
-    let mut text = format!(in alloc; "{root} by {cargo} 1.{own} (1.{told}) in {dir}, at {current}")?;
+    let mut text = format!(in alloc;
+        "{root} by {cargo} 1.{own} (1.{told}) in {dir}, at {current}"
+    )?;
     for id in cx.workspace_members() {
         let member = member(alloc, cx, *id)?;
         text.push_str(member.as_str())?;
@@ -131,17 +133,14 @@ fn calls(alloc: Global, caller: &FakeCaller) -> Result<String, AllocError> {
     Ok(text)
 }
 
-/// The words of a call, the answers to lines, the files, and what comes of them.
-type Row<'a> = (
-    &'a [&'a str],
-    &'a [(&'a str, &'a str)],
-    &'a [(&'a str, &'a str)],
-    &'a str,
-);
-
-/// The calls of a row in their order, and what comes of them.
-fn told(alloc: Global, row: &Row<'_>) -> Result<String, AllocError> {
-    let (more, replies, held, _) = *row;
+/// The calls in their order, and what comes of them, where a call has these words, these lines are
+/// answered so, and the files hold this.
+fn told(
+    alloc: Global,
+    more: &[&str],
+    replies: &[(&str, &str)],
+    held: &[(&str, &str)],
+) -> Result<String, AllocError> {
     let env = Env::new(alloc, &[], String::from_str(alloc, "/w")?)?;
     let Some(args) = args(alloc, &env, more)? else {
         return String::from_str(alloc, "no arguments");
@@ -161,9 +160,27 @@ fn told(alloc: Global, row: &Row<'_>) -> Result<String, AllocError> {
     format!(in alloc; "{calls}{left} of {failed}; {told}")
 }
 
-fn rows<R: Abort + AllocGlobal>(rt: &R, rows: &[Row<'_>]) -> Result<(), Fail> {
-    for row in rows {
-        assert_eq!(rt; told(rt.alloc(), row)?.as_str(), row.3);
+/// Compares what comes of calls with these texts.
+fn rows<R: Abort + AllocGlobal>(
+    rt: &R,
+    rows: &[(&[&str], &[(&str, &str)], &[(&str, &str)], &str)],
+) -> Result<(), AllocError> {
+    for (more, replies, held, want) in rows {
+        let found = told(rt.alloc(), more, replies, held)?;
+        assert_eq!(rt; found.as_str(), *want);
+    }
+    Ok(())
+}
+
+/// The same, where the text comes behind these lines.
+fn ends<R: Abort + AllocGlobal>(
+    rt: &R,
+    rows: &[(&[&str], &[(&str, &str)], &[(&str, &str)], &[&str], &str)],
+) -> Result<(), AllocError> {
+    for (more, replies, held, calls, want) in rows {
+        let found = told(rt.alloc(), more, replies, held)?;
+        let want = ended(rt.alloc(), calls, want)?;
+        assert_eq!(rt; found.as_str(), want.as_str());
     }
     Ok(())
 }
@@ -215,7 +232,11 @@ fn workspaces(rt: HostRuntime) -> Result<(), Fail> {
             ),
             (
                 &[],
-                &[OWN, (METADATA, ROOTED), (LOCATE, r#"{"root":"/w/q/Cargo.toml"}"#)],
+                &[
+                    OWN,
+                    (METADATA, ROOTED),
+                    (LOCATE, r#"{"root":"/w/q/Cargo.toml"}"#),
+                ],
                 &[("/w/Cargo.toml", PACKAGE), ("/w/q/Cargo.toml", with_a)],
                 "cargo -vV\n\
                  rustup run stable cargo -vV\n\
@@ -278,20 +299,16 @@ fn workspaces(rt: HostRuntime) -> Result<(), Fail> {
                  p at /w/Cargo.toml, private: false, 1.60, 10:",
             ),
         ],
-    )
+    )?;
+    Ok(())
 }
 
 /// What is told of a private package 1.50 by its manifest, which the metadata call a public one of
 /// 1.60, where cargo answers so for its version.
 fn by_minor(alloc: Global, answer: &str) -> Result<String, AllocError> {
     let manifest = "[package]\npublish = false\nrust-version = \"1.50\"\n";
-    let row: Row<'_> = (
-        &[],
-        &[(VERSION, answer), (METADATA, P), AT_ROOT],
-        &[("/w/Cargo.toml", manifest)],
-        "",
-    );
-    let told = told(alloc, &row)?;
+    let replies = [(VERSION, answer), (METADATA, P), AT_ROOT];
+    let told = told(alloc, &[], &replies, &[("/w/Cargo.toml", manifest)])?;
     match told.split_once("in /w, ") {
         Some((_, told)) => String::from_str(alloc, told),
         None => Ok(told),
@@ -352,89 +369,72 @@ const STABLE: &str = "rustup run stable cargo -vV";
 #[test]
 fn faults_that_end_the_questions(rt: HostRuntime) -> Result<(), Fail> {
     let unread = (METADATA, "[]");
-    let table: [(Row<'_>, &[&str]); 8] = [
-        // Cargo fails to tell the metadata, or tells none.
-        (
+    ends(
+        &rt,
+        &[
+            // Cargo fails to tell the metadata, or tells none.
             (
                 &[],
                 &[OWN],
                 &[],
+                &[VERSION, STABLE, METADATA],
                 "0 of 0; process didn't exit successfully: \
                  `cargo metadata --format-version=1 --no-deps` (exit status: 101)",
             ),
-            &[VERSION, STABLE, METADATA],
-        ),
-        (
             (
                 &[],
                 &[OWN, unread],
                 &[],
+                &[VERSION, STABLE, METADATA],
                 "0 of 0; failed to parse output from `cargo metadata --format-version=1 --no-deps`",
             ),
-            &[VERSION, STABLE, METADATA],
-        ),
-        (
             (
                 &[],
                 &[OWN, (METADATA, "{}")],
                 &[],
+                &[VERSION, STABLE, METADATA],
                 "0 of 0; failed to parse `packages` field from metadata",
             ),
-            &[VERSION, STABLE, METADATA],
-        ),
-        // The host isn't known.
-        (
+            // The host isn't known.
             (
                 DEPS,
                 &[(VERSION, "release: 1.70.0")],
                 &[],
+                &[VERSION, STABLE],
                 "0 of 0; unable to determine host",
             ),
-            &[VERSION, STABLE],
-        ),
-        // A manifest that isn't there, or is ill formed.
-        (
+            // A manifest that isn't there, or is ill formed.
             (
                 &[],
                 &[OWN, (METADATA, VIRTUAL)],
                 &[("/w/a/Cargo.toml", PACKAGE)],
+                &[VERSION, STABLE, METADATA],
                 "0 of 1; failed to read from file `/w/b/Cargo.toml`",
             ),
-            &[VERSION, STABLE, METADATA],
-        ),
-        (
             (
                 &[],
                 &[OWN, (METADATA, P)],
                 &[("/w/Cargo.toml", "package")],
+                &[VERSION, STABLE, METADATA],
                 "0 of 0; failed to parse manifest `/w/Cargo.toml` as toml",
             ),
-            &[VERSION, STABLE, METADATA],
-        ),
-        (
             (
                 &[],
                 &[OWN, (METADATA, P)],
                 &[("/w/Cargo.toml", "[package]\n[features]\na = 1\n")],
+                &[VERSION, STABLE, METADATA],
                 "0 of 0; failed to parse `features` field from manifest `/w/Cargo.toml`",
             ),
-            &[VERSION, STABLE, METADATA],
-        ),
-        // Cargo fails to tell where the call stands.
-        (
+            // Cargo fails to tell where the call stands.
             (
                 &[],
                 &[OWN, (METADATA, P)],
                 &[("/w/Cargo.toml", PACKAGE)],
+                &[VERSION, STABLE, METADATA, LOCATE],
                 "0 of 0; process didn't exit successfully: `cargo locate-project` (exit status: 101)",
             ),
-            &[VERSION, STABLE, METADATA, LOCATE],
-        ),
-    ];
-    for (row, calls) in &table {
-        let want = ended(rt.alloc(), calls, row.3)?;
-        assert_eq!(rt; told(rt.alloc(), row)?.as_str(), want.as_str());
-    }
+        ],
+    )?;
     Ok(())
 }
 
@@ -450,49 +450,45 @@ fn answers_that_make_no_context(rt: HostRuntime) -> Result<(), Fail> {
     let manifest = [("/w/Cargo.toml", PACKAGE)];
     let read = "0 of 0; /w by `cargo` 1.41 (1.41) in /w, at p\n\
                 p at /w/Cargo.toml, private: false, none, 10:";
-    let table: [(Row<'_>, &[&str]); 6] = [
-        (
+    ends(
+        &rt,
+        &[
             (
                 DEPS,
                 &[old, (WITH_DEPS, NODE), AT_ROOT],
                 &manifest,
+                &[VERSION, STABLE, WITH_DEPS, LOCATE],
                 "0 of 0; --include-deps-features requires Cargo 1.41 or later",
             ),
-            &[VERSION, STABLE, WITH_DEPS, LOCATE],
-        ),
-        (
-            (DEPS, &[new, (WITH_DEPS, NODE), AT_ROOT], &manifest, read),
-            &[VERSION, STABLE, WITH_DEPS, LOCATE],
-        ),
-        (
+            (
+                DEPS,
+                &[new, (WITH_DEPS, NODE), AT_ROOT],
+                &manifest,
+                &[VERSION, STABLE, WITH_DEPS, LOCATE],
+                read,
+            ),
             (
                 DEPS,
                 &[new, (WITH_DEPS, P), AT_ROOT],
                 &manifest,
+                &[VERSION, STABLE, WITH_DEPS, LOCATE],
                 "0 of 0; failed to parse `nodes` field from metadata",
             ),
-            &[VERSION, STABLE, WITH_DEPS, LOCATE],
-        ),
-        (
             (
                 &[],
                 &[OWN, (METADATA, P), (LOCATE, "{}")],
                 &manifest,
+                &[VERSION, STABLE, METADATA, LOCATE],
                 "0 of 0; failed to parse `root` field from locate-project",
             ),
-            &[VERSION, STABLE, METADATA, LOCATE],
-        ),
-        (
             (
                 &[],
                 &[OWN, (METADATA, P), (LOCATE, "/w/Cargo.toml")],
                 &manifest,
+                &[VERSION, STABLE, METADATA, LOCATE],
                 "0 of 0; failed to parse output from `cargo locate-project`",
             ),
-            &[VERSION, STABLE, METADATA, LOCATE],
-        ),
-        // Cargo itself can't be asked for its version: this warns, and the next fault counts.
-        (
+            // Cargo itself can't be asked for its version: this warns, and the next fault counts.
             (
                 &["--manifest-path", "m"],
                 &[
@@ -503,20 +499,16 @@ fn answers_that_make_no_context(rt: HostRuntime) -> Result<(), Fail> {
                     ("cargo locate-project --manifest-path m", "[]"),
                 ],
                 &manifest,
+                &[
+                    VERSION,
+                    STABLE,
+                    "cargo metadata --format-version=1 --manifest-path m --no-deps",
+                    "cargo locate-project --manifest-path m",
+                ],
                 "0 of 0; failed to parse output from `cargo locate-project`",
             ),
-            &[
-                VERSION,
-                STABLE,
-                "cargo metadata --format-version=1 --manifest-path m --no-deps",
-                "cargo locate-project --manifest-path m",
-            ],
-        ),
-    ];
-    for (row, calls) in &table {
-        let want = ended(rt.alloc(), calls, row.3)?;
-        assert_eq!(rt; told(rt.alloc(), row)?.as_str(), want.as_str());
-    }
+        ],
+    )?;
     Ok(())
 }
 
