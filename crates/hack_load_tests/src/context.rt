@@ -192,7 +192,7 @@ const METADATA: &str = "cargo metadata --format-version=1 --no-deps";
 const LOCATE: &str = "cargo locate-project";
 
 /// Cargo 1.70, whose host is `h`.
-const OWN: (&str, &str) = (VERSION, "cargo 1.70.0\nrelease: 1.70.0\nhost: h\n");
+const OWN: &str = "cargo 1.70.0\nrelease: 1.70.0\nhost: h\n";
 
 const P: &str =
     r#"{"packages":[{"id":"p","name":"p","version":"0.1.0","dependencies":[],"features":{},"manifest_path":"/w/Cargo.toml","publish":null,"rust_version":"1.60"}],
@@ -210,7 +210,7 @@ const VIRTUAL: &str =
 
 const PACKAGE: &str = "[package]\n";
 
-const AT_ROOT: (&str, &str) = (LOCATE, r#"{"root":"/w/Cargo.toml"}"#);
+const AT_ROOT: &str = r#"{"root":"/w/Cargo.toml"}"#;
 
 #[test]
 fn workspaces(rt: HostRuntime) -> Result<(), Fail> {
@@ -220,7 +220,7 @@ fn workspaces(rt: HostRuntime) -> Result<(), Fail> {
         &[
             (
                 &[],
-                &[OWN, (METADATA, ROOTED), AT_ROOT],
+                &[(VERSION, OWN), (METADATA, ROOTED), (LOCATE, AT_ROOT)],
                 &[("/w/Cargo.toml", with_a), ("/w/q/Cargo.toml", PACKAGE)],
                 "cargo -vV\n\
                  rustup run stable cargo -vV\n\
@@ -233,7 +233,7 @@ fn workspaces(rt: HostRuntime) -> Result<(), Fail> {
             (
                 &[],
                 &[
-                    OWN,
+                    (VERSION, OWN),
                     (METADATA, ROOTED),
                     (LOCATE, r#"{"root":"/w/q/Cargo.toml"}"#),
                 ],
@@ -248,7 +248,7 @@ fn workspaces(rt: HostRuntime) -> Result<(), Fail> {
             ),
             (
                 &[],
-                &[OWN, (METADATA, VIRTUAL), AT_ROOT],
+                &[(VERSION, OWN), (METADATA, VIRTUAL), (LOCATE, AT_ROOT)],
                 &[("/w/a/Cargo.toml", PACKAGE), ("/w/b/Cargo.toml", PACKAGE)],
                 "cargo -vV\n\
                  rustup run stable cargo -vV\n\
@@ -261,12 +261,12 @@ fn workspaces(rt: HostRuntime) -> Result<(), Fail> {
             (
                 &["--verbose", "--manifest-path", "m"],
                 &[
-                    OWN,
+                    (VERSION, OWN),
                     (
                         "cargo metadata --format-version=1 --manifest-path m --no-deps",
                         P,
                     ),
-                    ("cargo locate-project --manifest-path m", AT_ROOT.1),
+                    ("cargo locate-project --manifest-path m", AT_ROOT),
                 ],
                 &[("/w/Cargo.toml", PACKAGE)],
                 "cargo -vV\n\
@@ -280,14 +280,14 @@ fn workspaces(rt: HostRuntime) -> Result<(), Fail> {
             (
                 &[],
                 &[
-                    OWN,
+                    (VERSION, OWN),
                     ("rustup run stable cargo -vV", "release: 1.80.0\n"),
                     (METADATA, P),
                     (
                         "rustup run stable cargo metadata --format-version=1 --no-deps",
                         P,
                     ),
-                    AT_ROOT,
+                    (LOCATE, AT_ROOT),
                 ],
                 &[("/w/Cargo.toml", PACKAGE), ("/w/Cargo.lock", "locked")],
                 "cargo -vV\n\
@@ -307,7 +307,7 @@ fn workspaces(rt: HostRuntime) -> Result<(), Fail> {
 /// 1.60, where cargo answers so for its version.
 fn by_minor(alloc: Global, answer: &str) -> Result<String, AllocError> {
     let manifest = "[package]\npublish = false\nrust-version = \"1.50\"\n";
-    let replies = [(VERSION, answer), (METADATA, P), AT_ROOT];
+    let replies = [(VERSION, answer), (METADATA, P), (LOCATE, AT_ROOT)];
     let told = told(alloc, &[], &replies, &[("/w/Cargo.toml", manifest)])?;
     match told.split_once("in /w, ") {
         Some((_, told)) => String::from_str(alloc, told),
@@ -348,9 +348,6 @@ fn minor_versions_of_cargo(rt: HostRuntime) -> Result<(), Fail> {
     Ok(())
 }
 
-/// The call whose metadata have the features of dependencies.
-const DEPS: &[&str] = &["--each-feature", "--include-deps-features"];
-
 const WITH_DEPS: &str = "cargo metadata --format-version=1 --filter-platform h";
 
 /// What a call is told whose questions end behind these.
@@ -368,14 +365,14 @@ const STABLE: &str = "rustup run stable cargo -vV";
 
 #[test]
 fn faults_that_end_the_questions(rt: HostRuntime) -> Result<(), Fail> {
-    let unread = (METADATA, "[]");
+    let deps = ["--each-feature", "--include-deps-features"];
     ends(
         &rt,
         &[
             // Cargo fails to tell the metadata, or tells none.
             (
                 &[],
-                &[OWN],
+                &[(VERSION, OWN)],
                 &[],
                 &[VERSION, STABLE, METADATA],
                 "0 of 0; process didn't exit successfully: \
@@ -383,21 +380,21 @@ fn faults_that_end_the_questions(rt: HostRuntime) -> Result<(), Fail> {
             ),
             (
                 &[],
-                &[OWN, unread],
+                &[(VERSION, OWN), (METADATA, "[]")],
                 &[],
                 &[VERSION, STABLE, METADATA],
                 "0 of 0; failed to parse output from `cargo metadata --format-version=1 --no-deps`",
             ),
             (
                 &[],
-                &[OWN, (METADATA, "{}")],
+                &[(VERSION, OWN), (METADATA, "{}")],
                 &[],
                 &[VERSION, STABLE, METADATA],
                 "0 of 0; failed to parse `packages` field from metadata",
             ),
             // The host isn't known.
             (
-                DEPS,
+                &deps,
                 &[(VERSION, "release: 1.70.0")],
                 &[],
                 &[VERSION, STABLE],
@@ -406,21 +403,21 @@ fn faults_that_end_the_questions(rt: HostRuntime) -> Result<(), Fail> {
             // A manifest that isn't there, or is ill formed.
             (
                 &[],
-                &[OWN, (METADATA, VIRTUAL)],
+                &[(VERSION, OWN), (METADATA, VIRTUAL)],
                 &[("/w/a/Cargo.toml", PACKAGE)],
                 &[VERSION, STABLE, METADATA],
                 "0 of 1; failed to read from file `/w/b/Cargo.toml`",
             ),
             (
                 &[],
-                &[OWN, (METADATA, P)],
+                &[(VERSION, OWN), (METADATA, P)],
                 &[("/w/Cargo.toml", "package")],
                 &[VERSION, STABLE, METADATA],
                 "0 of 0; failed to parse manifest `/w/Cargo.toml` as toml",
             ),
             (
                 &[],
-                &[OWN, (METADATA, P)],
+                &[(VERSION, OWN), (METADATA, P)],
                 &[("/w/Cargo.toml", "[package]\n[features]\na = 1\n")],
                 &[VERSION, STABLE, METADATA],
                 "0 of 0; failed to parse `features` field from manifest `/w/Cargo.toml`",
@@ -428,7 +425,7 @@ fn faults_that_end_the_questions(rt: HostRuntime) -> Result<(), Fail> {
             // Cargo fails to tell where the call stands.
             (
                 &[],
-                &[OWN, (METADATA, P)],
+                &[(VERSION, OWN), (METADATA, P)],
                 &[("/w/Cargo.toml", PACKAGE)],
                 &[VERSION, STABLE, METADATA, LOCATE],
                 "0 of 0; process didn't exit successfully: `cargo locate-project` (exit status: 101)",
@@ -445,6 +442,7 @@ const NODE: &str =
 
 #[test]
 fn answers_that_make_no_context(rt: HostRuntime) -> Result<(), Fail> {
+    let deps = ["--each-feature", "--include-deps-features"];
     let old = (VERSION, "release: 1.40.0\nhost: h");
     let new = (VERSION, "release: 1.41.0\nhost: h");
     let manifest = [("/w/Cargo.toml", PACKAGE)];
@@ -454,36 +452,36 @@ fn answers_that_make_no_context(rt: HostRuntime) -> Result<(), Fail> {
         &rt,
         &[
             (
-                DEPS,
-                &[old, (WITH_DEPS, NODE), AT_ROOT],
+                &deps,
+                &[old, (WITH_DEPS, NODE), (LOCATE, AT_ROOT)],
                 &manifest,
                 &[VERSION, STABLE, WITH_DEPS, LOCATE],
                 "0 of 0; --include-deps-features requires Cargo 1.41 or later",
             ),
             (
-                DEPS,
-                &[new, (WITH_DEPS, NODE), AT_ROOT],
+                &deps,
+                &[new, (WITH_DEPS, NODE), (LOCATE, AT_ROOT)],
                 &manifest,
                 &[VERSION, STABLE, WITH_DEPS, LOCATE],
                 read,
             ),
             (
-                DEPS,
-                &[new, (WITH_DEPS, P), AT_ROOT],
+                &deps,
+                &[new, (WITH_DEPS, P), (LOCATE, AT_ROOT)],
                 &manifest,
                 &[VERSION, STABLE, WITH_DEPS, LOCATE],
                 "0 of 0; failed to parse `nodes` field from metadata",
             ),
             (
                 &[],
-                &[OWN, (METADATA, P), (LOCATE, "{}")],
+                &[(VERSION, OWN), (METADATA, P), (LOCATE, "{}")],
                 &manifest,
                 &[VERSION, STABLE, METADATA, LOCATE],
                 "0 of 0; failed to parse `root` field from locate-project",
             ),
             (
                 &[],
-                &[OWN, (METADATA, P), (LOCATE, "/w/Cargo.toml")],
+                &[(VERSION, OWN), (METADATA, P), (LOCATE, "/w/Cargo.toml")],
                 &manifest,
                 &[VERSION, STABLE, METADATA, LOCATE],
                 "0 of 0; failed to parse output from `cargo locate-project`",
@@ -551,7 +549,10 @@ fn commanded(alloc: Global, more: &[&str]) -> Result<String, AllocError> {
     let Some(args) = args(alloc, &env, more)? else {
         return String::from_str(alloc, "no arguments");
     };
-    let mut caller = caller(alloc, &[OWN, (METADATA, ROOTED), AT_ROOT])?;
+    let mut caller = caller(
+        alloc,
+        &[(VERSION, OWN), (METADATA, ROOTED), (LOCATE, AT_ROOT)],
+    )?;
     let with_a = "[package]\n[features]\na = []\n";
     let mut files = files(
         alloc,
