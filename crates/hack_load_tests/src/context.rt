@@ -160,28 +160,31 @@ fn told(
     format!(in alloc; "{calls}{left} of {failed}; {told}")
 }
 
-/// Compares what comes of calls with these texts.
-fn rows<R: Abort + AllocGlobal>(
+/// Compares what comes of a call with a text.
+fn row<R: Abort + AllocGlobal>(
     rt: &R,
-    rows: &[(&[&str], &[(&str, &str)], &[(&str, &str)], &str)],
+    more: &[&str],
+    replies: &[(&str, &str)],
+    held: &[(&str, &str)],
+    want: &str,
 ) -> Result<(), AllocError> {
-    for (more, replies, held, want) in rows {
-        let found = told(rt.alloc(), more, replies, held)?;
-        assert_eq!(rt; found.as_str(), *want);
-    }
+    let found = told(rt.alloc(), more, replies, held)?;
+    assert_eq!(rt; found.as_str(), want);
     Ok(())
 }
 
 /// The same, where the text comes behind these lines.
-fn ends<R: Abort + AllocGlobal>(
+fn end<R: Abort + AllocGlobal>(
     rt: &R,
-    rows: &[(&[&str], &[(&str, &str)], &[(&str, &str)], &[&str], &str)],
+    more: &[&str],
+    replies: &[(&str, &str)],
+    held: &[(&str, &str)],
+    calls: &[&str],
+    want: &str,
 ) -> Result<(), AllocError> {
-    for (more, replies, held, calls, want) in rows {
-        let found = told(rt.alloc(), more, replies, held)?;
-        let want = ended(rt.alloc(), calls, want)?;
-        assert_eq!(rt; found.as_str(), want.as_str());
-    }
+    let found = told(rt.alloc(), more, replies, held)?;
+    let want = ended(rt.alloc(), calls, want)?;
+    assert_eq!(rt; found.as_str(), want.as_str());
     Ok(())
 }
 
@@ -215,90 +218,90 @@ const AT_ROOT: &str = r#"{"root":"/w/Cargo.toml"}"#;
 #[test]
 fn workspaces(rt: HostRuntime) -> Result<(), Fail> {
     let with_a = "[package]\n[features]\na = []\n";
-    rows(
+    row(
         &rt,
-        &[
-            (
-                &[],
-                &[(VERSION, OWN), (METADATA, ROOTED), (LOCATE, AT_ROOT)],
-                &[("/w/Cargo.toml", with_a), ("/w/q/Cargo.toml", PACKAGE)],
-                "cargo -vV\n\
+        &[],
+        &[(VERSION, OWN), (METADATA, ROOTED), (LOCATE, AT_ROOT)],
+        &[("/w/Cargo.toml", with_a), ("/w/q/Cargo.toml", PACKAGE)],
+        "cargo -vV\n\
                  rustup run stable cargo -vV\n\
                  cargo metadata --format-version=1 --no-deps\n\
                  cargo locate-project\n\
                  0 of 0; /w by `cargo` 1.70 (1.70) in /w, at p\n\
                  p at /w/Cargo.toml, private: false, 1.60, 28: a\n\
                  q at /w/q/Cargo.toml, private: true, none, 10:",
-            ),
-            (
-                &[],
-                &[
-                    (VERSION, OWN),
-                    (METADATA, ROOTED),
-                    (LOCATE, r#"{"root":"/w/q/Cargo.toml"}"#),
-                ],
-                &[("/w/Cargo.toml", PACKAGE), ("/w/q/Cargo.toml", with_a)],
-                "cargo -vV\n\
+    )?;
+    row(
+        &rt,
+        &[],
+        &[
+            (VERSION, OWN),
+            (METADATA, ROOTED),
+            (LOCATE, r#"{"root":"/w/q/Cargo.toml"}"#),
+        ],
+        &[("/w/Cargo.toml", PACKAGE), ("/w/q/Cargo.toml", with_a)],
+        "cargo -vV\n\
                  rustup run stable cargo -vV\n\
                  cargo metadata --format-version=1 --no-deps\n\
                  cargo locate-project\n\
                  0 of 0; /w by `cargo` 1.70 (1.70) in /w, at q\n\
                  p at /w/Cargo.toml, private: false, 1.60, 10:\n\
                  q at /w/q/Cargo.toml, private: true, none, 28: a",
-            ),
-            (
-                &[],
-                &[(VERSION, OWN), (METADATA, VIRTUAL), (LOCATE, AT_ROOT)],
-                &[("/w/a/Cargo.toml", PACKAGE), ("/w/b/Cargo.toml", PACKAGE)],
-                "cargo -vV\n\
+    )?;
+    row(
+        &rt,
+        &[],
+        &[(VERSION, OWN), (METADATA, VIRTUAL), (LOCATE, AT_ROOT)],
+        &[("/w/a/Cargo.toml", PACKAGE), ("/w/b/Cargo.toml", PACKAGE)],
+        "cargo -vV\n\
                  rustup run stable cargo -vV\n\
                  cargo metadata --format-version=1 --no-deps\n\
                  cargo locate-project\n\
                  0 of 0; /w by `cargo` 1.70 (1.70) in /w, at none\n\
                  a at /w/a/Cargo.toml, private: false, none, 10:\n\
                  b at /w/b/Cargo.toml, private: false, none, 10:",
-            ),
+    )?;
+    row(
+        &rt,
+        &["--verbose", "--manifest-path", "m"],
+        &[
+            (VERSION, OWN),
             (
-                &["--verbose", "--manifest-path", "m"],
-                &[
-                    (VERSION, OWN),
-                    (
-                        "cargo metadata --format-version=1 --manifest-path m --no-deps",
-                        P,
-                    ),
-                    ("cargo locate-project --manifest-path m", AT_ROOT),
-                ],
-                &[("/w/Cargo.toml", PACKAGE)],
-                "cargo -vV\n\
+                "cargo metadata --format-version=1 --manifest-path m --no-deps",
+                P,
+            ),
+            ("cargo locate-project --manifest-path m", AT_ROOT),
+        ],
+        &[("/w/Cargo.toml", PACKAGE)],
+        "cargo -vV\n\
                  rustup run stable cargo -vV\n\
                  cargo metadata --format-version=1 --manifest-path m --no-deps\n\
                  cargo locate-project --manifest-path m\n\
                  0 of 0; /w by `cargo` 1.70 (1.70) in /w, at p\n\
                  p (/w) at /w/Cargo.toml, private: false, 1.60, 10:",
-            ),
-            // Stable's cargo tells the metadata where it is newer, and the lockfile stays.
+    )?;
+    // Stable's cargo tells the metadata where it is newer, and the lockfile stays.
+    row(
+        &rt,
+        &[],
+        &[
+            (VERSION, OWN),
+            ("rustup run stable cargo -vV", "release: 1.80.0\n"),
+            (METADATA, P),
             (
-                &[],
-                &[
-                    (VERSION, OWN),
-                    ("rustup run stable cargo -vV", "release: 1.80.0\n"),
-                    (METADATA, P),
-                    (
-                        "rustup run stable cargo metadata --format-version=1 --no-deps",
-                        P,
-                    ),
-                    (LOCATE, AT_ROOT),
-                ],
-                &[("/w/Cargo.toml", PACKAGE), ("/w/Cargo.lock", "locked")],
-                "cargo -vV\n\
+                "rustup run stable cargo metadata --format-version=1 --no-deps",
+                P,
+            ),
+            (LOCATE, AT_ROOT),
+        ],
+        &[("/w/Cargo.toml", PACKAGE), ("/w/Cargo.lock", "locked")],
+        "cargo -vV\n\
                  rustup run stable cargo -vV\n\
                  cargo metadata --format-version=1 --no-deps\n\
                  rustup run stable cargo metadata --format-version=1 --no-deps\n\
                  cargo locate-project\n\
                  0 of 0; /w by `cargo` 1.70 (1.80) in /w, at p\n\
                  p at /w/Cargo.toml, private: false, 1.60, 10:",
-            ),
-        ],
     )?;
     Ok(())
 }
@@ -366,71 +369,74 @@ const STABLE: &str = "rustup run stable cargo -vV";
 #[test]
 fn faults_that_end_the_questions(rt: HostRuntime) -> Result<(), Fail> {
     let deps = ["--each-feature", "--include-deps-features"];
-    ends(
+    // Cargo fails to tell the metadata, or tells none.
+    end(
         &rt,
-        &[
-            // Cargo fails to tell the metadata, or tells none.
-            (
-                &[],
-                &[(VERSION, OWN)],
-                &[],
-                &[VERSION, STABLE, METADATA],
-                "0 of 0; process didn't exit successfully: \
+        &[],
+        &[(VERSION, OWN)],
+        &[],
+        &[VERSION, STABLE, METADATA],
+        "0 of 0; process didn't exit successfully: \
                  `cargo metadata --format-version=1 --no-deps` (exit status: 101)",
-            ),
-            (
-                &[],
-                &[(VERSION, OWN), (METADATA, "[]")],
-                &[],
-                &[VERSION, STABLE, METADATA],
-                "0 of 0; failed to parse output from `cargo metadata --format-version=1 --no-deps`",
-            ),
-            (
-                &[],
-                &[(VERSION, OWN), (METADATA, "{}")],
-                &[],
-                &[VERSION, STABLE, METADATA],
-                "0 of 0; failed to parse `packages` field from metadata",
-            ),
-            // The host isn't known.
-            (
-                &deps,
-                &[(VERSION, "release: 1.70.0")],
-                &[],
-                &[VERSION, STABLE],
-                "0 of 0; unable to determine host",
-            ),
-            // A manifest that isn't there, or is ill formed.
-            (
-                &[],
-                &[(VERSION, OWN), (METADATA, VIRTUAL)],
-                &[("/w/a/Cargo.toml", PACKAGE)],
-                &[VERSION, STABLE, METADATA],
-                "0 of 1; failed to read from file `/w/b/Cargo.toml`",
-            ),
-            (
-                &[],
-                &[(VERSION, OWN), (METADATA, P)],
-                &[("/w/Cargo.toml", "package")],
-                &[VERSION, STABLE, METADATA],
-                "0 of 0; failed to parse manifest `/w/Cargo.toml` as toml",
-            ),
-            (
-                &[],
-                &[(VERSION, OWN), (METADATA, P)],
-                &[("/w/Cargo.toml", "[package]\n[features]\na = 1\n")],
-                &[VERSION, STABLE, METADATA],
-                "0 of 0; failed to parse `features` field from manifest `/w/Cargo.toml`",
-            ),
-            // Cargo fails to tell where the call stands.
-            (
-                &[],
-                &[(VERSION, OWN), (METADATA, P)],
-                &[("/w/Cargo.toml", PACKAGE)],
-                &[VERSION, STABLE, METADATA, LOCATE],
-                "0 of 0; process didn't exit successfully: `cargo locate-project` (exit status: 101)",
-            ),
-        ],
+    )?;
+    end(
+        &rt,
+        &[],
+        &[(VERSION, OWN), (METADATA, "[]")],
+        &[],
+        &[VERSION, STABLE, METADATA],
+        "0 of 0; failed to parse output from `cargo metadata --format-version=1 --no-deps`",
+    )?;
+    end(
+        &rt,
+        &[],
+        &[(VERSION, OWN), (METADATA, "{}")],
+        &[],
+        &[VERSION, STABLE, METADATA],
+        "0 of 0; failed to parse `packages` field from metadata",
+    )?;
+    // The host isn't known.
+    end(
+        &rt,
+        &deps,
+        &[(VERSION, "release: 1.70.0")],
+        &[],
+        &[VERSION, STABLE],
+        "0 of 0; unable to determine host",
+    )?;
+    // A manifest that isn't there, or is ill formed.
+    end(
+        &rt,
+        &[],
+        &[(VERSION, OWN), (METADATA, VIRTUAL)],
+        &[("/w/a/Cargo.toml", PACKAGE)],
+        &[VERSION, STABLE, METADATA],
+        "0 of 1; failed to read from file `/w/b/Cargo.toml`",
+    )?;
+    end(
+        &rt,
+        &[],
+        &[(VERSION, OWN), (METADATA, P)],
+        &[("/w/Cargo.toml", "package")],
+        &[VERSION, STABLE, METADATA],
+        "0 of 0; failed to parse manifest `/w/Cargo.toml` as toml",
+    )?;
+    end(
+        &rt,
+        &[],
+        &[(VERSION, OWN), (METADATA, P)],
+        &[("/w/Cargo.toml", "[package]\n[features]\na = 1\n")],
+        &[VERSION, STABLE, METADATA],
+        "0 of 0; failed to parse `features` field from manifest `/w/Cargo.toml`",
+    )?;
+    // Cargo fails to tell where the call stands.
+    end(
+        &rt,
+        &[],
+        &[(VERSION, OWN), (METADATA, P)],
+        &[("/w/Cargo.toml", PACKAGE)],
+        &[VERSION, STABLE, METADATA, LOCATE],
+        "0 of 0; process didn't exit successfully: `cargo locate-project` (exit status: 101)",
     )?;
     Ok(())
 }
@@ -448,64 +454,65 @@ fn answers_that_make_no_context(rt: HostRuntime) -> Result<(), Fail> {
     let manifest = [("/w/Cargo.toml", PACKAGE)];
     let read = "0 of 0; /w by `cargo` 1.41 (1.41) in /w, at p\n\
                 p at /w/Cargo.toml, private: false, none, 10:";
-    ends(
+    end(
         &rt,
+        &deps,
+        &[old, (WITH_DEPS, NODE), (LOCATE, AT_ROOT)],
+        &manifest,
+        &[VERSION, STABLE, WITH_DEPS, LOCATE],
+        "0 of 0; --include-deps-features requires Cargo 1.41 or later",
+    )?;
+    end(
+        &rt,
+        &deps,
+        &[new, (WITH_DEPS, NODE), (LOCATE, AT_ROOT)],
+        &manifest,
+        &[VERSION, STABLE, WITH_DEPS, LOCATE],
+        read,
+    )?;
+    end(
+        &rt,
+        &deps,
+        &[new, (WITH_DEPS, P), (LOCATE, AT_ROOT)],
+        &manifest,
+        &[VERSION, STABLE, WITH_DEPS, LOCATE],
+        "0 of 0; failed to parse `nodes` field from metadata",
+    )?;
+    end(
+        &rt,
+        &[],
+        &[(VERSION, OWN), (METADATA, P), (LOCATE, "{}")],
+        &manifest,
+        &[VERSION, STABLE, METADATA, LOCATE],
+        "0 of 0; failed to parse `root` field from locate-project",
+    )?;
+    end(
+        &rt,
+        &[],
+        &[(VERSION, OWN), (METADATA, P), (LOCATE, "/w/Cargo.toml")],
+        &manifest,
+        &[VERSION, STABLE, METADATA, LOCATE],
+        "0 of 0; failed to parse output from `cargo locate-project`",
+    )?;
+    // Cargo itself can't be asked for its version: this warns, and the next fault counts.
+    end(
+        &rt,
+        &["--manifest-path", "m"],
         &[
             (
-                &deps,
-                &[old, (WITH_DEPS, NODE), (LOCATE, AT_ROOT)],
-                &manifest,
-                &[VERSION, STABLE, WITH_DEPS, LOCATE],
-                "0 of 0; --include-deps-features requires Cargo 1.41 or later",
+                "cargo metadata --format-version=1 --manifest-path m --no-deps",
+                P,
             ),
-            (
-                &deps,
-                &[new, (WITH_DEPS, NODE), (LOCATE, AT_ROOT)],
-                &manifest,
-                &[VERSION, STABLE, WITH_DEPS, LOCATE],
-                read,
-            ),
-            (
-                &deps,
-                &[new, (WITH_DEPS, P), (LOCATE, AT_ROOT)],
-                &manifest,
-                &[VERSION, STABLE, WITH_DEPS, LOCATE],
-                "0 of 0; failed to parse `nodes` field from metadata",
-            ),
-            (
-                &[],
-                &[(VERSION, OWN), (METADATA, P), (LOCATE, "{}")],
-                &manifest,
-                &[VERSION, STABLE, METADATA, LOCATE],
-                "0 of 0; failed to parse `root` field from locate-project",
-            ),
-            (
-                &[],
-                &[(VERSION, OWN), (METADATA, P), (LOCATE, "/w/Cargo.toml")],
-                &manifest,
-                &[VERSION, STABLE, METADATA, LOCATE],
-                "0 of 0; failed to parse output from `cargo locate-project`",
-            ),
-            // Cargo itself can't be asked for its version: this warns, and the next fault counts.
-            (
-                &["--manifest-path", "m"],
-                &[
-                    (
-                        "cargo metadata --format-version=1 --manifest-path m --no-deps",
-                        P,
-                    ),
-                    ("cargo locate-project --manifest-path m", "[]"),
-                ],
-                &manifest,
-                &[
-                    VERSION,
-                    STABLE,
-                    "cargo metadata --format-version=1 --manifest-path m --no-deps",
-                    "cargo locate-project --manifest-path m",
-                ],
-                "0 of 0; failed to parse output from `cargo locate-project`",
-            ),
+            ("cargo locate-project --manifest-path m", "[]"),
         ],
+        &manifest,
+        &[
+            VERSION,
+            STABLE,
+            "cargo metadata --format-version=1 --manifest-path m --no-deps",
+            "cargo locate-project --manifest-path m",
+        ],
+        "0 of 0; failed to parse output from `cargo locate-project`",
     )?;
     Ok(())
 }
