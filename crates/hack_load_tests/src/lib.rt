@@ -2,6 +2,8 @@
 #![tactic(auto)]
 
 #[cfg(test)]
+mod context;
+#[cfg(test)]
 mod features;
 #[cfg(test)]
 mod located;
