@@ -26,15 +26,15 @@ use hack_versions::notice::Notice;
 use std::alloc::{AllocError, Global};
 
 /// A member of the workspace.
-fn member_of<'a>(context: &'a Context, id: PackageId) -> Member<'a>
-    requires member { Contains (context_view context.now).metadata.workspace_members id.index }
+fn member_of<'a>(context: &'a Context, id: &PackageId) -> Member<'a>
+    requires member { Contains (context_view context.now).metadata.workspace_members id.now.index }
     requires whole { IsWhole (context_view context.now) }
-    ensures { member_at (context_view context.now) id.index ≡ Some (member_view result) }
+    ensures { member_at (context_view context.now) id.now.index ≡ Some (member_view result) }
 {
     Member {
-        id,
-        pkg: context.packages(id),
-        is_private: context.is_private(id),
+        id: *id,
+        pkg: context.packages(*id),
+        is_private: context.is_private(*id),
     }
 }
 
@@ -45,7 +45,7 @@ fn members_of<'a>(alloc: Global, context: &'a Context) -> Result<Vec<Member<'a>>
 {
     let mut members = Vec::new(alloc);
     for id in context.workspace_members() {
-        members.push(member_of(context, *id))?;
+        members.push(member_of(context, id))?;
     }
     Ok(members)
 }

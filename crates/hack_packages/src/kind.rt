@@ -32,9 +32,15 @@ pub enum Kind {
     /// One run with what cargo enables by itself.
     Normal,
     /// A run for each candidate, and those without.
-    Each { candidates: Vec<Feature>, runs: Runs },
+    Each {
+        candidates: Vec<Feature>,
+        runs: Runs,
+    },
     /// A run for each set of candidates that is listed, and those without.
-    Powerset { candidates: Vec<Feature>, runs: Runs },
+    Powerset {
+        candidates: Vec<Feature>,
+        runs: Runs,
+    },
 }
 
 impl Kind {
