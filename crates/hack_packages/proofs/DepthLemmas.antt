@@ -6,7 +6,8 @@ use Rattle.std.proofs.lemmas.Bool.{lt-ltb}
 use Rattle.std.proofs.lemmas.List.FromFn.{get_or-map-range_with_len, length-map-range_with_len}
 use Rattle.hack_features.specs.Names.{Name}
 use Rattle.hack_features.specs.Sets.{IsSelection, IsBefore, IsListing, IsWithin, Pairwise, singles}
-use Rattle.hack_features.specs.Rules.{Choice, IsListed, IsRedundant, names_at, unlifted}
+use Rattle.hack_features.specs.Rules.{Choice, IsListed, IsRedundant, NotBothReach, Serves, names_at, names_in, unlifted}
+use Rattle.hack_features.specs.FeatureMap.{EnablesOneOf}
 use Rattle.hack_features.proofs.Members.{Contains-cons_cases}
 use Rattle.hack_features.proofs.Listing.{selection_none, selection_push, selection_up}
 use Rattle.hack_features.proofs.CoverLemmas.{before_trans}
@@ -19,7 +20,7 @@ in-none : {X : Type 0} (x : X) → Contains [] x → ⊥
 in-none x c = absurd (omega (arith, c.1))
 
 in-one : (p q : ℕ) → Contains (p ∷ []) q → p ≡ q
-in-one p q c = elim (Contains-cons_cases p [] q c) [ | inl e ↦ e | inr d ↦ absurd (in-none q d) ]
+in-one p q c = elim (Contains-cons_cases p [] q c) [ inl e ↦ e | inr d ↦ absurd (in-none q d) ]
 
 before-one : (p q : ℕ) → p < q → IsBefore (p ∷ []) (q ∷ [])
 before-one p q lt = record {
@@ -76,9 +77,9 @@ listed-one c p depth exclusive wanted = record {
   permitted = record {
     within = subst (λ d. IsWithin d (p ∷ [])) (sym depth) (omega arith);
     lean = lean-one c p;
-    exclusive = all-none _ c.exclusive exclusive;
+    exclusive = all-none (λ group. Pairwise (NotBothReach c.map group) (names_in c (p ∷ []))) c.exclusive exclusive;
   };
-  required = all-none _ c.at_least_one_of wanted;
+  required = all-none (λ group. (key : Name) → EnablesOneOf c.map group key → Serves c group (p ∷ [])) c.at_least_one_of wanted;
 }
 
 -- a listed set is one candidate alone

@@ -81,11 +81,11 @@ applies w p group = not w.ignore_unknown || list_all (is_known p) group
 -- groups behind them that are applied
 abbrev pub candidates : Wishes → Known → List Names
 candidates w p = if is_bare w.included
-  then filter (stays w) p.normal
+    then filter (stays w) p.normal
     ++ (filter (λ names. is_asked w.optional_deps names && stays w names) p.optional
     ++ (filter (λ names. w.deps_features && stays w names) p.of_deps
     ++ filter (applies w p) w.groups))
-  else filter (stays w) w.included
+    else filter (stays w) w.included
 
 -- a feature of the package, its optional dependencies or its dependencies has the name
 abbrev pub is_found : Known → Name → Bool
@@ -114,8 +114,8 @@ group_notes w p = map (λ names. info (group_text p.name names)) (filter (λ nam
 -- named: names that a single package doesn't have, and groups that aren't applied
 abbrev pub candidate_notes : Bool → Wishes → Known → List Note
 candidate_notes single w p = if (w.each || w.powerset) && is_bare w.included
-  then (if single then feature_notes w p ++ dependency_notes w p else []) ++ group_notes w p
-  else []
+    then (if single then feature_notes w p ++ dependency_notes w p else []) ++ group_notes w p
+    else []
 
 -- whether each exclusion group is lifted for the package: for one of its name a lift has the same names in the same order
 abbrev pub lifted_for : Wishes → Name → List Bool

@@ -116,7 +116,8 @@ fn are_known(pkg: &Package, features: &Features, names: &[String]) -> bool
 
 /// Whether the group is applied to the package.
 fn applies(args: &Args, pkg: &Package, features: &Features, group: &Feature) -> bool
-    ensures { result ≡ applied_to (wishes args.now) (known pkg.now features.now) (group_of group.now) }
+    ensures { result ≡ applied_to (wishes args.now) (known pkg.now features.now) (group_of
+        group.now) }
 {
     !args.ignore_unknown_features || are_known(pkg, features, group.as_group())
 }

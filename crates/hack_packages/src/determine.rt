@@ -10,7 +10,7 @@ ghost use Rattle.hack_versions.specs.Notes.{note_of};
 ghost use Rattle.hack_packages.specs.MembersView.{member_view};
 ghost use Rattle.hack_packages.specs.Candidates.{candidate_notes};
 ghost use Rattle.hack_packages.specs.CandidatesView.{wishes};
-ghost use Rattle.hack_packages.specs.Kinds.{AreRuns, AreCovering};
+ghost use Rattle.hack_packages.specs.Kinds.{AreRuns, AreCovering, IsDepthOne, as_each};
 ghost use Rattle.hack_packages.specs.KindsView.{IsKind, runs_of};
 ghost use Rattle.hack_packages.specs.ContextMembers.{member_at, members_in, name_at as named_at};
 ghost use Rattle.hack_packages.specs.ContextMembers.{current_name as current_called};
@@ -26,15 +26,15 @@ use hack_versions::notice::Notice;
 use std::alloc::{AllocError, Global};
 
 /// A member of the workspace.
-fn member_of<'a>(context: &'a Context, id: PackageId) -> Member<'a>
-    requires member { Contains (context_view context.now).metadata.workspace_members id.index }
+fn member_of<'a>(context: &'a Context, id: &PackageId) -> Member<'a>
+    requires member { Contains (context_view context.now).metadata.workspace_members id.now.index }
     requires whole { IsWhole (context_view context.now) }
-    ensures { member_at (context_view context.now) id.index ≡ Some (member_view result) }
+    ensures { member_at (context_view context.now) id.now.index ≡ Some (member_view result) }
 {
     Member {
-        id,
-        pkg: context.packages(id),
-        is_private: context.is_private(id),
+        id: *id,
+        pkg: context.packages(*id),
+        is_private: context.is_private(*id),
     }
 }
 
@@ -45,7 +45,7 @@ fn members_of<'a>(alloc: Global, context: &'a Context) -> Result<Vec<Member<'a>>
 {
     let mut members = Vec::new(alloc);
     for id in context.workspace_members() {
-        members.push(member_of(context, *id))?;
+        members.push(member_of(context, id))?;
     }
     Ok(members)
 }
@@ -117,6 +117,15 @@ pub fn determine_kind(
         → (context_view context.now).args.feature_powerset ≡ true
         → IfOk result (λ answer. AreCovering (wishes (context_view context.now).args)
         (known_as p features) (runs_of answer.0.kind)) }
+
+    // For a package with optional dependencies sets of one candidate give the runs of each feature.
+    ensures depth_one { (p : PackageRecord) (features : Loaded)
+        → package_at (context_view context.now) id.index ≡ Some p
+        → features_at (context_view context.now) id.index ≡ Some features
+        → IfOk result (λ answer. IsDepthOne (wishes (context_view context.now).args)
+        → 0 < length (known_as p features).optional
+        → AreRuns (as_each (wishes (context_view context.now).args)) (known_as p features)
+        (runs_of answer.0.kind)) }
     ensures notices { (p : PackageRecord) (features : Loaded)
         → package_at (context_view context.now) id.index ≡ Some p
         → features_at (context_view context.now) id.index ≡ Some features

@@ -1,6 +1,7 @@
 //! The runs of a package, and its candidates.
 
-ghost use Rattle.std.specs.Prelude.{◌≡◌, ◌<◌, ◌++◌, [], IfOk, OnOk, Some, length, map, slice_get, true};
+ghost use Rattle.std.specs.Prelude.{◌≡◌, ◌<◌, ◌++◌, [], IfOk};
+ghost use Rattle.std.specs.Prelude.{OnOk, Some, length, map, slice_get, true};
 ghost use Rattle.std.specs.List.{slice_index_or};
 ghost use Rattle.hack_features.specs.Feature.{groups_of, candidates_of};
 ghost use Rattle.hack_features.specs.Forest.{sets_in};
@@ -32,9 +33,15 @@ pub enum Kind {
     /// One run with what cargo enables by itself.
     Normal,
     /// A run for each candidate, and those without.
-    Each { candidates: Vec<Feature>, runs: Runs },
+    Each {
+        candidates: Vec<Feature>,
+        runs: Runs,
+    },
     /// A run for each set of candidates that is listed, and those without.
-    Powerset { candidates: Vec<Feature>, runs: Runs },
+    Powerset {
+        candidates: Vec<Feature>,
+        runs: Runs,
+    },
 }
 
 impl Kind {
@@ -156,7 +163,8 @@ fn listed_sets(
 ) -> Result<FeatureSets, AllocError>
     ensures sets { (features : Loaded)
         → groups_of candidates.now ≡ are_candidates (wishes args.now) (known pkg.now features)
-        → IfOk result (λ sets. AreSets true (wishes args.now) (known pkg.now features) (sets_in sets)) }
+        → IfOk result (λ sets. AreSets true (wishes args.now) (known pkg.now features) (sets_in
+        sets)) }
     ensures covers { (features : Loaded)
         → groups_of candidates.now ≡ are_candidates (wishes args.now) (known pkg.now features)
         → IfOk result (λ sets. AreCovers (choice_of (wishes args.now) (known pkg.now features))
@@ -256,8 +264,8 @@ fn kind_of(
     }
 }
 
-/// The runs of a package, and what the user is told of its features. `single` says whether it is the
-/// only package that is left after exclusions.
+/// The runs of a package, and what the user is told of its features. `single` says whether it is
+/// the only package that is left after exclusions.
 pub fn determine_runs(
     alloc: Global,
     args: &Args,
@@ -276,10 +284,11 @@ pub fn determine_runs(
     ensures covered { IfOk result (λ answer. args.now.feature_powerset ≡ true
         → AreCovering (wishes args.now) (known pkg.now features.now) (runs_of answer.0.kind)) }
 
-    // Sets of one candidate give the runs of each feature, for a package with optional dependencies.
+    // For a package with optional dependencies sets of one candidate give the runs of each feature.
     ensures depth_one { IfOk result (λ answer. IsDepthOne (wishes args.now)
         → 0 < length (known pkg.now features.now).optional
-        → AreRuns (as_each (wishes args.now)) (known pkg.now features.now) (runs_of answer.0.kind)) }
+        → AreRuns (as_each (wishes args.now)) (known pkg.now features.now) (runs_of
+        answer.0.kind)) }
     ensures notices { IfOk result (λ answer. map note_of answer.1.items
         ≡ candidate_notes single (wishes args.now) (known pkg.now features.now)) }
 {

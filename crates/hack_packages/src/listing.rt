@@ -1,6 +1,7 @@
 //! The steps by which packages are chosen, each over all members or specifications.
 
-ghost use Rattle.std.specs.Prelude.{◌≡◌, ◌⊎◌, ◌↔◌, ◌++◌, ◌&&◌, IfOk, IfErr, OnOk, IsTrue, map, filter, not, string_bytes};
+ghost use Rattle.std.specs.Prelude.{◌≡◌, ◌⊎◌, ◌↔◌, ◌++◌, ◌&&◌, IfOk};
+ghost use Rattle.std.specs.Prelude.{IfErr, OnOk, IsTrue, map, filter, not, string_bytes};
 ghost use Rattle.hack_features.specs.Names.{names_of};
 ghost use Rattle.hack_versions.specs.Notes.{note_of};
 ghost use Rattle.hack_packages.specs.Texts.{exclusion_text, lift_text as lift_words, private_text};
@@ -89,7 +90,8 @@ pub(crate) fn exclusion_notes(
     exclude: &[String],
     root: &str,
 ) -> Result<Vec<Notice>, AllocError>
-    ensures { IfOk result (λ notices. Collects (λ spec. ¬ MatchesSome (map member_view members.now) spec)
+    ensures { IfOk result (λ notices. Collects (λ spec. ¬ MatchesSome (map member_view
+        members.now) spec)
         (λ spec. warning (exclusion_text root.now spec))
         (names_of exclude.now) (map note_of notices.items)) }
 {

@@ -5,7 +5,8 @@ ghost use Rattle.std.specs.List.{join_with_byte};
 ghost use Rattle.hack_features.specs.Names.{names_of};
 ghost use Rattle.hack_versions.specs.Notes.{note_of};
 ghost use Rattle.hack_words.specs.Call.{note_if};
-ghost use Rattle.hack_packages.specs.Texts.{exclusion_text, lift_text, feature_text, dependency_text};
+ghost use Rattle.hack_packages.specs.Texts.{exclusion_text, lift_text};
+ghost use Rattle.hack_packages.specs.Texts.{feature_text, dependency_text};
 ghost use Rattle.hack_packages.specs.Texts.{group_text, private_text, verbose_text, name_verbose};
 ghost use Rattle.hack_metadata.specs.View.{package_view};
 
@@ -89,7 +90,8 @@ fn verbose_text(alloc: Global, name: &str, folder: &str) -> Result<String, Alloc
 
 /// A package's name, under `--verbose` with the folder of its manifest.
 fn name_verbose(alloc: Global, pkg: &Package, verbose: bool) -> Result<String, AllocError>
-    ensures { IfOk result (λ text. string_bytes text ≡ name_verbose verbose (package_view pkg.now)) }
+    ensures { IfOk result (λ text. string_bytes text ≡ name_verbose verbose (package_view
+        pkg.now)) }
 {
     if verbose {
         verbose_text(alloc, pkg.name.as_str(), parent(pkg.manifest_path.as_str()))
@@ -104,7 +106,8 @@ pub(crate) fn private_text(
     pkg: &Package,
     verbose: bool,
 ) -> Result<String, AllocError>
-    ensures { IfOk result (λ text. string_bytes text ≡ private_text verbose (package_view pkg.now)) }
+    ensures { IfOk result (λ text. string_bytes text ≡ private_text verbose (package_view
+        pkg.now)) }
 {
     let name = name_verbose(alloc, pkg, verbose)?;
     format!(in alloc; "skipped running on private package `{name}`")

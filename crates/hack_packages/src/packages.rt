@@ -66,13 +66,16 @@ fn about<'a>(
     members: &[Member<'a>],
     current: Option<&str>,
 ) -> Result<Vec<Member<'a>>, PackagesFault>
-    ensures ok { IfOk result (λ about. IsAbout (some_named (choosing args.now (option_copied current.entry)))
+    ensures ok { IfOk result (λ about. IsAbout (some_named (choosing args.now (option_copied
+        current.entry)))
         (choosing args.now (option_copied current.entry)) (map member_view members.now)
         (map member_view about.items)) }
     ensures never { IfOk result (λ _. (e : PackagesFault)
-        → ¬ IsListFault (choosing args.now (option_copied current.entry)) (map member_view members.now) e) }
+        → ¬ IsListFault (choosing args.now (option_copied current.entry)) (map member_view
+        members.now) e) }
     ensures err { IfErr result (λ e. (e ≡ PackagesFault.Memory)
-        ⊎ IsListFault (choosing args.now (option_copied current.entry)) (map member_view members.now) e) }
+        ⊎ IsListFault (choosing args.now (option_copied current.entry))
+        (map member_view members.now) e) }
 {
     if !names_some(args) {
         return Ok(unnamed(alloc, args.workspace, members, current)?);
@@ -100,13 +103,16 @@ pub fn choose_packages(
     current: Option<&str>,
     root: &str,
 ) -> Result<(PackageList, Vec<Notice>), PackagesFault>
-    ensures ok { IfOk result (λ answer. IsPackageList (choosing args.now (option_copied current.entry)) root.now
+    ensures ok { IfOk result (λ answer. IsPackageList (choosing args.now (option_copied
+        current.entry)) root.now
         (map member_view members.now) (map (λ id. id.index) answer.0.ids.items) answer.0.is_single
         (map note_of answer.1.items)) }
     ensures never { IfOk result (λ _. (e : PackagesFault)
-        → ¬ IsListFault (choosing args.now (option_copied current.entry)) (map member_view members.now) e) }
+        → ¬ IsListFault (choosing args.now (option_copied current.entry)) (map member_view
+        members.now) e) }
     ensures err { IfErr result (λ e. (e ≡ PackagesFault.Memory)
-        ⊎ IsListFault (choosing args.now (option_copied current.entry)) (map member_view members.now) e) }
+        ⊎ IsListFault (choosing args.now (option_copied current.entry))
+        (map member_view members.now) e) }
 {
     let about = match about(alloc, args, members, current) {
         Ok(about) => about,

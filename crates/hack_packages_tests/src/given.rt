@@ -1,5 +1,6 @@
 //! Workspaces and calls from short texts.
 
+use hack_load::context::{Answers, Context, Loaded, Located};
 use hack_load::features::Features;
 use hack_manifest::manifest::Manifest;
 use hack_metadata::metadata::{Metadata, object_of};
@@ -164,4 +165,48 @@ pub fn told(alloc: Global, notices: &[Notice]) -> Result<String, AllocError> {
         lines.push_str(format!(in alloc; "\n{kind}: {text}")?.as_str())?;
     }
     Ok(lines)
+}
+
+/// The manifest of each member, all with no features.
+fn manifests_of(alloc: Global, metadata: &Metadata) -> Result<Vec<Manifest>, Fail> {
+    let mut manifests = Vec::new(alloc);
+    for _ in &metadata.workspace_members {
+        let text = String::from_str(alloc, "[package]\nname = \"p\"\n")?;
+        manifests.push(Manifest::new(alloc, "/w/p/Cargo.toml", text, 90)?)?;
+    }
+    Ok(manifests)
+}
+
+/// The context of a call with these words, in a workspace of members without features, that stands
+/// in the package of that name.
+pub fn context_of(
+    alloc: Global,
+    words: &str,
+    members: &str,
+    current: &str,
+) -> Result<Option<Context>, Fail> {
+    let metadata = workspace(alloc, members, "", "")?;
+    let manifests = manifests_of(alloc, &metadata)?;
+    let Some(args) = args_of(alloc, words)? else {
+        return Ok(None);
+    };
+    if manifests.len() != metadata.workspace_members.len() {
+        return Ok(None);
+    }
+    let loaded = Loaded {
+        cargo: String::from_str(alloc, "cargo")?,
+        current_dir: String::from_str(alloc, "/w")?,
+        metadata,
+        manifests,
+        located: Located {
+            command: String::from_str(alloc, "`cargo locate-project`")?,
+            text: format!(in alloc; "{{\"root\":\"/w/{current}/Cargo.toml\"}}")?,
+        },
+    };
+    let answers = Answers {
+        cargo_version: Ok(90),
+        loaded: Ok(loaded),
+    };
+    let (context, _) = Context::new(alloc, args, answers)?;
+    Ok(Some(context))
 }

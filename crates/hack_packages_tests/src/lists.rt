@@ -1,11 +1,11 @@
 //! Which members of a workspace a call runs on: its words, the package that it stands in, and the
 //! names, with `(single)` where one is left after exclusions, and what the user is told.
 
-use crate::given::{args_of, members_of, told, workspace};
+use crate::given::{context_of, told};
+use hack_load::context::Context;
 use hack_metadata::metadata::Metadata;
-use hack_packages::member::Member;
-use hack_packages::packages::{PackageList, choose_packages};
-use hack_words::cli::Args;
+use hack_packages::determine::determine_package_list;
+use hack_packages::packages::PackageList;
 use std::alloc::{AllocError, Global};
 use std::test::Fail;
 
@@ -25,21 +25,10 @@ fn names(alloc: Global, metadata: &Metadata, list: &PackageList) -> Result<Strin
 }
 
 /// The packages and what the user is told, or the fault.
-fn chosen(
-    alloc: Global,
-    metadata: &Metadata,
-    members: &[Member<'_>],
-    args: &Args,
-    current: &str,
-) -> Result<String, AllocError> {
-    let current = if current.is_empty() {
-        None
-    } else {
-        Some(current)
-    };
-    match choose_packages(alloc, args, members, current, "/w") {
+fn chosen(alloc: Global, context: &Context) -> Result<String, AllocError> {
+    match determine_package_list(alloc, context) {
         Ok(answer) => {
-            let names = names(alloc, metadata, &answer.0)?;
+            let names = names(alloc, context.metadata(), &answer.0)?;
             let told = told(alloc, answer.1.as_slice())?;
             format!(in alloc; "{names}{told}")
         }
@@ -47,12 +36,10 @@ fn chosen(
     }
 }
 
-/// The packages of a row of a workspace with the members p, q, q and r, of which r is private.
+/// The packages of a row of a workspace with the members p, q and r, of which r is private.
 fn list(alloc: Global, words: &str, current: &str) -> Result<String, Fail> {
-    let metadata = workspace(alloc, "p q r!", "", "")?;
-    let members = members_of(alloc, &metadata)?;
-    match args_of(alloc, words)? {
-        Some(args) => Ok(chosen(alloc, &metadata, members.as_slice(), &args, current)?),
+    match context_of(alloc, words, "p q r!", current)? {
+        Some(context) => Ok(chosen(alloc, &context)?),
         None => Ok(String::new(alloc)),
     }
 }

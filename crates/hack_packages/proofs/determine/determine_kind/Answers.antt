@@ -1,4 +1,4 @@
-use Rattle.std.proofs.Common.{◌≡◌, ◌∙◌, IfOk, Some, map, sym, ap, subst, true}
+use Rattle.std.proofs.Common.{◌≡◌, ◌∙◌, ◌<◌, length, IfOk, Some, map, sym, ap, subst, true}
 use Rattle.std.proofs.lemmas.Result.{IfOk-weaker}
 use Rattle.hack_load.specs.ContextView.{context_view}
 use Rattle.hack_load.specs.declared.features.Features.{Features}
@@ -8,7 +8,7 @@ use Rattle.hack_versions.specs.Notes.{note_of}
 use Rattle.hack_words.specs.declared.cli.args.Args.{Args}
 use Rattle.hack_packages.specs.Candidates.{candidate_notes}
 use Rattle.hack_packages.specs.CandidatesView.{wishes}
-use Rattle.hack_packages.specs.Kinds.{AreRuns, AreCovering}
+use Rattle.hack_packages.specs.Kinds.{AreRuns, AreCovering, IsDepthOne, as_each}
 use Rattle.hack_packages.specs.KindsView.{IsKind, runs_of}
 use Rattle.hack_packages.specs.ContextMembers.{known_as}
 use Rattle.hack_packages.proofs.determine.determine_kind.Goals as goal
@@ -44,3 +44,8 @@ returns-clause-covered c = λ (p : PackageRecord) (f : Features) ep ef powerset.
     moved (λ (args : Args) (q : PackageRecord) (g : Features). IfOk c.determine_runs.result (λ answer. args.feature_powerset ≡ true → AreCovering (wishes args) (known_as q g) (runs_of answer.0.kind))) _ _ _ _ _ _
     c.args-2.ensures (sym ep ∙ c.packages-pkg.ensures) (sym ef ∙ c.pkg_features-features.ensures) c.determine_runs.ensures.covered in
     IfOk-weaker c.determine_runs.result _ _ (λ answer h. h powerset) before
+
+pub returns-clause-depth_one : goal.returns-clause-depth_one
+returns-clause-depth_one c = λ (p : PackageRecord) (f : Features) ep ef.
+    moved (λ (args : Args) (q : PackageRecord) (g : Features). IfOk c.determine_runs.result (λ answer. IsDepthOne (wishes args) → 0 < length (known_as q g).optional → AreRuns (as_each (wishes args)) (known_as q g) (runs_of answer.0.kind))) _ _ _ _ _ _
+    c.args-2.ensures (sym ep ∙ c.packages-pkg.ensures) (sym ef ∙ c.pkg_features-features.ensures) c.determine_runs.ensures.depth_one

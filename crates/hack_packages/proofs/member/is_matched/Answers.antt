@@ -12,12 +12,14 @@ loop-spec-preserved c =
     c.loop-spec.invariant
 
 pub returns-then-fits : goal.returns-then-fits
-returns-then-fits c =
-    (λ t. record {
-      spec = string_bytes c.spec-item.result;
-      given = here string_bytes c.args.specs.now c.loop-spec.spec-index c.spec-item.result c.loop-spec-test.true c.spec-item.is;
-      matches = subst (Matches (identity_of c.args.member.now.pkg.now)) c.as_str.ensures.value (c.fits.ensures.0 c.if-fits.true);
-    }, λ m. refl)
+returns-then-fits c = (
+  λ t. record {
+    spec = string_bytes c.spec-item.result;
+    given = here string_bytes c.args.specs.now c.loop-spec.spec-index c.spec-item.result c.loop-spec-test.true c.spec-item.is;
+    matches = subst (Matches (identity_of c.args.member.now.pkg.now)) c.as_str.ensures.value (c.fits.ensures.0 c.if-fits.true);
+  },
+  λ m. refl,
+)
 
 pub returns : goal.returns
 returns c =

@@ -12,12 +12,14 @@ loop-member-preserved c =
     c.loop-member.invariant
 
 pub returns-then-fits : goal.returns-then-fits
-returns-then-fits c =
-    (λ t. record {
-      member = member_view c.member-item.result;
-      there = here member_view c.args.members.now c.loop-member.member-index c.member-item.result c.loop-member-test.true c.member-item.is;
-      matches = c.fits.ensures.0 c.if-fits.true;
-    }, λ m. refl)
+returns-then-fits c = (
+  λ t. record {
+    member = member_view c.member-item.result;
+    there = here member_view c.args.members.now c.loop-member.member-index c.member-item.result c.loop-member-test.true c.member-item.is;
+    matches = c.fits.ensures.0 c.if-fits.true;
+  },
+  λ m. refl,
+)
 
 pub returns : goal.returns
 returns c =
