@@ -1,3 +1,5 @@
 pub mod HistoryLemmas
 pub mod ScheduleLemmas
 pub mod CallLemmas
+pub mod RunLemmas
+pub mod ToolchainLemmas

@@ -1,9 +1,7 @@
 -- What a session hands out, and what it was told.
 use Rattle.std.specs.Prelude.{ℕ, ◌≡◌, ◌+◌, ◌<◌, ◌++◌, List, ◌∷◌, [], length, map, take, slice_get, slice_index_or, Bool, true, false, not, Option, Some, None, IfSome, if◌then◌else◌}
 use Rattle.std.specs.List.{list_any}
-use Rattle.hack_runs.specs.declared.plan.Preparation.{Preparation}
-use Rattle.hack_runs.specs.declared.plan.Preparation.TheVariants.{Toolchain, Lockfile, Clean}
-use Rattle.hack_runs.specs.Plans.{PlanView}
+use Rattle.hack_runs.specs.View.{PlanView}
 use Rattle.hack_session.specs.declared.step.Step.{Step}
 use Rattle.hack_session.specs.declared.step.Step.TheVariants.{Prepare, Skip, Run}
 use Rattle.hack_session.specs.declared.step.Outcome.{Outcome}
@@ -17,15 +15,9 @@ pub record Course : Type 0 where
   pub handed : List Handed
   pub keep_going : Bool
 
--- the plan has the version of a preparation
-abbrev pub IsPreparationOf : PlanView → Preparation → Type 0
-IsPreparationOf plan (Toolchain v) = v < length plan.versions
-IsPreparationOf plan (Lockfile v) = v < length plan.versions
-IsPreparationOf plan (Clean v) = v < length plan.versions
-
--- the plan has the version or the place of a step
+-- the plan has the place of a step
 abbrev pub IsStepOf : PlanView → Step → Type 0
-IsStepOf plan (Prepare preparation) = IsPreparationOf plan preparation
+IsStepOf plan (Prepare preparation) = Unit {0}
 IsStepOf plan (Skip place) = place < length plan.quads
 IsStepOf plan (Run place) = place < length plan.quads
 

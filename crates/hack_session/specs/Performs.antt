@@ -1,13 +1,18 @@
 -- What a step asks of a caller.
-use Rattle.std.specs.Prelude.{◌≡◌, ◌⊎◌, ◌+◌, ◌-◌, ◌^◌, ◌<◌, ℕ, Bool, true, false, List, [], ◌∷◌, ◌++◌, Result, Ok, Err, Option, IsSome, if◌then◌else◌}
+use Rattle.std.specs.Prelude.{◌≡◌, ◌⊎◌, ◌+◌, ◌-◌, ◌^◌, ◌<◌, ℕ, Bool, true, false, List, [], ◌∷◌, ◌++◌, Result, Ok, Err, Option, Some, None, slice_get, IsSome, if◌then◌else◌}
 use Rattle.hack_process.specs.declared.fault.ProcessFault.{ProcessFault}
 use Rattle.hack_process.specs.declared.fault.ProcessFault.TheVariants.{Memory, EmptyProgram, NeverExecuted, NotText}
 use Rattle.hack_process.specs.declared.fault.ProcessFault.TheVariants.{Failed as ByFailure}
 use Rattle.hack_process.specs.Calls.{Asked, Call, IsSuccess}
 use Rattle.hack_process.specs.Commands.{asked_of}
 use Rattle.hack_term.specs.declared.term.Term.{Term}
-use Rattle.hack_runs.specs.declared.plan.Preparation.TheVariants.{Toolchain, Lockfile, Clean}
-use Rattle.hack_runs.specs.Plans.{PlanView, command_at, run_cleaning_at, cleaning_of, lockfile_at, try_at, add_at}
+use Rattle.hack_versions.specs.declared.version.Version.{Version}
+use Rattle.hack_plan.specs.declared.places.Quad.{Quad}
+use Rattle.hack_runs.specs.declared.parts.PlanVersion.{PlanVersion}
+use Rattle.hack_runs.specs.declared.parts.Preparation.TheVariants.{Toolchain, Lockfile, Clean}
+use Rattle.hack_runs.specs.View.{PlanView}
+use Rattle.hack_runs.specs.Commands.{cleaning, command_of_quad, lockfile_command, package_at, toolchain_of}
+use Rattle.hack_session.specs.Toolchains.{addition_of, trial_of}
 use Rattle.hack_session.specs.declared.step.Step.{Step}
 use Rattle.hack_session.specs.declared.step.Step.TheVariants.{Prepare, Skip, Run}
 use Rattle.hack_session.specs.declared.step.Outcome.{Outcome}
@@ -64,30 +69,74 @@ BreaksInstall [] try add calls =
   ⊎ ((tried rest : List Call) × (calls ≡ tried ++ rest) × Fails try tried × Breaks (add ∷ []) rest)
 BreaksInstall (target ∷ targets) try add calls = Breaks (add ∷ []) calls
 
+-- what a run's own command asks
+abbrev pub own_asked : PlanView → Quad → Asked
+own_asked plan q = asked_of false (command_of_quad plan q)
+
+-- what a run's cleaning asks
+abbrev pub cleaning_asked : PlanView → Quad → Asked
+cleaning_asked plan q = asked_of false (cleaning plan.call (package_at plan.packages q.package))
+
 -- the commands of a run: its cleaning where runs are cleaned, and its own
-abbrev pub run_commands : PlanView → ℕ → List Asked
-run_commands plan place =
-  if plan.cleans_per_run
-  then asked_of false (run_cleaning_at plan place) ∷ asked_of false (command_at plan place) ∷ []
-  else asked_of false (command_at plan place) ∷ []
+abbrev pub commands_of : PlanView → Quad → List Asked
+commands_of plan q = if plan.call.clean_per_run then cleaning_asked plan q ∷ own_asked plan q ∷ [] else own_asked plan q ∷ []
+
+-- the commands of the run at a place
+abbrev pub run_commands : PlanView → Option Quad → List Asked
+run_commands plan None = []
+run_commands plan (Some q) = commands_of plan q
+
+-- the version's number, where there is one at the place
+abbrev pub number_at : Option PlanVersion → Option Version
+number_at None = None
+number_at (Some v) = v.version
+
+-- what tries a version's toolchain
+abbrev pub trial_asked : PlanView → Version → Asked
+trial_asked plan v = asked_of true (trial_of plan.call.rustup (toolchain_of v))
+
+-- what adds a version's toolchain
+abbrev pub addition_asked : PlanView → Version → Asked
+addition_asked plan v = asked_of false (addition_of plan.call.rustup (toolchain_of v) plan.call.targets)
+
+-- a version's toolchain is made sure of, where the version has a number
+abbrev pub InstallsAt : PlanView → Option Version → List Call → Outcome → Type 0
+InstallsAt plan None calls outcome = (calls ≡ []) × (outcome ≡ Passed)
+InstallsAt plan (Some v) calls outcome = Installs plan.call.targets (trial_asked plan v) (addition_asked plan v) calls outcome
+
+-- the same up to where memory was refused
+abbrev pub BreaksInstallAt : PlanView → Option Version → List Call → Type 0
+BreaksInstallAt plan None calls = ⊥
+BreaksInstallAt plan (Some v) calls = BreaksInstall plan.call.targets (trial_asked plan v) (addition_asked plan v) calls
+
+-- the command that makes the lockfile anew, where the version has a number
+abbrev pub lockfile_commands : PlanView → Option Version → List Asked
+lockfile_commands plan None = []
+lockfile_commands plan (Some v) = asked_of true (lockfile_command plan.call v) ∷ []
 
 -- the calls are just those of the step, and it failed exactly where one of them failed so
 abbrev pub Exactly : PlanView → Step → List Call → Outcome → Type 0
-Exactly plan (Prepare (Toolchain v)) calls outcome =
-  Installs plan.targets (asked_of true (try_at plan v)) (asked_of false (add_at plan v)) calls outcome
-Exactly plan (Prepare (Lockfile v)) calls outcome = Follows (asked_of true (lockfile_at plan v) ∷ []) calls outcome
-Exactly plan (Prepare (Clean v)) calls outcome = Follows (asked_of false (cleaning_of plan) ∷ []) calls outcome
+Exactly plan (Prepare (Toolchain v)) calls outcome = InstallsAt plan (number_at (slice_get plan.versions v)) calls outcome
+Exactly plan (Prepare (Lockfile v)) calls outcome = Follows (lockfile_commands plan (number_at (slice_get plan.versions v))) calls outcome
+Exactly plan (Prepare (Clean v)) calls outcome = Follows (asked_of false (cleaning plan.call None) ∷ []) calls outcome
 Exactly plan (Skip place) calls outcome = (calls ≡ []) × (outcome ≡ Passed)
-Exactly plan (Run place) calls outcome = Follows (run_commands plan place) calls outcome
+Exactly plan (Run place) calls outcome = Follows (run_commands plan (slice_get plan.quads place)) calls outcome
 
 -- the calls are those of the step up to where memory was refused
 abbrev pub IsCut : PlanView → Step → List Call → Type 0
-IsCut plan (Prepare (Toolchain v)) calls =
-  BreaksInstall plan.targets (asked_of true (try_at plan v)) (asked_of false (add_at plan v)) calls
-IsCut plan (Prepare (Lockfile v)) calls = Breaks (asked_of true (lockfile_at plan v) ∷ []) calls
-IsCut plan (Prepare (Clean v)) calls = Breaks (asked_of false (cleaning_of plan) ∷ []) calls
+IsCut plan (Prepare (Toolchain v)) calls = BreaksInstallAt plan (number_at (slice_get plan.versions v)) calls
+IsCut plan (Prepare (Lockfile v)) calls = Breaks (lockfile_commands plan (number_at (slice_get plan.versions v))) calls
+IsCut plan (Prepare (Clean v)) calls = Breaks (asked_of false (cleaning plan.call None) ∷ []) calls
 IsCut plan (Skip place) calls = calls ≡ []
-IsCut plan (Run place) calls = Breaks (run_commands plan place) calls
+IsCut plan (Run place) calls = Breaks (run_commands plan (slice_get plan.quads place)) calls
+
+-- memory was refused
+abbrev pub is_memory : ProcessFault → Bool
+is_memory Memory = true
+is_memory EmptyProgram = false
+is_memory (NeverExecuted text) = false
+is_memory (NotText text) = false
+is_memory (ByFailure failure) = false
 
 -- by what commands answer: they ended so, or memory was refused
 abbrev pub Comes : {T : Type 0} → (Outcome → Type 0) → Type 0 → Result T ProcessFault → Type 0

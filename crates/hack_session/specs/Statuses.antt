@@ -2,7 +2,9 @@
 use Rattle.std.specs.Prelude.{ℕ, ◌+◌, Bool, true, false, List, [], ◌++◌, codes, length, Option, Some, None}
 use Rattle.std.specs.Fmt.{decimal}
 use Rattle.hack_process.specs.CommandTexts.{text_of}
-use Rattle.hack_runs.specs.Plans.{PlanView, command_at, package_at}
+use Rattle.hack_plan.specs.declared.places.Quad.{Quad}
+use Rattle.hack_runs.specs.View.{PlanView}
+use Rattle.hack_runs.specs.Commands.{command_of_quad, name_in, package_at}
 
 -- a command that is run outside the plan's places
 abbrev pub running_text : List ℕ → List ℕ
@@ -23,7 +25,7 @@ abbrev pub told_name : Bool → Option (List ℕ) → Option (List ℕ)
 told_name true name = None
 told_name false name = name
 
--- the status of a place of a plan: its number is the place from 1, and the total is the plan's length
-abbrev pub place_status : List ℕ → Bool → PlanView → ℕ → List ℕ
-place_status verb verbose plan place =
-  status_text verb (text_of verbose plan.dir (command_at plan place)) (told_name verbose (package_at plan place)) (place + 1) (length plan.quads)
+-- the status of a run at a place: its number is the place from 1, and the total is the plan's length
+abbrev pub place_status : List ℕ → Bool → PlanView → ℕ → Quad → List ℕ
+place_status verb verbose plan place q =
+  status_text verb (text_of verbose plan.call.dir (command_of_quad plan q)) (told_name verbose (name_in (package_at plan.packages q.package))) (place + 1) (length plan.quads)

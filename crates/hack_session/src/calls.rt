@@ -1,8 +1,8 @@
 //! Commands that are called over a caller, with what it was asked.
 
-ghost use Rattle.std.specs.Prelude.{◌∷◌, [], true, false};
+ghost use Rattle.std.specs.Prelude.{◌≡◌, ◌∷◌, [], true, false};
 ghost use Rattle.hack_process.specs.Commands.{asked_of, command_of};
-ghost use Rattle.hack_session.specs.Performs.{Breaks, Comes, Follows, Makes};
+ghost use Rattle.hack_session.specs.Performs.{Breaks, Comes, Follows, Makes, is_memory as is_want};
 
 use crate::screen::Screen;
 use hack_process::process::{Caller, ProcessBuilder, ProcessFault};
@@ -60,4 +60,17 @@ pub(crate) fn call_in_group<C: Caller, O: Write, E: Write>(
     let came = call(alloc, caller, command, dir);
     screen.close(guard);
     came
+}
+
+/// Whether a command failed for want of memory.
+pub(crate) fn is_memory(fault: &ProcessFault) -> bool
+    ensures { result ≡ is_want fault.now }
+{
+    match fault {
+        ProcessFault::Memory => true,
+        ProcessFault::EmptyProgram
+        | ProcessFault::NeverExecuted(_)
+        | ProcessFault::NotText(_)
+        | ProcessFault::Failed(_) => false,
+    }
 }

@@ -1,20 +1,23 @@
 //! The steps of a plan, performed by commands.
 
-ghost use Rattle.std.specs.Prelude.{◌≡◌, ◌<◌, ◌∷◌, [], IfOk, length, option_map, true, false, string_bytes};
-ghost use Rattle.hack_process.specs.CommandTexts.{text_of};
+ghost use Rattle.std.specs.Prelude.{◌≡◌, ◌<◌, ◌∷◌, [], IfOk, None, Some, false, length, option_map};
+ghost use Rattle.std.specs.Prelude.{slice_get, string_bytes};
 ghost use Rattle.hack_process.specs.Commands.{asked_of, command_of};
-ghost use Rattle.hack_runs.specs.Plans.{add_at, cleaning_of, command_at, lockfile_at, package_at, try_at};
+ghost use Rattle.hack_runs.specs.Commands.{cleaning, command_of_quad, name_in, package_at};
 ghost use Rattle.hack_session.specs.Histories.{IsStepOf};
-ghost use Rattle.hack_session.specs.Performs.{Breaks, BreaksInstall, Comes, Exactly, Follows};
-ghost use Rattle.hack_session.specs.Performs.{Installs, IsCut, Makes, run_commands};
-ghost use Rattle.hack_session.specs.Statuses.{place_status};
+ghost use Rattle.hack_session.specs.Performs.{Breaks, BreaksInstallAt, Comes, Exactly, Follows};
+ghost use Rattle.hack_session.specs.Performs.{InstallsAt, IsCut, Makes, lockfile_commands};
+ghost use Rattle.hack_session.specs.Performs.{number_at, run_commands};
+ghost use Rattle.hack_session.specs.Statuses.{place_status, told_name as name_told};
 
 use crate::calls::{call, call_in_group, call_quietly};
-use crate::rustup::{add_toolchain, try_toolchain};
+use crate::rustup::{install_toolchain, toolchain};
 use crate::screen::{Screen, Status};
 use crate::step::Step;
 use hack_process::process::{Caller, ProcessBuilder, ProcessFault};
-use hack_runs::plan::{Plan, Preparation, Run};
+use hack_runs::parts::Preparation;
+use hack_runs::plan::{Plan, PlannedRun};
+use hack_versions::version::Version;
 use std::alloc::{AllocError, Global};
 use std::io::Write;
 
@@ -55,20 +58,37 @@ fn install<C: Caller, O: Write, E: Write>(
     plan: &Plan,
     version: usize,
 ) -> Result<(), ProcessFault>
-    requires { version < length plan.now.versions }
     ensures { C.tells → Makes (λ calls. Comes
-        (Installs plan.now.targets (asked_of true (try_at plan.now version))
-            (asked_of false (add_at plan.now version)) calls)
-        (BreaksInstall plan.now.targets (asked_of true (try_at plan.now version))
-            (asked_of false (add_at plan.now version)) calls) result)
+        (InstallsAt plan.now (number_at (slice_get plan.now.versions version)) calls)
+        (BreaksInstallAt plan.now (number_at (slice_get plan.now.versions version)) calls) result)
         (C.calls caller.old) (C.calls caller.new) }
 {
-    let add = plan.add_toolchain(alloc, version)?;
-    if !plan.targets().is_empty() {
-        return add_toolchain(alloc, caller, screen, &add, true, plan.dir());
+    match number(plan, version) {
+        Some(number) => {
+            let name = toolchain(alloc, number)?;
+            install_toolchain(
+                alloc,
+                caller,
+                screen,
+                plan.rustup(),
+                name.as_str(),
+                plan.targets(),
+                true,
+                plan.dir(),
+            )
+        }
+        None => Ok(()),
     }
-    let trial = plan.try_toolchain(alloc, version)?;
-    try_toolchain(alloc, caller, screen, &trial, &add, true, plan.dir())
+}
+
+/// The number of a version; none where it has none.
+fn number(plan: &Plan, version: usize) -> Option<Version>
+    ensures { result ≡ number_at (slice_get plan.now.versions version) }
+{
+    match plan.versions().get(version) {
+        Some(version) => version.version,
+        None => None,
+    }
 }
 
 /// Makes a version's lockfile.
@@ -78,14 +98,20 @@ fn generate_lockfile<C: Caller>(
     plan: &Plan,
     version: usize,
 ) -> Result<(), ProcessFault>
-    requires { version < length plan.now.versions }
-    ensures { C.tells → Makes (λ calls.
-        Comes (Follows (asked_of true (lockfile_at plan.now version) ∷ []) calls)
-        (Breaks (asked_of true (lockfile_at plan.now version) ∷ []) calls) result)
+    ensures { C.tells → Makes (λ calls. Comes
+        (Follows (lockfile_commands plan.now
+            (number_at (slice_get plan.now.versions version))) calls)
+        (Breaks (lockfile_commands plan.now
+            (number_at (slice_get plan.now.versions version))) calls) result)
         (C.calls caller.old) (C.calls caller.new) }
 {
-    let command = plan.lockfile(alloc, version)?;
-    call_quietly(alloc, caller, &command, plan.dir())
+    match number(plan, version) {
+        Some(number) => {
+            let command = plan.lockfile(alloc, number)?;
+            call_quietly(alloc, caller, &command, plan.dir())
+        }
+        None => Ok(()),
+    }
 }
 
 /// Removes what was built before.
@@ -96,8 +122,8 @@ fn clean_all<C: Caller, O: Write, E: Write>(
     plan: &Plan,
 ) -> Result<(), ProcessFault>
     ensures { C.tells → Makes (λ calls.
-        Comes (Follows (asked_of false (cleaning_of plan.now) ∷ []) calls)
-        (Breaks (asked_of false (cleaning_of plan.now) ∷ []) calls) result)
+        Comes (Follows (asked_of false (cleaning plan.now.call None) ∷ []) calls)
+        (Breaks (asked_of false (cleaning plan.now.call None) ∷ []) calls) result)
         (C.calls caller.old) (C.calls caller.new) }
 {
     let command = plan.cleaning(alloc)?;
@@ -148,17 +174,18 @@ fn run<C: Caller, O: Write, E: Write>(
 ) -> Result<(), ProcessFault>
     requires { place < length plan.now.quads }
     ensures { C.tells → Makes (λ calls.
-        Comes (Follows (run_commands plan.now place) calls)
-        (Breaks (run_commands plan.now place) calls) result)
+        Comes (Follows (run_commands plan.now (slice_get plan.now.quads place)) calls)
+        (Breaks (run_commands plan.now (slice_get plan.now.quads place)) calls) result)
         (C.calls caller.old) (C.calls caller.new) }
 {
     screen.space(place);
+    let run = plan.run(alloc, place)?;
     if !plan.cleans_per_run() {
-        return run_own(alloc, caller, screen, plan, place);
+        return run_own(alloc, caller, screen, plan, place, &run);
     }
     let cleaning = plan.run_cleaning(alloc, place)?;
     match clean(alloc, caller, screen, &cleaning, plan.dir()) {
-        Ok(()) => run_own(alloc, caller, screen, plan, place),
+        Ok(()) => run_own(alloc, caller, screen, plan, place, &run),
         Err(fault) => Err(fault),
     }
 }
@@ -170,15 +197,18 @@ fn run_own<C: Caller, O: Write, E: Write>(
     screen: &mut Screen<'_, O, E>,
     plan: &Plan,
     place: usize,
+    run: &PlannedRun<'_>,
 ) -> Result<(), ProcessFault>
-    requires { place < length plan.now.quads }
+    requires place { place < length plan.now.quads }
+    requires name { option_map (λ name. name.now) run.now.name
+        ≡ name_in (package_at plan.now.packages run.now.quad.package) }
+    requires command { command_of run.now.command ≡ command_of_quad plan.now run.now.quad }
     ensures { C.tells → Makes (λ calls.
-        Comes (Follows (asked_of false (command_at plan.now place) ∷ []) calls)
-        (Breaks (asked_of false (command_at plan.now place) ∷ []) calls) result)
+        Comes (Follows (asked_of false (command_of run.now.command) ∷ []) calls)
+        (Breaks (asked_of false (command_of run.now.command) ∷ []) calls) result)
         (C.calls caller.old) (C.calls caller.new) }
 {
-    let run = plan.run(alloc, place)?;
-    let text = status(alloc, "running", screen.term.verbose, plan, place, &run)?;
+    let text = status(alloc, "running", screen.term.verbose, plan, place, run)?;
     call_in_group(alloc, caller, screen, &run.command, &text, plan.dir())
 }
 
@@ -189,22 +219,31 @@ fn status(
     verbose: bool,
     plan: &Plan,
     place: usize,
-    run: &Run<'_>,
+    run: &PlannedRun<'_>,
 ) -> Result<String, AllocError>
     requires place { place < length plan.now.quads }
-    requires run { command_of run.now.command ≡ command_at plan.now place }
-    requires name { option_map (λ name. name.now) run.now.package ≡ package_at plan.now place }
+    requires name { option_map (λ name. name.now) run.now.name
+        ≡ name_in (package_at plan.now.packages run.now.quad.package) }
+    requires command { command_of run.now.command ≡ command_of_quad plan.now run.now.quad }
     ensures { IfOk result (λ text. string_bytes text
-        ≡ place_status verb.now verbose plan.now place) }
+        ≡ place_status verb.now verbose plan.now place run.now.quad) }
 {
+    let total = plan.len();
     let command = run.command.text(alloc, false, verbose, plan.dir())?;
-    let name = if verbose { None } else { run.package };
     let status = Status {
         verb,
         command: command.as_str(),
-        name,
+        name: told_name(verbose, run.name),
         number: place + 1,
-        total: plan.len(),
+        total,
     };
     format!(in alloc; "{status}")
+}
+
+/// The package's name, unless all is told at length.
+fn told_name(verbose: bool, name: Option<&str>) -> Option<&str>
+    ensures { option_map (λ name. name.now) result
+        ≡ name_told verbose (option_map (λ name. name.now) name.entry) }
+{
+    if verbose { None } else { name }
 }

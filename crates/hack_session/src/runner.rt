@@ -1,7 +1,7 @@
 //! Who performs the steps of a session, and the loop that hands them out.
 
 ghost use Rattle.std.specs.Prelude.{◌≡◌, ◌∷◌, ◌++◌, [], List, None};
-ghost use Rattle.hack_runs.specs.Plans.{PlanView};
+ghost use Rattle.hack_runs.specs.View.{PlanView};
 ghost use Rattle.hack_session.specs.declared.step.Handed.{Handed as HandedStep};
 ghost use Rattle.hack_session.specs.Histories.{IsHistory, IsSameCourse, IsStepOf, next_of};
 

@@ -1,14 +1,17 @@
 //! Toolchains that rustup adds.
 
-ghost use Rattle.std.specs.Prelude.{◌≡◌, ◌∷◌, [], IfOk, true, false, not, map, string_bytes};
+ghost use Rattle.std.specs.Prelude.{◌≡◌, ◌≢◌, ◌∷◌, [], List, ℕ, IfOk, MatchOption, true, not, map};
+ghost use Rattle.std.specs.Prelude.{string_bytes};
 ghost use Rattle.hack_process.specs.Commands.{asked_of, command_of};
+ghost use Rattle.hack_runs.specs.Commands.{toolchain_of};
 ghost use Rattle.hack_session.specs.Performs.{Breaks, BreaksInstall, Comes, Fails, Follows, Installs};
 ghost use Rattle.hack_session.specs.Performs.{Makes};
 ghost use Rattle.hack_session.specs.Toolchains.{addition_of, toolchain_name, trial_of};
 
-use crate::calls::{call_in_group, call_quietly};
+use crate::calls::{call_in_group, call_quietly, is_memory};
 use crate::screen::{Screen, running};
 use hack_process::process::{Caller, ProcessBuilder, ProcessFault};
+use hack_versions::version::Version;
 use std::alloc::{AllocError, Global};
 use std::io::Write;
 
@@ -64,8 +67,12 @@ pub(crate) fn try_toolchain<C: Caller, O: Write, E: Write>(
 {
     match call_quietly(alloc, caller, trial, dir) {
         Ok(()) => Ok(()),
-        Err(ProcessFault::Memory) => Err(ProcessFault::Memory),
-        Err(_) => add_toolchain(alloc, caller, screen, add, print_output, dir),
+        Err(fault) => {
+            if is_memory(&fault) {
+                return Err(fault);
+            }
+            add_toolchain(alloc, caller, screen, add, print_output, dir)
+        }
     }
 }
 
@@ -94,10 +101,18 @@ pub(crate) fn add_toolchain<C: Caller, O: Write, E: Write>(
 fn without_plus(toolchain: &str) -> &str
     ensures { result.now ≡ toolchain_name toolchain.now }
 {
-    match toolchain.strip_prefix('+') {
+    match behind_plus(toolchain) {
         Some(name) => name,
         None => toolchain,
     }
+}
+
+/// What stands behind a leading `+`.
+fn behind_plus(toolchain: &str) -> Option<&str>
+    ensures { MatchOption result ((rest : List ℕ) → toolchain.now ≢ 43 ∷ rest)
+        (λ name. toolchain.now ≡ 43 ∷ name.now) }
+{
+    toolchain.strip_prefix('+')
 }
 
 /// The command that fails where a toolchain isn't there.
@@ -132,4 +147,12 @@ fn addition(
     let targets = target.join(alloc, ",")?;
     command.args(&["--target", targets.as_str()])?;
     Ok(command)
+}
+
+/// The toolchain of a version, as rustup names it.
+pub(crate) fn toolchain(alloc: Global, version: Version) -> Result<String, AllocError>
+    ensures { IfOk result (λ text. string_bytes text ≡ toolchain_of version) }
+{
+    let minor = version.minor;
+    format!(in alloc; "1.{minor}")
 }

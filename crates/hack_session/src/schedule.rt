@@ -1,33 +1,44 @@
 //! The schedule of a plan: its steps in order.
 
-ghost use Rattle.std.specs.Prelude.{◌≡◌, ◌<◌, ◌≤◌, ◌-◌, ◌++◌, All, IfOk, OnOk, length, map};
+ghost use Rattle.std.specs.Prelude.{◌≡◌, ◌<◌, ◌≤◌, ◌-◌, ◌++◌, All, IfOk, OnOk, filter, length, map};
 ghost use Rattle.std.specs.List.{flat_map, range_with_len};
 ghost use Rattle.hack_session.specs.declared.step.Step.TheVariants.{Prepare as Prepared};
 ghost use Rattle.hack_session.specs.Histories.{IsStepOf};
-ghost use Rattle.hack_session.specs.Schedules.{in_piece, mark as marked, steps_of};
+ghost use Rattle.hack_session.specs.Schedules.{AreTiled, in_piece, is_place, mark as marked, steps_of};
 
 use crate::step::Step;
 use hack_plan::progress::Progress;
-use hack_runs::plan::{Plan, Preparation};
+use hack_runs::parts::Preparation;
+use hack_runs::plan::Plan;
 use hack_term::partition::Partition;
 use std::alloc::{AllocError, Global};
 
-/// The steps of a plan, of which those runs are skipped that aren't in the piece.
+/// The steps of a plan: for each version its preparations and then its places, up to where the next
+/// version's begin. Those outside the piece are skipped.
 pub(crate) fn schedule(
     alloc: Global,
     plan: &Plan,
     piece: Option<Partition>,
 ) -> Result<Vec<Step>, AllocError>
-    ensures steps { IfOk result (λ steps. steps.items
+    ensures places { IfOk result (λ steps. filter is_place steps.items
+        ≡ map (marked (in_piece piece (length plan.now.quads)))
+            (range_with_len 0 (length plan.now.quads))) }
+    ensures steps { IfOk result (λ steps.
+        AreTiled 0 plan.now.versions (length plan.now.quads) → steps.items
         ≡ flat_map (steps_of (in_piece piece (length plan.now.quads))) plan.now.versions) }
     ensures within { IfOk result (λ steps. All (IsStepOf plan.now) steps.items) }
 {
     let total = plan.len();
     let mut steps = Vec::new(alloc);
+    // Each place is put there once, whatever the versions say.
+    let mut next = 0;
     for version in plan.versions() {
         push_preparations(&mut steps, &version.preparations)?;
-        push_places(&mut steps, piece, version.first, version.end, total)?;
+        let end = version.end.max(next).min(total);
+        push_places(&mut steps, piece, next, end, total)?;
+        next = end;
     }
+    push_places(&mut steps, piece, next, total, total)?;
     Ok(steps)
 }
 

@@ -9,7 +9,7 @@ pub use crate::screen::{Screen, Status};
 pub use crate::starter::Starter;
 use crate::schedule::schedule;
 pub use crate::step::{Handed, Outcome, Step};
-pub use hack_runs::plan::Preparation;
+pub use hack_runs::parts::Preparation;
 use hack_runs::plan::Plan;
 use hack_term::partition::Partition;
 use std::alloc::{AllocError, Global};

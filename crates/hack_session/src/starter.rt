@@ -6,6 +6,7 @@ ghost use Rattle.hack_session.specs.Histories.{HasPassed};
 ghost use Rattle.hack_session.specs.Performs.{HasPerformed, HasTold};
 ghost use Rattle.hack_session.specs.Joined.{performed_none, performed_more, none_passed, passed_or};
 
+use crate::calls::is_memory;
 use crate::perform::perform;
 use crate::runner::Runner;
 use crate::screen::Screen;
@@ -63,17 +64,17 @@ impl<C: Caller, O: Write, E: Write> Runner for Starter<'_, C, O, E> {
         };
         match perform(self.alloc, self.caller, &mut screen, plan, step) {
             Ok(()) => Outcome::Passed,
-            Err(ProcessFault::Memory) => {
-                self.refused = self.refused.saturating_add(1);
-                let _ = self.term.error("out of memory", self.err);
-                Outcome::Failed
-            }
             Err(fault) => {
+                if is_memory(&fault) {
+                    self.refused = self.refused.saturating_add(1);
+                    let _ = self.term.error("out of memory", self.err);
+                    return Outcome::Failed;
+                }
                 if self.keep_going && is_run(step) {
                     tell_fault(self.alloc, self.term, self.err, &fault);
-                } else {
-                    self.fault = Some(fault);
+                    return Outcome::Failed;
                 }
+                self.fault = Some(fault);
                 Outcome::Failed
             }
         }

@@ -3,7 +3,7 @@
 ghost use Rattle.std.specs.Prelude.{◌≡◌};
 ghost use Rattle.hack_session.specs.Histories.{stops};
 
-use hack_runs::plan::Preparation;
+use hack_runs::parts::Preparation;
 
 /// A step of a session. Places and versions are those of its plan, from 0.
 #[derive(Clone, Copy, Debug, PartialEq, Eq)]
