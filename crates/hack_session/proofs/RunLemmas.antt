@@ -1,5 +1,5 @@
 -- Commands behind commands, and what they come to as a step.
-use Rattle.std.proofs.Common.{◌≡◌, ◌≢◌, ◌⊎◌, inl, inr, ℕ, ◌+◌, ◌-◌, ◌^◌, ◌<◌, List, [], ◌∷◌, ◌++◌, refl, sym, ◌∙◌, ap, subst, append_assoc, append-nil, arith, rules, Bool, true, false, not, Result, Ok, Err, Option, Some, None, map, length, IsSome, if◌then◌else◌}
+use Rattle.std.proofs.Common.{◌≡◌, ◌≢◌, ◌⊎◌, inl, inr, ℕ, ◌+◌, ◌-◌, ◌^◌, ◌<◌, List, [], ◌∷◌, ◌++◌, refl, sym, ◌∙◌, ap, subst, append_assoc, append-nil, arith, rules, Bool, true, false, not, Result, Ok, Err, Option, Some, None, map, length, get_or, zero, suc, IsSome, if◌then◌else◌}
 use Rattle.std.specs.Prelude.{All, IfSome, string_bytes, slice_get, ◌==◌, min}
 use Rattle.std.proofs.Common.{String, Global}
 use Rattle.std.proofs.lemmas.Option.{slice_get_cases}
@@ -16,6 +16,7 @@ use Rattle.hack_session.specs.declared.step.Step.{Step}
 use Rattle.hack_session.specs.declared.step.Outcome.{Outcome}
 use Rattle.hack_session.specs.declared.step.Outcome.TheVariants.{Passed, Failed}
 use Rattle.hack_session.specs.declared.step.Handed.{Handed}
+use Rattle.hack_session.specs.Histories.{HasPassed}
 use Rattle.hack_session.specs.Toolchains.{addition_of, toolchain_name, trial_of}
 use Rattle.hack_session.specs.Performs.{Succeeds, Fails, Follows, MayCall, Breaks, Installs, BreaksInstall, InstallsAt, BreaksInstallAt, Comes, Makes, is_memory, run_commands, own_asked, cleaning_asked, Exactly, IsCut, Performs, PerformsAll, HasPerformed, GrowsBy}
 use Rattle.hack_session.proofs.CallLemmas.{One}
@@ -193,3 +194,10 @@ cut_run T r plan place calls lt e =
       inl w ↦ subst (λ (o : Option Quad). Breaks (run_commands plan o) []) (sym w.2) (no_call plan w.0)
     | inr w ↦ absurd (omega arith) ] in
   subst (λ (s : Result T ProcessFault). Makes (Ran (run_commands plan (slice_get plan.quads place)) s) calls calls) (sym e) (record { made = []; grown = sym (append-nil calls); such = none })
+
+pub all_passed : (step : Step) → All HasPassed (record { step = step; outcome = Passed } ∷ [])
+all_passed step = λ k d lt. go k d lt
+  where
+    go : (k : ℕ) (d : Handed) → k < length {A = Handed} (record { step = step; outcome = Passed } ∷ []) → HasPassed (get_or (record { step = step; outcome = Passed } ∷ []) k d)
+    go zero d lt = refl
+    go (suc k) d lt = absurd (omega arith)

@@ -25,7 +25,7 @@ use std::io::Write;
 pub(crate) fn perform<C: Caller, O: Write, E: Write>(
     alloc: Global,
     caller: &mut C,
-    screen: &mut Screen<'_, O, E>,
+    mut screen: Screen<'_, O, E>,
     plan: &Plan,
     step: Step,
 ) -> Result<(), ProcessFault>
@@ -36,17 +36,17 @@ pub(crate) fn perform<C: Caller, O: Write, E: Write>(
 {
     match step {
         Step::Prepare(Preparation::Toolchain(version)) => {
-            install(alloc, caller, screen, plan, version)
+            install(alloc, caller, &mut screen, plan, version)
         }
         Step::Prepare(Preparation::Lockfile(version)) => {
             generate_lockfile(alloc, caller, plan, version)
         }
-        Step::Prepare(Preparation::Clean(_)) => clean_all(alloc, caller, screen, plan),
-        Step::Skip(place) => match skip(alloc, screen, plan, place) {
+        Step::Prepare(Preparation::Clean(_)) => clean_all(alloc, caller, &mut screen, plan),
+        Step::Skip(place) => match skip(alloc, &mut screen, plan, place) {
             Ok(()) => Ok(()),
             Err(AllocError) => Err(ProcessFault::Memory),
         },
-        Step::Run(place) => run(alloc, caller, screen, plan, place),
+        Step::Run(place) => run(alloc, caller, &mut screen, plan, place),
     }
 }
 

@@ -56,13 +56,13 @@ impl<C: Caller, O: Write, E: Write> Runner for Starter<'_, C, O, E> {
             p.4 q.3 q.4) };
 
     fn step(&mut self, plan: &Plan, step: Step) -> Outcome {
-        let mut screen = Screen {
+        let screen = Screen {
             term: self.term,
             out: self.out,
             err: self.err,
             log_group: self.log_group,
         };
-        match perform(self.alloc, self.caller, &mut screen, plan, step) {
+        match perform(self.alloc, self.caller, screen, plan, step) {
             Ok(()) => Outcome::Passed,
             Err(fault) => {
                 if is_memory(&fault) {
