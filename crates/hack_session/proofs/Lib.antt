@@ -3,3 +3,5 @@ pub mod ScheduleLemmas
 pub mod CallLemmas
 pub mod RunLemmas
 pub mod ToolchainLemmas
+pub mod Headline
+pub mod ListLemmas

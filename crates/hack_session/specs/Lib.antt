@@ -1,7 +1,9 @@
 pub mod Histories
 pub mod Schedules
 pub mod Handouts
+pub mod Toolchains
 pub mod Performs
 pub mod Joined
 pub mod Statuses
-pub mod Toolchains
+pub mod Lists
+pub mod Joins

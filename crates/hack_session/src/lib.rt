@@ -2,6 +2,8 @@
 #![tactic(auto)]
 
 mod calls;
+mod lines;
+mod lister;
 mod perform;
 mod runner;
 pub mod rustup;

@@ -4,7 +4,9 @@ ghost use Rattle.std.specs.Prelude.{◌≡◌, [], IfOk, IfSome, IsSome};
 ghost use Rattle.hack_session.specs.Histories.{IsHistory, IsStepOf, Hands, next_of};
 ghost use Rattle.hack_session.specs.Schedules.{IsSchedule};
 
-pub use crate::runner::{Runner, drive};
+pub use crate::lines::{LineFault, LineWriter, Lines};
+pub use crate::lister::Lister;
+pub use crate::runner::{Runner, drive, drive_plan};
 pub use crate::screen::{Screen, Status};
 pub use crate::starter::Starter;
 use crate::schedule::schedule;
