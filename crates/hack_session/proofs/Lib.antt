@@ -5,3 +5,4 @@ pub mod RunLemmas
 pub mod ToolchainLemmas
 pub mod Headline
 pub mod ListLemmas
+pub mod ReportLemmas

@@ -7,3 +7,4 @@ pub mod Joined
 pub mod Statuses
 pub mod Lists
 pub mod Joins
+pub mod Reports

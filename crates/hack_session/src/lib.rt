@@ -5,6 +5,7 @@ mod calls;
 mod lines;
 mod lister;
 mod perform;
+mod report;
 mod runner;
 pub mod rustup;
 mod schedule;

@@ -6,6 +6,7 @@ ghost use Rattle.hack_session.specs.Schedules.{IsSchedule};
 
 pub use crate::lines::{LineFault, LineWriter, Lines};
 pub use crate::lister::Lister;
+pub use crate::report::KeepGoing;
 pub use crate::runner::{Runner, drive, drive_plan};
 pub use crate::screen::{Screen, Status};
 pub use crate::starter::Starter;
@@ -97,6 +98,13 @@ impl Session {
         ensures history { IsHistory self.now }
     {
         self.history.as_slice()
+    }
+
+    /// Whether runs go on behind a failed one.
+    pub fn keep_going(&self) -> bool
+        ensures { result ≡ self.now.keep_going }
+    {
+        self.keep_going
     }
 
     /// The plan.
