@@ -65,3 +65,15 @@ pub record IsReport (failures : List FailedRun) (r : KeepGoing) : Type 0 where
   pub texts : (name : List ℕ) → texts_in name r.commands ≡ map told_text (filter (is_of name) failures)
   pub names : (name : List ℕ) → is_some (get_by_text r.commands name) ≡ list_any (is_of name) failures
 
+
+-- the line of a command
+abbrev pub command_text : String Global → List ℕ
+command_text command = codes "        " ++ (string_bytes command ++ codes "\n")
+
+-- the lines of a package: its name, and its commands
+abbrev pub group_text : String Global × Vec (String Global) Global → List ℕ
+group_text group = codes "    " ++ (string_bytes group.0 ++ (codes ":\n" ++ flat_map command_text group.1.items))
+
+-- the text of a report: how many runs failed, and the packages in the order of their names, each with its commands
+abbrev pub report_text : KeepGoing → List ℕ
+report_text r = codes "failed to run " ++ (decimal r.count ++ (codes " commands\n\nfailed commands:\n" ++ flat_map group_text r.commands.entries))

@@ -1,9 +1,9 @@
 //! The report of the runs that failed.
 
-ghost use Rattle.std.specs.Prelude.{◌≡◌, ℕ, List, IfOk, filter, option_map, map, slice_get, is_some};
+ghost use Rattle.std.specs.Prelude.{◌≡◌, ℕ, List, IfOk, Some, filter, option_map, map, slice_get, is_some};
 ghost use Rattle.std.specs.BTreeMap.{get_by_text};
-ghost use Rattle.std.specs.List.{filter_map, list_any};
-ghost use Rattle.hack_session.specs.Reports.{IsReport};
+ghost use Rattle.std.specs.List.{filter_map, flat_map, list_any};
+ghost use Rattle.hack_session.specs.Reports.{IsReport, command_text, group_text, report_text};
 ghost use Rattle.hack_session.specs.Reports.{failure_of, failure_view, failures_of, is_of};
 ghost use Rattle.hack_session.specs.Reports.{run_at, texts_in, told_text};
 
@@ -12,6 +12,7 @@ use crate::step::{Handed, Outcome, Step};
 use hack_runs::plan::Plan;
 use std::alloc::{AllocError, Global};
 use std::collections::BTreeMap;
+use std::fmt;
 
 /// A run that failed.
 #[derive(Drop)]
@@ -112,5 +113,52 @@ impl Session {
             return Ok(Vec::new(alloc));
         }
         failures(alloc, self.plan(), self.handed())
+    }
+}
+
+/// Shows how many runs failed, and their commands by the names of their packages, in the order of
+/// their bytes.
+impl fmt::Display for KeepGoing {
+    ghost output = { λ r. Some (report_text r) };
+
+    fn fmt<W: fmt::Write>(&self, f: &mut fmt::Formatter<W>) -> fmt::Result {
+        let count = self.count;
+        let groups = Groups(&self.commands);
+        write!(
+            f,
+            "failed to run {count} commands\n\nfailed commands:\n{groups}"
+        )
+    }
+}
+
+/// The commands of each package.
+#[derive(Drop)]
+struct Groups<'a>(&'a BTreeMap<String, Vec<String>>);
+
+impl fmt::Display for Groups<'_> {
+    ghost output = { λ g. Some (flat_map group_text g.0.now.entries) };
+
+    fn fmt<W: fmt::Write>(&self, f: &mut fmt::Formatter<W>) -> fmt::Result {
+        for (name, texts) in self.0 {
+            let name = name.as_str();
+            let commands = Commands(texts);
+            write!(f, "    {name}:\n{commands}")?;
+        }
+        Ok(())
+    }
+}
+
+/// Commands, each on a line.
+#[derive(Drop)]
+struct Commands<'a>(&'a [String]);
+
+impl fmt::Display for Commands<'_> {
+    ghost output = { λ c. Some (flat_map command_text c.0.now) };
+
+    fn fmt<W: fmt::Write>(&self, f: &mut fmt::Formatter<W>) -> fmt::Result {
+        for command in self.0 {
+            write!(f, "        {command}\n")?;
+        }
+        Ok(())
     }
 }
