@@ -1,1 +1,2 @@
+pub mod ContextLemmas
 pub mod FeatureLemmas

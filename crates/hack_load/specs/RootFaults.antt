@@ -5,7 +5,7 @@ use Rattle.hack_features.specs.Names.{Name}
 use Rattle.hack_metadata.specs.Fields.{object_in_text}
 use Rattle.hack_load.specs.Located.{root_at}
 use Rattle.hack_load.specs.declared.fault.ContextFault.{ContextFault}
-use Rattle.hack_load.specs.declared.fault.ContextFault.TheVariants.{Memory, Metadata, Manifest, OldCargo, NotJson, Root}
+use Rattle.hack_load.specs.declared.fault.ContextFault.TheVariants as faults
 
 -- an object of JSON without a text at `root`
 pub record LacksRoot (text : List ℕ) : Type 0 where
@@ -15,18 +15,24 @@ pub record LacksRoot (text : List ℕ) : Type 0 where
 
 -- the fault shows the command, unless memory ran out
 abbrev pub IsNotJson : Name → ContextFault → Type 0
-IsNotJson command Memory = Unit {0}
-IsNotJson command (NotJson shown) = string_bytes shown ≡ command
-IsNotJson command (Metadata e) = ⊥
-IsNotJson command (Manifest e) = ⊥
-IsNotJson command OldCargo = ⊥
-IsNotJson command Root = ⊥
+IsNotJson command faults.Memory = Unit {0}
+IsNotJson command (faults.NotJson shown) = string_bytes shown ≡ command
+IsNotJson command (faults.Asked e) = ⊥
+IsNotJson command (faults.Files e) = ⊥
+IsNotJson command (faults.Manifest e) = ⊥
+IsNotJson command (faults.Process e) = ⊥
+IsNotJson command faults.OldCargo = ⊥
+IsNotJson command (faults.Metadata e) = ⊥
+IsNotJson command faults.Root = ⊥
 
--- the answer to a command is no object of JSON, and the fault shows the command; it lacks `root`; or memory ran out
+-- the answer to a command is no object of JSON, and the fault shows the command; or it lacks `root`; or memory ran out
 abbrev pub IsRefusal : Name → List ℕ → ContextFault → Type 0
-IsRefusal command text Memory = Unit {0}
-IsRefusal command text (NotJson shown) = (string_bytes shown ≡ command) × (object_in_text text ≡ None)
-IsRefusal command text Root = LacksRoot text
-IsRefusal command text (Metadata e) = ⊥
-IsRefusal command text (Manifest e) = ⊥
-IsRefusal command text OldCargo = ⊥
+IsRefusal command text faults.Memory = Unit {0}
+IsRefusal command text (faults.NotJson shown) = (string_bytes shown ≡ command) × (object_in_text text ≡ None)
+IsRefusal command text faults.Root = LacksRoot text
+IsRefusal command text (faults.Asked e) = ⊥
+IsRefusal command text (faults.Files e) = ⊥
+IsRefusal command text (faults.Manifest e) = ⊥
+IsRefusal command text (faults.Process e) = ⊥
+IsRefusal command text faults.OldCargo = ⊥
+IsRefusal command text (faults.Metadata e) = ⊥

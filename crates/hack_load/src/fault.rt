@@ -1,7 +1,9 @@
 //! Why what a call needs isn't loaded.
 
+use hack_files::fs::FsFault;
 use hack_manifest::manifest::ManifestFault;
-use hack_metadata::metadata::MetadataFault;
+use hack_metadata::metadata::{AskFault, MetadataFault};
+use hack_process::process::ProcessFault;
 use std::alloc::{AllocError, AllocFailed};
 use thiserror::Error;
 
@@ -10,13 +12,24 @@ use thiserror::Error;
 pub enum ContextFault {
     #[error("out of memory")]
     Memory,
+    /// Cargo can't be had to tell of the workspace.
     #[error("{0}")]
-    Metadata(MetadataFault),
+    Asked(AskFault),
+    /// A manifest can't be read from its file.
+    #[error("{0}")]
+    Files(FsFault),
+    /// A manifest is ill formed.
     #[error("{0}")]
     Manifest(ManifestFault),
+    /// Cargo can't be had to tell where the call stands.
+    #[error("{0}")]
+    Process(ProcessFault),
     /// Features of dependencies are asked for, and cargo is too old to tell which are normal ones.
     #[error("--include-deps-features requires Cargo 1.41 or later")]
     OldCargo,
+    /// Features of dependencies are asked for, and the node of a member is missing.
+    #[error("{0}")]
+    Metadata(MetadataFault),
     /// What `cargo locate-project` told is no object of JSON. It has the command's text.
     #[error("failed to parse output from {0}")]
     NotJson(String),

@@ -5,4 +5,5 @@
 mod blocks;
 pub mod places;
 pub mod progress;
+pub mod runs;
 pub mod versions;

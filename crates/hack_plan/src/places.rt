@@ -133,7 +133,8 @@ impl Places {
 impl Places {
     ghost use Rattle.hack_plan.specs.Spans.{AreSpans, IsNext, versions_of};
 
-    fn empty(alloc: Global) -> Places
+    /// No place.
+    pub fn empty(alloc: Global) -> Places
         ensures quads { result.quads ≡ [] }
         ensures spans { result.spans ≡ [] }
     {

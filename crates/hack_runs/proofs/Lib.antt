@@ -1,0 +1,3 @@
+mod Joins
+mod Ready
+mod Within

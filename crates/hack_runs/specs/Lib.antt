@@ -1,0 +1,4 @@
+pub mod View
+pub mod Commands
+pub mod Plans
+pub mod Prepared

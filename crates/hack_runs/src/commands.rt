@@ -1,0 +1,286 @@
+//! The commands of a plan.
+
+ghost use Rattle.std.specs.Prelude.{◌≡◌, ◌++◌, ◌∷◌, [], Some, None, map, option_map, IfOk, OnOk, List, ℕ, take, drop};
+ghost use Rattle.std.specs.Prelude.{string_bytes, codes};
+ghost use Rattle.std.specs.List.{flat_map, slice_index_or};
+ghost use Rattle.hack_features.specs.Feature.{groups_of};
+ghost use Rattle.hack_plan.specs.Runs.{run_of};
+ghost use Rattle.hack_process.specs.Commands.{command_of};
+ghost use Rattle.hack_process.specs.CommandTexts.{appended};
+ghost use Rattle.hack_runs.specs.View.{call_view, package_view};
+ghost use Rattle.hack_runs.specs.Commands.{toolchain_of, program_of, leading_of, is_split};
+ghost use Rattle.hack_runs.specs.Commands.{targets_in, target_pair, manifest_words, run_words};
+ghost use Rattle.hack_runs.specs.Commands.{names_at, run_names, call_command, whole_command, run_command};
+ghost use Rattle.hack_runs.specs.Commands.{plain_command, locked_words, cleaned_words, cleaning};
+ghost use Rattle.hack_runs.specs.Commands.{lockfile_command};
+
+use crate::parts::{CallWords, PlanPackage};
+use hack_features::Feature;
+use hack_plan::runs::Run;
+use hack_process::process::ProcessBuilder;
+use hack_versions::version::Version;
+use std::alloc::{AllocError, Global};
+use std::slice;
+
+/// The toolchain of a version, as rustup names it.
+pub fn toolchain(alloc: Global, version: Version) -> Result<String, AllocError>
+    ensures { IfOk result (λ text. string_bytes text ≡ toolchain_of version) }
+{
+    let minor = version.minor;
+    format!(in alloc; "1.{minor}")
+}
+
+impl CallWords {
+    /// The command of cargo for a version, without words of its own.
+    fn program<'a>(
+        &self,
+        alloc: Global,
+        version: Option<Version>,
+    ) -> Result<ProcessBuilder<'a>, AllocError>
+        ensures { IfOk result (λ command. command_of command
+            ≡ plain_command (program_of (call_view self.now) version) (leading_of version) []) }
+    {
+        match version {
+            None => ProcessBuilder::new(alloc, self.cargo.as_str()),
+            Some(version) => {
+                let mut command = ProcessBuilder::new(alloc, self.rustup.as_str())?;
+                command.leading_arg("run")?;
+                command.leading_arg(toolchain(alloc, version)?.as_str())?;
+                command.leading_arg("cargo")?;
+                Ok(command)
+            }
+        }
+    }
+
+    /// The command that starts with the words that are handed on.
+    fn handing_on(
+        &self,
+        alloc: Global,
+        version: Option<Version>,
+    ) -> Result<ProcessBuilder<'_>, AllocError>
+        ensures { IfOk result (λ command. command_of command
+            ≡ call_command (call_view self.now) version [] []) }
+    {
+        let mut command = self.program(alloc, version)?;
+        command.pass_words(self.passed.as_slice(), self.trailing.as_slice());
+        Ok(command)
+    }
+
+    /// Whether each target is a slot of its own.
+    fn is_split(&self, version: Option<Version>) -> bool
+        ensures { result ≡ is_split (call_view self.now) version }
+    {
+        let minor = match version {
+            None => self.cargo_minor,
+            Some(version) => version.minor,
+        };
+        !self.targets.is_empty() && minor < 64
+    }
+
+    /// The targets of a slot.
+    fn targets_in(&self, version: Option<Version>, slot: usize) -> &[String]
+        ensures { map string_bytes result.now ≡ targets_in (call_view self.now) version slot }
+    {
+        if !self.is_split(version) {
+            return self.targets.as_slice();
+        }
+        one_at(self.targets.as_slice(), slot)
+    }
+
+    /// The command of a run that is for all packages.
+    pub fn whole(
+        &self,
+        alloc: Global,
+        version: Option<Version>,
+        slot: usize,
+    ) -> Result<ProcessBuilder<'_>, AllocError>
+        ensures { IfOk result (λ command. command_of command
+            ≡ whole_command (call_view self.now) version slot) }
+    {
+        let mut command = self.handing_on(alloc, version)?;
+        add_targets(&mut command, self.targets_in(version, slot))?;
+        command.append_features(self.features.as_slice())?;
+        Ok(command)
+    }
+
+    /// The command of a package's run, which has the candidates at `positions` where it is one of a
+    /// set.
+    pub fn run(
+        &self,
+        alloc: Global,
+        version: Option<Version>,
+        slot: usize,
+        member: &PlanPackage,
+        run: Run,
+        positions: &[usize],
+    ) -> Result<ProcessBuilder<'_>, AllocError>
+        ensures { IfOk result (λ command. command_of command
+            ≡ run_command (call_view self.now) version slot (package_view member.now)
+            (run_of run positions.now)) }
+    {
+        let mut command = self.handing_on(alloc, version)?;
+        add_targets(&mut command, self.targets_in(version, slot))?;
+        add_manifest(&mut command, &member.manifest_path)?;
+        add_run(&mut command, run)?;
+        add_features(&mut command, member, run, positions)?;
+        Ok(command)
+    }
+
+    /// The command that removes artifacts: those of a package, or all.
+    pub fn cleaning(
+        &self,
+        alloc: Global,
+        member: Option<&PlanPackage>,
+    ) -> Result<ProcessBuilder<'_>, AllocError>
+        ensures { IfOk result (λ command. command_of command
+            ≡ cleaning (call_view self.now) (option_map (λ k. package_view k.now) member.entry)) }
+    {
+        let mut command = self.program(alloc, None)?;
+        command.arg("clean")?;
+        if self.locked {
+            command.arg("--locked")?;
+        }
+        add_cleaned(&mut command, member)?;
+        Ok(command)
+    }
+
+    /// The command that makes the lockfile anew by the cargo of a version.
+    pub fn lockfile(
+        &self,
+        alloc: Global,
+        version: Version,
+    ) -> Result<ProcessBuilder<'_>, AllocError>
+        ensures { IfOk result (λ command. command_of command
+            ≡ lockfile_command (call_view self.now) version) }
+    {
+        let mut command = self.program(alloc, Some(version))?;
+        command.arg("generate-lockfile")?;
+        add_manifest(&mut command, &self.current_manifest)?;
+        Ok(command)
+    }
+}
+
+/// The one text at a place, if there is one.
+fn one_at(texts: &[String], place: usize) -> &[String]
+    ensures { map string_bytes result.now ≡ take 1 (drop place (map string_bytes texts.now)) }
+{
+    match texts.get(place) {
+        Some(text) => slice::from_ref(text),
+        None => &[],
+    }
+}
+
+/// Adds an option and its value.
+fn add_pair(command: &mut ProcessBuilder<'_>, option: &str, value: &str) -> Result<(), AllocError>
+    ensures { OnOk result (command_of command.new ≡ record (command_of command.old) {
+      own = (command_of command.old).own ++ option.now ∷ value.now ∷ [];
+    }) }
+{
+    command.arg(option)?;
+    command.arg(value)
+}
+
+/// Adds each target behind its option.
+fn add_targets(command: &mut ProcessBuilder<'_>, targets: &[String]) -> Result<(), AllocError>
+    ensures { OnOk result (command_of command.new ≡ record (command_of command.old) {
+      own = (command_of command.old).own
+          ++ flat_map target_pair (map string_bytes targets.now);
+    }) }
+{
+    for target in targets {
+        add_pair(command, "--target", target.as_str())?;
+    }
+    Ok(())
+}
+
+/// Adds a manifest's path behind its option.
+fn add_manifest(command: &mut ProcessBuilder<'_>, path: &Option<String>) -> Result<(), AllocError>
+    ensures { OnOk result (command_of command.new ≡ record (command_of command.old) {
+      own = (command_of command.old).own ++ manifest_words (option_map string_bytes path.now);
+    }) }
+{
+    match path {
+        Some(path) => add_pair(command, "--manifest-path", path.as_str()),
+        None => Ok(()),
+    }
+}
+
+/// Adds the word that says which features a run has.
+fn add_run(command: &mut ProcessBuilder<'_>, run: Run) -> Result<(), AllocError>
+    ensures { (positions : List ℕ) → OnOk result (command_of command.new
+        ≡ record (command_of command.old) {
+          own = (command_of command.old).own ++ run_words (run_of run positions);
+        }) }
+{
+    match run {
+        Run::Plain => Ok(()),
+        Run::AllFeatures => command.arg("--all-features"),
+        Run::NoDefaultFeatures => command.arg("--no-default-features"),
+        Run::Features => command.arg("--no-default-features"),
+    }
+}
+
+/// The names that the candidate at a place stands for.
+fn names_of(candidates: &[Feature], place: usize) -> &[String]
+    ensures { map string_bytes result.now ≡ slice_index_or (groups_of candidates.now) place [] }
+{
+    match candidates.get(place) {
+        Some(feature) => feature.as_group(),
+        None => &[],
+    }
+}
+
+/// Appends the names of the candidates at the positions.
+fn add_names(
+    command: &mut ProcessBuilder<'_>,
+    candidates: &[Feature],
+    positions: &[usize],
+) -> Result<(), AllocError>
+    ensures { OnOk result (command_of command.new ≡ record (command_of command.old) {
+      features = appended (command_of command.old).features
+          (names_at (groups_of candidates.now) positions.now);
+    }) }
+{
+    for position in positions {
+        command.append_features(names_of(candidates, *position))?;
+    }
+    Ok(())
+}
+
+/// Appends the features that the words name, and those of the run's set, where it is one of a set.
+fn add_features(
+    command: &mut ProcessBuilder<'_>,
+    member: &PlanPackage,
+    run: Run,
+    positions: &[usize],
+) -> Result<(), AllocError>
+    ensures { OnOk result (command_of command.new ≡ record (command_of command.old) {
+      features = appended (command_of command.old).features
+          ((package_view member.now).features
+          ++ run_names (package_view member.now).candidates (run_of run positions.now));
+    }) }
+{
+    command.append_features(member.features.as_slice())?;
+    match run {
+        Run::Features => add_names(command, member.candidates.as_slice(), positions),
+        Run::Plain => Ok(()),
+        Run::AllFeatures => Ok(()),
+        Run::NoDefaultFeatures => Ok(()),
+    }
+}
+
+/// Adds the package that is cleaned, where it is one.
+fn add_cleaned(
+    command: &mut ProcessBuilder<'_>,
+    member: Option<&PlanPackage>,
+) -> Result<(), AllocError>
+    ensures { OnOk result (command_of command.new ≡ record (command_of command.old) {
+      own = (command_of command.old).own
+          ++ cleaned_words (option_map (λ k. package_view k.now) member.entry);
+    }) }
+{
+    match member {
+        Some(member) => add_pair(command, "--package", member.name.as_str()),
+        None => Ok(()),
+    }
+}

@@ -1,0 +1,265 @@
+//! The plan of a call: its runs in order, each with its command, and the versions that they belong
+//! to.
+
+ghost use Rattle.std.specs.Prelude.{◌≡◌, ◌<◌, ◌^◌, Some, None, length, slice_get, option_map};
+ghost use Rattle.std.specs.Prelude.{IfOk, IfSome, string_bytes, map};
+ghost use Rattle.hack_process.specs.Commands.{command_of};
+ghost use Rattle.hack_runs.specs.View.{package_view};
+ghost use Rattle.hack_runs.specs.Commands.{command_of_quad, cleaning, lockfile_command, package_at};
+ghost use Rattle.hack_runs.specs.Commands.{name_in, ranked_command};
+ghost use Rattle.hack_runs.specs.Plans.{counts_in};
+
+use crate::parts::{CallWords, PlanPackage, PlanVersion};
+use crate::prepared::prepared;
+use hack_plan::places::{Places, PlacesFault, Quad};
+use hack_plan::versions::{Scene, Versions};
+use hack_process::process::ProcessBuilder;
+use hack_versions::version::Version;
+use std::alloc::{AllocError, Global};
+use std::marker::Model;
+
+/// What is run, in order.
+#[derive(Drop)]
+pub struct Plan {
+    words: CallWords,
+    packages: Vec<PlanPackage>,
+    versions: Vec<PlanVersion>,
+    places: Places,
+}
+
+impl Model for Plan {
+    ghost use Rattle.std.specs.Prelude.{map};
+    ghost use Rattle.hack_runs.specs.View.{PlanView, call_view, package_view};
+    ghost use Rattle.hack_runs.specs.Plans.{AreRuns};
+
+    ghost Value = { PlanView };
+
+    ghost view = { λ p. record { call = call_view p.words; packages = map package_view p.packages.items; versions = p.versions.items; quads = p.places.quads } };
+
+    ghost invariant = { λ p. AreRuns (map package_view p.packages.items) p.places.quads };
+}
+
+/// A place of a plan.
+#[derive(Drop)]
+pub struct PlannedRun<'a> {
+    pub quad: Quad,
+    /// The package's name; none where the run is for all packages.
+    pub name: Option<&'a str>,
+    pub command: ProcessBuilder<'a>,
+}
+
+impl Plan {
+    /// The number of places, at most 4294967295.
+    pub fn len(&self) -> usize
+        ensures value { result ≡ length self.now.quads }
+        ensures short { length self.now.quads < 2 ^ 32 }
+    {
+        self.places.len()
+    }
+
+    /// Each version that some package uses, or the one "none" without a range, in order, with what
+    /// is done before its runs. A version may have no place.
+    pub fn versions(&self) -> &[PlanVersion]
+        ensures { result.now ≡ self.now.versions }
+    {
+        self.versions.as_slice()
+    }
+
+    /// The run at a place, with its command.
+    pub fn run(&self, alloc: Global, place: usize) -> Result<PlannedRun<'_>, AllocError>
+        requires { place < length self.now.quads }
+        ensures quad { IfOk result (λ run. slice_get self.now.quads place ≡ Some run.quad) }
+        ensures name { IfOk result (λ run. option_map (λ name. name.now) run.name
+            ≡ name_in (package_at self.now.packages run.quad.package)) }
+        ensures command { IfOk result (λ run. command_of run.command
+            ≡ command_of_quad self.now run.quad) }
+    {
+        let quad = self.places.run(place);
+        match self.package_of(quad) {
+            None => Ok(PlannedRun {
+                quad,
+                name: None,
+                command: self.words.whole(alloc, quad.version, quad.slot)?,
+            }),
+            Some(member) => Ok(PlannedRun {
+                quad,
+                name: Some(member.name.as_str()),
+                command: self.of_package(alloc, quad, member)?,
+            }),
+        }
+    }
+
+    /// The package of a run.
+    fn package_of(&self, quad: Quad) -> Option<&PlanPackage>
+        ensures { option_map (λ k. package_view k.now) result
+            ≡ package_at self.now.packages quad.package }
+    {
+        match quad.package {
+            None => None,
+            Some(p) => self.packages.get(p),
+        }
+    }
+
+    /// The command of a package's run.
+    fn of_package<'a>(
+        &'a self,
+        alloc: Global,
+        quad: Quad,
+        member: &'a PlanPackage,
+    ) -> Result<ProcessBuilder<'a>, AllocError>
+        requires { quad.rank < length (package_view member.now).runs }
+        ensures { IfOk result (λ command. command_of command
+            ≡ ranked_command self.now.call quad.version quad.slot (Some (package_view member.now))
+            quad.rank) }
+    {
+        let mut positions = Vec::new(alloc);
+        let run = member.runs.run(quad.rank, &mut positions)?;
+        self.words.run(
+            alloc,
+            quad.version,
+            quad.slot,
+            member,
+            run,
+            positions.as_slice(),
+        )
+    }
+
+    /// The command that removes the artifacts of all packages, before the runs of a version.
+    pub fn cleaning(&self, alloc: Global) -> Result<ProcessBuilder<'_>, AllocError>
+        ensures { IfOk result (λ command. command_of command ≡ cleaning self.now.call None) }
+    {
+        self.words.cleaning(alloc, None)
+    }
+
+    /// The command that removes the artifacts of a place's package, or of all where its run is for
+    /// all, before the run.
+    pub fn run_cleaning(
+        &self,
+        alloc: Global,
+        place: usize,
+    ) -> Result<ProcessBuilder<'_>, AllocError>
+        requires { place < length self.now.quads }
+        ensures { IfOk result (λ command. IfSome (slice_get self.now.quads place)
+            (λ q. command_of command
+            ≡ cleaning self.now.call (package_at self.now.packages q.package))) }
+    {
+        let quad = self.places.run(place);
+        self.words.cleaning(alloc, self.package_of(quad))
+    }
+
+    /// The command that makes the lockfile anew by the cargo of a version.
+    pub fn lockfile(
+        &self,
+        alloc: Global,
+        version: Version,
+    ) -> Result<ProcessBuilder<'_>, AllocError>
+        ensures { IfOk result (λ command. command_of command
+            ≡ lockfile_command self.now.call version) }
+    {
+        self.words.lockfile(alloc, version)
+    }
+
+    /// Rustup's program.
+    pub fn rustup(&self) -> &str
+        ensures { result.now ≡ self.now.call.rustup }
+    {
+        self.words.rustup.as_str()
+    }
+
+    /// The targets, in the order of their bytes.
+    pub fn targets(&self) -> &[String]
+        ensures { map string_bytes result.now ≡ self.now.call.targets }
+    {
+        self.words.targets.as_slice()
+    }
+
+    /// The current folder, inside which texts show paths.
+    pub fn dir(&self) -> &str
+        ensures { result.now ≡ self.now.call.dir }
+    {
+        self.words.dir.as_str()
+    }
+
+    /// Whether a package's artifacts are removed before each of its runs.
+    pub fn cleans_per_run(&self) -> bool
+        ensures { result ≡ self.now.call.clean_per_run }
+    {
+        self.words.clean_per_run
+    }
+}
+
+impl Plan {
+    ghost use Rattle.std.specs.Prelude.{◌⊎◌, IfErr, []};
+    ghost use Rattle.hack_plan.specs.Scenes.{AreVersions};
+    ghost use Rattle.hack_plan.specs.Spans.{versions_of};
+    ghost use Rattle.hack_plan.specs.Quads.{ArePlaces, HasTooMany};
+    ghost use Rattle.hack_runs.specs.View.{call_view};
+    ghost use Rattle.hack_runs.specs.Plans.{counts_in, AreLaid};
+    ghost use Rattle.hack_runs.specs.Prepared.{ArePrepared};
+
+    /// The plan without a version, for a call without a subcommand.
+    pub fn empty(alloc: Global, words: CallWords) -> Plan
+        ensures call { result.call ≡ call_view words }
+        ensures packages { result.packages ≡ [] }
+        ensures versions { result.versions ≡ [] }
+        ensures quads { result.quads ≡ [] }
+    {
+        Plan {
+            words,
+            packages: Vec::new(alloc),
+            versions: Vec::new(alloc),
+            places: Places::empty(alloc),
+        }
+    }
+
+    /// The plan of a scene, whose packages these are, and whose versions.
+    pub fn of_scene(
+        alloc: Global,
+        words: CallWords,
+        packages: Vec<PlanPackage>,
+        scene: &Scene,
+        versions: &Versions,
+    ) -> Result<Plan, PlacesFault>
+        requires versions { AreVersions scene.now versions.now }
+        requires packages { length packages.items ≡ length scene.now.packages.items }
+        ensures call { IfOk result (λ plan. plan.call ≡ call_view words) }
+        ensures packages { IfOk result (λ plan. plan.packages ≡ map package_view packages.items) }
+        ensures quads { IfOk result (λ plan. ArePlaces scene.now (counts_in packages.items)
+            versions.now.stable plan.quads) }
+        ensures spans { IfOk result (AreLaid (versions_of scene.now.range
+            versions.now.groups.items)) }
+        ensures prepared { IfOk result (λ plan.
+            ArePrepared words.locked words.clean_per_version plan.versions) }
+        ensures never { IfOk result (λ _. ¬ HasTooMany scene.now (counts_in packages.items)
+            versions.now.stable) }
+        ensures err { IfErr result (λ e. (e ≡ PlacesFault.Memory)
+            ⊎ ((e ≡ PlacesFault.TooManyRuns) × HasTooMany scene.now (counts_in packages.items)
+            versions.now.stable)) }
+    {
+        let counts = counts(alloc, packages.as_slice())?;
+        let places = Places::new(alloc, scene, versions, counts.as_slice())?;
+        let versions = prepared(
+            alloc,
+            places.versions(),
+            words.locked,
+            words.clean_per_version,
+        )?;
+        Ok(Plan {
+            words,
+            packages,
+            versions,
+            places,
+        })
+    }
+}
+
+/// The number of runs of each package.
+fn counts(alloc: Global, packages: &[PlanPackage]) -> Result<Vec<usize>, AllocError>
+    ensures { IfOk result (λ counts. counts.items ≡ counts_in packages.now) }
+{
+    let mut counts = Vec::with_capacity(alloc, packages.len())?;
+    for member in packages {
+        counts.push(member.runs.len())?;
+    }
+    Ok(counts)
+}
