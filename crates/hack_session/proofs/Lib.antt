@@ -6,3 +6,4 @@ pub mod ToolchainLemmas
 pub mod Headline
 pub mod ListLemmas
 pub mod ReportLemmas
+pub mod DriveLemmas
