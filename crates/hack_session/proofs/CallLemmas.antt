@@ -45,14 +45,14 @@ pub by_fault : (T : Type 0) (tells : Type 0) (fault : ProcessFault) (asked : Ask
 by_fault T tells Memory asked shown old new f t = by_memory T asked old new (f.1 t)
 by_fault T tells EmptyProgram asked shown old new f t = record { made = []; grown = f.1 t ∙ sym (append-nil old); such = inl (inr (f.0, refl), refl) }
 by_fault T tells (NeverExecuted text) asked shown old new f t =
-  let had = f.2 t in by_end T (NeverExecuted text) asked had.0 old new (never_succeeds had.0.end had.1) (λ calls h. h) had.2
+    let had = f.2 t in by_end T (NeverExecuted text) asked had.0 old new (never_succeeds had.0.end had.1) (λ calls h. h) had.2
 by_fault T tells (NotText text) asked shown old new f t = absurd f
 by_fault T tells (ByFailure failure) asked shown old new f t =
-  let had = f.3 t in
-  let other : ¬ IsSuccess had.0.end = λ s. f.2.0 (had.1.ended ∙ s) in
-  by_end T (ByFailure failure) asked had.0 old new other (λ calls h. h) had.2
+    let had = f.3 t in
+    let other : ¬ IsSuccess had.0.end = λ s. f.2.0 (had.1.ended ∙ s) in
+    by_end T (ByFailure failure) asked had.0 old new other (λ calls h. h) had.2
 
 pub of_run : (T : Type 0) (tells : Type 0) (r : Result T ProcessFault) (asked : Asked) (shown : List ℕ) (old new : List Call)
-  → OnOk r (tells → Had (λ answer. IsSuccess answer.end) asked old new) → IfErr r (IsFault tells asked shown old new) → tells → Makes (One {T = T} asked r) old new
+    → OnOk r (tells → Had (λ answer. IsSuccess answer.end) asked old new) → IfErr r (IsFault tells asked shown old new) → tells → Makes (One {T = T} asked r) old new
 of_run T tells (Ok done) asked shown old new p q t = let had = p t in by_success T done asked had.0 old new had.1 had.2
 of_run T tells (Err fault) asked shown old new p q t = by_fault T tells fault asked shown old new q t

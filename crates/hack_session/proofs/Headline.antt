@@ -63,8 +63,9 @@ kept_passes p (y ∷ ys) x h = go (p y) refl (kept_passes p ys x) h
     go : (b : Bool) → p y ≡ b → (Contains (filter p ys) x → Contains ys x × (p x ≡ true)) → Contains (cond b (y ∷ filter p ys) (filter p ys)) x → Contains (y ∷ ys) x × (p x ≡ true)
     go false e rest h = let r = rest h in (behind y ys x r.0, r.1)
     go true e rest h = elim (front_or y (filter p ys) x h) [
-        inl is ↦ ((0, omega arith, is), ap p (sym is) ∙ e)
-      | inr more ↦ (behind y ys x (rest more).0, (rest more).1) ]
+      | inl is ↦ ((0, omega arith, is), ap p (sym is) ∙ e)
+      | inr more ↦ (behind y ys x (rest more).0, (rest more).1)
+    ]
 
 passes_kept : (p : ℕ → Bool) (xs : List ℕ) (x : ℕ) → Contains xs x → p x ≡ true → Contains (filter p xs) x
 passes_kept p [] x h t = absurd (omega (arith, h.1))
@@ -78,9 +79,9 @@ passes_kept p (y ∷ ys) x h t = go (p y) refl (λ k. passes_kept p ys x k t) (f
 
 in_range : (n x : ℕ) → Contains (range_with_len 0 n) x → x < n
 in_range n x h =
-  let lt : h.0 < n = omega (arith, h.1, length-range_with_len 0 n) in
-  let e : get_or (range_with_len 0 n) h.0 x ≡ 0 + h.0 = get_or-range_with_len 0 n h.0 x lt in
-  omega (arith, h.2)
+    let lt : h.0 < n = omega (arith, h.1, length-range_with_len 0 n) in
+    let e : get_or (range_with_len 0 n) h.0 x ≡ 0 + h.0 = get_or-range_with_len 0 n h.0 x lt in
+    omega (arith, h.2)
 
 range_has : (n x : ℕ) → x < n → Contains (range_with_len 0 n) x
 range_has n x lt = (x, omega (arith, length-range_with_len 0 n), get_or-range_with_len 0 n x x lt ∙ zero_plus)
@@ -90,20 +91,21 @@ range_has n x lt = (x, omega (arith, length-range_with_len 0 n), get_or-range_wi
 
 range_rises : (n : ℕ) → AllPairs (λ a b. a < b) (range_with_len 0 n)
 range_rises n = λ i j d lt l.
-  let high : j < n = omega (arith, length-range_with_len 0 n) in
-  let low : i < n = omega arith in
-  let e : get_or (range_with_len 0 n) i d ≡ 0 + i = get_or-range_with_len 0 n i d low in
-  let f : get_or (range_with_len 0 n) j d ≡ 0 + j = get_or-range_with_len 0 n j d high in
-  omega arith
+    let high : j < n = omega (arith, length-range_with_len 0 n) in
+    let low : i < n = omega arith in
+    let e : get_or (range_with_len 0 n) i d ≡ 0 + i = get_or-range_with_len 0 n i d low in
+    let f : get_or (range_with_len 0 n) j d ≡ 0 + j = get_or-range_with_len 0 n j d high in
+    omega arith
 
 pub are_piece : (piece : Option Partition) (total : ℕ) (inside : ℕ → Bool) → IsTestOf piece total inside → ArePiece piece total (filter inside (range_with_len 0 total))
 are_piece piece total inside test = record {
   increasing = AllPairs-filter (λ a b. a < b) inside (range_with_len 0 total) (range_rises total);
-  exact = λ place.
-    ((λ h. let k = kept_passes inside (range_with_len 0 total) place h in
-       let lt : place < total = in_range total place k.0 in
-       (lt, (test place lt).0 (so_true (inside place) k.1))),
-     (λ h. passes_kept inside (range_with_len 0 total) place (range_has total place h.0) (is_true (inside place) ((test place h.0).1 h.1))))
+  exact = λ place. (
+    (λ h. let k = kept_passes inside (range_with_len 0 total) place h in
+        let lt : place < total = in_range total place k.0 in
+        (lt, (test place lt).0 (so_true (inside place) k.1))),
+    (λ h. passes_kept inside (range_with_len 0 total) place (range_has total place h.0) (is_true (inside place) ((test place h.0).1 h.1))),
+  );
 }
 
 -- the runs of marked places
@@ -131,17 +133,20 @@ hands_out piece t schedule history complete = go (list_any (stops t.keep_going) 
   where
     all : runs_of t.schedule ≡ filter schedule.inside (range_with_len 0 (length t.plan.quads))
     all = sym (only_places t.schedule) ∙ ap runs_of schedule.places ∙ marked schedule.inside (range_with_len 0 (length t.plan.quads))
+
     front : runs_of t.schedule ≡ runs_of (map step_of t.handed) ++ runs_of (drop (length t.handed) t.schedule)
     front = ap runs_of (sym (take-append-drop (length t.handed) t.schedule)) ∙ filter_map-append run_place (take (length t.handed) t.schedule) (drop (length t.handed) t.schedule)
-      ∙ ap (λ (l : List Step). runs_of l ++ runs_of (drop (length t.handed) t.schedule)) (sym history.front)
+        ∙ ap (λ (l : List Step). runs_of l ++ runs_of (drop (length t.handed) t.schedule)) (sym history.front)
+
     chosen : ArePiece piece (length t.plan.quads) (runs_of t.schedule)
     chosen = subst (ArePiece piece (length t.plan.quads)) (sym all) (are_piece piece (length t.plan.quads) schedule.inside schedule.test)
+
     go : (b : Bool) → list_any (stops t.keep_going) t.handed ≡ b → HandsOut piece (length t.plan.quads) t
     go true e = record { places = runs_of t.schedule; left = runs_of (drop (length t.handed) t.schedule); chosen = chosen; in_order = front; until = inl e }
     go false e =
-      let at : slice_get t.schedule (length t.handed) ≡ None = rw e at complete in
-      let past : length t.schedule ≤ length t.handed = ends t.schedule (length t.handed) at in
-      record { places = runs_of t.schedule; left = []; chosen = chosen; in_order = ap runs_of (sym (take_all (length t.handed) t.schedule past) ∙ sym history.front) ∙ sym (append-nil (runs_of (map step_of t.handed))); until = inr refl }
+        let at : slice_get t.schedule (length t.handed) ≡ None = rw e at complete in
+        let past : length t.schedule ≤ length t.handed = ends t.schedule (length t.handed) at in
+        record { places = runs_of t.schedule; left = []; chosen = chosen; in_order = ap runs_of (sym (take_all (length t.handed) t.schedule past) ∙ sym history.front) ∙ sym (append-nil (runs_of (map step_of t.handed))); until = inr refl }
 
 tail_passed : (h : Handed) (hs : List Handed) → All HasPassed (h ∷ hs) → All HasPassed hs
 tail_passed h hs a = λ k d l. a (suc k) d (omega arith)
@@ -149,8 +154,8 @@ tail_passed h hs a = λ k d l. a (suc k) d (omega arith)
 passed_steps : (hs : List Handed) → All HasPassed hs → map passed (map step_of hs) ≡ hs
 passed_steps [] a = refl
 passed_steps (h ∷ hs) a =
-  let e : h.outcome ≡ Passed = a 0 h (omega arith) in
-  ap (λ (o : Outcome). record { step = h.step; outcome = o } ∷ map passed (map step_of hs)) (sym e) ∙ ap (λ (l : List Handed). h ∷ l) (passed_steps hs (tail_passed h hs a))
+    let e : h.outcome ≡ Passed = a 0 h (omega arith) in
+    ap (λ (o : Outcome). record { step = h.step; outcome = o } ∷ map passed (map step_of hs)) (sym e) ∙ ap (λ (l : List Handed). h ∷ l) (passed_steps hs (tail_passed h hs a))
 
 passed_goes : (keep : Bool) (step : Step) → stops_at keep step Passed ≡ false
 passed_goes keep (Prepare p) = refl
@@ -160,17 +165,17 @@ passed_goes keep (Run n) = refl
 none_stops : (keep : Bool) (hs : List Handed) → All HasPassed hs → list_any (stops keep) hs ≡ false
 none_stops keep [] a = refl
 none_stops keep (h ∷ hs) a =
-  let e : h.outcome ≡ Passed = a 0 h (omega arith) in
-  let f : stops keep h ≡ false = ap (stops_at keep h.step) e ∙ passed_goes keep h.step in
-  rw f (none_stops keep hs (tail_passed h hs a))
+    let e : h.outcome ≡ Passed = a 0 h (omega arith) in
+    let f : stops keep h ≡ false = ap (stops_at keep h.step) e ∙ passed_goes keep h.step in
+    rw f (none_stops keep hs (tail_passed h hs a))
 
 -- where each step passed, a complete history is the whole schedule
 pub whole : (t : Course) → IsHistory t → next_of t ≡ None → All HasPassed t.handed → t.handed ≡ map passed t.schedule
 whole t history complete all =
-  let at : slice_get t.schedule (length t.handed) ≡ None = rw (none_stops t.keep_going t.handed all) at complete in
-  let past : length t.schedule ≤ length t.handed = ends t.schedule (length t.handed) at in
-  sym (passed_steps t.handed all) ∙ ap (map passed) (history.front ∙ take_all (length t.handed) t.schedule past)
+    let at : slice_get t.schedule (length t.handed) ≡ None = rw (none_stops t.keep_going t.handed all) at complete in
+    let past : length t.schedule ≤ length t.handed = ends t.schedule (length t.handed) at in
+    sym (passed_steps t.handed all) ∙ ap (map passed) (history.front ∙ take_all (length t.handed) t.schedule past)
 
 pub schedule_of : (piece : Option Partition) (s t : Course) (plan : PlanView) → IsSameCourse t s → s.plan ≡ plan → IsSchedule piece plan s.schedule → IsSchedule piece t.plan t.schedule
 schedule_of piece s t plan same e h =
-  subst (λ (p : PlanView). IsSchedule piece p t.schedule) (sym (same.plan ∙ e)) (subst (IsSchedule piece plan) (sym same.schedule) h)
+    subst (λ (p : PlanView). IsSchedule piece p t.schedule) (sym (same.plan ∙ e)) (subst (IsSchedule piece plan) (sym same.schedule) h)

@@ -29,8 +29,8 @@ goes_on t d h = go (list_any (stops t.keep_going) t.handed) refl h
     go : (b : Bool) → list_any (stops t.keep_going) t.handed ≡ b → IsSome (cond b None (slice_get t.schedule (length t.handed))) → Goes t d
     go true e k = absurd (search rules)
     go false e k =
-      let inside : length t.handed < length t.schedule = some_within t.schedule (length t.handed) k in
-      record { none = e; more = inside; next = rw e (slice_get-get_or t.schedule (length t.handed) d inside) }
+        let inside : length t.handed < length t.schedule = some_within t.schedule (length t.handed) k in
+        record { none = e; more = inside; next = rw e (slice_get-get_or t.schedule (length t.handed) d inside) }
 
 pub list_any-push : {X : Type 0} (p : X → Bool) (xs : List X) (x : X) → list_any p xs ≡ false → list_any p (xs ++ x ∷ []) ≡ p x
 list_any-push p xs x h = list_any-append p xs (x ∷ []) ∙ rw h (last (p x))
@@ -49,10 +49,10 @@ list_any-none p xs k d h l = go (p (get_or xs k d)) refl
 pub IsHistory-push : (t : Course) (h : Handed) (d : Step) → IsHistory t → Goes t d → h.step ≡ get_or t.schedule (length t.handed) d → IsHistory (record { plan = t.plan; schedule = t.schedule; handed = t.handed ++ h ∷ []; keep_going = t.keep_going })
 IsHistory-push t h d old g e = record {
   front = map-append step_of t.handed (h ∷ []) ∙ ap (λ ss. ss ++ step_of h ∷ []) old.front ∙ ap (λ (x : Step). take (length t.handed) t.schedule ++ x ∷ []) e
-    ∙ sym (take_more t.schedule (length t.handed) d g.more) ∙ ap (λ (n : ℕ). take n t.schedule) (sym (length-append t.handed (h ∷ [])));
+      ∙ sym (take_more t.schedule (length t.handed) d g.more) ∙ ap (λ (n : ℕ). take n t.schedule) (sym (length-append t.handed (h ∷ [])));
   goes = λ k x l.
-    let inside : k < length t.handed = omega (arith, length-append t.handed (h ∷ [])) in
-    rw (get_or_append_left t.handed (h ∷ []) x k inside) (list_any-none (stops t.keep_going) t.handed k x g.none inside)
+      let inside : k < length t.handed = omega (arith, length-append t.handed (h ∷ [])) in
+      rw (get_or_append_left t.handed (h ∷ []) x k inside) (list_any-none (stops t.keep_going) t.handed k x g.none inside);
 }
 
 -- the record of a history with a step more

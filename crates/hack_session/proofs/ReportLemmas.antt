@@ -13,7 +13,7 @@ texts_as q [] = refl
 texts_as q (f ∷ fs) = go (bytes_eq q (string_bytes f.name)) (texts_as q fs)
   where
     go : (b : Bool) → map told_text (filter (is_of q) (map failure_view fs)) ≡ map (λ f. string_bytes f.text) (filter (λ f. bytes_eq q (string_bytes f.name)) fs)
-      → map told_text (cond b (failure_view f ∷ filter (is_of q) (map failure_view fs)) (filter (is_of q) (map failure_view fs))) ≡ map (λ f. string_bytes f.text) (cond b (f ∷ filter (λ f. bytes_eq q (string_bytes f.name)) fs) (filter (λ f. bytes_eq q (string_bytes f.name)) fs))
+        → map told_text (cond b (failure_view f ∷ filter (is_of q) (map failure_view fs)) (filter (is_of q) (map failure_view fs))) ≡ map (λ f. string_bytes f.text) (cond b (f ∷ filter (λ f. bytes_eq q (string_bytes f.name)) fs) (filter (λ f. bytes_eq q (string_bytes f.name)) fs))
     go true e = ap (λ (l : List (List ℕ)). string_bytes f.text ∷ l) e
     go false e = e
 
@@ -29,6 +29,6 @@ abbrev told : List ℕ → List ℕ → FailedRun
 told n t = record { name = n; text = t }
 
 pub told_at : (plan : PlanView) (o : Option Quad) (q : Quad) (name text : List ℕ) → o ≡ Some q → name ≡ unwrap_or (name_in (package_at plan.packages q.package)) [] → text ≡ text_of true plan.call.dir (command_of_quad plan q)
-  → Some (record { name = name; text = text }) ≡ run_at plan o
+    → Some (record { name = name; text = text }) ≡ run_at plan o
 told_at plan o q name text e f g =
-  ap (λ (n : List ℕ). Some (told n text)) f ∙ ap (λ (t : List ℕ). Some (told (unwrap_or (name_in (package_at plan.packages q.package)) []) t)) g ∙ sym (ap (run_at plan) e)
+    ap (λ (n : List ℕ). Some (told n text)) f ∙ ap (λ (t : List ℕ). Some (told (unwrap_or (name_in (package_at plan.packages q.package)) []) t)) g ∙ sym (ap (run_at plan) e)

@@ -59,16 +59,16 @@ made_as P Q a b f p = record { made = p.made; grown = p.grown; such = f p.made p
 -- the first command ended well, and others are behind it
 pub run_then : (S T : Type 0) (done : S) (r : Result T ProcessFault) (first : Asked) (more : List Asked) (a b c : List Call) → Makes (One {T = S} first (Ok done)) a b → Makes (Ran more r) b c → Makes (Ran (first ∷ more) r) a c
 run_then S T done r first more a b c p q =
-  twice (One {T = S} first (Ok done)) (Ran more r) (Ran (first ∷ more) r) a b c
+    twice (One {T = S} first (Ok done)) (Ran more r) (Ran (first ∷ more) r) a b c
     (λ s u x y. comes_map T r (Follows more u) (Follows (first ∷ more) (s ++ u)) (Breaks more u) (Breaks (first ∷ more) (s ++ u))
-      (λ o h. inr (s, u, refl, followed first s x, h)) (λ h. inr (s, u, refl, followed first s x, h)) y) p q
+    (λ o h. inr (s, u, refl, followed first s x, h)) (λ h. inr (s, u, refl, followed first s x, h)) y) p q
 
 -- the first command failed, and the others are not called
 pub run_stops : (S T : Type 0) (fault : ProcessFault) (first : Asked) (more : List Asked) (a b : List Call) → Makes (One {T = S} first (Err fault)) a b → Makes (Ran {T = T} (first ∷ more) (Err fault)) a b
 run_stops S T fault first more a b p =
-  made_as (One {T = S} first (Err fault)) (Ran {T = T} (first ∷ more) (Err fault)) a b
+    made_as (One {T = S} first (Err fault)) (Ran {T = T} (first ∷ more) (Err fault)) a b
     (λ s x. comes_fault T fault (Follows (first ∷ []) s) (Follows (first ∷ more) s) (Breaks (first ∷ []) s) (Breaks (first ∷ more) s)
-      (λ h. inl (failed first s h, refl)) (λ h. inl (broken first s h)) (as_t fault s x)) p
+    (λ h. inl (failed first s h, refl)) (λ h. inl (broken first s h)) (as_t fault s x)) p
   where
     as_t : (f : ProcessFault) (s : List Call) → One {T = S} first (Err f) s → One {T = T} first (Err f) s
     as_t Memory s x = x
@@ -86,8 +86,8 @@ run_plain plan o q own e f b = ap (λ (c : Command). asked_of false c ∷ []) f 
 
 pub run_cleaned : (plan : PlanView) (o : Option Quad) (q : Quad) (own clean : Command) → o ≡ Some q → own ≡ command_of_quad plan q → IfSome o (λ x. clean ≡ cleaning plan.call (package_at plan.packages x.package)) → plan.call.clean_per_run ≡ true → asked_of false clean ∷ asked_of false own ∷ [] ≡ run_commands plan o
 run_cleaned plan o q own clean e f g b =
-  let h : clean ≡ cleaning plan.call (package_at plan.packages q.package) = subst (λ (x : Option Quad). IfSome x (λ y. clean ≡ cleaning plan.call (package_at plan.packages y.package))) e g in
-  ap (λ (c : Command). asked_of false c ∷ asked_of false own ∷ []) h ∙ ap (λ (c : Command). cleaning_asked plan q ∷ asked_of false c ∷ []) f ∙ sym (ap (run_commands plan) e ∙ at_flag plan q plan.call.clean_per_run b)
+    let h : clean ≡ cleaning plan.call (package_at plan.packages q.package) = subst (λ (x : Option Quad). IfSome x (λ y. clean ≡ cleaning plan.call (package_at plan.packages y.package))) e g in
+    ap (λ (c : Command). asked_of false c ∷ asked_of false own ∷ []) h ∙ ap (λ (c : Command). cleaning_asked plan q ∷ asked_of false c ∷ []) f ∙ sym (ap (run_commands plan) e ∙ at_flag plan q plan.call.clean_per_run b)
   where
     at_flag : (plan : PlanView) (q : Quad) (flag : Bool) → flag ≡ true → (if flag then cleaning_asked plan q ∷ own_asked plan q ∷ [] else own_asked plan q ∷ []) ≡ cleaning_asked plan q ∷ own_asked plan q ∷ []
     at_flag plan q false b = absurd (cc)
@@ -112,7 +112,7 @@ is_cut T (ByFailure failure) A B C D e g h = absurd (cc)
 
 pub tried_cut : (T : Type 0) (fault : ProcessFault) (try add : Asked) (a b : List Call) → true ≡ is_memory fault → Makes (One {T = T} try (Err fault)) a b → Makes (Installed {T = T} [] try add (Err fault)) a b
 tried_cut T fault try add a b e p = made_as (One {T = T} try (Err fault)) (Installed {T = T} [] try add (Err fault)) a b
-  (λ s x. is_cut T fault (Follows (try ∷ []) s) (Installs [] try add s) (Breaks (try ∷ []) s) (BreaksInstall [] try add s) e (λ h. inl (broken try s h)) x) p
+    (λ s x. is_cut T fault (Follows (try ∷ []) s) (Installs [] try add s) (Breaks (try ∷ []) s) (BreaksInstall [] try add s) e (λ h. inl (broken try s h)) x) p
 
 pub not_memory : (fault : ProcessFault) → false ≡ is_memory fault → fault ≢ Memory
 not_memory Memory e = λ h. cc
@@ -130,10 +130,10 @@ not_cut T (ByFailure failure) A C ne h = h
 
 pub tried_then : (S T : Type 0) (fault : ProcessFault) (r : Result T ProcessFault) (try add : Asked) (a b c : List Call) → fault ≢ Memory → Makes (One {T = S} try (Err fault)) a b → Makes (Ran (add ∷ []) r) b c → Makes (Installed [] try add r) a c
 tried_then S T fault r try add a b c ne p q =
-  twice (One {T = S} try (Err fault)) (Ran (add ∷ []) r) (Installed [] try add r) a b c
+    twice (One {T = S} try (Err fault)) (Ran (add ∷ []) r) (Installed [] try add r) a b c
     (λ s u x y. comes_map T r (Follows (add ∷ []) u) (Installs [] try add (s ++ u)) (Breaks (add ∷ []) u) (BreaksInstall [] try add (s ++ u))
-      (λ o h. inr (s, u, refl, failed try s (not_cut S fault (Follows (try ∷ []) s) (Breaks (try ∷ []) s) ne x), h))
-      (λ h. inr (s, u, refl, failed try s (not_cut S fault (Follows (try ∷ []) s) (Breaks (try ∷ []) s) ne x), h)) y) p q
+    (λ o h. inr (s, u, refl, failed try s (not_cut S fault (Follows (try ∷ []) s) (Breaks (try ∷ []) s) ne x), h))
+    (λ h. inr (s, u, refl, failed try s (not_cut S fault (Follows (try ∷ []) s) (Breaks (try ∷ []) s) ne x), h)) y) p q
 
 -- targets are given: the toolchain is just added
 pub with_targets : (T : Type 0) (r : Result T ProcessFault) (xs : List (String Global)) (try add : Asked) (a b : List Call) → false ≡ (length xs == 0) → Makes (Ran (add ∷ []) r) a b → Makes (Installed (map string_bytes xs) try add r) a b
@@ -148,12 +148,12 @@ abbrev pub Sure : {T : Type 0} → List ℕ → List ℕ → List (List ℕ) →
 Sure rustup name targets r calls = Installed targets (asked_of true (trial_of rustup (toolchain_name name))) (asked_of false (addition_of rustup (toolchain_name name) targets)) r calls
 
 pub install_as : (T : Type 0) (r : Result T ProcessFault) (plan : PlanView) (o : Option Version) (v : Version) (rustup name : List ℕ) (targets : List (List ℕ)) (a b : List Call)
-  → Some v ≡ o → rustup ≡ plan.call.rustup → name ≡ toolchain_of v → targets ≡ plan.call.targets → Makes (Sure rustup name targets r) a b → Makes (λ calls. Comes (InstallsAt plan o calls) (BreaksInstallAt plan o calls) r) a b
+    → Some v ≡ o → rustup ≡ plan.call.rustup → name ≡ toolchain_of v → targets ≡ plan.call.targets → Makes (Sure rustup name targets r) a b → Makes (λ calls. Comes (InstallsAt plan o calls) (BreaksInstallAt plan o calls) r) a b
 install_as T r plan o v rustup name targets a b e f g h p =
-  subst (λ (x : Option Version). Makes (λ calls. Comes (InstallsAt plan x calls) (BreaksInstallAt plan x calls) r) a b) e
+    subst (λ (x : Option Version). Makes (λ calls. Comes (InstallsAt plan x calls) (BreaksInstallAt plan x calls) r) a b) e
     (subst (λ (x : List ℕ). Makes (Sure x (toolchain_of v) plan.call.targets r) a b) f
-      (subst (λ (x : List ℕ). Makes (Sure rustup x plan.call.targets r) a b) g
-        (subst (λ (x : List (List ℕ)). Makes (Sure rustup name x r) a b) h p)))
+    (subst (λ (x : List ℕ). Makes (Sure rustup x plan.call.targets r) a b) g
+    (subst (λ (x : List (List ℕ)). Makes (Sure rustup name x r) a b) h p)))
 
 -- a step, by what came of it
 abbrev pub Did : {T : Type 0} → PlanView → Step → Result T ProcessFault → List Call → Type 0
@@ -166,8 +166,13 @@ pub step_passed : (T : Type 0) (done : T) (plan : PlanView) (step : Step) (a b :
 step_passed T done plan step a b n p = record { made = p.made; cut = 0; grown = p.grown; counted = λ h. omega arith; performed = one_step plan (record { step = step; outcome = Passed }) p.made 0 (inl (p.such, refl)) }
 
 pub step_failed : (T : Type 0) (fault : ProcessFault) (plan : PlanView) (step : Step) (a b : List Call) (n : ℕ) → fault ≢ Memory → Makes (Did {T = T} plan step (Err fault)) a b → HasPerformed plan (record { step = step; outcome = Failed } ∷ []) a b n n
-step_failed T fault plan step a b n ne p = record { made = p.made; cut = 0; grown = p.grown; counted = λ h. omega arith;
-  performed = one_step plan (record { step = step; outcome = Failed }) p.made 0 (inl (not_cut T fault (Exactly plan step p.made) (IsCut plan step p.made) ne p.such, refl)) }
+step_failed T fault plan step a b n ne p = record {
+  made = p.made;
+  cut = 0;
+  grown = p.grown;
+  counted = λ h. omega arith;
+  performed = one_step plan (record { step = step; outcome = Failed }) p.made 0 (inl (not_cut T fault (Exactly plan step p.made) (IsCut plan step p.made) ne p.such, refl));
+}
 
 cut_of : (T : Type 0) (fault : ProcessFault) (A : Outcome → Type 0) (C : Type 0) → true ≡ is_memory fault → Comes {T = T} A C (Err fault) → C
 cut_of T Memory A C e h = h
@@ -177,8 +182,13 @@ cut_of T (NotText text) A C e h = absurd (cc)
 cut_of T (ByFailure failure) A C e h = absurd (cc)
 
 pub step_cut : (T : Type 0) (fault : ProcessFault) (plan : PlanView) (step : Step) (a b : List Call) (n m : ℕ) → true ≡ is_memory fault → GrowsBy 1 n m → Makes (Did {T = T} plan step (Err fault)) a b → HasPerformed plan (record { step = step; outcome = Failed } ∷ []) a b n m
-step_cut T fault plan step a b n m e grows p = record { made = p.made; cut = 1; grown = p.grown; counted = grows;
-  performed = one_step plan (record { step = step; outcome = Failed }) p.made 1 (inr (cut_of T fault (Exactly plan step p.made) (IsCut plan step p.made) e p.such, refl, refl)) }
+step_cut T fault plan step a b n m e grows p = record {
+  made = p.made;
+  cut = 1;
+  grown = p.grown;
+  counted = grows;
+  performed = one_step plan (record { step = step; outcome = Failed }) p.made 1 (inr (cut_of T fault (Exactly plan step p.made) (IsCut plan step p.made) e p.such, refl, refl));
+}
 
 no_call : (plan : PlanView) (q : Quad) → Breaks (run_commands plan (Some q)) []
 no_call plan q = go plan.call.clean_per_run
@@ -190,10 +200,11 @@ no_call plan q = go plan.call.clean_per_run
 -- memory was refused before the first command of a run
 pub cut_run : (T : Type 0) (r : Result T ProcessFault) (plan : PlanView) (place : ℕ) (calls : List Call) → place < length plan.quads → r ≡ Err Memory → Makes (Ran (run_commands plan (slice_get plan.quads place)) r) calls calls
 cut_run T r plan place calls lt e =
-  let none : Breaks (run_commands plan (slice_get plan.quads place)) [] = elim (slice_get_cases plan.quads place).1 [
-      inl w ↦ subst (λ (o : Option Quad). Breaks (run_commands plan o) []) (sym w.2) (no_call plan w.0)
-    | inr w ↦ absurd (omega arith) ] in
-  subst (λ (s : Result T ProcessFault). Makes (Ran (run_commands plan (slice_get plan.quads place)) s) calls calls) (sym e) (record { made = []; grown = sym (append-nil calls); such = none })
+    let none : Breaks (run_commands plan (slice_get plan.quads place)) [] = elim (slice_get_cases plan.quads place).1 [
+      | inl w ↦ subst (λ (o : Option Quad). Breaks (run_commands plan o) []) (sym w.2) (no_call plan w.0)
+      | inr w ↦ absurd (omega arith)
+    ] in
+    subst (λ (s : Result T ProcessFault). Makes (Ran (run_commands plan (slice_get plan.quads place)) s) calls calls) (sym e) (record { made = []; grown = sym (append-nil calls); such = none })
 
 pub all_passed : (step : Step) → All HasPassed (record { step = step; outcome = Passed } ∷ [])
 all_passed step = λ k d lt. go k d lt

@@ -17,20 +17,20 @@ use Rattle.hack_session.specs.Schedules.{mark, places_of, steps_of, is_place, Ar
 -- a place's step is put behind those of the places before it
 pub push_mark : (f : ℕ → Step) (old now new : List Step) (s : Step) (first place : ℕ) → first ≤ place → now ≡ old ++ map f (range_with_len first (place - first)) → new ≡ now ++ s ∷ [] → s ≡ f place → new ≡ old ++ map f (range_with_len first (place + 1 - first))
 push_mark f old now new s first place le e g h =
-  let n : place + 1 - first ≡ place - first + 1 = omega arith in
-  let one : map f (range_with_len first (place - first + 1)) ≡ map f (range_with_len first (place - first)) ++ f place ∷ [] = map-range_with_len_more f first (place - first) place (omega arith) in
-  g ∙ ap (λ (l : List Step). l ++ s ∷ []) e ∙ append_assoc old (map f (range_with_len first (place - first))) (s ∷ [])
+    let n : place + 1 - first ≡ place - first + 1 = omega arith in
+    let one : map f (range_with_len first (place - first + 1)) ≡ map f (range_with_len first (place - first)) ++ f place ∷ [] = map-range_with_len_more f first (place - first) place (omega arith) in
+    g ∙ ap (λ (l : List Step). l ++ s ∷ []) e ∙ append_assoc old (map f (range_with_len first (place - first))) (s ∷ [])
     ∙ ap (λ (l : List Step). old ++ l) (ap (λ (x : Step). map f (range_with_len first (place - first)) ++ x ∷ []) h ∙ sym one ∙ ap (λ (m : ℕ). map f (range_with_len first m)) (sym n))
 
 pub range_join : (a m n : ℕ) → range_with_len a (m + n) ≡ range_with_len a m ++ range_with_len (a + m) n
 range_join a zero n =
-  let e : zero + n ≡ n = omega arith in
-  let f : a + zero ≡ a = omega arith in
-  rw (e, f) refl
+    let e : zero + n ≡ n = omega arith in
+    let f : a + zero ≡ a = omega arith in
+    rw (e, f) refl
 range_join a (suc m) n =
-  let e : suc m + n ≡ suc (m + n) = omega arith in
-  let f : a + suc m ≡ a + 1 + m = omega arith in
-  rw (e, f) (ap (λ (l : List ℕ). a ∷ l) (range_join (a + 1) m n))
+    let e : suc m + n ≡ suc (m + n) = omega arith in
+    let f : a + suc m ≡ a + 1 + m = omega arith in
+    rw (e, f) (ap (λ (l : List ℕ). a ∷ l) (range_join (a + 1) m n))
 
 map_append : {X Y : Type 0} (f : X → Y) (xs ys : List X) → map f (xs ++ ys) ≡ map f xs ++ map f ys
 map_append f xs ys = search (rules, common_steps)
@@ -50,7 +50,7 @@ pub laid_first : (inside : ℕ → Bool) (total : ℕ) (vs : List PlanVersion) (
 laid_first inside total vs steps e = record {
   within = omega arith;
   places = ap (filter is_place) e;
-  listed = λ t. record { steps_are = e; left = t }
+  listed = λ t. record { steps_are = e; left = t };
 }
 
 no_places : (ps : List Preparation) → filter is_place (map Prepare ps) ≡ []
@@ -70,11 +70,11 @@ all_places inside (p ∷ ps) = rw (marked_place inside p) (ap (λ (l : List Step
 
 -- places put behind steps
 pub places_more : (inside : ℕ → Bool) (steps : List Step) (ps : List Preparation) (next end : ℕ) → next ≤ end → filter is_place steps ≡ map (mark inside) (range_with_len 0 next)
-  → filter is_place ((steps ++ map Prepare ps) ++ map (mark inside) (range_with_len next (end - next))) ≡ map (mark inside) (range_with_len 0 end)
+    → filter is_place ((steps ++ map Prepare ps) ++ map (mark inside) (range_with_len next (end - next))) ≡ map (mark inside) (range_with_len 0 end)
 places_more inside steps ps next end le e =
-  let n : end ≡ next + (end - next) = omega arith in
-  let z : 0 + next ≡ next = omega arith in
-  filter-append is_place (steps ++ map Prepare ps) (map (mark inside) (range_with_len next (end - next)))
+    let n : end ≡ next + (end - next) = omega arith in
+    let z : 0 + next ≡ next = omega arith in
+    filter-append is_place (steps ++ map Prepare ps) (map (mark inside) (range_with_len next (end - next)))
     ∙ ap (λ (l : List Step). l ++ filter is_place (map (mark inside) (range_with_len next (end - next)))) (filter-append is_place steps (map Prepare ps) ∙ ap (λ (l : List Step). filter is_place steps ++ l) (no_places ps) ∙ append-nil (filter is_place steps) ∙ e)
     ∙ ap (λ (l : List Step). map (mark inside) (range_with_len 0 next) ++ l) (all_places inside (range_with_len next (end - next)))
     ∙ sym (map_append (mark inside) (range_with_len 0 next) (range_with_len next (end - next)))
@@ -85,49 +85,49 @@ tiled_order from [] to t = omega arith
 tiled_order from (v ∷ vs) to t = let h : v.end ≤ to = tiled_order v.end vs to t.2 in omega arith
 
 listed_more : (inside : ℕ → Bool) (total : ℕ) (vs : List PlanVersion) (i : ℕ) (v : PlanVersion) (steps new : List Step) (next end : ℕ)
-  → i < length vs → v ≡ get_or vs i v → (AreTiled next (v ∷ drop (i + 1) vs) total → end ≡ v.end)
-  → new ≡ (steps ++ map Prepare v.preparations.items) ++ map (mark inside) (range_with_len next (end - next))
-  → Listed inside total vs i steps next → Listed inside total vs (i + 1) new end
+    → i < length vs → v ≡ get_or vs i v → (AreTiled next (v ∷ drop (i + 1) vs) total → end ≡ v.end)
+    → new ≡ (steps ++ map Prepare v.preparations.items) ++ map (mark inside) (range_with_len next (end - next))
+    → Listed inside total vs i steps next → Listed inside total vs (i + 1) new end
 listed_more inside total vs i v steps new next end lt is to e l =
-  let tiled : AreTiled next (v ∷ drop (i + 1) vs) total = subst (λ (x : PlanVersion). AreTiled next (x ∷ drop (i + 1) vs) total) (sym is) (subst (λ (rest : List PlanVersion). AreTiled next rest total) (at_drop_more (λ (rest : List PlanVersion). rest) vs i v lt) l.left) in
-  let ends : end ≡ v.end = to tiled in
-  let first : v.first ≡ next = tiled.0 in
-  let here : new ≡ steps ++ steps_of inside v =
+    let tiled : AreTiled next (v ∷ drop (i + 1) vs) total = subst (λ (x : PlanVersion). AreTiled next (x ∷ drop (i + 1) vs) total) (sym is) (subst (λ (rest : List PlanVersion). AreTiled next rest total) (at_drop_more (λ (rest : List PlanVersion). rest) vs i v lt) l.left) in
+    let ends : end ≡ v.end = to tiled in
+    let first : v.first ≡ next = tiled.0 in
+    let here : new ≡ steps ++ steps_of inside v =
     e ∙ append_assoc steps (map Prepare v.preparations.items) (map (mark inside) (range_with_len next (end - next)))
-      ∙ ap (λ (n : ℕ). steps ++ (map Prepare v.preparations.items ++ map (mark inside) (range_with_len next (n - next)))) ends
-      ∙ ap (λ (n : ℕ). steps ++ (map Prepare v.preparations.items ++ map (mark inside) (range_with_len n (v.end - n)))) (sym first) in
-  record {
-    steps_are = here ∙ ap (λ (l : List Step). l ++ steps_of inside v) l.steps_are
-      ∙ ap (λ (l : List Step). flat_map (steps_of inside) (take i vs) ++ l) (sym (append-nil (steps_of inside v)))
-      ∙ sym (flat_map-append (steps_of inside) (take i vs) (v ∷ []))
-      ∙ ap (flat_map (steps_of inside)) (sym (take_more vs i v lt ∙ ap (λ (x : PlanVersion). take i vs ++ x ∷ []) (sym is)));
-    left = subst (λ (n : ℕ). AreTiled n (drop (i + 1) vs) total) (sym ends) tiled.2
-  }
+    ∙ ap (λ (n : ℕ). steps ++ (map Prepare v.preparations.items ++ map (mark inside) (range_with_len next (n - next)))) ends
+    ∙ ap (λ (n : ℕ). steps ++ (map Prepare v.preparations.items ++ map (mark inside) (range_with_len n (v.end - n)))) (sym first) in
+    record {
+      steps_are = here ∙ ap (λ (l : List Step). l ++ steps_of inside v) l.steps_are
+          ∙ ap (λ (l : List Step). flat_map (steps_of inside) (take i vs) ++ l) (sym (append-nil (steps_of inside v)))
+          ∙ sym (flat_map-append (steps_of inside) (take i vs) (v ∷ []))
+          ∙ ap (flat_map (steps_of inside)) (sym (take_more vs i v lt ∙ ap (λ (x : PlanVersion). take i vs ++ x ∷ []) (sym is)));
+      left = subst (λ (n : ℕ). AreTiled n (drop (i + 1) vs) total) (sym ends) tiled.2;
+    }
 
 pub laid_more : (inside : ℕ → Bool) (total : ℕ) (vs : List PlanVersion) (i : ℕ) (v : PlanVersion) (steps new : List Step) (next end : ℕ)
-  → i < length vs → v ≡ get_or vs i v → next ≤ end → end ≤ total → (next ≤ v.end → v.end ≤ total → end ≡ v.end)
-  → new ≡ (steps ++ map Prepare v.preparations.items) ++ map (mark inside) (range_with_len next (end - next))
-  → IsLaid inside total vs i steps next → IsLaid inside total vs (i + 1) new end
+    → i < length vs → v ≡ get_or vs i v → next ≤ end → end ≤ total → (next ≤ v.end → v.end ≤ total → end ≡ v.end)
+    → new ≡ (steps ++ map Prepare v.preparations.items) ++ map (mark inside) (range_with_len next (end - next))
+    → IsLaid inside total vs i steps next → IsLaid inside total vs (i + 1) new end
 laid_more inside total vs i v steps new next end lt is low high to e l = record {
   within = high;
   places = ap (filter is_place) e ∙ places_more inside steps v.preparations.items next end low l.places;
-  listed = λ t. listed_more inside total vs i v steps new next end lt is (λ tiled. to tiled.1 (tiled_order v.end (drop (i + 1) vs) total tiled.2)) e (l.listed t)
+  listed = λ t. listed_more inside total vs i v steps new next end lt is (λ tiled. to tiled.1 (tiled_order v.end (drop (i + 1) vs) total tiled.2)) e (l.listed t);
 }
 
 -- the places behind the last version's
 pub laid_places : (inside : ℕ → Bool) (total : ℕ) (vs : List PlanVersion) (i : ℕ) (steps new : List Step) (next : ℕ)
-  → new ≡ steps ++ map (mark inside) (range_with_len next (total - next)) → IsLaid inside total vs i steps next → filter is_place new ≡ map (mark inside) (range_with_len 0 total)
+    → new ≡ steps ++ map (mark inside) (range_with_len next (total - next)) → IsLaid inside total vs i steps next → filter is_place new ≡ map (mark inside) (range_with_len 0 total)
 laid_places inside total vs i steps new next e l =
-  ap (filter is_place) (e ∙ ap (λ (s : List Step). s ++ map (mark inside) (range_with_len next (total - next))) (sym (append-nil steps))) ∙ places_more inside steps [] next total l.within l.places
+    ap (filter is_place) (e ∙ ap (λ (s : List Step). s ++ map (mark inside) (range_with_len next (total - next))) (sym (append-nil steps))) ∙ places_more inside steps [] next total l.within l.places
 
 pub laid_steps : (inside : ℕ → Bool) (total : ℕ) (vs : List PlanVersion) (i : ℕ) (steps new : List Step) (next : ℕ) → length vs ≤ i
-  → new ≡ steps ++ map (mark inside) (range_with_len next (total - next)) → IsLaid inside total vs i steps next → AreTiled 0 vs total → new ≡ flat_map (steps_of inside) vs
+    → new ≡ steps ++ map (mark inside) (range_with_len next (total - next)) → IsLaid inside total vs i steps next → AreTiled 0 vs total → new ≡ flat_map (steps_of inside) vs
 laid_steps inside total vs i steps new next le e l t =
-  let listed = l.listed t in
-  let none : drop i vs ≡ [] = at_drop_all (λ (rest : List PlanVersion). rest) vs i le in
-  let done : next ≡ total = subst (λ (rest : List PlanVersion). AreTiled next rest total) none listed.left in
-  let gap : total - next ≡ 0 = omega arith in
-  e ∙ ap (λ (n : ℕ). steps ++ map (mark inside) (range_with_len next n)) gap ∙ append-nil steps ∙ listed.steps_are ∙ ap (flat_map (steps_of inside)) (take_all i vs le)
+    let listed = l.listed t in
+    let none : drop i vs ≡ [] = at_drop_all (λ (rest : List PlanVersion). rest) vs i le in
+    let done : next ≡ total = subst (λ (rest : List PlanVersion). AreTiled next rest total) none listed.left in
+    let gap : total - next ≡ 0 = omega arith in
+    e ∙ ap (λ (n : ℕ). steps ++ map (mark inside) (range_with_len next n)) gap ∙ append-nil steps ∙ listed.steps_are ∙ ap (flat_map (steps_of inside)) (take_all i vs le)
 
 marked_step : (plan : PlanView) (inside : ℕ → Bool) (place : ℕ) → place < length plan.quads → IsStepOf plan (mark inside place)
 marked_step plan inside place lt = go (inside place)
@@ -149,7 +149,7 @@ all_cons {X = X} P x xs h t = λ k d lt. go k d lt
 marked_steps : (plan : PlanView) (inside : ℕ → Bool) (from n : ℕ) → from + n ≤ length plan.quads → All (IsStepOf plan) (map (mark inside) (range_with_len from n))
 marked_steps plan inside from zero lt = all_none (IsStepOf plan)
 marked_steps plan inside from (suc n) lt =
-  all_cons (IsStepOf plan) (mark inside from) (map (mark inside) (range_with_len (from + 1) n)) (marked_step plan inside from (omega arith)) (marked_steps plan inside (from + 1) n (omega arith))
+    all_cons (IsStepOf plan) (mark inside from) (map (mark inside) (range_with_len (from + 1) n)) (marked_step plan inside from (omega arith)) (marked_steps plan inside (from + 1) n (omega arith))
 
 -- steps of which those at places are the plan's
 of_places : (plan : PlanView) (steps : List Step) → All (IsStepOf plan) (filter is_place steps) → All (IsStepOf plan) steps

@@ -18,4 +18,4 @@ name_kept (b ∷ bs) no_plus = go (b == 43) refl
 pub joined_targets : (xs : List (String Global)) (joined : List ℕ) → false ≡ (length xs == 0) → joined ≡ join_by string_bytes (codes ",") xs → codes "--target" ∷ joined ∷ [] ≡ target_words (map string_bytes xs)
 joined_targets [] joined e f = absurd (cc)
 joined_targets (x ∷ xs) joined e f =
-  ap (λ (text : List ℕ). codes "--target" ∷ text ∷ []) (f ∙ ap (λ (l : List ℕ). string_bytes x ++ l) (sym (flat_map-map (λ part. codes "," ++ part) string_bytes xs)))
+    ap (λ (text : List ℕ). codes "--target" ∷ text ∷ []) (f ∙ ap (λ (l : List ℕ). string_bytes x ++ l) (sym (flat_map-map (λ part. codes "," ++ part) string_bytes xs)))

@@ -17,7 +17,7 @@ performs-append plan [] more calls next cut later p q = rw (p.0, p.1) (rw zero_p
     zero_plus : 0 + later ≡ later
     zero_plus = omega arith
 performs-append plan (h ∷ steps) more calls next cut later p q =
-  (p.0, p.1 ++ next, p.2, p.3 + later, ap (λ (cs : List Call). cs ++ next) p.4 ∙ append_assoc p.0 p.1 next, omega (arith, p.5), p.6, performs-append plan steps more p.1 next p.3 later p.7 q)
+    (p.0, p.1 ++ next, p.2, p.3 + later, ap (λ (cs : List Call). cs ++ next) p.4 ∙ append_assoc p.0 p.1 next, omega (arith, p.5), p.6, performs-append plan steps more p.1 next p.3 later p.7 q)
 
 pub performed_none : (plan : PlanView) (calls : List Call) (n : ℕ) → HasPerformed plan [] calls calls n n
 performed_none plan calls n = record { made = []; cut = 0; grown = sym (append-nil calls); counted = λ h. omega arith; performed = (refl, refl) }
@@ -28,7 +28,7 @@ performed_more plan steps more a b c x y z p q = record {
   cut = p.cut + q.cut;
   grown = q.grown ∙ ap (λ (l : List Call). l ++ q.made) p.grown ∙ append_assoc a p.made q.made;
   counted = grows_more p.cut q.cut x y z p.counted q.counted;
-  performed = performs-append plan steps more p.made q.made p.cut q.cut p.performed q.performed
+  performed = performs-append plan steps more p.made q.made p.cut q.cut p.performed q.performed;
 }
 
 -- either all of the steps pass, or something is so at their end

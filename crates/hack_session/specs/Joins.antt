@@ -42,10 +42,10 @@ listed_more plan steps more a b c x y z u v w p q = record {
   failed = grows_more p.broken q.broken x y z p.failed q.failed;
   short = grows_more p.cut q.cut u v w p.short q.short;
   written = λ h. subst (Appends a c) (sym (flat_map-append (listed plan) steps more))
-    (appends_more a b c (flat_map (listed plan) steps) (flat_map (listed plan) more) (p.written (all_front IsListed steps more h)) (q.written (all_back IsListed steps more h)))
+      (appends_more a b c (flat_map (listed plan) steps) (flat_map (listed plan) more) (p.written (all_front IsListed steps more h)) (q.written (all_back IsListed steps more h)));
 }
 
 pub sent_more : {S : Type 0} (plan : PlanView) (steps more : List Handed) (ran : PlanView → List Handed → S → S → Type 0) (a b c : S)
-  → ((plan : PlanView) (steps more : List Handed) (a b c : S) → ran plan steps a b → ran plan more b c → ran plan (steps ++ more) a c)
-  → ran plan (filter is_sent steps) a b → ran plan (filter is_sent more) b c → ran plan (filter is_sent (steps ++ more)) a c
+    → ((plan : PlanView) (steps more : List Handed) (a b c : S) → ran plan steps a b → ran plan more b c → ran plan (steps ++ more) a c)
+    → ran plan (filter is_sent steps) a b → ran plan (filter is_sent more) b c → ran plan (filter is_sent (steps ++ more)) a c
 sent_more plan steps more ran a b c law p q = subst (λ (l : List Handed). ran plan l a c) (sym (filter-append is_sent steps more)) (law plan (filter is_sent steps) (filter is_sent more) a b c p q)

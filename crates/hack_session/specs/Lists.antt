@@ -23,9 +23,9 @@ line_of dir command = listed_of dir command ++ codes "\n"
 -- the lines of a run: that of its cleaning where runs are cleaned, and its own
 abbrev pub lines_of : PlanView → Quad → List ℕ
 lines_of plan q =
-  if plan.call.clean_per_run
-  then line_of plan.call.dir (cleaning plan.call (package_at plan.packages q.package)) ++ line_of plan.call.dir (command_of_quad plan q)
-  else line_of plan.call.dir (command_of_quad plan q)
+    if plan.call.clean_per_run
+    then line_of plan.call.dir (cleaning plan.call (package_at plan.packages q.package)) ++ line_of plan.call.dir (command_of_quad plan q)
+    else line_of plan.call.dir (command_of_quad plan q)
 
 -- the lines of the run at a place
 abbrev pub run_lines : PlanView → Option Quad → List ℕ

@@ -41,8 +41,8 @@ Fails asked calls = Ends asked calls ⊎ ((asked.program ≡ []) × (calls ≡ [
 abbrev pub Follows : List Asked → List Call → Outcome → Type 0
 Follows [] calls outcome = (calls ≡ []) × (outcome ≡ Passed)
 Follows (asked ∷ more) calls outcome =
-  (Fails asked calls × (outcome ≡ Failed))
-  ⊎ ((first rest : List Call) × (calls ≡ first ++ rest) × Succeeds asked first × Follows more rest outcome)
+    (Fails asked calls × (outcome ≡ Failed))
+    ⊎ ((first rest : List Call) × (calls ≡ first ++ rest) × Succeeds asked first × Follows more rest outcome)
 
 -- this command was called, or nothing was
 abbrev pub MayCall : Asked → List Call → Type 0
@@ -52,21 +52,21 @@ MayCall asked calls = (calls ≡ []) ⊎ ((call : Call) × (calls ≡ call ∷ [
 abbrev pub Breaks : List Asked → List Call → Type 0
 Breaks [] calls = ⊥
 Breaks (asked ∷ more) calls =
-  MayCall asked calls
-  ⊎ ((first rest : List Call) × (calls ≡ first ++ rest) × Succeeds asked first × Breaks more rest)
+    MayCall asked calls
+    ⊎ ((first rest : List Call) × (calls ≡ first ++ rest) × Succeeds asked first × Breaks more rest)
 
 -- where there are no targets, the first command is tried, and the second is called where that fails; else just the second
 abbrev pub Installs : List (List ℕ) → Asked → Asked → List Call → Outcome → Type 0
 Installs [] try add calls outcome =
-  (Succeeds try calls × (outcome ≡ Passed))
-  ⊎ ((tried rest : List Call) × (calls ≡ tried ++ rest) × Fails try tried × Follows (add ∷ []) rest outcome)
+    (Succeeds try calls × (outcome ≡ Passed))
+    ⊎ ((tried rest : List Call) × (calls ≡ tried ++ rest) × Fails try tried × Follows (add ∷ []) rest outcome)
 Installs (target ∷ targets) try add calls outcome = Follows (add ∷ []) calls outcome
 
 -- the same up to a command at which memory was refused
 abbrev pub BreaksInstall : List (List ℕ) → Asked → Asked → List Call → Type 0
 BreaksInstall [] try add calls =
-  MayCall try calls
-  ⊎ ((tried rest : List Call) × (calls ≡ tried ++ rest) × Fails try tried × Breaks (add ∷ []) rest)
+    MayCall try calls
+    ⊎ ((tried rest : List Call) × (calls ≡ tried ++ rest) × Fails try tried × Breaks (add ∷ []) rest)
 BreaksInstall (target ∷ targets) try add calls = Breaks (add ∷ []) calls
 
 -- what a run's own command asks
@@ -160,15 +160,15 @@ GrowsBy k old new = new < 2 ^ 64 - 1 → new ≡ old + k
 -- the calls of a step, and how many steps were cut short: none and the calls are just its own, or memory was refused in this one
 abbrev pub Performs : PlanView → Handed → List Call → ℕ → Type 0
 Performs plan h calls cut =
-  (Exactly plan h.step calls h.outcome × (cut ≡ 0))
-  ⊎ (IsCut plan h.step calls × (h.outcome ≡ Failed) × (cut ≡ 1))
+    (Exactly plan h.step calls h.outcome × (cut ≡ 0))
+    ⊎ (IsCut plan h.step calls × (h.outcome ≡ Failed) × (cut ≡ 1))
 
 -- the calls of steps, one behind the other, so many of which were cut short
 abbrev pub PerformsAll : PlanView → List Handed → List Call → ℕ → Type 0
 PerformsAll plan [] calls cut = (calls ≡ []) × (cut ≡ 0)
 PerformsAll plan (h ∷ steps) calls cut =
-  (first rest : List Call) × (here : ℕ) × (later : ℕ) × (calls ≡ first ++ rest) × (cut ≡ here + later)
-  × Performs plan h first here × PerformsAll plan steps rest later
+    (first rest : List Call) × (here : ℕ) × (later : ℕ) × (calls ≡ first ++ rest) × (cut ≡ here + later)
+    × Performs plan h first here × PerformsAll plan steps rest later
 
 -- new is old with the calls of the steps behind it, and the count of steps that memory cut short grew by those cut short
 pub record HasPerformed (plan : PlanView) (steps : List Handed) (old new : List Call) (before now : ℕ) : Type 0 where

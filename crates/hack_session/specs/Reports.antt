@@ -65,7 +65,6 @@ pub record IsReport (failures : List FailedRun) (r : KeepGoing) : Type 0 where
   pub texts : (name : List ℕ) → texts_in name r.commands ≡ map told_text (filter (is_of name) failures)
   pub names : (name : List ℕ) → is_some (get_by_text r.commands name) ≡ list_any (is_of name) failures
 
-
 -- the line of a command
 abbrev pub command_text : String Global → List ℕ
 command_text command = codes "        " ++ (string_bytes command ++ codes "\n")

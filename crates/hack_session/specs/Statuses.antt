@@ -18,7 +18,7 @@ on_text (Some name) = codes " on " ++ name
 -- a place's status: what is done there, its command, its package, and its number of all
 abbrev pub status_text : List ℕ → List ℕ → Option (List ℕ) → ℕ → ℕ → List ℕ
 status_text verb command name number total =
-  verb ++ (codes " " ++ (command ++ (on_text name ++ (codes " (" ++ (decimal number ++ (codes "/" ++ (decimal total ++ codes ")")))))))
+    verb ++ (codes " " ++ (command ++ (on_text name ++ (codes " (" ++ (decimal number ++ (codes "/" ++ (decimal total ++ codes ")")))))))
 
 -- the package's name is told, unless all is told at length
 abbrev pub told_name : Bool → Option (List ℕ) → Option (List ℕ)
@@ -28,4 +28,4 @@ told_name false name = name
 -- the status of a run at a place: its number is the place from 1, and the total is the plan's length
 abbrev pub place_status : List ℕ → Bool → PlanView → ℕ → Quad → List ℕ
 place_status verb verbose plan place q =
-  status_text verb (text_of verbose plan.call.dir (command_of_quad plan q)) (told_name verbose (name_in (package_at plan.packages q.package))) (place + 1) (length plan.quads)
+    status_text verb (text_of verbose plan.call.dir (command_of_quad plan q)) (told_name verbose (name_in (package_at plan.packages q.package))) (place + 1) (length plan.quads)

@@ -24,4 +24,4 @@ target_words (target ∷ targets) = codes "--target" ∷ join_by (λ text. text)
 -- the command that adds a toolchain for targets
 abbrev pub addition_of : List ℕ → List ℕ → List (List ℕ) → Command
 addition_of rustup toolchain targets =
-  plain_command rustup ((codes "toolchain" ∷ codes "add" ∷ toolchain ∷ codes "--no-self-update" ∷ []) ++ target_words targets)
+    plain_command rustup ((codes "toolchain" ∷ codes "add" ∷ toolchain ∷ codes "--no-self-update" ∷ []) ++ target_words targets)

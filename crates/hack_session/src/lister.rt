@@ -34,16 +34,23 @@ impl<W: Lines, R: Runner> Runner for Lister<'_, W, R> {
         × (a.runner.ghost_name ≡ b.runner.ghost_name)
         × R.ran plan (filter is_sent steps) a.runner.now b.runner.now
         × HasListed plan steps (W.contents a.out.now) (W.contents b.out.now)
-            (W.failed a.out.now) (W.failed b.out.now) a.refused b.refused };
+        (W.failed a.out.now) (W.failed b.out.now) a.refused b.refused };
 
-    ghost ran_none = { λ plan a. (refl, refl, R.ran_none plan a.runner.now,
-        listed_none plan (W.contents a.out.now) (W.failed a.out.now) a.refused) };
+    ghost ran_none = { λ plan a. (
+      refl,
+      refl,
+      R.ran_none plan a.runner.now,
+      listed_none plan (W.contents a.out.now) (W.failed a.out.now) a.refused,
+    ) };
 
-    ghost ran_more = { λ plan steps more a b c p q. (p.0 ∙ q.0, p.1 ∙ q.1,
-        sent_more plan steps more R.ran a.runner.now b.runner.now c.runner.now R.ran_more p.2 q.2,
-        listed_more plan steps more (W.contents a.out.now) (W.contents b.out.now)
-            (W.contents c.out.now) (W.failed a.out.now) (W.failed b.out.now) (W.failed c.out.now)
-            a.refused b.refused c.refused p.3 q.3) };
+    ghost ran_more = { λ plan steps more a b c p q. (
+      p.0 ∙ q.0,
+      p.1 ∙ q.1,
+      sent_more plan steps more R.ran a.runner.now b.runner.now c.runner.now R.ran_more p.2 q.2,
+      listed_more plan steps more (W.contents a.out.now) (W.contents b.out.now)
+          (W.contents c.out.now) (W.failed a.out.now) (W.failed b.out.now) (W.failed c.out.now)
+          a.refused b.refused c.refused p.3 q.3,
+    ) };
 
     fn step(&mut self, plan: &Plan, step: Step) -> Outcome {
         if is_performed(step) {
@@ -71,12 +78,7 @@ fn is_performed(step: Step) -> bool
 }
 
 /// Writes the lines of a step.
-fn list<W: Lines>(
-    alloc: Global,
-    out: &mut W,
-    plan: &Plan,
-    step: Step,
-) -> Result<(), LineFault>
+fn list<W: Lines>(alloc: Global, out: &mut W, plan: &Plan, step: Step) -> Result<(), LineFault>
     requires of { IsStepOf plan.now step }
     requires listed { is_sent_step step ≡ false }
     ensures written { OnOk result (Appends (W.contents out.old) (W.contents out.new)
@@ -124,11 +126,7 @@ fn list_run<W: Lines>(
 }
 
 /// Writes the line of a command.
-fn put<W: Lines>(
-    out: &mut W,
-    command: &ProcessBuilder<'_>,
-    dir: &str,
-) -> Result<(), LineFault>
+fn put<W: Lines>(out: &mut W, command: &ProcessBuilder<'_>, dir: &str) -> Result<(), LineFault>
     ensures written { OnOk result (Appends (W.contents out.old) (W.contents out.new)
         (line_of dir.now (command_of command.now))) }
     ensures counted { CountsLines (W.failed out.old) (W.failed out.new) result }

@@ -100,9 +100,9 @@ fn generate_lockfile<C: Caller>(
 ) -> Result<(), ProcessFault>
     ensures { C.tells → Makes (λ calls. Comes
         (Follows (lockfile_commands plan.now
-            (number_at (slice_get plan.now.versions version))) calls)
+        (number_at (slice_get plan.now.versions version))) calls)
         (Breaks (lockfile_commands plan.now
-            (number_at (slice_get plan.now.versions version))) calls) result)
+        (number_at (slice_get plan.now.versions version))) calls) result)
         (C.calls caller.old) (C.calls caller.new) }
 {
     match number(plan, version) {

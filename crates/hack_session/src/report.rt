@@ -73,10 +73,7 @@ fn failures(alloc: Global, plan: &Plan, handed: &[Handed]) -> Result<Vec<Failure
 }
 
 /// The commands of failed runs by the names of their packages.
-fn grouped(
-    alloc: Global,
-    failures: &[Failure],
-) -> Result<BTreeMap<String, Vec<String>>, AllocError>
+fn grouped(alloc: Global, failures: &[Failure]) -> Result<BTreeMap<String, Vec<String>>, AllocError>
     ensures texts { IfOk result (λ m. (name : List ℕ)
         → texts_in name m ≡ map told_text (filter (is_of name) (map failure_view failures.now))) }
     ensures names { IfOk result (λ m. (name : List ℕ) → is_some (get_by_text m name)

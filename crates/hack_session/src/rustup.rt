@@ -30,13 +30,13 @@ pub fn install_toolchain<C: Caller, O: Write, E: Write>(
 ) -> Result<(), ProcessFault>
     ensures { C.tells → Makes (λ calls. Comes
         (Installs (map string_bytes target.now)
-            (asked_of true (trial_of rustup.now (toolchain_name toolchain.now)))
-            (asked_of (not print_output) (addition_of rustup.now (toolchain_name toolchain.now)
-                (map string_bytes target.now))) calls)
+        (asked_of true (trial_of rustup.now (toolchain_name toolchain.now)))
+        (asked_of (not print_output) (addition_of rustup.now (toolchain_name toolchain.now)
+        (map string_bytes target.now))) calls)
         (BreaksInstall (map string_bytes target.now)
-            (asked_of true (trial_of rustup.now (toolchain_name toolchain.now)))
-            (asked_of (not print_output) (addition_of rustup.now (toolchain_name toolchain.now)
-                (map string_bytes target.now))) calls) result)
+        (asked_of true (trial_of rustup.now (toolchain_name toolchain.now)))
+        (asked_of (not print_output) (addition_of rustup.now (toolchain_name toolchain.now)
+        (map string_bytes target.now))) calls) result)
         (C.calls caller.old) (C.calls caller.new) }
 {
     let name = without_plus(toolchain);
@@ -60,9 +60,9 @@ pub(crate) fn try_toolchain<C: Caller, O: Write, E: Write>(
 ) -> Result<(), ProcessFault>
     ensures { C.tells → Makes (λ calls. Comes
         (Installs [] (asked_of true (command_of trial.now))
-            (asked_of (not print_output) (command_of add.now)) calls)
+        (asked_of (not print_output) (command_of add.now)) calls)
         (BreaksInstall [] (asked_of true (command_of trial.now))
-            (asked_of (not print_output) (command_of add.now)) calls) result)
+        (asked_of (not print_output) (command_of add.now)) calls) result)
         (C.calls caller.old) (C.calls caller.new) }
 {
     match call_quietly(alloc, caller, trial, dir) {

@@ -22,7 +22,7 @@ pub(crate) fn schedule(
 ) -> Result<Vec<Step>, AllocError>
     ensures places { IfOk result (λ steps. filter is_place steps.items
         ≡ map (marked (in_piece piece (length plan.now.quads)))
-            (range_with_len 0 (length plan.now.quads))) }
+        (range_with_len 0 (length plan.now.quads))) }
     ensures steps { IfOk result (λ steps.
         AreTiled 0 plan.now.versions (length plan.now.quads) → steps.items
         ≡ flat_map (steps_of (in_piece piece (length plan.now.quads))) plan.now.versions) }
@@ -43,10 +43,7 @@ pub(crate) fn schedule(
 }
 
 /// Puts preparations behind the steps so far.
-fn push_preparations(
-    steps: &mut Vec<Step>,
-    preparations: &[Preparation],
-) -> Result<(), AllocError>
+fn push_preparations(steps: &mut Vec<Step>, preparations: &[Preparation]) -> Result<(), AllocError>
     ensures { OnOk result (steps.new.items ≡ steps.old.items ++ map Prepared preparations.now) }
 {
     for preparation in preparations {

@@ -8,9 +8,9 @@ pub use crate::lines::{LineFault, LineWriter, Lines};
 pub use crate::lister::Lister;
 pub use crate::report::KeepGoing;
 pub use crate::runner::{Runner, drive, drive_plan};
+use crate::schedule::schedule;
 pub use crate::screen::{Screen, Status};
 pub use crate::starter::Starter;
-use crate::schedule::schedule;
 pub use crate::step::{Handed, Outcome, Step};
 pub use hack_runs::parts::Preparation;
 use hack_runs::plan::Plan;
@@ -36,13 +36,21 @@ impl Model for Session {
 
     ghost Value = { Course };
 
-    ghost view = { λ s. record { plan = s.plan; schedule = s.schedule.items;
-        handed = s.history.items; keep_going = s.keep_going } };
+    ghost view = { λ s. record {
+      plan = s.plan;
+      schedule = s.schedule.items;
+      handed = s.history.items;
+      keep_going = s.keep_going;
+    } };
 
     ghost invariant = { λ s. (length s.schedule.items ≤ vec_capacity s.history)
         × (s.stopped ≡ list_any (stops s.keep_going) s.history.items)
-        × IsHistory (record { plan = s.plan; schedule = s.schedule.items;
-            handed = s.history.items; keep_going = s.keep_going })
+        × IsHistory (record {
+          plan = s.plan;
+          schedule = s.schedule.items;
+          handed = s.history.items;
+          keep_going = s.keep_going;
+        })
         × All (IsStepOf s.plan) s.schedule.items };
 }
 

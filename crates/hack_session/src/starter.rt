@@ -40,20 +40,27 @@ impl<C: Caller, O: Write, E: Write> Runner for Starter<'_, C, O, E> {
     ghost ran = { λ plan steps a b. (a.caller.ghost_name ≡ b.caller.ghost_name)
         × (a.term.ghost_name ≡ b.term.ghost_name)
         × (C.tells → HasPerformed plan steps (C.calls a.caller.now) (C.calls b.caller.now)
-            a.refused b.refused)
+        a.refused b.refused)
         × (HasTold a.term.now a.fault → HasTold b.term.now b.fault)
         × (All HasPassed steps ⊎ HasTold b.term.now b.fault) };
 
-    ghost ran_none = { λ plan a. (refl, refl,
-        λ t. performed_none plan (C.calls a.caller.now) a.refused, λ told. told,
-        inl none_passed) };
+    ghost ran_none = { λ plan a. (
+      refl,
+      refl,
+      λ t. performed_none plan (C.calls a.caller.now) a.refused,
+      λ told. told,
+      inl none_passed,
+    ) };
 
-    ghost ran_more = { λ plan steps more a b c p q. (p.0 ∙ q.0, p.1 ∙ q.1,
-        λ t. performed_more plan steps more (C.calls a.caller.now) (C.calls b.caller.now)
-            (C.calls c.caller.now) a.refused b.refused c.refused (p.2 t) (q.2 t),
-        λ told. q.3 (p.3 told),
-        passed_or HasPassed (HasTold b.term.now b.fault) (HasTold c.term.now c.fault) steps more
-            p.4 q.3 q.4) };
+    ghost ran_more = { λ plan steps more a b c p q. (
+      p.0 ∙ q.0,
+      p.1 ∙ q.1,
+      λ t. performed_more plan steps more (C.calls a.caller.now) (C.calls b.caller.now)
+          (C.calls c.caller.now) a.refused b.refused c.refused (p.2 t) (q.2 t),
+      λ told. q.3 (p.3 told),
+      passed_or HasPassed (HasTold b.term.now b.fault) (HasTold c.term.now c.fault) steps more
+          p.4 q.3 q.4,
+    ) };
 
     fn step(&mut self, plan: &Plan, step: Step) -> Outcome {
         let screen = Screen {

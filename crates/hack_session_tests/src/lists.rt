@@ -2,10 +2,34 @@
 
 use crate::plans::{PLAIN, Row, piece_of, plan_of};
 use hack_process::process::{End, FakeCaller};
-use hack_session::session::{LineWriter, Lister, Starter, drive_plan};
+use hack_session::session::{LineWriter, Lines, Lister, Runner, Starter, drive_plan};
 use hack_term::term::{Coloring, LogGroup, Term};
 use std::alloc::Global;
 use std::test::Fail;
+
+/// Lists the commands of a row, and sends what isn't listed to a runner.
+fn list_over<W: Lines, R: Runner>(
+    alloc: Global,
+    row: Row<'_>,
+    out: &mut W,
+    runner: &mut R,
+) -> Result<(), Fail> {
+    let mut lister = Lister {
+        alloc,
+        out,
+        runner,
+        refused: 0,
+    };
+    let plan = plan_of(alloc, row)?;
+    let _session = drive_plan(
+        alloc,
+        plan,
+        piece_of(alloc, row),
+        row.keep_going,
+        &mut lister,
+    )?;
+    Ok(())
+}
 
 /// The lines of a list.
 fn listed(alloc: Global, row: Row<'_>) -> Result<Option<String>, Fail> {
@@ -29,14 +53,7 @@ fn listed(alloc: Global, row: Row<'_>) -> Result<Option<String>, Fail> {
         out: &mut list,
         failed: 0,
     };
-    let mut lister = Lister {
-        alloc,
-        out: &mut lines,
-        runner: &mut starter,
-        refused: 0,
-    };
-    let plan = plan_of(alloc, row)?;
-    let _session = drive_plan(alloc, plan, piece_of(alloc, row), row.keep_going, &mut lister)?;
+    list_over(alloc, row, &mut lines, &mut starter)?;
     Ok(String::from_utf8(list).ok())
 }
 

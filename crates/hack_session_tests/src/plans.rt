@@ -163,11 +163,5 @@ pub fn plan_of(alloc: Global, row: Row<'_>) -> Result<Plan, Fail> {
     if packages.len() != scene.packages.len() {
         return Ok(Plan::empty(alloc, words_of(alloc, row)?));
     }
-    Ok(Plan::of_scene(
-        alloc,
-        words_of(alloc, row)?,
-        packages,
-        &scene,
-        &versions,
-    )?)
+    Ok(Plan::of_scene(alloc, words_of(alloc, row)?, packages, &scene, &versions)?)
 }

@@ -37,12 +37,29 @@ fn started(alloc: Global, row: Row<'_>) -> Result<String, Fail> {
         refused: 0,
     };
     let plan = plan_of(alloc, row)?;
-    let session = drive_plan(alloc, plan, piece_of(alloc, row), row.keep_going, &mut starter)?;
+    let session = drive_plan(
+        alloc,
+        plan,
+        piece_of(alloc, row),
+        row.keep_going,
+        &mut starter,
+    )?;
+    let Starter {
+        alloc: _,
+        caller: _,
+        term: _,
+        out: _,
+        err: _,
+        log_group: _,
+        keep_going: _,
+        fault,
+        refused,
+    } = starter;
     let mut text = String::new(alloc);
-    if let Some(fault) = &starter.fault {
+    if let Some(fault) = fault {
         text.push_str(&format!(in alloc; "fault {fault}\n")?)?;
     }
-    text.push_str(&format!(in alloc; "refused {}\n", starter.refused)?)?;
+    text.push_str(&format!(in alloc; "refused {refused}\n")?)?;
     let report = session.report(alloc)?;
     if report.count > 0 {
         text.push_str(&format!(in alloc; "{report}")?)?;

@@ -11,8 +11,8 @@ loop-failure-preserved c = (λ q. grind (arith, text_groups, c.loop-failure.inva
 
 pub returns-clause-texts : goal.returns-clause-texts
 returns-clause-texts c = λ name.
-  c.loop-failure.invariant.0 name ∙ ap (λ (l : List Failure). map (λ f. string_bytes f.text) (filter (λ f. bytes_eq name (string_bytes f.name)) l)) (take_all _ _ c.loop-failure-test.false) ∙ sym (texts_as name c.args.failures.now)
+    c.loop-failure.invariant.0 name ∙ ap (λ (l : List Failure). map (λ f. string_bytes f.text) (filter (λ f. bytes_eq name (string_bytes f.name)) l)) (take_all _ _ c.loop-failure-test.false) ∙ sym (texts_as name c.args.failures.now)
 
 pub returns-clause-names : goal.returns-clause-names
 returns-clause-names c = λ name.
-  c.loop-failure.invariant.1 name ∙ ap (λ (l : List Failure). list_any (λ f. bytes_eq name (string_bytes f.name)) l) (take_all _ _ c.loop-failure-test.false) ∙ sym (names_as name c.args.failures.now)
+    c.loop-failure.invariant.1 name ∙ ap (λ (l : List Failure). list_any (λ f. bytes_eq name (string_bytes f.name)) l) (take_all _ _ c.loop-failure-test.false) ∙ sym (names_as name c.args.failures.now)
