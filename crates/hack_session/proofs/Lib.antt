@@ -1,0 +1,9 @@
+pub mod HistoryLemmas
+pub mod ScheduleLemmas
+pub mod CallLemmas
+pub mod RunLemmas
+pub mod ToolchainLemmas
+pub mod Headline
+pub mod ListLemmas
+pub mod ReportLemmas
+pub mod DriveLemmas

@@ -1,0 +1,21 @@
+-- Names of toolchains, and targets in one word.
+use Rattle.std.proofs.Common.{◌≡◌, ◌≢◌, ℕ, List, [], ◌∷◌, ◌++◌, refl, sym, ap, ◌∙◌, Bool, true, false, map, length, rules, arith, cond}
+use Rattle.std.proofs.Common.{String, Global}
+use Rattle.std.specs.Prelude.{string_bytes, codes, ◌==◌, if◌then◌else◌}
+use Rattle.std.specs.List.{join_by}
+use Rattle.std.proofs.lemmas.List.Folds.{flat_map-map}
+use Rattle.std.proofs.lemmas.Bool.Decides.{nat_tests}
+use Rattle.hack_session.specs.Toolchains.{toolchain_name, target_words}
+
+pub name_kept : (name : List ℕ) → ((rest : List ℕ) → name ≢ 43 ∷ rest) → name ≡ toolchain_name name
+name_kept [] no_plus = refl
+name_kept (b ∷ bs) no_plus = go (b == 43) refl
+  where
+    go : (t : Bool) → (b == 43) ≡ t → b ∷ bs ≡ cond t bs (b ∷ bs)
+    go false e = refl
+    go true e = let is : b ≡ 43 = grind (arith, nat_tests) in absurd (no_plus bs (ap (λ (n : ℕ). n ∷ bs) is))
+
+pub joined_targets : (xs : List (String Global)) (joined : List ℕ) → false ≡ (length xs == 0) → joined ≡ join_by string_bytes (codes ",") xs → codes "--target" ∷ joined ∷ [] ≡ target_words (map string_bytes xs)
+joined_targets [] joined e f = absurd (cc)
+joined_targets (x ∷ xs) joined e f =
+    ap (λ (text : List ℕ). codes "--target" ∷ text ∷ []) (f ∙ ap (λ (l : List ℕ). string_bytes x ++ l) (sym (flat_map-map (λ part. codes "," ++ part) string_bytes xs)))

@@ -1,0 +1,10 @@
+pub mod Histories
+pub mod Schedules
+pub mod Handouts
+pub mod Toolchains
+pub mod Performs
+pub mod Joined
+pub mod Statuses
+pub mod Lists
+pub mod Joins
+pub mod Reports

@@ -1,0 +1,90 @@
+-- The command list.
+use Rattle.std.specs.Prelude.{ℕ, ◌≡◌, ◌+◌, Bool, true, false, List, [], ◌∷◌, ◌++◌, map, filter, count_by, All, Option, Some, None, Result, Ok, Err, codes, slice_get, if◌then◌else◌}
+use Rattle.std.specs.List.{flat_map}
+use Rattle.std.specs.Io.KnownBytes.{Appends}
+use Rattle.hack_plan.specs.declared.places.Quad.{Quad}
+use Rattle.hack_process.specs.CommandTexts.{Command, listed_of}
+use Rattle.hack_runs.specs.declared.parts.Preparation.TheVariants.{Toolchain, Lockfile, Clean}
+use Rattle.hack_runs.specs.View.{PlanView}
+use Rattle.hack_runs.specs.Commands.{cleaning, command_of_quad, package_at}
+use Rattle.hack_session.specs.declared.step.Step.{Step}
+use Rattle.hack_session.specs.declared.step.Step.TheVariants.{Prepare, Skip, Run}
+use Rattle.hack_session.specs.declared.step.Outcome.{Outcome}
+use Rattle.hack_session.specs.declared.step.Outcome.TheVariants.{Passed, Failed}
+use Rattle.hack_session.specs.declared.step.Handed.{Handed}
+use Rattle.hack_session.specs.declared.lines.LineFault.{LineFault}
+use Rattle.hack_session.specs.declared.lines.LineFault.TheVariants.{Unwritten, Memory}
+use Rattle.hack_session.specs.Performs.{GrowsBy}
+
+-- a command's line, as it stands in a list
+abbrev pub line_of : List ℕ → Command → List ℕ
+line_of dir command = listed_of dir command ++ codes "\n"
+
+-- the lines of a run: that of its cleaning where runs are cleaned, and its own
+abbrev pub lines_of : PlanView → Quad → List ℕ
+lines_of plan q =
+    if plan.call.clean_per_run
+    then line_of plan.call.dir (cleaning plan.call (package_at plan.packages q.package)) ++ line_of plan.call.dir (command_of_quad plan q)
+    else line_of plan.call.dir (command_of_quad plan q)
+
+-- the lines of the run at a place
+abbrev pub run_lines : PlanView → Option Quad → List ℕ
+run_lines plan None = []
+run_lines plan (Some q) = lines_of plan q
+
+-- what a step lists: the cleaning's line for a cleaning, and a run's lines; nothing else
+abbrev pub step_lines : PlanView → Step → List ℕ
+step_lines plan (Prepare (Toolchain v)) = []
+step_lines plan (Prepare (Lockfile v)) = []
+step_lines plan (Prepare (Clean v)) = line_of plan.call.dir (cleaning plan.call None)
+step_lines plan (Skip place) = []
+step_lines plan (Run place) = run_lines plan (slice_get plan.quads place)
+
+-- what a step that was handed out lists
+abbrev pub listed : PlanView → Handed → List ℕ
+listed plan h = step_lines plan h.step
+
+-- a step that isn't listed, but performed: a toolchain or a lockfile
+abbrev pub is_sent_step : Step → Bool
+is_sent_step (Prepare (Toolchain v)) = true
+is_sent_step (Prepare (Lockfile v)) = true
+is_sent_step (Prepare (Clean v)) = false
+is_sent_step (Skip place) = false
+is_sent_step (Run place) = false
+
+-- such a step that was handed out
+abbrev pub is_sent : Handed → Bool
+is_sent h = is_sent_step h.step
+
+-- an outcome is a failure
+abbrev pub has_failed : Outcome → Bool
+has_failed Passed = false
+has_failed Failed = true
+
+-- a step of the list that failed
+abbrev pub is_unlisted : Handed → Bool
+is_unlisted h = if is_sent_step h.step then false else has_failed h.outcome
+
+-- a step of the list that didn't fail
+abbrev pub IsListed : Handed → Type 0
+IsListed h = is_unlisted h ≡ false
+
+-- a line that can't be written counts as one failure
+abbrev pub Counts : {T E : Type 0} → ℕ → ℕ → Result T E → Type 0
+Counts before now (Ok done) = GrowsBy 0 before now
+Counts before now (Err fault) = GrowsBy 1 before now
+
+-- only a line that can't be written counts as a failure, and not want of memory
+abbrev pub CountsLines : {T : Type 0} → ℕ → ℕ → Result T LineFault → Type 0
+CountsLines before now (Ok done) = GrowsBy 0 before now
+CountsLines before now (Err Unwritten) = GrowsBy 1 before now
+CountsLines before now (Err Memory) = GrowsBy 0 before now
+
+-- each failed step of the list is one failed write or one refusal of memory; where none failed, the bytes grew by the lines of the steps, in order
+pub record HasListed (plan : PlanView) (steps : List Handed) (old new : Option (List ℕ)) (before now refused refusals : ℕ) : Type 0 where
+  pub broken : ℕ
+  pub cut : ℕ
+  pub each : count_by is_unlisted steps ≡ broken + cut
+  pub failed : GrowsBy broken before now
+  pub short : GrowsBy cut refused refusals
+  pub written : All IsListed steps → Appends old new (flat_map (listed plan) steps)

@@ -1,0 +1,31 @@
+-- What is told while steps are performed.
+use Rattle.std.specs.Prelude.{ℕ, ◌+◌, Bool, true, false, List, [], ◌++◌, codes, length, Option, Some, None}
+use Rattle.std.specs.Fmt.{decimal}
+use Rattle.hack_process.specs.CommandTexts.{text_of}
+use Rattle.hack_plan.specs.declared.places.Quad.{Quad}
+use Rattle.hack_runs.specs.View.{PlanView}
+use Rattle.hack_runs.specs.Commands.{command_of_quad, name_in, package_at}
+
+-- a command that is run outside the plan's places
+abbrev pub running_text : List ℕ → List ℕ
+running_text command = codes "running " ++ command
+
+-- the package that a command is run on, where it is told
+abbrev pub on_text : Option (List ℕ) → List ℕ
+on_text None = []
+on_text (Some name) = codes " on " ++ name
+
+-- a place's status: what is done there, its command, its package, and its number of all
+abbrev pub status_text : List ℕ → List ℕ → Option (List ℕ) → ℕ → ℕ → List ℕ
+status_text verb command name number total =
+    verb ++ (codes " " ++ (command ++ (on_text name ++ (codes " (" ++ (decimal number ++ (codes "/" ++ (decimal total ++ codes ")")))))))
+
+-- the package's name is told, unless all is told at length
+abbrev pub told_name : Bool → Option (List ℕ) → Option (List ℕ)
+told_name true name = None
+told_name false name = name
+
+-- the status of a run at a place: its number is the place from 1, and the total is the plan's length
+abbrev pub place_status : List ℕ → Bool → PlanView → ℕ → Quad → List ℕ
+place_status verb verbose plan place q =
+    status_text verb (text_of verbose plan.call.dir (command_of_quad plan q)) (told_name verbose (name_in (package_at plan.packages q.package))) (place + 1) (length plan.quads)

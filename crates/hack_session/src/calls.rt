@@ -1,0 +1,76 @@
+//! Commands that are called over a caller, with what it was asked.
+
+ghost use Rattle.std.specs.Prelude.{◌≡◌, ◌∷◌, [], true, false};
+ghost use Rattle.hack_process.specs.Commands.{asked_of, command_of};
+ghost use Rattle.hack_session.specs.Performs.{Breaks, Comes, Follows, Makes, is_memory as is_want};
+
+use crate::screen::Screen;
+use hack_process::process::{Caller, ProcessBuilder, ProcessFault};
+use std::alloc::Global;
+use std::io::Write;
+
+/// Runs a command over the streams of this process.
+pub(crate) fn call<C: Caller>(
+    alloc: Global,
+    caller: &mut C,
+    command: &ProcessBuilder<'_>,
+    dir: &str,
+) -> Result<(), ProcessFault>
+    ensures { C.tells → Makes (λ calls.
+        Comes (Follows (asked_of false (command_of command.now) ∷ []) calls)
+        (Breaks (asked_of false (command_of command.now) ∷ []) calls) result)
+        (C.calls caller.old) (C.calls caller.new) }
+{
+    command.run(alloc, caller, dir)
+}
+
+/// Runs a command, and drops what it writes.
+pub(crate) fn call_quietly<C: Caller>(
+    alloc: Global,
+    caller: &mut C,
+    command: &ProcessBuilder<'_>,
+    dir: &str,
+) -> Result<(), ProcessFault>
+    ensures { C.tells → Makes (λ calls.
+        Comes (Follows (asked_of true (command_of command.now) ∷ []) calls)
+        (Breaks (asked_of true (command_of command.now) ∷ []) calls) result)
+        (C.calls caller.old) (C.calls caller.new) }
+{
+    match command.run_with_output(alloc, caller, dir) {
+        Ok(_) => Ok(()),
+        Err(fault) => Err(fault),
+    }
+}
+
+/// Runs a command within a group that begins with a text.
+pub(crate) fn call_in_group<C: Caller, O: Write, E: Write>(
+    alloc: Global,
+    caller: &mut C,
+    screen: &mut Screen<'_, O, E>,
+    command: &ProcessBuilder<'_>,
+    text: &str,
+    dir: &str,
+) -> Result<(), ProcessFault>
+    ensures { C.tells → Makes (λ calls.
+        Comes (Follows (asked_of false (command_of command.now) ∷ []) calls)
+        (Breaks (asked_of false (command_of command.now) ∷ []) calls) result)
+        (C.calls caller.old) (C.calls caller.new) }
+{
+    let guard = screen.open(text);
+    let came = call(alloc, caller, command, dir);
+    screen.close(guard);
+    came
+}
+
+/// Whether a command failed for want of memory.
+pub(crate) fn is_memory(fault: &ProcessFault) -> bool
+    ensures { result ≡ is_want fault.now }
+{
+    match fault {
+        ProcessFault::Memory => true,
+        ProcessFault::EmptyProgram
+        | ProcessFault::NeverExecuted(_)
+        | ProcessFault::NotText(_)
+        | ProcessFault::Failed(_) => false,
+    }
+}

@@ -1,0 +1,69 @@
+//! What lines are written to, and why they aren't.
+
+ghost use Rattle.std.specs.Prelude.{ℕ, List, Option, IfSome, OnOk};
+ghost use Rattle.std.specs.Fmt.{with_newline};
+ghost use Rattle.std.specs.Io.KnownBytes.{Appends};
+
+use std::alloc::AllocError;
+use std::fmt;
+use std::io::Write;
+
+/// Why a line isn't written.
+#[derive(Clone, Copy, Debug, PartialEq, Eq)]
+pub enum LineFault {
+    /// The writer failed.
+    Unwritten,
+    Memory,
+}
+
+impl From<AllocError> for LineFault {
+    ghost use Rattle.hack_session.specs.declared.lines.LineFault.TheVariants.{Memory};
+    ghost use Rattle.std.specs.Prelude.{◌≡◌};
+
+    ghost from_gives = { λ _ e. e ≡ Memory };
+
+    fn from(_e: AllocError) -> LineFault {
+        LineFault::Memory
+    }
+}
+
+/// What lines are written to. It counts those that it failed to write.
+pub trait Lines {
+    ghost use Rattle.hack_session.specs.Lists.{Counts};
+
+    /// The bytes that were written, where the type tells them.
+    ghost contents: { Self → Option (List ℕ) };
+
+    /// How many lines could not be written. The count stays at its greatest value.
+    ghost failed: { Self → ℕ };
+
+    /// Writes a text and a line feed.
+    fn line<D: fmt::Display + Drop>(&mut self, text: D) -> Result<(), fmt::Error>
+        ensures counted { Counts (failed self.old) (failed self.new) result }
+        ensures written { OnOk result (IfSome (with_newline (D.output text))
+            (Appends (contents self.old) (contents self.new))) };
+}
+
+/// Lines on a writer.
+#[derive(Drop)]
+pub struct LineWriter<'a, W: Write> {
+    pub out: &'a mut W,
+    /// How many lines could not be written.
+    pub failed: u64,
+}
+
+impl<W: Write> Lines for LineWriter<'_, W> {
+    ghost contents = { λ w. W.contents w.out.now };
+
+    ghost failed = { λ w. w.failed };
+
+    fn line<D: fmt::Display + Drop>(&mut self, text: D) -> Result<(), fmt::Error> {
+        match self.out.writeln(text) {
+            Ok(()) => Ok(()),
+            Err(_) => {
+                self.failed = self.failed.saturating_add(1);
+                Err(fmt::Error)
+            }
+        }
+    }
+}

@@ -1,0 +1,138 @@
+//! Who lists the commands of steps.
+
+ghost use Rattle.std.specs.Prelude.{◌≡◌, ◌<◌, ◌++◌, None, OnOk, filter, length, false, slice_get};
+ghost use Rattle.std.specs.Io.KnownBytes.{Appends};
+ghost use Rattle.std.proofs.Common.{◌∙◌, refl};
+ghost use Rattle.hack_process.specs.Commands.{command_of};
+ghost use Rattle.hack_runs.specs.Commands.{cleaning};
+ghost use Rattle.hack_session.specs.Histories.{IsStepOf};
+ghost use Rattle.hack_session.specs.Lists.{CountsLines, HasListed, is_sent, is_sent_step, line_of};
+ghost use Rattle.hack_session.specs.Lists.{run_lines, step_lines};
+ghost use Rattle.hack_session.specs.Joins.{listed_none, listed_more, sent_more};
+
+use crate::lines::{LineFault, Lines};
+use crate::runner::Runner;
+use crate::step::{Outcome, Step};
+use hack_process::process::ProcessBuilder;
+use hack_runs::parts::Preparation;
+use hack_runs::plan::Plan;
+use std::alloc::Global;
+use std::fmt;
+
+/// Writes the commands of steps, one a line, and sends toolchains and lockfiles to a runner.
+#[derive(Drop)]
+pub struct Lister<'a, W: Lines, R: Runner> {
+    pub alloc: Global,
+    pub out: &'a mut W,
+    pub runner: &'a mut R,
+    /// How many steps were cut short for want of memory.
+    pub refused: u64,
+}
+
+impl<W: Lines, R: Runner> Runner for Lister<'_, W, R> {
+    ghost ran = { λ plan steps a b. (a.out.ghost_name ≡ b.out.ghost_name)
+        × (a.runner.ghost_name ≡ b.runner.ghost_name)
+        × R.ran plan (filter is_sent steps) a.runner.now b.runner.now
+        × HasListed plan steps (W.contents a.out.now) (W.contents b.out.now)
+        (W.failed a.out.now) (W.failed b.out.now) a.refused b.refused };
+
+    ghost ran_none = { λ plan a. (
+      refl,
+      refl,
+      R.ran_none plan a.runner.now,
+      listed_none plan (W.contents a.out.now) (W.failed a.out.now) a.refused,
+    ) };
+
+    ghost ran_more = { λ plan steps more a b c p q. (
+      p.0 ∙ q.0,
+      p.1 ∙ q.1,
+      sent_more plan steps more R.ran a.runner.now b.runner.now c.runner.now R.ran_more p.2 q.2,
+      listed_more plan steps more (W.contents a.out.now) (W.contents b.out.now)
+          (W.contents c.out.now) (W.failed a.out.now) (W.failed b.out.now) (W.failed c.out.now)
+          a.refused b.refused c.refused p.3 q.3,
+    ) };
+
+    fn step(&mut self, plan: &Plan, step: Step) -> Outcome {
+        if is_performed(step) {
+            return self.runner.step(plan, step);
+        }
+        match list(self.alloc, self.out, plan, step) {
+            Ok(()) => Outcome::Passed,
+            Err(LineFault::Unwritten) => Outcome::Failed,
+            Err(LineFault::Memory) => {
+                self.refused = self.refused.saturating_add(1);
+                Outcome::Failed
+            }
+        }
+    }
+}
+
+/// Whether a step isn't listed, but performed.
+fn is_performed(step: Step) -> bool
+    ensures { result ≡ is_sent_step step }
+{
+    match step {
+        Step::Prepare(Preparation::Toolchain(_)) | Step::Prepare(Preparation::Lockfile(_)) => true,
+        Step::Prepare(Preparation::Clean(_)) | Step::Skip(_) | Step::Run(_) => false,
+    }
+}
+
+/// Writes the lines of a step.
+fn list<W: Lines>(alloc: Global, out: &mut W, plan: &Plan, step: Step) -> Result<(), LineFault>
+    requires of { IsStepOf plan.now step }
+    requires listed { is_sent_step step ≡ false }
+    ensures written { OnOk result (Appends (W.contents out.old) (W.contents out.new)
+        (step_lines plan.now step)) }
+    ensures counted { CountsLines (W.failed out.old) (W.failed out.new) result }
+{
+    match step {
+        Step::Prepare(_) => list_cleaning(alloc, out, plan),
+        Step::Skip(_) => Ok(()),
+        Step::Run(place) => list_run(alloc, out, plan, place),
+    }
+}
+
+/// Writes the line of a version's cleaning.
+fn list_cleaning<W: Lines>(alloc: Global, out: &mut W, plan: &Plan) -> Result<(), LineFault>
+    ensures written { OnOk result (Appends (W.contents out.old) (W.contents out.new)
+        (line_of plan.now.call.dir (cleaning plan.now.call None))) }
+    ensures counted { CountsLines (W.failed out.old) (W.failed out.new) result }
+{
+    let command = plan.cleaning(alloc)?;
+    put(out, &command, plan.dir())
+}
+
+/// Writes the lines of a run.
+fn list_run<W: Lines>(
+    alloc: Global,
+    out: &mut W,
+    plan: &Plan,
+    place: usize,
+) -> Result<(), LineFault>
+    requires { place < length plan.now.quads }
+    ensures written { OnOk result (Appends (W.contents out.old) (W.contents out.new)
+        (run_lines plan.now (slice_get plan.now.quads place))) }
+    ensures counted { CountsLines (W.failed out.old) (W.failed out.new) result }
+{
+    let run = plan.run(alloc, place)?;
+    if !plan.cleans_per_run() {
+        return put(out, &run.command, plan.dir());
+    }
+    let cleaning = plan.run_cleaning(alloc, place)?;
+    match put(out, &cleaning, plan.dir()) {
+        Ok(()) => put(out, &run.command, plan.dir()),
+        Err(fault) => Err(fault),
+    }
+}
+
+/// Writes the line of a command.
+fn put<W: Lines>(out: &mut W, command: &ProcessBuilder<'_>, dir: &str) -> Result<(), LineFault>
+    ensures written { OnOk result (Appends (W.contents out.old) (W.contents out.new)
+        (line_of dir.now (command_of command.now))) }
+    ensures counted { CountsLines (W.failed out.old) (W.failed out.new) result }
+{
+    match out.line(command.listed(dir)) {
+        Ok(()) => Ok(()),
+        Err(fmt::Error) => Err(LineFault::Unwritten),
+    }
+}

@@ -1,0 +1,249 @@
+//! The steps of a plan, performed by commands.
+
+ghost use Rattle.std.specs.Prelude.{◌≡◌, ◌<◌, ◌∷◌, [], IfOk, None, Some, false, length, option_map};
+ghost use Rattle.std.specs.Prelude.{slice_get, string_bytes};
+ghost use Rattle.hack_process.specs.Commands.{asked_of, command_of};
+ghost use Rattle.hack_runs.specs.Commands.{cleaning, command_of_quad, name_in, package_at};
+ghost use Rattle.hack_session.specs.Histories.{IsStepOf};
+ghost use Rattle.hack_session.specs.Performs.{Breaks, BreaksInstallAt, Comes, Exactly, Follows};
+ghost use Rattle.hack_session.specs.Performs.{InstallsAt, IsCut, Makes, lockfile_commands};
+ghost use Rattle.hack_session.specs.Performs.{number_at, run_commands};
+ghost use Rattle.hack_session.specs.Statuses.{place_status, told_name as name_told};
+
+use crate::calls::{call, call_in_group, call_quietly};
+use crate::rustup::{install_toolchain, toolchain};
+use crate::screen::{Screen, Status};
+use crate::step::Step;
+use hack_process::process::{Caller, ProcessBuilder, ProcessFault};
+use hack_runs::parts::Preparation;
+use hack_runs::plan::{Plan, PlannedRun};
+use hack_versions::version::Version;
+use std::alloc::{AllocError, Global};
+use std::io::Write;
+
+/// Performs a step. `ProcessFault::Memory` tells that it was cut short for want of memory.
+pub(crate) fn perform<C: Caller, O: Write, E: Write>(
+    alloc: Global,
+    caller: &mut C,
+    mut screen: Screen<'_, O, E>,
+    plan: &Plan,
+    step: Step,
+) -> Result<(), ProcessFault>
+    requires { IsStepOf plan.now step }
+    ensures { C.tells → Makes (λ calls.
+        Comes (Exactly plan.now step calls) (IsCut plan.now step calls) result)
+        (C.calls caller.old) (C.calls caller.new) }
+{
+    match step {
+        Step::Prepare(Preparation::Toolchain(version)) => {
+            install(alloc, caller, &mut screen, plan, version)
+        }
+        Step::Prepare(Preparation::Lockfile(version)) => {
+            generate_lockfile(alloc, caller, plan, version)
+        }
+        Step::Prepare(Preparation::Clean(_)) => clean_all(alloc, caller, &mut screen, plan),
+        Step::Skip(place) => match skip(alloc, &mut screen, plan, place) {
+            Ok(()) => Ok(()),
+            Err(AllocError) => Err(ProcessFault::Memory),
+        },
+        Step::Run(place) => run(alloc, caller, &mut screen, plan, place),
+    }
+}
+
+/// Makes sure that a version's toolchain is there.
+fn install<C: Caller, O: Write, E: Write>(
+    alloc: Global,
+    caller: &mut C,
+    screen: &mut Screen<'_, O, E>,
+    plan: &Plan,
+    version: usize,
+) -> Result<(), ProcessFault>
+    ensures { C.tells → Makes (λ calls. Comes
+        (InstallsAt plan.now (number_at (slice_get plan.now.versions version)) calls)
+        (BreaksInstallAt plan.now (number_at (slice_get plan.now.versions version)) calls) result)
+        (C.calls caller.old) (C.calls caller.new) }
+{
+    match number(plan, version) {
+        Some(number) => {
+            let name = toolchain(alloc, number)?;
+            install_toolchain(
+                alloc,
+                caller,
+                screen,
+                plan.rustup(),
+                name.as_str(),
+                plan.targets(),
+                true,
+                plan.dir(),
+            )
+        }
+        None => Ok(()),
+    }
+}
+
+/// The number of a version; none where it has none.
+fn number(plan: &Plan, version: usize) -> Option<Version>
+    ensures { result ≡ number_at (slice_get plan.now.versions version) }
+{
+    match plan.versions().get(version) {
+        Some(version) => version.version,
+        None => None,
+    }
+}
+
+/// Makes a version's lockfile.
+fn generate_lockfile<C: Caller>(
+    alloc: Global,
+    caller: &mut C,
+    plan: &Plan,
+    version: usize,
+) -> Result<(), ProcessFault>
+    ensures { C.tells → Makes (λ calls. Comes
+        (Follows (lockfile_commands plan.now
+        (number_at (slice_get plan.now.versions version))) calls)
+        (Breaks (lockfile_commands plan.now
+        (number_at (slice_get plan.now.versions version))) calls) result)
+        (C.calls caller.old) (C.calls caller.new) }
+{
+    match number(plan, version) {
+        Some(number) => {
+            let command = plan.lockfile(alloc, number)?;
+            call_quietly(alloc, caller, &command, plan.dir())
+        }
+        None => Ok(()),
+    }
+}
+
+/// Removes what was built before.
+fn clean_all<C: Caller, O: Write, E: Write>(
+    alloc: Global,
+    caller: &mut C,
+    screen: &mut Screen<'_, O, E>,
+    plan: &Plan,
+) -> Result<(), ProcessFault>
+    ensures { C.tells → Makes (λ calls.
+        Comes (Follows (asked_of false (cleaning plan.now.call None) ∷ []) calls)
+        (Breaks (asked_of false (cleaning plan.now.call None) ∷ []) calls) result)
+        (C.calls caller.old) (C.calls caller.new) }
+{
+    let command = plan.cleaning(alloc)?;
+    clean(alloc, caller, screen, &command, plan.dir())
+}
+
+/// Runs a cleaning.
+fn clean<C: Caller, O: Write, E: Write>(
+    alloc: Global,
+    caller: &mut C,
+    screen: &mut Screen<'_, O, E>,
+    command: &ProcessBuilder<'_>,
+    dir: &str,
+) -> Result<(), ProcessFault>
+    ensures { C.tells → Makes (λ calls.
+        Comes (Follows (asked_of false (command_of command.now) ∷ []) calls)
+        (Breaks (asked_of false (command_of command.now) ∷ []) calls) result)
+        (C.calls caller.old) (C.calls caller.new) }
+{
+    screen.tell_cleaning(alloc, command, dir)?;
+    call(alloc, caller, command, dir)
+}
+
+/// Tells that a place is skipped.
+fn skip<O: Write, E: Write>(
+    alloc: Global,
+    screen: &mut Screen<'_, O, E>,
+    plan: &Plan,
+    place: usize,
+) -> Result<(), AllocError>
+    requires { place < length plan.now.quads }
+{
+    screen.space(place);
+    let run = plan.run(alloc, place)?;
+    let text = status(alloc, "skipping", screen.term.verbose, plan, place, &run)?;
+    let guard = screen.open(&text);
+    screen.close(guard);
+    Ok(())
+}
+
+/// Runs a place: its cleaning where runs are cleaned, and its own command.
+fn run<C: Caller, O: Write, E: Write>(
+    alloc: Global,
+    caller: &mut C,
+    screen: &mut Screen<'_, O, E>,
+    plan: &Plan,
+    place: usize,
+) -> Result<(), ProcessFault>
+    requires { place < length plan.now.quads }
+    ensures { C.tells → Makes (λ calls.
+        Comes (Follows (run_commands plan.now (slice_get plan.now.quads place)) calls)
+        (Breaks (run_commands plan.now (slice_get plan.now.quads place)) calls) result)
+        (C.calls caller.old) (C.calls caller.new) }
+{
+    screen.space(place);
+    let run = plan.run(alloc, place)?;
+    if !plan.cleans_per_run() {
+        return run_own(alloc, caller, screen, plan, place, &run);
+    }
+    let cleaning = plan.run_cleaning(alloc, place)?;
+    match clean(alloc, caller, screen, &cleaning, plan.dir()) {
+        Ok(()) => run_own(alloc, caller, screen, plan, place, &run),
+        Err(fault) => Err(fault),
+    }
+}
+
+/// Runs a place's own command behind its status.
+fn run_own<C: Caller, O: Write, E: Write>(
+    alloc: Global,
+    caller: &mut C,
+    screen: &mut Screen<'_, O, E>,
+    plan: &Plan,
+    place: usize,
+    run: &PlannedRun<'_>,
+) -> Result<(), ProcessFault>
+    requires place { place < length plan.now.quads }
+    requires name { option_map (λ name. name.now) run.now.name
+        ≡ name_in (package_at plan.now.packages run.now.quad.package) }
+    requires command { command_of run.now.command ≡ command_of_quad plan.now run.now.quad }
+    ensures { C.tells → Makes (λ calls.
+        Comes (Follows (asked_of false (command_of run.now.command) ∷ []) calls)
+        (Breaks (asked_of false (command_of run.now.command) ∷ []) calls) result)
+        (C.calls caller.old) (C.calls caller.new) }
+{
+    let text = status(alloc, "running", screen.term.verbose, plan, place, run)?;
+    call_in_group(alloc, caller, screen, &run.command, &text, plan.dir())
+}
+
+/// The status of a place.
+fn status(
+    alloc: Global,
+    verb: &str,
+    verbose: bool,
+    plan: &Plan,
+    place: usize,
+    run: &PlannedRun<'_>,
+) -> Result<String, AllocError>
+    requires place { place < length plan.now.quads }
+    requires name { option_map (λ name. name.now) run.now.name
+        ≡ name_in (package_at plan.now.packages run.now.quad.package) }
+    requires command { command_of run.now.command ≡ command_of_quad plan.now run.now.quad }
+    ensures { IfOk result (λ text. string_bytes text
+        ≡ place_status verb.now verbose plan.now place run.now.quad) }
+{
+    let total = plan.len();
+    let command = run.command.text(alloc, false, verbose, plan.dir())?;
+    let status = Status {
+        verb,
+        command: command.as_str(),
+        name: told_name(verbose, run.name),
+        number: place + 1,
+        total,
+    };
+    format!(in alloc; "{status}")
+}
+
+/// The package's name, unless all is told at length.
+fn told_name(verbose: bool, name: Option<&str>) -> Option<&str>
+    ensures { option_map (λ name. name.now) result
+        ≡ name_told verbose (option_map (λ name. name.now) name.entry) }
+{
+    if verbose { None } else { name }
+}

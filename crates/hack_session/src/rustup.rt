@@ -1,0 +1,158 @@
+//! Toolchains that rustup adds.
+
+ghost use Rattle.std.specs.Prelude.{◌≡◌, ◌≢◌, ◌∷◌, [], List, ℕ, IfOk, MatchOption, true, not, map};
+ghost use Rattle.std.specs.Prelude.{string_bytes};
+ghost use Rattle.hack_process.specs.Commands.{asked_of, command_of};
+ghost use Rattle.hack_runs.specs.Commands.{toolchain_of};
+ghost use Rattle.hack_session.specs.Performs.{Breaks, BreaksInstall, Comes, Fails, Follows, Installs};
+ghost use Rattle.hack_session.specs.Performs.{Makes};
+ghost use Rattle.hack_session.specs.Toolchains.{addition_of, toolchain_name, trial_of};
+
+use crate::calls::{call_in_group, call_quietly, is_memory};
+use crate::screen::{Screen, running};
+use hack_process::process::{Caller, ProcessBuilder, ProcessFault};
+use hack_versions::version::Version;
+use std::alloc::{AllocError, Global};
+use std::io::Write;
+
+/// Makes sure that rustup has a toolchain, for these targets: it is tried where there are none, and
+/// added where it isn't tried or that fails. One leading `+` of its name is dropped. Without
+/// `print_output` nothing is told, and what rustup writes is dropped.
+pub fn install_toolchain<C: Caller, O: Write, E: Write>(
+    alloc: Global,
+    caller: &mut C,
+    screen: &mut Screen<'_, O, E>,
+    rustup: &str,
+    toolchain: &str,
+    target: &[String],
+    print_output: bool,
+    dir: &str,
+) -> Result<(), ProcessFault>
+    ensures { C.tells → Makes (λ calls. Comes
+        (Installs (map string_bytes target.now)
+        (asked_of true (trial_of rustup.now (toolchain_name toolchain.now)))
+        (asked_of (not print_output) (addition_of rustup.now (toolchain_name toolchain.now)
+        (map string_bytes target.now))) calls)
+        (BreaksInstall (map string_bytes target.now)
+        (asked_of true (trial_of rustup.now (toolchain_name toolchain.now)))
+        (asked_of (not print_output) (addition_of rustup.now (toolchain_name toolchain.now)
+        (map string_bytes target.now))) calls) result)
+        (C.calls caller.old) (C.calls caller.new) }
+{
+    let name = without_plus(toolchain);
+    let add = addition(alloc, rustup, name, target)?;
+    if !target.is_empty() {
+        return add_toolchain(alloc, caller, screen, &add, print_output, dir);
+    }
+    let trial = trial(alloc, rustup, name)?;
+    try_toolchain(alloc, caller, screen, &trial, &add, print_output, dir)
+}
+
+/// Tries a toolchain by one command, and adds it by another where that fails.
+pub(crate) fn try_toolchain<C: Caller, O: Write, E: Write>(
+    alloc: Global,
+    caller: &mut C,
+    screen: &mut Screen<'_, O, E>,
+    trial: &ProcessBuilder<'_>,
+    add: &ProcessBuilder<'_>,
+    print_output: bool,
+    dir: &str,
+) -> Result<(), ProcessFault>
+    ensures { C.tells → Makes (λ calls. Comes
+        (Installs [] (asked_of true (command_of trial.now))
+        (asked_of (not print_output) (command_of add.now)) calls)
+        (BreaksInstall [] (asked_of true (command_of trial.now))
+        (asked_of (not print_output) (command_of add.now)) calls) result)
+        (C.calls caller.old) (C.calls caller.new) }
+{
+    match call_quietly(alloc, caller, trial, dir) {
+        Ok(()) => Ok(()),
+        Err(fault) => {
+            if is_memory(&fault) {
+                return Err(fault);
+            }
+            add_toolchain(alloc, caller, screen, add, print_output, dir)
+        }
+    }
+}
+
+/// Adds a toolchain.
+pub(crate) fn add_toolchain<C: Caller, O: Write, E: Write>(
+    alloc: Global,
+    caller: &mut C,
+    screen: &mut Screen<'_, O, E>,
+    add: &ProcessBuilder<'_>,
+    print_output: bool,
+    dir: &str,
+) -> Result<(), ProcessFault>
+    ensures { C.tells → Makes (λ calls. Comes
+        (Follows (asked_of (not print_output) (command_of add.now) ∷ []) calls)
+        (Breaks (asked_of (not print_output) (command_of add.now) ∷ []) calls) result)
+        (C.calls caller.old) (C.calls caller.new) }
+{
+    if !print_output {
+        return call_quietly(alloc, caller, add, dir);
+    }
+    let text = running(alloc, add, screen.term.verbose, dir)?;
+    call_in_group(alloc, caller, screen, add, &text, dir)
+}
+
+/// The name without one leading `+`.
+fn without_plus(toolchain: &str) -> &str
+    ensures { result.now ≡ toolchain_name toolchain.now }
+{
+    match behind_plus(toolchain) {
+        Some(name) => name,
+        None => toolchain,
+    }
+}
+
+/// What stands behind a leading `+`.
+fn behind_plus(toolchain: &str) -> Option<&str>
+    ensures { MatchOption result ((rest : List ℕ) → toolchain.now ≢ 43 ∷ rest)
+        (λ name. toolchain.now ≡ 43 ∷ name.now) }
+{
+    toolchain.strip_prefix('+')
+}
+
+/// The command that fails where a toolchain isn't there.
+fn trial(
+    alloc: Global,
+    rustup: &str,
+    toolchain: &str,
+) -> Result<ProcessBuilder<'static>, AllocError>
+    ensures { IfOk result (λ command. command_of command
+        ≡ trial_of rustup.now toolchain.now) }
+{
+    let mut command = ProcessBuilder::new(alloc, rustup)?;
+    command.args(&["run", toolchain, "cargo", "--version"])?;
+    Ok(command)
+}
+
+/// The command that adds a toolchain.
+fn addition(
+    alloc: Global,
+    rustup: &str,
+    toolchain: &str,
+    target: &[String],
+) -> Result<ProcessBuilder<'static>, AllocError>
+    ensures { IfOk result (λ command. command_of command
+        ≡ addition_of rustup.now toolchain.now (map string_bytes target.now)) }
+{
+    let mut command = ProcessBuilder::new(alloc, rustup)?;
+    command.args(&["toolchain", "add", toolchain, "--no-self-update"])?;
+    if target.is_empty() {
+        return Ok(command);
+    }
+    let targets = target.join(alloc, ",")?;
+    command.args(&["--target", targets.as_str()])?;
+    Ok(command)
+}
+
+/// The toolchain of a version, as rustup names it.
+pub(crate) fn toolchain(alloc: Global, version: Version) -> Result<String, AllocError>
+    ensures { IfOk result (λ text. string_bytes text ≡ toolchain_of version) }
+{
+    let minor = version.minor;
+    format!(in alloc; "1.{minor}")
+}

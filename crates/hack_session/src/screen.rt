@@ -1,0 +1,118 @@
+//! The lines of steps: what is told while they are performed. A line that can't be written is left
+//! out.
+
+ghost use Rattle.std.specs.Prelude.{◌≡◌, IfOk, Some, option_map, string_bytes};
+ghost use Rattle.hack_process.specs.CommandTexts.{text_of};
+ghost use Rattle.hack_process.specs.Commands.{command_of};
+ghost use Rattle.hack_session.specs.Statuses.{on_text, running_text, status_text};
+
+use hack_process::process::ProcessBuilder;
+use hack_term::term::{LogGroup, LogGroupGuard, Term};
+use std::alloc::{AllocError, Global};
+use std::fmt;
+use std::io::Write;
+
+/// Where the lines of steps go.
+#[derive(Drop)]
+pub struct Screen<'a, O: Write, E: Write> {
+    pub term: &'a Term,
+    /// Where the lines of log groups go.
+    pub out: &'a mut O,
+    /// Where all other lines go.
+    pub err: &'a mut E,
+    pub log_group: LogGroup,
+}
+
+impl<O: Write, E: Write> Screen<'_, O, E> {
+    /// Writes the empty line in front of each place but the first, where lines aren't grouped.
+    pub(crate) fn space(&mut self, place: usize) {
+        if place > 0 && self.log_group == LogGroup::None {
+            let _ = self.err.write_all(b"\n");
+        }
+    }
+
+    /// Opens a group with a text, or writes the text on a line of its own.
+    pub(crate) fn open(&mut self, text: &str) -> Option<LogGroupGuard> {
+        let (guard, _told) = self.log_group.print(self.term, text, self.out, self.err);
+        guard
+    }
+
+    /// Ends a group.
+    pub(crate) fn close(&mut self, guard: Option<LogGroupGuard>) {
+        if let Some(guard) = guard {
+            let _ = guard.end(self.out);
+        }
+    }
+
+    /// Under verbose, tells the cleaning that is to be run.
+    pub(crate) fn tell_cleaning(
+        &mut self,
+        alloc: Global,
+        command: &ProcessBuilder<'_>,
+        dir: &str,
+    ) -> Result<(), AllocError> {
+        if self.term.verbose {
+            let text = running(alloc, command, true, dir)?;
+            let _ = self.term.info(&text, self.err);
+        }
+        Ok(())
+    }
+}
+
+/// What is told of a command that is run outside the plan's places.
+pub(crate) fn running(
+    alloc: Global,
+    command: &ProcessBuilder<'_>,
+    verbose: bool,
+    dir: &str,
+) -> Result<String, AllocError>
+    ensures { IfOk result (λ text. string_bytes text
+        ≡ running_text (text_of verbose dir.now (command_of command.now))) }
+{
+    let text = command.text(alloc, false, verbose, dir)?;
+    format!(in alloc; "running {text}")
+}
+
+/// The status of a place: what is done there, its command, its package and its number.
+#[derive(Drop)]
+pub struct Status<'a> {
+    /// `running` or `skipping`.
+    pub verb: &'a str,
+    /// The command as it is shown.
+    pub command: &'a str,
+    /// The package's name, unless it isn't told.
+    pub name: Option<&'a str>,
+    /// The place, from 1.
+    pub number: usize,
+    /// The number of all places.
+    pub total: usize,
+}
+
+impl fmt::Display for Status<'_> {
+    ghost output = { λ s. Some (status_text s.verb.now s.command.now
+        (option_map (λ name. name.now) s.name) s.number s.total) };
+
+    fn fmt<W: fmt::Write>(&self, f: &mut fmt::Formatter<W>) -> fmt::Result {
+        let verb = self.verb;
+        let command = self.command;
+        let name = OnName(self.name);
+        let number = self.number;
+        let total = self.total;
+        write!(f, "{verb} {command}{name} ({number}/{total})")
+    }
+}
+
+/// The package that a command is run on, where it is told.
+#[derive(Drop)]
+struct OnName<'a>(Option<&'a str>);
+
+impl fmt::Display for OnName<'_> {
+    ghost output = { λ s. Some (on_text (option_map (λ name. name.now) s.0)) };
+
+    fn fmt<W: fmt::Write>(&self, f: &mut fmt::Formatter<W>) -> fmt::Result {
+        match self.0 {
+            Some(name) => write!(f, " on {name}"),
+            None => Ok(()),
+        }
+    }
+}
