@@ -1,4 +1,3 @@
 mod Joins
 mod Ready
 mod Within
-mod ChosenLemmas

@@ -5,23 +5,24 @@ use Rattle.hack_versions.specs.declared.version.Version.{Version}
 use Rattle.hack_plan.specs.declared.places.Quad.{Quad}
 use Rattle.hack_plan.specs.declared.versions.Scene.{Scene}
 use Rattle.hack_plan.specs.Quads.{HasRun, ArePlaces}
-use Rattle.hack_runs.specs.View.{PackageView}
+use Rattle.hack_runs.specs.declared.parts.PlanPackage.{PlanPackage}
+use Rattle.hack_runs.specs.View.{package_view}
 use Rattle.hack_runs.specs.Plans.{IsRunOf, AreRuns, counts_in}
 
 -- a rank below the number of a package's runs
-run-of : (packages : List PackageView) (p rank : ℕ) → rank < slice_index (counts_in packages) p → IsSomeAnd (slice_get packages p) (λ k. rank < length k.runs)
+run-of : (packages : List PlanPackage) (p rank : ℕ) → rank < slice_index (counts_in packages) p → IsSomeAnd (slice_get (map package_view packages) p) (λ k. rank < length k.runs)
 run-of [] zero rank lt = absurd (omega arith)
 run-of [] (suc p) rank lt = absurd (omega arith)
 run-of (k ∷ ks) zero rank lt = lt
 run-of (k ∷ ks) (suc p) rank lt = run-of ks p rank lt
 
 -- a run that there is
-run-in : (packages : List PackageView) (s : Scene) (steps : List Version) (q : Quad) (whole : Bool) → HasRun whole s (counts_in packages) steps q → IsRunOf packages q.package q.rank
-run-in packages s steps q false run = subst (λ o. IsRunOf packages o q.rank) (sym run.1) (run-of packages run.0 q.rank run.3)
-run-in packages s steps q true run = subst (λ o. IsRunOf packages o q.rank) (sym run.0) tt
+run-in : (packages : List PlanPackage) (s : Scene) (steps : List Version) (q : Quad) (whole : Bool) → HasRun whole s (counts_in packages) steps q → IsRunOf (map package_view packages) q.package q.rank
+run-in packages s steps q false run = subst (λ o. IsRunOf (map package_view packages) o q.rank) (sym run.1) (run-of packages run.0 q.rank run.3)
+run-in packages s steps q true run = subst (λ o. IsRunOf (map package_view packages) o q.rank) (sym run.0) tt
 
 -- all runs of a plan
-pub places-runs : (packages : List PackageView) (counts : List ℕ) (s : Scene) (stable : Option Version) (quads : List Quad) → counts ≡ counts_in packages → ArePlaces s counts stable quads → AreRuns packages quads
+pub places-runs : (packages : List PlanPackage) (counts : List ℕ) (s : Scene) (stable : Option Version) (quads : List Quad) → counts ≡ counts_in packages → ArePlaces s counts stable quads → AreRuns (map package_view packages) quads
 places-runs packages counts s stable quads are places =
     let known : ArePlaces s (counts_in packages) stable quads = subst (λ ns. ArePlaces s ns stable quads) are places in
     λ k d lt. run-in packages s known.0 _ s.as_cargo (known.2.sound k d lt).run

@@ -5,7 +5,6 @@ use Rattle.hack_features.specs.Names.{Name}
 use Rattle.hack_versions.specs.declared.version.Version.{Version}
 use Rattle.hack_process.specs.CommandTexts.{Command, appended}
 use Rattle.hack_plan.specs.Runs.{PackageRun, Plain, AllFeatures, NoDefaultFeatures, Set}
-use Rattle.hack_packages.specs.Kinds.{names_at}
 use Rattle.hack_plan.specs.Scenes.{minor_of}
 use Rattle.hack_plan.specs.declared.places.Quad.{Quad}
 use Rattle.hack_runs.specs.View.{CallView, PackageView, PlanView}
@@ -47,6 +46,10 @@ run_words Plain = []
 run_words AllFeatures = codes "--all-features" ∷ []
 run_words NoDefaultFeatures = codes "--no-default-features" ∷ []
 run_words (Set s) = codes "--no-default-features" ∷ []
+
+-- the names of the candidates at the positions, one after another
+abbrev pub names_at : List (List Name) → List ℕ → List Name
+names_at candidates positions = flat_map (λ p. slice_index_or candidates p []) positions
 
 -- the names of a run's set
 abbrev pub run_names : List (List Name) → PackageRun → List Name

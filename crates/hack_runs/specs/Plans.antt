@@ -3,7 +3,8 @@ use Rattle.std.specs.Prelude.{ℕ, ◌≡◌, ◌<◌, List, [], ◌∷◌, map,
 use Rattle.hack_versions.specs.declared.version.Version.{Version}
 use Rattle.hack_plan.specs.Spans.{AreSpans}
 use Rattle.hack_plan.specs.declared.places.Quad.{Quad}
-use Rattle.hack_runs.specs.View.{PackageView, PlanView}
+use Rattle.hack_runs.specs.declared.parts.PlanPackage.{PlanPackage}
+use Rattle.hack_runs.specs.View.{PackageView, PlanView, package_view}
 use Rattle.hack_runs.specs.Prepared.{span_of}
 
 -- a run of a package is one of its runs
@@ -16,11 +17,11 @@ abbrev pub AreRuns : List PackageView → List Quad → Type 0
 AreRuns packages quads = All (λ q. IsRunOf packages q.package q.rank) quads
 
 -- the number of runs of a package
-abbrev pub count_in : PackageView → ℕ
-count_in k = length k.runs
+abbrev pub count_in : PlanPackage → ℕ
+count_in k = length (package_view k).runs
 
 -- the number of runs of each package
-abbrev pub counts_in : List PackageView → List ℕ
+abbrev pub counts_in : List PlanPackage → List ℕ
 counts_in packages = map count_in packages
 
 -- the plan has these versions, each with its places

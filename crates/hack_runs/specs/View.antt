@@ -1,7 +1,8 @@
 -- A plan as plain data.
 use Rattle.std.specs.Prelude.{ℕ, Bool, List, Option, string_bytes, option_map, map}
+use Rattle.hack_features.specs.Feature.{groups_of}
 use Rattle.hack_plan.specs.Runs.{PackageRun}
-use Rattle.hack_packages.specs.KindsView.{candidates_in, runs_of}
+use Rattle.hack_plan.specs.RunsView.{runs_in}
 use Rattle.hack_plan.specs.declared.places.Quad.{Quad}
 use Rattle.hack_runs.specs.declared.parts.CallWords.{CallWords}
 use Rattle.hack_runs.specs.declared.parts.PlanPackage.{PlanPackage}
@@ -43,4 +44,4 @@ call_view w = record { cargo = string_bytes w.cargo; rustup = string_bytes w.rus
 
 -- a package as its texts and runs
 abbrev pub package_view : PlanPackage → PackageView
-package_view p = record { name = string_bytes p.name; manifest_path = option_map string_bytes p.manifest_path; features = map string_bytes p.features.items; candidates = candidates_in p.runs.kind; runs = runs_of p.runs.kind }
+package_view p = record { name = string_bytes p.name; manifest_path = option_map string_bytes p.manifest_path; features = map string_bytes p.features.items; candidates = groups_of p.candidates.items; runs = runs_in p.runs }

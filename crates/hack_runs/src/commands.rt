@@ -2,21 +2,20 @@
 
 ghost use Rattle.std.specs.Prelude.{◌≡◌, ◌++◌, ◌∷◌, [], Some, None, map, option_map, IfOk, OnOk, List, ℕ, take, drop};
 ghost use Rattle.std.specs.Prelude.{string_bytes, codes};
-ghost use Rattle.std.specs.List.{flat_map};
-ghost use Rattle.hack_packages.specs.Kinds.{names_at};
-ghost use Rattle.hack_packages.specs.KindsView.{candidates_in};
+ghost use Rattle.std.specs.List.{flat_map, slice_index_or};
+ghost use Rattle.hack_features.specs.Feature.{groups_of};
 ghost use Rattle.hack_plan.specs.Runs.{run_of};
 ghost use Rattle.hack_process.specs.Commands.{command_of};
 ghost use Rattle.hack_process.specs.CommandTexts.{appended};
 ghost use Rattle.hack_runs.specs.View.{call_view, package_view};
 ghost use Rattle.hack_runs.specs.Commands.{toolchain_of, program_of, leading_of, is_split};
 ghost use Rattle.hack_runs.specs.Commands.{targets_in, target_pair, manifest_words, run_words};
-ghost use Rattle.hack_runs.specs.Commands.{run_names, call_command, whole_command, run_command};
+ghost use Rattle.hack_runs.specs.Commands.{names_at, run_names, call_command, whole_command, run_command};
 ghost use Rattle.hack_runs.specs.Commands.{plain_command, locked_words, cleaned_words, cleaning};
 ghost use Rattle.hack_runs.specs.Commands.{lockfile_command};
 
 use crate::parts::{CallWords, PlanPackage};
-use hack_packages::kind::Kind;
+use hack_features::Feature;
 use hack_plan::runs::Run;
 use hack_process::process::ProcessBuilder;
 use hack_versions::version::Version;
@@ -123,7 +122,7 @@ impl CallWords {
         add_targets(&mut command, self.targets_in(version, slot))?;
         add_manifest(&mut command, &member.manifest_path)?;
         add_run(&mut command, run)?;
-        add_features(alloc, &mut command, member, run, positions)?;
+        add_features(&mut command, member, run, positions)?;
         Ok(command)
     }
 
@@ -221,25 +220,35 @@ fn add_run(command: &mut ProcessBuilder<'_>, run: Run) -> Result<(), AllocError>
     }
 }
 
-/// Appends the names of a set.
+/// The names that the candidate at a place stands for.
+fn names_of(candidates: &[Feature], place: usize) -> &[String]
+    ensures { map string_bytes result.now ≡ slice_index_or (groups_of candidates.now) place [] }
+{
+    match candidates.get(place) {
+        Some(feature) => feature.as_group(),
+        None => &[],
+    }
+}
+
+/// Appends the names of the candidates at the positions.
 fn add_names(
-    alloc: Global,
     command: &mut ProcessBuilder<'_>,
-    kind: &Kind,
+    candidates: &[Feature],
     positions: &[usize],
 ) -> Result<(), AllocError>
     ensures { OnOk result (command_of command.new ≡ record (command_of command.old) {
       features = appended (command_of command.old).features
-          (names_at (candidates_in kind.now) positions.now);
+          (names_at (groups_of candidates.now) positions.now);
     }) }
 {
-    let names = kind.names(alloc, positions)?;
-    command.append_features(names.as_slice())
+    for position in positions {
+        command.append_features(names_of(candidates, *position))?;
+    }
+    Ok(())
 }
 
 /// Appends the features that the words name, and those of the run's set, where it is one of a set.
 fn add_features(
-    alloc: Global,
     command: &mut ProcessBuilder<'_>,
     member: &PlanPackage,
     run: Run,
@@ -253,7 +262,7 @@ fn add_features(
 {
     command.append_features(member.features.as_slice())?;
     match run {
-        Run::Features => add_names(alloc, command, &member.runs.kind, positions),
+        Run::Features => add_names(command, member.candidates.as_slice(), positions),
         Run::Plain => Ok(()),
         Run::AllFeatures => Ok(()),
         Run::NoDefaultFeatures => Ok(()),

@@ -1,6 +1,7 @@
 //! What a plan's commands are made of.
 
-use hack_packages::kind::PackageRuns;
+use hack_features::Feature;
+use hack_plan::runs::Runs;
 use hack_versions::version::Version;
 
 /// What all commands of a call share.
@@ -41,7 +42,9 @@ pub struct PlanPackage {
     pub manifest_path: Option<String>,
     /// Those features of `--features` that its runs are given.
     pub features: Vec<String>,
-    pub runs: PackageRuns,
+    /// The candidates that its sets are made of.
+    pub candidates: Vec<Feature>,
+    pub runs: Runs,
 }
 
 /// What is done before the runs of a version. It has the version's place in the plan's list of

@@ -113,7 +113,7 @@ impl Plan {
             quad.rank) }
     {
         let mut positions = Vec::new(alloc);
-        let run = member.runs.kind.run(quad.rank, &mut positions)?;
+        let run = member.runs.run(quad.rank, &mut positions)?;
         self.words.run(
             alloc,
             quad.version,
@@ -224,16 +224,16 @@ impl Plan {
         requires packages { length packages.items ≡ length scene.now.packages.items }
         ensures call { IfOk result (λ plan. plan.call ≡ call_view words) }
         ensures packages { IfOk result (λ plan. plan.packages ≡ map package_view packages.items) }
-        ensures quads { IfOk result (λ plan. ArePlaces scene.now (counts_in (map package_view packages.items))
+        ensures quads { IfOk result (λ plan. ArePlaces scene.now (counts_in packages.items)
             versions.now.stable plan.quads) }
         ensures spans { IfOk result (AreLaid (versions_of scene.now.range
             versions.now.groups.items)) }
         ensures prepared { IfOk result (λ plan.
             ArePrepared words.locked words.clean_per_version plan.versions) }
-        ensures never { IfOk result (λ _. ¬ HasTooMany scene.now (counts_in (map package_view packages.items))
+        ensures never { IfOk result (λ _. ¬ HasTooMany scene.now (counts_in packages.items)
             versions.now.stable) }
         ensures err { IfErr result (λ e. (e ≡ PlacesFault.Memory)
-            ⊎ ((e ≡ PlacesFault.TooManyRuns) × HasTooMany scene.now (counts_in (map package_view packages.items))
+            ⊎ ((e ≡ PlacesFault.TooManyRuns) × HasTooMany scene.now (counts_in packages.items)
             versions.now.stable)) }
     {
         let counts = counts(alloc, packages.as_slice())?;
@@ -255,7 +255,7 @@ impl Plan {
 
 /// The number of runs of each package.
 fn counts(alloc: Global, packages: &[PlanPackage]) -> Result<Vec<usize>, AllocError>
-    ensures { IfOk result (λ counts. counts.items ≡ counts_in (map package_view packages.now)) }
+    ensures { IfOk result (λ counts. counts.items ≡ counts_in packages.now) }
 {
     let mut counts = Vec::with_capacity(alloc, packages.len())?;
     for member in packages {

@@ -1,11 +1,10 @@
-use Rattle.std.proofs.Common.{◌∙◌, ap, map}
+use Rattle.std.proofs.Common.{◌∙◌, ap}
 use Rattle.hack_runs.specs.Plans.{counts_in}
-use Rattle.hack_runs.specs.View.{package_view}
 use Rattle.hack_runs.proofs.Within.{places-runs}
 use Rattle.hack_runs.proofs.plan.Plan.of_scene.Goals as goal
 
 pub invariant_of-result : goal.invariant_of-result
 invariant_of-result c =
-    places-runs (map package_view c.args.packages.items) c.as_slice-2.result.now c.args.scene.now c.args.versions.now.stable c.in_ok-places.places.quads
-    (c.as_slice-2.ensures.value ∙ c.in_ok-counts.ensures ∙ ap (λ ks. counts_in (map package_view ks)) c.as_slice.ensures.value)
-    c.in_ok-places.ensures.ok
+    places-runs c.args.packages.items c.as_slice-2.result.now c.args.scene.now c.args.versions.now.stable c.in_ok-places.places.quads
+        (c.as_slice-2.ensures.value ∙ c.in_ok-counts.ensures ∙ ap counts_in c.as_slice.ensures.value)
+        c.in_ok-places.ensures.ok
