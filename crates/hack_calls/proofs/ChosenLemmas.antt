@@ -16,7 +16,7 @@ use Rattle.hack_packages.specs.Members.{Member, Choosing, Collects, taken, left,
 use Rattle.hack_versions.specs.Notes.{Note}
 use Rattle.hack_versions.specs.declared.version.VersionFault.{VersionFault}
 use Rattle.hack_versions.specs.declared.group.PackageVersion.{PackageVersion}
-use Rattle.hack_runs.specs.Calls.{IsMember, AreMembers, grows, IsPlanned, ArePlanned, adds, IsBadOwn, HasBadOwn}
+use Rattle.hack_calls.specs.Calls.{IsMember, AreMembers, grows, IsPlanned, ArePlanned, adds, IsBadOwn, HasBadOwn}
 use Rattle.hack_runs.specs.View.{PackageView}
 
 -- one id more

@@ -22,8 +22,8 @@ use Rattle.hack_packages.specs.Kinds.{AreRuns, AreCovering}
 use Rattle.hack_plan.specs.Runs.{Plain}
 use Rattle.hack_plan.specs.Scenes.{slots_of}
 use Rattle.hack_plan.specs.declared.versions.Scene.{Scene}
-use Rattle.hack_runs.specs.declared.fault.PlanFault.{PlanFault}
-use Rattle.hack_runs.specs.declared.fault.PlanFault.TheVariants as fault
+use Rattle.hack_calls.specs.declared.fault.PlanFault.{PlanFault}
+use Rattle.hack_calls.specs.declared.fault.PlanFault.TheVariants as fault
 use Rattle.hack_runs.specs.View.{CallView, PackageView}
 
 -- the path of a package's manifest as a command is given it: none where commands are given none

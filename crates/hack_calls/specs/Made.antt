@@ -1,5 +1,5 @@
 -- The plan of a call, and why there is none.
-use Rattle.std.specs.Prelude.{ℕ, ◌≡◌, ◌++◌, ◌⊎◌, List, [], Bool, Option, Some, None, Result, Ok, Err}
+use Rattle.std.specs.Prelude.{ℕ, ◌≡◌, ◌++◌, ◌⊎◌, List, [], map, length, Bool, Option, Some, None, Result, Ok, Err}
 use Rattle.std.specs.declared.string.String.{String}
 use Rattle.std.specs.declared.alloc.Global.{Global}
 use Rattle.hack_features.specs.Names.{Name}
@@ -14,12 +14,16 @@ use Rattle.hack_plan.specs.Scenes.{AreVersions, AreNotices, IsVersionsFault}
 use Rattle.hack_plan.specs.Spans.{versions_of}
 use Rattle.hack_plan.specs.declared.versions.Scene.{Scene}
 use Rattle.hack_plan.specs.declared.versions.Versions.{Versions}
-use Rattle.hack_runs.specs.Calls.{IsSceneOf, ArePlanned, HasBadOwn, call_of, left_out_notes}
-use Rattle.hack_runs.specs.Plans.{AreLaid, counts_in}
+use Rattle.hack_calls.specs.Calls.{IsSceneOf, ArePlanned, HasBadOwn, call_of, left_out_notes}
+use Rattle.hack_runs.specs.Plans.{AreLaid}
 use Rattle.hack_runs.specs.Prepared.{ArePrepared}
 use Rattle.hack_runs.specs.View.{PackageView, PlanView}
-use Rattle.hack_runs.specs.declared.fault.PlanFault.{PlanFault}
-use Rattle.hack_runs.specs.declared.fault.PlanFault.TheVariants as fault
+use Rattle.hack_calls.specs.declared.fault.PlanFault.{PlanFault}
+use Rattle.hack_calls.specs.declared.fault.PlanFault.TheVariants as fault
+
+-- the number of runs of each package
+abbrev pub run_counts : List PackageView → List ℕ
+run_counts packages = map (λ k. length k.runs) packages
 
 -- the plan of a call with a subcommand, where `stable` is this version: for the chosen packages just the admissible runs, in
 -- order, each version with its places and its preparations; and no cause to refuse it holds
@@ -38,13 +42,13 @@ pub record IsPlan (cx : ContextRecord) (rustup : Name) (latest : Option Version)
   pub ranged : AreNotices scene.range scene latest on_range
   pub planned : ArePlanned cx single ids plan.packages on_features
   pub call : plan.call ≡ call_of cx rustup
-  pub places : ArePlaces scene (counts_in plan.packages) latest plan.quads
+  pub places : ArePlaces scene (run_counts plan.packages) latest plan.quads
   pub laid : AreLaid (versions_of scene.range versions.groups.items) plan
   pub prepared : ArePrepared cx.args.locked cx.args.clean_per_version plan.versions
   pub told : notes ≡ on_packages ++ (on_features ++ (on_range ++ left_out_notes cx ids scene versions.groups.items))
   pub readable : (e : VersionFault) → ¬ HasBadOwn cx ids e
   pub in_range : (e : RangeFault) → ¬ IsVersionsFault scene.range scene latest e
-  pub fits : ¬ HasTooMany scene (counts_in plan.packages) latest
+  pub fits : ¬ HasTooMany scene (run_counts plan.packages) latest
 
 -- the plan without a version, for a call without a subcommand
 pub record IsEmptyPlan (cx : ContextRecord) (rustup : Name) (plan : PlanView) (notes : List Note) : Type 0 where
@@ -93,7 +97,7 @@ pub record AreTooManyRuns (cx : ContextRecord) (latest : Option Version) : Type 
   pub chosen : AreChosen cx ids single notes
   pub of_call : IsSceneOf cx ids scene
   pub planned : ArePlanned cx single ids packages on_features
-  pub many : HasTooMany scene (counts_in packages) latest
+  pub many : HasTooMany scene (run_counts packages) latest
 
 -- why a call with a subcommand has no plan, where `stable` is this version
 abbrev pub IsCause : ContextRecord → Option Version → PlanFault → Type 0

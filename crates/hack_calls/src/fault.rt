@@ -31,7 +31,7 @@ pub enum PlanFault {
 
 impl From<AllocError> for PlanFault {
     ghost use Rattle.std.specs.Prelude.{◌≡◌};
-    ghost use Rattle.hack_runs.specs.declared.fault.PlanFault.TheVariants.{Memory};
+    ghost use Rattle.hack_calls.specs.declared.fault.PlanFault.TheVariants.{Memory};
 
     ghost from_gives = { λ _ e. e ≡ Memory };
 
@@ -42,7 +42,7 @@ impl From<AllocError> for PlanFault {
 
 impl<T: Drop> From<AllocFailed<T>> for PlanFault {
     ghost use Rattle.std.specs.Prelude.{◌≡◌};
-    ghost use Rattle.hack_runs.specs.declared.fault.PlanFault.TheVariants.{Memory};
+    ghost use Rattle.hack_calls.specs.declared.fault.PlanFault.TheVariants.{Memory};
 
     ghost from_gives = { λ _ e. e ≡ Memory };
 

@@ -6,7 +6,7 @@ ghost use Rattle.hack_metadata.specs.View.{place_at};
 ghost use Rattle.hack_load.specs.ContextView.{context_view};
 ghost use Rattle.hack_load.specs.GivenFeatures.{left_out_for};
 ghost use Rattle.hack_versions.specs.Notes.{note_of};
-ghost use Rattle.hack_runs.specs.Calls.{version_notes, left_out_notes};
+ghost use Rattle.hack_calls.specs.Calls.{version_notes, left_out_notes};
 
 use hack_load::context::Context;
 use hack_load::process::features_for;

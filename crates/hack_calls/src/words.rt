@@ -5,12 +5,12 @@ ghost use Rattle.hack_features.specs.Names.{names_of};
 ghost use Rattle.hack_metadata.specs.View.{package_view as package_record};
 ghost use Rattle.hack_load.specs.ContextView.{context_view};
 ghost use Rattle.hack_runs.specs.View.{call_view};
-ghost use Rattle.hack_runs.specs.Calls.{given_path, call_of, current_of};
+ghost use Rattle.hack_calls.specs.Calls.{given_path, call_of, current_of};
 
-use crate::parts::CallWords;
 use hack_load::context::Context;
 use hack_metadata::metadata::Package;
 use hack_process::paths::under;
+use hack_runs::parts::CallWords;
 use std::alloc::{AllocError, Global};
 
 /// Copies of texts.

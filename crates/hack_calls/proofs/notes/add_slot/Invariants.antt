@@ -4,7 +4,7 @@ use Rattle.hack_load.specs.ContextView.{context_view}
 use Rattle.hack_load.specs.GivenFeatures.{left_out_for}
 use Rattle.hack_metadata.specs.View.{place_at}
 use Rattle.hack_versions.specs.Notes.{note_of}
-use Rattle.hack_runs.proofs.notes.add_slot.Given as goal
+use Rattle.hack_calls.proofs.notes.add_slot.Given as goal
 
 abbrev pub invariant-loop-place : goal.invariant-loop-place
 invariant-loop-place l = map note_of l.notices.items ≡ map note_of l.fn.notices.items
