@@ -75,8 +75,9 @@ fn dependencies(alloc: Global, names: &str) -> Result<String, AllocError> {
     let mut json = String::new(alloc);
     for name in names.split_whitespace() {
         let comma = if json.as_str().is_empty() { "" } else { "," };
-        let one =
-            format!(in alloc; "{comma}{{\"name\":\"{name}\",\"optional\":true,\"rename\":null}}")?;
+        let one = format!(in alloc;
+            "{comma}{{\"name\":\"{name}\",\"optional\":true,\"rename\":null}}"
+        )?;
         json.push_str(one.as_str())?;
     }
     Ok(json)
@@ -104,8 +105,7 @@ pub fn workspace(
 ) -> Result<Metadata, Fail> {
     let features = json_of(alloc, features)?;
     let dependencies = dependencies(alloc, optional)?;
-    let rest =
-        format!(in alloc; "\"dependencies\":[{dependencies}],\"features\":{{{features}}}")?;
+    let rest = format!(in alloc; "\"dependencies\":[{dependencies}],\"features\":{{{features}}}")?;
     let mut packages = String::new(alloc);
     let mut ids = String::new(alloc);
     for text in members.split_whitespace() {

@@ -242,7 +242,8 @@ fn kinds(rt: HostRuntime) -> Result<(), Fail> {
     )
 }
 
-const LIFTED: &str = "--feature-powerset --mutually-exclusive-features tokio,async-std --allow-together p=tokio,async-std";
+const LIFTED: &str =
+    "--feature-powerset --mutually-exclusive-features tokio,async-std --allow-together p=tokio,async-std";
 
 #[test]
 fn lifted_groups(rt: HostRuntime) -> Result<(), Fail> {
@@ -261,24 +262,14 @@ fn notices(rt: HostRuntime) -> Result<(), Fail> {
         "o",
         "each 2 N o\nwarning: specified feature `x` not found in package `p`\nwarning: specified optional dependency `y` not found in package `p`",
     );
-    let empty: Row<'_> = (
-        "--each-feature --optional-deps=",
-        "a",
-        "o",
-        "each 3 A N a",
-    );
+    let empty: Row<'_> = ("--each-feature --optional-deps=", "a", "o", "each 3 A N a");
     let skipped: Row<'_> = (
         "--feature-powerset --ignore-unknown-features --group-features b,o --group-features a,x",
         "a b",
         "o",
         "powerset 3 A N b,o\ninfo: skipped applying group `a,x` to p",
     );
-    let many: Row<'_> = (
-        "--each-feature --exclude-features x",
-        "a",
-        "",
-        "each 2 N a",
-    );
+    let many: Row<'_> = ("--each-feature --exclude-features x", "a", "", "each 2 N a");
     let included: Row<'_> = (
         "--each-feature --exclude-features x --include-features a",
         "a",

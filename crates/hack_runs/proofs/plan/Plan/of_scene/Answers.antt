@@ -6,5 +6,5 @@ use Rattle.hack_runs.proofs.plan.Plan.of_scene.Goals as goal
 pub invariant_of-result : goal.invariant_of-result
 invariant_of-result c =
     places-runs c.args.packages.items c.as_slice-2.result.now c.args.scene.now c.args.versions.now.stable c.in_ok-places.places.quads
-        (c.as_slice-2.ensures.value ∙ c.in_ok-counts.ensures ∙ ap counts_in c.as_slice.ensures.value)
-        c.in_ok-places.ensures.ok
+    (c.as_slice-2.ensures.value ∙ c.in_ok-counts.ensures ∙ ap counts_in c.as_slice.ensures.value)
+    c.in_ok-places.ensures.ok
