@@ -1,8 +1,8 @@
 //! Steps that are performed: their calls, their lines, and the report.
 
 use crate::plans::{PLAIN, Row, piece_of, plan_of};
-use hack_process::process::{End, FakeCaller};
-use hack_session::session::{Starter, drive_plan};
+use hack_process::process::{End, FakeCaller, ProcessFault};
+use hack_session::session::{Session, Starter, drive_plan};
 use hack_term::term::{Coloring, LogGroup, Term};
 use std::alloc::Global;
 use std::process::Abort;
@@ -16,34 +16,45 @@ fn push_bytes(text: &mut String, name: &str, bytes: Vec<u8>) -> Result<(), Fail>
     Ok(())
 }
 
-/// What is called, what is written, why it stopped, and the report.
-fn started(alloc: Global, row: Row<'_>) -> Result<String, Fail> {
+/// A caller at which the lines of the row fail.
+fn caller_of(alloc: Global, row: Row<'_>) -> Result<FakeCaller, Fail> {
     let mut caller = FakeCaller::new(alloc, End::Status(0));
     for line in row.fails {
         caller.answer(line, End::Status(101), b"", b"")?;
     }
+    Ok(caller)
+}
+
+/// What is left of a starter.
+#[derive(Drop)]
+struct Left {
+    fault: Option<ProcessFault>,
+    refused: u64,
+}
+
+/// Drives the plan of a row over the caller, with both writers.
+fn driven(
+    alloc: Global,
+    row: Row<'_>,
+    caller: &mut FakeCaller,
+    out: &mut Vec<u8>,
+    err: &mut Vec<u8>,
+) -> Result<(Session, Left), Fail> {
+    let plan = plan_of(alloc, row)?;
     let mut term = Term::new(Coloring::Never, false);
-    let mut out: Vec<u8> = Vec::new(alloc);
-    let mut err: Vec<u8> = Vec::new(alloc);
     let mut starter = Starter {
         alloc,
-        caller: &mut caller,
+        caller,
         term: &mut term,
-        out: &mut out,
-        err: &mut err,
+        out,
+        err,
         log_group: LogGroup::auto(row.groups),
         keep_going: row.keep_going,
         fault: None,
         refused: 0,
     };
-    let plan = plan_of(alloc, row)?;
-    let session = drive_plan(
-        alloc,
-        plan,
-        piece_of(alloc, row),
-        row.keep_going,
-        &mut starter,
-    )?;
+    let piece = piece_of(alloc, row);
+    let session = drive_plan(alloc, plan, piece, row.keep_going, &mut starter)?;
     let Starter {
         alloc: _,
         caller: _,
@@ -55,18 +66,46 @@ fn started(alloc: Global, row: Row<'_>) -> Result<String, Fail> {
         fault,
         refused,
     } = starter;
-    let mut text = String::new(alloc);
-    if let Some(fault) = fault {
+    Ok((session, Left { fault, refused }))
+}
+
+/// Why it stopped, and how many steps want of memory cut short.
+fn push_left(alloc: Global, text: &mut String, left: Left) -> Result<(), Fail> {
+    let refused = left.refused;
+    if let Some(fault) = left.fault {
         text.push_str(&format!(in alloc; "fault {fault}\n")?)?;
     }
     text.push_str(&format!(in alloc; "refused {refused}\n")?)?;
+    Ok(())
+}
+
+/// The report, where something failed.
+fn push_report(alloc: Global, text: &mut String, session: &Session) -> Result<(), Fail> {
     let report = session.report(alloc)?;
     if report.count > 0 {
         text.push_str(&format!(in alloc; "{report}")?)?;
     }
+    Ok(())
+}
+
+/// The calls, each a line.
+fn push_calls(alloc: Global, text: &mut String, caller: &FakeCaller) -> Result<(), Fail> {
     for made in caller.made() {
         text.push_str(&format!(in alloc; "{made}\n")?)?;
     }
+    Ok(())
+}
+
+/// Why it stopped, the report, what is called, and what is written.
+fn started(alloc: Global, row: Row<'_>) -> Result<String, Fail> {
+    let mut caller = caller_of(alloc, row)?;
+    let mut out = Vec::new(alloc);
+    let mut err = Vec::new(alloc);
+    let (session, left) = driven(alloc, row, &mut caller, &mut out, &mut err)?;
+    let mut text = String::new(alloc);
+    push_left(alloc, &mut text, left)?;
+    push_report(alloc, &mut text, &session)?;
+    push_calls(alloc, &mut text, &caller)?;
     push_bytes(&mut text, "err\n", err)?;
     push_bytes(&mut text, "out\n", out)?;
     Ok(text)
