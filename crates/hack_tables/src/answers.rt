@@ -1,7 +1,7 @@
 //! Each kind of row, and the call that answers it.
 
 use crate::table::Group;
-use crate::{commands, lists, packages, paths, uses, versions, words};
+use crate::{commands, lists, packages, paths, stored, uses, versions, words};
 use std::alloc::{AllocError, Global};
 
 /// The answer to the words of a row; none for a kind that there is not.
@@ -26,6 +26,9 @@ pub(crate) fn answer(
         return Ok(Some(text));
     }
     if let Some(text) = packages::answer(alloc, group, words)? {
+        return Ok(Some(text));
+    }
+    if let Some(text) = stored::answer(alloc, group, words)? {
         return Ok(Some(text));
     }
     commands::answer(alloc, group, words)

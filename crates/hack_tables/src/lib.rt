@@ -8,6 +8,7 @@ mod lists;
 mod packages;
 mod paths;
 mod shown;
+mod stored;
 mod table;
 mod uses;
 mod versions;
