@@ -2,19 +2,16 @@
 use Rattle.std.specs.Prelude.{ℕ, ◌==◌, false, List, [], ◌∷◌, ◌++◌, codes, Option, None, if◌then◌else◌}
 use Rattle.std.specs.List.{join_by}
 use Rattle.hack_process.specs.CommandTexts.{Command}
+use Rattle.hack_runs.specs.Commands.{plain_command}
 
 -- a name without one leading `+`
 abbrev pub toolchain_name : List ℕ → List ℕ
 toolchain_name [] = []
 toolchain_name (b ∷ bs) = if b == 43 then bs else b ∷ bs
 
--- a program with just these own words
-abbrev pub plain_command : List ℕ → List (List ℕ) → Command
-plain_command program words = record { program = program; strip_program_path = false; leading = []; passed = []; own = words; features = None; trailing = [] }
-
 -- the command that fails where a toolchain isn't there
 abbrev pub trial_of : List ℕ → List ℕ → Command
-trial_of rustup toolchain = plain_command rustup (codes "run" ∷ toolchain ∷ codes "cargo" ∷ codes "--version" ∷ [])
+trial_of rustup toolchain = plain_command rustup [] (codes "run" ∷ toolchain ∷ codes "cargo" ∷ codes "--version" ∷ [])
 
 -- targets in one word behind their option, where there are any
 abbrev pub target_words : List (List ℕ) → List (List ℕ)
@@ -24,4 +21,4 @@ target_words (target ∷ targets) = codes "--target" ∷ join_by (λ text. text)
 -- the command that adds a toolchain for targets
 abbrev pub addition_of : List ℕ → List ℕ → List (List ℕ) → Command
 addition_of rustup toolchain targets =
-    plain_command rustup ((codes "toolchain" ∷ codes "add" ∷ toolchain ∷ codes "--no-self-update" ∷ []) ++ target_words targets)
+    plain_command rustup [] ((codes "toolchain" ∷ codes "add" ∷ toolchain ∷ codes "--no-self-update" ∷ []) ++ target_words targets)

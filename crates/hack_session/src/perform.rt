@@ -11,7 +11,7 @@ ghost use Rattle.hack_session.specs.Performs.{number_at, run_commands};
 ghost use Rattle.hack_session.specs.Statuses.{place_status, told_name as name_told};
 
 use crate::calls::{call, call_in_group, call_quietly};
-use crate::rustup::{install_toolchain, toolchain};
+use crate::rustup::install_toolchain;
 use crate::screen::{Screen, Status};
 use crate::step::Step;
 use hack_process::process::{Caller, ProcessBuilder, ProcessFault};

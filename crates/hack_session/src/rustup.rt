@@ -3,7 +3,6 @@
 ghost use Rattle.std.specs.Prelude.{◌≡◌, ◌≢◌, ◌∷◌, [], List, ℕ, IfOk, MatchOption, true, not, map};
 ghost use Rattle.std.specs.Prelude.{string_bytes};
 ghost use Rattle.hack_process.specs.Commands.{asked_of, command_of};
-ghost use Rattle.hack_runs.specs.Commands.{toolchain_of};
 ghost use Rattle.hack_session.specs.Performs.{Breaks, BreaksInstall, Comes, Fails, Follows, Installs};
 ghost use Rattle.hack_session.specs.Performs.{Makes};
 ghost use Rattle.hack_session.specs.Toolchains.{addition_of, toolchain_name, trial_of};
@@ -11,7 +10,6 @@ ghost use Rattle.hack_session.specs.Toolchains.{addition_of, toolchain_name, tri
 use crate::calls::{call_in_group, call_quietly, is_memory};
 use crate::screen::{Screen, running};
 use hack_process::process::{Caller, ProcessBuilder, ProcessFault};
-use hack_versions::version::Version;
 use std::alloc::{AllocError, Global};
 use std::io::Write;
 
@@ -147,12 +145,4 @@ fn addition(
     let targets = target.join(alloc, ",")?;
     command.args(&["--target", targets.as_str()])?;
     Ok(command)
-}
-
-/// The toolchain of a version, as rustup names it.
-pub(crate) fn toolchain(alloc: Global, version: Version) -> Result<String, AllocError>
-    ensures { IfOk result (λ text. string_bytes text ≡ toolchain_of version) }
-{
-    let minor = version.minor;
-    format!(in alloc; "1.{minor}")
 }

@@ -1,7 +1,7 @@
 use Rattle.std.proofs.Common.{◌≡◌, ℕ, List, [], ◌∷◌, ◌++◌, ap, ◌∙◌}
 use Rattle.std.specs.Prelude.{codes, string_bytes, map}
 use Rattle.hack_process.specs.CommandTexts.{Command}
-use Rattle.hack_session.specs.Toolchains.{plain_command}
+use Rattle.hack_runs.specs.Commands.{plain_command}
 use Rattle.hack_session.proofs.ToolchainLemmas.{joined_targets}
 use Rattle.hack_session.proofs.rustup.addition.Goals as goal
 
@@ -10,5 +10,5 @@ returns c =
     c.in_ok-args-2.ensures.ok
     ∙ ap (λ (k : Command). record k { own = k.own ++ codes "--target" ∷ c.as_str.result.now ∷ [] })
     (c.in_ok-args.ensures.ok ∙ ap (λ (k : Command). record k { own = k.own ++ codes "toolchain" ∷ codes "add" ∷ c.args.toolchain.now ∷ codes "--no-self-update" ∷ [] }) c.in_ok-command.ensures)
-    ∙ ap (λ (ws : List (List ℕ)). plain_command c.args.rustup.now ((codes "toolchain" ∷ codes "add" ∷ c.args.toolchain.now ∷ codes "--no-self-update" ∷ []) ++ ws))
+    ∙ ap (λ (ws : List (List ℕ)). plain_command c.args.rustup.now [] ((codes "toolchain" ∷ codes "add" ∷ c.args.toolchain.now ∷ codes "--no-self-update" ∷ []) ++ ws))
     (joined_targets c.args.target.now c.as_str.result.now c.if-is_empty.ensures (c.as_str.ensures.value ∙ c.in_ok-targets.ensures.ok))

@@ -1,0 +1,3 @@
+mod ChosenLemmas
+mod NoteLemmas
+mod FaultLemmas

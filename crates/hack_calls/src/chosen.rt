@@ -1,0 +1,99 @@
+//! The chosen packages as a plan has them.
+
+ghost use Rattle.std.specs.Prelude.{◌≡◌, All, Contains, IfOk, map};
+ghost use Rattle.hack_features.specs.Feature.{groups_of};
+ghost use Rattle.hack_features.specs.Names.{names_of, shown};
+ghost use Rattle.hack_packages.specs.KindsView.{candidates_in, runs_of};
+ghost use Rattle.hack_plan.specs.RunsView.{runs_in};
+ghost use Rattle.hack_metadata.specs.View.{place_at};
+ghost use Rattle.hack_load.specs.ContextView.{context_view};
+ghost use Rattle.hack_versions.specs.Notes.{note_of};
+ghost use Rattle.hack_runs.specs.View.{package_view};
+ghost use Rattle.hack_calls.specs.Calls.{IsPlanned, ArePlanned};
+
+use crate::words::given_path;
+use hack_features::Feature;
+use hack_load::context::Context;
+use hack_load::process::features_for;
+use hack_metadata::metadata::PackageId;
+use hack_packages::determine::determine_kind;
+use hack_packages::kind::Kind;
+use hack_plan::runs::Runs;
+use hack_runs::parts::PlanPackage;
+use hack_versions::notice::Notice;
+use std::alloc::{AllocError, Global};
+
+/// Copies of texts.
+fn copies_of(alloc: Global, texts: &[&str]) -> Result<Vec<String>, AllocError>
+    ensures { IfOk result (λ copies. names_of copies.items ≡ shown texts.now) }
+{
+    let mut copies = Vec::with_capacity(alloc, texts.len())?;
+    for text in texts {
+        copies.push(String::from_str(alloc, text)?)?;
+    }
+    Ok(copies)
+}
+
+/// The candidates and the runs of a kind.
+fn parts_of(alloc: Global, kind: Kind) -> Result<(Vec<Feature>, Runs), AllocError>
+    ensures candidates { IfOk result (λ parts. groups_of parts.0.items ≡ candidates_in kind) }
+    ensures runs { IfOk result (λ parts. runs_in parts.1 ≡ runs_of kind) }
+{
+    match kind {
+        Kind::Normal => Ok((Vec::new(alloc), Runs::plain(alloc)?)),
+        Kind::Each { candidates, runs } => Ok((candidates, runs)),
+        Kind::Powerset { candidates, runs } => Ok((candidates, runs)),
+    }
+}
+
+/// A chosen package, and what the user is told of its features.
+fn chosen_package(
+    alloc: Global,
+    cx: &Context,
+    id: PackageId,
+    single: bool,
+) -> Result<(PlanPackage, Vec<Notice>), AllocError>
+    requires { Contains (context_view cx.now).metadata.workspace_members id.index }
+    ensures { IfOk result (λ answer. IsPlanned (context_view cx.now) single id.index
+        (package_view answer.0) (map note_of answer.1.items)) }
+{
+    let _ = cx.workspace_members();
+    let _ = cx.pkg_features(id);
+    let (found, notices) = determine_kind(alloc, cx, id, single)?;
+    let (candidates, runs) = parts_of(alloc, found.kind)?;
+    let (given, _) = features_for(alloc, cx, id)?;
+    let features = copies_of(alloc, given.as_slice())?;
+    let pkg = cx.packages(id);
+    let bare = cx.args().no_manifest_path;
+    let planned = PlanPackage {
+        name: String::from_str(alloc, pkg.name.as_str())?,
+        manifest_path: given_path(alloc, bare, cx.current_dir(), Some(pkg))?,
+        features,
+        candidates,
+        runs,
+    };
+    Ok((planned, notices))
+}
+
+/// The chosen packages, in order, and what the user is told of their features. `single` says whether
+/// a single one is left after exclusions.
+pub(crate) fn chosen_packages(
+    alloc: Global,
+    cx: &Context,
+    ids: &[PackageId],
+    single: bool,
+) -> Result<(Vec<PlanPackage>, Vec<Notice>), AllocError>
+    requires { All (λ id. Contains (context_view cx.now).metadata.workspace_members id.index)
+        ids.now }
+    ensures { IfOk result (λ answer. ArePlanned (context_view cx.now) single (map place_at ids.now)
+        (map package_view answer.0.items) (map note_of answer.1.items)) }
+{
+    let mut packages = Vec::with_capacity(alloc, ids.len())?;
+    let mut notices = Vec::new(alloc);
+    for id in ids {
+        let (package, mut told) = chosen_package(alloc, cx, *id, single)?;
+        packages.push(package)?;
+        notices.append(&mut told)?;
+    }
+    Ok((packages, notices))
+}

@@ -1,0 +1,163 @@
+//! What the user is told of features that packages don't get.
+
+ghost use Rattle.std.specs.Prelude.{◌≡◌, ◌++◌, All, Contains, IfOk, OnOk, Some, map, slice_get};
+ghost use Rattle.std.specs.List.{flat_map, range_with_len};
+ghost use Rattle.hack_metadata.specs.View.{place_at};
+ghost use Rattle.hack_load.specs.ContextView.{context_view};
+ghost use Rattle.hack_load.specs.GivenFeatures.{left_out_for};
+ghost use Rattle.hack_versions.specs.Notes.{note_of};
+ghost use Rattle.hack_calls.specs.Calls.{version_notes, ranged_notes, left_out_notes};
+
+use hack_load::context::Context;
+use hack_load::process::features_for;
+use hack_metadata::metadata::PackageId;
+use hack_plan::places::slots;
+use hack_plan::versions::{Scene, Versions};
+use hack_versions::notice::Notice;
+use hack_versions::rustup::VersionGroup;
+use hack_versions::version::Version;
+use std::alloc::{AllocError, Global};
+
+/// The package at a place among the chosen ones: what it doesn't get is told.
+fn add_package(
+    alloc: Global,
+    cx: &Context,
+    ids: &[PackageId],
+    place: usize,
+    notices: &mut Vec<Notice>,
+) -> Result<(), AllocError>
+    requires { All (λ id. Contains (context_view cx.now).metadata.workspace_members id.index)
+        ids.now }
+    ensures { OnOk result (map note_of notices.new.items ≡ map note_of notices.old.items
+        ++ left_out_for (context_view cx.now) (slice_get (map place_at ids.now) place)) }
+{
+    match ids.get(place) {
+        Some(id) => {
+            let (_, mut told) = features_for(alloc, cx, *id)?;
+            notices.append(&mut told)?;
+            Ok(())
+        }
+        None => Ok(()),
+    }
+}
+
+/// The packages at places, in one slot.
+fn add_slot(
+    alloc: Global,
+    cx: &Context,
+    ids: &[PackageId],
+    places: &[usize],
+    notices: &mut Vec<Notice>,
+) -> Result<(), AllocError>
+    requires { All (λ id. Contains (context_view cx.now).metadata.workspace_members id.index)
+        ids.now }
+    ensures { OnOk result (map note_of notices.new.items ≡ map note_of notices.old.items
+        ++ flat_map (λ p. left_out_for (context_view cx.now) (slice_get (map place_at ids.now) p))
+        places.now) }
+{
+    for place in places {
+        add_package(alloc, cx, ids, *place, notices)?;
+    }
+    Ok(())
+}
+
+/// The packages at places, in each slot of a version.
+fn add_version(
+    alloc: Global,
+    cx: &Context,
+    ids: &[PackageId],
+    scene: &Scene,
+    version: Option<Version>,
+    places: &[usize],
+    notices: &mut Vec<Notice>,
+) -> Result<(), AllocError>
+    requires { All (λ id. Contains (context_view cx.now).metadata.workspace_members id.index)
+        ids.now }
+    ensures { OnOk result (map note_of notices.new.items ≡ map note_of notices.old.items
+        ++ version_notes (context_view cx.now) (map place_at ids.now) scene.now version places.now) }
+{
+    for slot in 0..slots(scene, version) {
+        let _ = slot;
+        add_slot(alloc, cx, ids, places, notices)?;
+    }
+    Ok(())
+}
+
+/// The places below a number.
+fn below(alloc: Global, n: usize) -> Result<Vec<usize>, AllocError>
+    ensures { IfOk result (λ places. places.items ≡ range_with_len 0 n) }
+{
+    let mut places = Vec::new(alloc);
+    for place in 0..n {
+        places.push(place)?;
+    }
+    Ok(places)
+}
+
+/// The packages of each version of a range.
+fn add_groups(
+    alloc: Global,
+    cx: &Context,
+    ids: &[PackageId],
+    scene: &Scene,
+    groups: &[VersionGroup],
+    notices: &mut Vec<Notice>,
+) -> Result<(), AllocError>
+    requires { All (λ id. Contains (context_view cx.now).metadata.workspace_members id.index)
+        ids.now }
+    ensures { OnOk result (map note_of notices.new.items ≡ map note_of notices.old.items
+        ++ flat_map (λ group. version_notes (context_view cx.now) (map place_at ids.now) scene.now
+        (Some group.version) group.packages.items) groups.now) }
+{
+    for group in groups {
+        let version = Some(group.version);
+        add_version(alloc, cx, ids, scene, version, &group.packages, notices)?;
+    }
+    Ok(())
+}
+
+/// The packages of each version, or of the one "none" without a range.
+fn add_versions(
+    alloc: Global,
+    cx: &Context,
+    ids: &[PackageId],
+    scene: &Scene,
+    groups: &[VersionGroup],
+    notices: &mut Vec<Notice>,
+) -> Result<(), AllocError>
+    requires { All (λ id. Contains (context_view cx.now).metadata.workspace_members id.index)
+        ids.now }
+    ensures { OnOk result (map note_of notices.new.items ≡ map note_of notices.old.items
+        ++ ranged_notes (context_view cx.now) (map place_at ids.now) scene.now groups.now
+        scene.now.range) }
+{
+    match scene.range {
+        Some(_) => add_groups(alloc, cx, ids, scene, groups, notices),
+        None => {
+            let all = below(alloc, ids.len())?;
+            add_version(alloc, cx, ids, scene, None, all.as_slice(), notices)
+        }
+    }
+}
+
+/// What the user is told of features that packages don't get, for each version, slot and package.
+pub(crate) fn left_out(
+    alloc: Global,
+    cx: &Context,
+    ids: &[PackageId],
+    scene: &Scene,
+    versions: &Versions,
+) -> Result<Vec<Notice>, AllocError>
+    requires { All (λ id. Contains (context_view cx.now).metadata.workspace_members id.index)
+        ids.now }
+    ensures { IfOk result (λ notices. map note_of notices.items ≡ left_out_notes
+        (context_view cx.now) (map place_at ids.now) scene.now versions.now.groups.items) }
+{
+    let mut notices = Vec::new(alloc);
+    if scene.as_cargo {
+        return Ok(notices);
+    }
+    let groups = versions.groups.as_slice();
+    add_versions(alloc, cx, ids, scene, groups, &mut notices)?;
+    Ok(notices)
+}

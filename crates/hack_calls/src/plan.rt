@@ -1,0 +1,125 @@
+//! The plan of a call: what is run, in order, for what is loaded.
+
+ghost use Rattle.std.specs.Prelude.{◌≡◌, ◌⊎◌, All, Contains, IfOk, IfErr, IfSome, IsSome, map, List, ℕ};
+ghost use Rattle.hack_metadata.specs.View.{place_at};
+ghost use Rattle.hack_load.specs.ContextView.{context_view};
+ghost use Rattle.hack_packages.specs.ContextMembers.{AreChosen, IsChoiceFault};
+ghost use Rattle.hack_versions.specs.Notes.{note_of};
+ghost use Rattle.hack_versions.specs.RangeSteps.{NeedsStable};
+ghost use Rattle.hack_plan.specs.Scenes.{AreVersions, AreNotices, IsVersionsFault};
+ghost use Rattle.hack_runs.specs.View.{call_view};
+ghost use Rattle.hack_calls.specs.Calls.{IsSceneOf, HasBadOwn, call_of};
+ghost use Rattle.hack_calls.specs.Made.{IsPlan, IsCause, IsPlanOf, IsCauseOf, IsListFault};
+ghost use Rattle.hack_calls.specs.Made.{IsRangeFault};
+
+use crate::chosen::chosen_packages;
+use crate::fault::{PlanFault, of_packages, of_places, of_range};
+use crate::notes::left_out;
+use crate::scene::scene;
+use crate::words::call_words;
+use hack_load::context::Context;
+use hack_packages::determine::determine_package_list;
+use hack_packages::packages::PackageList;
+use hack_plan::versions::{Scene, Versions};
+use hack_runs::parts::CallWords;
+pub use hack_runs::plan::Plan;
+use hack_versions::notice::Notice;
+use hack_versions::rustup::RangeFault;
+use hack_versions::version::Version;
+use std::alloc::Global;
+
+/// The plan of a call, and what the user is told. `rustup` is rustup's program. `stable` is the
+/// version of the toolchain `stable` where the range needs it, or the text of the fault of
+/// asking for it.
+pub fn plan_of(
+    alloc: Global,
+    cx: &Context,
+    rustup: &str,
+    stable: Result<Option<Version>, String>,
+) -> Result<(Plan, Vec<Notice>), PlanFault>
+    requires { IsSome (context_view cx.now).args.subcommand
+        → IfSome (context_view cx.now).args.version_range (λ range. NeedsStable range
+        → IfOk stable (λ latest. IsSome latest)) }
+    ensures ok { IfOk result (λ answer. IsPlanOf (context_view cx.now).args.subcommand stable
+        (context_view cx.now) rustup.now answer.0 (map note_of answer.1.items)) }
+    ensures err { IfErr result (λ e. (e ≡ PlanFault.Memory)
+        ⊎ IsCauseOf (context_view cx.now).args.subcommand stable (context_view cx.now) e) }
+{
+    let words = call_words(alloc, cx, rustup)?;
+    if cx.args().subcommand.is_none() {
+        return Ok((Plan::empty(alloc, words), Vec::new(alloc)));
+    }
+    match stable {
+        Ok(latest) => plan_by(alloc, cx, words, latest),
+        Err(text) => Err(PlanFault::Stable(text)),
+    }
+}
+
+/// The plan of a call with a subcommand.
+fn plan_by(
+    alloc: Global,
+    cx: &Context,
+    words: CallWords,
+    latest: Option<Version>,
+) -> Result<(Plan, Vec<Notice>), PlanFault>
+    requires { IfSome (context_view cx.now).args.version_range (λ range. NeedsStable range
+        → IsSome latest) }
+    ensures ok { (rustup : List ℕ) → call_view words ≡ call_of (context_view cx.now) rustup
+        → IfOk result (λ answer. IsPlan (context_view cx.now) rustup latest answer.0
+        (map note_of answer.1.items)) }
+    ensures err { IfErr result (λ e. (e ≡ PlanFault.Memory)
+        ⊎ IsCause (context_view cx.now) latest e) }
+{
+    let (list, mut notices) = chosen_list(alloc, cx)?;
+    let scene = scene(alloc, cx, list.ids.as_slice())?;
+    let (versions, mut on_range) = versions_of(alloc, &scene, latest)?;
+    let ids = list.ids.as_slice();
+    let (packages, mut on_features) = chosen_packages(alloc, cx, ids, list.is_single)?;
+    let mut on_left_out = left_out(alloc, cx, ids, &scene, &versions)?;
+    let plan = match Plan::of_scene(alloc, words, packages, &scene, &versions) {
+        Ok(plan) => plan,
+        Err(fault) => return Err(of_places(fault)),
+    };
+    notices.append(&mut on_features)?;
+    notices.append(&mut on_range)?;
+    notices.append(&mut on_left_out)?;
+    Ok((plan, notices))
+}
+
+/// The chosen packages.
+fn chosen_list(alloc: Global, cx: &Context) -> Result<(PackageList, Vec<Notice>), PlanFault>
+    ensures ok { IfOk result (λ answer. AreChosen (context_view cx.now)
+        (map place_at answer.0.ids.items) answer.0.is_single (map note_of answer.1.items)) }
+    ensures members { IfOk result (λ answer.
+        All (λ id. Contains (context_view cx.now).metadata.workspace_members id.index)
+        answer.0.ids.items) }
+    ensures err { IfErr result (λ e. (e ≡ PlanFault.Memory)
+        ⊎ IsListFault (context_view cx.now) e) }
+{
+    match determine_package_list(alloc, cx) {
+        Ok(answer) => Ok(answer),
+        Err(fault) => Err(of_packages(fault)),
+    }
+}
+
+/// The versions of a scene.
+fn versions_of(
+    alloc: Global,
+    scene: &Scene,
+    latest: Option<Version>,
+) -> Result<(Versions, Vec<Notice>), PlanFault>
+    requires { IfSome scene.now.range (λ range. NeedsStable range → IsSome latest) }
+    ensures ok { IfOk result (λ answer. AreVersions scene.now answer.0) }
+    ensures stable { IfOk result (λ answer. answer.0.stable ≡ latest) }
+    ensures notices { IfOk result (λ answer. AreNotices scene.now.range scene.now latest
+        (map note_of answer.1.items)) }
+    ensures never { IfOk result (λ _. (e : RangeFault)
+        → ¬ IsVersionsFault scene.now.range scene.now latest e) }
+    ensures err { IfErr result (λ e. (e ≡ PlanFault.Memory)
+        ⊎ IsRangeFault scene.now latest e) }
+{
+    match Versions::new(alloc, scene, latest) {
+        Ok(answer) => Ok(answer),
+        Err(fault) => Err(of_range(fault)),
+    }
+}

@@ -1,0 +1,81 @@
+//! What all commands of a call share, as it is read off what is loaded.
+
+ghost use Rattle.std.specs.Prelude.{◌≡◌, IfOk, option_map, string_bytes};
+ghost use Rattle.hack_features.specs.Names.{names_of};
+ghost use Rattle.hack_metadata.specs.View.{package_view as package_record};
+ghost use Rattle.hack_load.specs.ContextView.{context_view};
+ghost use Rattle.hack_runs.specs.View.{call_view};
+ghost use Rattle.hack_calls.specs.Calls.{given_path, call_of, current_of};
+
+use hack_load::context::Context;
+use hack_metadata::metadata::Package;
+use hack_process::paths::under;
+use hack_runs::parts::CallWords;
+use std::alloc::{AllocError, Global};
+
+/// Copies of texts.
+pub(crate) fn copies(alloc: Global, texts: &[String]) -> Result<Vec<String>, AllocError>
+    ensures { IfOk result (λ copies. names_of copies.items ≡ names_of texts.now) }
+{
+    let mut copies = Vec::with_capacity(alloc, texts.len())?;
+    for text in texts {
+        copies.push(String::from_str(alloc, text.as_str())?)?;
+    }
+    Ok(copies)
+}
+
+/// The path of a package's manifest as a command is given it, as it stands inside the folder; none
+/// where commands are given none.
+pub(crate) fn given_path(
+    alloc: Global,
+    bare: bool,
+    dir: &str,
+    member: Option<&Package>,
+) -> Result<Option<String>, AllocError>
+    ensures { IfOk result (λ path. option_map string_bytes path
+        ≡ given_path bare dir.now (option_map (λ p. package_record p.now) member.entry)) }
+{
+    if bare {
+        return Ok(None);
+    }
+    match member {
+        Some(member) => {
+            let path = under(member.manifest_path.as_str(), dir);
+            Ok(Some(String::from_str(alloc, path)?))
+        }
+        None => Ok(None),
+    }
+}
+
+/// The package that the call stands in.
+fn current(cx: &Context) -> Option<&Package>
+    ensures { option_map (λ p. package_record p.now) result ≡ current_of (context_view cx.now) }
+{
+    match cx.current_package() {
+        Some(id) => cx.metadata().find(id),
+        None => None,
+    }
+}
+
+/// What all commands of the call share. `rustup` is rustup's program.
+pub(crate) fn call_words(alloc: Global, cx: &Context, rustup: &str) -> Result<CallWords, AllocError>
+    ensures { IfOk result (λ words. call_view words ≡ call_of (context_view cx.now) rustup.now) }
+{
+    let args = cx.args();
+    let cargo = cx.cargo(alloc)?;
+    let manifest = given_path(alloc, args.no_manifest_path, cx.current_dir(), current(cx))?;
+    Ok(CallWords {
+        cargo: String::from_str(alloc, cargo.program())?,
+        rustup: String::from_str(alloc, rustup)?,
+        passed: copies(alloc, args.leading_args.as_slice())?,
+        trailing: copies(alloc, args.trailing_args.as_slice())?,
+        features: copies(alloc, args.features.as_slice())?,
+        targets: copies(alloc, args.target.as_slice())?,
+        cargo_minor: cx.cargo_version(),
+        locked: args.locked,
+        clean_per_run: args.clean_per_run,
+        clean_per_version: args.clean_per_version,
+        current_manifest: manifest,
+        dir: String::from_str(alloc, cx.current_dir())?,
+    })
+}
