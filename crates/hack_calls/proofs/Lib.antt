@@ -1,3 +1,4 @@
 mod ChosenLemmas
 mod NoteLemmas
 mod FaultLemmas
+mod PlanLemmas

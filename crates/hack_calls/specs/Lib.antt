@@ -1,3 +1,4 @@
 pub mod Calls
+pub mod Covered
 pub mod Made
 pub mod Turned

@@ -1,14 +1,17 @@
 //! The plan of a call: what is run, in order, for what is loaded.
 
 ghost use Rattle.std.specs.Prelude.{◌≡◌, ◌⊎◌, All, Contains, IfOk, IfErr, IfSome, IsSome, map, List, ℕ};
+ghost use Rattle.std.specs.Prelude.{Option, Ok, true};
 ghost use Rattle.hack_metadata.specs.View.{place_at};
 ghost use Rattle.hack_load.specs.ContextView.{context_view};
 ghost use Rattle.hack_packages.specs.ContextMembers.{AreChosen, IsChoiceFault};
 ghost use Rattle.hack_versions.specs.Notes.{note_of};
 ghost use Rattle.hack_versions.specs.RangeSteps.{NeedsStable};
+ghost use Rattle.hack_words.specs.declared.cli.args.WorkspaceBehavior.TheVariants.{Cargo};
 ghost use Rattle.hack_plan.specs.Scenes.{AreVersions, AreNotices, IsVersionsFault};
 ghost use Rattle.hack_runs.specs.View.{call_view};
 ghost use Rattle.hack_calls.specs.Calls.{IsSceneOf, HasBadOwn, call_of};
+ghost use Rattle.hack_calls.specs.Covered.{AreCovered};
 ghost use Rattle.hack_calls.specs.Made.{IsPlan, IsCause, IsPlanOf, IsCauseOf, IsListFault};
 ghost use Rattle.hack_calls.specs.Made.{IsRangeFault};
 
@@ -42,6 +45,13 @@ pub fn plan_of(
         → IfOk stable (λ latest. IsSome latest)) }
     ensures ok { IfOk result (λ answer. IsPlanOf (context_view cx.now).args.subcommand stable
         (context_view cx.now) rustup.now answer.0 (map note_of answer.1.items)) }
+
+    // Under a powerset each set of a package's candidates that has to be covered has a place.
+    ensures covered { (latest : Option Version) → stable ≡ Ok latest
+        → IsSome (context_view cx.now).args.subcommand
+        → (context_view cx.now).args.feature_powerset ≡ true
+        → ¬ ((context_view cx.now).args.workspace_behavior ≡ Cargo)
+        → IfOk result (λ answer. AreCovered (context_view cx.now) latest answer.0) }
     ensures err { IfErr result (λ e. (e ≡ PlanFault.Memory)
         ⊎ IsCauseOf (context_view cx.now).args.subcommand stable (context_view cx.now) e) }
 {
@@ -67,6 +77,9 @@ fn plan_by(
     ensures ok { (rustup : List ℕ) → call_view words ≡ call_of (context_view cx.now) rustup
         → IfOk result (λ answer. IsPlan (context_view cx.now) rustup latest answer.0
         (map note_of answer.1.items)) }
+    ensures covered { (context_view cx.now).args.feature_powerset ≡ true
+        → ¬ ((context_view cx.now).args.workspace_behavior ≡ Cargo)
+        → IfOk result (λ answer. AreCovered (context_view cx.now) latest answer.0) }
     ensures err { IfErr result (λ e. (e ≡ PlanFault.Memory)
         ⊎ IsCause (context_view cx.now) latest e) }
 {
