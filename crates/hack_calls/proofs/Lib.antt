@@ -2,3 +2,5 @@ mod ChosenLemmas
 mod NoteLemmas
 mod FaultLemmas
 mod PlanLemmas
+mod CauseLemmas
+mod MadeLemmas

@@ -1,5 +1,5 @@
 -- The chosen packages of a plan side by side, and what the plan covers.
-use Rattle.std.proofs.Common.{◌≡◌, refl, sym, ap, subst, ◌∙◌, arith, ℕ, ◌+◌, ◌<◌, List, [], ◌∷◌, ◌++◌, ◌⊎◌, inl, inr, length, map, get_or, Bool, true, false, Option, Some, None, option_map}
+use Rattle.std.proofs.Common.{◌≡◌, refl, sym, ap, subst, ◌∙◌, arith, ℕ, zero, suc, ◌+◌, ◌<◌, List, [], ◌∷◌, ◌++◌, ◌⊎◌, inl, inr, length, map, get_or, Bool, true, false, Option, Some, None, option_map}
 use Rattle.std.specs.Prelude.{Contains, IsSomeAnd, IsTrue, ◌↔◌, slice_get}
 use Rattle.std.specs.List.{slice_index}
 use Rattle.std.proofs.lemmas.List.{length-append}
@@ -9,12 +9,15 @@ use Rattle.hack_features.specs.Sets.{IsSelection}
 use Rattle.hack_load.specs.Contexts.{ContextRecord, package_at, features_at}
 use Rattle.hack_load.specs.declared.features.Features.{Features}
 use Rattle.hack_metadata.specs.Records.{PackageRecord}
-use Rattle.hack_packages.specs.Candidates.{candidates}
+use Rattle.hack_packages.specs.Candidates.{Names, Wishes, Known, candidates}
 use Rattle.hack_packages.specs.CandidatesView.{wishes}
 use Rattle.hack_packages.specs.ContextMembers.{known_as}
 use Rattle.hack_packages.specs.Kinds.{AreCovering}
+use Rattle.hack_packages.specs.KindsView.{IsKind, candidates_in, runs_of}
+use Rattle.hack_packages.specs.declared.kind.Kind.{Kind}
+use Rattle.hack_packages.specs.declared.kind.Kind.TheVariants.{Normal, Each, Powerset}
 use Rattle.hack_plan.specs.Quads.{HasRun}
-use Rattle.hack_plan.specs.Runs.{PackageRun, Set}
+use Rattle.hack_plan.specs.Runs.{PackageRun, Plain, Set}
 use Rattle.hack_plan.specs.Scenes.{UsesVersion, slots_of}
 use Rattle.hack_plan.specs.declared.versions.Scene.{Scene}
 use Rattle.hack_plan.specs.declared.places.Quad.{Quad}
@@ -26,6 +29,12 @@ use Rattle.hack_words.specs.declared.cli.args.WorkspaceBehavior.TheVariants.{Car
 use Rattle.hack_calls.specs.Calls.{AreMembers, starts, grows, ArePlanned, begins, adds, IsPlanned}
 use Rattle.hack_calls.specs.Made.{IsPlan, run_counts}
 use Rattle.hack_calls.specs.Covered.{AreCovered, HoldsCover, choice_at}
+
+-- the candidates of a kind are those of its package, unless it has its plain run alone
+pub of-kind : (w : Wishes) (p : Known) (kind : Kind) (groups : List Names) (runs : List PackageRun) → groups ≡ candidates_in kind → runs ≡ runs_of kind → IsKind w p kind → (groups ≡ candidates w p) ⊎ (runs ≡ Plain ∷ [])
+of-kind w p Normal groups runs g r h = inr r
+of-kind w p (Each list sets) groups runs g r h = inl (g ∙ h.2)
+of-kind w p (Powerset list sets) groups runs g r h = inl (g ∙ h.1)
 
 -- there is a member for each chosen package
 pub members-length : (cx : ContextRecord) (ids : List ℕ) (members : List PackageVersion) → AreMembers cx ids members → length ids ≡ length members
@@ -68,7 +77,7 @@ push-end (y ∷ xs) last = push-end xs last
 planned-at : (cx : ContextRecord) (single : Bool) (ids : List ℕ) (packages : List PackageView) (notes : List Note) (place id : ℕ) → ArePlanned cx single ids packages notes → slice_get ids place ≡ Some id
     → (k : PackageView) × (more : List Note) × (slice_get packages place ≡ Some k) × IsPlanned cx single id k more
 planned-at cx single ids packages notes place id begins at = absurd (cc)
-planned-at cx single _ _ _ place id (adds {ids} {packages} {notes} {last} {k} {more} before is) at =
+planned-at cx single _ _ _ place id (adds {ids} {packages} {notes} {id = last} {k} {more} before is) at =
     elim (push-cases ids last place id at) [
       | inl there ↦ let h = planned-at cx single ids packages notes place id before there in (h.0, h.1, push-left packages k place h.0 h.2, h.3)
       | inr here ↦
@@ -95,14 +104,14 @@ cover-at : (cx : ContextRecord) (rustup : List ℕ) (latest : Option Version) (p
 cover-at cx rustup latest plan notes h each place id p features version slot s uses within k at covering selection wanted =
     let cover = covering s selection wanted in
     let rank = cover.2.0 in
-    let quad : Quad = record { version = version; slot = slot; package = Some place; rank = rank } in
+    let quad : Quad = record { version = version; slot = slot; «package» = Some place; rank = rank } in
     let run = subst (λ b. HasRun b h.scene (run_counts plan.packages) h.places.0 quad) (sym each) (place, refl, uses, below-count plan.packages place rank k at cover.2.1) in
     record {
       rank = rank;
       set = cover.0;
       held = h.places.2.complete quad (record { run = run; slot = within });
       run = subst (λ o. IsSomeAnd o (λ (m : PackageView). slice_get m.runs rank ≡ Some (Set cover.0))) (sym at) (slice_get_read k.runs (length k.runs) rank (Set cover.0) refl cover.2.1 (sym cover.2.2));
-      covers = cover.1
+      covers = cover.1;
     }
 
 -- under a powerset a plan covers the sets of its packages
@@ -121,5 +130,5 @@ covers cx rustup latest plan notes h powerset each = record {
       let same_p = same_some m.3.pkg p (sym m.3.known ∙ known) in
       let same_f = same_some m.3.features features (sym m.3.loaded ∙ loaded) in
       let covering = subst (λ q. AreCovering (wishes cx.args) (known_as q features) m.0.runs) same_p (subst (λ f. AreCovering (wishes cx.args) (known_as m.3.pkg f) m.0.runs) same_f (m.3.covered powerset)) in
-      cover-at cx rustup latest plan notes h (not-all h.scene.as_cargo _ h.of_call.as_cargo each) place id p features version slot s uses within m.0 m.2 covering selection wanted
+      cover-at cx rustup latest plan notes h (not-all h.scene.as_cargo _ h.of_call.as_cargo each) place id p features version slot s uses within m.0 m.2 covering selection wanted;
 }

@@ -26,7 +26,7 @@ choice_at cx p features = choice_of (wishes cx.args) (known_as p features)
 pub record HoldsCover (plan : PlanView) (version : Option Version) (slot place : ℕ) (choice : Choice) (s : List ℕ) : Type 0 where
   pub rank : ℕ
   pub set : List ℕ
-  pub held : Contains plan.quads (record { version = version; slot = slot; package = Some place; rank = rank })
+  pub held : Contains plan.quads (record { version = version; slot = slot; «package» = Some place; rank = rank })
   pub run : IsSomeAnd (slice_get plan.packages place) (λ k. slice_get k.runs rank ≡ Some (Set set))
   pub covers : Covers choice s set
 

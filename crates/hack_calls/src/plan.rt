@@ -77,7 +77,8 @@ fn plan_by(
     ensures ok { (rustup : List ℕ) → call_view words ≡ call_of (context_view cx.now) rustup
         → IfOk result (λ answer. IsPlan (context_view cx.now) rustup latest answer.0
         (map note_of answer.1.items)) }
-    ensures covered { (context_view cx.now).args.feature_powerset ≡ true
+    ensures covered { (rustup : List ℕ) → call_view words ≡ call_of (context_view cx.now) rustup
+        → (context_view cx.now).args.feature_powerset ≡ true
         → ¬ ((context_view cx.now).args.workspace_behavior ≡ Cargo)
         → IfOk result (λ answer. AreCovered (context_view cx.now) latest answer.0) }
     ensures err { IfErr result (λ e. (e ≡ PlanFault.Memory)

@@ -21,4 +21,3 @@ returns-in_ok-append-in-Some c =
     ∙ ap (λ l. map note_of c.args.notices.now.items ++ l)
     (c.in_ok-told-in-Some.ensures.notices
     ∙ told-of (context_view c.args.cx.now) c.args.ids.now c.args.place c.in-Some.id.now c.in-Some.ensures.lookup.3.0 c.in-Some.ensures.lookup.1)
-

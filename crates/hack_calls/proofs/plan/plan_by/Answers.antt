@@ -1,0 +1,93 @@
+use Rattle.std.proofs.Common.{◌≡◌, ◌∙◌, sym, ap, subst, ◌⊎◌, ℕ, List, map, length, All, Contains, Option}
+use Rattle.std.proofs.lemmas.List.{length-map}
+use Rattle.std.proofs.lemmas.Result.{err_from_is_err_and}
+use Rattle.hack_load.specs.ContextView.{context_view}
+use Rattle.hack_metadata.specs.View.{place_at}
+use Rattle.hack_metadata.specs.declared.resolve.PackageId.{PackageId}
+use Rattle.hack_plan.specs.Quads.{ArePlaces, HasTooMany}
+use Rattle.hack_runs.specs.Plans.{counts_in}
+use Rattle.hack_runs.specs.Prepared.{ArePrepared}
+use Rattle.hack_runs.specs.View.{CallView, package_view, call_view}
+use Rattle.hack_versions.specs.Notes.{note_of}
+use Rattle.hack_versions.specs.declared.version.VersionFault.{VersionFault}
+use Rattle.hack_calls.specs.Calls.{IsSceneOf, ArePlanned, HasBadOwn, left_out_notes}
+use Rattle.hack_calls.specs.Made.{run_counts}
+use Rattle.hack_calls.proofs.CauseLemmas.{range-cause, places-cause, counts-same, all-told}
+use Rattle.hack_calls.proofs.PlanLemmas.{members-length, planned-length, covers}
+use Rattle.hack_calls.proofs.plan.plan_by.Goals as goal
+
+pub returns-in_err-versions-clause-err : goal.returns-in_err-versions-clause-err
+returns-in_err-versions-clause-err c =
+    let cx = context_view c.args.cx.now in
+    let ids = c.in_ok-list.list.ids.items in
+    let p = err_from_is_err_and c.from_residual-in_err-versions.result c.from_residual-in_err-versions.ensures.1 in
+    let of_call = subst (λ l. IsSceneOf cx (map place_at l) c.in_ok-scene.scene) c.as_slice.ensures.value c.in_ok-scene.ensures.ok in
+    rw (p.1, p.2) (range-cause cx (map place_at ids) c.in_ok-list.list.is_single (map note_of c.in_ok-list.notices.items) c.in_ok-scene.scene c.args.latest _ c.in_ok-list.ensures.ok of_call c.in_err-versions.ensures.err)
+
+pub chosen_packages-requires : goal.chosen_packages-requires
+chosen_packages-requires c =
+    subst (λ l. All (λ (id : PackageId). Contains (context_view c.args.cx.now).metadata.workspace_members id.index) l) (sym c.as_slice-ids.ensures.value) c.in_ok-list.ensures.members
+
+pub left_out-requires : goal.left_out-requires
+left_out-requires c =
+    subst (λ l. All (λ (id : PackageId). Contains (context_view c.args.cx.now).metadata.workspace_members id.index) l) (sym c.as_slice-ids.ensures.value) c.in_ok-list.ensures.members
+
+pub of_scene-requires-clause-packages : goal.of_scene-requires-clause-packages
+of_scene-requires-clause-packages c =
+    let cx = context_view c.args.cx.now in
+    let ids = c.in_ok-list.list.ids.items in
+    let of_call = subst (λ l. IsSceneOf cx (map place_at l) c.in_ok-scene.scene) c.as_slice.ensures.value c.in_ok-scene.ensures.ok in
+    let planned = subst (λ l. ArePlanned cx c.in_ok-list.list.is_single (map place_at l) (map package_view c.in_ok-packages.packages.items) (map note_of c.in_ok-packages.on_features.items)) c.as_slice-ids.ensures.value c.in_ok-packages.ensures in
+    sym (length-map c.in_ok-packages.packages.items package_view)
+    ∙ sym (planned-length cx c.in_ok-list.list.is_single (map place_at ids) _ _ planned)
+    ∙ members-length cx (map place_at ids) c.in_ok-scene.scene.packages.items of_call.members
+
+pub returns-in-Err-clause-err : goal.returns-in-Err-clause-err
+returns-in-Err-clause-err c =
+    let cx = context_view c.args.cx.now in
+    let ids = c.in_ok-list.list.ids.items in
+    let of_call = subst (λ l. IsSceneOf cx (map place_at l) c.in_ok-scene.scene) c.as_slice.ensures.value c.in_ok-scene.ensures.ok in
+    let planned = subst (λ l. ArePlanned cx c.in_ok-list.list.is_single (map place_at l) (map package_view c.in_ok-packages.packages.items) (map note_of c.in_ok-packages.on_features.items)) c.as_slice-ids.ensures.value c.in_ok-packages.ensures in
+    rw c.of_places.ensures (places-cause cx (map place_at ids) c.in_ok-list.list.is_single (map note_of c.in_ok-list.notices.items) c.in_ok-scene.scene c.in_ok-versions.versions.stable c.args.latest c.in_ok-packages.packages.items (map note_of c.in_ok-packages.on_features.items) c.in-Err.fault c.in_ok-list.ensures.ok of_call planned c.in_ok-versions.ensures.stable c.in-Err.ensures.err)
+
+pub returns-clause-ok : goal.returns-clause-ok
+returns-clause-ok c = λ rustup call.
+    let cx = context_view c.args.cx.now in
+    let ids = c.in_ok-list.list.ids.items in
+    let single = c.in_ok-list.list.is_single in
+    let scene = c.in_ok-scene.scene in
+    let plan = c.in-Ok.plan in
+    let packages = c.in_ok-packages.packages.items in
+    let on_features = map note_of c.in_ok-packages.on_features.items in
+    let counts = ap run_counts c.in-Ok.ensures.packages ∙ counts-same packages in
+    let planned = subst (λ l. ArePlanned cx single (map place_at l) (map package_view packages) on_features) c.as_slice-ids.ensures.value c.in_ok-packages.ensures in
+    record {
+      ids = map place_at ids;
+      single = single;
+      scene = scene;
+      versions = c.in_ok-versions.versions;
+      on_packages = map note_of c.in_ok-list.notices.items;
+      on_features = on_features;
+      on_range = map note_of c.in_ok-versions.on_range.items;
+      chosen = c.in_ok-list.ensures.ok;
+      of_call = subst (λ l. IsSceneOf cx (map place_at l) scene) c.as_slice.ensures.value c.in_ok-scene.ensures.ok;
+      of_range = c.in_ok-versions.ensures.ok;
+      newest = c.in_ok-versions.ensures.stable;
+      ranged = c.in_ok-versions.ensures.notices;
+      planned = subst (λ ks. ArePlanned cx single (map place_at ids) ks on_features) (sym c.in-Ok.ensures.packages) planned;
+      call = c.in-Ok.ensures.call ∙ call;
+      places = subst (λ ns. ArePlaces scene ns c.args.latest plan.quads) (sym counts) (subst (λ v. ArePlaces scene (counts_in packages) v plan.quads) c.in_ok-versions.ensures.stable c.in-Ok.ensures.quads);
+      laid = c.in-Ok.ensures.spans;
+      prepared = subst (λ (k : CallView). ArePrepared k.locked k.clean_per_version plan.versions) call c.in-Ok.ensures.prepared;
+      told = all-told c.in_ok-list.notices.items c.in_ok-packages.on_features.items c.in_ok-versions.on_range.items c.in_ok-on_left_out.on_left_out.items c.append.new.self.items c.append-2.new.self.items c.append-3.new.self.items
+          (left_out_notes cx (map place_at ids) scene c.in_ok-versions.versions.groups.items)
+          c.in_ok-append.ensures.items c.in_ok-append-2.ensures.items c.in_ok-append-3.ensures.items
+          (c.in_ok-on_left_out.ensures ∙ ap (λ (l : List PackageId). left_out_notes cx (map place_at l) scene c.in_ok-versions.versions.groups.items) c.as_slice-ids.ensures.value);
+      readable = subst (λ (l : List PackageId). (e : VersionFault) → ¬ HasBadOwn cx (map place_at l) e) c.as_slice.ensures.value c.in_ok-scene.ensures.never;
+      in_range = c.in_ok-versions.ensures.never;
+      fits = λ many. c.in-Ok.ensures.never (subst (λ v. HasTooMany scene (counts_in packages) v) (sym c.in_ok-versions.ensures.stable) (subst (λ ns. HasTooMany scene ns c.args.latest) counts many));
+    }
+
+pub returns-clause-covered : goal.returns-clause-covered
+returns-clause-covered c = λ rustup call powerset each.
+    covers (context_view c.args.cx.now) rustup c.args.latest c.in-Ok.plan _ (returns-clause-ok c rustup call) powerset each

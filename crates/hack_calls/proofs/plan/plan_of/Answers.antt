@@ -1,0 +1,24 @@
+use Rattle.std.proofs.Common.{◌≡◌, ◌∙◌, sym, ap, subst, map, is_some, IfOk}
+use Rattle.std.proofs.lemmas.Result.{IfOk-weaker}
+use Rattle.hack_load.specs.ContextView.{context_view}
+use Rattle.hack_versions.specs.Notes.{note_of}
+use Rattle.hack_words.specs.declared.cli.args.Args.{Args}
+use Rattle.hack_calls.specs.Covered.{AreCovered}
+use Rattle.hack_calls.specs.Made.{IsPlan, IsPlanOf}
+use Rattle.hack_calls.proofs.MadeLemmas.{by-subcommand, same-latest}
+use Rattle.hack_calls.proofs.plan.plan_of.Goals as goal
+
+pub returns-in-Ok-clause-ok : goal.returns-in-Ok-clause-ok
+returns-in-Ok-clause-ok c =
+    let cx = context_view c.args.cx.now in
+    let some = ap (λ (a : Args). is_some a.subcommand) (sym c.args-2.ensures) ∙ c.if-is_none.ensures in
+    IfOk-weaker c.plan_by.result (λ answer. IsPlan cx c.args.rustup.now c.in-Ok.latest answer.0 (map note_of answer.1.items))
+    (λ answer. IsPlanOf cx.args.subcommand c.args.stable cx c.args.rustup.now answer.0 (map note_of answer.1.items))
+    (λ answer h. by-subcommand cx.args.subcommand c.args.stable c.in-Ok.latest cx c.args.rustup.now answer.0 (map note_of answer.1.items) some c.in-Ok.is h)
+    (c.plan_by.ensures.ok c.args.rustup.now c.in_ok-words.ensures)
+
+pub returns-in-Ok-clause-covered : goal.returns-in-Ok-clause-covered
+returns-in-Ok-clause-covered c = λ latest is _ powerset each.
+    let cx = context_view c.args.cx.now in
+    let same = same-latest c.args.stable c.in-Ok.latest latest c.in-Ok.is is in
+    subst (λ v. IfOk c.plan_by.result (λ answer. AreCovered cx v answer.0)) same (c.plan_by.ensures.covered c.args.rustup.now c.in_ok-words.ensures powerset each)
