@@ -1,5 +1,5 @@
 -- Faults of the parts of a plan are causes, and what is told of all parts.
-use Rattle.std.proofs.Common.{◌≡◌, refl, sym, ap, subst, ◌∙◌, ◌⊎◌, inl, inr, ℕ, List, [], ◌∷◌, ◌++◌, map, length, Bool, Option, Some, None, append_assoc}
+use Rattle.std.proofs.Common.{◌≡◌, refl, sym, ap, subst, ◌∙◌, ◌⊎◌, inl, inr, ℕ, List, [], ◌∷◌, ◌++◌, map, Bool, Option, append_assoc}
 use Rattle.std.proofs.lemmas.List.{map-append}
 use Rattle.hack_load.specs.Contexts.{ContextRecord}
 use Rattle.hack_packages.specs.ContextMembers.{AreChosen}

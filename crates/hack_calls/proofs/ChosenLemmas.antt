@@ -1,6 +1,6 @@
 -- Chosen packages one by one, and that they are members.
-use Rattle.std.proofs.Common.{◌≡◌, arith, ℕ, ◌+◌, ◌<◌, List, [], ◌∷◌, ◌++◌, length, take, get_or, map, refl, ap, sym, subst, ◌∙◌, Option, Some, None, Bool, true, false, inl, inr, ◌⊎◌, Contains, All, filter, option_map}
-use Rattle.std.specs.List.{filter_map, find, cons_option, slice_index_or}
+use Rattle.std.proofs.Common.{◌≡◌, ℕ, ◌+◌, ◌<◌, List, [], ◌∷◌, ◌++◌, length, take, get_or, map, ap, sym, subst, ◌∙◌, Option, Some, None, Bool, true, false, inl, inr, Contains, All, option_map}
+use Rattle.std.specs.List.{filter_map, cons_option, slice_index_or}
 use Rattle.std.specs.Str.{bytes_eq}
 use Rattle.std.proofs.lemmas.Bool.{cases_Bool}
 use Rattle.std.proofs.lemmas.List.{take_more, map-append, get_or_default}
@@ -11,8 +11,8 @@ use Rattle.hack_load.specs.Contexts.{ContextRecord, package_at, is_private_at, r
 use Rattle.hack_metadata.specs.Records.{PackageRecord}
 use Rattle.hack_metadata.specs.View.{place_at}
 use Rattle.hack_metadata.specs.declared.resolve.PackageId.{PackageId}
-use Rattle.hack_packages.specs.ContextMembers.{member_at, members_in, AreChosen}
-use Rattle.hack_packages.specs.Members.{Member, Choosing, Collects, taken, left, ends, Keeps, IsMatched, IsAbout, unnamed, first_called, names_some}
+use Rattle.hack_packages.specs.ContextMembers.{member_at, AreChosen}
+use Rattle.hack_packages.specs.Members.{Member, Choosing, taken, left, ends, Keeps, IsMatched, IsAbout, unnamed, first_called}
 use Rattle.hack_versions.specs.Notes.{Note}
 use Rattle.hack_versions.specs.declared.version.VersionFault.{VersionFault}
 use Rattle.hack_versions.specs.declared.group.PackageVersion.{PackageVersion}

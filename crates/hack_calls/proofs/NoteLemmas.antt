@@ -1,7 +1,7 @@
 -- Notices of one package, slot or version more.
-use Rattle.std.proofs.Common.{◌≡◌, arith, ℕ, ◌+◌, ◌<◌, ◌≤◌, List, [], ◌∷◌, ◌++◌, length, take, get_or, map, refl, ap, sym, ◌∙◌, append-nil, Option, Some, None, option_map}
+use Rattle.std.proofs.Common.{◌≡◌, arith, ℕ, ◌+◌, ◌<◌, ◌≤◌, List, [], ◌∷◌, ◌++◌, length, take, get_or, map, refl, ap, sym, ◌∙◌, append-nil, Some, option_map}
 use Rattle.std.specs.List.{flat_map, range_with_len, slice_get}
-use Rattle.std.proofs.lemmas.List.{take_more, map-append, flat_map_more, map-id}
+use Rattle.std.proofs.lemmas.List.{take_more, flat_map_more, map-id}
 use Rattle.std.proofs.lemmas.List.FromFn.{map-range_with_len_more}
 use Rattle.std.proofs.lemmas.Option.{slice_get-map, slice_get_read, slice_get_past}
 use Rattle.hack_metadata.specs.View.{place_at}

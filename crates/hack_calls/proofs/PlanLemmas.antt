@@ -1,12 +1,11 @@
 -- The chosen packages of a plan side by side, and what the plan covers.
-use Rattle.std.proofs.Common.{◌≡◌, refl, sym, ap, subst, ◌∙◌, arith, ℕ, zero, suc, ◌+◌, ◌<◌, List, [], ◌∷◌, ◌++◌, ◌⊎◌, inl, inr, length, map, get_or, Bool, true, false, Option, Some, None, option_map}
-use Rattle.std.specs.Prelude.{Contains, IsSomeAnd, IsTrue, ◌↔◌, slice_get}
-use Rattle.std.specs.List.{slice_index}
+use Rattle.std.proofs.Common.{◌≡◌, refl, sym, ap, subst, ◌∙◌, arith, ℕ, zero, suc, ◌<◌, List, [], ◌∷◌, ◌++◌, ◌⊎◌, inl, inr, length, get_or, Bool, true, false, Option, Some, option_map}
+use Rattle.std.specs.Prelude.{IsSomeAnd, IsTrue, ◌↔◌, slice_get}
 use Rattle.std.proofs.lemmas.List.{length-append}
 use Rattle.std.proofs.lemmas.Option.{slice_get-map, slice_get_read, get_or_from_slice_get}
 use Rattle.hack_features.specs.Rules.{IsWanted}
 use Rattle.hack_features.specs.Sets.{IsSelection}
-use Rattle.hack_load.specs.Contexts.{ContextRecord, package_at, features_at}
+use Rattle.hack_load.specs.Contexts.{ContextRecord}
 use Rattle.hack_load.specs.declared.features.Features.{Features}
 use Rattle.hack_metadata.specs.Records.{PackageRecord}
 use Rattle.hack_packages.specs.Candidates.{Names, Wishes, Known, candidates}
@@ -19,7 +18,6 @@ use Rattle.hack_packages.specs.declared.kind.Kind.TheVariants.{Normal, Each, Pow
 use Rattle.hack_plan.specs.Quads.{HasRun}
 use Rattle.hack_plan.specs.Runs.{PackageRun, Plain, Set}
 use Rattle.hack_plan.specs.Scenes.{UsesVersion, slots_of}
-use Rattle.hack_plan.specs.declared.versions.Scene.{Scene}
 use Rattle.hack_plan.specs.declared.places.Quad.{Quad}
 use Rattle.hack_runs.specs.View.{PackageView, PlanView}
 use Rattle.hack_versions.specs.declared.group.PackageVersion.{PackageVersion}

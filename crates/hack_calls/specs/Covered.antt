@@ -11,7 +11,6 @@ use Rattle.hack_packages.specs.ContextMembers.{AreChosen, known_as}
 use Rattle.hack_packages.specs.Kinds.{choice_of}
 use Rattle.hack_plan.specs.Runs.{Set}
 use Rattle.hack_plan.specs.Scenes.{IsStepList, UsesVersion, slots_of}
-use Rattle.hack_plan.specs.declared.places.Quad.{Quad}
 use Rattle.hack_plan.specs.declared.versions.Scene.{Scene}
 use Rattle.hack_runs.specs.View.{PlanView}
 use Rattle.hack_versions.specs.declared.version.Version.{Version}

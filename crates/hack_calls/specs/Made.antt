@@ -1,5 +1,5 @@
 -- The plan of a call, and why there is none.
-use Rattle.std.specs.Prelude.{ℕ, ◌≡◌, ◌++◌, ◌⊎◌, List, [], map, length, Bool, Option, Some, None, Result, Ok, Err}
+use Rattle.std.specs.Prelude.{ℕ, ◌≡◌, ◌++◌, List, [], map, length, Bool, Option, Some, None, Result, Ok, Err}
 use Rattle.std.specs.declared.string.String.{String}
 use Rattle.std.specs.declared.alloc.Global.{Global}
 use Rattle.hack_features.specs.Names.{Name}

@@ -2,6 +2,7 @@
 
 use crate::given::{on, plan_for, told};
 use hack_calls::plan::Plan;
+use hack_process::process::ProcessBuilder;
 use hack_runs::parts::{PlanVersion, Preparation};
 use std::alloc::{AllocError, Global};
 use std::process::Abort;
@@ -157,6 +158,12 @@ fn before_the_runs(rt: HostRuntime) -> Result<(), Fail> {
     )
 }
 
+/// A command as a list shows it.
+fn listed(alloc: Global, command: &ProcessBuilder<'_>, dir: &str) -> Result<String, AllocError> {
+    let line = command.listed(dir);
+    format!(in alloc; "{line}\n")
+}
+
 /// The command that makes the lockfile of the first version, the one that removes artifacts before
 /// the runs of a version, the one before the first run, and this run, as a list shows them.
 fn commands(alloc: Global, words: &str) -> Result<String, Fail> {
@@ -164,18 +171,15 @@ fn commands(alloc: Global, words: &str) -> Result<String, Fail> {
     let mut lines = String::new(alloc);
     if let Some(version) = plan.versions().first().and_then(|version| version.version) {
         let lockfile = plan.lockfile(alloc, version)?;
-        let lockfile = lockfile.listed(plan.dir());
-        lines.push_str(format!(in alloc; "{lockfile}\n")?.as_str())?;
+        lines.push_str(listed(alloc, &lockfile, plan.dir())?.as_str())?;
     }
     let clean = plan.cleaning(alloc)?;
-    let clean = clean.listed(plan.dir());
-    lines.push_str(format!(in alloc; "{clean}\n")?.as_str())?;
+    lines.push_str(listed(alloc, &clean, plan.dir())?.as_str())?;
     if 0 < plan.len() {
         let clean = plan.run_cleaning(alloc, 0)?;
-        let clean = clean.listed(plan.dir());
         let run = plan.run(alloc, 0)?;
-        let run = run.command.listed(plan.dir());
-        lines.push_str(format!(in alloc; "{clean}\n{run}\n")?.as_str())?;
+        lines.push_str(listed(alloc, &clean, plan.dir())?.as_str())?;
+        lines.push_str(listed(alloc, &run.command, plan.dir())?.as_str())?;
     }
     Ok(lines)
 }

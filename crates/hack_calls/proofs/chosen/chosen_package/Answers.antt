@@ -1,4 +1,4 @@
-use Rattle.std.proofs.Common.{◌≡◌, ◌∙◌, sym, ap, subst, Some}
+use Rattle.std.proofs.Common.{◌∙◌, sym, ap, subst, Some}
 use Rattle.hack_features.specs.Feature.{groups_of}
 use Rattle.hack_features.specs.Names.{shown}
 use Rattle.hack_load.specs.ContextView.{context_view}

@@ -1,4 +1,4 @@
-use Rattle.std.proofs.Common.{◌≡◌, ◌∙◌, sym, ap, subst, ◌⊎◌, ℕ, List, map, length, All, Contains, Option}
+use Rattle.std.proofs.Common.{◌∙◌, sym, ap, subst, List, map, All, Contains}
 use Rattle.std.proofs.lemmas.List.{length-map}
 use Rattle.std.proofs.lemmas.Result.{err_from_is_err_and}
 use Rattle.hack_load.specs.ContextView.{context_view}
@@ -7,7 +7,7 @@ use Rattle.hack_metadata.specs.declared.resolve.PackageId.{PackageId}
 use Rattle.hack_plan.specs.Quads.{ArePlaces, HasTooMany}
 use Rattle.hack_runs.specs.Plans.{counts_in}
 use Rattle.hack_runs.specs.Prepared.{ArePrepared}
-use Rattle.hack_runs.specs.View.{CallView, package_view, call_view}
+use Rattle.hack_runs.specs.View.{CallView, package_view}
 use Rattle.hack_versions.specs.Notes.{note_of}
 use Rattle.hack_versions.specs.declared.version.VersionFault.{VersionFault}
 use Rattle.hack_calls.specs.Calls.{IsSceneOf, ArePlanned, HasBadOwn, left_out_notes}

@@ -1,4 +1,4 @@
-use Rattle.std.proofs.Common.{◌≡◌, ◌∙◌, sym, ap, subst, map, is_some, IfOk}
+use Rattle.std.proofs.Common.{◌∙◌, sym, ap, subst, map, is_some, IfOk}
 use Rattle.std.proofs.lemmas.Result.{IfOk-weaker}
 use Rattle.hack_load.specs.ContextView.{context_view}
 use Rattle.hack_versions.specs.Notes.{note_of}

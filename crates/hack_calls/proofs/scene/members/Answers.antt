@@ -1,4 +1,4 @@
-use Rattle.std.proofs.Common.{◌≡◌, ◌∙◌, ◌+◌, List, [], ap, sym, subst, map, take, inl, inr, ◌⊎◌}
+use Rattle.std.proofs.Common.{◌≡◌, ◌+◌, List, [], sym, subst, map, take, inl, inr, ◌⊎◌}
 use Rattle.std.proofs.lemmas.List.{take_all}
 use Rattle.hack_features.proofs.Members.{Contains-nil}
 use Rattle.hack_load.specs.ContextView.{context_view}
