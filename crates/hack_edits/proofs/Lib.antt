@@ -4,3 +4,4 @@ pub mod Left
 pub mod Recut
 pub mod Again
 pub mod Private
+pub mod OrderLemmas

@@ -1,12 +1,13 @@
 -- The pieces that stay are the pieces of the text that they make.
 use Rattle.std.proofs.Common.{◌≡◌, ◌⊎◌, ℕ, ◌+◌, ◌-◌, ◌<◌, ◌≤◌, List, [], ◌∷◌, ◌++◌, length, map, Bool, true, false, cond, refl, sym, ap, subst, ◌∙◌, inl, inr, arith, length-append}
 use Rattle.std.proofs.lemmas.List.{take-append-le, get_or_append_left}
-use Rattle.pieces.specs.Pieces.{View, IsLines, IsRun, IsFirstRun, HasNoRun, IsCutInto, stands, is_header, IsPath, HavePaths, next_header, AreCut}
+use Rattle.hack_manifest.specs.Paths.{View, is_header, IsPath, HavePaths, next_header, AreCut}
+use Rattle.hack_manifest.specs.Runs.{IsLines, IsRun, IsFirstRun, HasNoRun, IsCutInto, stands}
+use Rattle.hack_edits.specs.KeyPaths.{is_dev, name_at, dev_key, target_key}
+use Rattle.hack_edits.specs.DevDeps.{kept, kept_text, some_dev, HasNoDevPiece}
 use Rattle.std.specs.Prelude.{◌&&◌, ◌||◌}
 use Rattle.std.specs.Str.{bytes_eq}
 use Rattle.std.proofs.lemmas.Bool.{cases_Bool, false≢true}
-use Rattle.pieces.specs.Edit.{is_dev, kept, kept_text, name_at}
-use Rattle.pieces.specs.Lookup.{dev_key, target_key}
 
 -- lengths of two joined texts, at m
 same_end : (p r s : List ℕ) (m : ℕ) → m ≤ length p → (length r ≡ 0 → length s ≡ 0) → m ≡ length (p ++ r) → m ≡ length (p ++ s)
@@ -112,7 +113,10 @@ Follows header now = (header ≡ now) ⊎ (is_dev header ≡ true)
 path-moved : (header now : List (List ℕ)) (text : List ℕ) (path : List (List ℕ)) → is_dev path ≡ false → Follows header now → IsPath header text path → IsPath now text path
 path-moved header now text path stays (inl same) h = let P : List (List ℕ) → Type 0 = λ t. IsPath t text path in subst P same h
 path-moved header now text path stays (inr gone) h =
-    (h.0, λ plain. absurd (let (key, own, is) = h.1 plain in false≢true (sym stays ∙ ap is_dev is ∙ is_dev-append header key gone)))
+    record {
+      own = h.own;
+      behind = λ plain. absurd (let (key, own, is) = h.behind plain in false≢true (sym stays ∙ ap is_dev is ∙ is_dev-append header key gone));
+    }
 
 next-header : (header : List (List ℕ)) (p : View) → is_header p.text ≡ true → next_header header p ≡ p.path
 next-header header p e = rw e
@@ -150,3 +154,16 @@ paths-kept (p ∷ ps) header now f h =
 -- what stays is cut into the pieces that stay
 pub recut-whole : (ps : List View) (tail text : List ℕ) → AreCut text ps tail → AreCut (kept_text ps tail) (kept ps) tail
 recut-whole ps tail text cut = record { texts = recut ps tail text cut.texts; paths = paths-kept ps [] [] (inl refl) cut.paths }
+
+none_at : (b : Bool) (p : View) (ps : List View) → is_dev p.path ≡ b → some_dev ps ≡ false → some_dev (cond b ps (p ∷ ps)) ≡ false
+none_at true p ps is none = none
+none_at false p ps is none = rw (is, none) refl
+
+-- none of the pieces that stay is one of development dependencies
+none-kept : (ps : List View) → some_dev (kept ps) ≡ false
+none-kept [] = refl
+none-kept (p ∷ ps) = none_at (is_dev p.path) p (kept ps) refl (none-kept ps)
+
+-- the text of the pieces that stay has no piece of development dependencies
+pub no_dev-kept : (ps : List View) (tail text : List ℕ) → AreCut text ps tail → HasNoDevPiece (kept_text ps tail)
+no_dev-kept ps tail text cut = record { pieces = kept ps; tail = tail; cut = recut-whole ps tail text cut; none = none-kept ps }

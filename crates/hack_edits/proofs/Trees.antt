@@ -8,10 +8,11 @@ use Rattle.std.specs.Ordering.{match_ordering}
 use Rattle.std.specs.BTreeMap.{is_at, insert_entry}
 use Rattle.toml.specs.Data.{table, member}
 use Rattle.toml.proofs.Views.{Entry}
-use Rattle.pieces.specs.Edit.{remove_member, put, is_empty_table}
+use Rattle.hack_edits.specs.Tables.{remove_member, put}
+use Rattle.hack_edits.specs.DevTree.{is_empty_table}
+use Rattle.hack_edits.specs.Same.{same, same_items}
 use Rattle.toml.specs.View.{view, items_view, members_view}
 use Rattle.toml.specs.declared.value.Value.{Value}
-use Rattle.pieces.specs.Tree.{same, same_items}
 
 and_false : (a b : Bool) → b ≡ false → (a && b) ≡ false
 and_false true b h = h

@@ -1,5 +1,7 @@
 //! Why a manifest isn't edited.
 
+ghost use Rattle.std.specs.Prelude.{◌≡◌};
+
 use std::alloc::AllocError;
 use thiserror::Error;
 

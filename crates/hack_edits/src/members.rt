@@ -1,7 +1,10 @@
 //! Which members of a workspace are private crates, and which private crates no member's text leads
 //! to.
 
-ghost use Rattle.std.specs.Prelude.{◌≡◌, false, IfOk};
+ghost use Rattle.std.specs.Prelude.{◌≡◌, false, IfOk, OnOk};
+ghost use Rattle.std.specs.BTreeSet.{insert_key};
+ghost use Rattle.std.specs.Cmp.Lexicographic.{slice_cmp};
+ghost use Rattle.std.specs.Ordering.{nat_cmp};
 ghost use Rattle.toml.specs.View.{view, table_view, array_view};
 ghost use Rattle.hack_process.specs.PathTexts.{texts};
 ghost use Rattle.hack_edits.specs.KeyPaths.{members_key};
@@ -19,17 +22,33 @@ pub const MEMBERS: &str = "members";
 
 /// The paths in byte order, each once.
 pub fn in_order<'a>(alloc: Global, paths: &[&'a str]) -> Result<Vec<&'a str>, AllocError>
-    ensures { IfOk result (λ ordered. texts ordered.items ≡ in_order (texts paths.now)) }
+    ensures { IfOk result (λ all. texts all.items ≡ in_order (texts paths.now)) }
 {
-    let mut ordered = BTreeSet::new(alloc);
-    for path in paths {
-        ordered.insert(*path)?;
-    }
     let mut all = Vec::new(alloc);
-    for path in &ordered {
-        all.push(*path)?;
+    for path in sorted(alloc, paths)? {
+        all.push(path)?;
     }
     Ok(all)
+}
+
+/// The paths as a set.
+fn sorted<'a>(alloc: Global, paths: &[&'a str]) -> Result<BTreeSet<&'a str>, AllocError>
+    ensures { IfOk result (λ set. texts set.keys ≡ in_order (texts paths.now)) }
+{
+    let mut set = BTreeSet::new(alloc);
+    for path in paths {
+        put_sorted(&mut set, *path)?;
+    }
+    Ok(set)
+}
+
+/// Puts a path into a set.
+fn put_sorted<'a>(set: &mut BTreeSet<&'a str>, path: &'a str) -> Result<(), AllocError>
+    ensures { OnOk result
+        (texts set.new.keys ≡ insert_key (slice_cmp nat_cmp) (texts set.old.keys) path.now) }
+{
+    set.insert(path)?;
+    Ok(())
 }
 
 /// What becomes of the members.

@@ -1,6 +1,6 @@
 use Rattle.std.proofs.Common.{arith, ◌<◌, get_or, ◌-◌}
 use Rattle.std.proofs.lemmas.Grind.{common_steps}
-use Rattle.pieces.proofs.Runs.{IsCharBoundary-behind}
+use Rattle.hack_manifest.proofs.RunLemmas.{IsCharBoundary-behind}
 use Rattle.hack_edits.proofs.arrays.is_front.Goals as goal
 
 pub range-requires-clause-end_boundary : goal.range-requires-clause-end_boundary

@@ -1,6 +1,6 @@
 use Rattle.std.proofs.Common.{◌≡◌, ℕ, ◌+◌, List, [], ◌∷◌, drop, get_or, refl, inl, inr, append_assoc, append-nil, arith, subst, sym, length, ◌≤◌}
 use Rattle.std.proofs.lemmas.List.{drop_more, drop_all}
-use Rattle.pieces.specs.Arrays.{IsThinned}
+use Rattle.hack_edits.specs.Arrays.{IsThinned}
 use Rattle.hack_edits.proofs.arrays.thinned.Goals as goal
 use Rattle.hack_edits.proofs.arrays.thinned.Goals.{then-ne+in_ok-push, else-ne}
 

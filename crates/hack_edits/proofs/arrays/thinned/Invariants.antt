@@ -1,5 +1,5 @@
 use Rattle.std.proofs.Common.{ℕ, List, ◌++◌, drop}
-use Rattle.pieces.specs.Arrays.{IsThinned}
+use Rattle.hack_edits.specs.Arrays.{IsThinned}
 use Rattle.hack_edits.proofs.arrays.thinned.Given as goal
 
 -- what the rest is thinned to stands behind what was kept

@@ -1,7 +1,7 @@
 use Rattle.std.proofs.Common.{◌≡◌}
 use Rattle.toml.specs.Data.{no_members}
 use Rattle.toml.specs.View.{members_view, table_view}
-use Rattle.pieces.specs.Edit.{arrays_left}
+use Rattle.hack_edits.specs.DevTree.{arrays_left}
 use Rattle.hack_edits.proofs.dev_tree.strip_arrays.Given as goal
 
 abbrev pub invariant-features : goal.invariant-features

@@ -1,7 +1,7 @@
 use Rattle.std.proofs.Common.{◌≡◌}
 use Rattle.toml.specs.Data.{no_members}
 use Rattle.toml.specs.View.{members_view, table_view}
-use Rattle.pieces.specs.Edit.{targets_kept}
+use Rattle.hack_edits.specs.DevTree.{targets_kept}
 use Rattle.hack_edits.proofs.dev_tree.strip_targets.Given as goal
 
 abbrev pub invariant-targets : goal.invariant-targets

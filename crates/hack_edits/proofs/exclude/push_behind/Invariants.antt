@@ -1,6 +1,6 @@
 use Rattle.std.proofs.Common.{◌≡◌, ◌++◌, drop, map}
-use Rattle.hack_load.specs.PathTexts.{texts, parent_of}
-use Rattle.pieces.specs.Workspace.{each_behind}
+use Rattle.hack_process.specs.PathTexts.{texts, parent_of}
+use Rattle.hack_edits.specs.Exclude.{each_behind}
 use Rattle.hack_edits.proofs.exclude.push_behind.Given as goal
 
 abbrev pub invariant-loop-path : goal.invariant-loop-path

@@ -1,5 +1,5 @@
 use Rattle.std.proofs.Common.{◌≡◌, ◌++◌, drop}
-use Rattle.pieces.specs.Workspace.{escaped}
+use Rattle.hack_edits.specs.Exclude.{escaped}
 use Rattle.hack_edits.proofs.exclude.push_escaped.Given as goal
 
 abbrev pub invariant-loop-byte : goal.invariant-loop-byte

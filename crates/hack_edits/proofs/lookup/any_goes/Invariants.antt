@@ -1,6 +1,6 @@
 use Rattle.std.proofs.Common.{◌≡◌, drop}
 use Rattle.toml.specs.View.{table_view, items_view}
-use Rattle.pieces.specs.Lookup.{some_goes}
+use Rattle.hack_edits.specs.Lookup.{some_goes}
 use Rattle.hack_edits.proofs.lookup.any_goes.Given as goal
 
 -- some item that is left goes exactly where some item does

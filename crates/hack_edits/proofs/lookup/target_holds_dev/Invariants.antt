@@ -1,6 +1,7 @@
 use Rattle.std.proofs.Common.{◌≡◌}
 use Rattle.toml.specs.View.{table_view, members_view}
-use Rattle.pieces.specs.Lookup.{some_table, has_key, dev_key}
+use Rattle.hack_edits.specs.Lookup.{some_table, has_key}
+use Rattle.hack_edits.specs.KeyPaths.{dev_key}
 use Rattle.hack_edits.proofs.lookup.target_holds_dev.Given as goal
 
 -- some table that is left has development dependencies exactly where some table does

@@ -1,6 +1,6 @@
 use Rattle.std.proofs.Common.{◌≡◌}
 use Rattle.toml.specs.View.{table_view, members_view}
-use Rattle.pieces.specs.Lookup.{some_table, lists}
+use Rattle.hack_edits.specs.Lookup.{some_table, lists}
 use Rattle.hack_edits.proofs.lookup.target_lists.Given as goal
 
 -- some table that is left lists the key exactly where some table does

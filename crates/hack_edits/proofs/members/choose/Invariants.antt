@@ -1,8 +1,8 @@
 use Rattle.std.proofs.Common.{◌≡◌, drop}
 use Rattle.std.specs.Prelude.{◌||◌}
 use Rattle.toml.specs.View.{items_view}
-use Rattle.hack_load.specs.PathTexts.{texts}
-use Rattle.pieces.specs.Workspace.{some_led, paths_left}
+use Rattle.hack_process.specs.PathTexts.{texts}
+use Rattle.hack_edits.specs.Members.{some_led, paths_left}
 use Rattle.hack_edits.proofs.members.choose.Given as goal
 
 abbrev pub invariant-items : goal.invariant-items

@@ -1,5 +1,5 @@
 use Rattle.std.proofs.Common.{◌≡◌, take}
-use Rattle.hack_load.specs.PathTexts.{texts}
+use Rattle.hack_process.specs.PathTexts.{texts}
 use Rattle.hack_edits.proofs.members.copied.Given as goal
 
 abbrev pub invariant-loop-path : goal.invariant-loop-path

@@ -1,5 +1,5 @@
 use Rattle.std.proofs.Common.{◌∙◌, refl}
-use Rattle.pieces.specs.Workspace.{leads}
+use Rattle.hack_edits.specs.Members.{leads}
 use Rattle.hack_edits.proofs.members.leads_to.Goals as goal
 
 pub returns : goal.returns

@@ -1,6 +1,6 @@
 use Rattle.std.proofs.Common.{◌≡◌, drop}
-use Rattle.hack_load.specs.PathTexts.{texts}
-use Rattle.pieces.specs.Workspace.{some_path_control}
+use Rattle.hack_process.specs.PathTexts.{texts}
+use Rattle.hack_edits.specs.PrivateCrates.{some_path_control}
 use Rattle.hack_edits.proofs.private_crates.any_control.Given as goal
 
 abbrev pub invariant-loop-path : goal.invariant-loop-path

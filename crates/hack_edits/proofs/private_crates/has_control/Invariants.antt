@@ -1,5 +1,5 @@
 use Rattle.std.proofs.Common.{◌≡◌, drop}
-use Rattle.pieces.specs.Workspace.{some_control}
+use Rattle.hack_edits.specs.PrivateCrates.{some_control}
 use Rattle.hack_edits.proofs.private_crates.has_control.Given as goal
 
 abbrev pub invariant-loop-byte : goal.invariant-loop-byte

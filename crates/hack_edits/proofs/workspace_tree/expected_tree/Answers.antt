@@ -2,9 +2,9 @@ use Rattle.std.proofs.Common.{◌≡◌, ap, ◌∙◌, refl, option_map}
 use Rattle.toml.specs.Data.{get_member}
 use Rattle.toml.proofs.Views.{view-lookup}
 use Rattle.toml.specs.View.{view, table_view}
-use Rattle.pieces.specs.Edit.{remove_member}
-use Rattle.pieces.specs.Workspace.{workspace_key}
-use Rattle.pieces.proofs.Trees.{members_view-remove_entry}
+use Rattle.hack_edits.specs.Tables.{remove_member}
+use Rattle.hack_edits.specs.KeyPaths.{workspace_key}
+use Rattle.hack_edits.proofs.Trees.{members_view-remove_entry}
 use Rattle.hack_edits.proofs.workspace_tree.expected_tree.Goals as goal
 
 pub returns : goal.returns

@@ -1,9 +1,9 @@
 use Rattle.std.proofs.Common.{◌≡◌}
 use Rattle.std.specs.Vec.Iter.{into_iter_items}
 use Rattle.toml.specs.View.{items_view}
-use Rattle.hack_load.specs.PathTexts.{texts}
-use Rattle.pieces.specs.Workspace.{members_left}
-use Rattle.pieces.proofs.Items.{append_items}
+use Rattle.hack_process.specs.PathTexts.{texts}
+use Rattle.hack_edits.specs.Members.{members_left}
+use Rattle.hack_edits.proofs.Items.{append_items}
 use Rattle.hack_edits.proofs.workspace_tree.kept_members.Given as goal
 
 abbrev pub invariant-loop-item : goal.invariant-loop-item

@@ -1,7 +1,7 @@
 use Rattle.std.proofs.Common.{◌≡◌, drop, map}
 use Rattle.toml.specs.View.{items_view}
-use Rattle.hack_load.specs.PathTexts.{texts, parent_of}
-use Rattle.pieces.specs.Workspace.{with_texts}
+use Rattle.hack_process.specs.PathTexts.{texts, parent_of}
+use Rattle.hack_edits.specs.WorkspaceTree.{with_texts}
 use Rattle.hack_edits.proofs.workspace_tree.push_folders.Given as goal
 
 abbrev pub invariant-loop-path : goal.invariant-loop-path

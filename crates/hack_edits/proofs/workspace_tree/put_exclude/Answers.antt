@@ -2,11 +2,12 @@ use Rattle.std.proofs.Common.{◌≡◌, ap, ◌∙◌, option_map, sym, string_
 use Rattle.toml.specs.Data.{get_member}
 use Rattle.toml.proofs.Views.{view-lookup, view-Array}
 use Rattle.toml.specs.View.{view, table_view, array_view}
-use Rattle.pieces.specs.Edit.{remove_member}
-use Rattle.pieces.specs.Workspace.{exclude_key, with_texts}
-use Rattle.hack_load.specs.PathTexts.{texts, parent_of}
-use Rattle.pieces.proofs.Private.{excluded}
-use Rattle.pieces.proofs.Trees.{members_view-remove_entry}
+use Rattle.hack_edits.specs.Tables.{remove_member}
+use Rattle.hack_edits.specs.KeyPaths.{exclude_key}
+use Rattle.hack_edits.specs.WorkspaceTree.{with_texts}
+use Rattle.hack_process.specs.PathTexts.{texts, parent_of}
+use Rattle.hack_edits.proofs.Private.{excluded}
+use Rattle.hack_edits.proofs.Trees.{members_view-remove_entry}
 use Rattle.hack_edits.proofs.workspace_tree.put_exclude.Goals as goal
 
 pub returns : goal.returns
