@@ -75,8 +75,9 @@ fn is_front(alloc: Global, piece: &str, n: usize, byte: u8, more: &str) -> Resul
     stands_alone(alloc, front.as_str())
 }
 
-/// Which bytes between the brackets go with these elements: the space and comments before an element, its value, and
-/// what follows up to its comma; without a comma, the nearest kept comma before it.
+/// Which bytes between the brackets go with these elements: the space and comments before an
+/// element, its value, and what follows up to its comma; without a comma, the nearest kept comma
+/// before it.
 fn gone_bytes(alloc: Global, inside: &[u8], goes: &[bool]) -> Result<Vec<bool>, AllocError> {
     let mut gone = Vec::new(alloc);
     gone.resize(inside.len(), false)?;

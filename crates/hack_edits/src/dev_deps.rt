@@ -155,8 +155,10 @@ fn joined(
     pieces: &[Piece<'_>],
     tail: &str,
 ) -> Result<Option<String>, AllocError>
-    ensures left { IfOk result (λ o. IfSome o (λ s. AreLeft (table_view old.now) (slice_view pieces.now) tail.now (string_bytes s))) }
-    ensures none { IfOk result (λ o. IfNone o (cuts_arrays (table_view old.now) (slice_view pieces.now) ≡ true)) }
+    ensures left { IfOk result (λ o. IfSome o (λ s.
+        AreLeft (table_view old.now) (slice_view pieces.now) tail.now (string_bytes s))) }
+    ensures none { IfOk result (λ o.
+        IfNone o (cuts_arrays (table_view old.now) (slice_view pieces.now) ≡ true)) }
 {
     let mut text = String::new(alloc);
     for piece in pieces {
@@ -171,8 +173,10 @@ fn joined(
 
 /// What is left of a piece, if the brackets of an array that loses texts are found.
 fn left_of(alloc: Global, old: &Table, piece: &Piece<'_>) -> Result<Option<String>, AllocError>
-    ensures left { IfOk result (λ o. IfSome o (λ s. IsLeft (table_view old.now) (piece_view piece.now) (string_bytes s))) }
-    ensures none { IfOk result (λ o. IfNone o ((is_dev (names_of piece.now.path.items) ≡ false) × (loses_texts (table_view old.now) (names_of piece.now.path.items) ≡ true))) }
+    ensures left { IfOk result (λ o. IfSome o (λ s.
+        IsLeft (table_view old.now) (piece_view piece.now) (string_bytes s))) }
+    ensures none { IfOk result (λ o. IfNone o ((is_dev (names_of piece.now.path.items) ≡ false)
+        × (loses_texts (table_view old.now) (names_of piece.now.path.items) ≡ true))) }
 {
     if is_dev_path(&piece.path) {
         return Ok(Some(String::new(alloc)));
@@ -231,7 +235,8 @@ fn any_inline(old: &Table, pieces: &[Piece<'_>]) -> bool
     false
 }
 
-/// Whether a piece is a key with its value at `target` or `target.X`, which holds development dependencies.
+/// Whether a piece is a key with its value at `target` or `target.X`, which holds development
+/// dependencies.
 fn holds_inline(old: &Table, piece: &Piece<'_>) -> bool
     ensures { result ≡ holds_inline (table_view old.now) (piece_view piece.now) }
 {

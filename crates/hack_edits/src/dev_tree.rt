@@ -46,7 +46,8 @@ fn is_rest(alloc: Global, old: &Table, copy: Table, new: Table) -> Result<bool, 
 
 /// A tree without the features' texts that go.
 fn drop_texts(alloc: Global, old: &Table, table: Table) -> Result<Table, AllocError>
-    ensures { IfOk result (λ t. table_view t ≡ without_texts (table_view old.now) (table_view table)) }
+    ensures { IfOk result (λ t. table_view t
+        ≡ without_texts (table_view old.now) (table_view table)) }
 {
     let mut top = table;
     let features = top.remove(FEATURES);
@@ -61,7 +62,8 @@ fn put_features(
     top: &mut Table,
     features: Option<Value>,
 ) -> Result<(), AllocError>
-    ensures { OnOk result (table_view top.new ≡ with_features (table_view old.now) (option_map view features) (table_view top.old)) }
+    ensures { OnOk result (table_view top.new
+        ≡ with_features (table_view old.now) (option_map view features) (table_view top.old)) }
 {
     match features {
         Some(value) => {
@@ -87,7 +89,8 @@ fn strip_features(alloc: Global, old: &Table, features: Value) -> Result<Value, 
 
 /// What stays of the features.
 fn strip_arrays(alloc: Global, old: &Table, features: Table) -> Result<Table, AllocError>
-    ensures { IfOk result (λ kept. table_view kept ≡ arrays_left (table_view old.now) no_members (table_view features)) }
+    ensures { IfOk result (λ kept. table_view kept
+        ≡ arrays_left (table_view old.now) no_members (table_view features)) }
 {
     let mut kept = Table::new(alloc);
     'features: for (name, value) in features {
@@ -122,7 +125,8 @@ fn kept_items(alloc: Global, old: &Table, items: Array) -> Result<Array, AllocEr
     Ok(kept)
 }
 
-/// A tree without emptied tables at and under `target`, and without development dependencies where they are to go.
+/// A tree without emptied tables at and under `target`, and without development dependencies where
+/// they are to go.
 fn tidy(alloc: Global, table: Table, drops: bool) -> Result<Table, AllocError>
     ensures { IfOk result (λ t. table_view t ≡ tidied drops (table_view table)) }
 {
@@ -134,7 +138,8 @@ fn tidy(alloc: Global, table: Table, drops: bool) -> Result<Table, AllocError>
 
 /// A table without development dependencies at the top, where they are to go.
 fn without_dev(table: Table, drops: bool) -> Table
-    ensures { table_view result ≡ (if drops then remove_member dev_key (table_view table) else table_view table) }
+    ensures { table_view result ≡ (if drops then remove_member dev_key
+        (table_view table) else table_view table) }
 {
     if drops { without(table, DEV) } else { table }
 }
@@ -146,7 +151,8 @@ fn put_target(
     target: Option<Value>,
     drops: bool,
 ) -> Result<(), AllocError>
-    ensures { OnOk result (table_view top.new ≡ with_target drops (option_map view target) (table_view top.old)) }
+    ensures { OnOk result (table_view top.new
+        ≡ with_target drops (option_map view target) (table_view top.old)) }
 {
     match target {
         Some(value) => {
@@ -172,7 +178,8 @@ fn strip_target(alloc: Global, target: Value, drops: bool) -> Result<Value, Allo
 
 /// What stays of `target`.
 fn strip_targets(alloc: Global, targets: Table, drops: bool) -> Result<Table, AllocError>
-    ensures { IfOk result (λ kept. table_view kept ≡ targets_kept drops no_members (table_view targets)) }
+    ensures { IfOk result (λ kept. table_view kept
+        ≡ targets_kept drops no_members (table_view targets)) }
 {
     let mut kept = Table::new(alloc);
     'targets: for (name, value) in targets {
@@ -199,7 +206,8 @@ fn strip(value: Value, drops: bool) -> Value
 
 /// Puts a value at a key, unless it is an empty table.
 fn put_value(kept: &mut Table, key: String, value: Value) -> Result<(), AllocError>
-    ensures { OnOk result (table_view kept.new ≡ put_kept (string_bytes key) (view value) (table_view kept.old)) }
+    ensures { OnOk result (table_view kept.new
+        ≡ put_kept (string_bytes key) (view value) (table_view kept.old)) }
 {
     if is_empty(&value) {
         return Ok(());

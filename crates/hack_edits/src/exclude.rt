@@ -17,7 +17,8 @@ pub fn added_inside(
     paths: &[&str],
     filled: bool,
 ) -> Result<Option<Vec<u8>>, AllocError>
-    ensures { IfOk result (λ o. IfSome o (λ v. IsAddedInside filled (map parent_of (texts paths.now)) piece.now v.items)) }
+    ensures { IfOk result (λ o. IfSome o (λ v.
+        IsAddedInside filled (map parent_of (texts paths.now)) piece.now v.items)) }
 {
     let Some(n) = first_front(alloc, piece, b'[', "]")? else {
         return Ok(None);
@@ -106,7 +107,8 @@ fn element_end(alloc: Global, inside: &[u8], from: usize) -> Result<usize, Alloc
 
 /// Puts the folders of paths in quotes behind others, with `, ` between them.
 fn push_listed(out: &mut Vec<u8>, paths: &[&str]) -> Result<(), AllocError>
-    ensures { OnOk result (out.new.items ≡ out.old.items ++ listed (map parent_of (texts paths.now))) }
+    ensures { OnOk result (out.new.items
+        ≡ out.old.items ++ listed (map parent_of (texts paths.now))) }
 {
     match paths {
         [first, rest @ ..] => {
@@ -119,7 +121,8 @@ fn push_listed(out: &mut Vec<u8>, paths: &[&str]) -> Result<(), AllocError>
 
 /// Puts the folders of paths in quotes behind others, each behind `, `.
 fn push_behind(out: &mut Vec<u8>, paths: &[&str]) -> Result<(), AllocError>
-    ensures { OnOk result (out.new.items ≡ out.old.items ++ each_behind (map parent_of (texts paths.now))) }
+    ensures { OnOk result (out.new.items
+        ≡ out.old.items ++ each_behind (map parent_of (texts paths.now))) }
 {
     for path in paths {
         out.extend_from_slice(b", ")?;

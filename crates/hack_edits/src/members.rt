@@ -69,8 +69,10 @@ pub fn chosen<'a>(
     paths: &[&'a str],
     workspace: &Table,
 ) -> Result<Choice<'a>, AllocError>
-    ensures some { IfOk result (λ c. c.some ≡ some_led root.now (texts paths.now) (items_at members_key (table_view workspace.now))) }
-    ensures paths { IfOk result (λ c. texts c.paths.items ≡ paths_left root.now (texts paths.now) (items_at members_key (table_view workspace.now))) }
+    ensures some { IfOk result (λ c. c.some
+        ≡ some_led root.now (texts paths.now) (items_at members_key (table_view workspace.now))) }
+    ensures paths { IfOk result (λ c. texts c.paths.items
+        ≡ paths_left root.now (texts paths.now) (items_at members_key (table_view workspace.now))) }
 {
     match value_at(workspace, MEMBERS) {
         Some(value) => match value {
@@ -88,8 +90,10 @@ fn choose<'a>(
     paths: &[&'a str],
     items: &Array,
 ) -> Result<Choice<'a>, AllocError>
-    ensures some { IfOk result (λ c. c.some ≡ some_led root.now (texts paths.now) (array_view items.now)) }
-    ensures paths { IfOk result (λ c. texts c.paths.items ≡ paths_left root.now (texts paths.now) (array_view items.now)) }
+    ensures some { IfOk result (λ c. c.some
+        ≡ some_led root.now (texts paths.now) (array_view items.now)) }
+    ensures paths { IfOk result (λ c. texts c.paths.items
+        ≡ paths_left root.now (texts paths.now) (array_view items.now)) }
 {
     let mut goes = Vec::new(alloc);
     let mut some = false;
@@ -142,7 +146,8 @@ pub fn value_unled<'a>(
     item: &Value,
     paths: &[&'a str],
 ) -> Result<Vec<&'a str>, AllocError>
-    ensures { IfOk result (λ left. texts left.items ≡ unled_by root.now (texts paths.now) (view item.now)) }
+    ensures { IfOk result (λ left. texts left.items
+        ≡ unled_by root.now (texts paths.now) (view item.now)) }
 {
     match item {
         Value::String(member) => not_led(alloc, root, member.as_str(), paths),

@@ -10,7 +10,8 @@ ghost use Rattle.hack_manifest.specs.Manifest.{table_at};
 ghost use Rattle.hack_manifest.specs.View.{piece_view, slice_view};
 ghost use Rattle.hack_edits.specs.KeyPaths.{workspace_key, exclude_key};
 ghost use Rattle.hack_edits.specs.Members.{in_order, items_at, folders};
-ghost use Rattle.hack_edits.specs.PrivateCrates.{IsMade, AreMade, IsWorkspaceEdit, IsWithoutPrivate};
+ghost use Rattle.hack_edits.specs.PrivateCrates.{IsMade, AreMade, IsWorkspaceEdit};
+ghost use Rattle.hack_edits.specs.PrivateCrates.{IsWithoutPrivate};
 ghost use Rattle.hack_edits.specs.PrivateCrates.{some_control, some_path_control, some_header};
 ghost use Rattle.hack_edits.specs.PrivateCrates.{is_array_data, has_no_place};
 ghost use Rattle.hack_edits.specs.PrivateCrates.{HasBadForm, HasWork, HasNoWork};
@@ -26,13 +27,12 @@ use crate::workspace_tree::{EXCLUDE, WORKSPACE, reads_as_expected};
 use hack_manifest::lookup::{find_table, has_values, value_at};
 use hack_manifest::manifest::Piece;
 use hack_manifest::pieces::{cut, is_inline};
-use hack_process::paths::parent;
 use std::alloc::{AllocError, Global};
 use toml::{Table, Value};
 
 /// The manifest without private crates, which are named by the paths of their manifests. Each is
-/// taken out of the workspace's members by the first text that leads to it; the others are excluded,
-/// in byte order and each once. All other bytes stay, in order.
+/// taken out of the workspace's members by the first text that leads to it; the others are
+/// excluded, in byte order and each once. All other bytes stay, in order.
 pub fn remove_private_crates(
     alloc: Global,
     text: &str,
@@ -64,12 +64,18 @@ fn without_ordered(
     root: &str,
     private: &[&str],
 ) -> Result<String, ManifestFault>
-    ensures ok { IfOk result (λ s. IsWithoutPrivate root.now (texts private.now) text.now (string_bytes s)) }
-    ensures unchanged { HasNoWork root.now (texts private.now) text.now → MatchResult result (λ s. string_bytes s ≡ text.now) (λ e. e ≡ ManifestFault.Memory) }
+    ensures ok { IfOk result (λ s. IsWithoutPrivate root.now (texts private.now) text.now
+        (string_bytes s)) }
+    ensures unchanged { HasNoWork root.now (texts private.now) text.now
+        → MatchResult result (λ s. string_bytes s ≡ text.now) (λ e. e ≡ ManifestFault.Memory) }
     ensures toml { result ≡ Err ManifestFault.Toml → parse_document text.now ≡ None }
-    ensures form { result ≡ Err ManifestFault.WorkspaceForm → HasBadForm root.now (texts private.now) text.now }
-    ensures path { result ≡ Err ManifestFault.PathText → (HasWork root.now (texts private.now) text.now) × (some_path_control (texts private.now) ≡ true) }
-    ensures read_back { result ≡ Err ManifestFault.ReadBack → HasWork root.now (texts private.now) text.now }
+    ensures form { result ≡ Err ManifestFault.WorkspaceForm
+        → HasBadForm root.now (texts private.now) text.now }
+    ensures path { result ≡ Err ManifestFault.PathText
+        → (HasWork root.now (texts private.now) text.now)
+        × (some_path_control (texts private.now) ≡ true) }
+    ensures read_back { result ≡ Err ManifestFault.ReadBack
+        → HasWork root.now (texts private.now) text.now }
     ensures inline { result ≢ Err ManifestFault.InlineTarget }
 {
     let Some(old) = tree_of(alloc, text)? else {
@@ -105,12 +111,17 @@ fn without_private(
 ) -> Result<String, ManifestFault>
     requires read { parse_document text.now ≡ Some (table_view old) }
     requires workspace { table_at workspace_key (table_view old) ≡ Some (table_view workspace.now) }
-    requires takes { choice.now.some ≡ takes root.now (texts private.now) (table_view workspace.now) }
-    requires adds { map parent_of (texts choice.now.paths.items) ≡ folders root.now (texts private.now) (table_view workspace.now) }
+    requires takes { choice.now.some
+        ≡ takes root.now (texts private.now) (table_view workspace.now) }
+    requires adds { map parent_of (texts choice.now.paths.items)
+        ≡ folders root.now (texts private.now) (table_view workspace.now) }
     requires work { has_work root.now (texts private.now) (table_view workspace.now) ≡ true }
-    ensures ok { IfOk result (λ s. IsWorkspaceEdit root.now (texts private.now) text.now (table_view old) (table_view workspace.now) (string_bytes s)) }
-    ensures form { result ≡ Err ManifestFault.WorkspaceForm → HasBadForm root.now (texts private.now) text.now }
-    ensures read_back { result ≡ Err ManifestFault.ReadBack → HasWork root.now (texts private.now) text.now }
+    ensures ok { IfOk result (λ s. IsWorkspaceEdit root.now (texts private.now) text.now
+        (table_view old) (table_view workspace.now) (string_bytes s)) }
+    ensures form { result ≡ Err ManifestFault.WorkspaceForm
+        → HasBadForm root.now (texts private.now) text.now }
+    ensures read_back { result ≡ Err ManifestFault.ReadBack
+        → HasWork root.now (texts private.now) text.now }
     ensures toml { result ≢ Err ManifestFault.Toml }
     ensures inline { result ≢ Err ManifestFault.InlineTarget }
     ensures path { result ≢ Err ManifestFault.PathText }
@@ -142,7 +153,8 @@ fn joined_parts(
     tail: &str,
 ) -> Result<Option<Vec<u8>>, AllocError>
     ensures { IfOk result (λ o. IfSome o (λ v.
-        AreMade choice.now.some (map parent_of (texts choice.now.paths.items)) (table_view workspace.now) (slice_view pieces.now) tail.now v.items)) }
+        AreMade choice.now.some (map parent_of (texts choice.now.paths.items))
+        (table_view workspace.now) (slice_view pieces.now) tail.now v.items)) }
 {
     let mut new = Vec::new(alloc);
     for piece in pieces {
@@ -163,7 +175,8 @@ fn made_of(
     piece: &Piece<'_>,
 ) -> Result<Option<Vec<u8>>, AllocError>
     ensures { IfOk result (λ o. IfSome o (λ v.
-        IsMade choice.now.some (map parent_of (texts choice.now.paths.items)) (table_view workspace.now) (piece_view piece.now) v.items)) }
+        IsMade choice.now.some (map parent_of (texts choice.now.paths.items))
+        (table_view workspace.now) (piece_view piece.now) v.items)) }
 {
     if is_pair(&piece.path, WORKSPACE, MEMBERS) && choice.some {
         return match without_elements(alloc, piece.text, choice.goes.as_slice())? {

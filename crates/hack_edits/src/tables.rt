@@ -35,7 +35,8 @@ pub fn without(table: Table, key: &str) -> Table
 
 /// Puts a value at a key.
 pub fn put_at(kept: &mut Table, key: String, value: Value) -> Result<(), AllocError>
-    ensures { OnOk result (table_view kept.new ≡ put (string_bytes key) (view value) (table_view kept.old)) }
+    ensures { OnOk result (table_view kept.new
+        ≡ put (string_bytes key) (view value) (table_view kept.old)) }
 {
     kept.insert(key, value)?;
     Ok(())

@@ -32,7 +32,8 @@ pub fn reads_as_expected(
     old: Table,
     new: &str,
 ) -> Result<bool, AllocError>
-    ensures { IfOk result (λ b. b ≡ reads_without root.now (texts private.now) (table_view old) (parse_document new.now)) }
+    ensures { IfOk result (λ b. b ≡ reads_without root.now (texts private.now) (table_view old)
+        (parse_document new.now)) }
 {
     match tree_of(alloc, new)? {
         Some(tree) => {
@@ -50,7 +51,8 @@ fn expected_tree(
     private: &[&str],
     table: Table,
 ) -> Result<Table, AllocError>
-    ensures { IfOk result (λ t. table_view t ≡ tree_left root.now (texts private.now) (table_view table)) }
+    ensures { IfOk result (λ t. table_view t
+        ≡ tree_left root.now (texts private.now) (table_view table)) }
 {
     let mut top = table;
     let workspace = top.remove(WORKSPACE);
@@ -66,7 +68,9 @@ fn put_workspace(
     top: &mut Table,
     workspace: Option<Value>,
 ) -> Result<(), AllocError>
-    ensures { OnOk result (table_view top.new ≡ with_workspace root.now (texts private.now) (option_map view workspace) (table_view top.old)) }
+    ensures { OnOk result (table_view top.new
+        ≡ with_workspace root.now (texts private.now) (option_map view workspace)
+        (table_view top.old)) }
 {
     match workspace {
         Some(value) => {
@@ -85,7 +89,8 @@ fn expected_value(
     private: &[&str],
     value: Value,
 ) -> Result<Value, AllocError>
-    ensures { IfOk result (λ v. view v ≡ workspace_value root.now (texts private.now) (view value)) }
+    ensures { IfOk result (λ v. view v
+        ≡ workspace_value root.now (texts private.now) (view value)) }
 {
     match value {
         Value::Table(workspace) => {
@@ -103,7 +108,8 @@ fn expected_workspace(
     private: &[&str],
     workspace: Table,
 ) -> Result<Table, AllocError>
-    ensures { IfOk result (λ t. table_view t ≡ workspace_left root.now (texts private.now) (table_view workspace)) }
+    ensures { IfOk result (λ t. table_view t
+        ≡ workspace_left root.now (texts private.now) (table_view workspace)) }
 {
     let choice = chosen(alloc, root, private, &workspace)?;
     let kept = keep_members(alloc, root, private, workspace)?;
@@ -117,7 +123,8 @@ fn keep_members(
     paths: &[&str],
     workspace: Table,
 ) -> Result<Table, AllocError>
-    ensures { IfOk result (λ t. table_view t ≡ with_members root.now (texts paths.now) (table_view workspace)) }
+    ensures { IfOk result (λ t. table_view t
+        ≡ with_members root.now (texts paths.now) (table_view workspace)) }
 {
     let mut all = workspace;
     let members = all.remove(MEMBERS);
@@ -133,7 +140,8 @@ fn put_members(
     top: &mut Table,
     members: Option<Value>,
 ) -> Result<(), AllocError>
-    ensures { OnOk result (table_view top.new ≡ members_put root.now (texts paths.now) (option_map view members) (table_view top.old)) }
+    ensures { OnOk result (table_view top.new
+        ≡ members_put root.now (texts paths.now) (option_map view members) (table_view top.old)) }
 {
     match members {
         Some(value) => {
@@ -164,7 +172,8 @@ fn kept_members(
     paths: &[&str],
     items: Array,
 ) -> Result<Array, AllocError>
-    ensures { IfOk result (λ v. array_view v ≡ members_left root.now (texts paths.now) (array_view items)) }
+    ensures { IfOk result (λ v. array_view v
+        ≡ members_left root.now (texts paths.now) (array_view items)) }
 {
     let mut left = copied(alloc, paths)?;
     let mut kept = Array::new(alloc);
@@ -180,7 +189,8 @@ fn kept_members(
 
 /// A workspace with the folders of paths to exclude.
 fn put_exclude(alloc: Global, paths: &[&str], workspace: Table) -> Result<Table, AllocError>
-    ensures { IfOk result (λ t. table_view t ≡ with_exclude (map parent_of (texts paths.now)) (table_view workspace)) }
+    ensures { IfOk result (λ t. table_view t
+        ≡ with_exclude (map parent_of (texts paths.now)) (table_view workspace)) }
 {
     if !has_paths(paths) {
         return Ok(workspace);
@@ -208,7 +218,8 @@ fn into_items(alloc: Global, value: Option<Value>) -> Array
 
 /// Puts the folders of paths behind items.
 fn push_folders(alloc: Global, items: Array, paths: &[&str]) -> Result<Array, AllocError>
-    ensures { IfOk result (λ a. array_view a ≡ with_texts (map parent_of (texts paths.now)) (array_view items)) }
+    ensures { IfOk result (λ a. array_view a
+        ≡ with_texts (map parent_of (texts paths.now)) (array_view items)) }
 {
     let mut all = items;
     for path in paths {
