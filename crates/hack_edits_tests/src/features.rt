@@ -7,8 +7,11 @@ use std::test::Fail;
 
 /// d1 is a dependency of both kinds, d2 of development alone, d3 of a target, d4 of development for a
 /// target alone, and d5 of development and of a build script.
-const TABLES: &str = "[package]\n[dependencies]\nd1 = \"1\"\n[target.'cfg(unix)'.dependencies]\nd3 = \"1\"\n[build-dependencies]\nd5 = \"1\"\n";
-const DEV_TABLES: &str = "[dev-dependencies]\nd1 = \"1\"\nd2 = \"1\"\nd5 = \"1\"\n[target.'cfg(unix)'.dev-dependencies]\nd4 = \"1\"\nd3 = \"1\"\n";
+const TABLES: &str =
+    "[package]\n[dependencies]\nd1 = \"1\"\n[target.'cfg(unix)'.dependencies]\nd3 = \"1\"\n[build-dependencies]\nd5 = \"1\"\n";
+
+const DEV_TABLES: &str =
+    "[dev-dependencies]\nd1 = \"1\"\nd2 = \"1\"\nd5 = \"1\"\n[target.'cfg(unix)'.dev-dependencies]\nd4 = \"1\"\nd3 = \"1\"\n";
 
 /// What becomes of the features behind these tables.
 fn thinned<R: Abort>(rt: &R, alloc: Global, rows: &[(&str, &str)]) -> Result<(), Fail> {
@@ -33,8 +36,14 @@ fn texts_that_go(rt: HostRuntime) -> Result<(), Fail> {
             "f = [\"d5/f\", \"d2/f\", \"d2\", \"dep:d2\"]\n",
             "f = [\"d5/f\", \"d2\", \"dep:d2\"]\n",
         ),
-        ("f = [\"d2/a/b\", \"d2?/f\", \"d6/f\"]\n", "f = [ \"d2?/f\", \"d6/f\"]\n"),
-        ("f = ['g', \"d2/f\", 'd4/f']\ng = []\n", "f = ['g']\ng = []\n"),
+        (
+            "f = [\"d2/a/b\", \"d2?/f\", \"d6/f\"]\n",
+            "f = [ \"d2?/f\", \"d6/f\"]\n",
+        ),
+        (
+            "f = ['g', \"d2/f\", 'd4/f']\ng = []\n",
+            "f = ['g']\ng = []\n",
+        ),
         ("f = [\"d2/f\", \"d1/f\"]\n", "f = [ \"d1/f\"]\n"),
     ];
     thinned(&rt, rt.alloc(), &rows)

@@ -111,7 +111,11 @@ fn nothing_to_do(rt: HostRuntime) -> Result<(), Fail> {
     let rows = [
         ("[package]\n", "/w/crates/p/Cargo.toml", "[package]\n"),
         ("", "/w/crates/p/Cargo.toml", ""),
-        ("workspace = 1\n", "/w/crates/p/Cargo.toml", "workspace = 1\n"),
+        (
+            "workspace = 1\n",
+            "/w/crates/p/Cargo.toml",
+            "workspace = 1\n",
+        ),
     ];
     without(&rt, alloc, &rows)?;
     let text = "workspace = { members = [\"a\"] }\r\n# c";

@@ -18,10 +18,7 @@ pub fn edits<R: Abort>(rt: &R, alloc: Global, rows: &[(&str, &str)]) -> Result<(
 }
 
 /// The fault of a removal, as `{:?}` shows it, or what it gave.
-pub fn told(
-    alloc: Global,
-    given: Result<String, ManifestFault>,
-) -> Result<String, AllocError> {
+pub fn told(alloc: Global, given: Result<String, ManifestFault>) -> Result<String, AllocError> {
     match given {
         Ok(text) => format!(in alloc; "Ok {text}"),
         Err(fault) => format!(in alloc; "{fault:?}"),
@@ -39,11 +36,7 @@ pub fn refusals<R: Abort>(rt: &R, alloc: Global, rows: &[(&str, &str)]) -> Resul
 
 /// A row of private crates of the workspace at `/w`: a text, the paths with a space between them, and
 /// what they make of it.
-pub fn without<R: Abort>(
-    rt: &R,
-    alloc: Global,
-    rows: &[(&str, &str, &str)],
-) -> Result<(), Fail> {
+pub fn without<R: Abort>(rt: &R, alloc: Global, rows: &[(&str, &str, &str)]) -> Result<(), Fail> {
     for (text, paths, want) in rows {
         let mut private = Vec::new(alloc);
         for path in paths.split(' ') {
@@ -56,11 +49,7 @@ pub fn without<R: Abort>(
 }
 
 /// The fault of each text with the private crate at that path.
-pub fn refused<R: Abort>(
-    rt: &R,
-    alloc: Global,
-    rows: &[(&str, &str, &str)],
-) -> Result<(), Fail> {
+pub fn refused<R: Abort>(rt: &R, alloc: Global, rows: &[(&str, &str, &str)]) -> Result<(), Fail> {
     for (text, path, want) in rows {
         let fault = told(alloc, remove_private_crates(alloc, text, "/w", &[*path]))?;
         assert_eq!(rt; fault.as_str(), *want, "{text}");
