@@ -1,7 +1,7 @@
-pub mod Trees
-pub mod Items
-pub mod Left
-pub mod Recut
-pub mod Again
-pub mod Private
+pub mod TreeLemmas
+pub mod ItemLemmas
+pub mod LeftLemmas
+pub mod RecutLemmas
+pub mod AgainLemmas
+pub mod PrivateLemmas
 pub mod OrderLemmas

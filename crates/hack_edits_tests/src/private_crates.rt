@@ -1,6 +1,6 @@
 //! Workspaces without private crates.
 
-use crate::rows::{refused, told, without};
+use crate::rows::{refused, without};
 use hack_edits::manifest::{ManifestFault, remove_private_crates};
 use std::test::Fail;
 
@@ -173,8 +173,6 @@ fn texts_of_faults(rt: HostRuntime) -> Result<(), Fail> {
     for (fault, want) in rows {
         let text = format!(in alloc; "{fault}")?;
         assert_eq!(rt; text.as_str(), want);
-        let shown = told(alloc, Err(fault))?;
-        assert!(rt; !shown.is_empty());
     }
     Ok(())
 }

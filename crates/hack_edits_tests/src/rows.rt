@@ -1,5 +1,4 @@
-//! What the tests do with a row. In rows, `D` in brackets or in a key stands for nothing but itself:
-//! each text is as it stands in a manifest.
+//! What the tests do with a row.
 
 use hack_edits::manifest::{ManifestFault, remove_dev_deps, remove_private_crates};
 use std::alloc::{AllocError, Global};

@@ -2,7 +2,7 @@ use Rattle.std.proofs.Common.{◌≡◌, ◌++◌, ap, ◌∙◌, string_bytes, 
 use Rattle.toml.specs.View.{table_view}
 use Rattle.hack_manifest.specs.View.{piece_view}
 use Rattle.hack_edits.specs.DevDeps.{IsLeft}
-use Rattle.hack_edits.proofs.Left.{left-more, cuts_arrays-more}
+use Rattle.hack_edits.proofs.LeftLemmas.{left-more, cuts_arrays-more}
 use Rattle.hack_edits.proofs.dev_deps.joined.Goals as goal
 
 pub loop-piece-preserved : goal.loop-piece-preserved

@@ -1,4 +1,4 @@
-use Rattle.hack_edits.proofs.Again.{again}
+use Rattle.hack_edits.proofs.AgainLemmas.{again}
 use Rattle.hack_edits.proofs.dev_deps.nothing_left.Goals as goal
 
 pub returns : goal.returns

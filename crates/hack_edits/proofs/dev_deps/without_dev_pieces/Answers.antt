@@ -5,8 +5,8 @@ use Rattle.toml.specs.Parse.{parse_document}
 use Rattle.hack_manifest.specs.View.{slice_view, pieces_view}
 use Rattle.hack_edits.specs.DevDeps.{AreLeft, cuts_arrays, HasNoDevPiece, kept_text}
 use Rattle.hack_edits.specs.DevTree.{reads_as_left}
-use Rattle.hack_edits.proofs.Left.{left-whole}
-use Rattle.hack_edits.proofs.Recut.{no_dev-kept}
+use Rattle.hack_edits.proofs.LeftLemmas.{left-whole}
+use Rattle.hack_edits.proofs.RecutLemmas.{no_dev-kept}
 use Rattle.hack_edits.proofs.dev_deps.without_dev_pieces.Goals as goal
 
 pub returns-then-not-branch-clause-read_back : goal.returns-then-not-branch-clause-read_back

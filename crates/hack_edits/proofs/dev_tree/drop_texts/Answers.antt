@@ -4,7 +4,7 @@ use Rattle.toml.proofs.Views.{view-lookup}
 use Rattle.toml.specs.View.{view, table_view}
 use Rattle.hack_edits.specs.Tables.{remove_member}
 use Rattle.hack_manifest.specs.Manifest.{features_key}
-use Rattle.hack_edits.proofs.Trees.{members_view-remove_entry}
+use Rattle.hack_edits.proofs.TreeLemmas.{members_view-remove_entry}
 use Rattle.hack_edits.proofs.dev_tree.drop_texts.Goals as goal
 
 pub returns : goal.returns

@@ -1,5 +1,5 @@
 use Rattle.toml.proofs.Views.{view-Table}
-use Rattle.hack_edits.proofs.Trees.{is_empty_table-map}
+use Rattle.hack_edits.proofs.TreeLemmas.{is_empty_table-map}
 use Rattle.hack_edits.proofs.dev_tree.is_empty.Goals as goal
 
 pub returns-in-Table : goal.returns-in-Table

@@ -1,7 +1,7 @@
 use Rattle.std.proofs.Common.{rules, ◌≡◌, ◌∙◌, sym, length}
 use Rattle.std.specs.Vec.Iter.{into_iter_items}
 use Rattle.toml.specs.View.{table_view}
-use Rattle.hack_edits.proofs.Items.{items_left-kept, items_left-end}
+use Rattle.hack_edits.proofs.ItemLemmas.{items_left-kept, items_left-end}
 use Rattle.hack_edits.proofs.dev_tree.kept_items.Goals as goal
 
 pub loop-item-preserved-in-Continue-1 : goal.loop-item-preserved-in-Continue-1

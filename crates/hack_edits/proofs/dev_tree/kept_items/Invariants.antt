@@ -2,7 +2,7 @@ use Rattle.std.proofs.Common.{◌≡◌}
 use Rattle.std.specs.Vec.Iter.{into_iter_items}
 use Rattle.toml.specs.View.{table_view, items_view}
 use Rattle.hack_edits.specs.DevTree.{items_left}
-use Rattle.hack_edits.proofs.Items.{append_items}
+use Rattle.hack_edits.proofs.ItemLemmas.{append_items}
 use Rattle.hack_edits.proofs.dev_tree.kept_items.Given as goal
 
 -- what was kept, and what is left of the rest, is what is left of all

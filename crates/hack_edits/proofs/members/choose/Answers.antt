@@ -1,5 +1,5 @@
 use Rattle.hack_process.specs.PathTexts.{texts}
-use Rattle.hack_edits.proofs.Private.{some-more, paths-more}
+use Rattle.hack_edits.proofs.PrivateLemmas.{some-more, paths-more}
 use Rattle.hack_edits.proofs.members.choose.Goals as goal
 
 pub items-preserved : goal.items-preserved

@@ -3,7 +3,7 @@ use Rattle.toml.specs.View.{table_view}
 use Rattle.hack_process.specs.PathTexts.{texts, parent_of}
 use Rattle.hack_manifest.specs.View.{piece_view}
 use Rattle.hack_edits.specs.PrivateCrates.{IsMade}
-use Rattle.hack_edits.proofs.Private.{made-more}
+use Rattle.hack_edits.proofs.PrivateLemmas.{made-more}
 use Rattle.hack_edits.proofs.private_crates.joined_parts.Goals as goal
 
 pub loop-piece-preserved : goal.loop-piece-preserved

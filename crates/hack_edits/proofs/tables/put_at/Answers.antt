@@ -1,4 +1,4 @@
-use Rattle.hack_edits.proofs.Trees.{members_view-insert_entry}
+use Rattle.hack_edits.proofs.TreeLemmas.{members_view-insert_entry}
 use Rattle.hack_edits.proofs.tables.put_at.Goals as goal
 
 pub returns : goal.returns

@@ -1,4 +1,4 @@
-use Rattle.hack_edits.proofs.Trees.{members_view-remove_entry}
+use Rattle.hack_edits.proofs.TreeLemmas.{members_view-remove_entry}
 use Rattle.hack_edits.proofs.tables.without.Goals as goal
 
 pub returns : goal.returns

@@ -1,7 +1,7 @@
 use Rattle.std.proofs.Common.{rules, ◌≡◌, ◌∙◌, sym, length}
 use Rattle.std.specs.Vec.Iter.{into_iter_items}
 use Rattle.hack_process.specs.PathTexts.{texts}
-use Rattle.hack_edits.proofs.Private.{members-kept, members-end}
+use Rattle.hack_edits.proofs.PrivateLemmas.{members-kept, members-end}
 use Rattle.hack_edits.proofs.workspace_tree.kept_members.Goals as goal
 
 pub loop-item-preserved-in-Continue-branch-4 : goal.loop-item-preserved-in-Continue-branch-4

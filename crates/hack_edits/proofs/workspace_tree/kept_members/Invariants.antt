@@ -3,7 +3,7 @@ use Rattle.std.specs.Vec.Iter.{into_iter_items}
 use Rattle.toml.specs.View.{items_view}
 use Rattle.hack_process.specs.PathTexts.{texts}
 use Rattle.hack_edits.specs.Members.{members_left}
-use Rattle.hack_edits.proofs.Items.{append_items}
+use Rattle.hack_edits.proofs.ItemLemmas.{append_items}
 use Rattle.hack_edits.proofs.workspace_tree.kept_members.Given as goal
 
 abbrev pub invariant-loop-item : goal.invariant-loop-item

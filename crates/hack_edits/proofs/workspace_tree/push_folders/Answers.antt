@@ -1,5 +1,5 @@
 use Rattle.std.proofs.Common.{◌∙◌}
-use Rattle.hack_edits.proofs.Private.{folders-more}
+use Rattle.hack_edits.proofs.PrivateLemmas.{folders-more}
 use Rattle.hack_edits.proofs.workspace_tree.push_folders.Goals as goal
 
 pub loop-path-preserved : goal.loop-path-preserved

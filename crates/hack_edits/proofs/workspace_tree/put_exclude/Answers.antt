@@ -6,8 +6,8 @@ use Rattle.hack_edits.specs.Tables.{remove_member}
 use Rattle.hack_edits.specs.KeyPaths.{exclude_key}
 use Rattle.hack_edits.specs.WorkspaceTree.{with_texts}
 use Rattle.hack_process.specs.PathTexts.{texts, parent_of}
-use Rattle.hack_edits.proofs.Private.{excluded}
-use Rattle.hack_edits.proofs.Trees.{members_view-remove_entry}
+use Rattle.hack_edits.proofs.PrivateLemmas.{excluded}
+use Rattle.hack_edits.proofs.TreeLemmas.{members_view-remove_entry}
 use Rattle.hack_edits.proofs.workspace_tree.put_exclude.Goals as goal
 
 pub returns : goal.returns
