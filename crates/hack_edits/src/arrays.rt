@@ -1,8 +1,8 @@
 //! Elements cut out of an array of a piece. Which text is an array, and where an element ends, is
 //! asked of `toml`.
 
-ghost use Rattle.std.specs.Prelude.{true, false, ◌≡◌, ◌≤◌, ◌<◌, ◌++◌, ℕ, length, take};
-ghost use Rattle.std.specs.Prelude.{IfOk, IfSome, IfNone, string_bytes};
+ghost use Rattle.std.specs.Prelude.{true, false, ◌≡◌, ◌≤◌, ◌<◌, length};
+ghost use Rattle.std.specs.Prelude.{IfOk, IfSome, string_bytes};
 ghost use Rattle.hack_manifest.specs.Fronts.{IsFrontTo, IsFirstFrontTo};
 ghost use Rattle.hack_edits.specs.Arrays.{IsThinned, IsCutInside};
 

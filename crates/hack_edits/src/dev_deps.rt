@@ -5,7 +5,7 @@ ghost use Rattle.std.specs.Prelude.{IfOk, IfSome, IfNone, string_bytes};
 ghost use Rattle.toml.specs.Parse.{parse_document};
 ghost use Rattle.toml.specs.View.{table_view};
 ghost use Rattle.hack_features.specs.Names.{names_of};
-ghost use Rattle.hack_manifest.specs.Paths.{View, AreCut};
+ghost use Rattle.hack_manifest.specs.Paths.{AreCut};
 ghost use Rattle.hack_manifest.specs.View.{piece_view, slice_view, pieces_view};
 ghost use Rattle.hack_edits.specs.Arrays.{IsCutInside};
 ghost use Rattle.hack_edits.specs.DevDeps.{some_dev, loses_texts, cuts_arrays, is_cut, some_inline};

@@ -1,7 +1,7 @@
 //! The tree of a manifest whose workspace is without private crates, and whether a text is read as
 //! that.
 
-ghost use Rattle.std.specs.Prelude.{◌≡◌, map, IfOk, OnOk, option_map, string_bytes};
+ghost use Rattle.std.specs.Prelude.{◌≡◌, map, IfOk, OnOk, option_map};
 ghost use Rattle.toml.specs.Parse.{parse_document};
 ghost use Rattle.toml.specs.View.{view, table_view, array_view};
 ghost use Rattle.hack_process.specs.PathTexts.{parent_of, texts};

@@ -9,6 +9,10 @@ fn tables_of_a_package(rt: HostRuntime) -> Result<(), Fail> {
     let rows = [
         ("", ""),
         (
+            "[package]\n\n\n\n[dev-dependencies.serde]\n\n\n[dev-dependencies]\n",
+            "[package]\n",
+        ),
+        (
             "[package]\n[dependencies]\n[[example]]\n[dev-dependencies.serde]\n[dev-dependencies]",
             "[package]\n[dependencies]\n[[example]]\n",
         ),
