@@ -2,4 +2,5 @@
 
 pub use crate::dev_deps::{nothing_left, remove_dev_deps};
 pub use crate::fault::ManifestFault;
+pub use crate::members::paths_in_order;
 pub use crate::private_crates::remove_private_crates;

@@ -1,7 +1,7 @@
 //! Workspaces without private crates.
 
 use crate::rows::{refused, without};
-use hack_edits::manifest::{ManifestFault, remove_private_crates};
+use hack_edits::manifest::{ManifestFault, paths_in_order, remove_private_crates};
 use std::test::Fail;
 
 #[test]
@@ -102,6 +102,7 @@ fn crates_in_byte_order(rt: HostRuntime) -> Result<(), Fail> {
             "[workspace]\nexclude = [\"z\", \"/w/a\", \"/w/b\"]\n",
         ),
     ];
+    paths_in_order();
     without(&rt, rt.alloc(), &rows)
 }
 
