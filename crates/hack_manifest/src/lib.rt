@@ -3,9 +3,9 @@
 
 mod fault;
 mod features;
-mod lookup;
+pub mod lookup;
 pub mod manifest;
 mod package;
-mod path;
-mod pieces;
-mod runs;
+pub mod path;
+pub mod pieces;
+pub mod runs;

@@ -1,0 +1,7 @@
+pub mod TreeLemmas
+pub mod ItemLemmas
+pub mod LeftLemmas
+pub mod RecutLemmas
+pub mod AgainLemmas
+pub mod PrivateLemmas
+pub mod OrderLemmas

@@ -1,0 +1,11 @@
+use Rattle.std.proofs.Common.{◌≡◌}
+use Rattle.toml.specs.Data.{no_members}
+use Rattle.toml.specs.View.{members_view, table_view}
+use Rattle.hack_edits.specs.DevTree.{targets_kept}
+use Rattle.hack_edits.proofs.dev_tree.strip_targets.Given as goal
+
+abbrev pub invariant-targets : goal.invariant-targets
+invariant-targets l =
+    goal.iterator-targets.can_next l.name-iterator ×
+    goal.iterator-targets.is_finite l.name-iterator ×
+    (targets_kept l.drops (table_view l.kept) (members_view l.name-iterator) ≡ targets_kept l.drops no_members (table_view l.fn.targets))

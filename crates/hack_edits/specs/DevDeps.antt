@@ -1,0 +1,121 @@
+-- A manifest without its development dependencies.
+use Rattle.std.specs.Prelude.{◌≡◌, ◌⊎◌, ◌==◌, ℕ, ◌&&◌, ◌||◌, Bool, true, false, not, MatchBool, if◌then◌else◌, List, [], ◌∷◌, ◌++◌, length, Some}
+use Rattle.std.specs.List.{list_any}
+use Rattle.std.specs.Str.{bytes_eq}
+use Rattle.toml.specs.Data.{Members}
+use Rattle.toml.specs.Parse.{parse_document}
+use Rattle.hack_features.specs.Names.{Name}
+use Rattle.hack_manifest.specs.Manifest.{features_key}
+use Rattle.hack_manifest.specs.Paths.{View, AreCut, is_header}
+use Rattle.hack_edits.specs.Arrays.{IsCutInside}
+use Rattle.hack_edits.specs.DevTree.{reads_as_left}
+use Rattle.hack_edits.specs.KeyPaths.{target_key, name_at, is_dev}
+use Rattle.hack_edits.specs.Lookup.{has_dev, has_target_dev, has_dev_under, feature, loses_texts_at}
+
+-- ---- the pieces
+
+-- the piece is one of development dependencies
+abbrev pub is_dev_piece : View → Bool
+is_dev_piece p = is_dev p.path
+
+-- some piece is
+abbrev pub some_dev : List View → Bool
+some_dev ps = list_any is_dev_piece ps
+
+-- the path is that of a feature from whose array texts go
+abbrev pub loses_texts : Members → List Name → Bool
+loses_texts old path = (length path == 2 && bytes_eq (name_at path 0) features_key) && loses_texts_at old (feature (name_at path 1) old)
+
+-- a piece that stays loses texts
+abbrev pub is_cut : Members → View → Bool
+is_cut old p = not (is_dev p.path) && loses_texts old p.path
+
+-- some piece that stays does
+abbrev pub cuts_arrays : Members → List View → Bool
+cuts_arrays old ps = list_any (is_cut old) ps
+
+-- a key with its value at `target` or `target.X`, which holds development dependencies
+abbrev pub holds_inline : Members → View → Bool
+holds_inline old p = (not (is_header p.text) && bytes_eq (name_at p.path 0) target_key)
+    && ((length p.path == 1 && has_target_dev old) || (length p.path == 2 && has_dev_under (name_at p.path 1) old))
+
+-- some piece does
+abbrev pub some_inline : Members → List View → Bool
+some_inline old ps = list_any (holds_inline old) ps
+
+-- what is left of a piece: nothing, the piece with slices cut out between its array's brackets, or the piece
+abbrev pub IsLeft : Members → View → List ℕ → Type 0
+IsLeft old p part = MatchBool (is_dev p.path) (part ≡ []) (MatchBool (loses_texts old p.path) (IsCutInside p.text part) (part ≡ p.text))
+
+-- what is left of the pieces, in order, and the tail
+abbrev pub AreLeft : Members → List View → List ℕ → List ℕ → Type 0
+AreLeft old [] tail new = new ≡ tail
+AreLeft old (p ∷ ps) tail new = (part rest : List ℕ) × (new ≡ part ++ rest) × IsLeft old p part × AreLeft old ps tail rest
+
+-- the pieces that stay, whole and in order, and the tail
+abbrev pub kept_text : List View → List ℕ → List ℕ
+kept_text [] tail = tail
+kept_text (p ∷ ps) tail = if is_dev p.path then kept_text ps tail else p.text ++ kept_text ps tail
+
+-- the pieces that stay
+abbrev pub kept : List View → List View
+kept [] = []
+kept (p ∷ ps) = if is_dev p.path then kept ps else p ∷ kept ps
+
+-- ---- the edit
+
+-- there is something to take out: a table in the tree, or a piece
+abbrev pub has_dev_work : Members → List View → Bool
+has_dev_work old ps = has_dev old || some_dev ps
+
+-- no piece of the text is one of development dependencies
+pub record HasNoDevPiece (text : List ℕ) : Type 0 where
+  pub pieces : List View
+  pub tail : List ℕ
+  pub cut : AreCut text pieces tail
+  pub none : some_dev pieces ≡ false
+
+-- What is left of the pieces, which `toml` reads as what stays of the tree, and of which none is to go.
+pub record IsEdit (old : Members) (ps : List View) (tail new : List ℕ) : Type 0 where
+  pub left : AreLeft old ps tail new
+  pub tree : reads_as_left old (parse_document new) ≡ true
+  pub done : HasNoDevPiece new
+
+-- What removing gives: where there is nothing to take out the text, else an edit of it.
+pub record IsWithoutDev (text new : List ℕ) : Type 0 where
+  pub old : Members
+  pub ps : List View
+  pub tail : List ℕ
+  pub read : parse_document text ≡ Some old
+  pub cut : AreCut text ps tail
+  pub edit : MatchBool (has_dev_work old ps) (IsEdit old ps tail new) (new ≡ text)
+
+-- the text has nothing to take out
+pub record HasNoDev (text : List ℕ) : Type 0 where
+  pub old : Members
+  pub read : parse_document text ≡ Some old
+  pub none : has_dev old ≡ false
+  pub pieces : HasNoDevPiece text
+
+-- ---- the refusals
+
+-- an inline table at `target` or under it holds development dependencies
+pub record HasInlineTarget (text : List ℕ) : Type 0 where
+  pub old : Members
+  pub ps : List View
+  pub tail : List ℕ
+  pub read : parse_document text ≡ Some old
+  pub cut : AreCut text ps tail
+  pub inline : some_inline old ps ≡ true
+
+-- There is something to take out, no inline table holds it, and texts go from an array, or the pieces that stay aren't
+-- read as what stays of the tree.
+pub record IsMisread (text : List ℕ) : Type 0 where
+  pub old : Members
+  pub ps : List View
+  pub tail : List ℕ
+  pub read : parse_document text ≡ Some old
+  pub cut : AreCut text ps tail
+  pub work : has_dev_work old ps ≡ true
+  pub open_tables : some_inline old ps ≡ false
+  pub cause : (cuts_arrays old ps ≡ true) ⊎ (reads_as_left old (parse_document (kept_text ps tail)) ≡ false)

@@ -1,0 +1,46 @@
+-- The folders that are put into `workspace.exclude`.
+use Rattle.std.specs.Prelude.{◌≡◌, ◌==◌, ℕ, ◌-◌, ◌≤◌, ◌<◌, ◌&&◌, ◌||◌, Bool, false, not, if◌then◌else◌, List, [], ◌∷◌, ◌++◌, length, take, drop, slice_index, codes}
+use Rattle.hack_features.specs.Names.{Name}
+use Rattle.hack_edits.specs.Arrays.{IsArray}
+
+-- a text with `\` before each `"` and `\`
+abbrev pub escaped : List ℕ → List ℕ
+escaped [] = []
+escaped (c ∷ cs) = if c == 34 || c == 92 then 92 ∷ c ∷ escaped cs else c ∷ escaped cs
+
+-- a text in `"`
+abbrev pub quoted_text : List ℕ → List ℕ
+quoted_text t = 34 ∷ escaped t ++ 34 ∷ []
+
+-- the texts, each behind `, `
+abbrev pub each_behind : List Name → List ℕ
+each_behind [] = []
+each_behind (t ∷ ts) = 44 ∷ 32 ∷ quoted_text t ++ each_behind ts
+
+-- the texts with `, ` between them
+abbrev pub listed : List Name → List ℕ
+listed [] = []
+listed (t ∷ ts) = quoted_text t ++ each_behind ts
+
+-- a text ends in a line feed
+abbrev pub ends_in_feed : List ℕ → Bool
+ends_in_feed text = not (length text == 0) && slice_index text (length text - 1) == 10
+
+-- the header with a line that excludes the folders directly behind it
+abbrev pub with_line : List Name → List ℕ → List ℕ
+with_line ts piece = (if ends_in_feed piece then piece else piece ++ 10 ∷ []) ++ (codes "exclude = [" ++ listed ts ++ codes "]\n")
+
+-- new is the piece with texts added between the brackets of its array, directly behind the first where it is empty
+pub record IsAddedInside (filled : Bool) (ts : List Name) (piece new : List ℕ) : Type 0 where
+  pub n : ℕ
+  pub m : ℕ
+  pub k : ℕ
+  pub brackets : IsArray piece n m
+  pub above : n ≤ k
+  pub below : k < m
+  pub place : filled ≡ false → k ≡ n
+  pub result : new ≡ take k piece ++ (if filled then each_behind ts else listed ts) ++ drop k piece
+
+-- there are texts to add
+abbrev pub adds : List Name → Bool
+adds ts = not (length ts == 0)

@@ -1,0 +1,11 @@
+pub mod KeyPaths
+pub mod Tables
+pub mod Same
+pub mod Arrays
+pub mod Lookup
+pub mod DevTree
+pub mod DevDeps
+pub mod Members
+pub mod Exclude
+pub mod WorkspaceTree
+pub mod PrivateCrates

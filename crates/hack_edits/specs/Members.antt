@@ -1,0 +1,67 @@
+-- Which members of a workspace go, and which paths have to be excluded.
+use Rattle.std.specs.Prelude.{◌||◌, Bool, false, if◌then◌else◌, List, [], ◌∷◌, codes, fold, map, Option, Some}
+use Rattle.std.specs.BTreeSet.{insert_key}
+use Rattle.std.specs.Cmp.Lexicographic.{slice_cmp}
+use Rattle.std.specs.Ordering.{nat_cmp}
+use Rattle.std.specs.Str.{bytes_eq}
+use Rattle.toml.specs.Data.{Data, string, array, Items, no_items, item, Members, get_member}
+use Rattle.hack_features.specs.Names.{Name}
+use Rattle.hack_process.specs.PathTexts.{join_of, parent_of, normal_of}
+use Rattle.hack_edits.specs.KeyPaths.{members_key}
+
+-- the paths in byte order, each once
+abbrev pub in_order : List Name → List Name
+in_order ps = fold (insert_key (slice_cmp nat_cmp)) [] ps
+
+-- a member's text leads to the path of a manifest
+unfoldable pub leads : Name → Name → Name → Bool
+leads root m path = bytes_eq (normal_of (join_of (join_of root m) (codes "Cargo.toml"))) (normal_of path)
+
+-- the text leads to some path
+abbrev pub is_led : Name → Name → List Name → Bool
+is_led root m [] = false
+is_led root m (p ∷ ps) = leads root m p || is_led root m ps
+
+-- the paths to which the text doesn't lead
+abbrev pub unled : Name → Name → List Name → List Name
+unled root m [] = []
+unled root m (p ∷ ps) = if leads root m p then unled root m ps else p ∷ unled root m ps
+
+-- the item is a text that leads to some path
+abbrev pub item_led : Name → List Name → Data → Bool
+item_led root ps (string m) = is_led root m ps
+item_led root ps _ = false
+
+-- the paths to which the item doesn't lead
+abbrev pub unled_by : Name → List Name → Data → List Name
+unled_by root ps (string m) = unled root m ps
+unled_by root ps _ = ps
+
+-- the items that stay: to each path the first text goes that leads there
+abbrev pub members_left : Name → List Name → Items → Items
+members_left root ps no_items = no_items
+members_left root ps (item d ds) =
+    if item_led root ps d then members_left root (unled_by root ps d) ds else item d (members_left root (unled_by root ps d) ds)
+
+-- some item goes
+abbrev pub some_led : Name → List Name → Items → Bool
+some_led root ps no_items = false
+some_led root ps (item d ds) = item_led root ps d || some_led root (unled_by root ps d) ds
+
+-- the paths to which no item leads
+abbrev pub paths_left : Name → List Name → Items → List Name
+paths_left root ps no_items = ps
+paths_left root ps (item d ds) = paths_left root (unled_by root ps d) ds
+
+-- the items of the array at a key, none where there is no array
+abbrev pub items_of_array : Option Data → Items
+items_of_array (Some (array ds)) = ds
+items_of_array _ = no_items
+
+-- the items of the array at a key of a workspace
+abbrev pub items_at : Name → Members → Items
+items_at k ms = items_of_array (get_member k ms)
+
+-- the folders that have to be excluded
+abbrev pub folders : Name → List Name → Members → List Name
+folders root ps ws = map parent_of (paths_left root ps (items_at members_key ws))

@@ -1,0 +1,113 @@
+-- A manifest without private crates.
+use Rattle.std.specs.Prelude.{◌≡◌, ◌==◌, ℕ, ◌&&◌, ◌||◌, Bool, true, false, not, nat_lt, MatchBool, List, [], ◌∷◌, ◌++◌, Option, Some, None, is_some}
+use Rattle.std.specs.List.{list_any}
+use Rattle.toml.specs.Data.{Data, array, Members, get_member}
+use Rattle.toml.specs.Parse.{parse_document}
+use Rattle.toml.specs.Text.{has_items}
+use Rattle.hack_features.specs.Names.{Name}
+use Rattle.hack_manifest.specs.Manifest.{table_at, is_inline}
+use Rattle.hack_manifest.specs.Paths.{View, AreCut}
+use Rattle.hack_edits.specs.Arrays.{IsCutInside}
+use Rattle.hack_edits.specs.Exclude.{with_line, IsAddedInside, adds}
+use Rattle.hack_edits.specs.KeyPaths.{workspace_key, members_key, exclude_key, is_pair, is_header_of}
+use Rattle.hack_edits.specs.Members.{items_at, folders}
+use Rattle.hack_edits.specs.WorkspaceTree.{takes, has_work, reads_without}
+
+-- What is made of a piece, where members go or not, and with texts to add: slices are cut out of the array of members,
+-- the texts are added to the array that excludes, or in a line behind the header where there is no such array.
+abbrev pub IsMade : Bool → List Name → Members → View → List ℕ → Type 0
+IsMade takes ts ws p part =
+    MatchBool (is_pair workspace_key members_key p.path && takes) (IsCutInside p.text part)
+    (MatchBool (is_pair workspace_key exclude_key p.path && adds ts) (IsAddedInside (has_items (items_at exclude_key ws)) ts p.text part)
+    (MatchBool ((is_header_of workspace_key p && not (is_some (get_member exclude_key ws))) && adds ts) (part ≡ with_line ts p.text) (part ≡ p.text)))
+
+-- what is made of the pieces, in order, and the tail
+abbrev pub AreMade : Bool → List Name → Members → List View → List ℕ → List ℕ → Type 0
+AreMade takes ts ws [] tail new = new ≡ tail
+AreMade takes ts ws (p ∷ pieces) tail new = (part rest : List ℕ) × (new ≡ part ++ rest) × IsMade takes ts ws p part × AreMade takes ts ws pieces tail rest
+
+-- What is made of the pieces, which `toml` reads as the tree with the workspace that is expected.
+pub record IsWorkspaceEdit (root : Name) (ps : List Name) (text : List ℕ) (old ws : Members) (new : List ℕ) : Type 0 where
+  pub pieces : List View
+  pub tail : List ℕ
+  pub cut : AreCut text pieces tail
+  pub made : AreMade (takes root ps ws) (folders root ps ws) ws pieces tail new
+  pub tree : reads_without root ps old (parse_document new) ≡ true
+
+-- what is made of a text, by its workspace
+abbrev pub IsMadeOf : Name → List Name → List ℕ → Members → Option Members → List ℕ → Type 0
+IsMadeOf root ps text old None new = new ≡ text
+IsMadeOf root ps text old (Some ws) new = MatchBool (has_work root ps ws) (IsWorkspaceEdit root ps text old ws new) (new ≡ text)
+
+-- What taking private crates out gives: where there is no workspace, or nothing to take out or add, the text.
+pub record IsWithoutPrivate (root : Name) (ps : List Name) (text new : List ℕ) : Type 0 where
+  pub old : Members
+  pub read : parse_document text ≡ Some old
+  pub edit : IsMadeOf root ps text old (table_at workspace_key old) new
+
+-- ---- the refusals
+
+-- a byte of a control character
+abbrev pub is_control : ℕ → Bool
+is_control b = nat_lt b 32 || b == 127
+
+-- the text has a control character
+abbrev pub some_control : Name → Bool
+some_control text = list_any is_control text
+
+-- some path has one
+abbrev pub some_path_control : List Name → Bool
+some_path_control ps = list_any some_control ps
+
+-- there is a header `[workspace]`
+abbrev pub some_header : List View → Bool
+some_header ps = list_any (is_header_of workspace_key) ps
+
+-- the value is an array
+abbrev pub is_array_data : Data → Bool
+is_array_data (array ds) = true
+is_array_data d = false
+
+-- there is no place for folders to exclude: `exclude` is no array, or is missing under no header
+abbrev pub no_place : Option Data → List View → Bool
+no_place (Some d) pieces = not (is_array_data d)
+no_place None pieces = not (some_header pieces)
+
+-- there is no place for folders to exclude in this workspace
+abbrev pub has_no_place : Members → List View → Bool
+has_no_place ws pieces = no_place (get_member exclude_key ws) pieces
+
+-- a form that isn't supported: an inline workspace, or no place for folders to exclude
+abbrev pub is_bad_form : Name → List Name → Members → List View → Bool
+is_bad_form root ps ws pieces = is_inline workspace_key pieces || (adds (folders root ps ws) && has_no_place ws pieces)
+
+-- an unsupported form where there is something to take out or add
+pub record HasBadForm (root : Name) (ps : List Name) (text : List ℕ) : Type 0 where
+  pub old : Members
+  pub ws : Members
+  pub pieces : List View
+  pub tail : List ℕ
+  pub read : parse_document text ≡ Some old
+  pub workspace : table_at workspace_key old ≡ Some ws
+  pub work : has_work root ps ws ≡ true
+  pub cut : AreCut text pieces tail
+  pub bad : is_bad_form root ps ws pieces ≡ true
+
+-- an edit of a workspace is asked for, which may fail
+pub record HasWork (root : Name) (ps : List Name) (text : List ℕ) : Type 0 where
+  pub old : Members
+  pub ws : Members
+  pub read : parse_document text ≡ Some old
+  pub workspace : table_at workspace_key old ≡ Some ws
+  pub work : has_work root ps ws ≡ true
+
+-- a member to take out, or a folder to exclude, in a workspace if there is one
+abbrev pub work_at : Name → List Name → Option Members → Bool
+work_at root ps None = false
+work_at root ps (Some ws) = has_work root ps ws
+
+-- the text has nothing to take out or add
+pub record HasNoWork (root : Name) (ps : List Name) (text : List ℕ) : Type 0 where
+  pub old : Members
+  pub read : parse_document text ≡ Some old
+  pub none : work_at root ps (table_at workspace_key old) ≡ false

@@ -1,0 +1,248 @@
+//! A manifest without its development dependencies.
+
+ghost use Rattle.std.specs.Prelude.{◌≡◌, ◌≢◌, ◌⊎◌, true, false, Some, None, ℕ, List, MatchResult};
+ghost use Rattle.std.specs.Prelude.{IfOk, IfSome, IfNone, string_bytes};
+ghost use Rattle.toml.specs.Parse.{parse_document};
+ghost use Rattle.toml.specs.View.{table_view};
+ghost use Rattle.hack_features.specs.Names.{names_of};
+ghost use Rattle.hack_manifest.specs.Paths.{AreCut};
+ghost use Rattle.hack_manifest.specs.View.{piece_view, slice_view, pieces_view};
+ghost use Rattle.hack_edits.specs.Arrays.{IsCutInside};
+ghost use Rattle.hack_edits.specs.DevDeps.{some_dev, loses_texts, cuts_arrays, is_cut, some_inline};
+ghost use Rattle.hack_edits.specs.DevDeps.{holds_inline, IsLeft, AreLeft, kept_text};
+ghost use Rattle.hack_edits.specs.DevDeps.{has_dev_work, HasNoDevPiece, IsEdit, IsWithoutDev};
+ghost use Rattle.hack_edits.specs.DevDeps.{HasNoDev, HasInlineTarget, IsMisread};
+ghost use Rattle.hack_edits.specs.DevTree.{reads_as_left};
+ghost use Rattle.hack_edits.specs.KeyPaths.{is_dev};
+
+use crate::arrays::without_elements;
+use crate::dev_tree::reads_as;
+use crate::fault::ManifestFault;
+use crate::key_paths::{is_dev_path, name};
+use crate::lookup::{
+    FEATURES, TARGET, feature_loses, feature_value, holds_dev, target_has_dev, targets_hold_dev,
+    value_goes,
+};
+use crate::tables::tree_of;
+use hack_manifest::manifest::{Piece, Pieces};
+use hack_manifest::path::starts_table;
+use hack_manifest::pieces::cut;
+use std::alloc::{AllocError, Global};
+use toml::{Table, Value};
+
+/// The manifest without its development dependencies: without their tables, and without the texts
+/// of features that name them alone. All other bytes stay, in order.
+pub fn remove_dev_deps(alloc: Global, text: &str) -> Result<String, ManifestFault>
+    ensures ok { IfOk result (λ s. IsWithoutDev text.now (string_bytes s)) }
+    ensures unchanged { HasNoDev text.now → MatchResult result
+        (λ s. string_bytes s ≡ text.now) (λ e. e ≡ ManifestFault.Memory) }
+    ensures toml { result ≡ Err ManifestFault.Toml → parse_document text.now ≡ None }
+    ensures inline { result ≡ Err ManifestFault.InlineTarget → HasInlineTarget text.now }
+    ensures read_back { result ≡ Err ManifestFault.ReadBack → IsMisread text.now }
+    ensures form { result ≢ Err ManifestFault.WorkspaceForm }
+    ensures path { result ≢ Err ManifestFault.PathText }
+{
+    let Some(old) = tree_of(alloc, text)? else {
+        return Err(ManifestFault::Toml);
+    };
+    let cut = cut(alloc, text)?;
+    if !has_work(&old, &cut.pieces) {
+        let same = String::from_str(alloc, text)?;
+        return Ok(same);
+    }
+    let Some(copy) = tree_of(alloc, text)? else {
+        return Err(ManifestFault::Toml);
+    };
+    without_dev_pieces(alloc, &old, copy, &cut)
+}
+
+/// Carries a law: what removing gives has nothing to take out, so a second removal changes nothing.
+pub fn nothing_left()
+    ensures { (text new : List ℕ) → IsWithoutDev text new → HasNoDev new }
+{}
+
+/// The edit of a manifest that has something to take out.
+fn without_dev_pieces(
+    alloc: Global,
+    old: &Table,
+    copy: Table,
+    cut: &Pieces<'_>,
+) -> Result<String, ManifestFault>
+    requires copy { table_view copy ≡ table_view old.now }
+    requires cut { (text : List ℕ) × AreCut text (pieces_view cut.now) cut.now.tail.now }
+    ensures ok { IfOk result (λ s.
+        IsEdit (table_view old.now) (pieces_view cut.now) cut.now.tail.now (string_bytes s)) }
+    ensures inline { result ≡ Err ManifestFault.InlineTarget
+        → some_inline (table_view old.now) (pieces_view cut.now) ≡ true }
+    ensures open_tables { result ≡ Err ManifestFault.ReadBack
+        → some_inline (table_view old.now) (pieces_view cut.now) ≡ false }
+    ensures read_back { result ≡ Err ManifestFault.ReadBack
+        → (cuts_arrays (table_view old.now) (pieces_view cut.now) ≡ true)
+        ⊎ (reads_as_left (table_view old.now)
+        (parse_document (kept_text (pieces_view cut.now) cut.now.tail.now)) ≡ false) }
+    ensures toml { result ≢ Err ManifestFault.Toml }
+    ensures form { result ≢ Err ManifestFault.WorkspaceForm }
+    ensures path { result ≢ Err ManifestFault.PathText }
+{
+    if any_inline(old, &cut.pieces) {
+        return Err(ManifestFault::InlineTarget);
+    }
+    let Some(new) = joined(alloc, old, &cut.pieces, cut.tail)? else {
+        return Err(ManifestFault::ReadBack);
+    };
+    if !reads_as(alloc, old, copy, new.as_str())? {
+        return Err(ManifestFault::ReadBack);
+    }
+    if !any_cut(old, &cut.pieces) {
+        return Ok(new);
+    }
+    if has_dev_piece(alloc, new.as_str())? {
+        return Err(ManifestFault::ReadBack);
+    }
+    Ok(new)
+}
+
+/// Whether there is something to take out: a table of the tree, or a piece.
+fn has_work(old: &Table, pieces: &[Piece<'_>]) -> bool
+    ensures { result ≡ has_dev_work (table_view old.now) (slice_view pieces.now) }
+{
+    holds_dev(old) || any_dev(pieces)
+}
+
+/// Whether some piece is one of development dependencies.
+fn any_dev(pieces: &[Piece<'_>]) -> bool
+    ensures { result ≡ some_dev (slice_view pieces.now) }
+{
+    for piece in pieces {
+        if is_dev_path(&piece.path) {
+            return true;
+        }
+    }
+    false
+}
+
+/// Whether some piece of a text is one of development dependencies.
+fn has_dev_piece(alloc: Global, text: &str) -> Result<bool, AllocError>
+    ensures { IfOk result (λ b. b ≡ false → HasNoDevPiece text.now) }
+{
+    let cut = cut(alloc, text)?;
+    Ok(any_dev(&cut.pieces))
+}
+
+/// Whether some piece that stays loses texts.
+fn any_cut(old: &Table, pieces: &[Piece<'_>]) -> bool
+    ensures { result ≡ cuts_arrays (table_view old.now) (slice_view pieces.now) }
+{
+    for piece in pieces {
+        if piece_is_cut(old, piece) {
+            return true;
+        }
+    }
+    false
+}
+
+/// Whether a piece stays and loses texts.
+fn piece_is_cut(old: &Table, piece: &Piece<'_>) -> bool
+    ensures { result ≡ is_cut (table_view old.now) (piece_view piece.now) }
+{
+    !is_dev_path(&piece.path) && path_loses(old, &piece.path)
+}
+
+/// What is left of the pieces, joined.
+fn joined(
+    alloc: Global,
+    old: &Table,
+    pieces: &[Piece<'_>],
+    tail: &str,
+) -> Result<Option<String>, AllocError>
+    ensures left { IfOk result (λ o. IfSome o (λ s.
+        AreLeft (table_view old.now) (slice_view pieces.now) tail.now (string_bytes s))) }
+    ensures none { IfOk result (λ o.
+        IfNone o (cuts_arrays (table_view old.now) (slice_view pieces.now) ≡ true)) }
+{
+    let mut text = String::new(alloc);
+    for piece in pieces {
+        match left_of(alloc, old, piece)? {
+            Some(part) => text.push_str(part.as_str())?,
+            None => return Ok(None),
+        }
+    }
+    text.push_str(tail)?;
+    Ok(Some(text))
+}
+
+/// What is left of a piece, if the brackets of an array that loses texts are found.
+fn left_of(alloc: Global, old: &Table, piece: &Piece<'_>) -> Result<Option<String>, AllocError>
+    ensures left { IfOk result (λ o. IfSome o (λ s.
+        IsLeft (table_view old.now) (piece_view piece.now) (string_bytes s))) }
+    ensures none { IfOk result (λ o. IfNone o ((is_dev (names_of piece.now.path.items) ≡ false)
+        × (loses_texts (table_view old.now) (names_of piece.now.path.items) ≡ true))) }
+{
+    if is_dev_path(&piece.path) {
+        return Ok(Some(String::new(alloc)));
+    }
+    if path_loses(old, &piece.path) {
+        return thinned_feature(alloc, old, piece);
+    }
+    let whole = String::from_str(alloc, piece.text)?;
+    Ok(Some(whole))
+}
+
+/// A feature without the texts that go.
+fn thinned_feature(
+    alloc: Global,
+    old: &Table,
+    piece: &Piece<'_>,
+) -> Result<Option<String>, AllocError>
+    ensures { IfOk result (λ o. IfSome o (λ s. IsCutInside piece.now.text.now (string_bytes s))) }
+{
+    match feature_value(old, name(&piece.path, 1)) {
+        Some(value) => {
+            let goes = going(alloc, old, value)?;
+            without_elements(alloc, piece.text, goes.as_slice())
+        }
+        None => Ok(None),
+    }
+}
+
+/// Which items of an array are texts that go.
+fn going(alloc: Global, old: &Table, value: &Value) -> Result<Vec<bool>, AllocError> {
+    let mut goes = Vec::new(alloc);
+    if let Value::Array(array) = value {
+        for item in array {
+            goes.push(value_goes(old, item))?;
+        }
+    }
+    Ok(goes)
+}
+
+/// Whether a path is that of a feature from whose array texts go.
+fn path_loses(old: &Table, path: &[String]) -> bool
+    ensures { result ≡ loses_texts (table_view old.now) (names_of path.now) }
+{
+    path.len() == 2 && name(path, 0) == FEATURES && feature_loses(old, name(path, 1))
+}
+
+/// Whether some piece holds development dependencies inline.
+fn any_inline(old: &Table, pieces: &[Piece<'_>]) -> bool
+    ensures { result ≡ some_inline (table_view old.now) (slice_view pieces.now) }
+{
+    for piece in pieces {
+        if holds_inline(old, piece) {
+            return true;
+        }
+    }
+    false
+}
+
+/// Whether a piece is a key with its value at `target` or `target.X`, which holds development
+/// dependencies.
+fn holds_inline(old: &Table, piece: &Piece<'_>) -> bool
+    ensures { result ≡ holds_inline (table_view old.now) (piece_view piece.now) }
+{
+    if starts_table(piece.text) || name(&piece.path, 0) != TARGET {
+        return false;
+    }
+    piece.path.len() == 1 && targets_hold_dev(old)
+        || piece.path.len() == 2 && target_has_dev(old, name(&piece.path, 1))
+}

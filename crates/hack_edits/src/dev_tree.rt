@@ -1,0 +1,225 @@
+//! What stays of a manifest's tree without its development dependencies, and whether a text is read
+//! as that.
+
+ghost use Rattle.std.specs.Prelude.{◌≡◌, Some, if◌then◌else◌, IfOk, OnOk, option_map, string_bytes};
+ghost use Rattle.toml.specs.Data.{no_members};
+ghost use Rattle.toml.specs.Parse.{parse_document};
+ghost use Rattle.toml.specs.View.{view, table_view, array_view};
+ghost use Rattle.hack_edits.specs.DevTree.{items_left, array_left, arrays_left, features_left};
+ghost use Rattle.hack_edits.specs.DevTree.{with_features, without_texts, is_empty_table, put_kept};
+ghost use Rattle.hack_edits.specs.DevTree.{stripped, targets_kept, target_kept, with_target};
+ghost use Rattle.hack_edits.specs.DevTree.{tidied, reads_as_left};
+ghost use Rattle.hack_edits.specs.KeyPaths.{dev_key};
+ghost use Rattle.hack_edits.specs.Tables.{remove_member};
+
+use crate::lookup::{DEV, FEATURES, TARGET, holds_dev, value_goes};
+use crate::same::same_table;
+use crate::tables::{put_at, tree_of, without};
+use std::alloc::{AllocError, Global};
+use toml::value::Array;
+use toml::{Table, Value};
+
+/// Whether a text is read as what stays of the tree of another.
+pub fn reads_as(alloc: Global, old: &Table, copy: Table, new: &str) -> Result<bool, AllocError>
+    requires { table_view copy ≡ table_view old.now }
+    ensures { IfOk result (λ b. b ≡ reads_as_left (table_view old.now) (parse_document new.now)) }
+{
+    match tree_of(alloc, new)? {
+        Some(tree) => is_rest(alloc, old, copy, tree),
+        None => Ok(false),
+    }
+}
+
+/// Whether a tree is what stays of the old one, of which `copy` is a copy.
+fn is_rest(alloc: Global, old: &Table, copy: Table, new: Table) -> Result<bool, AllocError>
+    requires { table_view copy ≡ table_view old.now }
+    ensures { IfOk result (λ b. b ≡ reads_as_left (table_view old.now) (Some (table_view new))) }
+{
+    if holds_dev(&new) {
+        return Ok(false);
+    }
+    let thinned = drop_texts(alloc, old, copy)?;
+    let expected = tidy(alloc, thinned, true)?;
+    let found = tidy(alloc, new, false)?;
+    Ok(same_table(&expected, &found))
+}
+
+/// A tree without the features' texts that go.
+fn drop_texts(alloc: Global, old: &Table, table: Table) -> Result<Table, AllocError>
+    ensures { IfOk result (λ t. table_view t
+        ≡ without_texts (table_view old.now) (table_view table)) }
+{
+    let mut top = table;
+    let features = top.remove(FEATURES);
+    put_features(alloc, old, &mut top, features)?;
+    Ok(top)
+}
+
+/// Puts back what stays of the features.
+fn put_features(
+    alloc: Global,
+    old: &Table,
+    top: &mut Table,
+    features: Option<Value>,
+) -> Result<(), AllocError>
+    ensures { OnOk result (table_view top.new
+        ≡ with_features (table_view old.now) (option_map view features) (table_view top.old)) }
+{
+    match features {
+        Some(value) => {
+            let kept = strip_features(alloc, old, value)?;
+            let key = String::from_str(alloc, FEATURES)?;
+            put_at(top, key, kept)
+        }
+        None => Ok(()),
+    }
+}
+
+fn strip_features(alloc: Global, old: &Table, features: Value) -> Result<Value, AllocError>
+    ensures { IfOk result (λ v. view v ≡ features_left (table_view old.now) (view features)) }
+{
+    match features {
+        Value::Table(table) => {
+            let kept = strip_arrays(alloc, old, table)?;
+            Ok(Value::Table(kept))
+        }
+        other => Ok(other),
+    }
+}
+
+/// What stays of the features.
+fn strip_arrays(alloc: Global, old: &Table, features: Table) -> Result<Table, AllocError>
+    ensures { IfOk result (λ kept. table_view kept
+        ≡ arrays_left (table_view old.now) no_members (table_view features)) }
+{
+    let mut kept = Table::new(alloc);
+    'features: for (name, value) in features {
+        let array = strip_array(alloc, old, value)?;
+        put_at(&mut kept, name, array)?;
+    }
+    Ok(kept)
+}
+
+fn strip_array(alloc: Global, old: &Table, value: Value) -> Result<Value, AllocError>
+    ensures { IfOk result (λ v. view v ≡ array_left (table_view old.now) (view value)) }
+{
+    match value {
+        Value::Array(items) => {
+            let kept = kept_items(alloc, old, items)?;
+            Ok(Value::Array(kept))
+        }
+        other => Ok(other),
+    }
+}
+
+/// What stays of an array: the items that are no texts that go.
+fn kept_items(alloc: Global, old: &Table, items: Array) -> Result<Array, AllocError>
+    ensures { IfOk result (λ v. array_view v ≡ items_left (table_view old.now) (array_view items)) }
+{
+    let mut kept = Array::new(alloc);
+    for item in items {
+        if !value_goes(old, &item) {
+            kept.push(item)?;
+        }
+    }
+    Ok(kept)
+}
+
+/// A tree without emptied tables at and under `target`, and without development dependencies where
+/// they are to go.
+fn tidy(alloc: Global, table: Table, drops: bool) -> Result<Table, AllocError>
+    ensures { IfOk result (λ t. table_view t ≡ tidied drops (table_view table)) }
+{
+    let mut top = without_dev(table, drops);
+    let target = top.remove(TARGET);
+    put_target(alloc, &mut top, target, drops)?;
+    Ok(top)
+}
+
+/// A table without development dependencies at the top, where they are to go.
+fn without_dev(table: Table, drops: bool) -> Table
+    ensures { table_view result ≡ (if drops then remove_member dev_key
+        (table_view table) else table_view table) }
+{
+    if drops { without(table, DEV) } else { table }
+}
+
+/// Puts back what stays of `target`.
+fn put_target(
+    alloc: Global,
+    top: &mut Table,
+    target: Option<Value>,
+    drops: bool,
+) -> Result<(), AllocError>
+    ensures { OnOk result (table_view top.new
+        ≡ with_target drops (option_map view target) (table_view top.old)) }
+{
+    match target {
+        Some(value) => {
+            let kept = strip_target(alloc, value, drops)?;
+            let key = String::from_str(alloc, TARGET)?;
+            put_value(top, key, kept)
+        }
+        None => Ok(()),
+    }
+}
+
+fn strip_target(alloc: Global, target: Value, drops: bool) -> Result<Value, AllocError>
+    ensures { IfOk result (λ v. view v ≡ target_kept drops (view target)) }
+{
+    match target {
+        Value::Table(targets) => {
+            let kept = strip_targets(alloc, targets, drops)?;
+            Ok(Value::Table(kept))
+        }
+        other => Ok(other),
+    }
+}
+
+/// What stays of `target`.
+fn strip_targets(alloc: Global, targets: Table, drops: bool) -> Result<Table, AllocError>
+    ensures { IfOk result (λ kept. table_view kept
+        ≡ targets_kept drops no_members (table_view targets)) }
+{
+    let mut kept = Table::new(alloc);
+    'targets: for (name, value) in targets {
+        put_value(&mut kept, name, strip(value, drops))?;
+    }
+    Ok(kept)
+}
+
+/// What stays of `target.X`.
+fn strip(value: Value, drops: bool) -> Value
+    ensures { view result ≡ stripped drops (view value) }
+{
+    match value {
+        Value::Table(table) => {
+            if drops {
+                Value::Table(without(table, DEV))
+            } else {
+                Value::Table(table)
+            }
+        }
+        other => other,
+    }
+}
+
+/// Puts a value at a key, unless it is an empty table.
+fn put_value(kept: &mut Table, key: String, value: Value) -> Result<(), AllocError>
+    ensures { OnOk result (table_view kept.new
+        ≡ put_kept (string_bytes key) (view value) (table_view kept.old)) }
+{
+    if is_empty(&value) {
+        return Ok(());
+    }
+    put_at(kept, key, value)
+}
+
+fn is_empty(value: &Value) -> bool
+    ensures { result ≡ is_empty_table (view value.now) }
+{
+    match value {
+        Value::Table(table) => table.is_empty(),
+        _ => false,
+    }
+}

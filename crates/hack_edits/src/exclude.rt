@@ -1,0 +1,162 @@
+//! The folders of private crates put into `workspace.exclude`, in an array that is there or in a
+//! line of their own.
+
+ghost use Rattle.std.specs.Prelude.{◌≡◌, ◌≤◌, ◌++◌, map, length, IfOk, IfSome, OnOk};
+ghost use Rattle.hack_process.specs.PathTexts.{parent_of, texts};
+ghost use Rattle.hack_edits.specs.Exclude.{escaped, quoted_text, each_behind, listed, with_line};
+ghost use Rattle.hack_edits.specs.Exclude.{ends_in_feed, IsAddedInside, adds};
+
+use crate::arrays::{comma_behind, first_front, text_len};
+use hack_process::paths::parent;
+use std::alloc::{AllocError, Global};
+
+/// A piece with the folders of paths added to its array, if its place is found.
+pub fn added_inside(
+    alloc: Global,
+    piece: &str,
+    paths: &[&str],
+    filled: bool,
+) -> Result<Option<Vec<u8>>, AllocError>
+    ensures { IfOk result (λ o. IfSome o (λ v.
+        IsAddedInside filled (map parent_of (texts paths.now)) piece.now v.items)) }
+{
+    let Some(n) = first_front(alloc, piece, b'[', "]")? else {
+        return Ok(None);
+    };
+    let Some(m) = first_front(alloc, piece, b']', "")? else {
+        return Ok(None);
+    };
+    if m <= n {
+        return Ok(None);
+    }
+    let bytes = piece.as_bytes();
+    let mut new = Vec::new(alloc);
+    if !filled {
+        new.extend_from_slice(&bytes[..n])?;
+        push_listed(&mut new, paths)?;
+        new.extend_from_slice(&bytes[n..])?;
+        return Ok(Some(new));
+    }
+    let Some(k) = last_end(alloc, bytes, n, m - 1)? else {
+        return Ok(None);
+    };
+    if k < n || m <= k {
+        return Ok(None);
+    }
+    new.extend_from_slice(&bytes[..k])?;
+    push_behind(&mut new, paths)?;
+    new.extend_from_slice(&bytes[k..])?;
+    Ok(Some(new))
+}
+
+/// A header with a line behind it that excludes the folders of paths.
+pub fn with_exclude_line(alloc: Global, piece: &str, paths: &[&str]) -> Result<Vec<u8>, AllocError>
+    ensures { IfOk result (λ v. v.items ≡ with_line (map parent_of (texts paths.now)) piece.now) }
+{
+    let mut new = Vec::new(alloc);
+    new.extend_from_slice(piece.as_bytes())?;
+    if !ends_feed(piece) {
+        new.push(b'\n')?;
+    }
+    new.extend_from_slice(b"exclude = [")?;
+    push_listed(&mut new, paths)?;
+    new.extend_from_slice(b"]\n")?;
+    Ok(new)
+}
+
+/// Whether a text ends in a line feed.
+fn ends_feed(piece: &str) -> bool
+    ensures { result ≡ ends_in_feed piece.now }
+{
+    piece.len() != 0 && piece.as_bytes()[piece.len() - 1] == b'\n'
+}
+
+/// Where the last value between the brackets ends, if it is a text.
+fn last_end(alloc: Global, bytes: &[u8], n: usize, m: usize) -> Result<Option<usize>, AllocError>
+    requires ordered { n ≤ m }
+    requires within { m ≤ length bytes.now }
+{
+    let mut from = n;
+    let mut end = None;
+    for _ in n..m {
+        let to = element_end(alloc, &bytes[..m], from)?;
+        if let Ok(element) = std::str::from_utf8(&bytes[from..to]) {
+            let len = text_len(alloc, element)?;
+            if len != 0 {
+                end = Some(from + len);
+            }
+        }
+        if to == m {
+            return Ok(end);
+        }
+        from = to + 1;
+    }
+    Ok(end)
+}
+
+/// Where an element ends: before its comma, or at the end.
+fn element_end(alloc: Global, inside: &[u8], from: usize) -> Result<usize, AllocError>
+    requires { from ≤ length inside.now }
+    ensures { IfOk result (λ to. (from ≤ to) × (to ≤ length inside.now)) }
+{
+    match comma_behind(alloc, inside, from)? {
+        Some(comma) => Ok(comma),
+        None => Ok(inside.len()),
+    }
+}
+
+/// Puts the folders of paths in quotes behind others, with `, ` between them.
+fn push_listed(out: &mut Vec<u8>, paths: &[&str]) -> Result<(), AllocError>
+    ensures { OnOk result (out.new.items
+        ≡ out.old.items ++ listed (map parent_of (texts paths.now))) }
+{
+    match paths {
+        [first, rest @ ..] => {
+            push_quoted(out, parent(first))?;
+            push_behind(out, rest)
+        }
+        [] => Ok(()),
+    }
+}
+
+/// Puts the folders of paths in quotes behind others, each behind `, `.
+fn push_behind(out: &mut Vec<u8>, paths: &[&str]) -> Result<(), AllocError>
+    ensures { OnOk result (out.new.items
+        ≡ out.old.items ++ each_behind (map parent_of (texts paths.now))) }
+{
+    for path in paths {
+        out.extend_from_slice(b", ")?;
+        push_quoted(out, parent(path))?;
+    }
+    Ok(())
+}
+
+/// Puts a text in quotes behind others.
+fn push_quoted(out: &mut Vec<u8>, text: &str) -> Result<(), AllocError>
+    ensures { OnOk result (out.new.items ≡ out.old.items ++ quoted_text text.now) }
+{
+    out.push(b'"')?;
+    push_escaped(out, text.as_bytes())?;
+    out.push(b'"')?;
+    Ok(())
+}
+
+/// Puts a text behind others, with `\` before `"` and `\`.
+fn push_escaped(out: &mut Vec<u8>, text: &[u8]) -> Result<(), AllocError>
+    ensures { OnOk result (out.new.items ≡ out.old.items ++ escaped text.now) }
+{
+    for byte in text {
+        if *byte == b'"' || *byte == b'\\' {
+            out.push(b'\\')?;
+        }
+        out.push(*byte)?;
+    }
+    Ok(())
+}
+
+/// Whether there are paths.
+pub fn has_paths(paths: &[&str]) -> bool
+    ensures { result ≡ adds (map parent_of (texts paths.now)) }
+{
+    !paths.is_empty()
+}

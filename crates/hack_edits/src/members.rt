@@ -1,0 +1,219 @@
+//! Which members of a workspace are private crates, and which private crates no member's text leads
+//! to.
+
+ghost use Rattle.std.specs.Prelude.{◌≡◌, false, List, IfOk, OnOk};
+ghost use Rattle.std.specs.List.{list_any};
+ghost use Rattle.std.specs.List.Sorted.{IsStrictlySortedBy};
+ghost use Rattle.std.specs.Str.{bytes_eq};
+ghost use Rattle.hack_features.specs.Names.{Name};
+ghost use Rattle.std.specs.BTreeSet.{insert_key};
+ghost use Rattle.std.specs.Cmp.Lexicographic.{slice_cmp};
+ghost use Rattle.std.specs.Ordering.{nat_cmp};
+ghost use Rattle.toml.specs.View.{view, table_view, array_view};
+ghost use Rattle.hack_process.specs.PathTexts.{texts};
+ghost use Rattle.hack_edits.specs.KeyPaths.{members_key};
+ghost use Rattle.hack_edits.specs.Members.{in_order, leads, is_led, unled, item_led, unled_by};
+ghost use Rattle.hack_edits.specs.Members.{some_led, paths_left, items_at};
+
+use hack_manifest::lookup::value_at;
+use hack_process::paths::{join, normal};
+use std::alloc::{AllocError, Global};
+use std::collections::BTreeSet;
+use toml::value::Array;
+use toml::{Table, Value};
+
+pub const MEMBERS: &str = "members";
+
+/// The paths in byte order, each once.
+pub fn in_order<'a>(alloc: Global, paths: &[&'a str]) -> Result<Vec<&'a str>, AllocError>
+    ensures { IfOk result (λ all. texts all.items ≡ in_order (texts paths.now)) }
+{
+    let mut all = Vec::new(alloc);
+    for path in sorted(alloc, paths)? {
+        all.push(path)?;
+    }
+    Ok(all)
+}
+
+/// Carries a law: paths in order rise by their bytes, and are those that were given.
+pub fn paths_in_order()
+    ensures rising { (ps : List Name) → IsStrictlySortedBy (slice_cmp nat_cmp) (in_order ps) }
+    ensures given { (ps : List Name) (p : Name)
+        → list_any (bytes_eq p) (in_order ps) ≡ list_any (bytes_eq p) ps }
+{}
+
+/// The paths as a set.
+fn sorted<'a>(alloc: Global, paths: &[&'a str]) -> Result<BTreeSet<&'a str>, AllocError>
+    ensures { IfOk result (λ set. texts set.keys ≡ in_order (texts paths.now)) }
+{
+    let mut set = BTreeSet::new(alloc);
+    for path in paths {
+        put_sorted(&mut set, *path)?;
+    }
+    Ok(set)
+}
+
+/// Puts a path into a set.
+fn put_sorted<'a>(set: &mut BTreeSet<&'a str>, path: &'a str) -> Result<(), AllocError>
+    ensures { OnOk result
+        (texts set.new.keys ≡ insert_key (slice_cmp nat_cmp) (texts set.old.keys) path.now) }
+{
+    set.insert(path)?;
+    Ok(())
+}
+
+/// What becomes of the members.
+#[derive(Drop)]
+pub struct Choice<'a> {
+    /// Which items of the array go.
+    pub goes: Vec<bool>,
+    /// Whether some do.
+    pub some: bool,
+    /// The paths to which none leads.
+    pub paths: Vec<&'a str>,
+}
+
+/// What becomes of a workspace's members.
+pub fn chosen<'a>(
+    alloc: Global,
+    root: &str,
+    paths: &[&'a str],
+    workspace: &Table,
+) -> Result<Choice<'a>, AllocError>
+    ensures some { IfOk result (λ c. c.some
+        ≡ some_led root.now (texts paths.now) (items_at members_key (table_view workspace.now))) }
+    ensures paths { IfOk result (λ c. texts c.paths.items
+        ≡ paths_left root.now (texts paths.now) (items_at members_key (table_view workspace.now))) }
+{
+    match value_at(workspace, MEMBERS) {
+        Some(value) => match value {
+            Value::Array(items) => choose(alloc, root, paths, items),
+            _ => no_choice(alloc, paths),
+        },
+        None => no_choice(alloc, paths),
+    }
+}
+
+/// What becomes of the members' items.
+fn choose<'a>(
+    alloc: Global,
+    root: &str,
+    paths: &[&'a str],
+    items: &Array,
+) -> Result<Choice<'a>, AllocError>
+    ensures some { IfOk result (λ c. c.some
+        ≡ some_led root.now (texts paths.now) (array_view items.now)) }
+    ensures paths { IfOk result (λ c. texts c.paths.items
+        ≡ paths_left root.now (texts paths.now) (array_view items.now)) }
+{
+    let mut goes = Vec::new(alloc);
+    let mut some = false;
+    let mut left = copied(alloc, paths)?;
+    'items: for item in items {
+        let led = value_led(alloc, root, item, left.as_slice())?;
+        goes.push(led)?;
+        some |= led;
+        left = value_unled(alloc, root, item, left.as_slice())?;
+    }
+    Ok(Choice {
+        goes,
+        some,
+        paths: left,
+    })
+}
+
+/// Where there are no members, none goes, and no path is led to.
+fn no_choice<'a>(alloc: Global, paths: &[&'a str]) -> Result<Choice<'a>, AllocError>
+    ensures some { IfOk result (λ c. c.some ≡ false) }
+    ensures paths { IfOk result (λ c. texts c.paths.items ≡ texts paths.now) }
+{
+    let left = copied(alloc, paths)?;
+    Ok(Choice {
+        goes: Vec::new(alloc),
+        some: false,
+        paths: left,
+    })
+}
+
+/// Whether an item is a text that leads to some path.
+pub fn value_led(
+    alloc: Global,
+    root: &str,
+    item: &Value,
+    paths: &[&str],
+) -> Result<bool, AllocError>
+    ensures { IfOk result (λ b. b ≡ item_led root.now (texts paths.now) (view item.now)) }
+{
+    match item {
+        Value::String(member) => leads_to_any(alloc, root, member.as_str(), paths),
+        _ => Ok(false),
+    }
+}
+
+/// The paths to which an item doesn't lead.
+pub fn value_unled<'a>(
+    alloc: Global,
+    root: &str,
+    item: &Value,
+    paths: &[&'a str],
+) -> Result<Vec<&'a str>, AllocError>
+    ensures { IfOk result (λ left. texts left.items
+        ≡ unled_by root.now (texts paths.now) (view item.now)) }
+{
+    match item {
+        Value::String(member) => not_led(alloc, root, member.as_str(), paths),
+        _ => copied(alloc, paths),
+    }
+}
+
+/// Whether a member's text leads to some path.
+fn leads_to_any(alloc: Global, root: &str, member: &str, paths: &[&str]) -> Result<bool, AllocError>
+    ensures { IfOk result (λ b. b ≡ is_led root.now member.now (texts paths.now)) }
+{
+    for path in paths {
+        if leads_to(alloc, root, member, path)? {
+            return Ok(true);
+        }
+    }
+    Ok(false)
+}
+
+/// The paths to which a member's text doesn't lead.
+fn not_led<'a>(
+    alloc: Global,
+    root: &str,
+    member: &str,
+    paths: &[&'a str],
+) -> Result<Vec<&'a str>, AllocError>
+    ensures { IfOk result (λ left. texts left.items ≡ unled root.now member.now (texts paths.now)) }
+{
+    let mut left = Vec::new(alloc);
+    for path in paths {
+        if !leads_to(alloc, root, member, path)? {
+            left.push(*path)?;
+        }
+    }
+    Ok(left)
+}
+
+/// Whether a member's text leads to the path of a manifest.
+fn leads_to(alloc: Global, root: &str, member: &str, path: &str) -> Result<bool, AllocError>
+    ensures { IfOk result (λ b. b ≡ leads root.now member.now path.now) }
+{
+    let folder = join(alloc, root, member)?;
+    let manifest = join(alloc, folder.as_str(), "Cargo.toml")?;
+    let found = normal(alloc, manifest.as_str())?;
+    let wanted = normal(alloc, path)?;
+    Ok(found.as_str() == wanted.as_str())
+}
+
+/// Copies of paths.
+pub fn copied<'a>(alloc: Global, paths: &[&'a str]) -> Result<Vec<&'a str>, AllocError>
+    ensures { IfOk result (λ left. texts left.items ≡ texts paths.now) }
+{
+    let mut all = Vec::new(alloc);
+    for path in paths {
+        all.push(*path)?;
+    }
+    Ok(all)
+}

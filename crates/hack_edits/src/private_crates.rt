@@ -1,0 +1,272 @@
+//! A manifest's workspace without private crates.
+
+ghost use Rattle.std.specs.Prelude.{◌≡◌, ◌≢◌, true, Some, None, map, MatchResult};
+ghost use Rattle.std.specs.Prelude.{IfOk, IfSome, string_bytes};
+ghost use Rattle.toml.specs.Parse.{parse_document};
+ghost use Rattle.toml.specs.Text.{has_items};
+ghost use Rattle.toml.specs.View.{view, table_view};
+ghost use Rattle.hack_process.specs.PathTexts.{parent_of, texts};
+ghost use Rattle.hack_manifest.specs.Manifest.{table_at};
+ghost use Rattle.hack_manifest.specs.View.{piece_view, slice_view};
+ghost use Rattle.hack_edits.specs.KeyPaths.{workspace_key, exclude_key};
+ghost use Rattle.hack_edits.specs.Members.{in_order, items_at, folders};
+ghost use Rattle.hack_edits.specs.PrivateCrates.{IsMade, AreMade, IsWorkspaceEdit};
+ghost use Rattle.hack_edits.specs.PrivateCrates.{IsWithoutPrivate};
+ghost use Rattle.hack_edits.specs.PrivateCrates.{some_control, some_path_control, some_header};
+ghost use Rattle.hack_edits.specs.PrivateCrates.{is_array_data, has_no_place};
+ghost use Rattle.hack_edits.specs.PrivateCrates.{HasBadForm, HasWork, HasNoWork};
+ghost use Rattle.hack_edits.specs.WorkspaceTree.{takes, has_work};
+
+use crate::arrays::without_elements;
+use crate::exclude::{added_inside, has_paths, with_exclude_line};
+use crate::fault::ManifestFault;
+use crate::key_paths::{is_header_of, is_pair};
+use crate::members::{Choice, MEMBERS, chosen, in_order};
+use crate::tables::tree_of;
+use crate::workspace_tree::{EXCLUDE, WORKSPACE, reads_as_expected};
+use hack_manifest::lookup::{find_table, has_values, value_at};
+use hack_manifest::manifest::Piece;
+use hack_manifest::pieces::{cut, is_inline};
+use std::alloc::{AllocError, Global};
+use toml::{Table, Value};
+
+/// The manifest without private crates, which are named by the paths of their manifests. Each is
+/// taken out of the workspace's members by the first text that leads to it; the others are
+/// excluded, in byte order and each once. All other bytes stay, in order.
+pub fn remove_private_crates(
+    alloc: Global,
+    text: &str,
+    root: &str,
+    private: &[&str],
+) -> Result<String, ManifestFault>
+    ensures ok { IfOk result (λ s.
+        IsWithoutPrivate root.now (in_order (texts private.now)) text.now (string_bytes s)) }
+    ensures unchanged { HasNoWork root.now (in_order (texts private.now)) text.now
+        → MatchResult result (λ s. string_bytes s ≡ text.now) (λ e. e ≡ ManifestFault.Memory) }
+    ensures toml { result ≡ Err ManifestFault.Toml → parse_document text.now ≡ None }
+    ensures form { result ≡ Err ManifestFault.WorkspaceForm
+        → HasBadForm root.now (in_order (texts private.now)) text.now }
+    ensures path { result ≡ Err ManifestFault.PathText
+        → HasWork root.now (in_order (texts private.now)) text.now
+        × (some_path_control (in_order (texts private.now)) ≡ true) }
+    ensures read_back { result ≡ Err ManifestFault.ReadBack
+        → HasWork root.now (in_order (texts private.now)) text.now }
+    ensures inline { result ≢ Err ManifestFault.InlineTarget }
+{
+    let ordered = in_order(alloc, private)?;
+    without_ordered(alloc, text, root, ordered.as_slice())
+}
+
+/// The manifest without private crates, whose paths are in order.
+fn without_ordered(
+    alloc: Global,
+    text: &str,
+    root: &str,
+    private: &[&str],
+) -> Result<String, ManifestFault>
+    ensures ok { IfOk result (λ s. IsWithoutPrivate root.now (texts private.now) text.now
+        (string_bytes s)) }
+    ensures unchanged { HasNoWork root.now (texts private.now) text.now
+        → MatchResult result (λ s. string_bytes s ≡ text.now) (λ e. e ≡ ManifestFault.Memory) }
+    ensures toml { result ≡ Err ManifestFault.Toml → parse_document text.now ≡ None }
+    ensures form { result ≡ Err ManifestFault.WorkspaceForm
+        → HasBadForm root.now (texts private.now) text.now }
+    ensures path { result ≡ Err ManifestFault.PathText
+        → (HasWork root.now (texts private.now) text.now)
+        × (some_path_control (texts private.now) ≡ true) }
+    ensures read_back { result ≡ Err ManifestFault.ReadBack
+        → HasWork root.now (texts private.now) text.now }
+    ensures inline { result ≢ Err ManifestFault.InlineTarget }
+{
+    let Some(old) = tree_of(alloc, text)? else {
+        return Err(ManifestFault::Toml);
+    };
+    let Some(copy) = tree_of(alloc, text)? else {
+        return Err(ManifestFault::Toml);
+    };
+    let Some(workspace) = find_table(&old, WORKSPACE) else {
+        let same = String::from_str(alloc, text)?;
+        return Ok(same);
+    };
+    let choice = chosen(alloc, root, private, workspace)?;
+    if !choice.some && !has_paths(choice.paths.as_slice()) {
+        let same = String::from_str(alloc, text)?;
+        return Ok(same);
+    }
+    if any_control(private) {
+        return Err(ManifestFault::PathText);
+    }
+    without_private(alloc, text, root, private, workspace, &choice, copy)
+}
+
+/// The edit of a manifest that has something to take out or add.
+fn without_private(
+    alloc: Global,
+    text: &str,
+    root: &str,
+    private: &[&str],
+    workspace: &Table,
+    choice: &Choice<'_>,
+    old: Table,
+) -> Result<String, ManifestFault>
+    requires read { parse_document text.now ≡ Some (table_view old) }
+    requires workspace { table_at workspace_key (table_view old) ≡ Some (table_view workspace.now) }
+    requires takes { choice.now.some
+        ≡ takes root.now (texts private.now) (table_view workspace.now) }
+    requires adds { map parent_of (texts choice.now.paths.items)
+        ≡ folders root.now (texts private.now) (table_view workspace.now) }
+    requires work { has_work root.now (texts private.now) (table_view workspace.now) ≡ true }
+    ensures ok { IfOk result (λ s. IsWorkspaceEdit root.now (texts private.now) text.now
+        (table_view old) (table_view workspace.now) (string_bytes s)) }
+    ensures form { result ≡ Err ManifestFault.WorkspaceForm
+        → HasBadForm root.now (texts private.now) text.now }
+    ensures read_back { result ≡ Err ManifestFault.ReadBack
+        → HasWork root.now (texts private.now) text.now }
+    ensures toml { result ≢ Err ManifestFault.Toml }
+    ensures inline { result ≢ Err ManifestFault.InlineTarget }
+    ensures path { result ≢ Err ManifestFault.PathText }
+{
+    let cut = cut(alloc, text)?;
+    if is_inline(&cut.pieces, WORKSPACE)
+        || has_paths(choice.paths.as_slice()) && lacks_place(workspace, &cut.pieces)
+    {
+        return Err(ManifestFault::WorkspaceForm);
+    }
+    let Some(bytes) = joined_parts(alloc, workspace, choice, &cut.pieces, cut.tail)? else {
+        return Err(ManifestFault::ReadBack);
+    };
+    let Ok(new) = String::from_utf8(bytes) else {
+        return Err(ManifestFault::ReadBack);
+    };
+    if !reads_as_expected(alloc, root, private, old, new.as_str())? {
+        return Err(ManifestFault::ReadBack);
+    }
+    Ok(new)
+}
+
+/// What is made of the pieces, joined.
+fn joined_parts(
+    alloc: Global,
+    workspace: &Table,
+    choice: &Choice<'_>,
+    pieces: &[Piece<'_>],
+    tail: &str,
+) -> Result<Option<Vec<u8>>, AllocError>
+    ensures { IfOk result (λ o. IfSome o (λ v.
+        AreMade choice.now.some (map parent_of (texts choice.now.paths.items))
+        (table_view workspace.now) (slice_view pieces.now) tail.now v.items)) }
+{
+    let mut new = Vec::new(alloc);
+    for piece in pieces {
+        match made_of(alloc, workspace, choice, piece)? {
+            Some(part) => new.extend_from_slice(part.as_slice())?,
+            None => return Ok(None),
+        }
+    }
+    new.extend_from_slice(tail.as_bytes())?;
+    Ok(Some(new))
+}
+
+/// What is made of a piece, if the place of each change is found.
+fn made_of(
+    alloc: Global,
+    workspace: &Table,
+    choice: &Choice<'_>,
+    piece: &Piece<'_>,
+) -> Result<Option<Vec<u8>>, AllocError>
+    ensures { IfOk result (λ o. IfSome o (λ v.
+        IsMade choice.now.some (map parent_of (texts choice.now.paths.items))
+        (table_view workspace.now) (piece_view piece.now) v.items)) }
+{
+    if is_pair(&piece.path, WORKSPACE, MEMBERS) && choice.some {
+        return match without_elements(alloc, piece.text, choice.goes.as_slice())? {
+            Some(text) => Ok(Some(text.into_bytes())),
+            None => Ok(None),
+        };
+    }
+    let adds = has_paths(choice.paths.as_slice());
+    if is_pair(&piece.path, WORKSPACE, EXCLUDE) && adds {
+        return added_inside(
+            alloc,
+            piece.text,
+            choice.paths.as_slice(),
+            is_filled(workspace),
+        );
+    }
+    if is_header_of(piece, WORKSPACE) && value_at(workspace, EXCLUDE).is_none() && adds {
+        let new = with_exclude_line(alloc, piece.text, choice.paths.as_slice())?;
+        return Ok(Some(new));
+    }
+    let mut new = Vec::new(alloc);
+    new.extend_from_slice(piece.text.as_bytes())?;
+    Ok(Some(new))
+}
+
+/// Whether the workspace excludes something.
+fn is_filled(workspace: &Table) -> bool
+    ensures { result ≡ has_items (items_at exclude_key (table_view workspace.now)) }
+{
+    match value_at(workspace, EXCLUDE) {
+        Some(value) => match value {
+            Value::Array(items) => has_values(items),
+            _ => false,
+        },
+        None => false,
+    }
+}
+
+/// Whether folders can't be excluded: `exclude` is no array, or there is no place for it.
+fn lacks_place(workspace: &Table, pieces: &[Piece<'_>]) -> bool
+    ensures { result ≡ has_no_place (table_view workspace.now) (slice_view pieces.now) }
+{
+    match value_at(workspace, EXCLUDE) {
+        Some(value) => !is_array_value(value),
+        None => !any_header(pieces),
+    }
+}
+
+/// Whether a value is an array.
+fn is_array_value(value: &Value) -> bool
+    ensures { result ≡ is_array_data (view value.now) }
+{
+    match value {
+        Value::Array(_) => true,
+        _ => false,
+    }
+}
+
+/// Whether there is a header `[workspace]`.
+fn any_header(pieces: &[Piece<'_>]) -> bool
+    ensures { result ≡ some_header (slice_view pieces.now) }
+{
+    for piece in pieces {
+        if is_header_of(piece, WORKSPACE) {
+            return true;
+        }
+    }
+    false
+}
+
+/// Whether some path has control characters.
+fn any_control(paths: &[&str]) -> bool
+    ensures { result ≡ some_path_control (texts paths.now) }
+{
+    for path in paths {
+        if has_control(path) {
+            return true;
+        }
+    }
+    false
+}
+
+/// Whether a text has control characters.
+fn has_control(text: &str) -> bool
+    ensures { result ≡ some_control text.now }
+{
+    for byte in text.as_bytes() {
+        if *byte < 32 || *byte == 127 {
+            return true;
+        }
+    }
+    false
+}

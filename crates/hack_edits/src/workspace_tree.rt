@@ -1,0 +1,230 @@
+//! The tree of a manifest whose workspace is without private crates, and whether a text is read as
+//! that.
+
+ghost use Rattle.std.specs.Prelude.{◌≡◌, map, IfOk, OnOk, option_map};
+ghost use Rattle.toml.specs.Parse.{parse_document};
+ghost use Rattle.toml.specs.View.{view, table_view, array_view};
+ghost use Rattle.hack_process.specs.PathTexts.{parent_of, texts};
+ghost use Rattle.hack_edits.specs.Members.{members_left, items_of_array};
+ghost use Rattle.hack_edits.specs.WorkspaceTree.{array_of_members, members_put, with_members};
+ghost use Rattle.hack_edits.specs.WorkspaceTree.{with_texts, with_exclude, workspace_left};
+ghost use Rattle.hack_edits.specs.WorkspaceTree.{workspace_value, with_workspace, tree_left};
+ghost use Rattle.hack_edits.specs.WorkspaceTree.{reads_without};
+
+use crate::exclude::has_paths;
+use crate::members::{MEMBERS, chosen, copied, value_led, value_unled};
+use crate::same::same_table;
+use crate::tables::{put_at, tree_of};
+use hack_process::paths::parent;
+use std::alloc::{AllocError, Global};
+use toml::value::Array;
+use toml::{Table, Value};
+
+pub const WORKSPACE: &str = "workspace";
+
+pub const EXCLUDE: &str = "exclude";
+
+/// Whether a text is read as the tree that is expected.
+pub fn reads_as_expected(
+    alloc: Global,
+    root: &str,
+    private: &[&str],
+    old: Table,
+    new: &str,
+) -> Result<bool, AllocError>
+    ensures { IfOk result (λ b. b ≡ reads_without root.now (texts private.now) (table_view old)
+        (parse_document new.now)) }
+{
+    match tree_of(alloc, new)? {
+        Some(tree) => {
+            let expected = expected_tree(alloc, root, private, old)?;
+            Ok(same_table(&expected, &tree))
+        }
+        None => Ok(false),
+    }
+}
+
+/// The tree that is expected.
+fn expected_tree(
+    alloc: Global,
+    root: &str,
+    private: &[&str],
+    table: Table,
+) -> Result<Table, AllocError>
+    ensures { IfOk result (λ t. table_view t
+        ≡ tree_left root.now (texts private.now) (table_view table)) }
+{
+    let mut top = table;
+    let workspace = top.remove(WORKSPACE);
+    put_workspace(alloc, root, private, &mut top, workspace)?;
+    Ok(top)
+}
+
+/// Puts back what is expected at `workspace`.
+fn put_workspace(
+    alloc: Global,
+    root: &str,
+    private: &[&str],
+    top: &mut Table,
+    workspace: Option<Value>,
+) -> Result<(), AllocError>
+    ensures { OnOk result (table_view top.new
+        ≡ with_workspace root.now (texts private.now) (option_map view workspace)
+        (table_view top.old)) }
+{
+    match workspace {
+        Some(value) => {
+            let left = expected_value(alloc, root, private, value)?;
+            let key = String::from_str(alloc, WORKSPACE)?;
+            put_at(top, key, left)
+        }
+        None => Ok(()),
+    }
+}
+
+/// The table that is expected at `workspace`.
+fn expected_value(
+    alloc: Global,
+    root: &str,
+    private: &[&str],
+    value: Value,
+) -> Result<Value, AllocError>
+    ensures { IfOk result (λ v. view v
+        ≡ workspace_value root.now (texts private.now) (view value)) }
+{
+    match value {
+        Value::Table(workspace) => {
+            let left = expected_workspace(alloc, root, private, workspace)?;
+            Ok(Value::Table(left))
+        }
+        other => Ok(other),
+    }
+}
+
+/// The workspace that is expected.
+fn expected_workspace(
+    alloc: Global,
+    root: &str,
+    private: &[&str],
+    workspace: Table,
+) -> Result<Table, AllocError>
+    ensures { IfOk result (λ t. table_view t
+        ≡ workspace_left root.now (texts private.now) (table_view workspace)) }
+{
+    let choice = chosen(alloc, root, private, &workspace)?;
+    let kept = keep_members(alloc, root, private, workspace)?;
+    put_exclude(alloc, choice.paths.as_slice(), kept)
+}
+
+/// A workspace with the members that stay.
+fn keep_members(
+    alloc: Global,
+    root: &str,
+    paths: &[&str],
+    workspace: Table,
+) -> Result<Table, AllocError>
+    ensures { IfOk result (λ t. table_view t
+        ≡ with_members root.now (texts paths.now) (table_view workspace)) }
+{
+    let mut all = workspace;
+    let members = all.remove(MEMBERS);
+    put_members(alloc, root, paths, &mut all, members)?;
+    Ok(all)
+}
+
+/// Puts back what stays of the members.
+fn put_members(
+    alloc: Global,
+    root: &str,
+    paths: &[&str],
+    top: &mut Table,
+    members: Option<Value>,
+) -> Result<(), AllocError>
+    ensures { OnOk result (table_view top.new
+        ≡ members_put root.now (texts paths.now) (option_map view members) (table_view top.old)) }
+{
+    match members {
+        Some(value) => {
+            let kept = members_of(alloc, root, paths, value)?;
+            let key = String::from_str(alloc, MEMBERS)?;
+            put_at(top, key, kept)
+        }
+        None => Ok(()),
+    }
+}
+
+fn members_of(alloc: Global, root: &str, paths: &[&str], value: Value) -> Result<Value, AllocError>
+    ensures { IfOk result (λ v. view v ≡ array_of_members root.now (texts paths.now) (view value)) }
+{
+    match value {
+        Value::Array(items) => {
+            let kept = kept_members(alloc, root, paths, items)?;
+            Ok(Value::Array(kept))
+        }
+        other => Ok(other),
+    }
+}
+
+/// The members that stay.
+fn kept_members(
+    alloc: Global,
+    root: &str,
+    paths: &[&str],
+    items: Array,
+) -> Result<Array, AllocError>
+    ensures { IfOk result (λ v. array_view v
+        ≡ members_left root.now (texts paths.now) (array_view items)) }
+{
+    let mut left = copied(alloc, paths)?;
+    let mut kept = Array::new(alloc);
+    for item in items {
+        let led = value_led(alloc, root, &item, left.as_slice())?;
+        left = value_unled(alloc, root, &item, left.as_slice())?;
+        if !led {
+            kept.push(item)?;
+        }
+    }
+    Ok(kept)
+}
+
+/// A workspace with the folders of paths to exclude.
+fn put_exclude(alloc: Global, paths: &[&str], workspace: Table) -> Result<Table, AllocError>
+    ensures { IfOk result (λ t. table_view t
+        ≡ with_exclude (map parent_of (texts paths.now)) (table_view workspace)) }
+{
+    if !has_paths(paths) {
+        return Ok(workspace);
+    }
+    let mut all = workspace;
+    let old = all.remove(EXCLUDE);
+    let items = push_folders(alloc, into_items(alloc, old), paths)?;
+    let key = String::from_str(alloc, EXCLUDE)?;
+    put_at(&mut all, key, Value::Array(items))?;
+    Ok(all)
+}
+
+/// The items of a value that is an array, else none.
+fn into_items(alloc: Global, value: Option<Value>) -> Array
+    ensures { array_view result ≡ items_of_array (option_map view value) }
+{
+    match value {
+        Some(found) => match found {
+            Value::Array(items) => items,
+            _ => Array::new(alloc),
+        },
+        None => Array::new(alloc),
+    }
+}
+
+/// Puts the folders of paths behind items.
+fn push_folders(alloc: Global, items: Array, paths: &[&str]) -> Result<Array, AllocError>
+    ensures { IfOk result (λ a. array_view a
+        ≡ with_texts (map parent_of (texts paths.now)) (array_view items)) }
+{
+    let mut all = items;
+    for path in paths {
+        let folder = String::from_str(alloc, parent(path))?;
+        all.push(Value::String(folder))?;
+    }
+    Ok(all)
+}
