@@ -40,7 +40,8 @@ install: program
 
 bench: program
 	@cd crates/hack_rows && rt run < stdin > /dev/null
-	@tests/bench $(PROGRAM) crates/hack_rows/out/hack_rows
+	@cd crates/load_bench && rt run -- members 3 < stdin > /dev/null
+	@tests/bench $(PROGRAM) crates/hack_rows/out/hack_rows crates/load_bench/out/load_bench
 
 faults: program
 	@tests/faults $(PROGRAM)

@@ -286,3 +286,18 @@ fn texts_that_are_no_object(rt: HostRuntime) -> Result<(), Fail> {
     }
     Ok(())
 }
+
+#[test]
+fn a_million_bytes_of_white_space(rt: HostRuntime) -> Result<(), Fail> {
+    let alloc = rt.alloc();
+    let blank = " \t\r\n".repeat(alloc, 250_000)?;
+    let found = outcome(alloc, blank.as_str(), 90)?;
+    assert_eq!(rt; found.as_str(), "the output is no JSON object");
+    let packages = whole(alloc, "[]", "[]")?;
+    let text = format!(in alloc; "{blank}{packages}{blank}")?;
+    assert_eq!(rt; outcome(alloc, text.as_str(), 90)?.as_str(), "read");
+    let text = format!(in alloc; "{packages}{blank}x")?;
+    let found = outcome(alloc, text.as_str(), 90)?;
+    assert_eq!(rt; found.as_str(), "the output is no JSON object");
+    Ok(())
+}

@@ -2,7 +2,7 @@ use Rattle.std.proofs.Common.{List, ℕ, get_or, subst}
 use Rattle.std.specs.Prelude.{Contains}
 use Rattle.hack_metadata.specs.declared.resolve.PackageId.{PackageId}
 use Rattle.hack_load.proofs.MemberLemmas.{id-contained}
-use Rattle.hack_load_tests.proofs.context.shown.Goals as goal
+use Rattle.hack_load_tests.proofs.given.shown.Goals as goal
 
 pub member-requires-clause-within : goal.member-requires-clause-within
 member-requires-clause-within c =
