@@ -9,6 +9,7 @@ ghost use Rattle.hack_runs.specs.Commands.{command_of_quad, cleaning, lockfile_c
 ghost use Rattle.hack_runs.specs.Commands.{name_in, ranked_command};
 ghost use Rattle.hack_runs.specs.Plans.{counts_in};
 
+pub use crate::commands::toolchain;
 use crate::parts::{CallWords, PlanPackage, PlanVersion};
 use crate::prepared::prepared;
 use hack_plan::places::{Places, PlacesFault, Quad};

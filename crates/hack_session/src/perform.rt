@@ -16,7 +16,7 @@ use crate::screen::{Screen, Status};
 use crate::step::Step;
 use hack_process::process::{Caller, ProcessBuilder, ProcessFault};
 use hack_runs::parts::Preparation;
-use hack_runs::plan::{Plan, PlannedRun};
+use hack_runs::plan::{Plan, PlannedRun, toolchain};
 use hack_versions::version::Version;
 use std::alloc::{AllocError, Global};
 use std::io::Write;

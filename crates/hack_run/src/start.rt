@@ -1,0 +1,103 @@
+//! The runs of a plan, and the report of those that failed.
+
+use crate::fault::RunFault;
+use hack_calls::plan::Plan;
+use hack_process::process::{Caller, ProcessFault};
+use hack_session::session::{Handed, Outcome, Session, Starter, Step, drive_plan};
+use hack_term::partition::Partition;
+use hack_term::term::{LogGroup, Term};
+use std::alloc::{AllocError, Global};
+use std::io::Write;
+
+/// How runs are performed.
+#[derive(Clone, Copy)]
+pub(crate) struct Manner {
+    /// The piece of the plan that is run.
+    pub piece: Option<Partition>,
+    /// Whether runs go on behind a failed one.
+    pub keep_going: bool,
+    pub log_group: LogGroup,
+}
+
+/// Performs a piece of the plan, and reports the runs that failed.
+pub(crate) fn start<C: Caller, O: Write, E: Write>(
+    alloc: Global,
+    plan: Plan,
+    manner: Manner,
+    term: &mut Term,
+    caller: &mut C,
+    out: &mut O,
+    err: &mut E,
+) -> Result<(), RunFault> {
+    let (session, fault) = driven(alloc, plan, manner, term, caller, out, err)?;
+    report(alloc, &session, term, err)?;
+    match fault {
+        Some(fault) => Err(RunFault::Process(fault)),
+        None => Ok(()),
+    }
+}
+
+/// Hands the plan to a starter; with the fault that stopped it, where it isn't told yet.
+fn driven<C: Caller, O: Write, E: Write>(
+    alloc: Global,
+    plan: Plan,
+    manner: Manner,
+    term: &mut Term,
+    caller: &mut C,
+    out: &mut O,
+    err: &mut E,
+) -> Result<(Session, Option<ProcessFault>), AllocError> {
+    let mut starter = Starter {
+        alloc,
+        caller,
+        term,
+        out,
+        err,
+        log_group: manner.log_group,
+        keep_going: manner.keep_going,
+        fault: None,
+        refused: 0,
+    };
+    let session = drive_plan(alloc, plan, manner.piece, manner.keep_going, &mut starter)?;
+    Ok((session, starter.fault))
+}
+
+/// Reports the runs that failed, where runs go on behind them and each preparation passed.
+fn report<E: Write>(
+    alloc: Global,
+    session: &Session,
+    term: &mut Term,
+    err: &mut E,
+) -> Result<(), AllocError> {
+    if is_unprepared(session.handed()) {
+        return Ok(());
+    }
+    let report = session.report(alloc)?;
+    if report.count == 0 {
+        return Ok(());
+    }
+    let text = format!(in alloc; "{report}")?;
+    let _ = err.write_all(b"\n");
+    let _ = term.error(&text, err);
+    Ok(())
+}
+
+/// Whether a preparation failed.
+fn is_unprepared(handed: &[Handed]) -> bool {
+    for one in handed {
+        if is_failed_preparation(*one) {
+            return true;
+        }
+    }
+    false
+}
+
+fn is_failed_preparation(handed: Handed) -> bool {
+    match handed.outcome {
+        Outcome::Passed => false,
+        Outcome::Failed => match handed.step {
+            Step::Prepare(_) => true,
+            Step::Skip(_) | Step::Run(_) => false,
+        },
+    }
+}
