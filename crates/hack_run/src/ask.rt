@@ -1,5 +1,15 @@
 //! What rustup is asked before there is a plan: its own version, and that of the toolchain `stable`.
 
+ghost use Rattle.std.specs.Prelude.{◌≡◌, IfOk, IfSome, IsSome, OnOk, false, string_bytes};
+ghost use Rattle.hack_process.specs.Calls.{MayAdd};
+ghost use Rattle.hack_process.specs.CargoTexts.{release_part};
+ghost use Rattle.hack_process.specs.Commands.{command_of};
+ghost use Rattle.hack_versions.specs.RangeSteps.{NeedsStable};
+ghost use Rattle.hack_versions.specs.ToolTexts.{TellsRelease};
+ghost use Rattle.hack_run.specs.Questions.{AsksStable, InstallsStable, IsLatest, ReadsStable};
+ghost use Rattle.hack_run.specs.Questions.{rustup_asked, rustup_command as asks_rustup};
+ghost use Rattle.hack_run.specs.Questions.{stable_command as asks_stable};
+
 use hack_process::cargo::version;
 use hack_process::process::{Caller, ProcessBuilder, ProcessFault};
 use hack_session::rustup::install_toolchain;
@@ -18,7 +28,10 @@ pub(crate) fn rustup_for<C: Caller>(
     env: &Env,
     verbose: bool,
     caller: &mut C,
-) -> Result<Rustup, AllocError> {
+) -> Result<Rustup, AllocError>
+    ensures { C.tells → MayAdd (rustup_asked (string_bytes env.now.rustup))
+        (C.calls caller.old) (C.calls caller.new) }
+{
     if !wants_rustup(words) {
         return Ok(Rustup::Known(u32::MAX));
     }
@@ -29,7 +42,9 @@ pub(crate) fn rustup_for<C: Caller>(
     }
 }
 
-fn rustup_command<'a>(alloc: Global, env: &Env) -> Result<ProcessBuilder<'a>, AllocError> {
+fn rustup_command<'a>(alloc: Global, env: &Env) -> Result<ProcessBuilder<'a>, AllocError>
+    ensures { IfOk result (λ asked. command_of asked ≡ asks_rustup (string_bytes env.now.rustup)) }
+{
     let mut asked = ProcessBuilder::new(alloc, env.rustup.as_str())?;
     asked.arg("--version")?;
     Ok(asked)
@@ -72,7 +87,13 @@ pub(crate) fn stable_for<C: Caller>(
     env: &Env,
     term: &Term,
     caller: &mut C,
-) -> Result<Result<Option<Version>, String>, AllocError> {
+) -> Result<Result<Option<Version>, String>, AllocError>
+    ensures asked { IfOk result (λ stable. C.tells → AsksStable (string_bytes env.now.rustup)
+        stable (C.calls caller.old) (C.calls caller.new)) }
+    ensures needed { IfOk result (λ stable. IsSome args.now.subcommand
+        → IfSome args.now.version_range (λ range. NeedsStable range
+        → IfOk stable (λ latest. IsSome latest))) }
+{
     if args.subcommand.is_none() || !is_stable_asked(args) {
         return Ok(Ok(None));
     }
@@ -83,7 +104,9 @@ pub(crate) fn stable_for<C: Caller>(
 }
 
 /// Whether a bound of the range is stable's version.
-fn is_stable_asked(args: &Args) -> bool {
+fn is_stable_asked(args: &Args) -> bool
+    ensures { result ≡ false → IfSome args.now.version_range (λ range. ¬ NeedsStable range) }
+{
     match args.version_range {
         Some(range) => needs_stable(range),
         None => false,
@@ -96,7 +119,10 @@ fn installed<C: Caller>(
     env: &Env,
     term: &Term,
     caller: &mut C,
-) -> Result<(), ProcessFault> {
+) -> Result<(), ProcessFault>
+    ensures { OnOk result (C.tells → InstallsStable (string_bytes env.now.rustup)
+        (C.calls caller.old) (C.calls caller.new)) }
+{
     let mut screen = Screen {
         term,
         out: &mut io::sink(),
@@ -119,14 +145,18 @@ fn installed<C: Caller>(
 fn stable_fault(
     alloc: Global,
     fault: ProcessFault,
-) -> Result<Result<Option<Version>, String>, AllocError> {
+) -> Result<Result<Option<Version>, String>, AllocError>
+    ensures { IfOk result (IsLatest (λ _. ⊥)) }
+{
     match fault {
         ProcessFault::Memory => Err(AllocError),
         fault => Ok(Err(format!(in alloc; "{fault}")?)),
     }
 }
 
-fn stable_command<'a>(alloc: Global, env: &Env) -> Result<ProcessBuilder<'a>, AllocError> {
+fn stable_command<'a>(alloc: Global, env: &Env) -> Result<ProcessBuilder<'a>, AllocError>
+    ensures { IfOk result (λ asked. command_of asked ≡ asks_stable (string_bytes env.now.rustup)) }
+{
     let mut asked = ProcessBuilder::new(alloc, env.rustup.as_str())?;
     asked.args(&["run", "stable", "cargo", "-vV"])?;
     Ok(asked)
@@ -138,7 +168,10 @@ fn stable_version<C: Caller>(
     env: &Env,
     verbose: bool,
     caller: &mut C,
-) -> Result<Result<Option<Version>, String>, AllocError> {
+) -> Result<Result<Option<Version>, String>, AllocError>
+    ensures { IfOk result (IsLatest (λ v. C.tells → ReadsStable (string_bytes env.now.rustup) v
+        (C.calls caller.old) (C.calls caller.new))) }
+{
     let asked = stable_command(alloc, env)?;
     match asked.read(alloc, caller, env.current_dir.as_str()) {
         Ok(text) => stable_in(alloc, &asked, text.as_str(), env, verbose),
@@ -153,7 +186,9 @@ fn stable_in(
     answer: &str,
     env: &Env,
     verbose: bool,
-) -> Result<Result<Option<Version>, String>, AllocError> {
+) -> Result<Result<Option<Version>, String>, AllocError>
+    ensures { IfOk result (IsLatest (TellsRelease (release_part answer.now))) }
+{
     match version(alloc, answer) {
         Ok(version) => Ok(Ok(Some(version))),
         Err(VersionTextFault::Memory) => Err(AllocError),

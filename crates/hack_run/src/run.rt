@@ -1,6 +1,11 @@
 //! A whole call of `cargo hack`: what its words ask for is done, and told on the way.
 
-ghost use Rattle.std.specs.Prelude.{◌≡◌, ◌↔◌, ◌⊎◌, ◌≤◌, IsTrue};
+ghost use Rattle.std.specs.Prelude.{◌≡◌, ◌↔◌, ◌⊎◌, ◌≤◌, IsErr, IsTrue, OnOk, false, true};
+ghost use Rattle.std.specs.Prelude.{string_bytes};
+ghost use Rattle.hack_features.specs.Names.{names_of};
+ghost use Rattle.hack_process.specs.Calls.{MayAdd};
+ghost use Rattle.hack_run.specs.Questions.{rustup_asked};
+ghost use Rattle.hack_run.specs.Whole.{AreRefused, IsDone, ListsCommands, Obeys};
 
 use crate::ask::rustup_for;
 use crate::fault::RunFault;
@@ -30,6 +35,18 @@ pub fn run<F: Files, C: Caller, O: Write, E: Write>(
     ensures one { (result ≡ 1)
         ↔ (IsTrue term.new.error ⊎ (IsTrue term.new.warn × IsTrue env.now.deny_warnings)) }
     ensures at_most_one { result ≤ 1 }
+
+    // Words that are refused whatever rustup answers are told as an error, and then it was asked for
+    // its version at most.
+    ensures refused { AreRefused env.now (names_of words.now) → (term.new.error ≡ true)
+        × (C.tells → MayAdd (rustup_asked (string_bytes env.now.rustup))
+        (C.calls runner.old) (C.calls runner.new)) }
+
+    // Where no error was told, what the words ask for was done: the calls end with those of the
+    // whole schedule of the plan, for what was told and read in this call.
+    ensures done { term.new.error ≡ false → C.tells → F.tells → IsDone (names_of words.now)
+        env.now (F.bytes_at files.old) (F.failed files.old)
+        (C.calls runner.old) (C.calls runner.new) }
 {
     match read(alloc, words, env, term, files, runner, out, err) {
         Ok(()) => (),
@@ -48,7 +65,14 @@ fn read<F: Files, C: Caller, O: Write, E: Write>(
     runner: &mut C,
     out: &mut O,
     err: &mut E,
-) -> Result<(), RunFault> {
+) -> Result<(), RunFault>
+    ensures refused { AreRefused env.now (names_of words.now) → IsErr result
+        × (C.tells → MayAdd (rustup_asked (string_bytes env.now.rustup))
+        (C.calls runner.old) (C.calls runner.new)) }
+    ensures done { OnOk result (term.new.error ≡ false → C.tells → F.tells
+        → IsDone (names_of words.now) env.now (F.bytes_at files.old) (F.failed files.old)
+        (C.calls runner.old) (C.calls runner.new)) }
+{
     let rustup = rustup_for(alloc, words, env, term.verbose, runner)?;
     match Args::parse(alloc, words, env, rustup) {
         Ok(answer) => {
@@ -80,7 +104,11 @@ fn obey<F: Files, C: Caller, O: Write, E: Write>(
     runner: &mut C,
     out: &mut O,
     err: &mut E,
-) -> Result<(), RunFault> {
+) -> Result<(), RunFault>
+    ensures { OnOk result (term.new.error ≡ false → C.tells → F.tells
+        → Obeys parsed env.now (F.bytes_at files.old) (F.failed files.old)
+        (C.calls runner.old) (C.calls runner.new)) }
+{
     match parsed {
         Parsed::Args(args) => {
             dress(term, &args);
@@ -114,7 +142,10 @@ fn print<O: Write>(text: &str, out: &mut O) -> Result<(), RunFault> {
 }
 
 /// Has cargo list its commands.
-fn list_commands<C: Caller>(alloc: Global, env: &Env, runner: &mut C) -> Result<(), RunFault> {
+fn list_commands<C: Caller>(alloc: Global, env: &Env, runner: &mut C) -> Result<(), RunFault>
+    ensures { OnOk result (C.tells → ListsCommands (string_bytes env.now.cargo)
+        (C.calls runner.old) (C.calls runner.new)) }
+{
     let mut command = ProcessBuilder::new(alloc, env.cargo.as_str())?;
     command.arg("--list")?;
     match command.run(alloc, runner, env.current_dir.as_str()) {

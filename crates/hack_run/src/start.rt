@@ -1,5 +1,8 @@
 //! The runs of a plan, and the report of those that failed.
 
+ghost use Rattle.std.specs.Prelude.{◌≡◌, ◌⊎◌, IfOk, None, OnOk, false, true};
+ghost use Rattle.hack_run.specs.Whole.{RunsAll};
+
 use crate::fault::RunFault;
 use hack_calls::plan::Plan;
 use hack_process::process::{Caller, ProcessFault};
@@ -28,7 +31,10 @@ pub(crate) fn start<C: Caller, O: Write, E: Write>(
     caller: &mut C,
     out: &mut O,
     err: &mut E,
-) -> Result<(), RunFault> {
+) -> Result<(), RunFault>
+    ensures { OnOk result (term.new.error ≡ false → C.tells
+        → RunsAll plan manner.piece (C.calls caller.old) (C.calls caller.new)) }
+{
     let (session, fault) = driven(alloc, plan, manner, term, caller, out, err)?;
     report(alloc, &session, term, err)?;
     match fault {
@@ -46,7 +52,10 @@ fn driven<C: Caller, O: Write, E: Write>(
     caller: &mut C,
     out: &mut O,
     err: &mut E,
-) -> Result<(Session, Option<ProcessFault>), AllocError> {
+) -> Result<(Session, Option<ProcessFault>), AllocError>
+    ensures { IfOk result (λ came. came.1 ≡ None → term.new.error ≡ false → C.tells
+        → RunsAll plan manner.piece (C.calls caller.old) (C.calls caller.new)) }
+{
     let mut starter = Starter {
         alloc,
         caller,
@@ -68,7 +77,9 @@ fn report<E: Write>(
     session: &Session,
     term: &mut Term,
     err: &mut E,
-) -> Result<(), AllocError> {
+) -> Result<(), AllocError>
+    ensures { term.new.error ≡ false → term.old.error ≡ false }
+{
     if is_unprepared(session.handed()) {
         return Ok(());
     }

@@ -1,6 +1,6 @@
 //! What the user is told. A line that can't be written is left out.
 
-ghost use Rattle.std.specs.Prelude.{◌≡◌};
+ghost use Rattle.std.specs.Prelude.{◌≡◌, true};
 
 use crate::fault::RunFault;
 use hack_term::term::Term;

@@ -1,6 +1,6 @@
 //! Calls over a caller and files in memory.
 
-use hack_files::fs::{Files, MemoryFiles};
+use hack_files::fs::{FailingWriter, Files, MemoryFiles};
 use hack_process::process::{End, FakeCaller};
 use hack_run::run::run;
 use hack_term::term::{Coloring, Term};
@@ -42,7 +42,7 @@ pub const PLAIN: Given<'static> = Given {
     cargo: "cargo",
 };
 
-/// The questions of each call, a line each.
+/// The questions of each call behind its words, a line each. They are told as `asked`.
 pub const ASKED: &str = "cargo -vV
 rustup run stable cargo -vV
 cargo metadata --format-version=1 --no-deps
@@ -151,18 +151,18 @@ fn push_bytes(text: &mut String, name: &str, bytes: Vec<u8>) -> Result<(), Fail>
     }
 }
 
-/// The calls behind the questions, each a line.
+/// The calls, each a line.
 fn push_calls(alloc: Global, text: &mut String, caller: &FakeCaller) -> Result<(), AllocError> {
     let mut calls = String::new(alloc);
     for made in caller.made() {
         calls.push_str(format!(in alloc; "{made}\n")?.as_str())?;
     }
     match calls.as_str().strip_prefix(ASKED) {
-        Some(rest) => text.push_str(rest),
-        None => {
+        Some(rest) => {
             text.push_str("asked\n")?;
-            text.push_str(&calls)
+            text.push_str(rest)
         }
+        None => text.push_str(&calls),
     }
 }
 
@@ -194,6 +194,33 @@ pub fn called(alloc: Global, given: Given<'_>, words: &str) -> Result<String, Fa
     if files.steps().len() > 1 {
         text.push_str("files changed\n")?;
     }
+    Ok(text)
+}
+
+/// What comes of a call whose output fails at the first write: its status, and what it tells.
+pub fn unwritten(alloc: Global, words: &str) -> Result<String, Fail> {
+    let mut files = MemoryFiles::new(alloc);
+    let manifest = manifest(alloc, PLAIN)?;
+    if files.write("/w/Cargo.toml", manifest.as_bytes()).is_err() {
+        return Err(Fail::new("no manifest"));
+    }
+    let mut caller = caller_of(alloc, PLAIN)?;
+    let mut term = Term::new(Coloring::Never, false);
+    let below: Vec<u8> = Vec::new(alloc);
+    let mut out = FailingWriter::new(below, 1);
+    let mut err: Vec<u8> = Vec::new(alloc);
+    let status = run(
+        alloc,
+        words_of(alloc, words)?.as_slice(),
+        &env_of(alloc, PLAIN)?,
+        &mut term,
+        &mut files,
+        &mut caller,
+        &mut out,
+        &mut err,
+    );
+    let mut text = format!(in alloc; "status {status}\n")?;
+    push_bytes(&mut text, "err\n", err)?;
     Ok(text)
 }
 
