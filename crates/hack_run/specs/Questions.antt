@@ -2,12 +2,13 @@
 use Rattle.std.specs.Prelude.{◌≡◌, ◌∷◌, [], List, Option, Some, None, Result, Ok, Err, codes, true}
 use Rattle.std.proofs.Common.{Global, String}
 use Rattle.hack_features.specs.Names.{Name}
-use Rattle.hack_process.specs.Calls.{Asked, Call}
+use Rattle.hack_process.specs.Calls.{Asked, Call, IsSuccess}
 use Rattle.hack_process.specs.CargoTexts.{release_part}
 use Rattle.hack_process.specs.Commands.{asked_of}
 use Rattle.hack_process.specs.CommandTexts.{Command}
-use Rattle.hack_metadata.specs.Asks.{Reads}
-use Rattle.hack_metadata.specs.Requests.{command_line}
+
+use Rattle.hack_process.specs.Faults.{Had, without_line_ends}
+use Rattle.hack_runs.specs.Commands.{plain_command}
 use Rattle.hack_versions.specs.ToolTexts.{TellsRelease}
 use Rattle.hack_versions.specs.declared.version.Version.{Version}
 use Rattle.hack_session.specs.Performs.{Installs, Makes}
@@ -16,7 +17,7 @@ use Rattle.hack_session.specs.declared.step.Outcome.TheVariants.{Passed}
 
 -- rustup is asked for its version
 abbrev pub rustup_command : Name → Command
-rustup_command rustup = command_line rustup (codes "--version" ∷ [])
+rustup_command rustup = plain_command rustup [] (codes "--version" ∷ [])
 
 -- the same, as a caller is asked
 abbrev pub rustup_asked : Name → Asked
@@ -24,7 +25,7 @@ rustup_asked rustup = asked_of true (rustup_command rustup)
 
 -- stable's cargo is asked for its version
 abbrev pub stable_command : Name → Command
-stable_command rustup = command_line rustup (codes "run" ∷ codes "stable" ∷ codes "cargo" ∷ codes "-vV" ∷ [])
+stable_command rustup = plain_command rustup [] (codes "run" ∷ codes "stable" ∷ codes "cargo" ∷ codes "-vV" ∷ [])
 
 -- the toolchain `stable` was tried, and added where that failed
 abbrev pub InstallsStable : Name → List Call → List Call → Type 0
@@ -34,7 +35,7 @@ InstallsStable rustup old new =
 -- stable's cargo told this version
 pub record ReadsStable (rustup : Name) (v : Version) (old new : List Call) : Type 0 where
   pub answer : Name
-  pub read : Reads (stable_command rustup) answer old new
+  pub read : Had (λ told. IsSuccess told.end × (answer ≡ without_line_ends told.stdout)) (asked_of true (stable_command rustup)) old new
   pub told : TellsRelease (release_part answer) v
 
 -- the toolchain was made sure of, and then its cargo told this version

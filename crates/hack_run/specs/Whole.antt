@@ -1,12 +1,11 @@
 -- What a call did that told no error.
-use Rattle.std.specs.Prelude.{◌≡◌, ◌++◌, ◌∷◌, [], ℕ, false, List, Option, Result, codes, string_bytes}
+use Rattle.std.specs.Prelude.{◌≡◌, ◌∷◌, [], ℕ, false, List, Option, Result, codes, string_bytes}
 use Rattle.std.proofs.Common.{Global, String}
 use Rattle.hack_features.specs.Names.{Name}
 use Rattle.hack_files.specs.Files.{Contents}
 use Rattle.hack_process.specs.Calls.{Call, IsSuccess, MayAdd}
 use Rattle.hack_process.specs.Commands.{asked_of}
 use Rattle.hack_process.specs.Faults.{Had}
-use Rattle.hack_metadata.specs.Requests.{command_line}
 use Rattle.hack_load.specs.Answers.{AreAnswers}
 use Rattle.hack_load.specs.ContextOf.{IsContextFrom}
 use Rattle.hack_load.specs.Contexts.{ContextRecord}
@@ -21,30 +20,15 @@ use Rattle.hack_words.specs.declared.cli.env.Env.{Env}
 use Rattle.hack_words.specs.declared.cli.parse.Parsed.{Parsed}
 use Rattle.hack_words.specs.declared.cli.parse.Parsed.TheVariants as parsed
 use Rattle.hack_rules.specs.CliFaults.{Fault}
-use Rattle.hack_term.specs.declared.partition.Partition.{Partition}
+use Rattle.hack_runs.specs.Commands.{plain_command}
 use Rattle.hack_runs.specs.View.{PlanView}
 use Rattle.hack_calls.specs.Made.{IsPlanOf}
-use Rattle.hack_session.specs.Performs.{Exactly, Makes}
-use Rattle.hack_session.specs.Schedules.{IsSchedule}
-use Rattle.hack_session.specs.declared.step.Step.{Step}
-use Rattle.hack_session.specs.declared.step.Outcome.TheVariants.{Passed}
 use Rattle.hack_run.specs.Questions.{AsksStable, rustup_asked}
+use Rattle.hack_run.specs.Runs.{RunsAll}
 
 -- the words are refused, whatever rustup answers
 abbrev pub AreRefused : Env → List Name → Type 0
 AreRefused env words = (rustup : Rustup) → (told : Fault) × ComesTo (around_of env rustup) words (Faulty told)
-
--- the calls are those of the steps, one behind the other, each of which passed
-abbrev pub PassesAll : PlanView → List Step → List Call → Type 0
-PassesAll plan [] calls = calls ≡ []
-PassesAll plan (step ∷ steps) calls =
-    (first rest : List Call) × (calls ≡ first ++ rest) × Exactly plan step first Passed × PassesAll plan steps rest
-
--- new is old with the calls of the whole schedule of a plan and a piece behind it
-pub record RunsAll (plan : PlanView) (piece : Option Partition) (old new : List Call) : Type 0 where
-  pub schedule : List Step
-  pub scheduled : IsSchedule piece plan schedule
-  pub ran : Makes (PassesAll plan schedule) old new
 
 -- the plan of a context, where this was asked of stable
 pub record IsPlanned (cx : ContextRecord) (rustup : Name) (tells : Type 0) (old new : List Call) (plan : PlanView) : Type 0 where
@@ -72,7 +56,7 @@ pub record Performs (args : Args) (env : Env) (held : Contents) (before : ℕ) (
 
 -- cargo listed its commands
 abbrev pub ListsCommands : Name → List Call → List Call → Type 0
-ListsCommands cargo old new = Had (λ answer. IsSuccess answer.end) (asked_of false (command_line cargo (codes "--list" ∷ []))) old new
+ListsCommands cargo old new = Had (λ answer. IsSuccess answer.end) (asked_of false (plain_command cargo [] (codes "--list" ∷ []))) old new
 
 -- what words ask for was done: the schedule was run, unless it was to be listed; a text was printed; or cargo listed its commands
 abbrev pub Obeys : Parsed → Env → Contents → ℕ → List Call → List Call → Type 0

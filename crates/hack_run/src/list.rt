@@ -1,9 +1,9 @@
 //! The command list of a plan.
 
 use crate::fault::RunFault;
-use hack_calls::plan::Plan;
 use hack_process::process::{Caller, ProcessFault};
-use hack_session::session::{LineWriter, Lister, Starter, drive_plan};
+use hack_runs::plan::Plan;
+use hack_session::session::{LineWriter, Lines, Lister, Runner, Starter, drive_plan};
 use hack_term::partition::Partition;
 use hack_term::term::{LogGroup, Term};
 use std::alloc::{AllocError, Global};
@@ -35,46 +35,59 @@ pub(crate) fn list<C: Caller, O: Write, E: Write>(
         Ok(buffer) => buffer,
         Err(_) => return Err(RunFault::Memory),
     };
-    let came = hand_to_lister(alloc, plan, piece, term, caller, &mut buffer, err);
+    let came = hand_to_lister(alloc, plan, piece, term, caller, &mut buffer, &mut io::sink(), err);
     let flushed = buffer.flush().is_ok();
     ended(came, flushed)
 }
 
 /// Hands the plan to a lister over the writer.
-fn hand_to_lister<C: Caller, O: Write, E: Write>(
+fn hand_to_lister<'a, C: Caller, O: Write, S: Write, E: Write>(
     alloc: Global,
     plan: Plan,
     piece: Option<Partition>,
-    term: &mut Term,
-    caller: &mut C,
-    out: &mut O,
-    err: &mut E,
+    term: &'a mut Term,
+    caller: &'a mut C,
+    out: &'a mut O,
+    spare: &'a mut S,
+    err: &'a mut E,
 ) -> Listed {
     let mut starter = Starter {
         alloc,
-        caller,
-        term,
-        out: &mut io::sink(),
-        err,
+        caller: &mut *caller,
+        term: &mut *term,
+        out: &mut *spare,
+        err: &mut *err,
         log_group: LogGroup::None,
         keep_going: false,
         fault: None,
         refused: 0,
     };
     let mut lines = LineWriter { out, failed: 0 };
-    let mut lister = Lister {
-        alloc,
-        out: &mut lines,
-        runner: &mut starter,
-        refused: 0,
-    };
-    let driven = drive_plan(alloc, plan, piece, false, &mut lister).is_ok();
-    let refused = !driven || lister.refused > 0;
-    let failed = lines.failed;
+    let refused = list_over(alloc, plan, piece, &mut lines, &mut starter);
     Listed {
         refused,
         fault: starter.fault,
-        failed,
+        failed: lines.failed,
+    }
+}
+
+/// Lists the plan on lines, over a runner for what isn't listed; whether memory was refused.
+fn list_over<'a, W: Lines, R: Runner>(
+    alloc: Global,
+    plan: Plan,
+    piece: Option<Partition>,
+    out: &'a mut W,
+    runner: &'a mut R,
+) -> bool {
+    let mut lister = Lister {
+        alloc,
+        out,
+        runner,
+        refused: 0,
+    };
+    match drive_plan(alloc, plan, piece, false, &mut lister) {
+        Ok(_) => lister.refused > 0,
+        Err(AllocError) => true,
     }
 }
 

@@ -3,7 +3,8 @@
 ghost use Rattle.std.specs.Prelude.{◌≡◌, IfOk, OnOk, false, string_bytes};
 ghost use Rattle.hack_load.specs.ContextOf.{IsContextFrom};
 ghost use Rattle.hack_load.specs.ContextView.{context_view};
-ghost use Rattle.hack_run.specs.Whole.{Follows, IsPlanned, Performs, RunsAll};
+ghost use Rattle.hack_run.specs.Runs.{RunsAll};
+ghost use Rattle.hack_run.specs.Whole.{Follows, IsPlanned, Performs};
 
 use crate::ask::stable_for;
 use crate::edits::edits;
@@ -11,11 +12,12 @@ use crate::fault::RunFault;
 use crate::list::list;
 use crate::start::{Manner, start};
 use crate::tell::tell_all;
-use hack_calls::plan::{Plan, plan_of};
+use hack_calls::plan::plan_of;
 use hack_files::fs::Files;
 use hack_files::restore::Manager;
 use hack_load::context::{Answers, Context};
 use hack_process::process::Caller;
+use hack_runs::plan::Plan;
 use hack_term::term::Term;
 use hack_words::cli::{Args, Env};
 use std::alloc::Global;

@@ -1,11 +1,11 @@
 //! The runs of a plan, and the report of those that failed.
 
 ghost use Rattle.std.specs.Prelude.{◌≡◌, ◌⊎◌, IfOk, None, OnOk, false, true};
-ghost use Rattle.hack_run.specs.Whole.{RunsAll};
+ghost use Rattle.hack_run.specs.Runs.{RunsAll};
 
 use crate::fault::RunFault;
-use hack_calls::plan::Plan;
 use hack_process::process::{Caller, ProcessFault};
+use hack_runs::plan::Plan;
 use hack_session::session::{Handed, Outcome, Session, Starter, Step, drive_plan};
 use hack_term::partition::Partition;
 use hack_term::term::{LogGroup, Term};
@@ -58,10 +58,10 @@ fn driven<C: Caller, O: Write, E: Write>(
 {
     let mut starter = Starter {
         alloc,
-        caller,
-        term,
-        out,
-        err,
+        caller: &mut *caller,
+        term: &mut *term,
+        out: &mut *out,
+        err: &mut *err,
         log_group: manner.log_group,
         keep_going: manner.keep_going,
         fault: None,

@@ -24,8 +24,7 @@ pub(crate) fn tell<E: Write>(alloc: Global, fault: &RunFault, term: &mut Term, e
 
 /// Tells notices.
 pub(crate) fn tell_all<E: Write>(notices: &[Notice], term: &mut Term, err: &mut E)
-    ensures error { term.new.error ≡ term.old.error }
-    ensures verbose { term.new.verbose ≡ term.old.verbose }
+    ensures { term.new.error ≡ term.old.error }
 {
     for notice in notices {
         let _ = term.notice(notice, err);
