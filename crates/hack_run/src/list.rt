@@ -1,9 +1,10 @@
 //! The command list of a plan.
 
 use crate::fault::RunFault;
+use crate::start::{Manner, starter};
 use hack_process::process::{Caller, ProcessFault};
 use hack_runs::plan::Plan;
-use hack_session::session::{LineWriter, Lines, Lister, Runner, Starter, drive_plan};
+use hack_session::session::{LineWriter, Lines, Lister, Runner, drive_plan};
 use hack_term::partition::Partition;
 use hack_term::term::{LogGroup, Term};
 use std::alloc::{AllocError, Global};
@@ -51,22 +52,18 @@ fn hand_to_lister<C: Caller, O: Write, E: Write>(
     err: &mut E,
 ) -> Listed {
     let mut nothing = io::sink();
-    let mut starter = Starter {
-        alloc,
-        caller,
-        term,
-        out: &mut nothing,
-        err,
-        log_group: LogGroup::None,
+    let mut fault = None;
+    let manner = Manner {
+        piece,
         keep_going: false,
-        fault: None,
-        refused: 0,
+        log_group: LogGroup::None,
     };
+    let mut starter = starter(alloc, manner, &mut fault, term, caller, &mut nothing, err);
     let mut lines = LineWriter { out, failed: 0 };
     let refused = list_over(alloc, plan, piece, &mut lines, &mut starter);
     Listed {
         refused,
-        fault: starter.fault,
+        fault,
         failed: lines.failed,
     }
 }

@@ -1,16 +1,16 @@
 //! A whole call of `cargo hack`: what its words ask for is done, and told on the way.
 
-ghost use Rattle.std.specs.Prelude.{◌≡◌, ◌↔◌, ◌⊎◌, ◌≤◌, IsErr, IsTrue, OnOk, true};
+ghost use Rattle.std.specs.Prelude.{◌≡◌, ◌↔◌, ◌⊎◌, ◌≤◌, IsErr, IsTrue, OnOk, false, true};
 ghost use Rattle.std.specs.Prelude.{string_bytes};
 ghost use Rattle.hack_features.specs.Names.{names_of};
 ghost use Rattle.hack_process.specs.Calls.{MayAdd};
 ghost use Rattle.hack_run.specs.Questions.{rustup_asked};
-ghost use Rattle.hack_run.specs.Whole.{AreRefused, ListsCommands};
+ghost use Rattle.hack_run.specs.Whole.{AreRefused, IsDone, ListsCommands, Obeys};
 
 use crate::ask::rustup_for;
 use crate::fault::RunFault;
 use crate::stages::perform;
-use crate::tell::{tell, tell_all};
+use crate::tell::{tell_all, tell_end};
 use hack_files::fs::Files;
 use hack_process::process::{Caller, ProcessBuilder, ProcessFault};
 use hack_term::term::{Coloring, Term};
@@ -41,11 +41,15 @@ pub fn run<F: Files, C: Caller, O: Write, E: Write>(
     ensures refused { AreRefused env.now (names_of words.now) → (term.new.error ≡ true)
         × (C.tells → MayAdd (rustup_asked (string_bytes env.now.rustup))
         (C.calls runner.old) (C.calls runner.new)) }
+
+    // Where no error was told, what the words ask for was done: the calls end with those of the
+    // whole schedule of the plan, for what was told and read in this call.
+    ensures done { term.new.error ≡ false → C.tells → F.tells → IsDone (names_of words.now)
+        env.now (F.bytes_at files.old) (F.failed files.old)
+        (C.calls runner.old) (C.calls runner.new) }
 {
-    match read(alloc, words, env, term, files, runner, out, err) {
-        Ok(()) => (),
-        Err(fault) => tell(alloc, &fault, term, err),
-    }
+    let came = read(alloc, words, env, term, files, runner, out, err);
+    tell_end(alloc, came, term, err);
     term.status(env.deny_warnings)
 }
 
@@ -60,8 +64,11 @@ fn read<F: Files, C: Caller, O: Write, E: Write>(
     out: &mut O,
     err: &mut E,
 ) -> Result<(), RunFault>
-    ensures { AreRefused env.now (names_of words.now) → IsErr result
+    ensures refused { AreRefused env.now (names_of words.now) → IsErr result
         × (C.tells → MayAdd (rustup_asked (string_bytes env.now.rustup))
+        (C.calls runner.old) (C.calls runner.new)) }
+    ensures done { OnOk result (term.new.error ≡ false → C.tells → F.tells
+        → IsDone (names_of words.now) env.now (F.bytes_at files.old) (F.failed files.old)
         (C.calls runner.old) (C.calls runner.new)) }
 {
     let rustup = rustup_for(alloc, words, env, term.verbose, runner)?;
@@ -95,7 +102,11 @@ fn obey<F: Files, C: Caller, O: Write, E: Write>(
     runner: &mut C,
     out: &mut O,
     err: &mut E,
-) -> Result<(), RunFault> {
+) -> Result<(), RunFault>
+    ensures { OnOk result (term.new.error ≡ false → C.tells → F.tells
+        → Obeys parsed env.now (F.bytes_at files.old) (F.failed files.old)
+        (C.calls runner.old) (C.calls runner.new)) }
+{
     match parsed {
         Parsed::Args(args) => {
             dress(term, &args);

@@ -1,9 +1,10 @@
 //! The stages of a call behind its words: what is loaded, the plan, and its runs or their list.
 
-ghost use Rattle.std.specs.Prelude.{IfOk, string_bytes};
+ghost use Rattle.std.specs.Prelude.{◌≡◌, IfOk, OnOk, false, string_bytes};
 ghost use Rattle.hack_load.specs.ContextOf.{IsContextFrom};
 ghost use Rattle.hack_load.specs.ContextView.{context_view};
-ghost use Rattle.hack_run.specs.Whole.{IsPlanned};
+ghost use Rattle.hack_run.specs.Runs.{RunsAll};
+ghost use Rattle.hack_run.specs.Whole.{Follows, IsPlanned, Performs};
 
 use crate::ask::stable_for;
 use crate::edits::edits;
@@ -32,7 +33,11 @@ pub(crate) fn perform<F: Files, C: Caller, O: Write, E: Write>(
     caller: &mut C,
     out: &mut O,
     err: &mut E,
-) -> Result<(), RunFault> {
+) -> Result<(), RunFault>
+    ensures { OnOk result (args.print_command_list ≡ false → term.new.error ≡ false
+        → C.tells → F.tells → Performs args env.now (F.bytes_at files.old) (F.failed files.old)
+        (C.calls caller.old) (C.calls caller.new)) }
+{
     let mut manager = Manager::new(alloc, !args.remove_dev_deps);
     let answers = Answers::ask(alloc, &args, env, caller, files, &mut manager);
     let came = follow(alloc, args, answers, env, term, caller, out, err);
@@ -50,7 +55,11 @@ fn follow<C: Caller, O: Write, E: Write>(
     caller: &mut C,
     out: &mut O,
     err: &mut E,
-) -> Result<(), RunFault> {
+) -> Result<(), RunFault>
+    ensures { OnOk result (args.print_command_list ≡ false → term.new.error ≡ false → C.tells
+        → Follows args answers (string_bytes env.now.rustup)
+        (C.calls caller.old) (C.calls caller.new)) }
+{
     let cx = context(alloc, args, answers, term, err)?;
     if edits(cx.args()) {
         return Err(RunFault::Editing);
@@ -111,7 +120,10 @@ fn run_plan<C: Caller, O: Write, E: Write>(
     caller: &mut C,
     out: &mut O,
     err: &mut E,
-) -> Result<(), RunFault> {
+) -> Result<(), RunFault>
+    ensures { OnOk result (args.now.print_command_list ≡ false → term.new.error ≡ false → C.tells
+        → RunsAll plan args.now.partition (C.calls caller.old) (C.calls caller.new)) }
+{
     if args.print_command_list {
         return list(alloc, plan, args.partition, term, caller, out, err);
     }

@@ -1,6 +1,7 @@
 //! The runs of a plan, and the report of those that failed.
 
-ghost use Rattle.std.specs.Prelude.{◌≡◌, false};
+ghost use Rattle.std.specs.Prelude.{◌≡◌, None, OnOk, false};
+ghost use Rattle.hack_run.specs.Runs.{RunsAll};
 
 use crate::fault::RunFault;
 use hack_process::process::{Caller, ProcessFault};
@@ -30,8 +31,12 @@ pub(crate) fn start<C: Caller, O: Write, E: Write>(
     caller: &mut C,
     out: &mut O,
     err: &mut E,
-) -> Result<(), RunFault> {
-    let (session, fault) = driven(alloc, plan, manner, term, caller, out, err)?;
+) -> Result<(), RunFault>
+    ensures { OnOk result (term.new.error ≡ false → C.tells
+        → RunsAll plan manner.piece (C.calls caller.old) (C.calls caller.new)) }
+{
+    let mut fault = None;
+    let session = drive_runs(alloc, plan, manner, &mut fault, term, caller, out, err)?;
     report(alloc, &session, term, err)?;
     match fault {
         Some(fault) => Err(RunFault::Process(fault)),
@@ -39,10 +44,11 @@ pub(crate) fn start<C: Caller, O: Write, E: Write>(
     }
 }
 
-/// A starter that performs runs so.
-fn starter<'a, C: Caller, O: Write, E: Write>(
+/// A starter that performs runs so, with a place for the fault that stops it.
+pub(crate) fn starter<'a, C: Caller, O: Write, E: Write>(
     alloc: Global,
     manner: Manner,
+    fault: &'a mut Option<ProcessFault>,
     term: &'a mut Term,
     caller: &'a mut C,
     out: &'a mut O,
@@ -52,6 +58,8 @@ fn starter<'a, C: Caller, O: Write, E: Write>(
         × (result.caller.now ≡ caller.entry.now) }
     ensures term { (result.term.ghost_name ≡ term.entry.ghost_name)
         × (result.term.now ≡ term.entry.now) }
+    ensures fault { (result.fault.ghost_name ≡ fault.entry.ghost_name)
+        × (result.fault.now ≡ fault.entry.now) }
 {
     Starter {
         alloc,
@@ -61,35 +69,28 @@ fn starter<'a, C: Caller, O: Write, E: Write>(
         err,
         log_group: manner.log_group,
         keep_going: manner.keep_going,
-        fault: None,
+        fault,
         refused: 0,
     }
 }
 
-/// Hands the plan to a starter; with the fault that stopped it, where it isn't told yet.
-fn driven<C: Caller, O: Write, E: Write>(
+/// Hands the plan to a starter. The fault that stopped it, where it isn't told yet, is kept.
+fn drive_runs<C: Caller, O: Write, E: Write>(
     alloc: Global,
     plan: Plan,
     manner: Manner,
+    fault: &mut Option<ProcessFault>,
     term: &mut Term,
     caller: &mut C,
     out: &mut O,
     err: &mut E,
-) -> Result<(Session, Option<ProcessFault>), AllocError> {
-    let mut starter = starter(alloc, manner, term, caller, out, err);
+) -> Result<Session, AllocError>
+    ensures { OnOk result (fault.new ≡ None → term.new.error ≡ false → C.tells
+        → RunsAll plan manner.piece (C.calls caller.old) (C.calls caller.new)) }
+{
+    let mut starter = starter(alloc, manner, fault, term, caller, out, err);
     let session = drive_plan(alloc, plan, manner.piece, manner.keep_going, &mut starter)?;
-    let Starter {
-        alloc: _,
-        caller: _,
-        term: _,
-        out: _,
-        err: _,
-        log_group: _,
-        keep_going: _,
-        fault,
-        refused: _,
-    } = starter;
-    Ok((session, fault))
+    Ok(session)
 }
 
 /// Reports the runs that failed, where runs go on behind them and each preparation passed.

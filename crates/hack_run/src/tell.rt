@@ -1,6 +1,6 @@
 //! What the user is told. A line that can't be written is left out.
 
-ghost use Rattle.std.specs.Prelude.{◌≡◌, true};
+ghost use Rattle.std.specs.Prelude.{◌≡◌, OnErr, OnOk, true};
 
 use crate::fault::RunFault;
 use hack_term::term::Term;
@@ -19,6 +19,22 @@ pub(crate) fn tell<E: Write>(alloc: Global, fault: &RunFault, term: &mut Term, e
         Err(_) => {
             let _ = term.error("out of memory", err);
         }
+    }
+}
+
+/// Tells how a call ended, where that is a fault.
+pub(crate) fn tell_end<E: Write>(
+    alloc: Global,
+    came: Result<(), RunFault>,
+    term: &mut Term,
+    err: &mut E,
+)
+    ensures ok { OnOk came (term.new ≡ term.old) }
+    ensures err { OnErr came (term.new.error ≡ true) }
+{
+    match came {
+        Ok(()) => (),
+        Err(fault) => tell(alloc, &fault, term, err),
     }
 }
 
