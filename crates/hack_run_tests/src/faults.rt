@@ -93,7 +93,7 @@ fn the_plan(rt: HostRuntime) -> Result<(), Fail> {
         (
             BAD_OWN,
             "hack check --rust-version",
-            "status 1\nrustup --version\ncargo -vV\nrustup run stable cargo -vV\ncargo metadata --format-version=1 --no-deps\ncargo locate-project\nerr\nerror: invalid digit found in string\n",
+            "status 1\nrustup --version\ncargo -vV\nrustup run stable cargo -vV\ncargo metadata --format-version=1 --no-deps\ncargo locate-project\nerr\nerror: invalid number `x`\n",
         ),
         (
             PLAIN,
