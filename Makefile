@@ -2,6 +2,7 @@
 PREFIX ?= /usr/local
 
 PROGRAM := crates/powerset_list/out/powerset_list
+CARGO_HACK := crates/cargo_hack_program/out/cargo_hack_program
 EXCLUSIVE := native-tls,openssl,rustls
 
 .DEFAULT_GOAL := help
@@ -12,7 +13,7 @@ help:
 	@echo 'make test     proves and tests everything from nothing: the gate'
 	@echo 'make quick    lays out and checks CRATE=NAME and what stands on it, and the rows, over what is kept'
 	@echo 'make planted  tries the edits that the gate leaves out, of all crates or of CRATE=NAME'
-	@echo 'make install  proves and builds powerset-list, and installs it in PREFIX/bin (PREFIX=$(PREFIX))'
+	@echo 'make install  proves and builds powerset-list and cargo-hack, and installs them in PREFIX/bin (PREFIX=$(PREFIX))'
 	@echo 'make bench    proves and builds powerset-list, and prints its times, memory and lines'
 	@echo 'make faults   proves and builds powerset-list, and compares what it tells of refused calls'
 	@echo 'make stand-ins proves and builds the programs that stand in for cargo and rustup in tests, and tries them'
@@ -36,7 +37,9 @@ program:
 	@cd crates/powerset_list && rt run < ../../examples/features.json > /dev/null
 
 install: program
+	@cd crates/cargo_hack_program && rt run -- hack --version > /dev/null
 	install -D -m 755 $(PROGRAM) '$(DESTDIR)$(PREFIX)/bin/powerset-list'
+	install -D -m 755 $(CARGO_HACK) '$(DESTDIR)$(PREFIX)/bin/cargo-hack'
 
 bench: program
 	@cd crates/hack_rows && rt run < stdin > /dev/null

@@ -31,7 +31,7 @@ pub struct Starter<'a, C: Caller, O: Write, E: Write> {
     /// Whether runs go on behind a failed one.
     pub keep_going: bool,
     /// Why the step failed that stopped the session. It isn't told yet, since its line comes last.
-    pub fault: Option<ProcessFault>,
+    pub fault: &'a mut Option<ProcessFault>,
     /// How many steps were cut short for want of memory, which is told at once.
     pub refused: u64,
 }
@@ -39,12 +39,14 @@ pub struct Starter<'a, C: Caller, O: Write, E: Write> {
 impl<C: Caller, O: Write, E: Write> Runner for Starter<'_, C, O, E> {
     ghost ran = { λ plan steps a b. (a.caller.ghost_name ≡ b.caller.ghost_name)
         × (a.term.ghost_name ≡ b.term.ghost_name)
+        × (a.fault.ghost_name ≡ b.fault.ghost_name)
         × (C.tells → HasPerformed plan steps (C.calls a.caller.now) (C.calls b.caller.now)
         a.refused b.refused)
-        × (HasTold a.term.now a.fault → HasTold b.term.now b.fault)
-        × (All HasPassed steps ⊎ HasTold b.term.now b.fault) };
+        × (HasTold a.term.now a.fault.now → HasTold b.term.now b.fault.now)
+        × (All HasPassed steps ⊎ HasTold b.term.now b.fault.now) };
 
     ghost ran_none = { λ plan a. (
+      refl,
       refl,
       refl,
       λ t. performed_none plan (C.calls a.caller.now) a.refused,
@@ -55,11 +57,12 @@ impl<C: Caller, O: Write, E: Write> Runner for Starter<'_, C, O, E> {
     ghost ran_more = { λ plan steps more a b c p q. (
       p.0 ∙ q.0,
       p.1 ∙ q.1,
+      p.2 ∙ q.2,
       λ t. performed_more plan steps more (C.calls a.caller.now) (C.calls b.caller.now)
-          (C.calls c.caller.now) a.refused b.refused c.refused (p.2 t) (q.2 t),
-      λ told. q.3 (p.3 told),
-      passed_or HasPassed (HasTold b.term.now b.fault) (HasTold c.term.now c.fault) steps more
-          p.4 q.3 q.4,
+          (C.calls c.caller.now) a.refused b.refused c.refused (p.3 t) (q.3 t),
+      λ told. q.4 (p.4 told),
+      passed_or HasPassed (HasTold b.term.now b.fault.now) (HasTold c.term.now c.fault.now) steps
+          more p.5 q.4 q.5,
     ) };
 
     fn step(&mut self, plan: &Plan, step: Step) -> Outcome {
@@ -81,7 +84,7 @@ impl<C: Caller, O: Write, E: Write> Runner for Starter<'_, C, O, E> {
                     tell_fault(self.alloc, self.term, self.err, &fault);
                     return Outcome::Failed;
                 }
-                self.fault = Some(fault);
+                *self.fault = Some(fault);
                 Outcome::Failed
             }
         }

@@ -38,6 +38,7 @@ fn listed(alloc: Global, row: Row<'_>) -> Result<Option<String>, Fail> {
     let mut out: Vec<u8> = Vec::new(alloc);
     let mut err: Vec<u8> = Vec::new(alloc);
     let mut list: Vec<u8> = Vec::new(alloc);
+    let mut fault = None;
     let mut starter = Starter {
         alloc,
         caller: &mut caller,
@@ -46,7 +47,7 @@ fn listed(alloc: Global, row: Row<'_>) -> Result<Option<String>, Fail> {
         err: &mut err,
         log_group: LogGroup::None,
         keep_going: row.keep_going,
-        fault: None,
+        fault: &mut fault,
         refused: 0,
     };
     let mut lines = LineWriter {

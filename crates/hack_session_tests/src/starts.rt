@@ -42,6 +42,7 @@ fn driven(
 ) -> Result<(Session, Left), Fail> {
     let plan = plan_of(alloc, row)?;
     let mut term = Term::new(Coloring::Never, false);
+    let mut fault = None;
     let mut starter = Starter {
         alloc,
         caller,
@@ -50,22 +51,12 @@ fn driven(
         err,
         log_group: LogGroup::auto(row.groups),
         keep_going: row.keep_going,
-        fault: None,
+        fault: &mut fault,
         refused: 0,
     };
     let piece = piece_of(alloc, row);
     let session = drive_plan(alloc, plan, piece, row.keep_going, &mut starter)?;
-    let Starter {
-        alloc: _,
-        caller: _,
-        term: _,
-        out: _,
-        err: _,
-        log_group: _,
-        keep_going: _,
-        fault,
-        refused,
-    } = starter;
+    let refused = starter.refused;
     Ok((session, Left { fault, refused }))
 }
 

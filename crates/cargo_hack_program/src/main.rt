@@ -1,0 +1,41 @@
+//! The command `cargo hack`: words, environment and streams are handed to `hack_run::run`.
+#![tactic(auto)]
+
+mod start;
+
+use crate::start::{StartFault, coloring, env_of, words_of};
+use hack_files::fs::Disk;
+use hack_process::process::Child;
+use hack_run::run::run;
+use hack_term::term::Term;
+use std::io;
+use std::io::{IsTerminal, Write};
+use std::process::ExitCode;
+
+fn main(rt: HostRuntime) -> ExitCode {
+    let mut err = rt.stderr();
+    let mut term = Term::new(coloring(&rt, err.is_terminal()), false);
+    match call(&rt, &mut term, &mut err) {
+        Ok(status) => ExitCode::from(status),
+        Err(fault) => {
+            let _ = term.error(fault.text(), &mut err);
+            ExitCode::FAILURE
+        }
+    }
+}
+
+/// Performs the call, with the streams of this process.
+fn call<E: Write>(rt: &HostRuntime, term: &mut Term, err: &mut E) -> Result<u8, StartFault> {
+    let words = words_of(rt)?;
+    let env = env_of(rt)?;
+    Ok(run(
+        rt.alloc(),
+        words.as_slice(),
+        &env,
+        term,
+        &mut Disk::new(rt),
+        &mut Child::new(rt),
+        &mut io::writer(rt),
+        err,
+    ))
+}

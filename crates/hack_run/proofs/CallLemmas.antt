@@ -1,0 +1,81 @@
+-- Calls that a question makes, and what is made of its answer.
+use Rattle.std.proofs.Common.{◌≡◌, refl, ◌⊎◌, inl, inr, ℕ, List, [], Option, Some, None, Result, Ok, Err, IfOk, IfErr, OnOk, IsSome, true, subst, Global, String}
+use Rattle.hack_features.specs.Names.{Name}
+use Rattle.hack_process.specs.Calls.{Answer, Asked, Call, IsSuccess, MayAdd}
+use Rattle.hack_process.specs.CargoTexts.{release_part}
+use Rattle.hack_process.specs.Commands.{asked_of}
+use Rattle.hack_process.specs.CommandTexts.{Command}
+use Rattle.hack_process.specs.Faults.{Had, IsReadFault, without_line_ends}
+use Rattle.hack_process.specs.declared.fault.ProcessFault.{ProcessFault}
+use Rattle.hack_process.specs.declared.fault.ProcessFault.TheVariants as process
+use Rattle.hack_versions.specs.ToolTexts.{TellsRelease}
+use Rattle.hack_versions.specs.declared.version.Version.{Version}
+use Rattle.hack_session.specs.Performs.{Comes, Installs, Makes}
+use Rattle.hack_session.specs.declared.step.Outcome.{Outcome}
+use Rattle.hack_session.specs.declared.step.Outcome.TheVariants.{Passed}
+use Rattle.hack_run.specs.Questions.{AsksStable, InstallsStable, IsLatest, ReadsStable, TellsStable, stable_command}
+
+-- a command that failed may have been called
+fault_may : (tells : Type 0) (asked : Asked) (shown : Name) (old new : List Call) (e : ProcessFault) → IsReadFault tells asked shown old new e → tells → MayAdd asked old new
+fault_may tells asked shown old new process.Memory h t = h.1 t
+fault_may tells asked shown old new process.EmptyProgram h t = inl (h.1 t)
+fault_may tells asked shown old new (process.NeverExecuted text) h t = let had = h.2 t in inr (had.0, had.2)
+fault_may tells asked shown old new (process.Failed failure) h t = let had = h.3 t in inr (had.0, had.2)
+fault_may tells asked shown old new (process.NotText text) h t = let had = h.2 t in inr (had.0, had.2)
+
+-- a command that was read may have been called
+pub read_may : (tells : Type 0) (P : String Global → Answer → Type 0) (asked : Asked) (shown : Name) (old new : List Call) (r : Result (String Global) ProcessFault)
+    → IfOk r (λ text. tells → Had (P text) asked old new) → IfErr r (IsReadFault tells asked shown old new) → tells → MayAdd asked old new
+read_may tells P asked shown old new (Ok text) ok err t = let had = ok t in inr (had.0, had.2)
+read_may tells P asked shown old new (Err e) ok err t = fault_may tells asked shown old new e err t
+
+-- what such a version is, it is also by a weaker measure
+pub latest_map : (P Q : Version → Type 0) (r : Result (Option Version) (String Global)) → ((v : Version) → P v → Q v) → IsLatest P r → IsLatest Q r
+latest_map P Q (Ok None) f p = absurd p
+latest_map P Q (Ok (Some v)) f p = f v p
+latest_map P Q (Err text) f p = tt
+
+-- the same of what a call answers
+pub answer_map : {E : Type 0} (P Q : Version → Type 0) (r : Result (Result (Option Version) (String Global)) E) → ((v : Version) → P v → Q v) → IfOk r (IsLatest P) → IfOk r (IsLatest Q)
+answer_map P Q (Ok s) f p = latest_map P Q s f p
+answer_map P Q (Err e) f p = tt
+
+-- what is known of stable, where each version was told
+pub asks : (tells : Type 0) (rustup : Name) (old new : List Call) (s : Result (Option Version) (String Global)) → IsLatest (λ v. tells → TellsStable rustup v old new) s → tells → AsksStable rustup s old new
+asks tells rustup old new (Ok None) p t = absurd p
+asks tells rustup old new (Ok (Some v)) p t = p t
+asks tells rustup old new (Err text) p t = tt
+
+-- the same of what a call answers
+pub asked_stable : {E : Type 0} (tells : Type 0) (rustup : Name) (old new : List Call) (r : Result (Result (Option Version) (String Global)) E)
+    → IfOk r (IsLatest (λ v. tells → TellsStable rustup v old new)) → IfOk r (λ s. tells → AsksStable rustup s old new)
+asked_stable tells rustup old new (Ok s) p = asks tells rustup old new s p
+asked_stable tells rustup old new (Err e) p = tt
+
+-- where calls come to an end without a fault, they passed
+pub installed : {T : Type 0} (tells : Type 0) (Ended : List Call → Outcome → Type 0) (Cut : List Call → Type 0) (old new : List Call) (r : Result T ProcessFault)
+    → (tells → Makes (λ calls. Comes (Ended calls) (Cut calls) r) old new) → OnOk r (tells → Makes (λ calls. Ended calls Passed) old new)
+installed tells Ended Cut old new (Ok done) h = λ t. let m = h t in record { made = m.made; grown = m.grown; such = m.such }
+installed tells Ended Cut old new (Err e) h = tt
+
+-- the answer that was read tells the version
+pub reads : (tells : Type 0) (rustup answer : Name) (c : Command) (old new : List Call) → c ≡ stable_command rustup
+    → (tells → Had (λ told. IsSuccess told.end × (answer ≡ without_line_ends told.stdout)) (asked_of true c) old new)
+    → (v : Version) → TellsRelease (release_part answer) v → tells → ReadsStable rustup v old new
+reads tells rustup answer c old new is had v told t = record {
+  answer = answer;
+  read = subst (λ k. Had (λ told. IsSuccess told.end × (answer ≡ without_line_ends told.stdout)) (asked_of true k) old new) is (had t);
+  told = told;
+}
+
+-- behind the toolchain that was made sure of
+pub tells_stable : (tells : Type 0) (rustup : Name) (old mid new : List Call) → (tells → InstallsStable rustup old mid)
+    → (v : Version) → (tells → ReadsStable rustup v mid new) → tells → TellsStable rustup v old new
+tells_stable tells rustup old mid new installed v read t = record { mid = mid; installed = installed t; read = read t }
+
+-- stable is known where there is no fault
+pub is_known : {E : Type 0} (P : Version → Type 0) (r : Result (Result (Option Version) (String Global)) E) → IfOk r (IsLatest P) → IfOk r (λ s. IfOk s (λ latest. IsSome latest))
+is_known P (Ok (Ok None)) p = absurd p
+is_known P (Ok (Ok (Some v))) p = refl
+is_known P (Ok (Err text)) p = tt
+is_known P (Err e) p = tt

@@ -1,0 +1,3 @@
+mod CallLemmas
+mod RunLemmas
+mod WholeLemmas

@@ -1,0 +1,88 @@
+-- What a call did, put together from its stages.
+use Rattle.std.proofs.Common.{◌≡◌, ◌⊎◌, inl, Bool, true, false, ℕ, List, Option, Result, Ok, Err, OnOk, OnErr, IsErr, IsTrue, refl, sym, ◌∙◌, ap, subst, string_bytes}
+use Rattle.hack_features.specs.Names.{Name}
+use Rattle.hack_files.specs.Files.{Contents}
+use Rattle.hack_process.specs.Calls.{Call, MayAdd}
+use Rattle.hack_load.specs.Answers.{AreAnswers}
+use Rattle.hack_load.specs.ContextOf.{IsContextFrom}
+use Rattle.hack_load.specs.Contexts.{ContextRecord}
+use Rattle.hack_load.specs.declared.answers.Answers.{Answers}
+use Rattle.hack_versions.specs.Notes.{Note}
+use Rattle.hack_versions.specs.declared.rustup.Rustup.{Rustup}
+use Rattle.hack_words.specs.Answers.{Answers as IsAnswer, around_of}
+use Rattle.hack_words.specs.Call.{ComesTo}
+use Rattle.hack_words.specs.declared.cli.parse.Parsed.{Parsed}
+use Rattle.hack_words.specs.declared.cli.parse.Parsed.TheVariants as parsed
+use Rattle.hack_words.specs.declared.cli.args.Args.{Args}
+use Rattle.hack_words.specs.declared.cli.env.Env.{Env}
+use Rattle.hack_term.specs.declared.term.Term.{Term}
+use Rattle.hack_runs.specs.View.{PlanView}
+use Rattle.hack_run.specs.Runs.{RunsAll}
+use Rattle.hack_run.specs.Questions.{rustup_asked}
+use Rattle.hack_run.specs.Whole.{Follows, IsDone, IsPlanned, Obeys, Performs}
+
+on_ok : {T E : Type 0} (P Q : Type 0) (r : Result T E) → (P → Q) → OnOk r P → OnOk r Q
+on_ok P Q (Ok v) f p = f p
+on_ok P Q (Err e) f p = tt
+
+-- behind a context and its plan, the runs
+pub follows : {T E : Type 0} (tells quiet : Type 0) (r : Result T E) (args given : Args) (answers : Answers) (rustup : Name) (old mid new : List Call) (cx : ContextRecord) (plan : PlanView)
+    → IsContextFrom args answers cx → given ≡ cx.args → IsPlanned cx rustup tells old mid plan
+    → OnOk r (given.print_command_list ≡ false → quiet → tells → RunsAll plan given.partition mid new)
+    → OnOk r (args.print_command_list ≡ false → quiet → tells → Follows args answers rustup old new)
+follows tells quiet r args given answers rustup old mid new cx plan context is planned ran =
+    on_ok (args.print_command_list ≡ false → quiet → tells → RunsAll plan args.partition mid new)
+    (args.print_command_list ≡ false → quiet → tells → Follows args answers rustup old new) r
+    (λ runs listed q t. record {
+      cx = cx;
+      plan = plan;
+      mid = mid;
+      context = context;
+      planned = record { stable = planned.stable; notes = planned.notes; asked = λ _. planned.asked t; planned = planned.planned };
+      runs = runs listed q t;
+    })
+    (subst (λ (a : Args). OnOk r (a.print_command_list ≡ false → quiet → tells → RunsAll plan a.partition mid new)) (is ∙ context.2.args) ran)
+
+-- what told no error in the end told none before
+quiet_before : (X : Type 0) (before now : Bool) → (IsTrue before ⊎ X → IsTrue now) → now ≡ false → before ≡ false
+quiet_before X true now f quiet = let e : true ≡ false = sym (f (inl refl)) ∙ quiet in absurd (cc)
+quiet_before X false now f quiet = refl
+
+-- behind the answers, what followed them
+pub performs : {T E : Type 0} (tells told X : Type 0) (r : Result T E) (args : Args) (env : Env) (held : Contents) (before later : ℕ) (old mid new : List Call) (answers : Answers) (mute now : Bool)
+    → (tells → told → AreAnswers args env held before later old mid answers)
+    → (IsTrue mute ⊎ X → IsTrue now)
+    → OnOk r (args.print_command_list ≡ false → mute ≡ false → tells → Follows args answers (string_bytes env.rustup) mid new)
+    → OnOk r (args.print_command_list ≡ false → now ≡ false → tells → told → Performs args env held before old new)
+performs tells told X r args env held before later old mid new answers mute now asked noted follows =
+    on_ok (args.print_command_list ≡ false → mute ≡ false → tells → Follows args answers (string_bytes env.rustup) mid new)
+    (args.print_command_list ≡ false → now ≡ false → tells → told → Performs args env held before old new) r
+    (λ f listed quiet t u. record { answers = answers; now = later; mid = mid; asked = asked t u; follows = f listed (quiet_before X mute now noted quiet) t }) follows
+
+-- a call that told no error in the end came to no fault
+pub comes : {T E : Type 0} (X : Type 0) (r : Result T E) (before now : Term) → OnOk r (before.error ≡ false → X) → OnOk r (now ≡ before) → OnErr r (now.error ≡ true) → now.error ≡ false → X
+comes X (Ok v) before now x same told quiet = x (sym (ap (λ (k : Term). k.error) same) ∙ quiet)
+comes X (Err e) before now x same told quiet = let e : true ≡ false = sym told ∙ quiet in absurd (cc)
+
+-- a call that came to a fault told an error
+pub told_fault : {T E : Type 0} (r : Result T E) (now : Term) → OnErr r (now.error ≡ true) → IsErr r → now.error ≡ true
+told_fault (Ok v) now told is = absurd (cc)
+told_fault (Err e) now told is = told
+
+-- what arguments ask for was done
+pub obeys : {T E : Type 0} (tells told quiet : Type 0) (r : Result T E) (args : Args) (answer : Parsed) (env : Env) (held : Contents) (before : ℕ) (old new : List Call) → answer ≡ parsed.Args args
+    → OnOk r (args.print_command_list ≡ false → quiet → tells → told → Performs args env held before old new)
+    → OnOk r (quiet → tells → told → Obeys answer env held before old new)
+obeys tells told quiet r args answer env held before old new is performed =
+    subst (λ (a : Parsed). OnOk r (quiet → tells → told → Obeys a env held before old new)) (sym is)
+    (on_ok (args.print_command_list ≡ false → quiet → tells → told → Performs args env held before old new)
+    (quiet → tells → told → args.print_command_list ≡ false → Performs args env held before old new) r (λ f q t u listed. f listed q t u) performed)
+
+-- the words were read, and what they ask for was done
+pub done : {T E : Type 0} (tells told quiet : Type 0) (r : Result T E) (words : List Name) (env : Env) (held : Contents) (before : ℕ) (old mid new : List Call) (rustup : Rustup) (answer : Parsed) (notes : List Note)
+    → IsAnswer (around_of env rustup) (ComesTo (around_of env rustup) words) answer notes → (tells → MayAdd (rustup_asked (string_bytes env.rustup)) old mid)
+    → OnOk r (quiet → tells → told → Obeys answer env held before mid new)
+    → OnOk r (quiet → tells → told → IsDone words env held before old new)
+done tells told quiet r words env held before old mid new rustup answer notes read asked obeyed =
+    on_ok (quiet → tells → told → Obeys answer env held before mid new) (quiet → tells → told → IsDone words env held before old new) r
+    (λ f q t u. record { rustup = rustup; answer = answer; notes = notes; mid = mid; asked = asked t; read = read; obeyed = f q t u }) obeyed

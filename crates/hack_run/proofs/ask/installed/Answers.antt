@@ -1,0 +1,17 @@
+use Rattle.std.proofs.Common.{true, string_bytes, [], codes, subst, OnOk}
+use Rattle.hack_process.specs.Commands.{asked_of}
+use Rattle.hack_session.specs.Performs.{BreaksInstall, Installs}
+use Rattle.hack_session.specs.Toolchains.{addition_of, trial_of}
+use Rattle.hack_run.specs.Questions.{InstallsStable}
+use Rattle.hack_run.proofs.CallLemmas.{installed}
+use Rattle.hack_run.proofs.ask.installed.Goals as goal
+
+-- src/ask.rt:117:1
+pub returns : goal.returns
+returns g c =
+    subst (λ rustup. OnOk c.install_toolchain.result (g.C.Caller.tells → InstallsStable rustup (g.C.Caller.calls c.args.caller.now) (g.C.Caller.calls c.install_toolchain.new.caller))) c.as_str.ensures.value
+    (installed g.C.Caller.tells
+    (λ calls. Installs [] (asked_of true (trial_of c.as_str.result.now (codes "stable"))) (asked_of true (addition_of c.as_str.result.now (codes "stable") [])) calls)
+    (λ calls. BreaksInstall [] (asked_of true (trial_of c.as_str.result.now (codes "stable"))) (asked_of true (addition_of c.as_str.result.now (codes "stable") [])) calls)
+    (g.C.Caller.calls c.args.caller.now) (g.C.Caller.calls c.install_toolchain.new.caller) c.install_toolchain.result
+    c.install_toolchain.ensures)

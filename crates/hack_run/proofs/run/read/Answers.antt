@@ -1,0 +1,14 @@
+use Rattle.std.proofs.Common.{◌≡◌, false, map}
+use Rattle.hack_features.specs.Names.{names_of}
+use Rattle.hack_versions.specs.Notes.{note_of}
+use Rattle.hack_run.proofs.WholeLemmas.{done}
+use Rattle.hack_run.proofs.run.read.Goals as goal
+
+pub returns-in-Ok-clause-refused : goal.returns-in-Ok-clause-refused
+returns-in-Ok-clause-refused g c = λ refused. let told = refused c.in_ok-rustup.rustup in absurd (c.in-Ok.ensures.never told.0 told.1)
+
+pub returns-in-Ok-clause-done : goal.returns-in-Ok-clause-done
+returns-in-Ok-clause-done g c =
+    done g.C.Caller.tells g.F.Files.tells (c.obey.new.term.error ≡ false) c.obey.result (names_of c.args.words.now) c.args.env.now (g.F.Files.bytes_at c.args.files.now)
+    (g.F.Files.failed c.args.files.now) (g.C.Caller.calls c.args.runner.now) (g.C.Caller.calls c.rustup_for.new.caller) (g.C.Caller.calls c.obey.new.runner)
+    c.in_ok-rustup.rustup c.in-Ok.answer.0 (map note_of c.in-Ok.answer.1.items) c.in-Ok.ensures.ok c.rustup_for.ensures c.obey.ensures

@@ -1,0 +1,12 @@
+use Rattle.hack_features.specs.Names.{names_of}
+use Rattle.hack_run.specs.Whole.{IsDone}
+use Rattle.hack_run.proofs.WholeLemmas.{comes, told_fault}
+use Rattle.hack_run.proofs.run.run.Goals as goal
+
+pub returns-clause-refused : goal.returns-clause-refused
+returns-clause-refused g c = λ refused. let h = c.read-came.ensures.refused refused in (told_fault c.read-came.result c.tell_end.new.term c.tell_end.ensures.err h.0, h.1)
+
+pub returns-clause-done : goal.returns-clause-done
+returns-clause-done g c =
+    comes (g.C.Caller.tells → g.F.Files.tells → IsDone (names_of c.args.words.now) c.args.env.now (g.F.Files.bytes_at c.args.files.now) (g.F.Files.failed c.args.files.now) (g.C.Caller.calls c.args.runner.now) (g.C.Caller.calls c.read-came.new.runner))
+    c.read-came.result c.read-came.new.term c.tell_end.new.term c.read-came.ensures.done c.tell_end.ensures.ok c.tell_end.ensures.err

@@ -1,0 +1,56 @@
+-- What rustup is asked before there is a plan.
+use Rattle.std.specs.Prelude.{◌≡◌, ◌∷◌, [], List, Option, Some, None, Result, Ok, Err, codes, true}
+use Rattle.std.proofs.Common.{Global, String}
+use Rattle.hack_features.specs.Names.{Name}
+use Rattle.hack_process.specs.Calls.{Asked, Call, IsSuccess}
+use Rattle.hack_process.specs.CargoTexts.{release_part}
+use Rattle.hack_process.specs.Commands.{asked_of}
+use Rattle.hack_process.specs.CommandTexts.{Command}
+use Rattle.hack_process.specs.Faults.{Had, without_line_ends}
+use Rattle.hack_runs.specs.Commands.{plain_command}
+use Rattle.hack_versions.specs.ToolTexts.{TellsRelease}
+use Rattle.hack_versions.specs.declared.version.Version.{Version}
+use Rattle.hack_session.specs.Performs.{Installs, Makes}
+use Rattle.hack_session.specs.Toolchains.{addition_of, trial_of}
+use Rattle.hack_session.specs.declared.step.Outcome.TheVariants.{Passed}
+
+-- rustup is asked for its version
+abbrev pub rustup_command : Name → Command
+rustup_command rustup = plain_command rustup [] (codes "--version" ∷ [])
+
+-- the same, as a caller is asked
+abbrev pub rustup_asked : Name → Asked
+rustup_asked rustup = asked_of true (rustup_command rustup)
+
+-- stable's cargo is asked for its version
+abbrev pub stable_command : Name → Command
+stable_command rustup = plain_command rustup [] (codes "run" ∷ codes "stable" ∷ codes "cargo" ∷ codes "-vV" ∷ [])
+
+-- the toolchain `stable` was tried, and added where that failed
+abbrev pub InstallsStable : Name → List Call → List Call → Type 0
+InstallsStable rustup old new =
+    Makes (λ calls. Installs [] (asked_of true (trial_of rustup (codes "stable"))) (asked_of true (addition_of rustup (codes "stable") [])) calls Passed) old new
+
+-- stable's cargo told this version
+pub record ReadsStable (rustup : Name) (v : Version) (old new : List Call) : Type 0 where
+  pub answer : Name
+  pub read : Had (λ told. IsSuccess told.end × (answer ≡ without_line_ends told.stdout)) (asked_of true (stable_command rustup)) old new
+  pub told : TellsRelease (release_part answer) v
+
+-- the toolchain was made sure of, and then its cargo told this version
+pub record TellsStable (rustup : Name) (v : Version) (old new : List Call) : Type 0 where
+  pub mid : List Call
+  pub installed : InstallsStable rustup old mid
+  pub read : ReadsStable rustup v mid new
+
+-- where there is no fault, there is a version, and it is such
+abbrev pub IsLatest : (Version → Type 0) → Result (Option Version) (String Global) → Type 0
+IsLatest P (Ok None) = ⊥
+IsLatest P (Ok (Some v)) = P v
+IsLatest P (Err text) = Unit {0}
+
+-- stable's version was asked for, or nothing was; where that failed, its fault has a text
+abbrev pub AsksStable : Name → Result (Option Version) (String Global) → List Call → List Call → Type 0
+AsksStable rustup (Ok None) old new = new ≡ old
+AsksStable rustup (Ok (Some v)) old new = TellsStable rustup v old new
+AsksStable rustup (Err text) old new = Unit {0}

@@ -1,0 +1,75 @@
+-- What a call did that told no error.
+use Rattle.std.specs.Prelude.{◌≡◌, ◌∷◌, [], ℕ, false, List, Option, Result, codes, string_bytes}
+use Rattle.std.proofs.Common.{Global, String}
+use Rattle.hack_features.specs.Names.{Name}
+use Rattle.hack_files.specs.Files.{Contents}
+use Rattle.hack_process.specs.Calls.{Call, IsSuccess, MayAdd}
+use Rattle.hack_process.specs.Commands.{asked_of}
+use Rattle.hack_process.specs.Faults.{Had}
+use Rattle.hack_load.specs.Answers.{AreAnswers}
+use Rattle.hack_load.specs.ContextOf.{IsContextFrom}
+use Rattle.hack_load.specs.Contexts.{ContextRecord}
+use Rattle.hack_load.specs.declared.answers.Answers.{Answers}
+use Rattle.hack_versions.specs.Notes.{Note}
+use Rattle.hack_versions.specs.declared.rustup.Rustup.{Rustup}
+use Rattle.hack_versions.specs.declared.version.Version.{Version}
+use Rattle.hack_words.specs.Answers.{Answers as IsAnswer, around_of}
+use Rattle.hack_words.specs.Call.{ComesTo, Faulty}
+use Rattle.hack_words.specs.declared.cli.args.Args.{Args}
+use Rattle.hack_words.specs.declared.cli.env.Env.{Env}
+use Rattle.hack_words.specs.declared.cli.parse.Parsed.{Parsed}
+use Rattle.hack_words.specs.declared.cli.parse.Parsed.TheVariants as parsed
+use Rattle.hack_rules.specs.CliFaults.{Fault}
+use Rattle.hack_runs.specs.Commands.{plain_command}
+use Rattle.hack_runs.specs.View.{PlanView}
+use Rattle.hack_calls.specs.Made.{IsPlanOf}
+use Rattle.hack_run.specs.Questions.{AsksStable, rustup_asked}
+use Rattle.hack_run.specs.Runs.{RunsAll}
+
+-- the words are refused, whatever rustup answers
+abbrev pub AreRefused : Env → List Name → Type 0
+AreRefused env words = (rustup : Rustup) → (told : Fault) × ComesTo (around_of env rustup) words (Faulty told)
+
+-- the plan of a context, where this was asked of stable
+pub record IsPlanned (cx : ContextRecord) (rustup : Name) (tells : Type 0) (old new : List Call) (plan : PlanView) : Type 0 where
+  pub stable : Result (Option Version) (String Global)
+  pub notes : List Note
+  pub asked : tells → AsksStable rustup stable old new
+  pub planned : IsPlanOf cx.args.subcommand stable cx rustup plan notes
+
+-- from these answers a context was made, from that a plan, and its whole schedule was run
+pub record Follows (args : Args) (answers : Answers) (rustup : Name) (old new : List Call) : Type 0 where
+  pub cx : ContextRecord
+  pub plan : PlanView
+  pub mid : List Call
+  pub context : IsContextFrom args answers cx
+  pub planned : IsPlanned cx rustup (Unit {0}) old mid plan
+  pub runs : RunsAll plan args.partition mid new
+
+-- for these arguments the answers were told or read, and then followed
+pub record Performs (args : Args) (env : Env) (held : Contents) (before : ℕ) (old new : List Call) : Type 0 where
+  pub answers : Answers
+  pub now : ℕ
+  pub mid : List Call
+  pub asked : AreAnswers args env held before now old mid answers
+  pub follows : Follows args answers (string_bytes env.rustup) mid new
+
+-- cargo listed its commands
+abbrev pub ListsCommands : Name → List Call → List Call → Type 0
+ListsCommands cargo old new = Had (λ answer. IsSuccess answer.end) (asked_of false (plain_command cargo [] (codes "--list" ∷ []))) old new
+
+-- what words ask for was done: the schedule was run, unless it was to be listed; a text was printed; or cargo listed its commands
+abbrev pub Obeys : Parsed → Env → Contents → ℕ → List Call → List Call → Type 0
+Obeys (parsed.Args args) env held before old new = args.print_command_list ≡ false → Performs args env held before old new
+Obeys (parsed.Print text) env held before old new = new ≡ old
+Obeys parsed.List env held before old new = ListsCommands (string_bytes env.cargo) old new
+
+-- the words were read, where rustup's version was asked for at most, and what they ask for was done
+pub record IsDone (words : List Name) (env : Env) (held : Contents) (before : ℕ) (old new : List Call) : Type 0 where
+  pub rustup : Rustup
+  pub answer : Parsed
+  pub notes : List Note
+  pub mid : List Call
+  pub asked : MayAdd (rustup_asked (string_bytes env.rustup)) old mid
+  pub read : IsAnswer (around_of env rustup) (ComesTo (around_of env rustup) words) answer notes
+  pub obeyed : Obeys answer env held before mid new

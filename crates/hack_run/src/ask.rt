@@ -1,0 +1,200 @@
+//! What rustup is asked before there is a plan: its own version, and that of the toolchain `stable`.
+
+ghost use Rattle.std.specs.Prelude.{◌≡◌, IfOk, IfSome, IsSome, OnOk, false, string_bytes};
+ghost use Rattle.hack_process.specs.Calls.{MayAdd};
+ghost use Rattle.hack_process.specs.CargoTexts.{release_part};
+ghost use Rattle.hack_process.specs.Commands.{command_of};
+ghost use Rattle.hack_versions.specs.RangeSteps.{NeedsStable};
+ghost use Rattle.hack_versions.specs.ToolTexts.{TellsRelease};
+ghost use Rattle.hack_run.specs.Questions.{AsksStable, InstallsStable, IsLatest, ReadsStable};
+ghost use Rattle.hack_run.specs.Questions.{rustup_asked, rustup_command as asks_rustup};
+ghost use Rattle.hack_run.specs.Questions.{stable_command as asks_stable};
+
+use hack_process::cargo::version;
+use hack_process::process::{Caller, ProcessBuilder, ProcessFault};
+use hack_session::rustup::install_toolchain;
+use hack_session::session::Screen;
+use hack_term::term::{LogGroup, Term};
+use hack_versions::rustup::{AnswerFault, Rustup, VersionTextFault, minor_version, needs_stable};
+use hack_versions::version::Version;
+use hack_words::cli::{Args, Env, wants_rustup};
+use std::alloc::{AllocError, Global};
+use std::io;
+
+/// What is known of rustup, which is asked only where the words need it.
+pub(crate) fn rustup_for<C: Caller>(
+    alloc: Global,
+    words: &[String],
+    env: &Env,
+    verbose: bool,
+    caller: &mut C,
+) -> Result<Rustup, AllocError>
+    ensures { C.tells → MayAdd (rustup_asked (string_bytes env.now.rustup))
+        (C.calls caller.old) (C.calls caller.new) }
+{
+    if !wants_rustup(words) {
+        return Ok(Rustup::Known(u32::MAX));
+    }
+    let asked = rustup_command(alloc, env)?;
+    match asked.read(alloc, caller, env.current_dir.as_str()) {
+        Ok(text) => rustup_in(alloc, &asked, text.as_str(), env, verbose),
+        Err(fault) => unknown(alloc, fault),
+    }
+}
+
+fn rustup_command<'a>(alloc: Global, env: &Env) -> Result<ProcessBuilder<'a>, AllocError>
+    ensures { IfOk result (λ asked. command_of asked ≡ asks_rustup (string_bytes env.now.rustup)) }
+{
+    let mut asked = ProcessBuilder::new(alloc, env.rustup.as_str())?;
+    asked.arg("--version")?;
+    Ok(asked)
+}
+
+/// What is known of rustup where asking it failed.
+fn unknown(alloc: Global, fault: ProcessFault) -> Result<Rustup, AllocError> {
+    match fault {
+        ProcessFault::Memory => Err(AllocError),
+        fault => Ok(Rustup::Unknown(format!(in alloc; "{fault}")?)),
+    }
+}
+
+/// What rustup's answer tells.
+fn rustup_in(
+    alloc: Global,
+    asked: &ProcessBuilder<'_>,
+    answer: &str,
+    env: &Env,
+    verbose: bool,
+) -> Result<Rustup, AllocError> {
+    match minor_version(alloc, answer) {
+        Ok(minor) => Ok(Rustup::Known(minor)),
+        Err(VersionTextFault::Memory) => Err(AllocError),
+        Err(fault) => {
+            let command = asked.text(alloc, false, verbose, env.current_dir.as_str())?;
+            Ok(Rustup::Unknown(shown(alloc, fault.of(command.as_str()))?))
+        }
+    }
+}
+
+fn shown(alloc: Global, fault: AnswerFault<'_>) -> Result<String, AllocError> {
+    format!(in alloc; "{fault}")
+}
+
+/// Stable's version where the call needs it, or the text of the fault of asking for it.
+pub(crate) fn stable_for<C: Caller>(
+    alloc: Global,
+    args: &Args,
+    env: &Env,
+    term: &Term,
+    caller: &mut C,
+) -> Result<Result<Option<Version>, String>, AllocError>
+    ensures asked { IfOk result (λ stable. C.tells → AsksStable (string_bytes env.now.rustup)
+        stable (C.calls caller.old) (C.calls caller.new)) }
+    ensures needed { IfOk result (λ stable. IsSome args.now.subcommand
+        → IfSome args.now.version_range (λ range. NeedsStable range
+        → IfOk stable (λ latest. IsSome latest))) }
+{
+    if args.subcommand.is_none() || !is_stable_asked(args) {
+        return Ok(Ok(None));
+    }
+    match installed(alloc, env, term, caller) {
+        Ok(()) => stable_version(alloc, env, term.verbose, caller),
+        Err(fault) => stable_fault(alloc, fault),
+    }
+}
+
+/// Whether a bound of the range is stable's version.
+fn is_stable_asked(args: &Args) -> bool
+    ensures { result ≡ false → IfSome args.now.version_range (λ range. ¬ NeedsStable range) }
+{
+    match args.version_range {
+        Some(range) => needs_stable(range),
+        None => false,
+    }
+}
+
+/// Makes sure that the toolchain is there, and tells nothing of it.
+fn installed<C: Caller>(
+    alloc: Global,
+    env: &Env,
+    term: &Term,
+    caller: &mut C,
+) -> Result<(), ProcessFault>
+    ensures { OnOk result (C.tells → InstallsStable (string_bytes env.now.rustup)
+        (C.calls caller.old) (C.calls caller.new)) }
+{
+    let mut screen = Screen {
+        term,
+        out: &mut io::sink(),
+        err: &mut io::sink(),
+        log_group: LogGroup::None,
+    };
+    install_toolchain(
+        alloc,
+        caller,
+        &mut screen,
+        env.rustup.as_str(),
+        "stable",
+        &[],
+        false,
+        env.current_dir.as_str(),
+    )
+}
+
+/// The fault of asking, as a text.
+fn stable_fault(
+    alloc: Global,
+    fault: ProcessFault,
+) -> Result<Result<Option<Version>, String>, AllocError>
+    ensures { IfOk result (IsLatest (λ _. ⊥)) }
+{
+    match fault {
+        ProcessFault::Memory => Err(AllocError),
+        fault => Ok(Err(format!(in alloc; "{fault}")?)),
+    }
+}
+
+fn stable_command<'a>(alloc: Global, env: &Env) -> Result<ProcessBuilder<'a>, AllocError>
+    ensures { IfOk result (λ asked. command_of asked ≡ asks_stable (string_bytes env.now.rustup)) }
+{
+    let mut asked = ProcessBuilder::new(alloc, env.rustup.as_str())?;
+    asked.args(&["run", "stable", "cargo", "-vV"])?;
+    Ok(asked)
+}
+
+/// Asks stable's cargo for its version.
+fn stable_version<C: Caller>(
+    alloc: Global,
+    env: &Env,
+    verbose: bool,
+    caller: &mut C,
+) -> Result<Result<Option<Version>, String>, AllocError>
+    ensures { IfOk result (IsLatest (λ v. C.tells → ReadsStable (string_bytes env.now.rustup) v
+        (C.calls caller.old) (C.calls caller.new))) }
+{
+    let asked = stable_command(alloc, env)?;
+    match asked.read(alloc, caller, env.current_dir.as_str()) {
+        Ok(text) => stable_in(alloc, &asked, text.as_str(), env, verbose),
+        Err(fault) => stable_fault(alloc, fault),
+    }
+}
+
+/// What its answer tells.
+fn stable_in(
+    alloc: Global,
+    asked: &ProcessBuilder<'_>,
+    answer: &str,
+    env: &Env,
+    verbose: bool,
+) -> Result<Result<Option<Version>, String>, AllocError>
+    ensures { IfOk result (IsLatest (TellsRelease (release_part answer.now))) }
+{
+    match version(alloc, answer) {
+        Ok(version) => Ok(Ok(Some(version))),
+        Err(VersionTextFault::Memory) => Err(AllocError),
+        Err(fault) => {
+            let command = asked.text(alloc, false, verbose, env.current_dir.as_str())?;
+            Ok(Err(shown(alloc, fault.of(command.as_str()))?))
+        }
+    }
+}

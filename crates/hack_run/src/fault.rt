@@ -1,0 +1,58 @@
+//! Why a call ends.
+
+use hack_calls::fault::PlanFault;
+use hack_load::context::ContextFault;
+use hack_process::process::ProcessFault;
+use hack_words::cli::CliFault;
+use std::alloc::{AllocError, AllocFailed};
+use thiserror::Error;
+
+/// Why a call ends.
+#[derive(Debug, Drop, Error)]
+pub(crate) enum RunFault {
+    #[error("out of memory")]
+    Memory,
+    /// The words are refused.
+    #[error("{0}")]
+    Words(CliFault),
+    /// What the call needs isn't loaded.
+    #[error("{0}")]
+    Context(ContextFault),
+    /// The call asks for edits of manifests.
+    #[error("manifest editing is not there yet")]
+    Editing,
+    /// There is no plan.
+    #[error("{0}")]
+    Plan(PlanFault),
+    /// A command failed.
+    #[error("{0}")]
+    Process(ProcessFault),
+    /// A line of the command list couldn't be written.
+    #[error("failed to write the command list")]
+    Unlisted,
+    /// A text couldn't be written.
+    #[error("failed to write to standard output")]
+    Unprinted,
+}
+
+impl From<AllocError> for RunFault {
+    ghost use Rattle.std.specs.Prelude.{◌≡◌};
+    ghost use Rattle.hack_run.specs.declared.fault.RunFault.TheVariants.{Memory};
+
+    ghost from_gives = { λ _ e. e ≡ Memory };
+
+    fn from(_: AllocError) -> RunFault {
+        RunFault::Memory
+    }
+}
+
+impl<T: Drop> From<AllocFailed<T>> for RunFault {
+    ghost use Rattle.std.specs.Prelude.{◌≡◌};
+    ghost use Rattle.hack_run.specs.declared.fault.RunFault.TheVariants.{Memory};
+
+    ghost from_gives = { λ _ e. e ≡ Memory };
+
+    fn from(_: AllocFailed<T>) -> RunFault {
+        RunFault::Memory
+    }
+}

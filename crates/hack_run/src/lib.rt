@@ -1,0 +1,11 @@
+//! A whole call of `cargo hack`, from its words to its exit status.
+#![tactic(auto)]
+
+mod ask;
+mod edits;
+mod fault;
+mod list;
+pub mod run;
+mod stages;
+mod start;
+mod tell;

@@ -1,0 +1,154 @@
+//! A whole call of `cargo hack`: what its words ask for is done, and told on the way.
+
+ghost use Rattle.std.specs.Prelude.{◌≡◌, ◌↔◌, ◌⊎◌, ◌≤◌, IsErr, IsTrue, OnOk, false, true};
+ghost use Rattle.std.specs.Prelude.{string_bytes};
+ghost use Rattle.hack_features.specs.Names.{names_of};
+ghost use Rattle.hack_process.specs.Calls.{MayAdd};
+ghost use Rattle.hack_run.specs.Questions.{rustup_asked};
+ghost use Rattle.hack_run.specs.Whole.{AreRefused, IsDone, ListsCommands, Obeys};
+
+use crate::ask::rustup_for;
+use crate::fault::RunFault;
+use crate::stages::perform;
+use crate::tell::{tell_all, tell_end};
+use hack_files::fs::Files;
+use hack_process::process::{Caller, ProcessBuilder, ProcessFault};
+use hack_term::term::{Coloring, Term};
+use hack_versions::notice::Notice;
+use hack_words::cli::{Args, Env, Parsed};
+use std::alloc::Global;
+use std::io::Write;
+
+/// Performs the call of these words, the first of which is `hack`, and answers its exit status.
+/// What is printed goes to `out`, and what is told to `err`, the line of a fault last. The colouring
+/// of the terminal is that of `--color auto`.
+pub fn run<F: Files, C: Caller, O: Write, E: Write>(
+    alloc: Global,
+    words: &[String],
+    env: &Env,
+    term: &mut Term,
+    files: &mut F,
+    runner: &mut C,
+    out: &mut O,
+    err: &mut E,
+) -> u8
+    ensures one { (result ≡ 1)
+        ↔ (IsTrue term.new.error ⊎ (IsTrue term.new.warn × IsTrue env.now.deny_warnings)) }
+    ensures at_most_one { result ≤ 1 }
+
+    // Words that are refused whatever rustup answers are told as an error, and then it was asked for
+    // its version at most.
+    ensures refused { AreRefused env.now (names_of words.now) → (term.new.error ≡ true)
+        × (C.tells → MayAdd (rustup_asked (string_bytes env.now.rustup))
+        (C.calls runner.old) (C.calls runner.new)) }
+
+    // Where no error was told, what the words ask for was done: the calls end with those of the
+    // whole schedule of the plan, for what was told and read in this call.
+    ensures done { term.new.error ≡ false → C.tells → F.tells → IsDone (names_of words.now)
+        env.now (F.bytes_at files.old) (F.failed files.old)
+        (C.calls runner.old) (C.calls runner.new) }
+{
+    let came = read(alloc, words, env, term, files, runner, out, err);
+    tell_end(alloc, came, term, err);
+    term.status(env.deny_warnings)
+}
+
+/// Reads the words, and does what they ask for.
+fn read<F: Files, C: Caller, O: Write, E: Write>(
+    alloc: Global,
+    words: &[String],
+    env: &Env,
+    term: &mut Term,
+    files: &mut F,
+    runner: &mut C,
+    out: &mut O,
+    err: &mut E,
+) -> Result<(), RunFault>
+    ensures refused { AreRefused env.now (names_of words.now) → IsErr result
+        × (C.tells → MayAdd (rustup_asked (string_bytes env.now.rustup))
+        (C.calls runner.old) (C.calls runner.new)) }
+    ensures done { OnOk result (term.new.error ≡ false → C.tells → F.tells
+        → IsDone (names_of words.now) env.now (F.bytes_at files.old) (F.failed files.old)
+        (C.calls runner.old) (C.calls runner.new)) }
+{
+    let rustup = rustup_for(alloc, words, env, term.verbose, runner)?;
+    match Args::parse(alloc, words, env, rustup) {
+        Ok(answer) => {
+            let (parsed, notices) = answer;
+            obey(
+                alloc,
+                parsed,
+                notices.as_slice(),
+                env,
+                term,
+                files,
+                runner,
+                out,
+                err,
+            )
+        }
+        Err(fault) => Err(RunFault::Words(fault)),
+    }
+}
+
+/// Does what words ask for, of which the user is told this.
+fn obey<F: Files, C: Caller, O: Write, E: Write>(
+    alloc: Global,
+    parsed: Parsed,
+    notices: &[Notice],
+    env: &Env,
+    term: &mut Term,
+    files: &mut F,
+    runner: &mut C,
+    out: &mut O,
+    err: &mut E,
+) -> Result<(), RunFault>
+    ensures { OnOk result (term.new.error ≡ false → C.tells → F.tells
+        → Obeys parsed env.now (F.bytes_at files.old) (F.failed files.old)
+        (C.calls runner.old) (C.calls runner.new)) }
+{
+    match parsed {
+        Parsed::Args(args) => {
+            dress(term, &args);
+            tell_all(notices, term, err);
+            perform(alloc, args, env, term, files, runner, out, err)
+        }
+        Parsed::Print(text) => print(text.as_str(), out),
+        Parsed::List => {
+            tell_all(notices, term, err);
+            list_commands(alloc, env, runner)
+        }
+    }
+}
+
+/// Colours lines as the arguments say, and tells as much as they say.
+fn dress(term: &mut Term, args: &Args) {
+    term.verbose = args.verbose;
+    match args.coloring {
+        Coloring::Auto => (),
+        Coloring::Always => term.coloring = Coloring::Always,
+        Coloring::Never => term.coloring = Coloring::Never,
+    }
+}
+
+/// Prints a text.
+fn print<O: Write>(text: &str, out: &mut O) -> Result<(), RunFault> {
+    match out.write_all(text.as_bytes()) {
+        Ok(()) => Ok(()),
+        Err(_) => Err(RunFault::Unprinted),
+    }
+}
+
+/// Has cargo list its commands.
+fn list_commands<C: Caller>(alloc: Global, env: &Env, runner: &mut C) -> Result<(), RunFault>
+    ensures { OnOk result (C.tells → ListsCommands (string_bytes env.now.cargo)
+        (C.calls runner.old) (C.calls runner.new)) }
+{
+    let mut command = ProcessBuilder::new(alloc, env.cargo.as_str())?;
+    command.arg("--list")?;
+    match command.run(alloc, runner, env.current_dir.as_str()) {
+        Ok(()) => Ok(()),
+        Err(ProcessFault::Memory) => Err(RunFault::Memory),
+        Err(fault) => Err(RunFault::Process(fault)),
+    }
+}

@@ -1,0 +1,136 @@
+//! The stages of a call behind its words: what is loaded, the plan, and its runs or their list.
+
+ghost use Rattle.std.specs.Prelude.{◌≡◌, IfOk, OnOk, false, string_bytes};
+ghost use Rattle.hack_load.specs.ContextOf.{IsContextFrom};
+ghost use Rattle.hack_load.specs.ContextView.{context_view};
+ghost use Rattle.hack_run.specs.Runs.{RunsAll};
+ghost use Rattle.hack_run.specs.Whole.{Follows, IsPlanned, Performs};
+
+use crate::ask::stable_for;
+use crate::edits::edits;
+use crate::fault::RunFault;
+use crate::list::list;
+use crate::start::{Manner, start};
+use crate::tell::tell_all;
+use hack_calls::plan::plan_of;
+use hack_files::fs::Files;
+use hack_files::restore::Manager;
+use hack_load::context::{Answers, Context};
+use hack_process::process::Caller;
+use hack_runs::plan::Plan;
+use hack_term::term::Term;
+use hack_words::cli::{Args, Env};
+use std::alloc::Global;
+use std::io::Write;
+
+/// Performs a call with these arguments. Whatever comes of it, the files come back.
+pub(crate) fn perform<F: Files, C: Caller, O: Write, E: Write>(
+    alloc: Global,
+    args: Args,
+    env: &Env,
+    term: &mut Term,
+    files: &mut F,
+    caller: &mut C,
+    out: &mut O,
+    err: &mut E,
+) -> Result<(), RunFault>
+    ensures { OnOk result (args.print_command_list ≡ false → term.new.error ≡ false
+        → C.tells → F.tells → Performs args env.now (F.bytes_at files.old) (F.failed files.old)
+        (C.calls caller.old) (C.calls caller.new)) }
+{
+    let mut manager = Manager::new(alloc, !args.remove_dev_deps);
+    let answers = Answers::ask(alloc, &args, env, caller, files, &mut manager);
+    let came = follow(alloc, args, answers, env, term, caller, out, err);
+    manager.restore_all(files, term, err);
+    came
+}
+
+/// Performs a call for which this was answered.
+fn follow<C: Caller, O: Write, E: Write>(
+    alloc: Global,
+    args: Args,
+    answers: Answers,
+    env: &Env,
+    term: &mut Term,
+    caller: &mut C,
+    out: &mut O,
+    err: &mut E,
+) -> Result<(), RunFault>
+    ensures { OnOk result (args.print_command_list ≡ false → term.new.error ≡ false → C.tells
+        → Follows args answers (string_bytes env.now.rustup)
+        (C.calls caller.old) (C.calls caller.new)) }
+{
+    let cx = context(alloc, args, answers, term, err)?;
+    if edits(cx.args()) {
+        return Err(RunFault::Editing);
+    }
+    let plan = plan(alloc, &cx, env, term, caller, err)?;
+    run_plan(alloc, plan, cx.args(), term, caller, out, err)
+}
+
+/// Puts together what is loaded.
+fn context<E: Write>(
+    alloc: Global,
+    args: Args,
+    answers: Answers,
+    term: &mut Term,
+    err: &mut E,
+) -> Result<Context, RunFault>
+    ensures { IfOk result (λ cx. IsContextFrom args answers (context_view cx)) }
+{
+    match Context::new(alloc, args, answers) {
+        Ok(answer) => {
+            let (cx, notices) = answer;
+            tell_all(notices.as_slice(), term, err);
+            Ok(cx)
+        }
+        Err(fault) => Err(RunFault::Context(fault)),
+    }
+}
+
+/// Makes the plan.
+fn plan<C: Caller, E: Write>(
+    alloc: Global,
+    cx: &Context,
+    env: &Env,
+    term: &mut Term,
+    caller: &mut C,
+    err: &mut E,
+) -> Result<Plan, RunFault>
+    ensures { IfOk result (λ plan. IsPlanned (context_view cx.now) (string_bytes env.now.rustup)
+        C.tells (C.calls caller.old) (C.calls caller.new) plan) }
+{
+    let stable = stable_for(alloc, cx.args(), env, term, caller)?;
+    match plan_of(alloc, cx, env.rustup.as_str(), stable) {
+        Ok(answer) => {
+            let (plan, notices) = answer;
+            tell_all(notices.as_slice(), term, err);
+            Ok(plan)
+        }
+        Err(fault) => Err(RunFault::Plan(fault)),
+    }
+}
+
+/// Lists the plan or performs it.
+fn run_plan<C: Caller, O: Write, E: Write>(
+    alloc: Global,
+    plan: Plan,
+    args: &Args,
+    term: &mut Term,
+    caller: &mut C,
+    out: &mut O,
+    err: &mut E,
+) -> Result<(), RunFault>
+    ensures { OnOk result (args.now.print_command_list ≡ false → term.new.error ≡ false → C.tells
+        → RunsAll plan args.now.partition (C.calls caller.old) (C.calls caller.new)) }
+{
+    if args.print_command_list {
+        return list(alloc, plan, args.partition, term, caller, out, err);
+    }
+    let manner = Manner {
+        piece: args.partition,
+        keep_going: args.keep_going,
+        log_group: args.log_group,
+    };
+    start(alloc, plan, manner, term, caller, out, err)
+}
