@@ -23,7 +23,7 @@ run:
 	@cd crates/powerset_list && rt try -- --mutually-exclusive-features $(EXCLUSIVE) < ../../examples/features.json
 
 test:
-	@rt ci
+	@tests/gate
 
 quick:
 	@tests/quick '$(CRATE)'
