@@ -13,9 +13,9 @@ fn preparations(alloc: Global, version: &PlanVersion) -> Result<String, AllocErr
     let mut text = String::new(alloc);
     for preparation in &version.preparations {
         let (kind, place) = match preparation {
-            Preparation::Toolchain(place) => ("T", *place),
-            Preparation::Lockfile(place) => ("L", *place),
-            Preparation::Clean(place) => ("C", *place),
+            Preparation::Toolchain(place) => ("t", *place),
+            Preparation::Lockfile(place) => ("l", *place),
+            Preparation::Clean(place) => ("c", *place),
         };
         text.push_str(format!(in alloc; " {kind}{place}")?.as_str())?;
     }
@@ -71,21 +71,21 @@ fn steps(rt: HostRuntime) -> Result<(), Fail> {
         &[
             (
                 "check --version-range ..=1.64 --version-step 2",
-                "1.60 T0 0..1\n1.61 T1 1..2\n1.62 T2 2..4\n1.64 T3 4..6\np1 p2 p1 p2 p1 p2 \n",
+                "1.60 t0 0..1\n1.61 t1 1..2\n1.62 t2 2..4\n1.64 t3 4..6\np1 p2 p1 p2 p1 p2 \n",
             ),
             ("check", "none 0..2\np1 p2 \n"),
             (
                 "check --rust-version",
-                "1.60 T0 0..1\n1.61 T1 1..2\np1 p2 \n",
+                "1.60 t0 0..1\n1.61 t1 1..2\np1 p2 \n",
             ),
             // Up to the version of the toolchain `stable`.
             (
                 "check --version-range 1.65..",
-                "1.65 T0 0..2\n1.66 T1 2..4\np1 p2 p1 p2 \n",
+                "1.65 t0 0..2\n1.66 t1 2..4\np1 p2 p1 p2 \n",
             ),
             (
                 "check --version-range 1.59.2..=1.60",
-                "1.60 T0 0..1\np1 \nwarning: --version-range always selects the latest patch release per minor release, not the specified patch release `2`\nwarning: skipping p2, rust-version (1.61) is not in specified range (1.59.2..=1.60)\n",
+                "1.60 t0 0..1\np1 \nwarning: --version-range always selects the latest patch release per minor release, not the specified patch release `2`\nwarning: skipping p2, rust-version (1.61) is not in specified range (1.59.2..=1.60)\n",
             ),
         ],
     )
@@ -100,23 +100,23 @@ fn used_versions(rt: HostRuntime) -> Result<(), Fail> {
         &[
             (
                 "check --version-range 1.49..=1.52",
-                "1.51 T0 L0 0..1\n1.52 T1 1..2\np p \n",
+                "1.51 t0 l0 0..1\n1.52 t1 1..2\np p \n",
             ),
             (
                 "check --workspace-behavior=cargo --version-range 1.49..=1.52",
-                "1.51 T0 L0 0..1\n1.52 T1 1..2\nall all \n",
+                "1.51 t0 l0 0..1\n1.52 t1 1..2\nall all \n",
             ),
             (
                 "check --workspace --version-range ..=1.52",
-                "1.51 T0 L0 0..2\n1.52 T1 2..4\np q p q \n",
+                "1.51 t0 l0 0..2\n1.52 t1 2..4\np q p q \n",
             ),
             (
                 "check --workspace --version-range 1.50..=1.51",
-                "1.50 T0 L0 0..1\n1.51 T1 L1 1..3\nq p q \n",
+                "1.50 t0 l0 0..1\n1.51 t1 l1 1..3\nq p q \n",
             ),
             (
                 "check --feature-powerset --depth 0 --at-least-one-of a,b --rust-version",
-                "1.51 T0 L0 0..0\n\n",
+                "1.51 t0 l0 0..0\n\n",
             ),
             ("check --exclude p", "none 0..0\n\n"),
             ("check --exclude p --version-range 1.49..=1.52", "\n"),
@@ -140,19 +140,19 @@ fn before_the_runs(rt: HostRuntime) -> Result<(), Fail> {
         &[
             (
                 "check --version-range 1.49..=1.52",
-                "1.49 T0 L0 0..1\n1.50 T1 1..2\n1.51 T2 L2 2..3\n1.52 T3 3..4\np p p p \n",
+                "1.49 t0 l0 0..1\n1.50 t1 1..2\n1.51 t2 l2 2..3\n1.52 t3 3..4\np p p p \n",
             ),
             (
                 "check --version-range 1.49..=1.52 --locked",
-                "1.49 T0 0..1\n1.50 T1 1..2\n1.51 T2 2..3\n1.52 T3 3..4\np p p p \n",
+                "1.49 t0 0..1\n1.50 t1 1..2\n1.51 t2 2..3\n1.52 t3 3..4\np p p p \n",
             ),
             (
                 "check --version-range 1.59..=1.60 --clean-per-version",
-                "1.59 T0 L0 C0 0..1\n1.60 T1 C1 1..2\np p \n",
+                "1.59 t0 l0 c0 0..1\n1.60 t1 c1 1..2\np p \n",
             ),
             (
                 "check --workspace-behavior=cargo --version-range 1.60..=1.61",
-                "1.60 T0 0..1\n1.61 T1 1..2\nall all \n",
+                "1.60 t0 0..1\n1.61 t1 1..2\nall all \n",
             ),
         ],
     )
