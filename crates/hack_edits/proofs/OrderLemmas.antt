@@ -3,10 +3,9 @@ use Rattle.std.proofs.Common.{◌≡◌, ℕ, List, [], ◌∷◌, Bool, true, f
 use Rattle.std.specs.Prelude.{◌||◌, fold}
 use Rattle.std.specs.List.{All, list_any}
 use Rattle.std.specs.Str.{bytes_eq}
-use Rattle.core.specs.List.Sorted.{IsStrictlySortedBy}
-use Rattle.core.specs.Cmp.Lexicographic.{nat_list_cmp_total}
-use Rattle.core.specs.Ordering.{ordering_reverse}
+use Rattle.std.specs.List.Sorted.{IsStrictlySortedBy}
 use Rattle.std.proofs.lemmas.List.Elements.{All-from_recursion, recursion_from_All, All-cons}
+use Rattle.std.proofs.lemmas.Cmp.{nat_list_cmp_total}
 use Rattle.std.proofs.lemmas.Map.Views.{All-insert_key}
 use Rattle.std.proofs.lemmas.Map.Lookups.{exact_bytes}
 use Rattle.hack_features.specs.Names.{Name}
@@ -14,7 +13,7 @@ use Rattle.hack_edits.specs.Members.{in_order}
 use Rattle.std.specs.Borrow.{Bor}
 use Rattle.std.specs.BTreeSet.{insert_key}
 use Rattle.std.specs.Cmp.Lexicographic.{slice_cmp}
-use Rattle.std.specs.Ordering.{match_ordering}
+use Rattle.std.specs.Ordering.{match_ordering, ordering_reverse}
 use Rattle.hack_process.specs.PathTexts.{texts}
 
 texts-match : (o : Ordering) (a b c : List (Bor (List ℕ))) → texts (match_ordering o a b c) ≡ match_ordering o (texts a) (texts b) (texts c)
