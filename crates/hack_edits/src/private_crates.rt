@@ -81,9 +81,6 @@ fn without_ordered(
     let Some(old) = tree_of(alloc, text)? else {
         return Err(ManifestFault::Toml);
     };
-    let Some(copy) = tree_of(alloc, text)? else {
-        return Err(ManifestFault::Toml);
-    };
     let Some(workspace) = find_table(&old, WORKSPACE) else {
         let same = String::from_str(alloc, text)?;
         return Ok(same);
@@ -96,6 +93,9 @@ fn without_ordered(
     if any_control(private) {
         return Err(ManifestFault::PathText);
     }
+    let Some(copy) = tree_of(alloc, text)? else {
+        return Err(ManifestFault::Toml);
+    };
     without_private(alloc, text, root, private, workspace, &choice, copy)
 }
 
