@@ -69,11 +69,20 @@ fn rustup_in(
     match minor_version(alloc, answer) {
         Ok(minor) => Ok(Rustup::Known(minor)),
         Err(VersionTextFault::Memory) => Err(AllocError),
-        Err(fault) => {
-            let command = asked.text(alloc, false, verbose, env.current_dir.as_str())?;
-            Ok(Rustup::Unknown(shown(alloc, fault.of(command.as_str()))?))
-        }
+        Err(fault) => Ok(Rustup::Unknown(told(alloc, fault, asked, env, verbose)?)),
     }
+}
+
+/// What is wrong with the answer to a command, as a text.
+fn told(
+    alloc: Global,
+    fault: VersionTextFault,
+    asked: &ProcessBuilder<'_>,
+    env: &Env,
+    verbose: bool,
+) -> Result<String, AllocError> {
+    let command = asked.text(alloc, false, verbose, env.current_dir.as_str())?;
+    shown(alloc, fault.of(command.as_str()))
 }
 
 fn shown(alloc: Global, fault: AnswerFault<'_>) -> Result<String, AllocError> {
@@ -192,9 +201,6 @@ fn stable_in(
     match version(alloc, answer) {
         Ok(version) => Ok(Ok(Some(version))),
         Err(VersionTextFault::Memory) => Err(AllocError),
-        Err(fault) => {
-            let command = asked.text(alloc, false, verbose, env.current_dir.as_str())?;
-            Ok(Err(shown(alloc, fault.of(command.as_str()))?))
-        }
+        Err(fault) => Ok(Err(told(alloc, fault, asked, env, verbose)?)),
     }
 }

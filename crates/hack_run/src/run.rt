@@ -124,10 +124,8 @@ fn obey<F: Files, C: Caller, O: Write, E: Write>(
 /// Colours lines as the arguments say, and tells as much as they say.
 fn dress(term: &mut Term, args: &Args) {
     term.verbose = args.verbose;
-    match args.coloring {
-        Coloring::Auto => (),
-        Coloring::Always => term.coloring = Coloring::Always,
-        Coloring::Never => term.coloring = Coloring::Never,
+    if args.coloring != Coloring::Auto {
+        term.coloring = args.coloring;
     }
 }
 
