@@ -1,2 +1,3 @@
 mod FilesLemmas
-mod RestoreLemmas
+pub mod RestoreLemmas
+pub mod SafeLemmas

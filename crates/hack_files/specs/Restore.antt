@@ -1,5 +1,7 @@
 -- Files that are written back.
-use Rattle.std.specs.Prelude.{◌≡◌, ◌≢◌, ◌⊎◌, ◌≤◌, ◌+◌, ◌++◌, [], ◌∷◌, ℕ, List, Some, length, map, string_bytes, All, AllPairs, Contains}
+use Rattle.std.specs.Prelude.{◌≡◌, ◌≢◌, ◌⊎◌, ◌≤◌, ◌+◌, ◌++◌, [], ◌∷◌, ℕ, Bool, false, List, Some, length, map, string_bytes, All, AllPairs, Contains, if◌then◌else◌}
+use Rattle.std.specs.List.{list_any}
+use Rattle.std.specs.Str.{bytes_eq}
 use Rattle.hack_files.specs.Files.{Contents, Change, puts}
 use Rattle.hack_files.specs.declared.restore.Saved.{Saved}
 use Rattle.hack_files.specs.declared.restore.Manager.{Manager}
@@ -34,6 +36,21 @@ AreDistinct files = AllPairs (λ a b. a.path ≢ b.path) files
 abbrev pub Brings : List Kept → Contents → Contents → ℕ → Type 0
 Brings files old new k =
     AreDistinct files → (spoilt : List (List ℕ)) × (length spoilt ≤ k) × Back files spoilt old new
+
+-- a file of this path is kept
+abbrev pub is_kept : List Kept → List ℕ → Bool
+is_kept files path = list_any (λ file. bytes_eq file.path path) files
+
+-- a file is kept too, unless one of its path is already
+abbrev pub kept_too : List Kept → Kept → List Kept
+kept_too files file = if is_kept files file.path then files else files ++ file ∷ []
+
+-- No path is kept twice, each kept file has what its path held at the start, and every other path still holds that: so
+-- whatever was written since comes back.
+pub record AreSafe (files : List Kept) (start now : Contents) : Type 0 where
+  pub distinct : AreDistinct files
+  pub held : All (λ file. start file.path ≡ Some file.bytes) files
+  pub others : (q : List ℕ) → is_kept files q ≡ false → now q ≡ start q
 
 -- the write of a file's bytes
 abbrev pub write_of : Kept → Change

@@ -183,6 +183,23 @@ pub fn read_to_string<F: Files>(alloc: Global, files: &mut F, path: &str) -> Res
     }
 }
 
+/// Whether something is at a path. A fault is one of reading it.
+pub fn exists<F: Files>(alloc: Global, files: &mut F, path: &str) -> Result<bool, FsFault>
+    ensures stays { F.stays files.old files.new }
+    ensures counted { Counts (F.failed files.old) (F.failed files.new) result }
+    ensures there { IfOk result (λ there. F.tells →
+        IsTrue there ↔ IsSome (F.bytes_at files.old path.now)) }
+    ensures same { F.tells → KeepsAll (F.bytes_at files.old) (F.bytes_at files.new) }
+    ensures untraced { F.whole → Makes [] (F.trace files.old) (F.trace files.new)
+        (F.bytes_at files.old) (F.bytes_at files.new) }
+    ensures fault { IfErr result (IsOfRead path.now) }
+{
+    match files.exists(path) {
+        Ok(there) => Ok(there),
+        Err(fault) => Err(read_fault(alloc, path, fault)),
+    }
+}
+
 /// Puts these bytes into a file, in place of what it holds. Want of memory is `Memory`.
 pub fn write<F: Files>(
     alloc: Global,

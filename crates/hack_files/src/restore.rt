@@ -7,7 +7,8 @@ ghost use Rattle.std.specs.Bool.{OnTrue, OnFalse};
 ghost use Rattle.hack_files.specs.Files.{GrowsBy, Counts, KeepsAll, KeepsOthers};
 ghost use Rattle.hack_files.specs.Files.{Makes, MakesOrNot, Change};
 ghost use Rattle.hack_files.specs.Faults.{IsOfWrite};
-ghost use Rattle.hack_files.specs.Restore.{Kept, kept, registered, Brings, Tried, write_of};
+ghost use Rattle.hack_files.specs.Restore.{Kept, kept, registered, is_kept, kept_too};
+ghost use Rattle.hack_files.specs.Restore.{Brings, Tried, write_of};
 
 use crate::fs::{FileFault, Files, FsFault};
 use hack_term::term::Term;
@@ -77,6 +78,37 @@ impl Manager {
         };
         self.saved.push(saved)?;
         Ok(())
+    }
+
+    /// Whether the bytes of this path are kept already.
+    pub fn keeps(&self, path: &str) -> bool
+        ensures { result ≡ is_kept (registered self.now) path.now }
+    {
+        for file in &self.saved {
+            if file.path.as_str() == path {
+                return true;
+            }
+        }
+        false
+    }
+
+    /// Keeps the bytes of a file, where files have to be restored and none of its path is kept.
+    pub fn register_once(
+        &mut self,
+        alloc: Global,
+        path: &str,
+        bytes: &[u8],
+    ) -> Result<(), AllocError>
+        ensures ok { OnOk result (registered self.new ≡ cond self.old.needs_restore
+            (kept_too (registered self.old) (record { path = path.now; bytes = bytes.now }))
+            (registered self.old)) }
+        ensures err { OnErr result (registered self.new ≡ registered self.old) }
+        ensures needs { self.new.needs_restore ≡ self.old.needs_restore }
+    {
+        if self.keeps(path) {
+            return Ok(());
+        }
+        self.register(alloc, path, bytes)
     }
 
     /// Writes back the file that was registered last, if there is one. It leaves the list also

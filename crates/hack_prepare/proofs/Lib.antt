@@ -1,0 +1,4 @@
+mod StepLemmas
+mod MemberLemmas
+mod RootLemmas
+pub mod HeldLemmas

@@ -1,0 +1,216 @@
+-- The members so far, one more.
+use Rattle.std.proofs.Common.{◌≡◌, ◌≢◌, ◌⊎◌, inl, inr, ℕ, ◌+◌, ◌<◌, List, [], ◌∷◌, ◌++◌, Bool, true, false, cond, Option, Some, length, get_or, map, take, refl, sym, ◌∙◌, ap, subst, append-nil, append_assoc, arith}
+use Rattle.std.specs.Prelude.{◌&&◌, ◌||◌, not, All, Contains, codes}
+use Rattle.std.specs.List.{filter, filter_map, flat_map, list_any}
+use Rattle.std.specs.Str.{bytes_eq}
+use Rattle.std.proofs.lemmas.Bool.{cases_Bool, true≢false}
+use Rattle.std.proofs.lemmas.List.{map-append}
+use Rattle.std.proofs.lemmas.List.Elements.{All-contains, All-push, All-take, Contains-push_cases, filter-append, filter_map-append}
+use Rattle.std.proofs.lemmas.List.Folds.{list_any-append}
+use Rattle.std.proofs.lemmas.Grind.{flat_map-append}
+use Rattle.std.proofs.lemmas.Slice.Eq.{bytes_eq-Decides}
+use Rattle.hack_features.specs.Names.{Name}
+use Rattle.hack_features.proofs.Steps.{filter_map-found, seen-next}
+use Rattle.hack_metadata.specs.View.{place_at}
+use Rattle.hack_metadata.specs.declared.resolve.PackageId.{PackageId}
+use Rattle.hack_edits.specs.DevDeps.{IsWithoutDev}
+use Rattle.hack_files.specs.Files.{Contents, KeepsOthers}
+use Rattle.hack_versions.specs.Notes.{Note}
+use Rattle.hack_prepare.specs.Prepared.{AllHold, HasPrivateRoot, HoldTexts, Member, Wanted, goes, gone, drops_at_root, is_alone, is_alone_at, is_left, is_root}
+use Rattle.hack_prepare.specs.Steps.{AreTurned, HoldsText, IsStep, IsTurned}
+use Rattle.hack_files.specs.declared.restore.Manager.{Manager}
+use Rattle.hack_prepare.proofs.StepLemmas.{step_given, step_then}
+use Rattle.hack_prepare.specs.Told.{dev_note, edit_notes, member_notes, notes, root_notes}
+use Rattle.hack_prepare.specs.PreparedView.{wanted_in}
+use Rattle.hack_load.specs.Contexts.{ContextRecord}
+use Rattle.hack_process.specs.PathTexts.{join_of}
+use Rattle.hack_words.specs.declared.cli.args.Args.{Args}
+
+pub or_left : (a b : Bool) → (a || b) ≡ false → a ≡ false
+or_left true b e = e
+or_left false b e = refl
+
+pub or_right : (a b : Bool) → (a || b) ≡ false → b ≡ false
+or_right true b e = absurd (true≢false e)
+or_right false b e = e
+
+-- a member that goes isn't edited by itself
+pub alone-goes : (w : Wanted) (m : Member) → goes w m ≡ true → is_alone w m ≡ false
+alone-goes w m e = by w.drops_dev w.no_private m.is_private (is_root w m) e
+  where
+    by : (d n p r : Bool) → (n && p) ≡ true → (d && not (n && (p || r))) ≡ false
+    by false n p r h = refl
+    by true true true r h = refl
+    by true true false r h = absurd (true≢false (sym h))
+    by true false p r h = absurd (true≢false (sym h))
+
+-- those that go
+pub gone-more : (w : Wanted) (ms : List Member) (m : Member) (before now : List Name) → before ≡ gone w ms → now ≡ before ++ m.path ∷ [] → goes w m ≡ true → now ≡ gone w (ms ++ m ∷ [])
+gone-more w ms m before now is grown e =
+    let path : Member → Name = λ x. x.path in
+    grown ∙ ap (λ l. l ++ m.path ∷ []) is
+    ∙ ap (λ b. gone w ms ++ map path (cond b (m ∷ []) [])) (sym e)
+    ∙ sym (map-append path (filter (goes w) ms) (filter (goes w) (m ∷ [])))
+    ∙ ap (map path) (sym (filter-append (goes w) ms (m ∷ [])))
+
+pub gone-same : (w : Wanted) (ms : List Member) (m : Member) (before : List Name) → before ≡ gone w ms → goes w m ≡ false → before ≡ gone w (ms ++ m ∷ [])
+gone-same w ms m before is e =
+    let path : Member → Name = λ x. x.path in
+    is ∙ sym (append-nil (gone w ms))
+    ∙ ap (λ b. gone w ms ++ map path (cond b (m ∷ []) [])) (sym e)
+    ∙ sym (map-append path (filter (goes w) ms) (filter (goes w) (m ∷ [])))
+    ∙ ap (map path) (sym (filter-append (goes w) ms (m ∷ [])))
+
+-- what is told of them
+pub told-more : (w : Wanted) (ms : List Member) (m : Member) (old before now : List Note) → before ≡ old ++ flat_map (member_notes w) ms
+    → now ≡ before ++ dev_note w.verbose m.path → is_alone w m ≡ true → now ≡ old ++ flat_map (member_notes w) (ms ++ m ∷ [])
+told-more w ms m old before now is grown e =
+    grown ∙ ap (λ l. l ++ dev_note w.verbose m.path) is ∙ append_assoc old (flat_map (member_notes w) ms) (dev_note w.verbose m.path)
+    ∙ ap (λ l. old ++ (flat_map (member_notes w) ms ++ l)) (ap (λ b. cond b (dev_note w.verbose m.path) []) (sym e) ∙ sym (append-nil (member_notes w m)))
+    ∙ ap (λ l. old ++ l) (sym (flat_map-append (member_notes w) ms (m ∷ [])))
+
+pub told-same : (w : Wanted) (ms : List Member) (m : Member) (old before : List Note) → before ≡ old ++ flat_map (member_notes w) ms
+    → is_alone w m ≡ false → before ≡ old ++ flat_map (member_notes w) (ms ++ m ∷ [])
+told-same w ms m old before is e =
+    is
+    ∙ ap (λ l. old ++ l) (sym (append-nil (flat_map (member_notes w) ms)))
+    ∙ ap (λ l. old ++ (flat_map (member_notes w) ms ++ l)) (ap (λ b. cond b (dev_note w.verbose m.path) []) (sym e) ∙ sym (append-nil (member_notes w m)))
+    ∙ ap (λ l. old ++ l) (sym (flat_map-append (member_notes w) ms (m ∷ [])))
+
+-- a private member at the root
+pub never-more : (w : Wanted) (ms : List Member) (m : Member) → (goes w m ≡ true → is_root w m ≡ false) → ¬ HasPrivateRoot w ms → ¬ HasPrivateRoot w (ms ++ m ∷ [])
+never-more w ms m apart before h = elim (Contains-push_cases ms m h.member h.among) [
+  | inl earlier ↦ before (record { member = h.member; among = earlier; goes = h.goes; at_root = h.at_root })
+  | inr same ↦ true≢false (sym (subst (λ x. is_root w x ≡ true) (sym same) h.at_root) ∙ apart (subst (λ x. goes w x ≡ true) (sym same) h.goes))
+]
+
+pub never-none : (w : Wanted) → ¬ HasPrivateRoot w []
+never-none w h = absurd (omega (arith, h.among.1))
+
+-- what is edited so far
+pub turned-none : (w : Wanted) (held : Contents) → AreTurned w [] held held
+turned-none w held = record { turned = λ k d lt. absurd (omega (arith, lt)); others = λ q free. refl }
+
+pub turned-same : (w : Wanted) (ms : List Member) (m : Member) (old new : Contents) → is_alone w m ≡ false → AreTurned w ms old new → AreTurned w (ms ++ m ∷ []) old new
+turned-same w ms m old new e h = record {
+  turned = All-push (λ x. is_alone w x ≡ true → IsTurned new x) ms m h.turned (λ is. absurd (true≢false (sym is ∙ e)));
+  others = λ q free. h.others q (or_left (list_any (is_alone_at w q) ms) (list_any (is_alone_at w q) (m ∷ [])) (sym (list_any-append (is_alone_at w q) ms (m ∷ [])) ∙ free));
+}
+
+-- what a member's manifest holds stays, or is the edit of the same text
+still : (m x : Member) (mid new : Contents) → (x.path ≡ m.path → x.text ≡ m.text) → IsTurned new m → KeepsOthers m.path mid new → IsTurned mid x → IsTurned new x
+still m x mid new same now keeps before = elim (cases_Bool (bytes_eq x.path m.path)) [
+  | inl e ↦
+      let path : x.path ≡ m.path = (bytes_eq-Decides x.path m.path).0 e in
+      (now.0, ap new path ∙ now.1, subst (λ t. IsWithoutDev t now.0) (sym (same path)) now.2)
+  | inr e ↦
+      let apart : x.path ≢ m.path = λ is. true≢false (sym ((bytes_eq-Decides x.path m.path).1 is) ∙ e) in
+      (before.0, keeps x.path apart ∙ before.1, before.2)
+]
+
+and_false : (a b : Bool) → a ≡ true → (a && b) ≡ false → b ≡ false
+and_false true b e h = h
+and_false false b e h = absurd (true≢false (sym e))
+
+pub turned-more : (w : Wanted) (ms : List Member) (m : Member) (old mid new : Contents) → is_alone w m ≡ true → All (λ x. x.path ≡ m.path → x.text ≡ m.text) ms
+    → IsTurned new m → KeepsOthers m.path mid new → AreTurned w ms old mid → AreTurned w (ms ++ m ∷ []) old new
+turned-more w ms m old mid new e same now keeps h = record {
+  turned = All-push (λ x. is_alone w x ≡ true → IsTurned new x) ms m (λ k d lt is. still m (get_or ms k d) mid new (same k d lt) now keeps (h.turned k d lt is)) (λ is. now);
+  others = λ q free.
+      let split = sym (list_any-append (is_alone_at w q) ms (m ∷ [])) ∙ free in
+      let here : bytes_eq m.path q ≡ false = and_false (is_alone w m) (bytes_eq m.path q) e (or_left (is_alone_at w q m) false (or_right (list_any (is_alone_at w q) ms) (is_alone_at w q m || false) split)) in
+      keeps q (λ is. true≢false (sym ((bytes_eq-Decides m.path q).1 (sym is)) ∙ here)) ∙ h.others q (or_left (list_any (is_alone_at w q) ms) (list_any (is_alone_at w q) (m ∷ [])) split);
+}
+
+-- members that are found, one more
+pub found-more : (f : ℕ → Option Member) (ids : List PackageId) (k : ℕ) (id : PackageId) (m : Member) (old new : List Member) → k < length ids → id ≡ get_or ids k id
+    → f id.index ≡ Some m → new ≡ old ++ m ∷ [] → old ≡ filter_map f (take k (map place_at ids)) → new ≡ filter_map f (take (k + 1) (map place_at ids))
+found-more f ids k id m old new lt is found grown so_far =
+    grown
+    ∙ ap (λ t. t ++ m ∷ []) so_far
+    ∙ ap (λ t. filter_map f (take k (map place_at ids)) ++ t) (sym (filter_map-found f id.index m found))
+    ∙ sym (filter_map-append f (take k (map place_at ids)) (id.index ∷ []))
+    ∙ ap (filter_map f) (sym (seen-next place_at ids k id lt is))
+
+-- members at one path have one text
+one-text : (held : Contents) (ms : List Member) (m : Member) → HoldTexts held ms → HoldsText m held → All (λ x. x.path ≡ m.path → x.text ≡ m.text) ms
+one-text held ms m holds is k d lt same = let here = holds k d lt in let there : held m.path ≡ Some (get_or ms k d).text = ap held (sym same) ∙ here in cc
+
+-- one more member's step behind earlier ones
+pub visited-fails : (tells : Type 0) (ms : List Member) (m : Member) (old mid new : Manager) (start held now : Contents) (before between after : ℕ) → Contains ms m
+    → IsStep tells (AllHold ms) old mid start held before between → IsStep tells (HoldsText m) mid new held now between after → IsStep tells (AllHold ms) old new start now before after
+visited-fails tells ms m old mid new start held now before between after among first step =
+    step_then tells (AllHold ms) old mid new start held now before between after first
+    (step_given tells (HoldsText m) (AllHold ms) mid new held now between after (λ s holds. All-contains (λ x. s x.path ≡ Some x.text) ms m holds among) step)
+
+-- what was done for the first k members
+abbrev pub Visited : (tells : Type 0) → Wanted → List Member → ℕ → Manager → Manager → Contents → Contents → ℕ → ℕ → List Name → List Note → List Note → Type 0
+Visited tells w ms k old new start now before after private told notes =
+    IsStep tells (AllHold ms) old new start now before after
+    × (tells → HoldTexts start ms → AreTurned w (take k ms) start now)
+    × (private ≡ gone w (take k ms))
+    × (¬ HasPrivateRoot w (take k ms))
+    × (notes ≡ told ++ flat_map (member_notes w) (take k ms))
+
+module _ (tells : Type 0) (w : Wanted) (ms : List Member) (k : ℕ) (m : Member) (one : take (k + 1) ms ≡ take k ms ++ m ∷ []) (old : Manager) (start : Contents) (before : ℕ) (told : List Note) where
+  -- and for one more, which goes
+  pub visited-goes : (new : Manager) (now : Contents) (after : ℕ) (private more : List Name) (notes : List Note) → goes w m ≡ true → is_root w m ≡ false → more ≡ private ++ m.path ∷ []
+      → Visited tells w ms k old new start now before after private told notes → Visited tells w ms (k + 1) old new start now before after more told notes
+  visited-goes new now after private more notes go apart grown h =
+      let alone = alone-goes w m go in (
+        h.0,
+        λ t holds. subst (λ l. AreTurned w l start now) (sym one) (turned-same w (take k ms) m start now alone (h.1 t holds)),
+        gone-more w (take k ms) m private more h.2 grown go ∙ ap (gone w) (sym one),
+        subst (λ l. ¬ HasPrivateRoot w l) (sym one) (never-more w (take k ms) m (λ _. apart) h.3),
+        told-same w (take k ms) m told notes h.4 alone ∙ ap (λ l. told ++ flat_map (member_notes w) l) (sym one),
+      )
+
+  -- one more that is left as it is
+  pub visited-left : (new : Manager) (now : Contents) (after : ℕ) (private : List Name) (notes : List Note) → goes w m ≡ false → is_alone w m ≡ false
+      → Visited tells w ms k old new start now before after private told notes → Visited tells w ms (k + 1) old new start now before after private told notes
+  visited-left new now after private notes stay alone h = (
+    h.0,
+    λ t holds. subst (λ l. AreTurned w l start now) (sym one) (turned-same w (take k ms) m start now alone (h.1 t holds)),
+    gone-same w (take k ms) m private h.2 stay ∙ ap (gone w) (sym one),
+    subst (λ l. ¬ HasPrivateRoot w l) (sym one) (never-more w (take k ms) m (λ go. absurd (true≢false (sym go ∙ stay))) h.3),
+    told-same w (take k ms) m told notes h.4 alone ∙ ap (λ l. told ++ flat_map (member_notes w) l) (sym one),
+  )
+
+  -- one more that is edited by itself
+  pub visited-alone : (mid new : Manager) (held now : Contents) (between after : ℕ) (private : List Name) (notes more : List Note) → Contains ms m → goes w m ≡ false → is_alone w m ≡ true
+      → IsStep tells (HoldsText m) mid new held now between after → (tells → IsTurned now m) → (tells → KeepsOthers m.path held now) → more ≡ notes ++ dev_note w.verbose m.path
+      → Visited tells w ms k old mid start held before between private told notes → Visited tells w ms (k + 1) old new start now before after private told more
+  visited-alone mid new held now between after private notes more among stay alone step turned keeps grown h = (
+    visited-fails tells ms m old mid new start held now before between after among h.0 step,
+    λ t holds. subst (λ l. AreTurned w l start now) (sym one)
+        (turned-more w (take k ms) m start held now alone
+        (All-take (λ x. x.path ≡ m.path → x.text ≡ m.text) k ms (one-text start ms m holds (All-contains (λ x. start x.path ≡ Some x.text) ms m holds among))) (turned t) (keeps t) (h.1 t holds)),
+    gone-same w (take k ms) m private h.2 stay ∙ ap (gone w) (sym one),
+    subst (λ l. ¬ HasPrivateRoot w l) (sym one) (never-more w (take k ms) m (λ go. absurd (true≢false (sym go ∙ stay))) h.3),
+    told-more w (take k ms) m told notes more h.4 grown alone ∙ ap (λ l. told ++ flat_map (member_notes w) l) (sym one),
+  )
+
+-- what is wanted, by its parts
+abbrev pub wanted_of : Args → Bool → Name → Name → Name → Wanted
+wanted_of args drops folder root lockfile = record { drops_dev = drops; no_private = args.no_private; verbose = args.verbose; folder = folder; root = root; lockfile = lockfile }
+
+flat-none : (w : Wanted) (ms : List Member) → w.drops_dev ≡ false → flat_map (member_notes w) ms ≡ []
+flat-none w [] d = refl
+flat-none w (m ∷ ms) d = ap (λ b. cond (b && not (is_left w m)) (dev_note w.verbose m.path) [] ++ flat_map (member_notes w) ms) d ∙ flat-none w ms d
+
+-- where nothing is asked, nothing is told
+pub told-none : (w : Wanted) (ms : List Member) → w.drops_dev ≡ false → w.no_private ≡ false → notes w ms ≡ []
+told-none w ms d n = ap (λ l. l ++ root_notes w ms) (flat-none w ms d) ∙ ap (λ b. cond b (edit_notes w (drops_at_root w ms) (gone w ms)) []) n
+
+-- what is wanted, from what is loaded
+pub wanted-is : (cx : ContextRecord) (args : Args) (drops : Bool) (folder root lockfile : Name) → args ≡ cx.args → drops ≡ (args.no_dev_deps || args.remove_dev_deps)
+    → folder ≡ cx.metadata.workspace_root → root ≡ join_of folder (codes "Cargo.toml") → lockfile ≡ join_of folder (codes "Cargo.lock")
+    → wanted_of args drops folder root lockfile ≡ wanted_in cx
+wanted-is cx args drops folder root lockfile a d f r l = λ i. record {
+  drops_dev = (d ∙ ap (λ (x : Args). x.no_dev_deps || x.remove_dev_deps) a) i;
+  no_private = (a i).no_private;
+  verbose = (a i).verbose;
+  folder = f i;
+  root = (r ∙ ap (λ x. join_of x (codes "Cargo.toml")) f) i;
+  lockfile = (l ∙ ap (λ x. join_of x (codes "Cargo.lock")) f) i;
+}

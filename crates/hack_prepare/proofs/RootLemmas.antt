@@ -1,0 +1,175 @@
+-- The manifest in the folder of the workspace, and all edits together.
+use Rattle.std.proofs.Common.{◌≡◌, ◌⊎◌, inl, inr, ℕ, suc, List, [], ◌∷◌, ◌++◌, Bool, true, false, cond, Option, Some, None, Result, Ok, Err, OnOk, refl, sym, ◌∙◌, ap, subst, arith, map, get_or}
+use Rattle.std.specs.Prelude.{◌&&◌, ◌||◌, not, All, MatchOption, option_map}
+use Rattle.std.specs.List.{find, list_any}
+use Rattle.std.specs.Str.{bytes_eq}
+use Rattle.std.proofs.lemmas.Bool.{cases_Bool, true≢false}
+use Rattle.std.proofs.lemmas.Slice.Eq.{bytes_eq-Decides}
+use Rattle.hack_features.specs.Names.{Name}
+use Rattle.hack_files.specs.Files.{Contents, KeepsAll, KeepsOthers}
+use Rattle.hack_versions.specs.Notes.{Note}
+use Rattle.hack_prepare.specs.Prepared.{HoldTexts, IsPrepared, IsRootEdit, Member, Wanted, drops_at_root, edits_root, gone, has_root, has_some, is_alone, is_alone_at, is_root}
+use Rattle.hack_prepare.specs.Steps.{AreTurned, IsRootText, KeepsBut, MakesRoot}
+use Rattle.hack_prepare.specs.Told.{edit_notes, root_notes}
+use Rattle.hack_prepare.proofs.MemberLemmas.{or_left, or_right}
+
+-- what a write of the root's manifest keeps
+pub keeps-but : (w : Wanted) (b : Bool) (old new : Contents) → b ≡ true → KeepsOthers w.root old new → KeepsBut w b old new
+keeps-but w b old new e keeps q free = keeps q (λ is. true≢false (sym (ap (λ x. x && bytes_eq q w.root) e ∙ (bytes_eq-Decides q w.root).1 is) ∙ free))
+
+abbrev pub text_in : Member → Name
+text_in m = m.text
+
+-- ---- the member there
+
+found-by : (text : Name) (m : Member) (o : Option Member) (b rest : Bool) → Some text ≡ option_map text_in (cond b (Some m) o) → (Some text ≡ option_map text_in o → rest ≡ true) → (b || rest) ≡ true
+found-by text m o true rest h k = refl
+found-by text m o false rest h k = k h
+
+-- where one is found there is one
+pub root-found : (w : Wanted) (ms : List Member) (text : Name) → Some text ≡ option_map text_in (find (is_root w) ms) → has_root w ms ≡ true
+root-found w [] text h = absurd (cc)
+root-found w (m ∷ ms) text h = found-by text m (find (is_root w) ms) (is_root w m) (has_root w ms) h (root-found w ms text)
+
+missed-by : (m : Member) (o : Option Member) (b rest : Bool) → None ≡ option_map text_in (cond b (Some m) o) → (None ≡ option_map text_in o → rest ≡ false) → (b || rest) ≡ false
+missed-by m o true rest h k = absurd (cc)
+missed-by m o false rest h k = k h
+
+-- where none is found there is none
+pub root-missed : (w : Wanted) (ms : List Member) → None ≡ option_map text_in (find (is_root w) ms) → has_root w ms ≡ false
+root-missed w [] h = refl
+root-missed w (m ∷ ms) h = missed-by m (find (is_root w) ms) (is_root w m) (has_root w ms) h (root-missed w ms)
+
+-- what the one that is found has read is what the root's manifest holds
+pub root-held : (w : Wanted) (ms : List Member) (text : Name) (held : Contents) → HoldTexts held ms → Some text ≡ option_map text_in (find (is_root w) ms) → held w.root ≡ Some text
+root-held w [] text held holds h = absurd (cc)
+root-held w (m ∷ ms) text held holds h = elim (cases_Bool (is_root w m)) [
+  | inl e ↦
+      let path : m.path ≡ w.root = (bytes_eq-Decides m.path w.root).0 e in
+      ap held (sym path) ∙ holds 0 m (omega arith) ∙ sym (h ∙ ap (λ b. option_map text_in (cond b (Some m) (find (is_root w) ms))) e)
+  | inr e ↦ root-held w ms text held (λ k d lt. holds (suc k) d (omega (arith, lt))) (h ∙ ap (λ b. option_map text_in (cond b (Some m) (find (is_root w) ms))) e)
+]
+
+pub text-found : (w : Wanted) (ms : List Member) (text : Name) (held : Contents) → Some text ≡ option_map text_in (find (is_root w) ms) → IsRootText w ms held text
+text-found w ms text held h = by (find (is_root w) ms) h
+  where
+    by : (o : Option Member) → Some text ≡ option_map text_in o → MatchOption o (held w.root ≡ Some text) (λ m. text ≡ m.text)
+    by None e = absurd (cc)
+    by (Some m) e = cc
+
+pub text-missed : (w : Wanted) (ms : List Member) (text : Name) (held : Contents) → None ≡ option_map text_in (find (is_root w) ms) → held w.root ≡ Some text → IsRootText w ms held text
+text-missed w ms text held h is = by (find (is_root w) ms) h
+  where
+    by : (o : Option Member) → None ≡ option_map text_in o → MatchOption o (held w.root ≡ Some text) (λ m. text ≡ m.text)
+    by None e = is
+    by (Some m) e = absurd (cc)
+
+-- ---- what is asked of the root
+
+drops-by : (d r : Bool) → r ≡ true → (d && r) ≡ d
+drops-by true r e = e
+drops-by false r e = refl
+
+keeps-by : (d r : Bool) → r ≡ false → (d && r) ≡ false
+keeps-by true r e = e
+keeps-by false r e = refl
+
+-- where a member stands there, its development dependencies go too
+pub drops-found : (w : Wanted) (ms : List Member) → has_root w ms ≡ true → drops_at_root w ms ≡ w.drops_dev
+drops-found w ms e = drops-by w.drops_dev (has_root w ms) e
+
+pub drops-missed : (w : Wanted) (ms : List Member) → has_root w ms ≡ false → drops_at_root w ms ≡ false
+drops-missed w ms e = keeps-by w.drops_dev (has_root w ms) e
+
+-- whether it is edited
+pub edits-is : (w : Wanted) (ms : List Member) (drops : Bool) (private : List Name) → w.no_private ≡ true → drops_at_root w ms ≡ drops → private ≡ gone w ms
+    → edits_root w ms ≡ (drops || has_some private)
+edits-is w ms drops private wanted is same = ap (λ b. b && (drops_at_root w ms || has_some (gone w ms))) wanted ∙ ap (λ b. b || has_some (gone w ms)) is ∙ ap (λ l. drops || has_some l) (sym same)
+
+-- what is told of it
+pub notes-are : (w : Wanted) (ms : List Member) (drops : Bool) (private : List Name) → w.no_private ≡ true → drops_at_root w ms ≡ drops → private ≡ gone w ms
+    → edit_notes w drops private ≡ root_notes w ms
+notes-are w ms drops private wanted is same =
+    sym (ap (λ b. cond b (edit_notes w (drops_at_root w ms) (gone w ms)) []) wanted ∙ ap (λ b. edit_notes w b (gone w ms)) is ∙ ap (λ l. edit_notes w drops l) (sym same))
+
+on_ok : {T E : Type 0} (P Q : Type 0) (r : Result T E) → (P → Q) → OnOk r P → OnOk r Q
+on_ok P Q (Ok v) f p = f p
+on_ok P Q (Err e) f p = tt
+
+-- a member's text at the root is edited
+pub edited-found : {T E : Type 0} (tells : Type 0) (r : Result T E) (w : Wanted) (ms : List Member) (private : List Name) (text : Name) (old new : Contents)
+    → Some text ≡ option_map text_in (find (is_root w) ms) → OnOk r (tells → MakesRoot w w.drops_dev private text new)
+    → OnOk r (tells → edits_root w ms ≡ true → (x : Name) × IsRootText w ms old x × MakesRoot w (drops_at_root w ms) private x new)
+edited-found tells r w ms private text old new found made =
+    on_ok (tells → MakesRoot w w.drops_dev private text new) _ r
+    (λ f t asked. (text, text-found w ms text old found, subst (λ b. MakesRoot w b private text new) (sym (drops-found w ms (root-found w ms text found))) (f t))) made
+
+-- a text that no member has read is edited
+pub edited-missed : {T E : Type 0} (tells : Type 0) (r : Result T E) (w : Wanted) (ms : List Member) (private : List Name) (old new : Contents)
+    → None ≡ option_map text_in (find (is_root w) ms) → w.no_private ≡ true → private ≡ gone w ms
+    → OnOk r (tells → has_some private ≡ true → (x : Name) × (old w.root ≡ Some x) × MakesRoot w false private x new)
+    → OnOk r (tells → edits_root w ms ≡ true → (x : Name) × IsRootText w ms old x × MakesRoot w (drops_at_root w ms) private x new)
+edited-missed tells r w ms private old new missed wanted same made =
+    let drops = drops-missed w ms (root-missed w ms missed) in
+    on_ok (tells → has_some private ≡ true → (x : Name) × (old w.root ≡ Some x) × MakesRoot w false private x new) _ r
+    (λ f t asked.
+    let h = f t (sym (edits-is w ms false private wanted drops same) ∙ asked) in
+    (h.0, text-missed w ms h.0 old missed h.1, subst (λ b. MakesRoot w b private h.0 new) (sym drops) h.2)) made
+
+-- what was read is edited
+pub edited-read : {T E : Type 0} (tells : Type 0) (r : Result T E) (w : Wanted) (private : List Name) (text held : Name) (old new : Contents)
+    → held ≡ text → (tells → old w.root ≡ Some text) → OnOk r (tells → MakesRoot w false private held new)
+    → OnOk r (tells → has_some private ≡ true → (x : Name) × (old w.root ≡ Some x) × MakesRoot w false private x new)
+edited-read tells r w private text held old new same read made =
+    on_ok (tells → MakesRoot w false private held new) _ r (λ f t some. (text, read t, subst (λ x. MakesRoot w false private x new) same (f t))) made
+
+-- ---- all together
+
+apart-by : (d n p r x : Bool) → (d && not (n && (p || r))) ≡ true → ((n && x) && r) ≡ false
+apart-by d false p r x h = refl
+apart-by d true p false false h = refl
+apart-by d true p false true h = refl
+apart-by false true p true x h = absurd (true≢false (sym h))
+apart-by true true true true x h = absurd (true≢false (sym h))
+apart-by true true false true x h = absurd (true≢false (sym h))
+
+-- a member that is edited by itself isn't at the root
+alone-apart : (w : Wanted) (ms : List Member) (m : Member) → is_alone w m ≡ true → (edits_root w ms && bytes_eq m.path w.root) ≡ false
+alone-apart w ms m e = apart-by w.drops_dev w.no_private m.is_private (is_root w m) (drops_at_root w ms || has_some (gone w ms)) e
+
+free-by : (a b rest : Bool) → b ≡ false → rest ≡ false → ((a && b) || rest) ≡ false
+free-by true b rest e f = ap (λ x. x || rest) e ∙ f
+free-by false b rest e f = f
+
+-- where no member stands there, none is edited there by itself
+alone-free : (w : Wanted) (ms : List Member) → has_root w ms ≡ false → list_any (is_alone_at w w.root) ms ≡ false
+alone-free w [] e = refl
+alone-free w (m ∷ ms) e = free-by (is_alone w m) (is_root w m) (list_any (is_alone_at w w.root) ms) (or_left (is_root w m) (has_root w ms) e) (alone-free w ms (or_right (is_root w m) (has_root w ms) e))
+
+and_second : (a b : Bool) → (a && b) ≡ true → b ≡ true
+and_second true b e = e
+and_second false b e = absurd (true≢false (sym e))
+
+-- what the root's manifest held
+root-old : (w : Wanted) (ms : List Member) (old mid : Contents) (text : Name) → HoldTexts old ms → AreTurned w ms old mid → IsRootText w ms mid text → old w.root ≡ Some text
+root-old w ms old mid text holds turned h = by (find (is_root w) ms) refl h
+  where
+    by : (o : Option Member) → o ≡ find (is_root w) ms → MatchOption o (mid w.root ≡ Some text) (λ m. text ≡ m.text) → old w.root ≡ Some text
+    by None e k = sym (turned.others w.root (alone-free w ms (root-missed w ms (ap (option_map text_in) e)))) ∙ k
+    by (Some m) e k = root-held w ms text old holds (ap Some k ∙ ap (option_map text_in) e)
+
+pub prepared : (w : Wanted) (ms : List Member) (private : List Name) (old mid late new : Contents) → private ≡ gone w ms → HoldTexts old ms → AreTurned w ms old mid
+    → (edits_root w ms ≡ true → (x : Name) × IsRootText w ms mid x × MakesRoot w (drops_at_root w ms) private x late)
+    → KeepsBut w (edits_root w ms) mid late → KeepsAll late new → IsPrepared w ms old new
+prepared w ms private old mid late new are holds turned made keeps same = record {
+  alone = λ k d lt is.
+      let t = turned.turned k d lt is in
+      let m : Member = get_or ms k d in (m.text, t.0, holds k d lt, same m.path ∙ keeps m.path (alone-apart w ms m is) ∙ t.1, t.2);
+  root = λ asked.
+      let h = made asked in
+      let m = h.2 (ap (λ l. drops_at_root w ms || has_some l) are ∙ and_second w.no_private (drops_at_root w ms || has_some (gone w ms)) asked) in
+      (h.0, m.0, root-old w ms old mid h.0 holds turned h.1, same w.root ∙ m.1, subst (λ l. IsRootEdit w.folder (drops_at_root w ms) l h.0 m.0) are m.2);
+  others = λ q free.
+      same q ∙ keeps q (or_right (list_any (is_alone_at w q) ms) (edits_root w ms && bytes_eq q w.root) free)
+      ∙ turned.others q (or_left (list_any (is_alone_at w q) ms) (edits_root w ms && bytes_eq q w.root) free);
+}

@@ -1,0 +1,64 @@
+use Rattle.std.proofs.Common.{◌≡◌, ◌∙◌, [], ◌∷◌, get_or, false, ℕ, List, Bor, map, ap, sym}
+use Rattle.std.proofs.lemmas.List.{get_or_default, map-append}
+use Rattle.hack_features.proofs.Steps.{seen-next, seen_here}
+use Rattle.hack_process.specs.PathTexts.{texts}
+use Rattle.hack_versions.specs.Notes.{note_of}
+use Rattle.hack_prepare.specs.PreparedView.{member_view, members_view, wanted_view}
+use Rattle.hack_prepare.specs.declared.wanted.Member.{Member}
+use Rattle.hack_prepare.proofs.MemberLemmas.{visited-alone, visited-fails, visited-goes, visited-left}
+use Rattle.hack_prepare.proofs.members.edit_members.Goals.{then-goes+else-is_root+in_ok-push, else-goes+then-is_alone+in_ok-edit_member, else-goes+else-is_alone}
+use Rattle.hack_prepare.proofs.members.edit_members.Goals as goal
+
+pub loop-member-preserved : goal.loop-member-preserved
+loop-member-preserved g c =
+    let xs : List Member = c.args.members.now in
+    let k = c.loop-member.member-index in
+    let d : Member = record { path = record { ref_ptr = (0, 0); now = [] }; text = record { ref_ptr = (0, 0); now = [] }; is_private = false } in
+    let x : Member = get_or xs k d in
+    let w = wanted_view c.args.wanted.now in
+    let same : x ≡ get_or xs k x = get_or_default xs k d x c.loop-member-test.true in
+    let one = seen-next member_view xs k x c.loop-member-test.true same in
+    let tells = g.F.Files.tells in
+    let ms = members_view xs in
+    let m = member_view x in
+    let h = c.loop-member.invariant in
+    let start = g.F.Files.bytes_at c.args.files.now in
+    let before = g.F.Files.failed c.args.files.now in
+    let told = map note_of c.args.notices.now.items in
+    let now = g.F.Files.bytes_at c.loop-member.files in
+    let after = g.F.Files.failed c.loop-member.files in
+    let private = texts c.loop-member.gone.items in
+    let notes = map note_of c.loop-member.notices.items in
+    elim c.if-goes.branch [
+      | then-goes+else-is_root+in_ok-push b ↦
+          rw (b.files-is, b.manager-is, b.notices-is, b.gone-is) (
+            h.0,
+            visited-goes tells w ms k m one c.args.manager.now start before told c.loop-member.manager now after private (texts b.push.new.self.items) notes
+                (sym b.if-goes.ensures) (sym b.if-is_root.ensures)
+                (ap texts b.in_ok-push.ensures.items ∙ map-append (λ (r : Bor (List ℕ)). r.now) c.loop-member.gone.items (x.path ∷ [])) h.1,
+          )
+      | else-goes+then-is_alone+in_ok-edit_member b ↦
+          rw (b.files-is, b.manager-is, b.notices-is, b.gone-is) (
+            g.F.Files.stays_more _ _ _ h.0 b.edit_member.ensures.stays,
+            visited-alone tells w ms k m one c.args.manager.now start before told c.loop-member.manager b.edit_member.new.manager now (g.F.Files.bytes_at b.edit_member.new.files) after (g.F.Files.failed b.edit_member.new.files)
+                private notes (map note_of b.edit_member.new.notices.items) (seen_here member_view xs k x c.loop-member-test.true same) (sym b.if-goes.ensures) (sym b.if-is_alone.ensures)
+                b.edit_member.ensures.step b.in_ok-edit_member.ensures.turned b.edit_member.ensures.others b.in_ok-edit_member.ensures.told h.1,
+          )
+      | else-goes+else-is_alone b ↦
+          rw (b.files-is, b.manager-is, b.notices-is, b.gone-is) (
+            h.0,
+            visited-left tells w ms k m one c.args.manager.now start before told c.loop-member.manager now after private notes (sym b.if-goes.ensures) (sym b.if-is_alone.ensures) h.1,
+          )
+    ]
+
+pub returns-in_err-edit_member-clause-step : goal.returns-in_err-edit_member-clause-step
+returns-in_err-edit_member-clause-step g c =
+    let xs : List Member = c.args.members.now in
+    let k = c.loop-member.member-index in
+    let d : Member = record { path = record { ref_ptr = (0, 0); now = [] }; text = record { ref_ptr = (0, 0); now = [] }; is_private = false } in
+    let x : Member = get_or xs k d in
+    let among = seen_here member_view xs k x c.loop-member-test.true (get_or_default xs k d x c.loop-member-test.true) in
+    visited-fails g.F.Files.tells (members_view xs) (member_view x) c.args.manager.now c.loop-member.manager c.edit_member.new.manager
+    (g.F.Files.bytes_at c.args.files.now) (g.F.Files.bytes_at c.loop-member.files) (g.F.Files.bytes_at c.edit_member.new.files)
+    (g.F.Files.failed c.args.files.now) (g.F.Files.failed c.loop-member.files) (g.F.Files.failed c.edit_member.new.files)
+    among c.loop-member.invariant.1.0 c.edit_member.ensures.step

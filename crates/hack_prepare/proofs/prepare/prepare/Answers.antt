@@ -1,0 +1,34 @@
+use Rattle.std.proofs.Common.{◌≡◌, ◌∙◌, false, IfOk, List, ap, sym, subst, map}
+use Rattle.std.specs.Prelude.{◌||◌}
+use Rattle.hack_words.specs.declared.cli.args.Args.{Args}
+use Rattle.hack_load.specs.ContextView.{context_view}
+use Rattle.hack_versions.specs.Notes.{note_of}
+use Rattle.hack_prepare.specs.Prepared.{HoldTexts, Member, Wanted}
+use Rattle.hack_prepare.specs.PreparedView.{member_view, members_in, members_view, wanted_in}
+use Rattle.hack_prepare.specs.Told.{notes}
+use Rattle.hack_prepare.proofs.MemberLemmas.{or_left, or_right, told-none, wanted-is}
+use Rattle.hack_prepare.proofs.prepare.prepare.Goals as goal
+
+pub returns-then-not-is_asked-clause-told : goal.returns-then-not-is_asked-clause-told
+returns-then-not-is_asked-clause-told g c =
+    let cx = context_view c.args.cx.now in
+    let drops = c.drops_dev-drops_dev.result in
+    let private = c.args-args.result.now.no_private in
+    let out : (drops || private) ≡ false = sym c.if-not-is_asked.ensures in
+    let d : (wanted_in cx).drops_dev ≡ false = sym (c.drops_dev-drops_dev.ensures ∙ ap (λ (x : Args). x.no_dev_deps || x.remove_dev_deps) c.args-args.ensures) ∙ or_left drops private out in
+    let n : (wanted_in cx).no_private ≡ false = sym (ap (λ (x : Args). x.no_private) c.args-args.ensures) ∙ or_right drops private out in
+    ap (map note_of) c.new.ensures.items ∙ sym (told-none (wanted_in cx) (members_in cx) d n)
+
+pub returns-clause-safe : goal.returns-clause-safe
+returns-clause-safe g c = λ t e start holds h.
+    let are = ap (map member_view) c.as_slice.ensures.value ∙ c.in_ok-members.ensures in
+    c.edit.ensures.step.safe t e start (subst (λ (l : List Member). HoldTexts start l) (sym are) holds) h
+
+pub returns-clause-told : goal.returns-clause-told
+returns-clause-told g c =
+    let cx = context_view c.args.cx.now in
+    let are = ap (map member_view) c.as_slice.ensures.value ∙ c.in_ok-members.ensures in
+    let is = wanted-is cx c.args-args.result.now c.drops_dev-drops_dev.result c.workspace_root-folder.result.now c.as_str.result.now c.as_str-2.result.now c.args-args.ensures c.drops_dev-drops_dev.ensures
+    c.workspace_root-folder.ensures (c.as_str.ensures.value ∙ c.in_ok-root.ensures) (c.as_str-2.ensures.value ∙ c.in_ok-lockfile.ensures) in
+    subst (λ (l : List Member). IfOk c.edit.result (λ told. map note_of told.items ≡ notes (wanted_in cx) l)) are
+    (subst (λ (w : Wanted). IfOk c.edit.result (λ told. map note_of told.items ≡ notes w (members_view c.as_slice.result.now))) is c.edit.ensures.told)

@@ -1,0 +1,55 @@
+use Rattle.std.proofs.Common.{◌≡◌, ◌∙◌, ◌++◌, List, OnOk, ap, sym, subst, map}
+use Rattle.std.specs.Prelude.{Bool, false}
+use Rattle.hack_process.specs.PathTexts.{texts}
+use Rattle.hack_versions.specs.Notes.{Note, note_of}
+use Rattle.hack_prepare.specs.Prepared.{AllHold}
+use Rattle.hack_prepare.specs.PreparedView.{members_view, wanted_view}
+use Rattle.hack_prepare.specs.Steps.{AnyStart, HeldUnkept, KeepsBut}
+use Rattle.hack_prepare.proofs.RootLemmas.{drops-found, drops-missed, edited-found, edited-missed, edits-is, notes-are, root-found, root-held, root-missed}
+use Rattle.hack_prepare.proofs.StepLemmas.{step_given}
+use Rattle.hack_prepare.proofs.root.edit_root.Goals as goal
+
+pub returns-in-Some-clause-step : goal.returns-in-Some-clause-step
+returns-in-Some-clause-step g c =
+    let w = wanted_view c.args.wanted.now in
+    let ms = members_view c.args.members.now in
+    step_given g.F.Files.tells (HeldUnkept c.args.manager.now w.root c.in-Some.text.now) (AllHold ms) c.args.manager.now c.edit_held.new.manager
+    (g.F.Files.bytes_at c.args.files.now) (g.F.Files.bytes_at c.edit_held.new.files) (g.F.Files.failed c.args.files.now) (g.F.Files.failed c.edit_held.new.files)
+    (λ start holds _. root-held w ms c.in-Some.text.now start holds c.in-Some.ensures) c.edit_held.ensures.step
+
+pub returns-in-Some-clause-edited : goal.returns-in-Some-clause-edited
+returns-in-Some-clause-edited g c =
+    edited-found g.F.Files.tells c.edit_held.result (wanted_view c.args.wanted.now) (members_view c.args.members.now) (texts c.args.private.now) c.in-Some.text.now
+    (g.F.Files.bytes_at c.args.files.now) (g.F.Files.bytes_at c.edit_held.new.files) c.in-Some.ensures c.edit_held.ensures.edited
+
+pub returns-in-Some-clause-others : goal.returns-in-Some-clause-others
+returns-in-Some-clause-others g c = λ t.
+    let w = wanted_view c.args.wanted.now in
+    let ms = members_view c.args.members.now in
+    subst (λ (b : Bool). KeepsBut w b (g.F.Files.bytes_at c.args.files.now) (g.F.Files.bytes_at c.edit_held.new.files))
+    (sym (edits-is w ms w.drops_dev (texts c.args.private.now) c.if-not-wanted.false (drops-found w ms (root-found w ms c.in-Some.text.now c.in-Some.ensures)) c.requires)) (c.edit_held.ensures.others t)
+
+pub returns-in-Some-clause-told : goal.returns-in-Some-clause-told
+returns-in-Some-clause-told g c =
+    let w = wanted_view c.args.wanted.now in
+    let ms = members_view c.args.members.now in
+    subst (λ (l : List Note). OnOk c.edit_held.result (map note_of c.edit_held.new.notices.items ≡ map note_of c.args.notices.now.items ++ l))
+    (notes-are w ms w.drops_dev (texts c.args.private.now) c.if-not-wanted.false (drops-found w ms (root-found w ms c.in-Some.text.now c.in-Some.ensures)) c.requires) c.edit_held.ensures.told
+
+pub returns-in-None-clause-step : goal.returns-in-None-clause-step
+returns-in-None-clause-step g c =
+    step_given g.F.Files.tells AnyStart (AllHold (members_view c.args.members.now)) c.args.manager.now c.edit_virtual.new.manager
+    (g.F.Files.bytes_at c.args.files.now) (g.F.Files.bytes_at c.edit_virtual.new.files) (g.F.Files.failed c.args.files.now) (g.F.Files.failed c.edit_virtual.new.files)
+    (λ start holds. tt) c.edit_virtual.ensures.step
+
+pub returns-in-None-clause-edited : goal.returns-in-None-clause-edited
+returns-in-None-clause-edited g c =
+    edited-missed g.F.Files.tells c.edit_virtual.result (wanted_view c.args.wanted.now) (members_view c.args.members.now) (texts c.args.private.now)
+    (g.F.Files.bytes_at c.args.files.now) (g.F.Files.bytes_at c.edit_virtual.new.files) c.in-None.ensures c.if-not-wanted.false c.requires c.edit_virtual.ensures.edited
+
+pub returns-in-None-clause-told : goal.returns-in-None-clause-told
+returns-in-None-clause-told g c =
+    let w = wanted_view c.args.wanted.now in
+    let ms = members_view c.args.members.now in
+    subst (λ (l : List Note). OnOk c.edit_virtual.result (map note_of c.edit_virtual.new.notices.items ≡ map note_of c.args.notices.now.items ++ l))
+    (notes-are w ms false (texts c.args.private.now) c.if-not-wanted.false (drops-missed w ms (root-missed w ms c.in-None.ensures)) c.requires) c.edit_virtual.ensures.told

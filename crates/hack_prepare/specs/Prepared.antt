@@ -1,0 +1,112 @@
+-- What is edited before the runs of a call, and what becomes of it.
+use Rattle.std.specs.Prelude.{◌≡◌, ◌&&◌, ◌||◌, Bool, true, false, not, MatchBool, List, [], ◌∷◌, Some, All, Contains, map}
+use Rattle.std.specs.List.{filter, list_any}
+use Rattle.std.specs.Str.{bytes_eq}
+use Rattle.hack_features.specs.Names.{Name}
+use Rattle.hack_files.specs.Files.{Contents}
+use Rattle.hack_edits.specs.DevDeps.{IsWithoutDev}
+use Rattle.hack_edits.specs.Members.{in_order}
+use Rattle.hack_edits.specs.PrivateCrates.{IsWithoutPrivate}
+
+-- what a call wants of the manifests of a workspace
+pub record Wanted : Type 0 where
+  -- development dependencies are to go
+  pub drops_dev : Bool
+  -- private members are to go
+  pub no_private : Bool
+  -- the user is told of each edit
+  pub verbose : Bool
+  -- the folder of the workspace, and the paths of its manifest and its lockfile
+  pub folder : Name
+  pub root : Name
+  pub lockfile : Name
+
+-- a member of the workspace, as far as its manifest goes
+pub record Member : Type 0 where
+  pub path : Name
+  pub text : Name
+  pub is_private : Bool
+
+-- each member's manifest holds what was read there
+abbrev pub HoldTexts : Contents → List Member → Type 0
+HoldTexts held ms = All (λ m. held m.path ≡ Some m.text) ms
+
+-- the same, of what is held
+abbrev pub AllHold : List Member → Contents → Type 0
+AllHold ms held = HoldTexts held ms
+
+-- ---- what is edited
+
+-- manifests are edited at all
+abbrev pub edits : Wanted → Bool
+edits w = w.drops_dev || w.no_private
+
+-- the member's manifest stands in the folder of the workspace
+abbrev pub is_root : Wanted → Member → Bool
+is_root w m = bytes_eq m.path w.root
+
+-- the member is taken out of the workspace
+abbrev pub goes : Wanted → Member → Bool
+goes w m = w.no_private && m.is_private
+
+-- the member goes, or its manifest is edited with the workspace
+abbrev pub is_left : Wanted → Member → Bool
+is_left w m = w.no_private && (m.is_private || is_root w m)
+
+-- the member's manifest is edited by itself
+abbrev pub is_alone : Wanted → Member → Bool
+is_alone w m = w.drops_dev && not (is_left w m)
+
+-- the same, and it is at this path
+abbrev pub is_alone_at : Wanted → Name → Member → Bool
+is_alone_at w q m = is_alone w m && bytes_eq m.path q
+
+-- the manifests of the members that go
+abbrev pub gone : Wanted → List Member → List Name
+gone w ms = map (λ m. m.path) (filter (goes w) ms)
+
+-- there are some
+abbrev pub has_some : List Name → Bool
+has_some [] = false
+has_some (p ∷ ps) = true
+
+-- a member stands in the folder of the workspace
+abbrev pub has_root : Wanted → List Member → Bool
+has_root w ms = list_any (is_root w) ms
+
+-- a member there loses its development dependencies
+abbrev pub drops_at_root : Wanted → List Member → Bool
+drops_at_root w ms = w.drops_dev && has_root w ms
+
+-- the manifest in the folder of the workspace gets its edits at the end
+abbrev pub edits_root : Wanted → List Member → Bool
+edits_root w ms = w.no_private && (drops_at_root w ms || has_some (gone w ms))
+
+-- a path is edited
+abbrev pub is_edited : Wanted → List Member → Name → Bool
+is_edited w ms q = list_any (is_alone_at w q) ms || (edits_root w ms && bytes_eq q w.root)
+
+-- ---- what becomes of it
+
+-- a path held a text, and now holds what is made of it so
+abbrev pub Turns : (Name → Name → Type 0) → Name → Contents → Contents → Type 0
+Turns P path old new = (text turned : Name) × (old path ≡ Some text) × (new path ≡ Some turned) × P text turned
+
+-- a workspace's text is edited: development dependencies go where they are to, and then the members that go
+pub record IsRootEdit (folder : Name) (drops_dev : Bool) (private : List Name) (text turned : Name) : Type 0 where
+  pub between : Name
+  pub dev : MatchBool drops_dev (IsWithoutDev text between) (between ≡ text)
+  pub members : MatchBool (has_some private) (IsWithoutPrivate folder (in_order private) between turned) (turned ≡ between)
+
+-- each manifest that is edited holds its edit, and every other path what it held
+pub record IsPrepared (w : Wanted) (ms : List Member) (old new : Contents) : Type 0 where
+  pub alone : All (λ m. is_alone w m ≡ true → Turns IsWithoutDev m.path old new) ms
+  pub root : edits_root w ms ≡ true → Turns (IsRootEdit w.folder (drops_at_root w ms) (gone w ms)) w.root old new
+  pub others : (q : Name) → is_edited w ms q ≡ false → new q ≡ old q
+
+-- a private member stands in the folder of the workspace, and private members are to go
+pub record HasPrivateRoot (w : Wanted) (ms : List Member) : Type 0 where
+  pub member : Member
+  pub among : Contains ms member
+  pub goes : goes w member ≡ true
+  pub at_root : is_root w member ≡ true

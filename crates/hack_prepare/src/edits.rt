@@ -1,0 +1,43 @@
+//! The edits of a manifest's text, told by the path of the manifest.
+
+ghost use Rattle.std.specs.Prelude.{◌≡◌, ◌++◌, IfErr, IfOk, OnOk, MatchBool, map, string_bytes};
+ghost use Rattle.toml.specs.Text.{has_items};
+ghost use Rattle.hack_process.specs.PathTexts.{texts};
+ghost use Rattle.hack_edits.specs.DevDeps.{IsWithoutDev};
+ghost use Rattle.hack_edits.specs.Members.{in_order};
+ghost use Rattle.hack_edits.specs.PrivateCrates.{IsWithoutPrivate};
+ghost use Rattle.hack_prepare.specs.Faults.{IsDevFault, IsPrivateFault};
+
+use crate::fault::{PrepareFault, of_edit};
+use hack_edits::manifest::{remove_dev_deps, remove_private_crates};
+use std::alloc::Global;
+
+/// A text without its development dependencies.
+pub(crate) fn without_dev(alloc: Global, path: &str, text: &str) -> Result<String, PrepareFault>
+    ensures ok { IfOk result (λ new. IsWithoutDev text.now (string_bytes new)) }
+    ensures err { IfErr result (IsDevFault path.now text.now) }
+{
+    match remove_dev_deps(alloc, text) {
+        Ok(new) => Ok(new),
+        Err(fault) => Err(of_edit(alloc, fault, path)),
+    }
+}
+
+/// A text without private crates, at these paths, of the workspace in a folder.
+pub(crate) fn without_private(
+    alloc: Global,
+    path: &str,
+    folder: &str,
+    private: &[&str],
+    text: &str,
+) -> Result<String, PrepareFault>
+    ensures ok { IfOk result (λ new.
+        IsWithoutPrivate folder.now (in_order (texts private.now)) text.now (string_bytes new)) }
+    ensures err { IfErr result
+        (IsPrivateFault path.now folder.now (in_order (texts private.now)) text.now) }
+{
+    match remove_private_crates(alloc, text, folder, private) {
+        Ok(new) => Ok(new),
+        Err(fault) => Err(of_edit(alloc, fault, path)),
+    }
+}

@@ -1,0 +1,87 @@
+//! Why manifests aren't edited.
+
+ghost use Rattle.std.specs.Prelude.{◌≡◌, IfErr};
+ghost use Rattle.hack_prepare.specs.Faults.{IsEditFault, IsOfFile};
+
+use hack_edits::manifest::ManifestFault;
+use hack_files::fs::FsFault;
+use std::alloc::{AllocError, AllocFailed, Global};
+use thiserror::Error;
+
+/// Why manifests aren't edited. A fault of a manifest has its path.
+#[derive(Debug, Drop, PartialEq, Eq, Error)]
+pub enum PrepareFault {
+    #[error("out of memory")]
+    Memory,
+    /// The package in the folder of the workspace is private, and private members are to go.
+    #[error("--no-private is not supported yet with workspace with private root crate")]
+    PrivateRoot,
+    /// A file can't be read or written.
+    #[error("{0}")]
+    Files(FsFault),
+    /// The manifest in the folder of the workspace is no TOML document.
+    #[error("failed to parse manifest `{0}` as toml")]
+    Toml(String),
+    /// An inline table at `target` or under it holds development dependencies.
+    #[error("unsupported form of manifest `{0}`")]
+    InlineTarget(String),
+    /// The workspace is an inline table, or has no place for crates to exclude.
+    #[error("unsupported form of manifest `{0}`")]
+    WorkspaceForm(String),
+    /// The path of a private crate has control characters.
+    #[error("unsupported form of manifest `{0}`")]
+    PathText(String),
+    /// What is left of the text isn't read as what stays of its tree.
+    #[error("failed to edit manifest `{0}`")]
+    ReadBack(String),
+}
+
+impl From<AllocError> for PrepareFault {
+    ghost use Rattle.std.specs.Prelude.{◌≡◌};
+    ghost use Rattle.hack_prepare.specs.declared.fault.PrepareFault.TheVariants.{Memory};
+
+    ghost from_gives = { λ _ e. e ≡ Memory };
+
+    fn from(_: AllocError) -> PrepareFault {
+        PrepareFault::Memory
+    }
+}
+
+impl<T: Drop> From<AllocFailed<T>> for PrepareFault {
+    ghost use Rattle.std.specs.Prelude.{◌≡◌};
+    ghost use Rattle.hack_prepare.specs.declared.fault.PrepareFault.TheVariants.{Memory};
+
+    ghost from_gives = { λ _ e. e ≡ Memory };
+
+    fn from(_: AllocFailed<T>) -> PrepareFault {
+        PrepareFault::Memory
+    }
+}
+
+/// A fault of an edit, of the manifest at this path.
+pub(crate) fn of_edit(alloc: Global, fault: ManifestFault, path: &str) -> PrepareFault
+    ensures { IsEditFault path.now fault result }
+{
+    let path = match String::from_str(alloc, path) {
+        Ok(path) => path,
+        Err(_) => return PrepareFault::Memory,
+    };
+    match fault {
+        ManifestFault::Toml => PrepareFault::Toml(path),
+        ManifestFault::InlineTarget => PrepareFault::InlineTarget(path),
+        ManifestFault::WorkspaceForm => PrepareFault::WorkspaceForm(path),
+        ManifestFault::PathText => PrepareFault::PathText(path),
+        ManifestFault::ReadBack => PrepareFault::ReadBack(path),
+        ManifestFault::Memory => PrepareFault::Memory,
+    }
+}
+
+/// A fault of a file.
+pub(crate) fn of_file(fault: FsFault) -> PrepareFault
+    ensures { IsOfFile fault result }
+{
+    match fault {
+        FsFault::Memory => PrepareFault::Memory,
+        fault => PrepareFault::Files(fault),
+    }
+}

@@ -1,0 +1,55 @@
+//! The lockfile, which cargo may change, and which comes back.
+
+ghost use Rattle.std.specs.Prelude.{◌≡◌, OnOk, IfSome, true};
+ghost use Rattle.hack_files.specs.Files.{KeepsAll};
+ghost use Rattle.hack_files.specs.Restore.{is_kept, registered};
+ghost use Rattle.hack_prepare.specs.Steps.{AnyStart, IsStep};
+
+use crate::fault::{PrepareFault, of_file};
+use hack_files::fs::{Files, exists, read};
+use hack_files::restore::Manager;
+use std::alloc::Global;
+
+/// Keeps what the lockfile holds, where there is one.
+pub(crate) fn keep_lockfile<F: Files>(
+    alloc: Global,
+    path: &str,
+    files: &mut F,
+    manager: &mut Manager,
+) -> Result<(), PrepareFault>
+    ensures stays { F.stays files.old files.new }
+    ensures step { IsStep F.tells AnyStart manager.old manager.new
+        (F.bytes_at files.old) (F.bytes_at files.new) (F.failed files.old) (F.failed files.new) }
+    ensures kept { OnOk result (F.tells → manager.old.needs_restore ≡ true
+        → IfSome (F.bytes_at files.old path.now) (λ _.
+        is_kept (registered manager.new) path.now ≡ true)) }
+    ensures same { F.tells → KeepsAll (F.bytes_at files.old) (F.bytes_at files.new) }
+{
+    match exists(alloc, files, path) {
+        Ok(true) => keep(alloc, path, files, manager),
+        Ok(false) => Ok(()),
+        Err(fault) => Err(of_file(fault)),
+    }
+}
+
+/// Keeps what a file holds.
+fn keep<F: Files>(
+    alloc: Global,
+    path: &str,
+    files: &mut F,
+    manager: &mut Manager,
+) -> Result<(), PrepareFault>
+    ensures stays { F.stays files.old files.new }
+    ensures step { IsStep F.tells AnyStart manager.old manager.new
+        (F.bytes_at files.old) (F.bytes_at files.new) (F.failed files.old) (F.failed files.new) }
+    ensures kept { OnOk result (manager.old.needs_restore ≡ true
+        → is_kept (registered manager.new) path.now ≡ true) }
+    ensures same { F.tells → KeepsAll (F.bytes_at files.old) (F.bytes_at files.new) }
+{
+    let bytes = match read(alloc, files, path) {
+        Ok(bytes) => bytes,
+        Err(fault) => return Err(of_file(fault)),
+    };
+    manager.register_once(alloc, path, &bytes)?;
+    Ok(())
+}

@@ -1,0 +1,89 @@
+//! The manifests of members that are edited by themselves.
+
+ghost use Rattle.std.specs.Prelude.{◌≡◌, ◌++◌, IfOk, OnOk, map};
+ghost use Rattle.std.specs.List.{flat_map};
+ghost use Rattle.hack_files.specs.Files.{KeepsOthers};
+ghost use Rattle.hack_process.specs.PathTexts.{texts};
+ghost use Rattle.hack_versions.specs.Notes.{note_of};
+ghost use Rattle.hack_prepare.specs.Prepared.{AllHold, HasPrivateRoot, HoldTexts, gone};
+ghost use Rattle.hack_prepare.specs.PreparedView.{member_view, members_view, wanted_view};
+ghost use Rattle.hack_prepare.specs.Steps.{AreTurned, HoldsText, IsStep, IsTurned};
+ghost use Rattle.hack_prepare.specs.Told.{dev_note, member_notes};
+
+use crate::edits::without_dev;
+use crate::fault::PrepareFault;
+use crate::replace::replace;
+use crate::told::tell_dev;
+use crate::wanted::{Member, Wanted};
+use hack_files::fs::Files;
+use hack_files::restore::Manager;
+use hack_versions::notice::Notice;
+use std::alloc::Global;
+
+/// Takes the development dependencies out of the manifests that are edited by themselves, and
+/// answers the manifests of the members that go.
+pub(crate) fn edit_members<'a, F: Files>(
+    alloc: Global,
+    wanted: &Wanted<'_>,
+    members: &[Member<'a>],
+    files: &mut F,
+    manager: &mut Manager,
+    notices: &mut Vec<Notice>,
+) -> Result<Vec<&'a str>, PrepareFault>
+    ensures stays { F.stays files.old files.new }
+    ensures step { IsStep F.tells (AllHold (members_view members.now)) manager.old manager.new
+        (F.bytes_at files.old) (F.bytes_at files.new) (F.failed files.old) (F.failed files.new) }
+    ensures turned { OnOk result (F.tells
+        → HoldTexts (F.bytes_at files.old) (members_view members.now)
+        → AreTurned (wanted_view wanted.now) (members_view members.now)
+        (F.bytes_at files.old) (F.bytes_at files.new)) }
+    ensures gone { IfOk result (λ paths.
+        texts paths.items ≡ gone (wanted_view wanted.now) (members_view members.now)) }
+    ensures never { OnOk result (¬ HasPrivateRoot (wanted_view wanted.now) (members_view members.now)) }
+    ensures told { OnOk result (map note_of notices.new.items ≡ map note_of notices.old.items
+        ++ flat_map (member_notes (wanted_view wanted.now)) (members_view members.now)) }
+{
+    let mut gone = Vec::new(alloc);
+    for member in members {
+        if wanted.goes(member) {
+            if wanted.is_root(member) {
+                return Err(PrepareFault::PrivateRoot);
+            }
+            gone.push(member.path)?;
+        } else if wanted.is_alone(member) {
+            edit_member(alloc, wanted.verbose, member, files, manager, notices)?;
+        }
+    }
+    Ok(gone)
+}
+
+/// Takes the development dependencies out of a member's manifest.
+fn edit_member<F: Files>(
+    alloc: Global,
+    verbose: bool,
+    member: &Member<'_>,
+    files: &mut F,
+    manager: &mut Manager,
+    notices: &mut Vec<Notice>,
+) -> Result<(), PrepareFault>
+    ensures stays { F.stays files.old files.new }
+    ensures step { IsStep F.tells (HoldsText (member_view member.now)) manager.old manager.new
+        (F.bytes_at files.old) (F.bytes_at files.new) (F.failed files.old) (F.failed files.new) }
+    ensures turned { OnOk result (F.tells
+        → IsTurned (F.bytes_at files.new) (member_view member.now)) }
+    ensures others { F.tells → KeepsOthers (member_view member.now).path
+        (F.bytes_at files.old) (F.bytes_at files.new) }
+    ensures told { OnOk result (map note_of notices.new.items
+        ≡ map note_of notices.old.items ++ dev_note verbose (member_view member.now).path) }
+{
+    tell_dev(alloc, verbose, member.path, notices)?;
+    let text = without_dev(alloc, member.path, member.text)?;
+    replace(
+        alloc,
+        member.path,
+        member.text,
+        text.as_str(),
+        files,
+        manager,
+    )
+}

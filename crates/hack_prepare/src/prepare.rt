@@ -1,0 +1,153 @@
+//! What is done to the files of a workspace before the runs of a call, and undone at its end.
+
+ghost use Rattle.std.specs.Prelude.{◌≡◌, ◌<◌, ◌↔◌, ◌⊎◌, ◌||◌, IfOk, IfSome, OnOk, IsTrue, true, false, map, List};
+ghost use Rattle.hack_files.specs.Files.{Change, Contents, GrowsBy, Makes};
+ghost use Rattle.hack_files.specs.Restore.{AreSafe, Brings, Tried, is_kept, registered};
+ghost use Rattle.hack_load.specs.ContextView.{context_view};
+ghost use Rattle.hack_versions.specs.Notes.{note_of};
+ghost use Rattle.hack_prepare.specs.Prepared.{AllHold, HasPrivateRoot, HoldTexts, IsPrepared, edits};
+ghost use Rattle.hack_prepare.specs.PreparedView.{members_in, members_view, wanted_in, wanted_view};
+ghost use Rattle.hack_prepare.specs.Steps.{Grows, IsStep};
+ghost use Rattle.hack_prepare.specs.Told.{notes};
+
+use crate::fault::PrepareFault;
+use crate::lockfile::keep_lockfile;
+use crate::members::edit_members;
+use crate::root::edit_root;
+use crate::wanted::{Member, Wanted, members_of};
+use hack_files::fs::Files;
+use hack_files::restore::Manager;
+use hack_load::context::Context;
+use hack_process::paths::join;
+use hack_term::term::Term;
+use hack_versions::notice::Notice;
+use hack_words::cli::Args;
+use std::alloc::Global;
+use std::io::Write;
+
+/// Edits the manifests of the workspace as the arguments of the call ask: with `--no-dev-deps` or
+/// `--remove-dev-deps` development dependencies go, with `--no-private` private members do. What a
+/// file holds is kept before it is written, and so is the lockfile, which cargo may change; the
+/// manager brings them back, unless they are to stay edited. The notices tell of each edit, where
+/// the user wants to know.
+pub fn prepare<F: Files>(
+    alloc: Global,
+    cx: &Context,
+    files: &mut F,
+    manager: &mut Manager,
+) -> Result<Vec<Notice>, PrepareFault>
+    ensures stays { F.stays files.old files.new }
+    ensures grows { Grows (F.failed files.old) (F.failed files.new) }
+    ensures needs { manager.new.needs_restore ≡ manager.old.needs_restore }
+    ensures unkept { manager.old.needs_restore ≡ false
+        → registered manager.new ≡ registered manager.old }
+
+    // Whatever comes of it, what was written since comes back.
+    ensures safe { F.tells → manager.old.needs_restore ≡ true → (start : Contents)
+        → HoldTexts start (members_in (context_view cx.now))
+        → AreSafe (registered manager.old) start (F.bytes_at files.old)
+        → AreSafe (registered manager.new) start (F.bytes_at files.new) }
+
+    // Each manifest that is edited holds its edit, and every other path what it held.
+    ensures prepared { OnOk result (F.tells → HoldTexts (F.bytes_at files.old) (members_in (context_view cx.now))
+        → IsPrepared (wanted_in (context_view cx.now)) (members_in (context_view cx.now))
+        (F.bytes_at files.old) (F.bytes_at files.new)) }
+    ensures lockfile { OnOk result (F.tells → manager.old.needs_restore ≡ true
+        → edits (wanted_in (context_view cx.now)) ≡ true
+        → IfSome (F.bytes_at files.new (wanted_in (context_view cx.now)).lockfile) (λ _.
+        is_kept (registered manager.new) (wanted_in (context_view cx.now)).lockfile ≡ true)) }
+    ensures never { OnOk result (¬ HasPrivateRoot (wanted_in (context_view cx.now)) (members_in (context_view cx.now))) }
+    ensures told { IfOk result (λ notices. map note_of notices.items
+        ≡ notes (wanted_in (context_view cx.now)) (members_in (context_view cx.now))) }
+{
+    let args = cx.args();
+    let drops_dev = drops_dev(args);
+    if !is_asked(drops_dev, args.no_private) {
+        return Ok(Vec::new(alloc));
+    }
+    let folder = cx.workspace_root();
+    let root = join(alloc, folder, "Cargo.toml")?;
+    let lockfile = join(alloc, folder, "Cargo.lock")?;
+    let members = members_of(alloc, cx)?;
+    let wanted = Wanted {
+        drops_dev,
+        no_private: args.no_private,
+        verbose: args.verbose,
+        folder,
+        root: root.as_str(),
+        lockfile: lockfile.as_str(),
+    };
+    edit(alloc, &wanted, members.as_slice(), files, manager)
+}
+
+/// Whether development dependencies are to go.
+fn drops_dev(args: &Args) -> bool
+    ensures { result ≡ (args.now.no_dev_deps || args.now.remove_dev_deps) }
+{
+    args.no_dev_deps || args.remove_dev_deps
+}
+
+/// Whether manifests are edited at all.
+fn is_asked(drops_dev: bool, no_private: bool) -> bool
+    ensures { result ≡ (drops_dev || no_private) }
+{
+    drops_dev || no_private
+}
+
+/// Edits the manifests of a workspace, and keeps its lockfile.
+fn edit<F: Files>(
+    alloc: Global,
+    wanted: &Wanted<'_>,
+    members: &[Member<'_>],
+    files: &mut F,
+    manager: &mut Manager,
+) -> Result<Vec<Notice>, PrepareFault>
+    ensures stays { F.stays files.old files.new }
+    ensures step { IsStep F.tells (AllHold (members_view members.now)) manager.old manager.new
+        (F.bytes_at files.old) (F.bytes_at files.new) (F.failed files.old) (F.failed files.new) }
+
+    // Each manifest that is edited holds its edit, and every other path what it held.
+    ensures prepared { OnOk result (F.tells → HoldTexts (F.bytes_at files.old) (members_view members.now)
+        → IsPrepared (wanted_view wanted.now) (members_view members.now)
+        (F.bytes_at files.old) (F.bytes_at files.new)) }
+    ensures lockfile { OnOk result (F.tells → manager.old.needs_restore ≡ true
+        → IfSome (F.bytes_at files.new (wanted_view wanted.now).lockfile) (λ _.
+        is_kept (registered manager.new) (wanted_view wanted.now).lockfile ≡ true)) }
+    ensures never { OnOk result (¬ HasPrivateRoot (wanted_view wanted.now) (members_view members.now)) }
+    ensures told { IfOk result (λ notices. map note_of notices.items
+        ≡ notes (wanted_view wanted.now) (members_view members.now)) }
+{
+    let mut notices = Vec::new(alloc);
+    let gone = edit_members(alloc, wanted, members, files, manager, &mut notices)?;
+    edit_root(
+        alloc,
+        wanted,
+        members,
+        gone.as_slice(),
+        files,
+        manager,
+        &mut notices,
+    )?;
+    keep_lockfile(alloc, wanted.lockfile, files, manager)?;
+    Ok(notices)
+}
+
+/// Brings back the files that were kept, and answers how many could not be written.
+pub fn finish<F: Files, W: Write>(
+    manager: Manager,
+    files: &mut F,
+    term: &mut Term,
+    err: &mut W,
+) -> u64
+    ensures stays { F.stays files.old files.new }
+    ensures counted { GrowsBy result (F.failed files.old) (F.failed files.new) }
+    ensures restored { F.tells → Brings (registered manager)
+        (F.bytes_at files.old) (F.bytes_at files.new) result }
+    ensures tried { F.whole → (made : List Change) × Tried (registered manager) made result
+        × Makes made (F.trace files.old) (F.trace files.new)
+        (F.bytes_at files.old) (F.bytes_at files.new) }
+    ensures noted { IsTrue term.new.error ↔ (IsTrue term.old.error ⊎ (0 < result)) }
+    ensures term { term.new ≡ record term.old { error = term.new.error } }
+{
+    manager.restore_all(files, term, err)
+}

@@ -1,0 +1,198 @@
+//! The manifest in the folder of the workspace, which gets all its edits in one write.
+
+ghost use Rattle.std.specs.Prelude.{◌≡◌, ◌++◌, ◌&&◌, ◌||◌, IfOk, OnOk, MatchBool, Some, true, false};
+ghost use Rattle.std.specs.Prelude.{map, option_copied, option_map, string_bytes};
+ghost use Rattle.std.specs.List.{find};
+ghost use Rattle.hack_features.specs.Names.{Name};
+ghost use Rattle.hack_process.specs.PathTexts.{texts};
+ghost use Rattle.hack_versions.specs.Notes.{note_of};
+ghost use Rattle.hack_edits.specs.DevDeps.{IsWithoutDev};
+ghost use Rattle.hack_edits.specs.Members.{in_order};
+ghost use Rattle.hack_edits.specs.PrivateCrates.{IsWithoutPrivate};
+ghost use Rattle.hack_prepare.specs.Prepared.{AllHold, drops_at_root, edits_root, gone};
+ghost use Rattle.hack_prepare.specs.Prepared.{has_some, is_root};
+ghost use Rattle.hack_prepare.specs.PreparedView.{members_view, wanted_view};
+ghost use Rattle.hack_prepare.specs.Steps.{AnyStart, HeldUnkept, IsRootText, IsStep, KeepsBut, MakesRoot};
+ghost use Rattle.hack_prepare.specs.Told.{dev_note, edit_notes, private_note, root_notes};
+
+use crate::edits::{without_dev, without_private};
+use crate::fault::{PrepareFault, of_file};
+use crate::replace::replace;
+use crate::told::{tell_dev, tell_private};
+use crate::wanted::{Member, Wanted};
+use hack_files::fs::{Files, read_to_string};
+use hack_files::restore::Manager;
+use hack_versions::notice::Notice;
+use std::alloc::{AllocError, Global};
+
+/// Edits the manifest in the folder of the workspace, where that is wanted: `private`
+/// are the manifests of the members that go.
+pub(crate) fn edit_root<F: Files>(
+    alloc: Global,
+    wanted: &Wanted<'_>,
+    members: &[Member<'_>],
+    private: &[&str],
+    files: &mut F,
+    manager: &mut Manager,
+    notices: &mut Vec<Notice>,
+) -> Result<(), PrepareFault>
+    requires { texts private.now ≡ gone (wanted_view wanted.now) (members_view members.now) }
+    ensures stays { F.stays files.old files.new }
+    ensures step { IsStep F.tells (AllHold (members_view members.now)) manager.old manager.new
+        (F.bytes_at files.old) (F.bytes_at files.new) (F.failed files.old) (F.failed files.new) }
+    ensures edited { OnOk result (F.tells → edits_root (wanted_view wanted.now) (members_view members.now)
+        ≡ true → (text : Name) × IsRootText (wanted_view wanted.now) (members_view members.now)
+        (F.bytes_at files.old) text × MakesRoot (wanted_view wanted.now)
+        (drops_at_root (wanted_view wanted.now) (members_view members.now)) (texts private.now) text
+        (F.bytes_at files.new)) }
+    ensures others { F.tells → KeepsBut (wanted_view wanted.now)
+        (edits_root (wanted_view wanted.now) (members_view members.now))
+        (F.bytes_at files.old) (F.bytes_at files.new) }
+    ensures told { OnOk result (map note_of notices.new.items ≡ map note_of notices.old.items
+        ++ root_notes (wanted_view wanted.now) (members_view members.now)) }
+{
+    if !wanted.no_private {
+        return Ok(());
+    }
+    match root_text(wanted, members) {
+        Some(text) => edit_held(
+            alloc,
+            wanted,
+            wanted.drops_dev,
+            text,
+            private,
+            files,
+            manager,
+            notices,
+        ),
+        None => edit_virtual(alloc, wanted, private, files, manager, notices),
+    }
+}
+
+/// What was read from the manifest of a member in the folder of the workspace.
+fn root_text<'a>(wanted: &Wanted<'_>, members: &[Member<'a>]) -> Option<&'a str>
+    ensures { option_copied result ≡ option_map (λ m. m.text)
+        (find (is_root (wanted_view wanted.now)) (members_view members.now)) }
+{
+    for member in members {
+        if wanted.is_root(member) {
+            return Some(member.text);
+        }
+    }
+    None
+}
+
+/// Edits a manifest of a workspace alone, which no member has read.
+fn edit_virtual<F: Files>(
+    alloc: Global,
+    wanted: &Wanted<'_>,
+    private: &[&str],
+    files: &mut F,
+    manager: &mut Manager,
+    notices: &mut Vec<Notice>,
+) -> Result<(), PrepareFault>
+    ensures stays { F.stays files.old files.new }
+    ensures step { IsStep F.tells AnyStart manager.old manager.new
+        (F.bytes_at files.old) (F.bytes_at files.new) (F.failed files.old) (F.failed files.new) }
+    ensures edited { OnOk result (F.tells → has_some (texts private.now) ≡ true
+        → (text : Name) × (F.bytes_at files.old (wanted_view wanted.now).root ≡ Some text)
+        × MakesRoot (wanted_view wanted.now) false (texts private.now) text (F.bytes_at files.new)) }
+    ensures others { F.tells → KeepsBut (wanted_view wanted.now) (has_some (texts private.now))
+        (F.bytes_at files.old) (F.bytes_at files.new) }
+    ensures told { OnOk result (map note_of notices.new.items ≡ map note_of notices.old.items
+        ++ edit_notes (wanted_view wanted.now) false (texts private.now)) }
+{
+    if private.is_empty() {
+        return Ok(());
+    }
+    match read_to_string(alloc, files, wanted.root) {
+        Ok(text) => edit_held(
+            alloc,
+            wanted,
+            false,
+            text.as_str(),
+            private,
+            files,
+            manager,
+            notices,
+        ),
+        Err(fault) => Err(of_file(fault)),
+    }
+}
+
+/// Edits what the manifest holds, where there is something to do.
+fn edit_held<F: Files>(
+    alloc: Global,
+    wanted: &Wanted<'_>,
+    drops_dev: bool,
+    held: &str,
+    private: &[&str],
+    files: &mut F,
+    manager: &mut Manager,
+    notices: &mut Vec<Notice>,
+) -> Result<(), PrepareFault>
+    ensures stays { F.stays files.old files.new }
+    ensures step { IsStep F.tells (HeldUnkept manager.old (wanted_view wanted.now).root held.now) manager.old manager.new
+        (F.bytes_at files.old) (F.bytes_at files.new) (F.failed files.old) (F.failed files.new) }
+    ensures edited { OnOk result (F.tells → MakesRoot (wanted_view wanted.now) drops_dev
+        (texts private.now) held.now (F.bytes_at files.new)) }
+    ensures others { F.tells → KeepsBut (wanted_view wanted.now) (drops_dev || has_some (texts private.now))
+        (F.bytes_at files.old) (F.bytes_at files.new) }
+    ensures told { OnOk result (map note_of notices.new.items ≡ map note_of notices.old.items
+        ++ edit_notes (wanted_view wanted.now) drops_dev (texts private.now)) }
+{
+    if !is_asked(drops_dev, private) {
+        return Ok(());
+    }
+    let between = dev_edit(alloc, wanted, drops_dev, held, notices)?;
+    let text = private_edit(alloc, wanted, private, between, notices)?;
+    replace(alloc, wanted.root, held, text.as_str(), files, manager)
+}
+
+/// Whether there is something to do.
+fn is_asked(drops_dev: bool, private: &[&str]) -> bool
+    ensures { result ≡ (drops_dev || has_some (texts private.now)) }
+{
+    drops_dev || !private.is_empty()
+}
+
+/// The text without its development dependencies, where these are to go.
+fn dev_edit(
+    alloc: Global,
+    wanted: &Wanted<'_>,
+    drops_dev: bool,
+    text: &str,
+    notices: &mut Vec<Notice>,
+) -> Result<String, PrepareFault>
+    ensures ok { IfOk result (λ new. MatchBool drops_dev
+        (IsWithoutDev text.now (string_bytes new)) (string_bytes new ≡ text.now)) }
+    ensures told { OnOk result (map note_of notices.new.items ≡ map note_of notices.old.items
+        ++ dev_note (drops_dev && (wanted_view wanted.now).verbose) (wanted_view wanted.now).root) }
+{
+    if !drops_dev {
+        return Ok(String::from_str(alloc, text)?);
+    }
+    tell_dev(alloc, wanted.verbose, wanted.root, notices)?;
+    without_dev(alloc, wanted.root, text)
+}
+
+/// The text without the members that go, where there are some.
+fn private_edit(
+    alloc: Global,
+    wanted: &Wanted<'_>,
+    private: &[&str],
+    text: String,
+    notices: &mut Vec<Notice>,
+) -> Result<String, PrepareFault>
+    ensures ok { IfOk result (λ new. MatchBool (has_some (texts private.now))
+        (IsWithoutPrivate (wanted_view wanted.now).folder (in_order (texts private.now))
+        (string_bytes text) (string_bytes new)) (string_bytes new ≡ string_bytes text)) }
+    ensures told { OnOk result (map note_of notices.new.items ≡ map note_of notices.old.items
+        ++ private_note (has_some (texts private.now) && (wanted_view wanted.now).verbose) (wanted_view wanted.now).root) }
+{
+    if private.is_empty() {
+        return Ok(text);
+    }
+    tell_private(alloc, wanted.verbose, wanted.root, notices)?;
+    without_private(alloc, wanted.root, wanted.folder, private, text.as_str())
+}

@@ -1,0 +1,93 @@
+//! What the arguments of a call want of the manifests, and the members of its workspace.
+
+ghost use Rattle.std.specs.Prelude.{◌≡◌, Contains, IfOk, Some, map};
+ghost use Rattle.hack_load.specs.Contexts.{IsWhole};
+ghost use Rattle.hack_load.specs.ContextView.{context_view};
+ghost use Rattle.hack_prepare.specs.Prepared.{goes, is_alone, is_left, is_root};
+ghost use Rattle.hack_prepare.specs.PreparedView.{member_at, member_view, members_in, wanted_view};
+
+use hack_load::context::Context;
+use hack_metadata::metadata::PackageId;
+use std::alloc::{AllocError, Global};
+
+/// What is wanted of the manifests of a workspace.
+#[derive(Clone, Copy)]
+pub(crate) struct Wanted<'a> {
+    /// Whether development dependencies are to go.
+    pub drops_dev: bool,
+    /// Whether private members are to go.
+    pub no_private: bool,
+    /// Whether the user is told of each edit.
+    pub verbose: bool,
+    /// The folder of the workspace.
+    pub folder: &'a str,
+    /// The manifest in that folder.
+    pub root: &'a str,
+    /// The lockfile in that folder.
+    pub lockfile: &'a str,
+}
+
+/// A member of the workspace, as far as its manifest goes.
+#[derive(Clone, Copy)]
+pub(crate) struct Member<'a> {
+    /// The path of its manifest.
+    pub path: &'a str,
+    /// What was read there.
+    pub text: &'a str,
+    pub is_private: bool,
+}
+
+impl Wanted<'_> {
+    /// Whether the member is taken out of the workspace.
+    pub fn goes(&self, member: &Member<'_>) -> bool
+        ensures { result ≡ goes (wanted_view self.now) (member_view member.now) }
+    {
+        self.no_private && member.is_private
+    }
+
+    /// Whether the member's manifest stands in the folder of the workspace.
+    pub fn is_root(&self, member: &Member<'_>) -> bool
+        ensures { result ≡ is_root (wanted_view self.now) (member_view member.now) }
+    {
+        member.path == self.root
+    }
+
+    /// Whether the member's manifest is edited by itself.
+    pub fn is_alone(&self, member: &Member<'_>) -> bool
+        ensures { result ≡ is_alone (wanted_view self.now) (member_view member.now) }
+    {
+        self.drops_dev && !self.is_left(member)
+    }
+
+    /// Whether the member goes, or has its manifest edited with the workspace.
+    fn is_left(&self, member: &Member<'_>) -> bool
+        ensures { result ≡ is_left (wanted_view self.now) (member_view member.now) }
+    {
+        self.no_private && (member.is_private || self.is_root(member))
+    }
+}
+
+/// A member of the workspace.
+fn member_of<'a>(cx: &'a Context, id: &PackageId) -> Member<'a>
+    requires member { Contains (context_view cx.now).metadata.workspace_members id.now.index }
+    requires whole { IsWhole (context_view cx.now) }
+    ensures { member_at (context_view cx.now) id.now.index ≡ Some (member_view result) }
+{
+    Member {
+        path: cx.packages(*id).manifest_path.as_str(),
+        text: cx.manifests(*id).text.as_str(),
+        is_private: cx.is_private(*id),
+    }
+}
+
+/// The members of the workspace, in their order.
+pub(crate) fn members_of<'a>(alloc: Global, cx: &'a Context) -> Result<Vec<Member<'a>>, AllocError>
+    ensures { IfOk result (λ members.
+        map member_view members.items ≡ members_in (context_view cx.now)) }
+{
+    let mut members = Vec::new(alloc);
+    for id in cx.workspace_members() {
+        members.push(member_of(cx, id))?;
+    }
+    Ok(members)
+}
