@@ -1,3 +1,4 @@
+mod BackLemmas
 mod CallLemmas
 mod RunLemmas
 mod WholeLemmas

@@ -1,3 +1,4 @@
 pub mod Questions
+pub mod Restores
 pub mod Runs
 pub mod Whole

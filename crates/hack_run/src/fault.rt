@@ -2,6 +2,7 @@
 
 use hack_calls::fault::PlanFault;
 use hack_load::context::ContextFault;
+use hack_prepare::manifest::PrepareFault;
 use hack_process::process::ProcessFault;
 use hack_words::cli::CliFault;
 use std::alloc::{AllocError, AllocFailed};
@@ -18,9 +19,9 @@ pub(crate) enum RunFault {
     /// What the call needs isn't loaded.
     #[error("{0}")]
     Context(ContextFault),
-    /// The call asks for edits of manifests.
-    #[error("manifest editing is not there yet")]
-    Editing,
+    /// Manifests aren't edited as the call asks.
+    #[error("{0}")]
+    Manifests(PrepareFault),
     /// There is no plan.
     #[error("{0}")]
     Plan(PlanFault),

@@ -2,7 +2,6 @@
 #![tactic(auto)]
 
 mod ask;
-mod edits;
 mod fault;
 mod list;
 pub mod run;

@@ -3,8 +3,10 @@
 ghost use Rattle.std.specs.Prelude.{◌≡◌, ◌↔◌, ◌⊎◌, ◌≤◌, IsErr, IsTrue, OnOk, false, true};
 ghost use Rattle.std.specs.Prelude.{string_bytes};
 ghost use Rattle.hack_features.specs.Names.{names_of};
+ghost use Rattle.hack_load.specs.LeavesFew.{LeavesFew};
 ghost use Rattle.hack_process.specs.Calls.{MayAdd};
 ghost use Rattle.hack_run.specs.Questions.{rustup_asked};
+ghost use Rattle.hack_run.specs.Restores.{ComesBack, RestoresEdits};
 ghost use Rattle.hack_run.specs.Whole.{AreRefused, IsDone, ListsCommands, Obeys};
 
 use crate::ask::rustup_for;
@@ -47,6 +49,11 @@ pub fn run<F: Files, C: Caller, O: Write, E: Write>(
     ensures done { term.new.error ≡ false → C.tells → F.tells → IsDone (names_of words.now)
         env.now (F.bytes_at files.old) (F.failed files.old)
         (C.calls runner.old) (C.calls runner.new) }
+
+    // Files come back: unless the words ask for edits that stay, each path holds what it held, but
+    // for at most as many paths as calls of the files failed.
+    ensures back { RestoresEdits env.now (names_of words.now) → F.tells → LeavesFew (Unit {0})
+        (F.bytes_at files.old) (F.bytes_at files.new) (F.failed files.old) (F.failed files.new) }
 {
     let came = read(alloc, words, env, term, files, runner, out, err);
     tell_end(alloc, came, term, err);
@@ -70,6 +77,8 @@ fn read<F: Files, C: Caller, O: Write, E: Write>(
     ensures done { OnOk result (term.new.error ≡ false → C.tells → F.tells
         → IsDone (names_of words.now) env.now (F.bytes_at files.old) (F.failed files.old)
         (C.calls runner.old) (C.calls runner.new)) }
+    ensures back { RestoresEdits env.now (names_of words.now) → F.tells → LeavesFew (Unit {0})
+        (F.bytes_at files.old) (F.bytes_at files.new) (F.failed files.old) (F.failed files.new) }
 {
     let rustup = rustup_for(alloc, words, env, term.verbose, runner)?;
     match Args::parse(alloc, words, env, rustup) {
@@ -103,9 +112,11 @@ fn obey<F: Files, C: Caller, O: Write, E: Write>(
     out: &mut O,
     err: &mut E,
 ) -> Result<(), RunFault>
-    ensures { OnOk result (term.new.error ≡ false → C.tells → F.tells
+    ensures done { OnOk result (term.new.error ≡ false → C.tells → F.tells
         → Obeys parsed env.now (F.bytes_at files.old) (F.failed files.old)
         (C.calls runner.old) (C.calls runner.new)) }
+    ensures back { ComesBack parsed → F.tells → LeavesFew (Unit {0})
+        (F.bytes_at files.old) (F.bytes_at files.new) (F.failed files.old) (F.failed files.new) }
 {
     match parsed {
         Parsed::Args(args) => {

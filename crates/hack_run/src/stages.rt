@@ -1,13 +1,19 @@
-//! The stages of a call behind its words: what is loaded, the plan, and its runs or their list.
+//! The stages of a call behind its words: what is loaded, manifests that are edited, the plan, and its
+//! runs or their list.
 
-ghost use Rattle.std.specs.Prelude.{◌≡◌, IfOk, OnOk, false, string_bytes};
+ghost use Rattle.std.specs.Prelude.{◌≡◌, IfOk, OnOk, false, string_bytes, true};
+ghost use Rattle.hack_files.specs.Restore.{AreSafe, registered};
+ghost use Rattle.hack_load.specs.Answers.{IsLoaded};
 ghost use Rattle.hack_load.specs.ContextOf.{IsContextFrom};
 ghost use Rattle.hack_load.specs.ContextView.{context_view};
+ghost use Rattle.hack_load.specs.LeavesFew.{LeavesFew};
+ghost use Rattle.hack_prepare.specs.Prepared.{HoldTexts};
+ghost use Rattle.hack_prepare.specs.PreparedView.{members_in};
+ghost use Rattle.hack_prepare.specs.Steps.{Grows};
 ghost use Rattle.hack_run.specs.Runs.{RunsAll};
 ghost use Rattle.hack_run.specs.Whole.{Follows, IsPlanned, Performs};
 
 use crate::ask::stable_for;
-use crate::edits::edits;
 use crate::fault::RunFault;
 use crate::list::list;
 use crate::start::{Manner, start};
@@ -16,6 +22,7 @@ use hack_calls::plan::plan_of;
 use hack_files::fs::Files;
 use hack_files::restore::Manager;
 use hack_load::context::{Answers, Context};
+use hack_prepare::manifest::{finish, prepare};
 use hack_process::process::Caller;
 use hack_runs::plan::Plan;
 use hack_term::term::Term;
@@ -34,36 +41,54 @@ pub(crate) fn perform<F: Files, C: Caller, O: Write, E: Write>(
     out: &mut O,
     err: &mut E,
 ) -> Result<(), RunFault>
-    ensures { OnOk result (args.print_command_list ≡ false → term.new.error ≡ false
+    ensures done { OnOk result (args.print_command_list ≡ false → term.new.error ≡ false
         → C.tells → F.tells → Performs args env.now (F.bytes_at files.old) (F.failed files.old)
         (C.calls caller.old) (C.calls caller.new)) }
+    ensures back { args.remove_dev_deps ≡ false → F.tells → LeavesFew (Unit {0})
+        (F.bytes_at files.old) (F.bytes_at files.new) (F.failed files.old) (F.failed files.new) }
 {
     let mut manager = Manager::new(alloc, !args.remove_dev_deps);
     let answers = Answers::ask(alloc, &args, env, caller, files, &mut manager);
-    let came = follow(alloc, args, answers, env, term, caller, out, err);
-    manager.restore_all(files, term, err);
+    let came = follow(
+        alloc,
+        args,
+        answers,
+        env,
+        term,
+        files,
+        &mut manager,
+        caller,
+        out,
+        err,
+    );
+    finish(manager, files, term, err);
     came
 }
 
 /// Performs a call for which this was answered.
-fn follow<C: Caller, O: Write, E: Write>(
+fn follow<F: Files, C: Caller, O: Write, E: Write>(
     alloc: Global,
     args: Args,
     answers: Answers,
     env: &Env,
     term: &mut Term,
+    files: &mut F,
+    manager: &mut Manager,
     caller: &mut C,
     out: &mut O,
     err: &mut E,
 ) -> Result<(), RunFault>
-    ensures { OnOk result (args.print_command_list ≡ false → term.new.error ≡ false → C.tells
+    ensures done { OnOk result (args.print_command_list ≡ false → term.new.error ≡ false → C.tells
         → Follows args answers (string_bytes env.now.rustup)
         (C.calls caller.old) (C.calls caller.new)) }
+    ensures grows { Grows (F.failed files.old) (F.failed files.new) }
+    ensures safe { F.tells → IfOk answers.loaded (IsLoaded F.tells (F.bytes_at files.old) env.now)
+        → manager.old.needs_restore ≡ true
+        → AreSafe (registered manager.old) (F.bytes_at files.old) (F.bytes_at files.old)
+        → AreSafe (registered manager.new) (F.bytes_at files.old) (F.bytes_at files.new) }
 {
     let cx = context(alloc, args, answers, term, err)?;
-    if edits(cx.args()) {
-        return Err(RunFault::Editing);
-    }
+    edit(alloc, &cx, term, files, manager, err)?;
     let plan = plan(alloc, &cx, env, term, caller, err)?;
     run_plan(alloc, plan, cx.args(), term, caller, out, err)
 }
@@ -85,6 +110,30 @@ fn context<E: Write>(
             Ok(cx)
         }
         Err(fault) => Err(RunFault::Context(fault)),
+    }
+}
+
+/// Edits manifests as the arguments ask.
+fn edit<F: Files, E: Write>(
+    alloc: Global,
+    cx: &Context,
+    term: &mut Term,
+    files: &mut F,
+    manager: &mut Manager,
+    err: &mut E,
+) -> Result<(), RunFault>
+    ensures grows { Grows (F.failed files.old) (F.failed files.new) }
+    ensures safe { F.tells → HoldTexts (F.bytes_at files.old) (members_in (context_view cx.now))
+        → manager.old.needs_restore ≡ true
+        → AreSafe (registered manager.old) (F.bytes_at files.old) (F.bytes_at files.old)
+        → AreSafe (registered manager.new) (F.bytes_at files.old) (F.bytes_at files.new) }
+{
+    match prepare(alloc, cx, files, manager) {
+        Ok(notices) => {
+            tell_all(notices.as_slice(), term, err);
+            Ok(())
+        }
+        Err(fault) => Err(RunFault::Manifests(fault)),
     }
 }
 

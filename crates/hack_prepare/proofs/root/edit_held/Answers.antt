@@ -1,4 +1,4 @@
-use Rattle.std.proofs.Common.{◌∙◌, sym}
+use Rattle.std.proofs.Common.{sym}
 use Rattle.std.specs.Prelude.{◌||◌}
 use Rattle.hack_process.specs.PathTexts.{texts}
 use Rattle.hack_prepare.specs.Prepared.{has_some}

@@ -1,4 +1,4 @@
-use Rattle.std.proofs.Common.{◌≡◌, ◌∙◌, ◌++◌, List, OnOk, ap, sym, subst, map}
+use Rattle.std.proofs.Common.{◌≡◌, ◌++◌, List, OnOk, sym, subst, map}
 use Rattle.std.specs.Prelude.{Bool, false}
 use Rattle.hack_process.specs.PathTexts.{texts}
 use Rattle.hack_versions.specs.Notes.{Note, note_of}

@@ -1,10 +1,22 @@
-use Rattle.std.proofs.Common.{◌<◌}
+use Rattle.std.proofs.Common.{◌<◌, ◌∙◌, ap}
+use Rattle.std.specs.Prelude.{Bool, not}
+use Rattle.hack_files.specs.Restore.{registered}
+use Rattle.hack_run.proofs.BackLemmas.{leaves, safe_new}
 use Rattle.hack_run.proofs.WholeLemmas.{performs}
 use Rattle.hack_run.proofs.stages.perform.Goals as goal
 
-pub returns : goal.returns
-returns g c =
-    performs g.C.Caller.tells g.F.Files.tells (0 < c.restore_all.result) c.follow-came.result c.args.args c.args.env.now (g.F.Files.bytes_at c.args.files.now)
+pub returns-clause-done : goal.returns-clause-done
+returns-clause-done g c =
+    performs g.C.Caller.tells g.F.Files.tells (0 < c.finish.result) c.follow-came.result c.args.args c.args.env.now (g.F.Files.bytes_at c.args.files.now)
     (g.F.Files.failed c.args.files.now) (g.F.Files.failed c.ask-answers.new.files) (g.C.Caller.calls c.args.caller.now) (g.C.Caller.calls c.ask-answers.new.caller) (g.C.Caller.calls c.follow-came.new.caller)
-    c.ask-answers.result c.follow-came.new.term.error c.restore_all.new.term.error
-    c.ask-answers.ensures.asked c.restore_all.ensures.noted.1 c.follow-came.ensures
+    c.ask-answers.result c.follow-came.new.term.error c.finish.new.term.error
+    c.ask-answers.ensures.asked c.finish.ensures.noted.1 c.follow-came.ensures.done
+
+pub returns-clause-back : goal.returns-clause-back
+returns-clause-back g c = λ kept t.
+    let asked = g.F.Files.bytes_at c.ask-answers.new.files in
+    leaves g.F.Files.tells (registered c.follow-came.new.manager) (g.F.Files.bytes_at c.args.files.now) asked (g.F.Files.bytes_at c.follow-came.new.files) (g.F.Files.bytes_at c.finish.new.files)
+    (g.F.Files.failed c.args.files.now) (g.F.Files.failed c.ask-answers.new.files) (g.F.Files.failed c.follow-came.new.files) (g.F.Files.failed c.finish.new.files) c.finish.result
+    t c.ask-answers.ensures.left
+    (c.follow-came.ensures.safe t c.ask-answers.ensures.read (c.ask-answers.ensures.needs ∙ c.new-manager.ensures.needs ∙ ap not kept) (safe_new c.new-manager.result c.ask-answers.new.manager asked c.new-manager.ensures.nothing c.ask-answers.ensures.kept))
+    c.follow-came.ensures.grows c.finish.ensures.counted (c.finish.ensures.restored t)

@@ -1,0 +1,22 @@
+-- Calls whose edits don't stay.
+use Rattle.std.specs.Prelude.{◌≡◌, false, List}
+use Rattle.hack_features.specs.Names.{Name}
+use Rattle.hack_versions.specs.Notes.{Note}
+use Rattle.hack_versions.specs.declared.rustup.Rustup.{Rustup}
+use Rattle.hack_words.specs.Answers.{Answers as IsAnswer, around_of}
+use Rattle.hack_words.specs.Call.{ComesTo}
+use Rattle.hack_words.specs.declared.cli.args.Args.{Args}
+use Rattle.hack_words.specs.declared.cli.env.Env.{Env}
+use Rattle.hack_words.specs.declared.cli.parse.Parsed.{Parsed}
+use Rattle.hack_words.specs.declared.cli.parse.Parsed.TheVariants as parsed
+
+-- what words ask for isn't an edit that stays
+abbrev pub ComesBack : Parsed → Type 0
+ComesBack (parsed.Args args) = args.remove_dev_deps ≡ false
+ComesBack (parsed.Print text) = Unit {0}
+ComesBack parsed.List = Unit {0}
+
+-- the words don't ask for an edit that stays, whatever rustup answers
+abbrev pub RestoresEdits : Env → List Name → Type 0
+RestoresEdits env words = (rustup : Rustup) (answer : Parsed) (notes : List Note)
+    → IsAnswer (around_of env rustup) (ComesTo (around_of env rustup) words) answer notes → ComesBack answer
