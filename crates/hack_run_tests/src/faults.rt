@@ -103,25 +103,3 @@ fn the_plan(rt: HostRuntime) -> Result<(), Fail> {
     ];
     answers(&rt, rt.alloc(), &rows)
 }
-
-#[test]
-fn edits(rt: HostRuntime) -> Result<(), Fail> {
-    let rows = [
-        (
-            PLAIN,
-            "hack check --no-dev-deps",
-            "status 1\nasked\nerr\ninfo: --no-dev-deps modifies real `Cargo.toml` while cargo-hack is running and restores it when finished\nerror: manifest editing is not there yet\n",
-        ),
-        (
-            PLAIN,
-            "hack check --no-private",
-            "status 1\nasked\nerr\ninfo: --no-private modifies real `Cargo.toml` while cargo-hack is running and restores it when finished\nerror: manifest editing is not there yet\n",
-        ),
-        (
-            PLAIN,
-            "hack --remove-dev-deps",
-            "status 1\nasked\nerr\nerror: manifest editing is not there yet\n",
-        ),
-    ];
-    answers(&rt, rt.alloc(), &rows)
-}

@@ -1,0 +1,58 @@
+//! Calls over files of which one call fails: what is left, and with which status.
+
+use crate::given::{ROOT, VIRTUAL, World, left};
+use std::alloc::Global;
+use std::process::Abort;
+use std::test::Fail;
+
+/// Each call of the files fails in turn, the first one first.
+fn leaves<R: Abort>(
+    rt: &R,
+    alloc: Global,
+    world: World<'_>,
+    words: &str,
+    wanted: &[&str],
+) -> Result<(), Fail> {
+    let mut failing = 0;
+    for one in wanted {
+        failing += 1;
+        let told = left(alloc, world, words, failing)?;
+        assert_eq!(rt; told.as_str(), *one);
+    }
+    Ok(())
+}
+
+// The manifest is read, edited and written, the lockfile is looked for and read, and both are
+// written back. A write that fails leaves its file empty, and the next one goes on.
+#[test]
+fn a_package(rt: HostRuntime) -> Result<(), Fail> {
+    let wanted = [
+        "status 1",
+        "status 1",
+        "status 1",
+        "status 1",
+        "status 1 /w/Cargo.toml",
+        "status 1 /w/Cargo.lock",
+        "status 0",
+    ];
+    leaves(&rt, rt.alloc(), ROOT, "hack check --no-dev-deps", &wanted)
+}
+
+// Three reads, of both members and of the workspace's manifest, which no member has; two writes,
+// a look for the lockfile, and two writes back.
+#[test]
+fn a_workspace(rt: HostRuntime) -> Result<(), Fail> {
+    let wanted = [
+        "status 1",
+        "status 1",
+        "status 1",
+        "status 1",
+        "status 1",
+        "status 1",
+        "status 1 /w/p/Cargo.toml",
+        "status 1 /w/Cargo.toml",
+        "status 0",
+    ];
+    let words = "hack check --no-private --no-dev-deps --workspace";
+    leaves(&rt, rt.alloc(), VIRTUAL, words, &wanted)
+}
