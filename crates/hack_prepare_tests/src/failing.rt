@@ -13,11 +13,11 @@ fn leaves<R: Abort>(
     words: &str,
     wanted: &[&str],
 ) -> Result<(), Fail> {
-    let mut failing = 0;
+    let mut failing: u64 = 1;
     for one in wanted {
-        failing += 1;
         let told = left(alloc, world, words, failing)?;
         assert_eq!(rt; told.as_str(), *one);
+        failing = failing.saturating_add(1);
     }
     Ok(())
 }
