@@ -1,6 +1,6 @@
 -- What was loaded for a call is what its manifests hold.
-use Rattle.std.proofs.Common.{◌≡◌, ◌∙◌, ◌==◌, ◌<◌, ℕ, zero, suc, List, [], ◌∷◌, Option, Some, None, Bool, true, length, get_or, ap, sym, refl, subst, arith, string_bytes, Result, IfOk}
-use Rattle.std.specs.Prelude.{All, Contains, option_and_then, option_map, slice_get}
+use Rattle.std.proofs.Common.{◌≡◌, ◌∙◌, ◌==◌, ◌<◌, ℕ, zero, suc, List, [], ◌∷◌, Option, Some, None, length, get_or, ap, sym, refl, subst, arith, string_bytes, Result, IfOk}
+use Rattle.std.specs.Prelude.{All, Contains, option_and_then, option_map}
 use Rattle.std.specs.List.{AllZip, cons_option, filter_map}
 use Rattle.std.proofs.lemmas.Bool.{eqb-true}
 use Rattle.std.proofs.lemmas.List.Elements.{All-cons, All-nil}
@@ -53,7 +53,7 @@ held-by tells t held cx id m (Some p) (Some x) among are eo eq is =
     let here : get_or ms k 0 ≡ id = eqb-true (get_or ms k 0) id (passes_at_first (λ y. y == id) ms 0 lt) in
     let there : get_or cx.manifests k x ≡ x = get_or_from_slice_get cx.manifests k x x (sym eq) in
     let r : IsOfMember tells held cx.metadata id x =
-        subst (λ i. IsOfMember tells held cx.metadata i x) here (subst (λ y. IsOfMember tells held cx.metadata (get_or ms k 0) y) there (zip-at (IsOfMember tells held cx.metadata) ms cx.manifests k 0 x are lt)) in
+    subst (λ i. IsOfMember tells held cx.metadata i x) here (subst (λ y. IsOfMember tells held cx.metadata (get_or ms k 0) y) there (zip-at (IsOfMember tells held cx.metadata) ms cx.manifests k 0 x are lt)) in
     let same : p ≡ r.of = let e : Some p ≡ Some r.of = eo ∙ r.at in cc in
     let made : m ≡ record { path = p.manifest_path; text = string_bytes x.text; is_private = is_private_at cx id } = cc in
     subst (λ (y : Member). held y.path ≡ Some y.text) (sym made) (ap (λ (y : PackageRecord). held y.manifest_path) same ∙ r.read t)

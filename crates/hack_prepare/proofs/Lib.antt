@@ -2,3 +2,4 @@ mod StepLemmas
 mod MemberLemmas
 mod RootLemmas
 pub mod HeldLemmas
+mod FaultLemmas

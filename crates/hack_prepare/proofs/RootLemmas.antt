@@ -1,13 +1,12 @@
 -- The manifest in the folder of the workspace, and all edits together.
-use Rattle.std.proofs.Common.{◌≡◌, ◌⊎◌, inl, inr, ℕ, suc, List, [], ◌∷◌, ◌++◌, Bool, true, false, cond, Option, Some, None, Result, Ok, Err, OnOk, refl, sym, ◌∙◌, ap, subst, arith, map, get_or}
-use Rattle.std.specs.Prelude.{◌&&◌, ◌||◌, not, All, MatchOption, option_map}
+use Rattle.std.proofs.Common.{◌≡◌, inl, inr, suc, List, [], ◌∷◌, Bool, true, false, cond, Option, Some, None, Result, Ok, Err, OnOk, refl, sym, ◌∙◌, ap, subst, arith, get_or}
+use Rattle.std.specs.Prelude.{◌&&◌, ◌||◌, not, MatchOption, option_map}
 use Rattle.std.specs.List.{find, list_any}
 use Rattle.std.specs.Str.{bytes_eq}
 use Rattle.std.proofs.lemmas.Bool.{cases_Bool, true≢false}
 use Rattle.std.proofs.lemmas.Slice.Eq.{bytes_eq-Decides}
 use Rattle.hack_features.specs.Names.{Name}
 use Rattle.hack_files.specs.Files.{Contents, KeepsAll, KeepsOthers}
-use Rattle.hack_versions.specs.Notes.{Note}
 use Rattle.hack_prepare.specs.Prepared.{HoldTexts, IsPrepared, IsRootEdit, Member, Wanted, drops_at_root, edits_root, gone, has_root, has_some, is_alone, is_alone_at, is_root}
 use Rattle.hack_prepare.specs.Steps.{AreTurned, IsRootText, KeepsBut, MakesRoot}
 use Rattle.hack_prepare.specs.Told.{edit_notes, root_notes}
@@ -157,6 +156,14 @@ root-old w ms old mid text holds turned h = by (find (is_root w) ms) refl h
     by : (o : Option Member) → o ≡ find (is_root w) ms → MatchOption o (mid w.root ≡ Some text) (λ m. text ≡ m.text) → old w.root ≡ Some text
     by None e k = sym (turned.others w.root (alone-free w ms (root-missed w ms (ap (option_map text_in) e)))) ∙ k
     by (Some m) e k = root-held w ms text old holds (ap Some k ∙ ap (option_map text_in) e)
+
+-- and that it is the text that is read
+pub root-read : (w : Wanted) (ms : List Member) (old mid : Contents) (text : Name) → HoldTexts old ms → AreTurned w ms old mid → IsRootText w ms mid text → IsRootText w ms old text
+root-read w ms old mid text holds turned h = by (find (is_root w) ms) refl h
+  where
+    by : (o : Option Member) → o ≡ find (is_root w) ms → MatchOption o (mid w.root ≡ Some text) (λ m. text ≡ m.text) → MatchOption o (old w.root ≡ Some text) (λ m. text ≡ m.text)
+    by None e k = sym (turned.others w.root (alone-free w ms (root-missed w ms (ap (option_map text_in) e)))) ∙ k
+    by (Some m) e k = k
 
 pub prepared : (w : Wanted) (ms : List Member) (private : List Name) (old mid late new : Contents) → private ≡ gone w ms → HoldTexts old ms → AreTurned w ms old mid
     → (edits_root w ms ≡ true → (x : Name) × IsRootText w ms mid x × MakesRoot w (drops_at_root w ms) private x late)

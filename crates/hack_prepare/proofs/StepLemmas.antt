@@ -1,5 +1,5 @@
 -- Steps of the edits: what is counted, and what is kept.
-use Rattle.std.proofs.Common.{◌≡◌, ℕ, ◌+◌, ◌<◌, ◌⊎◌, inl, inr, List, Bool, true, false, cond, Some, Result, Ok, Err, IfErr, OnOk, refl, sym, ◌∙◌, ap, subst, arith}
+use Rattle.std.proofs.Common.{◌≡◌, ℕ, ◌+◌, inl, inr, List, Bool, true, false, cond, Some, Result, Ok, Err, IfErr, OnOk, refl, sym, ◌∙◌, ap, subst, arith}
 use Rattle.hack_features.specs.Names.{Name}
 use Rattle.hack_files.specs.Faults.{IsOfText}
 use Rattle.hack_files.specs.Files.{Contents, Counts, GrowsBy, KeepsAll, KeepsOthers}

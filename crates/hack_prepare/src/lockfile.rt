@@ -1,8 +1,9 @@
 //! The lockfile, which cargo may change, and which comes back.
 
-ghost use Rattle.std.specs.Prelude.{◌≡◌, OnOk, IfSome, true};
+ghost use Rattle.std.specs.Prelude.{◌≡◌, OnOk, IfErr, IfSome, true};
 ghost use Rattle.hack_files.specs.Files.{KeepsAll};
 ghost use Rattle.hack_files.specs.Restore.{is_kept, registered};
+ghost use Rattle.hack_prepare.specs.Faults.{IsFault, NoFault, Nowhere, Only};
 ghost use Rattle.hack_prepare.specs.Steps.{AnyStart, IsStep};
 
 use crate::fault::{PrepareFault, of_file};
@@ -24,6 +25,8 @@ pub(crate) fn keep_lockfile<F: Files>(
         → IfSome (F.bytes_at files.old path.now) (λ _.
         is_kept (registered manager.new) path.now ≡ true)) }
     ensures same { F.tells → KeepsAll (F.bytes_at files.old) (F.bytes_at files.new) }
+    ensures err { IfErr result (IsFault (Only path.now) Nowhere NoFault
+        (F.failed files.old) (F.failed files.new)) }
 {
     match exists(alloc, files, path) {
         Ok(true) => keep(alloc, path, files, manager),
@@ -45,6 +48,8 @@ fn keep<F: Files>(
     ensures kept { OnOk result (manager.old.needs_restore ≡ true
         → is_kept (registered manager.new) path.now ≡ true) }
     ensures same { F.tells → KeepsAll (F.bytes_at files.old) (F.bytes_at files.new) }
+    ensures err { IfErr result (IsFault (Only path.now) Nowhere NoFault
+        (F.failed files.old) (F.failed files.new)) }
 {
     let bytes = match read(alloc, files, path) {
         Ok(bytes) => bytes,

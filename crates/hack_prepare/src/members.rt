@@ -1,10 +1,12 @@
 //! The manifests of members that are edited by themselves.
 
-ghost use Rattle.std.specs.Prelude.{◌≡◌, ◌++◌, IfOk, OnOk, map};
+ghost use Rattle.std.specs.Prelude.{◌≡◌, ◌++◌, IfErr, IfOk, OnOk, map};
 ghost use Rattle.std.specs.List.{flat_map};
 ghost use Rattle.hack_files.specs.Files.{KeepsOthers};
 ghost use Rattle.hack_process.specs.PathTexts.{texts};
 ghost use Rattle.hack_versions.specs.Notes.{note_of};
+ghost use Rattle.hack_prepare.specs.Faults.{IsAlonePath, IsDevFault, IsFault, IsMembersFault};
+ghost use Rattle.hack_prepare.specs.Faults.{Nowhere, Only};
 ghost use Rattle.hack_prepare.specs.Prepared.{AllHold, HasPrivateRoot, HoldTexts, gone};
 ghost use Rattle.hack_prepare.specs.PreparedView.{member_view, members_view, wanted_view};
 ghost use Rattle.hack_prepare.specs.Steps.{AreTurned, HoldsText, IsStep, IsTurned};
@@ -42,6 +44,10 @@ pub(crate) fn edit_members<'a, F: Files>(
     ensures never { OnOk result (¬ HasPrivateRoot (wanted_view wanted.now) (members_view members.now)) }
     ensures told { OnOk result (map note_of notices.new.items ≡ map note_of notices.old.items
         ++ flat_map (member_notes (wanted_view wanted.now)) (members_view members.now)) }
+    ensures err { IfErr result (IsFault Nowhere
+        (IsAlonePath (wanted_view wanted.now) (members_view members.now))
+        (IsMembersFault (wanted_view wanted.now) (members_view members.now))
+        (F.failed files.old) (F.failed files.new)) }
 {
     let mut gone = Vec::new(alloc);
     for member in members {
@@ -75,6 +81,9 @@ fn edit_member<F: Files>(
         (F.bytes_at files.old) (F.bytes_at files.new) }
     ensures told { OnOk result (map note_of notices.new.items
         ≡ map note_of notices.old.items ++ dev_note verbose (member_view member.now).path) }
+    ensures err { IfErr result (IsFault Nowhere (Only (member_view member.now).path)
+        (IsDevFault (member_view member.now).path (member_view member.now).text)
+        (F.failed files.old) (F.failed files.new)) }
 {
     tell_dev(alloc, verbose, member.path, notices)?;
     let text = without_dev(alloc, member.path, member.text)?;

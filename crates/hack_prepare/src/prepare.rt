@@ -1,10 +1,11 @@
 //! What is done to the files of a workspace before the runs of a call, and undone at its end.
 
-ghost use Rattle.std.specs.Prelude.{◌≡◌, ◌<◌, ◌↔◌, ◌⊎◌, ◌||◌, IfOk, IfSome, OnOk, IsTrue, true, false, map, List};
+ghost use Rattle.std.specs.Prelude.{◌≡◌, ◌<◌, ◌↔◌, ◌⊎◌, ◌||◌, IfErr, IfOk, IfSome, OnOk, IsTrue, true, false, map, List};
 ghost use Rattle.hack_files.specs.Files.{Change, Contents, GrowsBy, Makes};
 ghost use Rattle.hack_files.specs.Restore.{AreSafe, Brings, Tried, is_kept, registered};
 ghost use Rattle.hack_load.specs.ContextView.{context_view};
 ghost use Rattle.hack_versions.specs.Notes.{note_of};
+ghost use Rattle.hack_prepare.specs.Faults.{IsPrepareFault};
 ghost use Rattle.hack_prepare.specs.Prepared.{AllHold, HasPrivateRoot, HoldTexts, IsPrepared, edits};
 ghost use Rattle.hack_prepare.specs.PreparedView.{members_in, members_view, wanted_in, wanted_view};
 ghost use Rattle.hack_prepare.specs.Steps.{Grows, IsStep};
@@ -59,6 +60,11 @@ pub fn prepare<F: Files>(
     ensures never { OnOk result (¬ HasPrivateRoot (wanted_in (context_view cx.now)) (members_in (context_view cx.now))) }
     ensures told { IfOk result (λ notices. map note_of notices.items
         ≡ notes (wanted_in (context_view cx.now)) (members_in (context_view cx.now))) }
+
+    // A refusal has its cause.
+    ensures err { IfErr result (IsPrepareFault (wanted_in (context_view cx.now)) (members_in (context_view cx.now))
+        (F.tells × HoldTexts (F.bytes_at files.old) (members_in (context_view cx.now)))
+        (F.bytes_at files.old) (F.failed files.old) (F.failed files.new)) }
 {
     let args = cx.args();
     let drops_dev = drops_dev(args);
@@ -116,6 +122,8 @@ fn edit<F: Files>(
     ensures never { OnOk result (¬ HasPrivateRoot (wanted_view wanted.now) (members_view members.now)) }
     ensures told { IfOk result (λ notices. map note_of notices.items
         ≡ notes (wanted_view wanted.now) (members_view members.now)) }
+    ensures err { IfErr result (IsPrepareFault (wanted_view wanted.now) (members_view members.now) (F.tells × HoldTexts (F.bytes_at files.old) (members_view members.now))
+        (F.bytes_at files.old) (F.failed files.old) (F.failed files.new)) }
 {
     let mut notices = Vec::new(alloc);
     let gone = edit_members(alloc, wanted, members, files, manager, &mut notices)?;

@@ -1,7 +1,8 @@
 //! A manifest that is edited: what it holds is kept, and then its edit is written.
 
-ghost use Rattle.std.specs.Prelude.{◌≡◌, OnOk, Some};
+ghost use Rattle.std.specs.Prelude.{◌≡◌, IfErr, OnOk, Some};
 ghost use Rattle.hack_files.specs.Files.{KeepsOthers};
+ghost use Rattle.hack_prepare.specs.Faults.{IsFault, NoFault, Nowhere, Only};
 ghost use Rattle.hack_prepare.specs.Steps.{HeldUnkept, IsStep};
 
 use crate::fault::{PrepareFault, of_file};
@@ -23,6 +24,8 @@ pub(crate) fn replace<F: Files>(
         (F.bytes_at files.old) (F.bytes_at files.new) (F.failed files.old) (F.failed files.new) }
     ensures written { OnOk result (F.tells → F.bytes_at files.new path.now ≡ Some text.now) }
     ensures others { F.tells → KeepsOthers path.now (F.bytes_at files.old) (F.bytes_at files.new) }
+    ensures err { IfErr result (IsFault Nowhere (Only path.now) NoFault
+        (F.failed files.old) (F.failed files.new)) }
 {
     manager.register_once(alloc, path, held.as_bytes())?;
     match write(alloc, files, path, text.as_bytes()) {

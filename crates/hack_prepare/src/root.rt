@@ -1,6 +1,6 @@
 //! The manifest in the folder of the workspace, which gets all its edits in one write.
 
-ghost use Rattle.std.specs.Prelude.{◌≡◌, ◌++◌, ◌&&◌, ◌||◌, IfOk, OnOk, MatchBool, Some, true, false};
+ghost use Rattle.std.specs.Prelude.{◌≡◌, ◌⊎◌, ◌++◌, ◌&&◌, ◌||◌, IfErr, IfOk, OnOk, MatchBool, Some, true, false};
 ghost use Rattle.std.specs.Prelude.{map, option_copied, option_map, string_bytes};
 ghost use Rattle.std.specs.List.{find};
 ghost use Rattle.hack_features.specs.Names.{Name};
@@ -9,6 +9,8 @@ ghost use Rattle.hack_versions.specs.Notes.{note_of};
 ghost use Rattle.hack_edits.specs.DevDeps.{IsWithoutDev};
 ghost use Rattle.hack_edits.specs.Members.{in_order};
 ghost use Rattle.hack_edits.specs.PrivateCrates.{IsWithoutPrivate};
+ghost use Rattle.hack_prepare.specs.Faults.{IsDevFault, IsFault, IsPrivateFault, IsRootFault};
+ghost use Rattle.hack_prepare.specs.Faults.{IsTextFault, Nowhere, Only, OnlyIf};
 ghost use Rattle.hack_prepare.specs.Prepared.{AllHold, drops_at_root, edits_root, gone};
 ghost use Rattle.hack_prepare.specs.Prepared.{has_some, is_root};
 ghost use Rattle.hack_prepare.specs.PreparedView.{members_view, wanted_view};
@@ -50,6 +52,9 @@ pub(crate) fn edit_root<F: Files>(
         (F.bytes_at files.old) (F.bytes_at files.new) }
     ensures told { OnOk result (map note_of notices.new.items ≡ map note_of notices.old.items
         ++ root_notes (wanted_view wanted.now) (members_view members.now)) }
+    ensures err { IfErr result (IsFault (Only (wanted_view wanted.now).root)
+        (OnlyIf (edits_root (wanted_view wanted.now) (members_view members.now)) (wanted_view wanted.now).root)
+        (IsRootFault (wanted_view wanted.now) (members_view members.now) F.tells (F.bytes_at files.old)) (F.failed files.old) (F.failed files.new)) }
 {
     if !wanted.no_private {
         return Ok(());
@@ -101,6 +106,11 @@ fn edit_virtual<F: Files>(
         (F.bytes_at files.old) (F.bytes_at files.new) }
     ensures told { OnOk result (map note_of notices.new.items ≡ map note_of notices.old.items
         ++ edit_notes (wanted_view wanted.now) false (texts private.now)) }
+    ensures err { IfErr result (IsFault (Only (wanted_view wanted.now).root)
+        (OnlyIf (has_some (texts private.now)) (wanted_view wanted.now).root)
+        (λ e. (has_some (texts private.now) ≡ true) × (text : Name) × (F.tells
+        → F.bytes_at files.old (wanted_view wanted.now).root ≡ Some text)
+        × IsTextFault (wanted_view wanted.now) false (texts private.now) text e) (F.failed files.old) (F.failed files.new)) }
 {
     if private.is_empty() {
         return Ok(());
@@ -140,6 +150,10 @@ fn edit_held<F: Files>(
         (F.bytes_at files.old) (F.bytes_at files.new) }
     ensures told { OnOk result (map note_of notices.new.items ≡ map note_of notices.old.items
         ++ edit_notes (wanted_view wanted.now) drops_dev (texts private.now)) }
+    ensures err { IfErr result (IsFault Nowhere
+        (OnlyIf (drops_dev || has_some (texts private.now)) (wanted_view wanted.now).root)
+        (λ e. ((drops_dev || has_some (texts private.now)) ≡ true)
+        × IsTextFault (wanted_view wanted.now) drops_dev (texts private.now) held.now e) (F.failed files.old) (F.failed files.new)) }
 {
     if !is_asked(drops_dev, private) {
         return Ok(());
@@ -168,6 +182,8 @@ fn dev_edit(
         (IsWithoutDev text.now (string_bytes new)) (string_bytes new ≡ text.now)) }
     ensures told { OnOk result (map note_of notices.new.items ≡ map note_of notices.old.items
         ++ dev_note (drops_dev && (wanted_view wanted.now).verbose) (wanted_view wanted.now).root) }
+    ensures err { IfErr result (λ e. (e ≡ PrepareFault.Memory)
+        ⊎ ((drops_dev ≡ true) × IsDevFault (wanted_view wanted.now).root text.now e)) }
 {
     if !drops_dev {
         return Ok(String::from_str(alloc, text)?);
@@ -189,6 +205,8 @@ fn private_edit(
         (string_bytes text) (string_bytes new)) (string_bytes new ≡ string_bytes text)) }
     ensures told { OnOk result (map note_of notices.new.items ≡ map note_of notices.old.items
         ++ private_note (has_some (texts private.now) && (wanted_view wanted.now).verbose) (wanted_view wanted.now).root) }
+    ensures err { IfErr result (λ e. (e ≡ PrepareFault.Memory) ⊎ IsPrivateFault (wanted_view wanted.now).root
+        (wanted_view wanted.now).folder (in_order (texts private.now)) (string_bytes text) e) }
 {
     if private.is_empty() {
         return Ok(text);

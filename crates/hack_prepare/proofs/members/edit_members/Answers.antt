@@ -1,5 +1,7 @@
 use Rattle.std.proofs.Common.{◌≡◌, ◌∙◌, [], ◌∷◌, get_or, false, ℕ, List, Bor, map, ap, sym}
 use Rattle.std.proofs.lemmas.List.{get_or_default, map-append}
+use Rattle.std.proofs.lemmas.Result.{err_from_is_err_and}
+use Rattle.hack_prepare.proofs.FaultLemmas.{member-fault, root-fault}
 use Rattle.hack_features.proofs.Steps.{seen-next, seen_here}
 use Rattle.hack_process.specs.PathTexts.{texts}
 use Rattle.hack_versions.specs.Notes.{note_of}
@@ -62,3 +64,23 @@ returns-in_err-edit_member-clause-step g c =
     (g.F.Files.bytes_at c.args.files.now) (g.F.Files.bytes_at c.loop-member.files) (g.F.Files.bytes_at c.edit_member.new.files)
     (g.F.Files.failed c.args.files.now) (g.F.Files.failed c.loop-member.files) (g.F.Files.failed c.edit_member.new.files)
     among c.loop-member.invariant.1.0 c.edit_member.ensures.step
+
+pub returns-in_err-edit_member-clause-err : goal.returns-in_err-edit_member-clause-err
+returns-in_err-edit_member-clause-err g c =
+    let xs : List Member = c.args.members.now in
+    let k = c.loop-member.member-index in
+    let d : Member = record { path = record { ref_ptr = (0, 0); now = [] }; text = record { ref_ptr = (0, 0); now = [] }; is_private = false } in
+    let x : Member = get_or xs k d in
+    let p = err_from_is_err_and c.from_residual-in_err-edit_member.result c.from_residual-in_err-edit_member.ensures.1 in
+    let among = seen_here member_view xs k x c.loop-member-test.true (get_or_default xs k d x c.loop-member-test.true) in
+    rw (p.1, p.2) (member-fault (wanted_view c.args.wanted.now) (members_view xs) (member_view x) (g.F.Files.failed c.args.files.now) (g.F.Files.failed c.loop-member.files) (g.F.Files.failed c.edit_member.new.files) _
+    among (sym c.if-is_alone.ensures) c.loop-member.invariant.1.0.grows c.in_err-edit_member.ensures.err)
+
+pub returns-then-is_root-clause-err : goal.returns-then-is_root-clause-err
+returns-then-is_root-clause-err g c =
+    let xs : List Member = c.args.members.now in
+    let k = c.loop-member.member-index in
+    let d : Member = record { path = record { ref_ptr = (0, 0); now = [] }; text = record { ref_ptr = (0, 0); now = [] }; is_private = false } in
+    let x : Member = get_or xs k d in
+    let among = seen_here member_view xs k x c.loop-member-test.true (get_or_default xs k d x c.loop-member-test.true) in
+    root-fault (wanted_view c.args.wanted.now) (members_view xs) (member_view x) (g.F.Files.failed c.args.files.now) (g.F.Files.failed c.loop-member.files) among (sym c.if-goes.ensures) (sym c.if-is_root.ensures)

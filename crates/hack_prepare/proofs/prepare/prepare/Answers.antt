@@ -1,8 +1,9 @@
-use Rattle.std.proofs.Common.{◌≡◌, ◌∙◌, false, IfOk, List, ap, sym, subst, map}
+use Rattle.std.proofs.Common.{◌≡◌, ◌∙◌, false, IfErr, IfOk, List, ap, sym, subst, map}
 use Rattle.std.specs.Prelude.{◌||◌}
 use Rattle.hack_words.specs.declared.cli.args.Args.{Args}
 use Rattle.hack_load.specs.ContextView.{context_view}
 use Rattle.hack_versions.specs.Notes.{note_of}
+use Rattle.hack_prepare.specs.Faults.{IsPrepareFault}
 use Rattle.hack_prepare.specs.Prepared.{HoldTexts, Member, Wanted}
 use Rattle.hack_prepare.specs.PreparedView.{member_view, members_in, members_view, wanted_in}
 use Rattle.hack_prepare.specs.Told.{notes}
@@ -32,3 +33,15 @@ returns-clause-told g c =
     c.workspace_root-folder.ensures (c.as_str.ensures.value ∙ c.in_ok-root.ensures) (c.as_str-2.ensures.value ∙ c.in_ok-lockfile.ensures) in
     subst (λ (l : List Member). IfOk c.edit.result (λ told. map note_of told.items ≡ notes (wanted_in cx) l)) are
     (subst (λ (w : Wanted). IfOk c.edit.result (λ told. map note_of told.items ≡ notes w (members_view c.as_slice.result.now))) is c.edit.ensures.told)
+
+pub returns-clause-err : goal.returns-clause-err
+returns-clause-err g c =
+    let cx = context_view c.args.cx.now in
+    let are = ap (map member_view) c.as_slice.ensures.value ∙ c.in_ok-members.ensures in
+    let is = wanted-is cx c.args-args.result.now c.drops_dev-drops_dev.result c.workspace_root-folder.result.now c.as_str.result.now c.as_str-2.result.now c.args-args.ensures c.drops_dev-drops_dev.ensures
+    c.workspace_root-folder.ensures (c.as_str.ensures.value ∙ c.in_ok-root.ensures) (c.as_str-2.ensures.value ∙ c.in_ok-lockfile.ensures) in
+    let held = g.F.Files.bytes_at c.args.files.now in
+    let before = g.F.Files.failed c.args.files.now in
+    let now = g.F.Files.failed c.edit.new.files in
+    subst (λ (l : List Member). IfErr c.edit.result (IsPrepareFault (wanted_in cx) l (g.F.Files.tells × HoldTexts held l) held before now)) are
+    (subst (λ (w : Wanted). IfErr c.edit.result (IsPrepareFault w (members_view c.as_slice.result.now) (g.F.Files.tells × HoldTexts held (members_view c.as_slice.result.now)) held before now)) is c.edit.ensures.err)

@@ -5,6 +5,7 @@ use Rattle.hack_versions.specs.Notes.{Note, note_of}
 use Rattle.hack_prepare.specs.Prepared.{AllHold}
 use Rattle.hack_prepare.specs.PreparedView.{members_view, wanted_view}
 use Rattle.hack_prepare.specs.Steps.{AnyStart, HeldUnkept, KeepsBut}
+use Rattle.hack_prepare.proofs.FaultLemmas.{found-fault, missed-fault}
 use Rattle.hack_prepare.proofs.RootLemmas.{drops-found, drops-missed, edited-found, edited-missed, edits-is, notes-are, root-found, root-held, root-missed}
 use Rattle.hack_prepare.proofs.StepLemmas.{step_given}
 use Rattle.hack_prepare.proofs.root.edit_root.Goals as goal
@@ -53,3 +54,13 @@ returns-in-None-clause-told g c =
     let ms = members_view c.args.members.now in
     subst (λ (l : List Note). OnOk c.edit_virtual.result (map note_of c.edit_virtual.new.notices.items ≡ map note_of c.args.notices.now.items ++ l))
     (notes-are w ms false (texts c.args.private.now) c.if-not-wanted.false (drops-missed w ms (root-missed w ms c.in-None.ensures)) c.requires) c.edit_virtual.ensures.told
+
+pub returns-in-Some-clause-err : goal.returns-in-Some-clause-err
+returns-in-Some-clause-err g c =
+    found-fault g.F.Files.tells (wanted_view c.args.wanted.now) (members_view c.args.members.now) (texts c.args.private.now) c.in-Some.text.now (g.F.Files.bytes_at c.args.files.now)
+    (g.F.Files.failed c.args.files.now) (g.F.Files.failed c.edit_held.new.files) c.edit_held.result c.in-Some.ensures c.if-not-wanted.false c.requires c.edit_held.ensures.err
+
+pub returns-in-None-clause-err : goal.returns-in-None-clause-err
+returns-in-None-clause-err g c =
+    missed-fault g.F.Files.tells (wanted_view c.args.wanted.now) (members_view c.args.members.now) (texts c.args.private.now) (g.F.Files.bytes_at c.args.files.now)
+    (g.F.Files.failed c.args.files.now) (g.F.Files.failed c.edit_virtual.new.files) c.edit_virtual.result c.in-None.ensures c.if-not-wanted.false c.requires c.edit_virtual.ensures.err
