@@ -1,5 +1,5 @@
 mod StepLemmas
 mod MemberLemmas
-mod RootLemmas
+pub mod RootLemmas
 pub mod HeldLemmas
 mod FaultLemmas

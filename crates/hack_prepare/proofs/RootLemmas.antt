@@ -180,3 +180,11 @@ prepared w ms private old mid late new are holds turned made keeps same = record
       same q ∙ keeps q (or_right (list_any (is_alone_at w q) ms) (edits_root w ms && bytes_eq q w.root) free)
       ∙ turned.others q (or_left (list_any (is_alone_at w q) ms) (edits_root w ms && bytes_eq q w.root) free);
 }
+
+-- what is held is the same before and behind
+pub prepared-moved : (w : Wanted) (ms : List Member) (first old new last : Contents) → KeepsAll first old → KeepsAll new last → IsPrepared w ms old new → IsPrepared w ms first last
+prepared-moved w ms first old new last same stay h = record {
+  alone = λ k d lt is. let t = h.alone k d lt is in let m : Member = get_or ms k d in (t.0, t.1, sym (same m.path) ∙ t.2, stay m.path ∙ t.3, t.4);
+  root = λ asked. let t = h.root asked in (t.0, t.1, sym (same w.root) ∙ t.2, stay w.root ∙ t.3, t.4);
+  others = λ q free. stay q ∙ h.others q free ∙ same q;
+}

@@ -1,10 +1,10 @@
 -- Files come back.
-use Rattle.std.proofs.Common.{◌≡◌, ◌+◌, ◌-◌, ◌∙◌, ℕ, List, [], ◌++◌, Bool, true, length, replicate, arith, ap, refl, sym, subst}
+use Rattle.std.proofs.Common.{◌≡◌, ◌+◌, ◌-◌, ◌∙◌, ℕ, List, [], ◌++◌, Bool, true, Result, Ok, Err, OnOk, length, replicate, arith, ap, refl, sym, subst}
 use Rattle.std.specs.Prelude.{Contains}
 use Rattle.std.proofs.lemmas.List.{length-append, length-replicate}
 use Rattle.std.proofs.lemmas.List.Elements.{Contains-append_left, Contains-append_right}
 use Rattle.hack_features.specs.Names.{Name}
-use Rattle.hack_files.specs.Files.{Contents, GrowsBy}
+use Rattle.hack_files.specs.Files.{Contents, GrowsBy, KeepsAll}
 use Rattle.hack_files.specs.Restore.{AreSafe, Brings, Kept, registered}
 use Rattle.hack_files.specs.declared.restore.Manager.{Manager}
 use Rattle.hack_files.proofs.RestoreLemmas.{grows_more}
@@ -37,3 +37,19 @@ leaves tells files first asked mid last k n m o r t left safe grows counted brin
 -- nothing is kept yet
 pub safe_new : (old new : Manager) (held : Contents) → registered old ≡ [] → registered new ≡ registered old → AreSafe (registered new) held held
 safe_new old new held empty same = subst (λ l. AreSafe l held held) (sym (same ∙ empty)) (safe_none held)
+
+-- nothing is brought back
+pub brings_none : (files : List Kept) (old new : Contents) (k : ℕ) → files ≡ [] → Brings files old new k → KeepsAll old new
+brings_none files old new k empty brings =
+    let b : Brings [] old new k = subst (λ l. Brings l old new k) empty brings in
+    let back = (b (λ i j d lt within. absurd (omega (arith, within)))).2 in
+    λ q. back.others q (λ h. absurd (omega (arith, h.1)))
+
+-- where edits stay nothing is kept
+pub kept_none : (first mid last : Manager) → registered first ≡ [] → registered mid ≡ registered first → registered last ≡ registered mid → registered last ≡ []
+kept_none first mid last empty same kept = kept ∙ same ∙ empty
+
+-- what an answer leaves of the files
+pub whole_keeps : {T E : Type 0} (tells : Type 0) (old new : Contents) (k n : ℕ) (r : Result T E) → OnOk r (GrowsBy 0 k n × (tells → KeepsAll old new)) → OnOk r (tells → KeepsAll old new)
+whole_keeps tells old new k n (Ok v) h = h.1
+whole_keeps tells old new k n (Err e) h = tt

@@ -1,7 +1,12 @@
 -- What a call did, put together from its stages.
 use Rattle.std.proofs.Common.{◌≡◌, ◌⊎◌, inl, Bool, true, false, ℕ, List, Option, Result, Ok, Err, OnOk, OnErr, IsErr, IsTrue, refl, sym, ◌∙◌, ap, subst, string_bytes}
 use Rattle.hack_features.specs.Names.{Name}
-use Rattle.hack_files.specs.Files.{Contents}
+use Rattle.hack_files.specs.Files.{Contents, KeepsAll}
+use Rattle.hack_load.specs.declared.fault.ContextFault.{ContextFault}
+use Rattle.hack_load.specs.declared.loaded.Loaded.{Loaded}
+use Rattle.hack_prepare.specs.Prepared.{IsPrepared}
+use Rattle.hack_prepare.specs.PreparedView.{members_in, wanted_in}
+use Rattle.hack_prepare.proofs.RootLemmas.{prepared-moved}
 use Rattle.hack_process.specs.Calls.{Call, MayAdd}
 use Rattle.hack_load.specs.Answers.{AreAnswers}
 use Rattle.hack_load.specs.ContextOf.{IsContextFrom}
@@ -26,20 +31,21 @@ on_ok P Q (Ok v) f p = f p
 on_ok P Q (Err e) f p = tt
 
 -- behind a context and its plan, the runs
-pub follows : {T E : Type 0} (tells quiet : Type 0) (r : Result T E) (args given : Args) (answers : Answers) (rustup : Name) (old mid new : List Call) (cx : ContextRecord) (plan : PlanView)
-    → IsContextFrom args answers cx → given ≡ cx.args → IsPlanned cx rustup tells old mid plan
+pub follows : {T E : Type 0} (tells told quiet : Type 0) (r : Result T E) (args given : Args) (answers : Answers) (rustup : Name) (held last : Contents) (old mid new : List Call) (cx : ContextRecord) (plan : PlanView)
+    → (told → IsPrepared (wanted_in cx) (members_in cx) held last) → IsContextFrom args answers cx → given ≡ cx.args → IsPlanned cx rustup tells old mid plan
     → OnOk r (given.print_command_list ≡ false → quiet → tells → RunsAll plan given.partition mid new)
-    → OnOk r (args.print_command_list ≡ false → quiet → tells → Follows args answers rustup old new)
-follows tells quiet r args given answers rustup old mid new cx plan context is planned ran =
+    → OnOk r (args.print_command_list ≡ false → quiet → tells → told → Follows args answers rustup held last old new)
+follows tells told quiet r args given answers rustup held last old mid new cx plan prepared context is planned ran =
     on_ok (args.print_command_list ≡ false → quiet → tells → RunsAll plan args.partition mid new)
-    (args.print_command_list ≡ false → quiet → tells → Follows args answers rustup old new) r
-    (λ runs listed q t. record {
+    (args.print_command_list ≡ false → quiet → tells → told → Follows args answers rustup held last old new) r
+    (λ runs listed q t u. record {
       cx = cx;
       plan = plan;
       mid = mid;
       context = context;
       planned = record { stable = planned.stable; notes = planned.notes; asked = λ _. planned.asked t; planned = planned.planned };
       runs = runs listed q t;
+      edited = λ _. prepared u;
     })
     (subst (λ (a : Args). OnOk r (a.print_command_list ≡ false → quiet → tells → RunsAll plan a.partition mid new)) (is ∙ context.2.args) ran)
 
@@ -48,16 +54,33 @@ quiet_before : (X : Type 0) (before now : Bool) → (IsTrue before ⊎ X → IsT
 quiet_before X true now f quiet = let e : true ≡ false = sym (f (inl refl)) ∙ quiet in absurd (cc)
 quiet_before X false now f quiet = refl
 
+-- what is held is the same before, and in the end where edits stay
+moved : (args : Args) (answers : Answers) (rustup : Name) (first asked prepared last : Contents) (old new : List Call) → KeepsAll first asked → (args.remove_dev_deps ≡ true → KeepsAll prepared last)
+    → Follows args answers rustup asked prepared old new → Follows args answers rustup first last old new
+moved args answers rustup first asked prepared last old new same stay f = record {
+  cx = f.cx;
+  plan = f.plan;
+  mid = f.mid;
+  context = f.context;
+  planned = f.planned;
+  runs = f.runs;
+  edited = λ e. prepared-moved (wanted_in f.cx) (members_in f.cx) first asked prepared last same (stay e) (f.edited e);
+}
+
 -- behind the answers, what followed them
-pub performs : {T E : Type 0} (tells told X : Type 0) (r : Result T E) (args : Args) (env : Env) (held : Contents) (before later : ℕ) (old mid new : List Call) (answers : Answers) (mute now : Bool)
-    → (tells → told → AreAnswers args env held before later old mid answers)
+pub performs : {T E : Type 0} (tells told holds X : Type 0) (r : Result T E) (args : Args) (env : Env) (first asked prepared last : Contents) (before later : ℕ) (old mid new : List Call) (answers : Answers) (mute now : Bool)
+    → (tells → told → AreAnswers args env first before later old mid answers)
     → (IsTrue mute ⊎ X → IsTrue now)
-    → OnOk r (args.print_command_list ≡ false → mute ≡ false → tells → Follows args answers (string_bytes env.rustup) mid new)
-    → OnOk r (args.print_command_list ≡ false → now ≡ false → tells → told → Performs args env held before old new)
-performs tells told X r args env held before later old mid new answers mute now asked noted follows =
-    on_ok (args.print_command_list ≡ false → mute ≡ false → tells → Follows args answers (string_bytes env.rustup) mid new)
-    (args.print_command_list ≡ false → now ≡ false → tells → told → Performs args env held before old new) r
-    (λ f listed quiet t u. record { answers = answers; now = later; mid = mid; asked = asked t u; follows = f listed (quiet_before X mute now noted quiet) t }) follows
+    → (told → holds) → OnOk answers.loaded (told → KeepsAll first asked) → (told → args.remove_dev_deps ≡ true → KeepsAll prepared last)
+    → OnOk r (args.print_command_list ≡ false → mute ≡ false → tells → holds → Follows args answers (string_bytes env.rustup) asked prepared mid new)
+    → OnOk r (args.print_command_list ≡ false → now ≡ false → tells → told → Performs args env first last before old new)
+performs tells told holds X r args env first asked prepared last before later old mid new answers mute now answered noted held whole stay follows =
+    on_ok (args.print_command_list ≡ false → mute ≡ false → tells → holds → Follows args answers (string_bytes env.rustup) asked prepared mid new)
+    (args.print_command_list ≡ false → now ≡ false → tells → told → Performs args env first last before old new) r
+    (λ f listed quiet t u.
+    let g = f listed (quiet_before X mute now noted quiet) t (held u) in
+    let same : KeepsAll first asked = subst (λ (a : Result Loaded ContextFault). OnOk a (told → KeepsAll first asked)) g.context.1 whole u in
+    record { answers = answers; now = later; mid = mid; asked = answered t u; follows = moved args answers (string_bytes env.rustup) first asked prepared last mid new same (stay u) g }) follows
 
 -- a call that told no error in the end came to no fault
 pub comes : {T E : Type 0} (X : Type 0) (r : Result T E) (before now : Term) → OnOk r (before.error ≡ false → X) → OnOk r (now ≡ before) → OnErr r (now.error ≡ true) → now.error ≡ false → X
@@ -70,19 +93,19 @@ told_fault (Ok v) now told is = absurd (cc)
 told_fault (Err e) now told is = told
 
 -- what arguments ask for was done
-pub obeys : {T E : Type 0} (tells told quiet : Type 0) (r : Result T E) (args : Args) (answer : Parsed) (env : Env) (held : Contents) (before : ℕ) (old new : List Call) → answer ≡ parsed.Args args
-    → OnOk r (args.print_command_list ≡ false → quiet → tells → told → Performs args env held before old new)
-    → OnOk r (quiet → tells → told → Obeys answer env held before old new)
-obeys tells told quiet r args answer env held before old new is performed =
-    subst (λ (a : Parsed). OnOk r (quiet → tells → told → Obeys a env held before old new)) (sym is)
-    (on_ok (args.print_command_list ≡ false → quiet → tells → told → Performs args env held before old new)
-    (quiet → tells → told → args.print_command_list ≡ false → Performs args env held before old new) r (λ f q t u listed. f listed q t u) performed)
+pub obeys : {T E : Type 0} (tells told quiet : Type 0) (r : Result T E) (args : Args) (answer : Parsed) (env : Env) (held last : Contents) (before : ℕ) (old new : List Call) → answer ≡ parsed.Args args
+    → OnOk r (args.print_command_list ≡ false → quiet → tells → told → Performs args env held last before old new)
+    → OnOk r (quiet → tells → told → Obeys answer env held last before old new)
+obeys tells told quiet r args answer env held last before old new is performed =
+    subst (λ (a : Parsed). OnOk r (quiet → tells → told → Obeys a env held last before old new)) (sym is)
+    (on_ok (args.print_command_list ≡ false → quiet → tells → told → Performs args env held last before old new)
+    (quiet → tells → told → args.print_command_list ≡ false → Performs args env held last before old new) r (λ f q t u listed. f listed q t u) performed)
 
 -- the words were read, and what they ask for was done
-pub done : {T E : Type 0} (tells told quiet : Type 0) (r : Result T E) (words : List Name) (env : Env) (held : Contents) (before : ℕ) (old mid new : List Call) (rustup : Rustup) (answer : Parsed) (notes : List Note)
+pub done : {T E : Type 0} (tells told quiet : Type 0) (r : Result T E) (words : List Name) (env : Env) (held last : Contents) (before : ℕ) (old mid new : List Call) (rustup : Rustup) (answer : Parsed) (notes : List Note)
     → IsAnswer (around_of env rustup) (ComesTo (around_of env rustup) words) answer notes → (tells → MayAdd (rustup_asked (string_bytes env.rustup)) old mid)
-    → OnOk r (quiet → tells → told → Obeys answer env held before mid new)
-    → OnOk r (quiet → tells → told → IsDone words env held before old new)
-done tells told quiet r words env held before old mid new rustup answer notes read asked obeyed =
-    on_ok (quiet → tells → told → Obeys answer env held before mid new) (quiet → tells → told → IsDone words env held before old new) r
+    → OnOk r (quiet → tells → told → Obeys answer env held last before mid new)
+    → OnOk r (quiet → tells → told → IsDone words env held last before old new)
+done tells told quiet r words env held last before old mid new rustup answer notes read asked obeyed =
+    on_ok (quiet → tells → told → Obeys answer env held last before mid new) (quiet → tells → told → IsDone words env held last before old new) r
     (λ f q t u. record { rustup = rustup; answer = answer; notes = notes; mid = mid; asked = asked t; read = read; obeyed = f q t u }) obeyed

@@ -1,5 +1,5 @@
 -- What a call did that told no error.
-use Rattle.std.specs.Prelude.{◌≡◌, ◌∷◌, [], ℕ, false, List, Option, Result, codes, string_bytes}
+use Rattle.std.specs.Prelude.{◌≡◌, ◌∷◌, [], ℕ, false, true, List, Option, Result, codes, string_bytes}
 use Rattle.std.proofs.Common.{Global, String}
 use Rattle.hack_features.specs.Names.{Name}
 use Rattle.hack_files.specs.Files.{Contents}
@@ -23,6 +23,8 @@ use Rattle.hack_rules.specs.CliFaults.{Fault}
 use Rattle.hack_runs.specs.Commands.{plain_command}
 use Rattle.hack_runs.specs.View.{PlanView}
 use Rattle.hack_calls.specs.Made.{IsPlanOf}
+use Rattle.hack_prepare.specs.Prepared.{IsPrepared}
+use Rattle.hack_prepare.specs.PreparedView.{members_in, wanted_in}
 use Rattle.hack_run.specs.Questions.{AsksStable, rustup_asked}
 use Rattle.hack_run.specs.Runs.{RunsAll}
 
@@ -37,39 +39,41 @@ pub record IsPlanned (cx : ContextRecord) (rustup : Name) (tells : Type 0) (old 
   pub asked : tells → AsksStable rustup stable old new
   pub planned : IsPlanOf cx.args.subcommand stable cx rustup plan notes
 
--- from these answers a context was made, from that a plan, and its whole schedule was run
-pub record Follows (args : Args) (answers : Answers) (rustup : Name) (old new : List Call) : Type 0 where
+-- From these answers a context was made, from that a plan, and its whole schedule was run. Edits that stay were made of what
+-- was held.
+pub record Follows (args : Args) (answers : Answers) (rustup : Name) (held last : Contents) (old new : List Call) : Type 0 where
   pub cx : ContextRecord
   pub plan : PlanView
   pub mid : List Call
   pub context : IsContextFrom args answers cx
   pub planned : IsPlanned cx rustup (Unit {0}) old mid plan
   pub runs : RunsAll plan args.partition mid new
+  pub edited : args.remove_dev_deps ≡ true → IsPrepared (wanted_in cx) (members_in cx) held last
 
 -- for these arguments the answers were told or read, and then followed
-pub record Performs (args : Args) (env : Env) (held : Contents) (before : ℕ) (old new : List Call) : Type 0 where
+pub record Performs (args : Args) (env : Env) (held last : Contents) (before : ℕ) (old new : List Call) : Type 0 where
   pub answers : Answers
   pub now : ℕ
   pub mid : List Call
   pub asked : AreAnswers args env held before now old mid answers
-  pub follows : Follows args answers (string_bytes env.rustup) mid new
+  pub follows : Follows args answers (string_bytes env.rustup) held last mid new
 
 -- cargo listed its commands
 abbrev pub ListsCommands : Name → List Call → List Call → Type 0
 ListsCommands cargo old new = Had (λ answer. IsSuccess answer.end) (asked_of false (plain_command cargo [] (codes "--list" ∷ []))) old new
 
 -- what words ask for was done: the schedule was run, unless it was to be listed; a text was printed; or cargo listed its commands
-abbrev pub Obeys : Parsed → Env → Contents → ℕ → List Call → List Call → Type 0
-Obeys (parsed.Args args) env held before old new = args.print_command_list ≡ false → Performs args env held before old new
-Obeys (parsed.Print text) env held before old new = new ≡ old
-Obeys parsed.List env held before old new = ListsCommands (string_bytes env.cargo) old new
+abbrev pub Obeys : Parsed → Env → Contents → Contents → ℕ → List Call → List Call → Type 0
+Obeys (parsed.Args args) env held last before old new = args.print_command_list ≡ false → Performs args env held last before old new
+Obeys (parsed.Print text) env held last before old new = new ≡ old
+Obeys parsed.List env held last before old new = ListsCommands (string_bytes env.cargo) old new
 
 -- the words were read, where rustup's version was asked for at most, and what they ask for was done
-pub record IsDone (words : List Name) (env : Env) (held : Contents) (before : ℕ) (old new : List Call) : Type 0 where
+pub record IsDone (words : List Name) (env : Env) (held last : Contents) (before : ℕ) (old new : List Call) : Type 0 where
   pub rustup : Rustup
   pub answer : Parsed
   pub notes : List Note
   pub mid : List Call
   pub asked : MayAdd (rustup_asked (string_bytes env.rustup)) old mid
   pub read : IsAnswer (around_of env rustup) (ComesTo (around_of env rustup) words) answer notes
-  pub obeyed : Obeys answer env held before mid new
+  pub obeyed : Obeys answer env held last before mid new

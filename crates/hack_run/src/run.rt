@@ -45,9 +45,10 @@ pub fn run<F: Files, C: Caller, O: Write, E: Write>(
         (C.calls runner.old) (C.calls runner.new)) }
 
     // Where no error was told, what the words ask for was done: the calls end with those of the
-    // whole schedule of the plan, for what was told and read in this call.
+    // whole schedule of the plan, for what was told and read in this call. Under
+    // `--remove-dev-deps` each manifest that is edited holds its edit, and all else what it held.
     ensures done { term.new.error ≡ false → C.tells → F.tells → IsDone (names_of words.now)
-        env.now (F.bytes_at files.old) (F.failed files.old)
+        env.now (F.bytes_at files.old) (F.bytes_at files.new) (F.failed files.old)
         (C.calls runner.old) (C.calls runner.new) }
 
     // Files come back: unless the words ask for edits that stay, each path holds what it held, but
@@ -75,8 +76,8 @@ fn read<F: Files, C: Caller, O: Write, E: Write>(
         × (C.tells → MayAdd (rustup_asked (string_bytes env.now.rustup))
         (C.calls runner.old) (C.calls runner.new)) }
     ensures done { OnOk result (term.new.error ≡ false → C.tells → F.tells
-        → IsDone (names_of words.now) env.now (F.bytes_at files.old) (F.failed files.old)
-        (C.calls runner.old) (C.calls runner.new)) }
+        → IsDone (names_of words.now) env.now (F.bytes_at files.old) (F.bytes_at files.new)
+        (F.failed files.old) (C.calls runner.old) (C.calls runner.new)) }
     ensures back { RestoresEdits env.now (names_of words.now) → F.tells → LeavesFew (Unit {0})
         (F.bytes_at files.old) (F.bytes_at files.new) (F.failed files.old) (F.failed files.new) }
 {
@@ -113,8 +114,8 @@ fn obey<F: Files, C: Caller, O: Write, E: Write>(
     err: &mut E,
 ) -> Result<(), RunFault>
     ensures done { OnOk result (term.new.error ≡ false → C.tells → F.tells
-        → Obeys parsed env.now (F.bytes_at files.old) (F.failed files.old)
-        (C.calls runner.old) (C.calls runner.new)) }
+        → Obeys parsed env.now (F.bytes_at files.old) (F.bytes_at files.new)
+        (F.failed files.old) (C.calls runner.old) (C.calls runner.new)) }
     ensures back { ComesBack parsed → F.tells → LeavesFew (Unit {0})
         (F.bytes_at files.old) (F.bytes_at files.new) (F.failed files.old) (F.failed files.new) }
 {

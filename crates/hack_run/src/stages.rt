@@ -7,8 +7,8 @@ ghost use Rattle.hack_load.specs.Answers.{IsLoaded};
 ghost use Rattle.hack_load.specs.ContextOf.{IsContextFrom};
 ghost use Rattle.hack_load.specs.ContextView.{context_view};
 ghost use Rattle.hack_load.specs.LeavesFew.{LeavesFew};
-ghost use Rattle.hack_prepare.specs.Prepared.{HoldTexts};
-ghost use Rattle.hack_prepare.specs.PreparedView.{members_in};
+ghost use Rattle.hack_prepare.specs.Prepared.{HoldTexts, IsPrepared};
+ghost use Rattle.hack_prepare.specs.PreparedView.{members_in, wanted_in};
 ghost use Rattle.hack_prepare.specs.Steps.{Grows};
 ghost use Rattle.hack_run.specs.Runs.{RunsAll};
 ghost use Rattle.hack_run.specs.Whole.{Follows, IsPlanned, Performs};
@@ -42,8 +42,8 @@ pub(crate) fn perform<F: Files, C: Caller, O: Write, E: Write>(
     err: &mut E,
 ) -> Result<(), RunFault>
     ensures done { OnOk result (args.print_command_list ≡ false → term.new.error ≡ false
-        → C.tells → F.tells → Performs args env.now (F.bytes_at files.old) (F.failed files.old)
-        (C.calls caller.old) (C.calls caller.new)) }
+        → C.tells → F.tells → Performs args env.now (F.bytes_at files.old) (F.bytes_at files.new)
+        (F.failed files.old) (C.calls caller.old) (C.calls caller.new)) }
     ensures back { args.remove_dev_deps ≡ false → F.tells → LeavesFew (Unit {0})
         (F.bytes_at files.old) (F.bytes_at files.new) (F.failed files.old) (F.failed files.new) }
 {
@@ -79,8 +79,11 @@ fn follow<F: Files, C: Caller, O: Write, E: Write>(
     err: &mut E,
 ) -> Result<(), RunFault>
     ensures done { OnOk result (args.print_command_list ≡ false → term.new.error ≡ false → C.tells
+        → (F.tells × IfOk answers.loaded (IsLoaded F.tells (F.bytes_at files.old) env.now))
         → Follows args answers (string_bytes env.now.rustup)
-        (C.calls caller.old) (C.calls caller.new)) }
+        (F.bytes_at files.old) (F.bytes_at files.new) (C.calls caller.old) (C.calls caller.new)) }
+    ensures unkept { manager.old.needs_restore ≡ false
+        → registered manager.new ≡ registered manager.old }
     ensures grows { Grows (F.failed files.old) (F.failed files.new) }
     ensures safe { F.tells → IfOk answers.loaded (IsLoaded F.tells (F.bytes_at files.old) env.now)
         → manager.old.needs_restore ≡ true
@@ -123,6 +126,12 @@ fn edit<F: Files, E: Write>(
     err: &mut E,
 ) -> Result<(), RunFault>
     ensures grows { Grows (F.failed files.old) (F.failed files.new) }
+    ensures prepared { OnOk result (F.tells
+        → HoldTexts (F.bytes_at files.old) (members_in (context_view cx.now))
+        → IsPrepared (wanted_in (context_view cx.now)) (members_in (context_view cx.now))
+        (F.bytes_at files.old) (F.bytes_at files.new)) }
+    ensures unkept { manager.old.needs_restore ≡ false
+        → registered manager.new ≡ registered manager.old }
     ensures safe { F.tells → HoldTexts (F.bytes_at files.old) (members_in (context_view cx.now))
         → manager.old.needs_restore ≡ true
         → AreSafe (registered manager.old) (F.bytes_at files.old) (F.bytes_at files.old)

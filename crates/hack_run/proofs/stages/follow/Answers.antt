@@ -1,4 +1,5 @@
-use Rattle.std.proofs.Common.{◌≡◌, false, string_bytes}
+use Rattle.std.proofs.Common.{◌≡◌, false, IfOk, string_bytes}
+use Rattle.hack_load.specs.Answers.{IsLoaded}
 use Rattle.hack_load.specs.ContextView.{context_view}
 use Rattle.hack_prepare.proofs.HeldLemmas.{loaded-holds}
 use Rattle.hack_run.proofs.WholeLemmas.{follows}
@@ -6,8 +7,12 @@ use Rattle.hack_run.proofs.stages.follow.Goals as goal
 
 pub returns-clause-done : goal.returns-clause-done
 returns-clause-done g c =
-    follows g.C.Caller.tells (c.run_plan.new.term.error ≡ false) c.run_plan.result c.args.args c.args-2.result.now c.args.answers (string_bytes c.args.env.now.rustup)
-    (g.C.Caller.calls c.args.caller.now) (g.C.Caller.calls c.plan.new.caller) (g.C.Caller.calls c.run_plan.new.caller) (context_view c.in_ok-cx.cx) c.in_ok-plan.plan
+    let held = g.F.Files.bytes_at c.args.files.now in
+    let cx = context_view c.in_ok-cx.cx in
+    follows g.C.Caller.tells (g.F.Files.tells × IfOk c.args.answers.loaded (IsLoaded g.F.Files.tells held c.args.env.now)) (c.run_plan.new.term.error ≡ false) c.run_plan.result c.args.args c.args-2.result.now
+    c.args.answers (string_bytes c.args.env.now.rustup) held (g.F.Files.bytes_at c.edit.new.files)
+    (g.C.Caller.calls c.args.caller.now) (g.C.Caller.calls c.plan.new.caller) (g.C.Caller.calls c.run_plan.new.caller) cx c.in_ok-plan.plan
+    (λ u. c.in_ok-edit.ensures.prepared u.0 (loaded-holds g.F.Files.tells held c.args.env.now c.args.args c.args.answers cx u.0 u.1 c.in_ok-cx.ensures))
     c.in_ok-cx.ensures c.args-2.ensures c.in_ok-plan.ensures c.run_plan.ensures
 
 pub returns-in_err-edit-clause-safe : goal.returns-in_err-edit-clause-safe

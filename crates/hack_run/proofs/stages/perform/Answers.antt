@@ -1,16 +1,28 @@
 use Rattle.std.proofs.Common.{◌<◌, ◌∙◌, ap}
-use Rattle.std.specs.Prelude.{Bool, not}
+use Rattle.std.specs.Prelude.{Bool, IfOk, not}
+use Rattle.hack_load.specs.Answers.{IsLoaded}
 use Rattle.hack_files.specs.Restore.{registered}
-use Rattle.hack_run.proofs.BackLemmas.{leaves, safe_new}
+use Rattle.hack_run.proofs.BackLemmas.{brings_none, kept_none, leaves, safe_new, whole_keeps}
 use Rattle.hack_run.proofs.WholeLemmas.{performs}
 use Rattle.hack_run.proofs.stages.perform.Goals as goal
 
 pub returns-clause-done : goal.returns-clause-done
 returns-clause-done g c =
-    performs g.C.Caller.tells g.F.Files.tells (0 < c.finish.result) c.follow-came.result c.args.args c.args.env.now (g.F.Files.bytes_at c.args.files.now)
-    (g.F.Files.failed c.args.files.now) (g.F.Files.failed c.ask-answers.new.files) (g.C.Caller.calls c.args.caller.now) (g.C.Caller.calls c.ask-answers.new.caller) (g.C.Caller.calls c.follow-came.new.caller)
+    let first = g.F.Files.bytes_at c.args.files.now in
+    let asked = g.F.Files.bytes_at c.ask-answers.new.files in
+    let prepared = g.F.Files.bytes_at c.follow-came.new.files in
+    let last = g.F.Files.bytes_at c.finish.new.files in
+    let before = g.F.Files.failed c.args.files.now in
+    let later = g.F.Files.failed c.ask-answers.new.files in
+    performs g.C.Caller.tells g.F.Files.tells (g.F.Files.tells × IfOk c.ask-answers.result.loaded (IsLoaded g.F.Files.tells asked c.args.env.now)) (0 < c.finish.result) c.follow-came.result c.args.args c.args.env.now
+    first asked prepared last before later (g.C.Caller.calls c.args.caller.now) (g.C.Caller.calls c.ask-answers.new.caller) (g.C.Caller.calls c.follow-came.new.caller)
     c.ask-answers.result c.follow-came.new.term.error c.finish.new.term.error
-    c.ask-answers.ensures.asked c.finish.ensures.noted.1 c.follow-came.ensures.done
+    c.ask-answers.ensures.asked c.finish.ensures.noted.1 (λ t. (t, c.ask-answers.ensures.read)) (whole_keeps g.F.Files.tells first asked before later c.ask-answers.result.loaded c.ask-answers.ensures.whole)
+    (λ t stay. brings_none (registered c.follow-came.new.manager) prepared last c.finish.result
+    (kept_none c.new-manager.result c.ask-answers.new.manager c.follow-came.new.manager c.new-manager.ensures.nothing c.ask-answers.ensures.kept
+    (c.follow-came.ensures.unkept (c.ask-answers.ensures.needs ∙ c.new-manager.ensures.needs ∙ ap not stay)))
+    (c.finish.ensures.restored t))
+    c.follow-came.ensures.done
 
 pub returns-clause-back : goal.returns-clause-back
 returns-clause-back g c = λ kept t.
