@@ -1,6 +1,7 @@
 -- Trees side by side.
-use Rattle.std.proofs.Common.{◌≡◌, ℕ, suc, List, [], ◌∷◌, length, Bool, true, false, ◌&&◌, cond, refl, ap, ◌∙◌, arith, String, Global, BTreeMap, Ordering, Less, Equal, Greater, string_bytes, nat_cmp, is_eq, IsTrue}
-use Rattle.std.specs.Prelude.{◌↔◌}
+use Rattle.std.proofs.Common.{◌≡◌, ℕ, suc, List, [], ◌∷◌, length, Bool, true, false, ◌&&◌, cond, refl, ap, ◌∙◌, arith, String, Global, BTreeMap, Ordering, Less, Equal, Greater, string_bytes, nat_cmp, is_eq, IsTrue, Result, Ok, Err}
+use Rattle.std.specs.Prelude.{◌↔◌, IfOk, MatchResult}
+use Rattle.std.specs.List.{AllZip}
 use Rattle.std.specs.Cmp.Lexicographic.{slice_cmp}
 use Rattle.std.specs.Map.{remove_entry}
 use Rattle.std.specs.String.{string_cmp}
@@ -11,7 +12,7 @@ use Rattle.toml.proofs.Views.{Entry}
 use Rattle.hack_edits.specs.Tables.{remove_member, put}
 use Rattle.hack_edits.specs.DevTree.{is_empty_table}
 use Rattle.hack_edits.specs.Same.{same, same_items}
-use Rattle.toml.specs.View.{view, items_view, members_view}
+use Rattle.toml.specs.View.{view, items_view, members_view, table_view}
 use Rattle.toml.specs.declared.value.Value.{Value}
 
 and_false : (a b : Bool) → b ≡ false → (a && b) ≡ false
@@ -53,3 +54,16 @@ at (e ∷ es) false h = refl
 -- a table is empty exactly where its map is
 pub is_empty_table-map : (m : BTreeMap (String Global) Value) (b : Bool) → (IsTrue b ↔ (length m.entries ≡ 0)) → b ≡ is_empty_table (table (members_view m.entries))
 is_empty_table-map m b h = at m.entries b h
+
+-- entries whose parts are copies of others look alike
+copied-entries : (es fs : List Entry) → AllZip (λ (p q : Entry). (string_bytes q.0 ≡ string_bytes p.0) × (view q.1 ≡ view p.1)) es fs → members_view fs ≡ members_view es
+copied-entries [] [] h = refl
+copied-entries [] (f ∷ fs) h = absurd h
+copied-entries (e ∷ es) [] h = absurd h
+copied-entries (e ∷ es) (f ∷ fs) h = rw (h.0.0, h.0.1, copied-entries es fs h.1)
+
+-- a copy of a table looks like it
+pub copied-table : {E : Type 0} (r : Result (BTreeMap (String Global) Value) E) (m : BTreeMap (String Global) Value) (P : E → Type 0)
+    → MatchResult r (λ n. AllZip (λ (p q : Entry). (string_bytes q.0 ≡ string_bytes p.0) × (view q.1 ≡ view p.1)) m.entries n.entries) P → IfOk r (λ t. table_view t ≡ table_view m)
+copied-table (Ok n) m P h = copied-entries m.entries n.entries h
+copied-table (Err e) m P h = tt

@@ -13,9 +13,13 @@ use Rattle.hack_edits.specs.KeyPaths.{members_key}
 abbrev pub in_order : List Name → List Name
 in_order ps = fold (insert_key (slice_cmp nat_cmp)) [] ps
 
+-- the manifest that a member's text leads to
+unfoldable pub led_manifest : Name → Name → Name
+led_manifest root m = normal_of (join_of (join_of root m) (codes "Cargo.toml"))
+
 -- a member's text leads to the path of a manifest
 unfoldable pub leads : Name → Name → Name → Bool
-leads root m path = bytes_eq (normal_of (join_of (join_of root m) (codes "Cargo.toml"))) (normal_of path)
+leads root m path = bytes_eq (led_manifest root m) (normal_of path)
 
 -- the text leads to some path
 abbrev pub is_led : Name → Name → List Name → Bool

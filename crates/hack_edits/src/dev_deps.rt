@@ -23,7 +23,7 @@ use crate::lookup::{
     FEATURES, TARGET, feature_loses, feature_value, holds_dev, target_has_dev, targets_hold_dev,
     value_goes,
 };
-use crate::tables::tree_of;
+use crate::tables::{copy_of, tree_of};
 use hack_manifest::manifest::{Piece, Pieces};
 use hack_manifest::path::starts_table;
 use hack_manifest::pieces::cut;
@@ -50,9 +50,7 @@ pub fn remove_dev_deps(alloc: Global, text: &str) -> Result<String, ManifestFaul
         let same = String::from_str(alloc, text)?;
         return Ok(same);
     }
-    let Some(copy) = tree_of(alloc, text)? else {
-        return Err(ManifestFault::Toml);
-    };
+    let copy = copy_of(&old)?;
     without_dev_pieces(alloc, &old, copy, &cut)
 }
 

@@ -1,7 +1,7 @@
 //! Which members of a workspace are private crates, and which private crates no member's text leads
 //! to.
 
-ghost use Rattle.std.specs.Prelude.{◌≡◌, false, List, IfOk, OnOk};
+ghost use Rattle.std.specs.Prelude.{◌≡◌, false, List, IfOk, OnOk, string_bytes};
 ghost use Rattle.std.specs.List.{list_any};
 ghost use Rattle.std.specs.List.Sorted.{IsStrictlySortedBy};
 ghost use Rattle.std.specs.Str.{bytes_eq};
@@ -12,7 +12,7 @@ ghost use Rattle.std.specs.Ordering.{nat_cmp};
 ghost use Rattle.toml.specs.View.{view, table_view, array_view};
 ghost use Rattle.hack_process.specs.PathTexts.{texts};
 ghost use Rattle.hack_edits.specs.KeyPaths.{members_key};
-ghost use Rattle.hack_edits.specs.Members.{in_order, leads, is_led, unled, item_led, unled_by};
+ghost use Rattle.hack_edits.specs.Members.{in_order, leads, led_manifest, is_led, unled, item_led, unled_by};
 ghost use Rattle.hack_edits.specs.Members.{some_led, paths_left, items_at};
 
 use hack_manifest::lookup::value_at;
@@ -170,8 +170,12 @@ pub fn value_unled<'a>(
 fn leads_to_any(alloc: Global, root: &str, member: &str, paths: &[&str]) -> Result<bool, AllocError>
     ensures { IfOk result (λ b. b ≡ is_led root.now member.now (texts paths.now)) }
 {
+    if paths.is_empty() {
+        return Ok(false);
+    }
+    let manifest = manifest_of(alloc, root, member)?;
     for path in paths {
-        if leads_to(alloc, root, member, path)? {
+        if leads_to(alloc, manifest.as_str(), path)? {
             return Ok(true);
         }
     }
@@ -188,23 +192,35 @@ fn not_led<'a>(
     ensures { IfOk result (λ left. texts left.items ≡ unled root.now member.now (texts paths.now)) }
 {
     let mut left = Vec::new(alloc);
+    if paths.is_empty() {
+        return Ok(left);
+    }
+    let manifest = manifest_of(alloc, root, member)?;
     for path in paths {
-        if !leads_to(alloc, root, member, path)? {
+        if !leads_to(alloc, manifest.as_str(), path)? {
             left.push(*path)?;
         }
     }
     Ok(left)
 }
 
-/// Whether a member's text leads to the path of a manifest.
-fn leads_to(alloc: Global, root: &str, member: &str, path: &str) -> Result<bool, AllocError>
-    ensures { IfOk result (λ b. b ≡ leads root.now member.now path.now) }
+/// The manifest that a member's text leads to, as a path without detours.
+fn manifest_of(alloc: Global, root: &str, member: &str) -> Result<String, AllocError>
+    ensures { IfOk result (λ s. string_bytes s ≡ led_manifest root.now member.now) }
 {
     let folder = join(alloc, root, member)?;
     let manifest = join(alloc, folder.as_str(), "Cargo.toml")?;
     let found = normal(alloc, manifest.as_str())?;
+    Ok(found)
+}
+
+/// Whether a manifest to which a member's text leads is that of a path.
+fn leads_to(alloc: Global, manifest: &str, path: &str) -> Result<bool, AllocError>
+    ensures { IfOk result (λ b. (root member : Name) → manifest.now ≡ led_manifest root member
+        → b ≡ leads root member path.now) }
+{
     let wanted = normal(alloc, path)?;
-    Ok(found.as_str() == wanted.as_str())
+    Ok(manifest == wanted.as_str())
 }
 
 /// Copies of paths.

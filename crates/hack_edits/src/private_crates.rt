@@ -22,7 +22,7 @@ use crate::exclude::{added_inside, has_paths, with_exclude_line};
 use crate::fault::ManifestFault;
 use crate::key_paths::{is_header_of, is_pair};
 use crate::members::{Choice, MEMBERS, chosen, in_order};
-use crate::tables::tree_of;
+use crate::tables::{copy_of, tree_of};
 use crate::workspace_tree::{EXCLUDE, WORKSPACE, reads_as_expected};
 use hack_manifest::lookup::{find_table, has_values, value_at};
 use hack_manifest::manifest::Piece;
@@ -93,9 +93,7 @@ fn without_ordered(
     if any_control(private) {
         return Err(ManifestFault::PathText);
     }
-    let Some(copy) = tree_of(alloc, text)? else {
-        return Err(ManifestFault::Toml);
-    };
+    let copy = copy_of(&old)?;
     without_private(alloc, text, root, private, workspace, &choice, copy)
 }
 

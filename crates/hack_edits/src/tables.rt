@@ -24,6 +24,13 @@ pub fn tree_of(alloc: Global, text: &str) -> Result<Option<Table>, AllocError>
     }
 }
 
+/// A copy of a table.
+pub fn copy_of(table: &Table) -> Result<Table, AllocError>
+    ensures { IfOk result (λ t. table_view t ≡ table_view table.now) }
+{
+    table.clone()
+}
+
 /// A table without a key.
 pub fn without(table: Table, key: &str) -> Table
     ensures { table_view result ≡ remove_member key.now (table_view table) }

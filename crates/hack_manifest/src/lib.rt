@@ -8,4 +8,6 @@ pub mod manifest;
 mod package;
 pub mod path;
 pub mod pieces;
+mod places;
+mod plain;
 pub mod runs;

@@ -1,7 +1,7 @@
 //! The key path of a piece: that of its header, or of the last header and its own key.
 
 ghost use Rattle.std.specs.Prelude.{◌≡◌, ◌≤◌, ◌++◌, [], ◌∷◌, length, take, is_some};
-ghost use Rattle.std.specs.Prelude.{IfOk, OnOk, IfSome, IfNone};
+ghost use Rattle.std.specs.Prelude.{true, IfOk, OnOk, IfSome, IfNone};
 ghost use Rattle.toml.specs.Parse.{skip_bom};
 ghost use Rattle.toml.specs.View.{view, table_view};
 ghost use Rattle.hack_features.specs.Names.{names_of};
@@ -10,9 +10,11 @@ ghost use Rattle.hack_manifest.specs.Fronts.{IsFrontTo};
 ghost use Rattle.hack_manifest.specs.Paths.{chain, chain_of, chain_at, is_header};
 ghost use Rattle.hack_manifest.specs.Paths.{IsOwnKey, IsPath};
 
+use crate::plain::bare_name;
 use std::alloc::{AllocError, Global};
 use toml::{Table, Value};
 use toml_parser::text::{byte_at, first, skip_blank};
+use toml_parser::{Key, dotted_key};
 
 /// Puts the names along a value behind those before it.
 #[cycle(chain)]
@@ -42,7 +44,7 @@ fn push_chain(table: &Table, names: &mut Vec<String>) -> Result<(), AllocError>
 }
 
 /// The text without a byte order mark.
-fn skip_mark(text: &str) -> &str
+pub fn skip_mark(text: &str) -> &str
     ensures { result.now ≡ skip_bom text.now }
 {
     if first(text) == 0xEF && byte_at(text, 1) == 0xBB && byte_at(text, 2) == 0xBF {
@@ -84,6 +86,25 @@ fn names_in(alloc: Global, text: &str) -> Result<Option<Vec<String>>, AllocError
     }
 }
 
+/// The names of a document that is a key and `=0`, which `toml` needn't be asked for.
+fn key_names(alloc: Global, text: &str) -> Result<Option<Vec<String>>, AllocError>
+    ensures { IfOk result (λ o. IfSome o (λ names.
+        (stands text.now ≡ true) × (names_of names.items ≡ chain_at text.now))) }
+{
+    match dotted_key(alloc, skip_blank(skip_mark(text), true)) {
+        Ok((key, rest)) => {
+            if rest != "=0" {
+                return Ok(None);
+            }
+            let Key { path, last } = key;
+            let mut names = path;
+            names.push(last)?;
+            Ok(Some(names))
+        }
+        Err(_) => Ok(None),
+    }
+}
+
 /// The names of the front of n bytes, if it ends in `=` and stands with `0` behind it.
 fn front_names(alloc: Global, piece: &str, n: usize) -> Result<Option<Vec<String>>, AllocError>
     requires { n ≤ length piece.now }
@@ -94,9 +115,18 @@ fn front_names(alloc: Global, piece: &str, n: usize) -> Result<Option<Vec<String
     if n == 0 || piece.as_bytes()[n - 1] != b'=' {
         return Ok(None);
     }
-    let mut front = String::from_str(alloc, &piece[..n])?;
+    if let Some(name) = bare_name(skip_blank(skip_mark(&piece[..n]), true)) {
+        let mut names = Vec::new(alloc);
+        names.push(String::from_str(alloc, name)?)?;
+        return Ok(Some(names));
+    }
+    let mut front = String::with_capacity(alloc, n + 1)?;
+    front.push_str(&piece[..n])?;
     front.push_str("0")?;
-    names_in(alloc, front.as_str())
+    match key_names(alloc, front.as_str())? {
+        Some(names) => Ok(Some(names)),
+        None => names_in(alloc, front.as_str()),
+    }
 }
 
 /// The own key of a piece: the names before its first `=`.
@@ -135,6 +165,7 @@ pub fn path_of(alloc: Global, header: &[String], piece: &str) -> Result<Vec<Stri
     }
     let mut path = Vec::new(alloc);
     push_all(&mut path, header)?;
-    push_all(&mut path, &own_key(alloc, piece)?)?;
+    let mut own = own_key(alloc, piece)?;
+    path.append(&mut own)?;
     Ok(path)
 }

@@ -1,8 +1,12 @@
 //! Runs of whole lines that `toml` reads by themselves: where the first piece of a text ends.
 
-ghost use Rattle.std.specs.Prelude.{◌≡◌, ◌↔◌, ◌≤◌, false, IsTrue, IfOk, IfSome, IfNone, length};
+ghost use Rattle.std.specs.Prelude.{◌≡◌, ◌↔◌, ◌≤◌, false, IsTrue, IfOk, IfSome, IfNone, length, take};
 ghost use Rattle.hack_manifest.specs.Runs.{stands, IsLines, IsRun, IsFirstRun, HasNoRun};
+ghost use Rattle.hack_manifest.specs.Places.{behind};
+ghost use Rattle.hack_manifest.specs.declared.places.Place.TheVariants.{Start};
 
+use crate::places::{Place, may_stand, step};
+use crate::plain::is_plain_pair;
 use std::alloc::{AllocError, Global};
 
 /// Whether `toml` reads the text by itself as a document with a nonempty tree.
@@ -29,14 +33,29 @@ fn ends_line(text: &str, n: usize) -> bool
     n != 0 && (n == text.len() || text.as_bytes()[n - 1] == b'\n')
 }
 
-/// Whether the first n bytes are whole lines that stand.
-fn run_stands(alloc: Global, text: &str, n: usize) -> Result<bool, AllocError>
-    requires { n ≤ length text.now }
+/// Whether a text stands, where its bytes lead to this place.
+fn stands_at(alloc: Global, place: Place, text: &str) -> Result<bool, AllocError>
+    requires { place ≡ behind Start text.now }
+    ensures { IfOk result (λ b. b ≡ stands text.now) }
+{
+    if !may_stand(place) {
+        return Ok(false);
+    }
+    if is_plain_pair(alloc, text) {
+        return Ok(true);
+    }
+    stands_alone(alloc, text)
+}
+
+/// Whether the first n bytes, which lead to this place, are whole lines that stand.
+fn run_stands(alloc: Global, place: Place, text: &str, n: usize) -> Result<bool, AllocError>
+    requires within { n ≤ length text.now }
+    requires place { place ≡ behind Start (take n text.now) }
     ensures yes { IfOk result (λ b. IsTrue b → IsRun text.now n) }
     ensures no { IfOk result (λ b. b ≡ false → IsRun text.now n → ⊥) }
 {
     if ends_line(text, n) {
-        stands_alone(alloc, &text[..n])
+        stands_at(alloc, place, &text[..n])
     } else {
         Ok(false)
     }
@@ -47,8 +66,11 @@ pub fn first_run(alloc: Global, text: &str) -> Result<Option<usize>, AllocError>
     ensures found { IfOk result (λ o. IfSome o (IsFirstRun text.now)) }
     ensures none { IfOk result (λ o. IfNone o (HasNoRun text.now)) }
 {
-    for i in 0..text.len() {
-        if run_stands(alloc, text, i + 1)? {
+    let bytes = text.as_bytes();
+    let mut place = Place::Start;
+    for i in 0..bytes.len() {
+        place = step(place, bytes[i]);
+        if run_stands(alloc, place, text, i + 1)? {
             return Ok(Some(i + 1));
         }
     }

@@ -1,8 +1,10 @@
-//! For the bench: cuts the manifest on standard input as often as the words say (`pieces 100`), or
-//! loads a workspace of so many members that all have this manifest (`members 100`), over a caller
-//! and files in memory. Prints how many pieces there are, or how many members and candidates.
+//! For the bench: cuts the manifest on standard input as often as the words say (`pieces 100`), takes
+//! its development dependencies out (`edits 100`), or loads a workspace of so many members that all
+//! have this manifest (`members 100`), over a caller and files in memory. Prints how many pieces
+//! there are, how many bytes are left, or how many members and candidates there are.
 #![tactic(auto)]
 
+use hack_edits::manifest::remove_dev_deps;
 use hack_files::fs::{Files, MemoryFiles};
 use hack_files::restore::Manager;
 use hack_load::context::{Answers, Context};
@@ -24,6 +26,19 @@ fn cut(alloc: Global, text: &str, times: u32) -> Result<String, AllocError> {
         }
     }
     format!(in alloc; "{found} pieces")
+}
+
+/// How many bytes a text has without its development dependencies, over all times that they are
+/// taken out.
+fn edit(alloc: Global, text: &str, times: u32) -> Result<String, AllocError> {
+    let mut left = 0_usize;
+    for _ in 0..times {
+        match remove_dev_deps(alloc, text) {
+            Ok(new) => left = left.saturating_add(new.len()),
+            Err(fault) => return format!(in alloc; "{fault}"),
+        }
+    }
+    format!(in alloc; "{left} bytes")
 }
 
 /// The records of so many members, as cargo tells them.
@@ -123,13 +138,14 @@ fn load(alloc: Global, text: &str, members: u32) -> Result<String, AllocError> {
 /// What the words ask for.
 fn told(alloc: Global, words: &[String], text: &str) -> Result<String, AllocError> {
     let [what, count] = words else {
-        return String::from_str(alloc, "usage: load_bench pieces|members COUNT");
+        return String::from_str(alloc, "usage: load_bench pieces|edits|members COUNT");
     };
     let Ok(count) = count.as_str().parse::<u32>() else {
         return String::from_str(alloc, "the count is no number");
     };
     match what.as_str() {
         "pieces" => cut(alloc, text, count),
+        "edits" => edit(alloc, text, count),
         _ => load(alloc, text, count),
     }
 }
