@@ -7,15 +7,16 @@ use crate::start::{StartFault, coloring, env_of, words_of};
 use hack_files::fs::Disk;
 use hack_process::process::Child;
 use hack_run::run::run;
-use hack_term::term::Term;
+use hack_term::term::{Coloring, Term};
 use std::io;
 use std::io::{IsTerminal, Write};
 use std::process::ExitCode;
 
 fn main(rt: HostRuntime) -> ExitCode {
     let mut err = rt.stderr();
-    let mut term = Term::new(coloring(&rt, err.is_terminal()), false);
-    match call(&rt, &mut term, &mut err) {
+    let mut term = Term::new(Coloring::Auto, false);
+    let is_terminal = err.is_terminal();
+    match call(&rt, is_terminal, &mut term, &mut err) {
         Ok(status) => ExitCode::from(status),
         Err(fault) => {
             let _ = term.error(fault.text(), &mut err);
@@ -25,7 +26,13 @@ fn main(rt: HostRuntime) -> ExitCode {
 }
 
 /// Performs the call, with the streams of this process.
-fn call<E: Write>(rt: &HostRuntime, term: &mut Term, err: &mut E) -> Result<u8, StartFault> {
+fn call<E: Write>(
+    rt: &HostRuntime,
+    is_terminal: bool,
+    term: &mut Term,
+    err: &mut E,
+) -> Result<u8, StartFault> {
+    term.coloring = coloring(rt, is_terminal)?;
     let words = words_of(rt)?;
     let env = env_of(rt)?;
     Ok(run(

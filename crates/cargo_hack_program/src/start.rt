@@ -69,7 +69,7 @@ pub fn env_of<R: rt::Env + AllocGlobal>(rt: &R) -> Result<Env, StartFault> {
             vars.push((String::from_str(alloc, name)?, value))?;
         }
     }
-    Ok(Env::new(alloc, vars.as_slice(), current_dir(rt))?)
+    Ok(Env::new(alloc, vars.as_slice(), current_dir(rt)?)?)
 }
 
 /// The value of a variable, where it is set.
@@ -83,32 +83,40 @@ fn variable<R: rt::Env + AllocGlobal>(rt: &R, name: &str) -> Result<Option<Strin
 }
 
 /// The current folder, empty where it can't be read.
-fn current_dir<R: rt::Env + AllocGlobal>(rt: &R) -> String {
+fn current_dir<R: rt::Env + AllocGlobal>(rt: &R) -> Result<String, StartFault> {
     match env::current_dir(rt) {
-        Ok(path) => path.into_string(),
-        Err(_) => String::new(rt.alloc()),
+        Ok(path) => Ok(path.into_string()),
+        Err(error) => match error.kind() {
+            io::ErrorKind::OutOfMemory => Err(StartFault::Memory),
+            _ => Ok(String::new(rt.alloc())),
+        },
     }
 }
 
 /// What `--color auto` comes to: lines are coloured on a terminal that can, unless `NO_COLOR` is set.
-pub fn coloring<R: rt::Env + AllocGlobal>(rt: &R, is_terminal: bool) -> Coloring {
-    if is_terminal && can_color(rt) && !is_set(rt, "NO_COLOR") {
-        return Coloring::Always;
+pub fn coloring<R: rt::Env + AllocGlobal>(
+    rt: &R,
+    is_terminal: bool,
+) -> Result<Coloring, StartFault> {
+    if is_terminal && can_color(rt)? && !is_set(rt, "NO_COLOR")? {
+        return Ok(Coloring::Always);
     }
-    Coloring::Auto
+    Ok(Coloring::Auto)
 }
 
 /// Whether the terminal says of itself that it isn't a dumb one.
-fn can_color<R: rt::Env + AllocGlobal>(rt: &R) -> bool {
+fn can_color<R: rt::Env + AllocGlobal>(rt: &R) -> Result<bool, StartFault> {
     match env::var(rt, "TERM") {
-        Ok(name) => name.as_str() != "dumb",
-        Err(_) => false,
+        Ok(name) => Ok(name.as_str() != "dumb"),
+        Err(VarError::OutOfMemory) => Err(StartFault::Memory),
+        Err(_) => Ok(false),
     }
 }
 
-fn is_set<R: rt::Env + AllocGlobal>(rt: &R, name: &str) -> bool {
+fn is_set<R: rt::Env + AllocGlobal>(rt: &R, name: &str) -> Result<bool, StartFault> {
     match env::var(rt, name) {
-        Err(VarError::NotPresent) => false,
-        _ => true,
+        Err(VarError::NotPresent) => Ok(false),
+        Err(VarError::OutOfMemory) => Err(StartFault::Memory),
+        _ => Ok(true),
     }
 }

@@ -3,15 +3,25 @@
 ghost use Rattle.std.specs.Prelude.{◌≡◌, OnErr, OnOk, true};
 
 use crate::fault::RunFault;
+use hack_load::context::ContextFault;
+use hack_load::metadata::AskFault;
+use hack_process::process::ProcessFault;
 use hack_term::term::Term;
 use hack_versions::notice::Notice;
 use std::alloc::Global;
 use std::io::Write;
 
-/// Tells a fault.
+/// How another cargo or rustup is chosen.
+const CHOICE: &str =
+    "cargo is chosen by CARGO_HACK_CARGO_SRC or CARGO, and rustup by CARGO_HACK_RUSTUP";
+
+/// Tells a fault; before that of a program that isn't there, how another one is chosen.
 pub(crate) fn tell<E: Write>(alloc: Global, fault: &RunFault, term: &mut Term, err: &mut E)
     ensures { term.new ≡ record term.old { error = true } }
 {
+    if is_missing(fault) {
+        let _ = term.info(CHOICE, err);
+    }
     match format!(in alloc; "{fault}") {
         Ok(text) => {
             let _ = term.error(&text, err);
@@ -19,6 +29,25 @@ pub(crate) fn tell<E: Write>(alloc: Global, fault: &RunFault, term: &mut Term, e
         Err(_) => {
             let _ = term.error("out of memory", err);
         }
+    }
+}
+
+/// Whether it is that a program can't be started.
+fn is_missing(fault: &RunFault) -> bool {
+    match fault {
+        RunFault::Process(fault) => is_never_executed(fault),
+        RunFault::Context(ContextFault::Process(fault)) => is_never_executed(fault),
+        RunFault::Context(ContextFault::Asked(AskFault::Process(fault))) => {
+            is_never_executed(fault)
+        }
+        _ => false,
+    }
+}
+
+fn is_never_executed(fault: &ProcessFault) -> bool {
+    match fault {
+        ProcessFault::NeverExecuted(_) => true,
+        _ => false,
     }
 }
 

@@ -103,3 +103,18 @@ fn the_plan(rt: HostRuntime) -> Result<(), Fail> {
     ];
     answers(&rt, rt.alloc(), &rows)
 }
+
+const MISSING: Given<'static> = Given {
+    missing: &["cargo metadata --format-version=1 --no-deps"],
+    ..PLAIN
+};
+
+#[test]
+fn a_missing_program(rt: HostRuntime) -> Result<(), Fail> {
+    let rows = [(
+        MISSING,
+        "hack check",
+        "status 1\ncargo -vV\nrustup run stable cargo -vV\ncargo metadata --format-version=1 --no-deps\nerr\ninfo: cargo is chosen by CARGO_HACK_CARGO_SRC or CARGO, and rustup by CARGO_HACK_RUSTUP\nerror: could not execute process `cargo metadata --format-version=1 --no-deps` (never executed)\n",
+    )];
+    answers(&rt, rt.alloc(), &rows)
+}

@@ -20,6 +20,8 @@ pub struct Given<'a> {
     pub own: &'a str,
     /// Lines of commands that fail, with this status.
     pub fails: &'a [(&'a str, i32)],
+    /// Lines of commands whose program isn't there.
+    pub missing: &'a [&'a str],
     /// Lines of commands with what they write.
     pub answers: &'a [(&'a str, &'a str)],
     pub deny_warnings: bool,
@@ -35,6 +37,7 @@ pub const PLAIN: Given<'static> = Given {
     optional: "",
     own: "null",
     fails: &[],
+    missing: &[],
     answers: &[],
     deny_warnings: false,
     github_actions: false,
@@ -103,6 +106,9 @@ fn caller_of(alloc: Global, given: Given<'_>) -> Result<FakeCaller, AllocError> 
     for fail in given.fails {
         let (line, status) = *fail;
         caller.answer(line, End::Status(status), b"", b"")?;
+    }
+    for line in given.missing {
+        caller.answer(line, End::NeverStarted, b"", b"")?;
     }
     for answer in given.answers {
         let (line, text) = *answer;
