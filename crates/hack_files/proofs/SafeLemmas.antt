@@ -64,7 +64,7 @@ pub kept_now : (files : List Kept) (file : Kept) → is_kept (kept_too files fil
 kept_now files file =
     cond_both (is_kept files file.path) files (files ++ file ∷ []) (λ l. is_kept l file.path ≡ true) (λ took. took)
     (λ free. list_any_at (λ (f : Kept). bytes_eq f.path file.path) (files ++ file ∷ []) (length files) file (let long = length_push files file in omega arith)
-        ((bytes_eq-Decides _ _).1 (let P : Kept → Type 0 = λ f. f.path ≡ file.path in subst P (sym (get_or_push files file file (length files) (omega arith))) refl)))
+    ((bytes_eq-Decides _ _).1 (let P : Kept → Type 0 = λ f. f.path ≡ file.path in subst P (sym (get_or_push files file file (length files) (omega arith))) refl)))
 
 -- a path that isn't kept is none of theirs
 kept_none : (files : List Kept) (q : List ℕ) → is_kept files q ≡ false → Contains (paths files) q → ⊥
@@ -72,7 +72,7 @@ kept_none files q free has =
     let d : Kept = record { path = q; bytes = [] } in
     let lt : has.0 < length files = omega (arith, has.1, length-map files (λ (f : Kept). f.path)) in
     true≢false (sym (list_any_at (λ (f : Kept). bytes_eq f.path q) files has.0 d lt
-        ((bytes_eq-Decides _ _).1 (sym (get_or-map (λ (f : Kept). f.path) files has.0 d q lt) ∙ has.2))) ∙ free)
+    ((bytes_eq-Decides _ _).1 (sym (get_or-map (λ (f : Kept). f.path) files has.0 d q lt) ∙ has.2))) ∙ free)
 
 -- what is kept is written back: each path holds what it held at the start, but for those whose write failed
 pub safe_back : (files : List Kept) (spoilt : List (List ℕ)) (start mid new : Contents) → AreSafe files start mid → Back files spoilt mid new
