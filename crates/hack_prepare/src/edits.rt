@@ -1,7 +1,6 @@
 //! The edits of a manifest's text, told by the path of the manifest.
 
-ghost use Rattle.std.specs.Prelude.{◌≡◌, ◌++◌, IfErr, IfOk, OnOk, MatchBool, map, string_bytes};
-ghost use Rattle.toml.specs.Text.{has_items};
+ghost use Rattle.std.specs.Prelude.{IfErr, IfOk, string_bytes};
 ghost use Rattle.hack_process.specs.PathTexts.{texts};
 ghost use Rattle.hack_edits.specs.DevDeps.{IsWithoutDev};
 ghost use Rattle.hack_edits.specs.Members.{in_order};

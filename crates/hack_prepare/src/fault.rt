@@ -1,6 +1,6 @@
 //! Why manifests aren't edited.
 
-ghost use Rattle.std.specs.Prelude.{◌≡◌, IfErr};
+ghost use Rattle.std.specs.Prelude.{◌≡◌};
 ghost use Rattle.hack_prepare.specs.Faults.{IsEditFault, IsOfFile};
 
 use hack_edits::manifest::ManifestFault;
@@ -19,7 +19,7 @@ pub enum PrepareFault {
     /// A file can't be read or written.
     #[error("{0}")]
     Files(FsFault),
-    /// The manifest in the folder of the workspace is no TOML document.
+    /// A manifest is no TOML document.
     #[error("failed to parse manifest `{0}` as toml")]
     Toml(String),
     /// An inline table at `target` or under it holds development dependencies.
