@@ -1,0 +1,4 @@
+//! Files that survive any end of the program: a journal keeps what an edit replaces.
+#![tactic(auto)]
+
+pub mod journal;
