@@ -1,1 +1,4 @@
 pub mod TextLemmas
+mod ChangeLemmas
+pub mod SafeLemmas
+pub mod FinishLemmas

@@ -1,1 +1,3 @@
 pub mod Journal
+pub mod Safe
+pub mod SafeLaws
