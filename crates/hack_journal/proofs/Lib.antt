@@ -2,3 +2,4 @@ pub mod TextLemmas
 mod ChangeLemmas
 pub mod SafeLemmas
 pub mod FinishLemmas
+pub mod RecoverLemmas

@@ -4,6 +4,7 @@ ghost use Rattle.std.specs.Prelude.{◌≡◌, ◌↔◌, IsTrue, IfOk};
 ghost use Rattle.std.specs.Option.{option_map};
 ghost use Rattle.hack_journal.specs.Journal.{edit_of, edits_of};
 ghost use Rattle.hack_journal.specs.Safe.{Fits, Tells, first_of};
+ghost use Rattle.hack_journal.specs.Recover.{Agrees, IsOfCall, AreOfCall};
 
 use crate::journal::Entry;
 use std::alloc::{AllocError, Global};
@@ -64,5 +65,37 @@ pub fn first<'a>(entries: &'a [Entry], path: &str) -> Option<&'a Entry>
                 first(rest, path)
             }
         }
+    }
+}
+
+// Whether the first entry of a path, if there is one, has what this one has as held at first.
+fn agrees(first: Option<&Entry>, entry: &Entry) -> bool
+    ensures { IsTrue result ↔
+        Agrees (option_map (λ entry. edit_of entry.now) first.entry) (edit_of entry.now).held }
+{
+    match first {
+        Some(first) => same(first.held.as_deref(), entry.held.as_deref()),
+        None => true,
+    }
+}
+
+fn is_of_call(journal: &str, all: &[Entry], entry: &Entry) -> bool
+    ensures { IsTrue result ↔ IsOfCall journal.now (edits_of all.now) (edit_of entry.now) }
+{
+    if entry.path.as_str() == journal {
+        return false;
+    }
+    agrees(first(all, entry.path.as_str()), entry)
+}
+
+/// Whether these are entries as a call writes them whose entries are all: none is the journal's, and
+/// those of one path agree on what it held.
+pub fn are_of_call(journal: &str, all: &[Entry], entries: &[Entry]) -> bool
+    ensures { IsTrue result ↔
+        AreOfCall journal.now (edits_of all.now) (edits_of entries.now) }
+{
+    match entries {
+        [] => true,
+        [entry, rest @ ..] => { is_of_call(journal, all, entry) && are_of_call(journal, all, rest) }
     }
 }

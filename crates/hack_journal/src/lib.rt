@@ -5,3 +5,4 @@ mod contents;
 mod entries;
 pub mod journal;
 pub mod journaled;
+pub mod recover;
