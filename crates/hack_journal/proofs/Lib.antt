@@ -1,0 +1,5 @@
+pub mod TextLemmas
+mod ChangeLemmas
+pub mod SafeLemmas
+pub mod FinishLemmas
+pub mod RecoverLemmas

@@ -1,0 +1,5 @@
+use Rattle.std.proofs.Common.{length}
+use Rattle.hack_journal.proofs.entries.+first.Given as goal
+
+abbrev pub decreases-first : goal.decreases-first
+decreases-first l = length l.entries.now

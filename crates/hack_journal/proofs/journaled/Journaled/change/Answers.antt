@@ -1,0 +1,29 @@
+use Rattle.std.proofs.Common.{◌≢◌, string_bytes, inl}
+use Rattle.std.proofs.lemmas.Result.{err_from_is_err_and, on_ok_weaker, on_err_weaker}
+use Rattle.hack_journal.specs.SafeLaws.{stays_none, makes_none, stays_more}
+use Rattle.hack_journal.proofs.SafeLemmas.{hidden_put, hidden_alone, hidden_or_not, put_or_not_stays, unequal, at_either}
+use Rattle.hack_journal.proofs.journaled.Journaled.change.Goals as goal
+
+pub returns-then-eq-clause-stays : goal.returns-then-eq-clause-stays
+returns-then-eq-clause-stays g c = λ tells whole. stays_none _ _ _ _ _ _ (makes_none _ _)
+
+pub returns-in_err-keep-clause-refused : goal.returns-in_err-keep-clause-refused
+returns-in_err-keep-clause-refused g c =
+    let p = err_from_is_err_and c.from_residual.result c.from_residual.ensures.1 in
+    rw p.1 (λ whole. inl (hidden_alone _ _ _ _ _ (c.in_err-keep.ensures.hidden whole)))
+
+pub returns-clause-traced : goal.returns-clause-traced
+returns-clause-traced g c =
+    let ne : c.args.path.now ≢ string_bytes c.args.self.now.journal = unequal _ _ _ _ c.eq.ensures c.if-eq.false c.as_str.ensures.value in
+    on_ok_weaker c.put.result (λ makes whole. hidden_put _ _ _ _ _ _ _ _ _ ne (c.in_ok-keep.ensures.hidden whole) (makes whole)) c.put.ensures.traced
+
+pub returns-clause-refused : goal.returns-clause-refused
+returns-clause-refused g c =
+    let ne : c.args.path.now ≢ string_bytes c.args.self.now.journal = unequal _ _ _ _ c.eq.ensures c.if-eq.false c.as_str.ensures.value in
+    on_err_weaker c.put.result (λ makes whole. hidden_or_not _ _ _ _ _ _ _ _ _ ne (c.in_ok-keep.ensures.hidden whole) (makes whole)) c.put.ensures.refused
+
+pub returns-clause-stays : goal.returns-clause-stays
+returns-clause-stays g c = λ tells whole.
+    let ne : c.args.path.now ≢ string_bytes c.args.self.now.journal = unequal _ _ _ _ c.eq.ensures c.if-eq.false c.as_str.ensures.value in
+    let makes = at_either c.put.result _ _ _ _ _ c.put.ensures.traced c.put.ensures.refused whole in
+    stays_more _ _ _ _ _ _ _ _ _ _ (c.in_ok-keep.ensures.stays tells whole ne) (put_or_not_stays _ _ _ _ _ _ _ _ ne c.in_ok-keep.ensures.told makes)

@@ -1,0 +1,12 @@
+use Rattle.std.proofs.Common.{refl}
+use Rattle.hack_journal.specs.SafeLaws.{stays_none, makes_none}
+use Rattle.hack_journal.proofs.journaled.JournaledFiles.read.Goals as goal
+
+pub returns-then-eq-clause-stays : goal.returns-then-eq-clause-stays
+returns-then-eq-clause-stays g c = (refl, λ tells whole. stays_none _ _ _ _ _ _ (makes_none _ _))
+
+pub returns-in-Ok-clause-stays : goal.returns-in-Ok-clause-stays
+returns-in-Ok-clause-stays g c = (refl, λ tells whole. stays_none _ _ _ _ _ _ (c.read.ensures.untraced whole))
+
+pub returns-in-Err-clause-stays : goal.returns-in-Err-clause-stays
+returns-in-Err-clause-stays g c = (refl, λ tells whole. stays_none _ _ _ _ _ _ (c.read.ensures.untraced whole))

@@ -1,0 +1,4 @@
+pub mod Journal
+pub mod Safe
+pub mod SafeLaws
+pub mod Recover

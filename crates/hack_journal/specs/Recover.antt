@@ -1,0 +1,102 @@
+-- What an ended call had edited is put back.
+use Rattle.std.specs.Prelude.{◌≡◌, ◌≢◌, ◌⊎◌, ◌+◌, [], ◌∷◌, ℕ, List, Option, Some, None, string_bytes}
+use Rattle.std.specs.Str.{IsUtf8}
+use Rattle.hack_files.specs.Files.{Change, Contents, KeepsAll, KeepsOthers}
+use Rattle.hack_journal.specs.Journal.{Edit, spelling}
+use Rattle.hack_journal.specs.Safe.{Tells, AreBack, first_of, gives, without}
+use Rattle.hack_journal.specs.declared.recover.RecoverFault.{RecoverFault}
+use Rattle.hack_journal.specs.declared.recover.RecoverFault.TheVariants.{Memory, NotJournal, Changed, Files}
+
+-- an entry is of this path
+abbrev pub HasEntry : List Edit → List ℕ → Type 0
+HasEntry [] path = ⊥
+HasEntry (e ∷ es) path = (e.path ≡ path) ⊎ HasEntry es path
+
+-- the first entry of a path, if there is one, has this as what the path held
+abbrev pub Agrees : Option Edit → Option (List ℕ) → Type 0
+Agrees None held = Unit {0}
+Agrees (Some e) held = e.held ≡ held
+
+-- an entry as a call writes it: its path is text, and not the journal's, and all entries of a path agree on what it held
+abbrev pub IsOfCall : List ℕ → List Edit → Edit → Type 0
+IsOfCall journal all e = (e.path ≢ journal) × IsUtf8 e.path × Agrees (first_of all e.path) e.held
+
+-- each is one
+abbrev pub AreOfCall : List ℕ → List Edit → List Edit → Type 0
+AreOfCall journal all [] = Unit {0}
+AreOfCall journal all (e ∷ es) = IsOfCall journal all e × AreOfCall journal all es
+
+-- the path of each entry holds what it held at first, or what was written there
+abbrev pub AreTold : List Edit → List Edit → Contents → Type 0
+AreTold all es now = (path : List ℕ) → HasEntry es path → Tells all path (now path)
+
+-- what entries keep is put back, the first one first
+abbrev pub backs : List Edit → List Change
+backs [] = []
+backs (e ∷ es) = gives e.path e.held ∷ backs es
+
+-- so many paths hold something else than before
+pub data Differ : ℕ → Contents → Contents → Type 0 where
+  in_none : {old new : Contents} → KeepsAll old new → Differ 0 old new
+  in_one : {k : ℕ} {old mid new : Contents} (path : List ℕ) → new path ≢ old path → mid path ≡ new path → KeepsOthers path old mid → Differ k mid new → Differ (k + 1) old new
+
+-- what these entries keep was put back: no path had been changed by others, each holds what it held at first, so many held
+-- something else, no path but theirs was changed, and the journal is gone
+pub record Restored (journal : List ℕ) (edits : List Edit) (count : ℕ) (old new : Contents) : Type 0 where
+  pub text : old journal ≡ Some (spelling edits)
+  pub told : AreTold edits edits old
+  pub back : AreBack edits new
+  pub others : (path : List ℕ) → path ≢ journal → ¬ HasEntry edits path → new path ≡ old path
+  pub gone : new journal ≡ None
+  pub counted : Differ count (without journal old) (without journal new)
+
+-- no journal was there, and nothing was changed; or what its entries keep was put back
+abbrev pub IsRestored : List ℕ → ℕ → Contents → Contents → Type 0
+IsRestored journal count old new =
+    ((old journal ≡ None) × (count ≡ 0) × KeepsAll old new) ⊎ ((edits : List Edit) × Restored journal edits count old new)
+
+-- the journal's path holds a text that no call writes
+abbrev pub IsNoJournal : List ℕ → Contents → Type 0
+IsNoJournal journal old =
+    (text : List ℕ) × (old journal ≡ Some text) × ((edits : List Edit) → AreOfCall journal edits edits → text ≢ spelling edits)
+
+-- the journal has an entry of the path, and the path holds neither what it held at first nor what was written there
+abbrev pub HasChanged : List ℕ → List ℕ → Contents → Type 0
+HasChanged journal path old =
+    (edits : List Edit) × (old journal ≡ Some (spelling edits)) × HasEntry edits path × (¬ Tells edits path (old path))
+
+-- why nothing is put back, or not all
+abbrev pub IsWhy : List ℕ → Type 0 → Contents → RecoverFault → Type 0
+IsWhy journal tells old Memory = Unit {0}
+IsWhy journal tells old (NotJournal j) = (string_bytes j ≡ journal) × (tells → IsNoJournal journal old)
+IsWhy journal tells old (Changed p j) = (string_bytes j ≡ journal) × (tells → HasChanged journal (string_bytes p) old)
+IsWhy journal tells old (Files f) = Unit {0}
+
+-- the fault says that this path holds no journal; or memory ran out
+abbrev pub NamesNoJournal : List ℕ → RecoverFault → Type 0
+NamesNoJournal journal Memory = Unit {0}
+NamesNoJournal journal (NotJournal j) = string_bytes j ≡ journal
+NamesNoJournal journal (Changed p j) = ⊥
+NamesNoJournal journal (Files f) = ⊥
+
+-- why the journal isn't read
+abbrev pub IsWhyUnread : List ℕ → Type 0 → Contents → RecoverFault → Type 0
+IsWhyUnread journal tells old Memory = Unit {0}
+IsWhyUnread journal tells old (NotJournal j) = (string_bytes j ≡ journal) × (tells → IsNoJournal journal old)
+IsWhyUnread journal tells old (Changed p j) = ⊥
+IsWhyUnread journal tells old (Files f) = Unit {0}
+
+-- why a look at the paths of these entries ends
+abbrev pub IsWhyNotTold : List ℕ → Type 0 → List Edit → List Edit → Contents → RecoverFault → Type 0
+IsWhyNotTold journal tells all es old Memory = Unit {0}
+IsWhyNotTold journal tells all es old (NotJournal j) = ⊥
+IsWhyNotTold journal tells all es old (Changed p j) =
+    (string_bytes j ≡ journal) × HasEntry es (string_bytes p) × (tells → ¬ Tells all (string_bytes p) (old (string_bytes p)))
+IsWhyNotTold journal tells all es old (Files f) = Unit {0}
+
+-- the journal is refused: the fault is neither a file's nor want of memory
+abbrev pub IsRefusal : RecoverFault → Type 0
+IsRefusal Memory = ⊥
+IsRefusal (NotJournal j) = Unit {0}
+IsRefusal (Changed p j) = Unit {0}
+IsRefusal (Files f) = ⊥

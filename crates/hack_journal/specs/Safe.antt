@@ -1,0 +1,99 @@
+-- What a journal keeps while files are edited.
+use Rattle.std.specs.Prelude.{◌≡◌, ◌≢◌, ◌⊎◌, ◌++◌, [], ◌∷◌, ℕ, List, Option, Some, None, take, cond}
+use Rattle.std.specs.Str.{bytes_eq, IsUtf8}
+use Rattle.hack_files.specs.Files.{Change, Contents, after, Makes}
+use Rattle.hack_journal.specs.Journal.{Edit, spelling}
+
+-- a path is given these bytes, or removed
+abbrev pub gives : List ℕ → Option (List ℕ) → Change
+gives path bytes = record { path = path; bytes = bytes }
+
+-- ---- what entries tell
+
+-- the entry is the path's, and these bytes are what it held or what was written
+abbrev pub Fits : Edit → List ℕ → Option (List ℕ) → Type 0
+Fits e path bytes = (e.path ≡ path) × ((bytes ≡ e.held) ⊎ (bytes ≡ e.wrote))
+
+-- an entry of the path tells these bytes
+abbrev pub Tells : List Edit → List ℕ → Option (List ℕ) → Type 0
+Tells [] path bytes = ⊥
+Tells (e ∷ es) path bytes = Fits e path bytes ⊎ Tells es path bytes
+
+-- the first entry of a path
+abbrev pub first_of : List Edit → List ℕ → Option Edit
+first_of [] path = None
+first_of (e ∷ es) path = cond (bytes_eq e.path path) (Some e) (first_of es path)
+
+-- these bytes are what the path held at first: as its first entry tells it, or else as the path
+-- holds it now
+abbrev pub IsHeld : Option Edit → Option (List ℕ) → Option (List ℕ) → Type 0
+IsHeld None now held = now ≡ held
+IsHeld (Some e) now held = e.held ≡ held
+
+-- each entry's path holds what it held at first
+abbrev pub AreBack : List Edit → Contents → Type 0
+AreBack [] now = Unit {0}
+AreBack (e ∷ es) now = (now e.path ≡ e.held) × AreBack es now
+
+-- ---- safe files
+
+-- each entry keeps what its path held at first; the path is text, and not the journal's
+abbrev pub KeepFirst : List ℕ → Contents → List Edit → Type 0
+KeepFirst journal first [] = Unit {0}
+KeepFirst journal first (e ∷ es) = (first e.path ≡ e.held) × (e.path ≢ journal) × IsUtf8 e.path × KeepFirst journal first es
+
+-- the text of these entries is in the journal; of no entry there need be no journal
+abbrev pub IsJournalOf : List ℕ → Contents → List Edit → Type 0
+IsJournalOf journal now es = (now journal ≡ Some (spelling es)) ⊎ ((now journal ≡ None) × (es ≡ []))
+
+-- each path but the journal's holds what it held at first, or bytes that an entry of its path tells
+abbrev pub HoldFirstOrTold : List ℕ → Contents → List Edit → Contents → Type 0
+HoldFirstOrTold journal first es now = (q : List ℕ) → q ≢ journal → (now q ≡ first q) ⊎ Tells es q (now q)
+
+-- the journal has these entries, and each path holds what it held at first, or an entry of it keeps that
+pub record IsSafeBy (journal : List ℕ) (first : Contents) (entries : List Edit) (now : Contents) : Type 0 where
+  pub is_in : IsJournalOf journal now entries
+  pub keeps : KeepFirst journal first entries
+  pub holds : HoldFirstOrTold journal first entries now
+
+-- each path holds what it held at first, or the journal keeps that
+pub record IsSafe (journal : List ℕ) (first now : Contents) : Type 0 where
+  pub entries : List Edit
+  pub by : IsSafeBy journal first entries now
+
+-- the same of the entries in memory: the journal has all of them, and perhaps more, where a write of
+-- it failed and yet was made
+pub record IsJournaled (journal : List ℕ) (first : Contents) (entries : List Edit) (now : Contents) : Type 0 where
+  pub more : List Edit
+  pub is_in : IsJournalOf journal now (entries ++ more)
+  pub keeps : KeepFirst journal first (entries ++ more)
+  pub holds : HoldFirstOrTold journal first entries now
+
+-- changes were made, and after every front of them the files are safe
+pub record StaysSafe (journal : List ℕ) (first : Contents) (old_trace new_trace : List Change) (old new : Contents) : Type 0 where
+  pub added : List Change
+  pub makes : Makes added old_trace new_trace old new
+  pub fronts : (k : ℕ) → IsSafe journal first (after (take k added) old)
+
+-- whatever the paths held at first: from files that are journaled by changes that stay safe to files
+-- that are journaled
+abbrev pub Stays : List ℕ → List Edit → List Edit → List Change → List Change → Contents → Contents → Type 0
+Stays journal es fs old_trace new_trace old new =
+    (first : Contents) → IsJournaled journal first es old → StaysSafe journal first old_trace new_trace old new × IsJournaled journal first fs new
+
+-- ---- the files without the journal
+
+-- the changes but those of the journal
+abbrev pub but : List ℕ → List Change → List Change
+but journal [] = []
+but journal (c ∷ cs) = cond (bytes_eq c.path journal) (but journal cs) (c ∷ but journal cs)
+
+-- what the paths hold, as if the journal were not there
+abbrev pub without : List ℕ → Contents → Contents
+without journal m q = cond (bytes_eq journal q) None (m q)
+
+-- changes of the journal alone were made
+pub record Hidden (journal : List ℕ) (old_trace new_trace : List Change) (old new : Contents) : Type 0 where
+  pub added : List Change
+  pub makes : Makes added old_trace new_trace old new
+  pub journals : but journal added ≡ []

@@ -1,0 +1,85 @@
+//! What a path holds: its bytes, or that no file is there.
+
+ghost use Rattle.std.specs.Prelude.{◌≡◌, ◌↔◌, [], ◌∷◌, IfOk, OnOk, OnErr, IsTrue};
+ghost use Rattle.std.specs.Option.{option_map};
+ghost use Rattle.hack_files.specs.Files.{KeepsOthers, KeepsAll, Makes, MakesOrNot};
+ghost use Rattle.hack_journal.specs.Journal.{edit_of, edits_of};
+ghost use Rattle.hack_journal.specs.Safe.{AreBack, gives};
+
+use crate::entries::same;
+use crate::journal::Entry;
+use hack_files::fs::{FileFault, Files};
+use std::alloc::Global;
+
+/// What a path holds, or `None` where nothing is there.
+pub fn look<F: Files>(
+    alloc: Global,
+    files: &mut F,
+    path: &str,
+) -> Result<Option<Vec<u8>>, FileFault>
+    ensures held { IfOk result (λ held. F.tells →
+        F.bytes_at files.old path.now ≡ option_map (λ bytes. bytes.items) held) }
+    ensures same { F.tells → KeepsAll (F.bytes_at files.old) (F.bytes_at files.new) }
+    ensures untraced { F.whole → Makes [] (F.trace files.old) (F.trace files.new)
+        (F.bytes_at files.old) (F.bytes_at files.new) }
+{
+    if files.exists(path)? {
+        Ok(Some(files.read(alloc, path)?))
+    } else {
+        Ok(None)
+    }
+}
+
+/// Puts these bytes at a path, or removes what is there.
+pub fn put<F: Files>(files: &mut F, path: &str, bytes: Option<&[u8]>) -> Result<(), FileFault>
+    ensures put { OnOk result (F.tells →
+        F.bytes_at files.new path.now ≡ option_map (λ bytes. bytes.now) bytes.entry) }
+    ensures others { F.tells → KeepsOthers path.now (F.bytes_at files.old) (F.bytes_at files.new) }
+    ensures traced { OnOk result (F.whole →
+        Makes (gives path.now (option_map (λ bytes. bytes.now) bytes.entry) ∷ [])
+        (F.trace files.old) (F.trace files.new) (F.bytes_at files.old) (F.bytes_at files.new)) }
+    ensures refused { OnErr result (F.whole →
+        MakesOrNot (gives path.now (option_map (λ bytes. bytes.now) bytes.entry))
+        (F.trace files.old) (F.trace files.new) (F.bytes_at files.old) (F.bytes_at files.new)) }
+{
+    match bytes {
+        Some(bytes) => files.write(path, bytes),
+        None => files.remove(path),
+    }
+}
+
+// Whether the path of the entry holds what it held at first.
+fn is_back<F: Files>(alloc: Global, files: &mut F, entry: &Entry) -> Result<bool, FileFault>
+    ensures back { IfOk result (λ back. F.tells → IsTrue back ↔
+        (F.bytes_at files.old (edit_of entry.now).path ≡ (edit_of entry.now).held)) }
+    ensures same { F.tells → KeepsAll (F.bytes_at files.old) (F.bytes_at files.new) }
+    ensures untraced { F.whole → Makes [] (F.trace files.old) (F.trace files.new)
+        (F.bytes_at files.old) (F.bytes_at files.new) }
+{
+    let now = look(alloc, files, &entry.path)?;
+    Ok(same(now.as_deref(), entry.held.as_deref()))
+}
+
+/// Whether the paths of all these entries hold what they held at first.
+pub fn are_back<F: Files>(
+    alloc: Global,
+    files: &mut F,
+    entries: &[Entry],
+) -> Result<bool, FileFault>
+    ensures back { IfOk result (λ back. F.tells →
+        IsTrue back ↔ AreBack (edits_of entries.now) (F.bytes_at files.old)) }
+    ensures same { F.tells → KeepsAll (F.bytes_at files.old) (F.bytes_at files.new) }
+    ensures untraced { F.whole → Makes [] (F.trace files.old) (F.trace files.new)
+        (F.bytes_at files.old) (F.bytes_at files.new) }
+{
+    match entries {
+        [] => Ok(true),
+        [entry, rest @ ..] => {
+            if is_back(alloc, files, entry)? {
+                are_back(alloc, files, rest)
+            } else {
+                Ok(false)
+            }
+        }
+    }
+}

@@ -1,0 +1,224 @@
+//! The text of a journal: what each edited path held, and what was to be written there.
+//!
+//! A person can read it. Each line of a path or a file but the first stands behind a space, so a
+//! line that begins with a letter is the journal's own.
+
+ghost use Rattle.std.specs.Prelude.{◌≡◌, ◌++◌, ◌<◌, ◌≤◌, ℕ, List, Option, OnOk, IfOk, length};
+ghost use Rattle.std.specs.Prelude.{string_bytes};
+ghost use Rattle.std.specs.Option.{option_map};
+ghost use Rattle.std.specs.Str.{IsUtf8};
+ghost use Rattle.hack_journal.specs.Journal.{Edit, edit_of, edits_of, HaveTextPaths};
+ghost use Rattle.hack_journal.specs.Journal.{lines, content_text, edit_text, edits_text, spelling};
+ghost use Rattle.hack_journal.specs.Journal.{IsNext, Reads};
+
+use std::alloc::{AllocError, AllocFailed, Global};
+use thiserror::Error;
+
+/// What a path held before its first edit, and what an edit writes there. `None` is an absent file.
+#[derive(Debug, Drop, PartialEq, Eq)]
+pub struct Entry {
+    pub path: String,
+    pub held: Option<Vec<u8>>,
+    pub wrote: Option<Vec<u8>>,
+}
+
+/// Why a text isn't read as a journal.
+#[derive(Clone, Copy, Debug, PartialEq, Eq, Error)]
+pub enum JournalFault {
+    #[error("out of memory")]
+    Memory,
+    /// The text is not what `spell` writes of any entries.
+    #[error("not a journal of edited files")]
+    NotJournal,
+}
+
+impl From<AllocError> for JournalFault {
+    ghost use Rattle.std.specs.Prelude.{◌≡◌};
+    ghost use Rattle.hack_journal.specs.declared.journal.JournalFault.TheVariants.{Memory};
+
+    ghost from_gives = { λ _ e. e ≡ Memory };
+
+    fn from(_: AllocError) -> JournalFault {
+        JournalFault::Memory
+    }
+}
+
+impl<T: Drop> From<AllocFailed<T>> for JournalFault {
+    ghost use Rattle.std.specs.Prelude.{◌≡◌};
+    ghost use Rattle.hack_journal.specs.declared.journal.JournalFault.TheVariants.{Memory};
+
+    ghost from_gives = { λ _ e. e ≡ Memory };
+
+    fn from(_: AllocFailed<T>) -> JournalFault {
+        JournalFault::Memory
+    }
+}
+
+fn put_lines(text: &mut Vec<u8>, bytes: &[u8]) -> Result<(), AllocError>
+    ensures { OnOk result (text.new.items ≡ text.old.items ++ lines bytes.now) }
+{
+    for byte in bytes {
+        text.push(*byte)?;
+        if *byte == b'\n' {
+            text.push(b' ')?;
+        }
+    }
+    text.push(b'\n')?;
+    Ok(())
+}
+
+fn put_content(text: &mut Vec<u8>, bytes: Option<&[u8]>) -> Result<(), AllocError>
+    ensures { OnOk result (text.new.items ≡
+        text.old.items ++ content_text (option_map (λ bytes. bytes.now) bytes.entry)) }
+{
+    match bytes {
+        None => text.extend_from_slice(b" nothing\n"),
+        Some(bytes) => {
+            text.extend_from_slice(b"\n ")?;
+            put_lines(text, bytes)
+        }
+    }
+}
+
+fn put_entry(text: &mut Vec<u8>, entry: &Entry) -> Result<(), AllocError>
+    ensures { OnOk result (text.new.items ≡ text.old.items ++ edit_text (edit_of entry.now)) }
+{
+    text.extend_from_slice(b"path ")?;
+    put_lines(text, entry.path.as_bytes())?;
+    text.extend_from_slice(b"held")?;
+    put_content(text, entry.held.as_deref())?;
+    text.extend_from_slice(b"wrote")?;
+    put_content(text, entry.wrote.as_deref())?;
+    Ok(())
+}
+
+fn put_entries(text: &mut Vec<u8>, entries: &[Entry]) -> Result<(), AllocError>
+    ensures { OnOk result (text.new.items ≡ text.old.items ++ edits_text (edits_of entries.now)) }
+{
+    for entry in entries {
+        put_entry(text, entry)?;
+    }
+    text.extend_from_slice(b"end\n")
+}
+
+/// The text of a journal of these entries.
+pub fn spell(alloc: Global, entries: &[Entry]) -> Result<Vec<u8>, AllocError>
+    ensures { IfOk result (λ text. text.items ≡ spelling (edits_of entries.now)) }
+{
+    let mut text = Vec::new(alloc);
+    text.extend_from_slice(b"edited files\n")?;
+    put_entries(&mut text, entries)?;
+    Ok(text)
+}
+
+// The bytes of lines, and what is behind the line feed that ends them.
+fn lines_of(alloc: Global, text: &[u8]) -> Result<(Vec<u8>, &[u8]), JournalFault>
+    ensures shorter { IfOk result (λ x. length x.1.now < length text.now) }
+    ensures only { (bytes rest : List ℕ) → IsNext rest → text.now ≡ lines bytes ++ rest →
+        Reads {Y = List ℕ × List ℕ} (λ x. (x.0.items, x.1.now)) result (bytes, rest) }
+{
+    let mut bytes = Vec::new(alloc);
+    let mut left = text;
+    while let Some((byte, rest)) = left.split_first() {
+        if *byte != b'\n' {
+            bytes.push(*byte)?;
+            left = rest;
+        } else {
+            match rest.strip_prefix(b" ") {
+                Some(more) => {
+                    bytes.push(b'\n')?;
+                    left = more;
+                }
+                None => return Ok((bytes, rest)),
+            }
+        }
+    }
+    Err(JournalFault::NotJournal)
+}
+
+// The text of lines, and what is behind them.
+fn text_of(alloc: Global, text: &[u8]) -> Result<(String, &[u8]), JournalFault>
+    ensures shorter { IfOk result (λ x. length x.1.now < length text.now) }
+    ensures only { (bytes rest : List ℕ) → IsUtf8 bytes → IsNext rest →
+        text.now ≡ lines bytes ++ rest →
+        Reads {Y = List ℕ × List ℕ} (λ x. (string_bytes x.0, x.1.now)) result (bytes, rest) }
+{
+    let (bytes, rest) = lines_of(alloc, text)?;
+    match String::from_utf8(bytes) {
+        Ok(line) => Ok((line, rest)),
+        Err(_) => Err(JournalFault::NotJournal),
+    }
+}
+
+// What is behind this word.
+fn behind<'a>(text: &'a [u8], word: &[u8]) -> Result<&'a [u8], JournalFault>
+    ensures shorter { IfOk result (λ rest. length rest.now ≤ length text.now) }
+    ensures only { (rest : List ℕ) → text.now ≡ word.now ++ rest →
+        Reads (λ x. x.now) result rest }
+{
+    match text.strip_prefix(word) {
+        Some(rest) => Ok(rest),
+        None => Err(JournalFault::NotJournal),
+    }
+}
+
+// What a file held or is to hold, and what is behind it.
+fn content_of(alloc: Global, text: &[u8]) -> Result<(Option<Vec<u8>>, &[u8]), JournalFault>
+    ensures shorter { IfOk result (λ x. length x.1.now ≤ length text.now) }
+    ensures only { (bytes : Option (List ℕ)) (rest : List ℕ) → IsNext rest →
+        text.now ≡ content_text bytes ++ rest → Reads {Y = Option (List ℕ) × List ℕ}
+        (λ x. (option_map (λ bytes. bytes.items) x.0, x.1.now)) result (bytes, rest) }
+{
+    if let Some(rest) = text.strip_prefix(b" nothing\n") {
+        return Ok((None, rest));
+    }
+    let rest = behind(text, b"\n ")?;
+    let (bytes, rest) = lines_of(alloc, rest)?;
+    Ok((Some(bytes), rest))
+}
+
+// The first entry of a text, and what is behind it.
+fn entry_of(alloc: Global, text: &[u8]) -> Result<(Entry, &[u8]), JournalFault>
+    ensures shorter { IfOk result (λ x. length x.1.now < length text.now) }
+    ensures only { (edit : Edit) (rest : List ℕ) → IsUtf8 edit.path → IsNext rest →
+        text.now ≡ edit_text edit ++ rest →
+        Reads {Y = Edit × List ℕ} (λ x. (edit_of x.0, x.1.now)) result (edit, rest) }
+{
+    let rest = behind(text, b"path ")?;
+    let (path, rest) = text_of(alloc, rest)?;
+    let rest = behind(rest, b"held")?;
+    let (held, rest) = content_of(alloc, rest)?;
+    let rest = behind(rest, b"wrote")?;
+    let (wrote, rest) = content_of(alloc, rest)?;
+    Ok((Entry { path, held, wrote }, rest))
+}
+
+fn entries_of(alloc: Global, text: &[u8]) -> Result<Vec<Entry>, JournalFault>
+    ensures { (edits : List Edit) → HaveTextPaths edits → text.now ≡ edits_text edits →
+        Reads (λ x. edits_of x.items) result edits }
+{
+    let mut entries = Vec::new(alloc);
+    let mut left = text;
+    while left != b"end\n".as_slice() {
+        let (entry, rest) = entry_of(alloc, left)?;
+        entries.push(entry)?;
+        left = rest;
+    }
+    Ok(entries)
+}
+
+/// The entries of a journal's text. Reading the text of any entries gives those entries. A text
+/// that isn't whole is `NotJournal`, as any that `spell` does not write.
+pub fn read_back(alloc: Global, text: &[u8]) -> Result<Vec<Entry>, JournalFault>
+    ensures found { IfOk result (λ entries. text.now ≡ spelling (edits_of entries.items)) }
+    ensures only { (edits : List Edit) → HaveTextPaths edits → text.now ≡ spelling edits →
+        Reads (λ x. edits_of x.items) result edits }
+{
+    let rest = behind(text, b"edited files\n")?;
+    let entries = entries_of(alloc, rest)?;
+    let again = spell(alloc, &entries)?;
+    if again.as_slice() != text {
+        return Err(JournalFault::NotJournal);
+    }
+    Ok(entries)
+}

@@ -1,0 +1,382 @@
+//! Files that keep what they replace: before a path is changed, what it holds goes into a journal.
+//!
+//! Wherever the program ends, each path holds what it held at first, or the journal has it, and
+//! [`crate::recover::recover`] puts it back.
+
+ghost use Rattle.std.specs.Prelude.{◌≡◌, ◌≢◌, ◌++◌, ◌⊎◌, [], ◌∷◌, List, ℕ, None, false};
+ghost use Rattle.std.specs.Prelude.{IfOk, OnOk, OnErr, IsTrue, string_bytes};
+ghost use Rattle.std.specs.Option.{option_map};
+ghost use Rattle.hack_files.specs.Files.{Contents, Counts, GrowsBy, KeepsOthers, KeepsAll};
+ghost use Rattle.hack_files.specs.Files.{Makes, MakesOrNot, puts};
+ghost use Rattle.hack_journal.specs.Journal.{edit_of, edits_of, spelling};
+ghost use Rattle.hack_journal.specs.Safe.{Tells, first_of, IsHeld, AreBack, gives};
+ghost use Rattle.hack_journal.specs.Safe.{IsJournaled, Stays, Hidden, but, without};
+
+use crate::contents::{are_back, look, put};
+use crate::entries::{copy, first, tells};
+use crate::journal::{Entry, spell};
+use hack_files::fs::{FileFault, Files};
+use std::alloc::Global;
+
+/// Files over files, with a journal. The journal is none of the files: its path holds nothing, and
+/// can't be read or written.
+#[derive(Drop)]
+pub struct Journaled<F: Files> {
+    alloc: Global,
+    files: F,
+    journal: String,
+    entries: Vec<Entry>,
+    failures: u64,
+}
+
+// One more failure. The count stays at its greatest value.
+fn count_failure(failures: &mut u64)
+    ensures { GrowsBy 1 failures.old failures.new }
+{
+    *failures = failures.saturating_add(1);
+}
+
+impl<F: Files> Journaled<F> {
+    /// Files over these, of which nothing is kept yet, and of which no call has failed. The journal
+    /// is written to this path with the first change.
+    pub fn new(alloc: Global, files: F, journal: String) -> Self
+        ensures journal { string_bytes result.journal ≡ string_bytes journal }
+        ensures files { result.files ≡ files }
+        ensures failures { result.failures ≡ 0 }
+        ensures begun { F.bytes_at files (string_bytes journal) ≡ None →
+            IsJournaled (string_bytes result.journal) (F.bytes_at files)
+            (edits_of result.entries.items) (F.bytes_at result.files) }
+    {
+        Journaled {
+            alloc,
+            files,
+            journal,
+            entries: Vec::new(alloc),
+            failures: 0,
+        }
+    }
+
+    /// The files below. A journal that is still there stays.
+    pub fn into_inner(self) -> F
+        ensures { result ≡ self.files }
+    {
+        self.files
+    }
+
+    // What the path held before its first edit.
+    fn held_at_first(&mut self, path: &str) -> Result<Option<Vec<u8>>, FileFault>
+        ensures rest { self.new ≡ record self.old { files = self.new.files } }
+        ensures held { IfOk result (λ held. F.tells →
+            IsHeld (first_of (edits_of self.old.entries.items) path.now)
+            (F.bytes_at self.old.files path.now) (option_map (λ bytes. bytes.items) held)) }
+        ensures same { F.tells →
+            KeepsAll (F.bytes_at self.old.files) (F.bytes_at self.new.files) }
+        ensures untraced { F.whole → Makes [] (F.trace self.old.files) (F.trace self.new.files)
+            (F.bytes_at self.old.files) (F.bytes_at self.new.files) }
+    {
+        match first(&self.entries, path) {
+            Some(entry) => match copy(self.alloc, entry.held.as_deref()) {
+                Ok(held) => Ok(held),
+                Err(_) => Err(FileFault::Memory),
+            },
+            None => look(self.alloc, &mut self.files, path),
+        }
+    }
+
+    // The entry of a path that is to hold these bytes.
+    fn entry(&mut self, path: &str, bytes: Option<&[u8]>) -> Result<Entry, FileFault>
+        ensures rest { self.new ≡ record self.old { files = self.new.files } }
+        ensures path { IfOk result (λ entry. (edit_of entry).path ≡ path.now) }
+        ensures wrote { IfOk result (λ entry.
+            (edit_of entry).wrote ≡ option_map (λ bytes. bytes.now) bytes.entry) }
+        ensures held { IfOk result (λ entry. F.tells →
+            IsHeld (first_of (edits_of self.old.entries.items) path.now)
+            (F.bytes_at self.old.files path.now) (edit_of entry).held) }
+        ensures same { F.tells →
+            KeepsAll (F.bytes_at self.old.files) (F.bytes_at self.new.files) }
+        ensures untraced { F.whole → Makes [] (F.trace self.old.files) (F.trace self.new.files)
+            (F.bytes_at self.old.files) (F.bytes_at self.new.files) }
+    {
+        let held = self.held_at_first(path)?;
+        let Ok(wrote) = copy(self.alloc, bytes) else {
+            return Err(FileFault::Memory);
+        };
+        let Ok(path) = String::from_str(self.alloc, path) else {
+            return Err(FileFault::Memory);
+        };
+        Ok(Entry { path, held, wrote })
+    }
+
+    // Writes the journal of the entries.
+    fn write_journal(&mut self) -> Result<(), FileFault>
+        ensures rest { self.new ≡ record self.old { files = self.new.files } }
+        ensures others { F.tells → KeepsOthers (string_bytes self.old.journal)
+            (F.bytes_at self.old.files) (F.bytes_at self.new.files) }
+        ensures traced { OnOk result (F.whole → Makes
+            (puts (string_bytes self.old.journal) (spelling (edits_of self.old.entries.items)) ∷ [])
+            (F.trace self.old.files) (F.trace self.new.files)
+            (F.bytes_at self.old.files) (F.bytes_at self.new.files)) }
+        ensures refused { OnErr result (F.whole → MakesOrNot
+            (puts (string_bytes self.old.journal) (spelling (edits_of self.old.entries.items)))
+            (F.trace self.old.files) (F.trace self.new.files)
+            (F.bytes_at self.old.files) (F.bytes_at self.new.files)) }
+    {
+        let Ok(text) = spell(self.alloc, &self.entries) else {
+            return Err(FileFault::Memory);
+        };
+        self.files.write(self.journal.as_str(), &text)
+    }
+
+    // Writes a journal with this entry at its end.
+    fn append(&mut self, entry: Entry) -> Result<(), FileFault>
+        ensures rest { self.new ≡
+            record self.old { files = self.new.files; entries = self.new.entries } }
+        ensures added { OnOk result (edits_of self.new.entries.items ≡
+            edits_of self.old.entries.items ++ edit_of entry ∷ []) }
+        ensures kept { OnErr result (edits_of self.new.entries.items ≡
+            edits_of self.old.entries.items) }
+        ensures others { F.tells → KeepsOthers (string_bytes self.old.journal)
+            (F.bytes_at self.old.files) (F.bytes_at self.new.files) }
+        ensures traced { OnOk result (F.whole → Makes (puts (string_bytes self.old.journal)
+            (spelling (edits_of self.old.entries.items ++ edit_of entry ∷ [])) ∷ [])
+            (F.trace self.old.files) (F.trace self.new.files)
+            (F.bytes_at self.old.files) (F.bytes_at self.new.files)) }
+        ensures refused { OnErr result (F.whole → MakesOrNot (puts (string_bytes self.old.journal)
+            (spelling (edits_of self.old.entries.items ++ edit_of entry ∷ [])))
+            (F.trace self.old.files) (F.trace self.new.files)
+            (F.bytes_at self.old.files) (F.bytes_at self.new.files)) }
+    {
+        let Ok(()) = self.entries.push(entry) else {
+            return Err(FileFault::Memory);
+        };
+        match self.write_journal() {
+            Ok(()) => Ok(()),
+            Err(fault) => {
+                let _ = self.entries.pop();
+                Err(fault)
+            }
+        }
+    }
+
+    // Writes a journal with one more entry, of a path that is to hold these bytes.
+    fn note(&mut self, path: &str, bytes: Option<&[u8]>) -> Result<(), FileFault>
+        ensures rest { self.new ≡
+            record self.old { files = self.new.files; entries = self.new.entries } }
+        ensures told { OnOk result (Tells (edits_of self.new.entries.items) path.now
+            (option_map (λ bytes. bytes.now) bytes.entry)) }
+        ensures others { F.tells → KeepsOthers (string_bytes self.old.journal)
+            (F.bytes_at self.old.files) (F.bytes_at self.new.files) }
+        ensures hidden { F.whole → Hidden (string_bytes self.old.journal)
+            (F.trace self.old.files) (F.trace self.new.files)
+            (F.bytes_at self.old.files) (F.bytes_at self.new.files) }
+        ensures stays { F.tells → F.whole → path.now ≢ string_bytes self.old.journal →
+            Stays (string_bytes self.old.journal)
+            (edits_of self.old.entries.items) (edits_of self.new.entries.items)
+            (F.trace self.old.files) (F.trace self.new.files)
+            (F.bytes_at self.old.files) (F.bytes_at self.new.files) }
+    {
+        let entry = self.entry(path, bytes)?;
+        self.append(entry)
+    }
+
+    // Keeps what the path holds, unless an entry has these bytes.
+    fn keep(&mut self, path: &str, bytes: Option<&[u8]>) -> Result<(), FileFault>
+        ensures rest { self.new ≡
+            record self.old { files = self.new.files; entries = self.new.entries } }
+        ensures told { OnOk result (Tells (edits_of self.new.entries.items) path.now
+            (option_map (λ bytes. bytes.now) bytes.entry)) }
+        ensures others { F.tells → KeepsOthers (string_bytes self.old.journal)
+            (F.bytes_at self.old.files) (F.bytes_at self.new.files) }
+        ensures hidden { F.whole → Hidden (string_bytes self.old.journal)
+            (F.trace self.old.files) (F.trace self.new.files)
+            (F.bytes_at self.old.files) (F.bytes_at self.new.files) }
+        ensures stays { F.tells → F.whole → path.now ≢ string_bytes self.old.journal →
+            Stays (string_bytes self.old.journal)
+            (edits_of self.old.entries.items) (edits_of self.new.entries.items)
+            (F.trace self.old.files) (F.trace self.new.files)
+            (F.bytes_at self.old.files) (F.bytes_at self.new.files) }
+    {
+        if tells(&self.entries, path, bytes) {
+            return Ok(());
+        }
+        self.note(path, bytes)
+    }
+
+    // Keeps what the path holds, and then gives it these bytes, or removes what is there.
+    fn change(&mut self, path: &str, bytes: Option<&[u8]>) -> Result<(), FileFault>
+        ensures rest { self.new ≡
+            record self.old { files = self.new.files; entries = self.new.entries } }
+        ensures put { OnOk result (F.tells →
+            without (string_bytes self.old.journal) (F.bytes_at self.new.files) path.now ≡
+            option_map (λ bytes. bytes.now) bytes.entry) }
+        ensures others { F.tells → KeepsOthers path.now
+            (without (string_bytes self.old.journal) (F.bytes_at self.old.files))
+            (without (string_bytes self.old.journal) (F.bytes_at self.new.files)) }
+        ensures traced { OnOk result (F.whole →
+            Makes (gives path.now (option_map (λ bytes. bytes.now) bytes.entry) ∷ [])
+            (but (string_bytes self.old.journal) (F.trace self.old.files))
+            (but (string_bytes self.old.journal) (F.trace self.new.files))
+            (without (string_bytes self.old.journal) (F.bytes_at self.old.files))
+            (without (string_bytes self.old.journal) (F.bytes_at self.new.files))) }
+        ensures refused { OnErr result (F.whole →
+            MakesOrNot (gives path.now (option_map (λ bytes. bytes.now) bytes.entry))
+            (but (string_bytes self.old.journal) (F.trace self.old.files))
+            (but (string_bytes self.old.journal) (F.trace self.new.files))
+            (without (string_bytes self.old.journal) (F.bytes_at self.old.files))
+            (without (string_bytes self.old.journal) (F.bytes_at self.new.files))) }
+        ensures stays { F.tells → F.whole → Stays (string_bytes self.old.journal)
+            (edits_of self.old.entries.items) (edits_of self.new.entries.items)
+            (F.trace self.old.files) (F.trace self.new.files)
+            (F.bytes_at self.old.files) (F.bytes_at self.new.files) }
+    {
+        if path == self.journal.as_str() {
+            return Err(FileFault::Device);
+        }
+        self.keep(path, bytes)?;
+        put(&mut self.files, path, bytes)
+    }
+
+    // Removes the journal where each entry's path is back, and says whether none is there.
+    fn close(&mut self) -> Result<bool, FileFault>
+        ensures journal { self.new.journal ≡ self.old.journal }
+        ensures failures { self.new.failures ≡ self.old.failures }
+        ensures others { F.tells → KeepsOthers (string_bytes self.old.journal)
+            (F.bytes_at self.old.files) (F.bytes_at self.new.files) }
+        ensures stays { F.tells → F.whole → Stays (string_bytes self.old.journal)
+            (edits_of self.old.entries.items) (edits_of self.new.entries.items)
+            (F.trace self.old.files) (F.trace self.new.files)
+            (F.bytes_at self.old.files) (F.bytes_at self.new.files) }
+        ensures gone { IfOk result (λ gone. IsTrue gone → F.tells →
+            F.bytes_at self.new.files (string_bytes self.old.journal) ≡ None) }
+        ensures back { IfOk result (λ gone. IsTrue gone → F.tells →
+            (F.bytes_at self.old.files (string_bytes self.old.journal) ≡ None) ⊎
+            AreBack (edits_of self.old.entries.items) (F.bytes_at self.old.files)) }
+        ensures needed { IfOk result (λ gone. (gone ≡ false) → F.tells →
+            ¬ AreBack (edits_of self.old.entries.items) (F.bytes_at self.old.files)) }
+    {
+        if !self.files.exists(self.journal.as_str())? {
+            return Ok(true);
+        }
+        if !are_back(self.alloc, &mut self.files, &self.entries)? {
+            return Ok(false);
+        }
+        // A removal that fails may be made all the same, and then nothing is in the journal.
+        self.entries.clear();
+        self.files.remove(self.journal.as_str())?;
+        Ok(true)
+    }
+
+    /// Removes the journal where each kept path holds again what it held at first. Answers whether
+    /// no journal is there: where it is false, a path holds something else. A fault leaves the
+    /// journal, or has removed it where nothing was to be put back.
+    pub fn finish(&mut self) -> Result<bool, FileFault>
+        ensures journal { self.new.journal ≡ self.old.journal }
+        ensures counted { Counts self.old.failures self.new.failures result }
+        ensures others { F.tells → KeepsOthers (string_bytes self.old.journal)
+            (F.bytes_at self.old.files) (F.bytes_at self.new.files) }
+        ensures stays { F.tells → F.whole → Stays (string_bytes self.old.journal)
+            (edits_of self.old.entries.items) (edits_of self.new.entries.items)
+            (F.trace self.old.files) (F.trace self.new.files)
+            (F.bytes_at self.old.files) (F.bytes_at self.new.files) }
+        ensures gone { IfOk result (λ gone. IsTrue gone → F.tells →
+            F.bytes_at self.new.files (string_bytes self.old.journal) ≡ None) }
+        ensures back { IfOk result (λ gone. IsTrue gone → F.tells → (first : Contents) →
+            IsJournaled (string_bytes self.old.journal) first
+            (edits_of self.old.entries.items) (F.bytes_at self.old.files) →
+            KeepsOthers (string_bytes self.old.journal) first (F.bytes_at self.new.files)) }
+        ensures needed { IfOk result (λ gone. (gone ≡ false) → F.tells →
+            ¬ AreBack (edits_of self.old.entries.items) (F.bytes_at self.old.files)) }
+    {
+        match self.close() {
+            Ok(gone) => Ok(gone),
+            Err(fault) => {
+                count_failure(&mut self.failures);
+                Err(fault)
+            }
+        }
+    }
+}
+
+impl<F: Files> Files for Journaled<F> {
+    ghost use Rattle.std.proofs.Common.{refl, ◌∙◌};
+    ghost use Rattle.hack_journal.specs.SafeLaws.{stays_none, stays_join, makes_none};
+
+    ghost tells = { F.tells };
+
+    ghost whole = { F.tells × F.whole };
+
+    ghost stays = { λ a b. (string_bytes a.journal ≡ string_bytes b.journal) ×
+        (F.tells → F.whole → Stays (string_bytes a.journal)
+        (edits_of a.entries.items) (edits_of b.entries.items)
+        (F.trace a.files) (F.trace b.files) (F.bytes_at a.files) (F.bytes_at b.files)) };
+
+    ghost stays_none = { λ a. (
+      refl,
+      λ _ _. stays_none _ _ _ _ _ _
+          (makes_none (F.trace a.files) (F.bytes_at a.files)),
+    ) };
+
+    ghost stays_more = { λ a b c f g. (
+      f.0 ∙ g.0,
+      λ tells whole.
+          stays_join _ _ _ (edits_of b.entries.items) _ _ (F.trace b.files) _ _ (F.bytes_at b.files)
+          _ f.0 (f.1 tells whole) (g.1 tells whole),
+    ) };
+
+    ghost bytes_at = { λ files. without (string_bytes files.journal) (F.bytes_at files.files) };
+
+    ghost trace = { λ files. but (string_bytes files.journal) (F.trace files.files) };
+
+    ghost failed = { λ files. files.failures };
+
+    fn read(&mut self, alloc: Global, path: &str) -> Result<Vec<u8>, FileFault> {
+        if path == self.journal.as_str() {
+            count_failure(&mut self.failures);
+            return Err(FileFault::Device);
+        }
+        match self.files.read(alloc, path) {
+            Ok(bytes) => Ok(bytes),
+            Err(fault) => {
+                count_failure(&mut self.failures);
+                Err(fault)
+            }
+        }
+    }
+
+    fn write(&mut self, path: &str, bytes: &[u8]) -> Result<(), FileFault> {
+        match self.change(path, Some(bytes)) {
+            Ok(()) => Ok(()),
+            Err(fault) => {
+                count_failure(&mut self.failures);
+                Err(fault)
+            }
+        }
+    }
+
+    fn exists(&mut self, path: &str) -> Result<bool, FileFault> {
+        if path == self.journal.as_str() {
+            return Ok(false);
+        }
+        match self.files.exists(path) {
+            Ok(there) => Ok(there),
+            Err(fault) => {
+                count_failure(&mut self.failures);
+                Err(fault)
+            }
+        }
+    }
+
+    fn remove(&mut self, path: &str) -> Result<(), FileFault> {
+        match self.change(path, None) {
+            Ok(()) => Ok(()),
+            Err(fault) => {
+                count_failure(&mut self.failures);
+                Err(fault)
+            }
+        }
+    }
+
+    fn failures(&self) -> u64 {
+        self.failures
+    }
+}

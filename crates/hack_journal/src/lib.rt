@@ -1,0 +1,8 @@
+//! Files that survive any end of the program: a journal keeps what an edit replaces.
+#![tactic(auto)]
+
+mod contents;
+mod entries;
+pub mod journal;
+pub mod journaled;
+pub mod recover;

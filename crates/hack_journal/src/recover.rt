@@ -1,0 +1,292 @@
+//! Brings back what a call had edited that ended before it could do so itself.
+
+ghost use Rattle.std.specs.Prelude.{◌≡◌, ◌≢◌, ◌↔◌, ◌≤◌, [], ◌∷◌, List, ℕ, Some, None, Vec};
+ghost use Rattle.std.specs.Prelude.{IfOk, IfErr, OnOk, false, length};
+ghost use Rattle.hack_files.specs.Files.{Contents, KeepsOthers, KeepsAll, Makes, MakesOrNot};
+ghost use Rattle.hack_files.specs.Files.{after, changed};
+ghost use Rattle.hack_journal.specs.Journal.{Edit, edit_of, edits_of, spelling, HaveTextPaths};
+ghost use Rattle.hack_journal.specs.Safe.{IsSafe, IsSafeBy, StaysSafe, KeepFirst, Tells};
+ghost use Rattle.hack_journal.specs.Safe.{gives, without};
+ghost use Rattle.hack_journal.specs.Recover.{AreOfCall, AreTold, backs, Differ, IsRestored};
+ghost use Rattle.hack_journal.specs.Recover.{IsWhy, IsWhyUnread, IsWhyNotTold};
+ghost use Rattle.hack_journal.specs.Recover.{IsRefusal, NamesNoJournal};
+
+use crate::contents::{look, put};
+use crate::entries::{are_of_call, same, tells};
+use crate::journal::{Entry, JournalFault, read_back};
+use hack_files::fs::{FileFault, Files, FsFault};
+use std::alloc::{AllocError, Global};
+use thiserror::Error;
+
+/// Why files aren't put back.
+#[derive(Debug, Drop, PartialEq, Eq, Error)]
+pub enum RecoverFault {
+    #[error("out of memory")]
+    Memory,
+    /// What stands at the journal's path is no whole journal. Nothing was changed.
+    #[error("`{0}` is not a whole journal of edited files; put back by hand what it tells, and remove it")]
+    NotJournal(String),
+    /// A path holds neither what it held at first nor what was written there. Nothing was changed.
+    #[error("`{path}` was changed after an interrupted call had edited it; put back by hand what `{journal}` tells, and remove `{journal}`")]
+    Changed { path: String, journal: String },
+    /// A file can't be read or written. What isn't back yet is still in the journal.
+    #[error("{0}")]
+    Files(FsFault),
+}
+
+impl From<AllocError> for RecoverFault {
+    ghost use Rattle.std.specs.Prelude.{◌≡◌};
+    ghost use Rattle.hack_journal.specs.declared.recover.RecoverFault.TheVariants.{Memory};
+
+    ghost from_gives = { λ _ e. e ≡ Memory };
+
+    fn from(_: AllocError) -> RecoverFault {
+        RecoverFault::Memory
+    }
+}
+
+// The fault of a look at a path.
+fn read_fault(alloc: Global, path: &str, fault: FileFault) -> RecoverFault
+    ensures { ¬ IsRefusal result }
+{
+    match fault {
+        FileFault::Memory => RecoverFault::Memory,
+        FileFault::Device => match String::from_str(alloc, path) {
+            Ok(path) => RecoverFault::Files(FsFault::Read(path)),
+            Err(_) => RecoverFault::Memory,
+        },
+    }
+}
+
+// The fault of a write or a removal.
+fn write_fault(alloc: Global, path: &str, fault: FileFault) -> RecoverFault
+    ensures { ¬ IsRefusal result }
+{
+    match fault {
+        FileFault::Memory => RecoverFault::Memory,
+        FileFault::Device => match String::from_str(alloc, path) {
+            Ok(path) => RecoverFault::Files(FsFault::Write(path)),
+            Err(_) => RecoverFault::Memory,
+        },
+    }
+}
+
+// The fault of a text that is no journal.
+fn no_journal(alloc: Global, journal: &str) -> RecoverFault
+    ensures { NamesNoJournal journal.now result }
+{
+    match String::from_str(alloc, journal) {
+        Ok(journal) => RecoverFault::NotJournal(journal),
+        Err(_) => RecoverFault::Memory,
+    }
+}
+
+// The entries of the journal, if there is one.
+fn entries_in<F: Files>(
+    alloc: Global,
+    files: &mut F,
+    journal: &str,
+) -> Result<Option<Vec<Entry>>, RecoverFault>
+    ensures none { IfOk result (λ found. found ≡ None → F.tells →
+        F.bytes_at files.old journal.now ≡ None) }
+    ensures some { IfOk result (λ found. (entries : Vec Entry Global) → found ≡ Some entries →
+        F.tells → F.bytes_at files.old journal.now ≡ Some (spelling (edits_of entries.items))) }
+    ensures of_call { IfOk result (λ found. (entries : Vec Entry Global) → found ≡ Some entries →
+        AreOfCall journal.now (edits_of entries.items) (edits_of entries.items)) }
+    ensures only { IfOk result (λ found. (entries : Vec Entry Global) → found ≡ Some entries →
+        F.tells → (edits : List Edit) → HaveTextPaths edits →
+        F.bytes_at files.old journal.now ≡ Some (spelling edits) →
+        edits_of entries.items ≡ edits) }
+    ensures why { IfErr result (IsWhyUnread journal.now F.tells (F.bytes_at files.old)) }
+    ensures same { F.tells → KeepsAll (F.bytes_at files.old) (F.bytes_at files.new) }
+    ensures untraced { F.whole → Makes [] (F.trace files.old) (F.trace files.new)
+        (F.bytes_at files.old) (F.bytes_at files.new) }
+{
+    match look(alloc, files, journal) {
+        Ok(None) => Ok(None),
+        Ok(Some(text)) => match read_back(alloc, &text) {
+            Ok(entries) => {
+                if !are_of_call(journal, &entries, &entries) {
+                    return Err(no_journal(alloc, journal));
+                }
+                Ok(Some(entries))
+            }
+            Err(JournalFault::Memory) => Err(RecoverFault::Memory),
+            Err(JournalFault::NotJournal) => Err(no_journal(alloc, journal)),
+        },
+        Err(fault) => Err(read_fault(alloc, journal, fault)),
+    }
+}
+
+// Refuses an entry whose path holds what none of all entries tells.
+fn check<F: Files>(
+    alloc: Global,
+    files: &mut F,
+    journal: &str,
+    all: &[Entry],
+    entry: &Entry,
+) -> Result<(), RecoverFault>
+    ensures told { OnOk result (F.tells → Tells (edits_of all.now) (edit_of entry.now).path
+        (F.bytes_at files.old (edit_of entry.now).path)) }
+    ensures why { IfErr result (IsWhyNotTold journal.now F.tells (edits_of all.now)
+        (edit_of entry.now ∷ []) (F.bytes_at files.old)) }
+    ensures same { F.tells → KeepsAll (F.bytes_at files.old) (F.bytes_at files.new) }
+    ensures untraced { F.whole → Makes [] (F.trace files.old) (F.trace files.new)
+        (F.bytes_at files.old) (F.bytes_at files.new) }
+{
+    let now = match look(alloc, files, &entry.path) {
+        Ok(now) => now,
+        Err(fault) => return Err(read_fault(alloc, &entry.path, fault)),
+    };
+    if tells(all, &entry.path, now.as_deref()) {
+        return Ok(());
+    }
+    Err(RecoverFault::Changed {
+        path: String::from_str(alloc, &entry.path)?,
+        journal: String::from_str(alloc, journal)?,
+    })
+}
+
+// The same of each of these.
+fn check_all<F: Files>(
+    alloc: Global,
+    files: &mut F,
+    journal: &str,
+    all: &[Entry],
+    entries: &[Entry],
+) -> Result<(), RecoverFault>
+    ensures told { OnOk result (F.tells →
+        AreTold (edits_of all.now) (edits_of entries.now) (F.bytes_at files.old)) }
+    ensures why { IfErr result (IsWhyNotTold journal.now F.tells (edits_of all.now)
+        (edits_of entries.now) (F.bytes_at files.old)) }
+    ensures same { F.tells → KeepsAll (F.bytes_at files.old) (F.bytes_at files.new) }
+    ensures untraced { F.whole → Makes [] (F.trace files.old) (F.trace files.new)
+        (F.bytes_at files.old) (F.bytes_at files.new) }
+{
+    match entries.split_first() {
+        None => Ok(()),
+        Some((entry, rest)) => {
+            check(alloc, files, journal, all, entry)?;
+            check_all(alloc, files, journal, all, rest)
+        }
+    }
+}
+
+// Puts back what this entry keeps, and says whether the path held something else.
+fn put_back<F: Files>(alloc: Global, files: &mut F, entry: &Entry) -> Result<bool, RecoverFault>
+    ensures back { OnOk result (F.tells → KeepsAll
+        (changed (gives (edit_of entry.now).path (edit_of entry.now).held) (F.bytes_at files.old))
+        (F.bytes_at files.new)) }
+    ensures other { IfOk result (λ was. F.tells → (was ≡ false) ↔
+        (F.bytes_at files.old (edit_of entry.now).path ≡ (edit_of entry.now).held)) }
+    ensures made { F.whole → MakesOrNot
+        (gives (edit_of entry.now).path (edit_of entry.now).held) (F.trace files.old)
+        (F.trace files.new) (F.bytes_at files.old) (F.bytes_at files.new) }
+    ensures fault { IfErr result (λ fault. ¬ IsRefusal fault) }
+{
+    let now = match look(alloc, files, &entry.path) {
+        Ok(now) => now,
+        Err(fault) => return Err(read_fault(alloc, &entry.path, fault)),
+    };
+    if same(now.as_deref(), entry.held.as_deref()) {
+        return Ok(false);
+    }
+    match put(files, &entry.path, entry.held.as_deref()) {
+        Ok(()) => Ok(true),
+        Err(fault) => Err(write_fault(alloc, &entry.path, fault)),
+    }
+}
+
+// Puts back what these entries keep, in order, and says how many paths held something else.
+fn put_all_back<F: Files>(
+    alloc: Global,
+    files: &mut F,
+    entries: &[Entry],
+) -> Result<u64, RecoverFault>
+    ensures back { OnOk result (F.tells →
+        KeepsAll (after (backs (edits_of entries.now)) (F.bytes_at files.old))
+        (F.bytes_at files.new)) }
+    ensures few { IfOk result (λ count. count ≤ length entries.now) }
+    ensures counted { IfOk result (λ count. F.tells → (journal : List ℕ) (first : Contents) →
+        KeepFirst journal first (edits_of entries.now) →
+        Differ count (without journal (F.bytes_at files.old))
+        (without journal (F.bytes_at files.new))) }
+    ensures safe { F.whole → (journal : List ℕ) (first : Contents) (edits : List Edit) →
+        IsSafeBy journal first edits (F.bytes_at files.old) →
+        KeepFirst journal first (edits_of entries.now) →
+        StaysSafe journal first (F.trace files.old) (F.trace files.new)
+        (F.bytes_at files.old) (F.bytes_at files.new) ×
+        IsSafeBy journal first edits (F.bytes_at files.new) }
+    ensures fault { IfErr result (λ fault. ¬ IsRefusal fault) }
+{
+    match entries.split_first() {
+        None => Ok(0),
+        Some((entry, rest)) => {
+            let edited = put_back(alloc, files, entry)?;
+            let others = put_all_back(alloc, files, rest)?;
+            Ok(others + u64::from(edited))
+        }
+    }
+}
+
+// Puts back what the entries of a journal keep, and then removes it.
+fn take_back<F: Files>(
+    alloc: Global,
+    files: &mut F,
+    journal: &str,
+    entries: &[Entry],
+) -> Result<u64, RecoverFault>
+    ensures back { OnOk result (F.tells → KeepsOthers journal.now
+        (after (backs (edits_of entries.now)) (F.bytes_at files.old)) (F.bytes_at files.new)) }
+    ensures gone { OnOk result (F.tells → F.bytes_at files.new journal.now ≡ None) }
+    ensures counted { IfOk result (λ count. F.tells → (first : Contents) →
+        KeepFirst journal.now first (edits_of entries.now) →
+        Differ count (without journal.now (F.bytes_at files.old))
+        (without journal.now (F.bytes_at files.new))) }
+    ensures safe { F.tells → F.whole → (first : Contents) →
+        IsSafeBy journal.now first (edits_of entries.now) (F.bytes_at files.old) →
+        StaysSafe journal.now first (F.trace files.old) (F.trace files.new)
+        (F.bytes_at files.old) (F.bytes_at files.new) }
+    ensures fault { IfErr result (λ fault. ¬ IsRefusal fault) }
+{
+    let count = put_all_back(alloc, files, entries)?;
+    match files.remove(journal) {
+        Ok(()) => Ok(count),
+        Err(fault) => Err(write_fault(alloc, journal, fault)),
+    }
+}
+
+/// Puts back what the paths held that a journal keeps, removes the journal, and answers how many
+/// files held something else. Where no journal is, there is nothing to do, and it answers 0.
+///
+/// Nothing is written before all is looked at: where a path holds neither what it held at first nor
+/// what was written there, or the journal isn't whole, nothing is changed. It may itself be ended at
+/// any moment, and called again.
+pub fn recover<F: Files>(alloc: Global, files: &mut F, journal: &str) -> Result<u64, RecoverFault>
+    // Each kept path holds what it held at first, and no other path was changed.
+    ensures restored { IfOk result (λ count. F.tells →
+        IsRestored journal.now count (F.bytes_at files.old) (F.bytes_at files.new)) }
+    // Wherever a call ended, each path holds what it held before that call.
+    ensures comes_back { OnOk result (F.tells → (first : Contents) →
+        IsSafe journal.now first (F.bytes_at files.old) →
+        KeepsOthers journal.now first (F.bytes_at files.new)) }
+    // Why not, with the paths.
+    ensures why { IfErr result (IsWhy journal.now F.tells (F.bytes_at files.old)) }
+    // A refusal changes nothing.
+    ensures refused { IfErr result (λ fault. IsRefusal fault → F.tells →
+        KeepsAll (F.bytes_at files.old) (F.bytes_at files.new)) }
+    // What an ended call left is never refused.
+    ensures never { IfErr result (λ fault. IsRefusal fault → F.tells → (first : Contents) →
+        ¬ IsSafe journal.now first (F.bytes_at files.old)) }
+    // It may be ended too, at any moment.
+    ensures safe { F.tells → F.whole → (first : Contents) →
+        IsSafe journal.now first (F.bytes_at files.old) →
+        StaysSafe journal.now first (F.trace files.old) (F.trace files.new)
+        (F.bytes_at files.old) (F.bytes_at files.new) }
+{
+    let Some(entries) = entries_in(alloc, files, journal)? else {
+        return Ok(0);
+    };
+    check_all(alloc, files, journal, &entries, &entries)?;
+    take_back(alloc, files, journal, &entries)
+}
