@@ -52,7 +52,7 @@ planned-length cx single _ _ _ (adds {ids} {packages} {notes} {id} {k} {more} be
     let b = length-append packages (k ∷ []) in
     omega arith
 
-same_some : {X : Type 0} (a b : X) → Some a ≡ Some b → a ≡ b
+pub same_some : {X : Type 0} (a b : X) → Some a ≡ Some b → a ≡ b
 same_some a b e = cc
 
 -- an element of a list with one more at its end
@@ -72,7 +72,7 @@ push-end [] last = refl
 push-end (y ∷ xs) last = push-end xs last
 
 -- the planned package at a place
-planned-at : (cx : ContextRecord) (single : Bool) (ids : List ℕ) (packages : List PackageView) (notes : List Note) (place id : ℕ) → ArePlanned cx single ids packages notes → slice_get ids place ≡ Some id
+pub planned-at : (cx : ContextRecord) (single : Bool) (ids : List ℕ) (packages : List PackageView) (notes : List Note) (place id : ℕ) → ArePlanned cx single ids packages notes → slice_get ids place ≡ Some id
     → (k : PackageView) × (more : List Note) × (slice_get packages place ≡ Some k) × IsPlanned cx single id k more
 planned-at cx single ids packages notes place id begins at = absurd (cc)
 planned-at cx single _ _ _ place id (adds {ids} {packages} {notes} {id = last} {k} {more} before is) at =

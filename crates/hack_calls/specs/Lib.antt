@@ -1,4 +1,5 @@
 pub mod Calls
 pub mod Covered
 pub mod Made
+pub mod Powersets
 pub mod Turned

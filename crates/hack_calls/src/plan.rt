@@ -14,6 +14,7 @@ ghost use Rattle.hack_calls.specs.Calls.{IsSceneOf, HasBadOwn, call_of};
 ghost use Rattle.hack_calls.specs.Covered.{AreCovered};
 ghost use Rattle.hack_calls.specs.Made.{IsPlan, IsCause, IsPlanOf, IsCauseOf, IsListFault};
 ghost use Rattle.hack_calls.specs.Made.{IsRangeFault};
+ghost use Rattle.hack_calls.specs.Powersets.{HavePowersets};
 
 use crate::chosen::chosen_packages;
 use crate::fault::{PlanFault, of_packages, of_places, of_range};
@@ -52,6 +53,11 @@ pub fn plan_of(
         → (context_view cx.now).args.feature_powerset ≡ true
         → ¬ ((context_view cx.now).args.workspace_behavior ≡ Cargo)
         → IfOk result (λ answer. AreCovered (context_view cx.now) latest answer.0) }
+
+    // Under a powerset the sets of each chosen package's runs are exactly the listed ones, each once.
+    ensures powersets { IsSome (context_view cx.now).args.subcommand
+        → (context_view cx.now).args.feature_powerset ≡ true
+        → IfOk result (λ answer. HavePowersets (context_view cx.now) answer.0) }
     ensures err { IfErr result (λ e. (e ≡ PlanFault.Memory)
         ⊎ IsCauseOf (context_view cx.now).args.subcommand stable (context_view cx.now) e) }
 {

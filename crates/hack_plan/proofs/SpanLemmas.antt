@@ -1,5 +1,5 @@
 -- The places of each version, as the plan grows by a version.
-use Rattle.std.proofs.Common.{◌≡◌, ℕ, ◌+◌, ◌<◌, List, [], ◌∷◌, ◌++◌, length, take, map, arith, refl, ap, sym, ◌∙◌, subst, get_or, length-append, append_assoc, append-nil, Option, Some, Bool}
+use Rattle.std.proofs.Common.{◌≡◌, ℕ, ◌+◌, ◌<◌, ◌≤◌, List, [], ◌∷◌, ◌++◌, length, take, map, arith, refl, ap, sym, ◌∙◌, subst, get_or, length-append, append_assoc, append-nil, Option, Some, Bool}
 use Rattle.std.specs.List.{All, Contains}
 use Rattle.std.proofs.lemmas.List.{length-map, get_or-map, map-append, take_more}
 use Rattle.std.proofs.lemmas.List.Elements.{All-append, All-push, All-map, All-weaker, Contains-get_or}
@@ -13,7 +13,7 @@ use Rattle.hack_plan.specs.declared.places.Span.{Span}
 use Rattle.hack_plan.specs.declared.versions.Scene.{Scene}
 use Rattle.hack_plan.specs.Quads.{Adds, IsOlder}
 use Rattle.hack_plan.specs.Parts.{InVersion}
-use Rattle.hack_plan.specs.Spans.{Laid, IsSpan, AreSpans, IsNext, version_in, version_at}
+use Rattle.hack_plan.specs.Spans.{Laid, IsSpan, AreSpans, AreTiled, IsNext, version_in, version_at}
 use Rattle.hack_plan.proofs.Groups.{InGroups, earlier}
 
 abbrev IsOlderQuad : Option Version → Quad → Type 0
@@ -60,13 +60,22 @@ All-unmap f P xs h k d l = subst P (get_or-map f xs k d (f d) l) (h k (f d) (ome
 later-than : (v w : Option Version) (added : List Quad) → IsOlder w v → All (IsHere v) added → All (IsLater w) added
 later-than v w added l h = All-weaker (IsHere v) (IsLater w) (λ q e. subst (IsOlder w) (sym e) l) added h
 
+-- one version's places behind those before it
+tiled-more : (from : ℕ) (ss : List Span) (s : Span) (mid to : ℕ) → AreTiled from ss mid → s.first ≡ mid → mid ≤ s.end → s.end ≡ to → AreTiled from (ss ++ s ∷ []) to
+tiled-more from [] s mid to t first le end = (first ∙ sym t, omega (arith, t), end)
+tiled-more from (x ∷ ss) s mid to t first le end = (t.0, t.1, tiled-more x.end ss s mid to t.2 first le end)
+
 pub spans-next : (names : List (Option Version)) (v : Option Version) (old new : Laid) (added : List Quad) → new.quads ≡ old.quads ++ added → IsNext v old new → AreSpans names old
     → All (IsOlderQuad v) old.quads → All (IsHere v) added → All (λ w. IsOlder w v) names → AreSpans (names ++ v ∷ []) new
 spans-next names v old new added grown next f before here older = record {
   names = ap (map version_at) next ∙ map-append version_at old.spans (span_of v old.quads new.quads ∷ []) ∙ ap (λ t. t ++ v ∷ []) f.names;
   each = subst (All (IsSpan new.quads)) (sym next) (All-push (IsSpan new.quads) old.spans (span_of v old.quads new.quads) all last);
+  tiled = subst (λ ss. AreTiled 0 ss (length new.quads)) (sym next) (tiled-more 0 old.spans (span_of v old.quads new.quads) (length old.quads) (length new.quads) f.tiled refl longer refl);
 }
   where
+    longer : length old.quads ≤ length new.quads
+    longer = omega (arith, ap length grown, length-append old.quads added)
+
     lower : All (λ (s : Span). IsOlder s.version v) old.spans
     lower = All-unmap version_at (λ w. IsOlder w v) old.spans (subst (All (λ w. IsOlder w v)) (sym f.names) older)
 
@@ -77,13 +86,17 @@ spans-next names v old new added grown next f before here older = record {
     last : IsSpan new.quads (span_of v old.quads new.quads)
     last = subst (λ t. IsSpan t (span_of v old.quads t)) (sym grown) (span-last v old.quads added before here)
 
-pub spans-none : (p : Laid) → p.spans ≡ [] → AreSpans [] p
-spans-none p e = record { names = ap (map version_at) e; each = subst (All (IsSpan p.quads)) (sym e) (λ k d h. absurd (omega arith)) }
+pub spans-none : (p : Laid) → p.quads ≡ [] → p.spans ≡ [] → AreSpans [] p
+spans-none p no_quads e = record {
+  names = ap (map version_at) e;
+  each = subst (All (IsSpan p.quads)) (sym e) (λ k d h. absurd (omega arith));
+  tiled = subst (λ ss. AreTiled 0 ss (length p.quads)) (sym e) (ap length (sym no_quads));
+}
 
 -- a plan that is one version's
 pub spans-alone : (whole : Bool) (v : Option Version) (slots : ℕ) (places counts : List ℕ) (old new : Laid) → old.quads ≡ [] → old.spans ≡ [] → Adds (InVersion whole v slots places counts) old.quads new.quads → IsNext v old new → AreSpans (v ∷ []) new
 spans-alone whole v slots places counts old new e f g next =
-    spans-next [] v old new g.added g.grown next (spans-none old f)
+    spans-next [] v old new g.added g.grown next (spans-none old e f)
     (subst (All (IsOlderQuad v)) (sym e) (λ k d h. absurd (omega arith)))
     (All-weaker (InVersion whole v slots places counts) (IsHere v) (λ q p. p.0) g.added g.lists.sound)
     (λ k d h. absurd (omega arith))

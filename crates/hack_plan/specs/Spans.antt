@@ -1,5 +1,5 @@
 -- The places of each version.
-use Rattle.std.specs.Prelude.{◌≡◌, ◌+◌, ◌++◌, List, [], ◌∷◌, map, length, All, Option, Some, None}
+use Rattle.std.specs.Prelude.{ℕ, ◌≡◌, ◌+◌, ◌≤◌, ◌++◌, List, [], ◌∷◌, map, length, All, Option, Some, None}
 use Rattle.hack_versions.specs.declared.version.Version.{Version}
 use Rattle.hack_versions.specs.declared.version.VersionRange.{VersionRange}
 use Rattle.hack_versions.specs.declared.group.VersionGroup.{VersionGroup}
@@ -41,7 +41,13 @@ IsNext version old new = new.spans ≡ old.spans ++ record { version = version; 
 abbrev pub version_at : Span → Option Version
 version_at s = s.version
 
--- each version, in order, with its places
+-- each version's places begin where those before it end, from the first place to the last
+abbrev pub AreTiled : ℕ → List Span → ℕ → Type 0
+AreTiled from [] to = from ≡ to
+AreTiled from (s ∷ ss) to = (s.first ≡ from) × (from ≤ s.end) × AreTiled s.end ss to
+
+-- each version, in order, with its places, which share out those of the plan
 pub record AreSpans (versions : List (Option Version)) (p : Laid) : Type 0 where
   pub names : map version_at p.spans ≡ versions
   pub each : All (IsSpan p.quads) p.spans
+  pub tiled : AreTiled 0 p.spans (length p.quads)

@@ -1,5 +1,5 @@
 -- Calls that a question makes, and what is made of its answer.
-use Rattle.std.proofs.Common.{◌≡◌, refl, ◌⊎◌, inl, inr, ℕ, List, [], Option, Some, None, Result, Ok, Err, IfOk, IfErr, OnOk, IsSome, true, subst, Global, String}
+use Rattle.std.proofs.Common.{◌≡◌, refl, inl, inr, List, Option, Some, None, Result, Ok, Err, IfOk, IfErr, OnOk, IsSome, true, subst, Global, String}
 use Rattle.hack_features.specs.Names.{Name}
 use Rattle.hack_process.specs.Calls.{Answer, Asked, Call, IsSuccess, MayAdd}
 use Rattle.hack_process.specs.CargoTexts.{release_part}
@@ -10,7 +10,7 @@ use Rattle.hack_process.specs.declared.fault.ProcessFault.{ProcessFault}
 use Rattle.hack_process.specs.declared.fault.ProcessFault.TheVariants as process
 use Rattle.hack_versions.specs.ToolTexts.{TellsRelease}
 use Rattle.hack_versions.specs.declared.version.Version.{Version}
-use Rattle.hack_session.specs.Performs.{Comes, Installs, Makes}
+use Rattle.hack_session.specs.Performs.{Comes, Makes}
 use Rattle.hack_session.specs.declared.step.Outcome.{Outcome}
 use Rattle.hack_session.specs.declared.step.Outcome.TheVariants.{Passed}
 use Rattle.hack_run.specs.Questions.{AsksStable, InstallsStable, IsLatest, ReadsStable, TellsStable, stable_command}

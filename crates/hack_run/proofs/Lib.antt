@@ -1,4 +1,5 @@
 mod BackLemmas
 mod CallLemmas
+mod HeadlineLemmas
 mod RunLemmas
 mod WholeLemmas

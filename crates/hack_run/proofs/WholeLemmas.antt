@@ -1,5 +1,5 @@
 -- What a call did, put together from its stages.
-use Rattle.std.proofs.Common.{◌≡◌, ◌⊎◌, inl, Bool, true, false, ℕ, List, Option, Result, Ok, Err, OnOk, OnErr, IsErr, IsTrue, refl, sym, ◌∙◌, ap, subst, string_bytes}
+use Rattle.std.proofs.Common.{◌≡◌, ◌⊎◌, inl, Bool, true, false, ℕ, List, None, Option, Result, Global, String, Ok, Err, OnOk, OnErr, IsErr, IsTrue, refl, sym, ◌∙◌, ap, subst, string_bytes}
 use Rattle.hack_features.specs.Names.{Name}
 use Rattle.hack_files.specs.Files.{Contents, KeepsAll}
 use Rattle.hack_load.specs.declared.fault.ContextFault.{ContextFault}
@@ -21,33 +21,34 @@ use Rattle.hack_words.specs.declared.cli.parse.Parsed.TheVariants as parsed
 use Rattle.hack_words.specs.declared.cli.args.Args.{Args}
 use Rattle.hack_words.specs.declared.cli.env.Env.{Env}
 use Rattle.hack_term.specs.declared.term.Term.{Term}
-use Rattle.hack_runs.specs.View.{PlanView}
-use Rattle.hack_run.specs.Runs.{RunsAll}
-use Rattle.hack_run.specs.Questions.{rustup_asked}
-use Rattle.hack_run.specs.Whole.{Follows, IsDone, IsPlanned, Obeys, Performs}
+use Rattle.hack_versions.specs.declared.version.Version.{Version}
+use Rattle.hack_run.specs.Runs.{Does, DoesPlan}
+use Rattle.hack_run.specs.Questions.{AsksStable, NeedsAnswer, rustup_asked}
+use Rattle.hack_run.specs.Whole.{Follows, IsDone, Obeys, Performs}
 
 on_ok : {T E : Type 0} (P Q : Type 0) (r : Result T E) → (P → Q) → OnOk r P → OnOk r Q
 on_ok P Q (Ok v) f p = f p
 on_ok P Q (Err e) f p = tt
 
--- behind a context and its plan, the runs
-pub follows : {T E : Type 0} (tells told quiet : Type 0) (r : Result T E) (args given : Args) (answers : Answers) (rustup : Name) (held last : Contents) (old mid new : List Call) (cx : ContextRecord) (plan : PlanView)
-    → (told → IsPrepared (wanted_in cx) (members_in cx) held last) → IsContextFrom args answers cx → given ≡ cx.args → IsPlanned cx rustup tells old mid plan
-    → OnOk r (given.print_command_list ≡ false → quiet → tells → RunsAll plan given.partition mid new)
-    → OnOk r (args.print_command_list ≡ false → quiet → tells → told → Follows args answers rustup held last old new)
-follows tells told quiet r args given answers rustup held last old mid new cx plan prepared context is planned ran =
-    on_ok (args.print_command_list ≡ false → quiet → tells → RunsAll plan args.partition mid new)
-    (args.print_command_list ≡ false → quiet → tells → told → Follows args answers rustup held last old new) r
-    (λ runs listed q t u. record {
+-- behind a context and what was asked of stable, the runs of its plan
+pub follows : {T E : Type 0} (tells told quiet : Type 0) (r : Result T E) (args : Args) (answers : Answers) (rustup : Name) (held last : Contents) (old mid new : List Call) (cx : ContextRecord) (stable : Result (Option Version) (String Global))
+    → (told → IsPrepared (wanted_in cx) (members_in cx) held last) → IsContextFrom args answers cx → (tells → AsksStable rustup stable old mid) → (¬ NeedsAnswer cx.args → stable ≡ Ok None)
+    → OnOk r (quiet → tells → DoesPlan (Does cx.args.print_command_list) cx stable rustup mid new)
+    → OnOk r (quiet → tells → told → Follows args answers rustup held last old new)
+follows tells told quiet r args answers rustup held last old mid new cx stable prepared context asked needed ran =
+    on_ok (quiet → tells → DoesPlan (Does cx.args.print_command_list) cx stable rustup mid new)
+    (quiet → tells → told → Follows args answers rustup held last old new) r
+    (λ runs q t u.
+    let h = runs q t in
+    record {
       cx = cx;
-      plan = plan;
+      plan = h.plan;
       mid = mid;
       context = context;
-      planned = record { stable = planned.stable; notes = planned.notes; asked = λ _. planned.asked t; planned = planned.planned };
-      runs = runs listed q t;
+      planned = record { stable = stable; notes = h.notes; asked = asked t; needed = needed; planned = h.planned };
+      runs = subst (λ (a : Args). Does a.print_command_list h.plan a.partition mid new) context.2.args h.done;
       edited = λ _. prepared u;
-    })
-    (subst (λ (a : Args). OnOk r (a.print_command_list ≡ false → quiet → tells → RunsAll plan a.partition mid new)) (is ∙ context.2.args) ran)
+    }) ran
 
 -- what told no error in the end told none before
 quiet_before : (X : Type 0) (before now : Bool) → (IsTrue before ⊎ X → IsTrue now) → now ≡ false → before ≡ false
@@ -72,13 +73,13 @@ pub performs : {T E : Type 0} (tells told holds X : Type 0) (r : Result T E) (ar
     → (tells → told → AreAnswers args env first before later old mid answers)
     → (IsTrue mute ⊎ X → IsTrue now)
     → (told → holds) → OnOk answers.loaded (told → KeepsAll first asked) → (told → args.remove_dev_deps ≡ true → KeepsAll prepared last)
-    → OnOk r (args.print_command_list ≡ false → mute ≡ false → tells → holds → Follows args answers (string_bytes env.rustup) asked prepared mid new)
-    → OnOk r (args.print_command_list ≡ false → now ≡ false → tells → told → Performs args env first last before old new)
+    → OnOk r (mute ≡ false → tells → holds → Follows args answers (string_bytes env.rustup) asked prepared mid new)
+    → OnOk r (now ≡ false → tells → told → Performs args env first last before old new)
 performs tells told holds X r args env first asked prepared last before later old mid new answers mute now answered noted held whole stay follows =
-    on_ok (args.print_command_list ≡ false → mute ≡ false → tells → holds → Follows args answers (string_bytes env.rustup) asked prepared mid new)
-    (args.print_command_list ≡ false → now ≡ false → tells → told → Performs args env first last before old new) r
-    (λ f listed quiet t u.
-    let g = f listed (quiet_before X mute now noted quiet) t (held u) in
+    on_ok (mute ≡ false → tells → holds → Follows args answers (string_bytes env.rustup) asked prepared mid new)
+    (now ≡ false → tells → told → Performs args env first last before old new) r
+    (λ f quiet t u.
+    let g = f (quiet_before X mute now noted quiet) t (held u) in
     let same : KeepsAll first asked = subst (λ (a : Result Loaded ContextFault). OnOk a (told → KeepsAll first asked)) g.context.1 whole u in
     record { answers = answers; now = later; mid = mid; asked = answered t u; follows = moved args answers (string_bytes env.rustup) first asked prepared last mid new same (stay u) g }) follows
 
@@ -94,12 +95,10 @@ told_fault (Err e) now told is = told
 
 -- what arguments ask for was done
 pub obeys : {T E : Type 0} (tells told quiet : Type 0) (r : Result T E) (args : Args) (answer : Parsed) (env : Env) (held last : Contents) (before : ℕ) (old new : List Call) → answer ≡ parsed.Args args
-    → OnOk r (args.print_command_list ≡ false → quiet → tells → told → Performs args env held last before old new)
+    → OnOk r (quiet → tells → told → Performs args env held last before old new)
     → OnOk r (quiet → tells → told → Obeys answer env held last before old new)
 obeys tells told quiet r args answer env held last before old new is performed =
-    subst (λ (a : Parsed). OnOk r (quiet → tells → told → Obeys a env held last before old new)) (sym is)
-    (on_ok (args.print_command_list ≡ false → quiet → tells → told → Performs args env held last before old new)
-    (quiet → tells → told → args.print_command_list ≡ false → Performs args env held last before old new) r (λ f q t u listed. f listed q t u) performed)
+    subst (λ (a : Parsed). OnOk r (quiet → tells → told → Obeys a env held last before old new)) (sym is) performed
 
 -- the words were read, and what they ask for was done
 pub done : {T E : Type 0} (tells told quiet : Type 0) (r : Result T E) (words : List Name) (env : Env) (held last : Contents) (before : ℕ) (old mid new : List Call) (rustup : Rustup) (answer : Parsed) (notes : List Note)

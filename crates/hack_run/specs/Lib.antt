@@ -1,3 +1,4 @@
+pub mod Headline
 pub mod Questions
 pub mod Restores
 pub mod Runs

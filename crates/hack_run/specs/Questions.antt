@@ -1,5 +1,5 @@
 -- What rustup is asked before there is a plan.
-use Rattle.std.specs.Prelude.{◌≡◌, ◌∷◌, [], List, Option, Some, None, Result, Ok, Err, codes, true}
+use Rattle.std.specs.Prelude.{◌≡◌, ◌∷◌, [], List, Option, Some, None, Result, Ok, Err, IsSome, IsSomeAnd, codes, true}
 use Rattle.std.proofs.Common.{Global, String}
 use Rattle.hack_features.specs.Names.{Name}
 use Rattle.hack_process.specs.Calls.{Asked, Call, IsSuccess}
@@ -8,8 +8,10 @@ use Rattle.hack_process.specs.Commands.{asked_of}
 use Rattle.hack_process.specs.CommandTexts.{Command}
 use Rattle.hack_process.specs.Faults.{Had, without_line_ends}
 use Rattle.hack_runs.specs.Commands.{plain_command}
+use Rattle.hack_versions.specs.RangeSteps.{NeedsStable}
 use Rattle.hack_versions.specs.ToolTexts.{TellsRelease}
 use Rattle.hack_versions.specs.declared.version.Version.{Version}
+use Rattle.hack_words.specs.declared.cli.args.Args.{Args}
 use Rattle.hack_session.specs.Performs.{Installs, Makes}
 use Rattle.hack_session.specs.Toolchains.{addition_of, trial_of}
 use Rattle.hack_session.specs.declared.step.Outcome.TheVariants.{Passed}
@@ -48,6 +50,10 @@ abbrev pub IsLatest : (Version → Type 0) → Result (Option Version) (String G
 IsLatest P (Ok None) = ⊥
 IsLatest P (Ok (Some v)) = P v
 IsLatest P (Err text) = Unit {0}
+
+-- there is a subcommand, and an end of the range is stable's version
+abbrev pub NeedsAnswer : Args → Type 0
+NeedsAnswer args = IsSome args.subcommand × IsSomeAnd args.version_range NeedsStable
 
 -- stable's version was asked for, or nothing was; where that failed, its fault has a text
 abbrev pub AsksStable : Name → Result (Option Version) (String Global) → List Call → List Call → Type 0

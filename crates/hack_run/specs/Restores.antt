@@ -5,7 +5,6 @@ use Rattle.hack_versions.specs.Notes.{Note}
 use Rattle.hack_versions.specs.declared.rustup.Rustup.{Rustup}
 use Rattle.hack_words.specs.Answers.{Answers as IsAnswer, around_of}
 use Rattle.hack_words.specs.Call.{ComesTo}
-use Rattle.hack_words.specs.declared.cli.args.Args.{Args}
 use Rattle.hack_words.specs.declared.cli.env.Env.{Env}
 use Rattle.hack_words.specs.declared.cli.parse.Parsed.{Parsed}
 use Rattle.hack_words.specs.declared.cli.parse.Parsed.TheVariants as parsed

@@ -1,12 +1,22 @@
 -- The calls of a whole schedule.
-use Rattle.std.specs.Prelude.{◌≡◌, ◌++◌, ◌∷◌, [], List, Option}
+use Rattle.std.specs.Prelude.{◌≡◌, ◌++◌, ◌∷◌, [], All, Bool, List, Option, Result, false, filter, true}
+use Rattle.std.proofs.Common.{Global, String}
+use Rattle.hack_calls.specs.Made.{IsPlanOf}
+use Rattle.hack_features.specs.Names.{Name}
+use Rattle.hack_load.specs.Contexts.{ContextRecord}
 use Rattle.hack_process.specs.Calls.{Call}
 use Rattle.hack_term.specs.declared.partition.Partition.{Partition}
 use Rattle.hack_runs.specs.View.{PlanView}
+use Rattle.hack_session.specs.Histories.{Course}
+use Rattle.hack_session.specs.Lists.{IsListed, is_sent, is_sent_step}
 use Rattle.hack_session.specs.Performs.{Exactly, Makes}
 use Rattle.hack_session.specs.Schedules.{IsSchedule}
+use Rattle.hack_session.specs.declared.step.Handed.{Handed}
 use Rattle.hack_session.specs.declared.step.Step.{Step}
 use Rattle.hack_session.specs.declared.step.Outcome.TheVariants.{Passed}
+use Rattle.hack_versions.specs.Notes.{Note}
+use Rattle.hack_versions.specs.declared.version.Version.{Version}
+use Rattle.hack_run.specs.Headline.{IsHandedOut}
 
 -- the calls are those of the steps, one behind the other, each of which passed
 abbrev pub PassesAll : PlanView → List Step → List Call → Type 0
@@ -14,8 +24,36 @@ PassesAll plan [] calls = calls ≡ []
 PassesAll plan (step ∷ steps) calls =
     (first rest : List Call) × (calls ≡ first ++ rest) × Exactly plan step first Passed × PassesAll plan steps rest
 
--- new is old with the calls of the whole schedule of a plan and a piece behind it
+-- the calls of the whole schedule of a plan and a piece, each step of which passed, are made
 pub record RunsAll (plan : PlanView) (piece : Option Partition) (old new : List Call) : Type 0 where
   pub schedule : List Step
   pub scheduled : IsSchedule piece plan schedule
   pub ran : Makes (PassesAll plan schedule) old new
+
+-- the same of its toolchains and lockfiles alone: a list makes no other calls
+pub record SendsAll (plan : PlanView) (piece : Option Partition) (old new : List Call) : Type 0 where
+  pub schedule : List Step
+  pub scheduled : IsSchedule piece plan schedule
+  pub sent : Makes (PassesAll plan (filter is_sent_step schedule)) old new
+
+-- by whether commands are listed
+abbrev pub Does : Bool → PlanView → Option Partition → List Call → List Call → Type 0
+Does true plan piece old new = SendsAll plan piece old new
+Does false plan piece old new = RunsAll plan piece old new
+
+-- that is done for the plan of a context, where this was asked of stable
+pub record DoesPlan (Done : PlanView → Option Partition → List Call → List Call → Type 0) (cx : ContextRecord) (stable : Result (Option Version) (String Global)) (rustup : Name) (old new : List Call) : Type 0 where
+  pub plan : PlanView
+  pub notes : List Note
+  pub planned : IsPlanOf cx.args.subcommand stable cx rustup plan notes
+  pub done : Done plan cx.args.partition old new
+
+-- for a context a list was handed out to its end, and what isn't listed to a runner; none of the list failed
+pub record ListsOver {R : Type 0} (Told : List Note → R → R → Type 0) (Ran : PlanView → List Handed → R → R → Type 0) (cx : ContextRecord) (stable : Result (Option Version) (String Global)) (rustup : Name) (old new : R) : Type 0 where
+  pub course : Course
+  pub handed : IsHandedOut cx stable rustup false course
+  pub notes : List Note
+  pub mid : R
+  pub told : Told notes old mid
+  pub ran : Ran course.plan (filter is_sent course.handed) mid new
+  pub listed : All IsListed course.handed

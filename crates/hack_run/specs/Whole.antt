@@ -1,5 +1,5 @@
 -- What a call did that told no error.
-use Rattle.std.specs.Prelude.{◌≡◌, ◌∷◌, [], ℕ, false, true, List, Option, Result, codes, string_bytes}
+use Rattle.std.specs.Prelude.{◌≡◌, ◌∷◌, [], ℕ, false, true, List, None, Ok, Option, Result, codes, string_bytes}
 use Rattle.std.proofs.Common.{Global, String}
 use Rattle.hack_features.specs.Names.{Name}
 use Rattle.hack_files.specs.Files.{Contents}
@@ -25,29 +25,30 @@ use Rattle.hack_runs.specs.View.{PlanView}
 use Rattle.hack_calls.specs.Made.{IsPlanOf}
 use Rattle.hack_prepare.specs.Prepared.{IsPrepared}
 use Rattle.hack_prepare.specs.PreparedView.{members_in, wanted_in}
-use Rattle.hack_run.specs.Questions.{AsksStable, rustup_asked}
-use Rattle.hack_run.specs.Runs.{RunsAll}
+use Rattle.hack_run.specs.Questions.{AsksStable, NeedsAnswer, rustup_asked}
+use Rattle.hack_run.specs.Runs.{Does}
 
 -- the words are refused, whatever rustup answers
 abbrev pub AreRefused : Env → List Name → Type 0
 AreRefused env words = (rustup : Rustup) → (told : Fault) × ComesTo (around_of env rustup) words (Faulty told)
 
--- the plan of a context, where this was asked of stable
-pub record IsPlanned (cx : ContextRecord) (rustup : Name) (tells : Type 0) (old new : List Call) (plan : PlanView) : Type 0 where
+-- the plan of a context, where this was asked of stable, and nothing unless the range needs it
+pub record IsPlanned (cx : ContextRecord) (rustup : Name) (old new : List Call) (plan : PlanView) : Type 0 where
   pub stable : Result (Option Version) (String Global)
   pub notes : List Note
-  pub asked : tells → AsksStable rustup stable old new
+  pub asked : AsksStable rustup stable old new
+  pub needed : ¬ NeedsAnswer cx.args → stable ≡ Ok None
   pub planned : IsPlanOf cx.args.subcommand stable cx rustup plan notes
 
--- From these answers a context was made, from that a plan, and its whole schedule was run. Edits that stay were made of what
--- was held.
+-- From these answers a context was made, from that a plan, and its whole schedule was run or listed. Edits that stay were made
+-- of what was held.
 pub record Follows (args : Args) (answers : Answers) (rustup : Name) (held last : Contents) (old new : List Call) : Type 0 where
   pub cx : ContextRecord
   pub plan : PlanView
   pub mid : List Call
   pub context : IsContextFrom args answers cx
-  pub planned : IsPlanned cx rustup (Unit {0}) old mid plan
-  pub runs : RunsAll plan args.partition mid new
+  pub planned : IsPlanned cx rustup old mid plan
+  pub runs : Does args.print_command_list plan args.partition mid new
   pub edited : args.remove_dev_deps ≡ true → IsPrepared (wanted_in cx) (members_in cx) held last
 
 -- for these arguments the answers were told or read, and then followed
@@ -62,9 +63,9 @@ pub record Performs (args : Args) (env : Env) (held last : Contents) (before : �
 abbrev pub ListsCommands : Name → List Call → List Call → Type 0
 ListsCommands cargo old new = Had (λ answer. IsSuccess answer.end) (asked_of false (plain_command cargo [] (codes "--list" ∷ []))) old new
 
--- what words ask for was done: the schedule was run, unless it was to be listed; a text was printed; or cargo listed its commands
+-- what words ask for was done: the schedule was run or listed, a text was printed, or cargo listed its commands
 abbrev pub Obeys : Parsed → Env → Contents → Contents → ℕ → List Call → List Call → Type 0
-Obeys (parsed.Args args) env held last before old new = args.print_command_list ≡ false → Performs args env held last before old new
+Obeys (parsed.Args args) env held last before old new = Performs args env held last before old new
 Obeys (parsed.Print text) env held last before old new = new ≡ old
 Obeys parsed.List env held last before old new = ListsCommands (string_bytes env.cargo) old new
 

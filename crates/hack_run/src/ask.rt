@@ -1,12 +1,14 @@
 //! What rustup is asked before there is a plan: its own version, and that of the toolchain `stable`.
 
-ghost use Rattle.std.specs.Prelude.{◌≡◌, IfOk, IfSome, IsSome, OnOk, false, string_bytes};
+ghost use Rattle.std.specs.Prelude.{◌≡◌, IfOk, IfSome, IsSome, IsSomeAnd, None, Ok, OnOk, false, string_bytes};
+ghost use Rattle.std.specs.Prelude.{true};
 ghost use Rattle.hack_process.specs.Calls.{MayAdd};
 ghost use Rattle.hack_process.specs.CargoTexts.{release_part};
 ghost use Rattle.hack_process.specs.Commands.{command_of};
 ghost use Rattle.hack_versions.specs.RangeSteps.{NeedsStable};
 ghost use Rattle.hack_versions.specs.ToolTexts.{TellsRelease};
-ghost use Rattle.hack_run.specs.Questions.{AsksStable, InstallsStable, IsLatest, ReadsStable};
+ghost use Rattle.hack_run.specs.Questions.{AsksStable, InstallsStable, IsLatest, NeedsAnswer};
+ghost use Rattle.hack_run.specs.Questions.{ReadsStable};
 ghost use Rattle.hack_run.specs.Questions.{rustup_asked, rustup_command as asks_rustup};
 ghost use Rattle.hack_run.specs.Questions.{stable_command as asks_stable};
 
@@ -99,6 +101,7 @@ pub(crate) fn stable_for<C: Caller>(
 ) -> Result<Result<Option<Version>, String>, AllocError>
     ensures asked { IfOk result (λ stable. C.tells → AsksStable (string_bytes env.now.rustup)
         stable (C.calls caller.old) (C.calls caller.new)) }
+    ensures unasked { IfOk result (λ stable. ¬ NeedsAnswer args.now → stable ≡ Ok None) }
     ensures needed { IfOk result (λ stable. IsSome args.now.subcommand
         → IfSome args.now.version_range (λ range. NeedsStable range
         → IfOk stable (λ latest. IsSome latest))) }
@@ -114,7 +117,8 @@ pub(crate) fn stable_for<C: Caller>(
 
 /// Whether a bound of the range is stable's version.
 fn is_stable_asked(args: &Args) -> bool
-    ensures { result ≡ false → IfSome args.now.version_range (λ range. ¬ NeedsStable range) }
+    ensures no { result ≡ false → IfSome args.now.version_range (λ range. ¬ NeedsStable range) }
+    ensures yes { result ≡ true → IsSomeAnd args.now.version_range NeedsStable }
 {
     match args.version_range {
         Some(range) => needs_stable(range),

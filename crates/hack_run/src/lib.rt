@@ -2,6 +2,7 @@
 #![tactic(auto)]
 
 mod ask;
+pub mod drive;
 mod fault;
 mod list;
 pub mod run;

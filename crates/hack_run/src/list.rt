@@ -1,42 +1,58 @@
 //! The command list of a plan.
 
+ghost use Rattle.std.specs.Prelude.{◌≡◌, IfOk, IfSome, IsSome, None, Ok, OnOk, false};
+ghost use Rattle.hack_load.specs.ContextView.{context_view};
+ghost use Rattle.hack_versions.specs.RangeSteps.{NeedsStable};
+ghost use Rattle.hack_run.specs.Runs.{DoesPlan, ListsOver, SendsAll};
+
+use crate::drive::{Teller, drive_context};
 use crate::fault::RunFault;
-use crate::start::{Manner, starter};
+use crate::start::starter;
+use hack_calls::fault::PlanFault;
+use hack_load::context::Context;
 use hack_process::process::{Caller, ProcessFault};
-use hack_runs::plan::Plan;
-use hack_session::session::{LineWriter, Lines, Lister, Runner, drive_plan};
-use hack_term::partition::Partition;
+use hack_session::session::{LineWriter, Lines, Lister};
 use hack_term::term::{LogGroup, Term};
-use std::alloc::{AllocError, Global};
+use hack_versions::version::Version;
+use std::alloc::Global;
 use std::io;
 use std::io::{BufWriter, Write};
 
 /// What came of listing.
 #[derive(Drop)]
 struct Listed {
-    /// Whether memory was refused.
-    refused: bool,
+    /// Whether memory was refused, or why there is no plan.
+    refused: Result<bool, PlanFault>,
     /// Why a toolchain or a lockfile failed.
     fault: Option<ProcessFault>,
     /// How many lines were not written.
     failed: u64,
 }
 
-/// Writes the commands of a piece of the plan. Toolchains and lockfiles are made all the same.
+/// Writes the commands of the chosen piece of a context's plan. Toolchains and lockfiles are made all
+/// the same.
 pub(crate) fn list<C: Caller, O: Write, E: Write>(
     alloc: Global,
-    plan: Plan,
-    piece: Option<Partition>,
+    cx: &Context,
+    rustup: &str,
+    stable: Result<Option<Version>, String>,
     term: &mut Term,
     caller: &mut C,
     out: &mut O,
     err: &mut E,
-) -> Result<(), RunFault> {
+) -> Result<(), RunFault>
+    requires { IsSome (context_view cx.now).args.subcommand
+        → IfSome (context_view cx.now).args.version_range (λ range. NeedsStable range
+        → IfOk stable (λ latest. IsSome latest)) }
+    ensures { OnOk result (term.new.error ≡ false → C.tells
+        → DoesPlan SendsAll (context_view cx.now) stable rustup.now
+        (C.calls caller.old) (C.calls caller.new)) }
+{
     let mut buffer = match BufWriter::new(alloc, out) {
         Ok(buffer) => buffer,
         Err(_) => return Err(RunFault::Memory),
     };
-    let came = hand_to_lister(alloc, plan, piece, term, caller, &mut buffer, err);
+    let came = hand_to_lister(alloc, cx, rustup, stable, term, caller, &mut buffer, err);
     let flushed = buffer.flush().is_ok();
     ended(came, flushed)
 }
@@ -44,23 +60,36 @@ pub(crate) fn list<C: Caller, O: Write, E: Write>(
 /// Hands the plan to a lister over the writer.
 fn hand_to_lister<C: Caller, O: Write, E: Write>(
     alloc: Global,
-    plan: Plan,
-    piece: Option<Partition>,
+    cx: &Context,
+    rustup: &str,
+    stable: Result<Option<Version>, String>,
     term: &mut Term,
     caller: &mut C,
     out: &mut O,
     err: &mut E,
-) -> Listed {
+) -> Listed
+    requires { IsSome (context_view cx.now).args.subcommand
+        → IfSome (context_view cx.now).args.version_range (λ range. NeedsStable range
+        → IfOk stable (λ latest. IsSome latest)) }
+    ensures { result.refused ≡ Ok false → result.fault ≡ None → result.failed ≡ 0
+        → term.new.error ≡ false → C.tells
+        → DoesPlan SendsAll (context_view cx.now) stable rustup.now
+        (C.calls caller.old) (C.calls caller.new) }
+{
     let mut nothing = io::sink();
     let mut fault = None;
-    let manner = Manner {
-        piece,
-        keep_going: false,
-        log_group: LogGroup::None,
-    };
-    let mut starter = starter(alloc, manner, &mut fault, term, caller, &mut nothing, err);
+    let mut starter = starter(
+        alloc,
+        LogGroup::None,
+        false,
+        &mut fault,
+        term,
+        caller,
+        &mut nothing,
+        err,
+    );
     let mut lines = LineWriter { out, failed: 0 };
-    let refused = list_over(alloc, plan, piece, &mut lines, &mut starter);
+    let refused = list_over(alloc, cx, rustup, stable, &mut lines, &mut starter);
     Listed {
         refused,
         fault,
@@ -69,32 +98,44 @@ fn hand_to_lister<C: Caller, O: Write, E: Write>(
 }
 
 /// Lists the plan on lines, over a runner for what isn't listed; whether memory was refused.
-fn list_over<'a, W: Lines, R: Runner>(
+fn list_over<'a, W: Lines, R: Teller>(
     alloc: Global,
-    plan: Plan,
-    piece: Option<Partition>,
+    cx: &Context,
+    rustup: &str,
+    stable: Result<Option<Version>, String>,
     out: &'a mut W,
     runner: &'a mut R,
-) -> bool {
+) -> Result<bool, PlanFault>
+    requires { IsSome (context_view cx.now).args.subcommand
+        → IfSome (context_view cx.now).args.version_range (λ range. NeedsStable range
+        → IfOk stable (λ latest. IsSome latest)) }
+    ensures { result ≡ Ok false → W.failed out.old ≡ 0 → W.failed out.new ≡ 0
+        → ListsOver R.told R.ran (context_view cx.now) stable rustup.now runner.old runner.new }
+{
     let mut lister = Lister {
         alloc,
         out,
         runner,
         refused: 0,
     };
-    match drive_plan(alloc, plan, piece, false, &mut lister) {
-        Ok(_) => lister.refused > 0,
-        Err(AllocError) => true,
-    }
+    let _session = drive_context(alloc, cx, rustup, stable, false, &mut lister)?;
+    Ok(lister.refused > 0)
 }
 
 /// How the list ends, where its end was written or not.
-fn ended(listed: Listed, flushed: bool) -> Result<(), RunFault> {
+fn ended(listed: Listed, flushed: bool) -> Result<(), RunFault>
+    ensures { OnOk result ((listed.refused ≡ Ok false) × (listed.fault ≡ None)
+        × (listed.failed ≡ 0)) }
+{
     let Listed {
         refused,
         fault,
         failed,
     } = listed;
+    let refused = match refused {
+        Ok(refused) => refused,
+        Err(fault) => return Err(RunFault::Plan(fault)),
+    };
     if let Some(fault) = fault {
         return Err(RunFault::Process(fault));
     }

@@ -1,7 +1,7 @@
 //! The stages of a call behind its words: what is loaded, manifests that are edited, the plan, and its
 //! runs or their list.
 
-ghost use Rattle.std.specs.Prelude.{◌≡◌, IfOk, OnOk, false, string_bytes, true};
+ghost use Rattle.std.specs.Prelude.{◌≡◌, IfOk, IfSome, IsSome, OnOk, false, string_bytes, true};
 ghost use Rattle.hack_files.specs.Restore.{AreSafe, registered};
 ghost use Rattle.hack_load.specs.Answers.{IsLoaded};
 ghost use Rattle.hack_load.specs.ContextOf.{IsContextFrom};
@@ -10,22 +10,22 @@ ghost use Rattle.hack_load.specs.LeavesFew.{LeavesFew};
 ghost use Rattle.hack_prepare.specs.Prepared.{HoldTexts, IsPrepared};
 ghost use Rattle.hack_prepare.specs.PreparedView.{members_in, wanted_in};
 ghost use Rattle.hack_prepare.specs.Steps.{Grows};
-ghost use Rattle.hack_run.specs.Runs.{RunsAll};
-ghost use Rattle.hack_run.specs.Whole.{Follows, IsPlanned, Performs};
+ghost use Rattle.hack_versions.specs.RangeSteps.{NeedsStable};
+ghost use Rattle.hack_run.specs.Runs.{Does, DoesPlan};
+ghost use Rattle.hack_run.specs.Whole.{Follows, Performs};
 
 use crate::ask::stable_for;
 use crate::fault::RunFault;
 use crate::list::list;
-use crate::start::{Manner, start};
+use crate::start::start;
 use crate::tell::tell_all;
-use hack_calls::plan::plan_of;
 use hack_files::fs::Files;
 use hack_files::restore::Manager;
 use hack_load::context::{Answers, Context};
 use hack_prepare::manifest::{finish, prepare};
 use hack_process::process::Caller;
-use hack_runs::plan::Plan;
 use hack_term::term::Term;
+use hack_versions::version::Version;
 use hack_words::cli::{Args, Env};
 use std::alloc::Global;
 use std::io::Write;
@@ -41,8 +41,8 @@ pub(crate) fn perform<F: Files, C: Caller, O: Write, E: Write>(
     out: &mut O,
     err: &mut E,
 ) -> Result<(), RunFault>
-    ensures done { OnOk result (args.print_command_list ≡ false → term.new.error ≡ false
-        → C.tells → F.tells → Performs args env.now (F.bytes_at files.old) (F.bytes_at files.new)
+    ensures done { OnOk result (term.new.error ≡ false → C.tells → F.tells
+        → Performs args env.now (F.bytes_at files.old) (F.bytes_at files.new)
         (F.failed files.old) (C.calls caller.old) (C.calls caller.new)) }
     ensures back { args.remove_dev_deps ≡ false → F.tells → LeavesFew (Unit {0})
         (F.bytes_at files.old) (F.bytes_at files.new) (F.failed files.old) (F.failed files.new) }
@@ -78,7 +78,7 @@ fn follow<F: Files, C: Caller, O: Write, E: Write>(
     out: &mut O,
     err: &mut E,
 ) -> Result<(), RunFault>
-    ensures done { OnOk result (args.print_command_list ≡ false → term.new.error ≡ false → C.tells
+    ensures done { OnOk result (term.new.error ≡ false → C.tells
         → (F.tells × IfOk answers.loaded (IsLoaded F.tells (F.bytes_at files.old) env.now))
         → Follows args answers (string_bytes env.now.rustup)
         (F.bytes_at files.old) (F.bytes_at files.new) (C.calls caller.old) (C.calls caller.new)) }
@@ -92,8 +92,8 @@ fn follow<F: Files, C: Caller, O: Write, E: Write>(
 {
     let cx = context(alloc, args, answers, term, err)?;
     edit(alloc, &cx, term, files, manager, err)?;
-    let plan = plan(alloc, &cx, env, term, caller, err)?;
-    run_plan(alloc, plan, cx.args(), term, caller, out, err)
+    let stable = stable_for(alloc, cx.args(), env, term, caller)?;
+    run_plan(alloc, &cx, env.rustup.as_str(), stable, term, caller, out, err)
 }
 
 /// Puts together what is loaded.
@@ -146,49 +146,26 @@ fn edit<F: Files, E: Write>(
     }
 }
 
-/// Makes the plan.
-fn plan<C: Caller, E: Write>(
-    alloc: Global,
-    cx: &Context,
-    env: &Env,
-    term: &mut Term,
-    caller: &mut C,
-    err: &mut E,
-) -> Result<Plan, RunFault>
-    ensures { IfOk result (λ plan. IsPlanned (context_view cx.now) (string_bytes env.now.rustup)
-        C.tells (C.calls caller.old) (C.calls caller.new) plan) }
-{
-    let stable = stable_for(alloc, cx.args(), env, term, caller)?;
-    match plan_of(alloc, cx, env.rustup.as_str(), stable) {
-        Ok(answer) => {
-            let (plan, notices) = answer;
-            tell_all(notices.as_slice(), term, err);
-            Ok(plan)
-        }
-        Err(fault) => Err(RunFault::Plan(fault)),
-    }
-}
-
 /// Lists the plan or performs it.
 fn run_plan<C: Caller, O: Write, E: Write>(
     alloc: Global,
-    plan: Plan,
-    args: &Args,
+    cx: &Context,
+    rustup: &str,
+    stable: Result<Option<Version>, String>,
     term: &mut Term,
     caller: &mut C,
     out: &mut O,
     err: &mut E,
 ) -> Result<(), RunFault>
-    ensures { OnOk result (args.now.print_command_list ≡ false → term.new.error ≡ false → C.tells
-        → RunsAll plan args.now.partition (C.calls caller.old) (C.calls caller.new)) }
+    requires { IsSome (context_view cx.now).args.subcommand
+        → IfSome (context_view cx.now).args.version_range (λ range. NeedsStable range
+        → IfOk stable (λ latest. IsSome latest)) }
+    ensures { OnOk result (term.new.error ≡ false → C.tells
+        → DoesPlan (Does (context_view cx.now).args.print_command_list) (context_view cx.now)
+        stable rustup.now (C.calls caller.old) (C.calls caller.new)) }
 {
-    if args.print_command_list {
-        return list(alloc, plan, args.partition, term, caller, out, err);
+    if cx.args().print_command_list {
+        return list(alloc, cx, rustup, stable, term, caller, out, err);
     }
-    let manner = Manner {
-        piece: args.partition,
-        keep_going: args.keep_going,
-        log_group: args.log_group,
-    };
-    start(alloc, plan, manner, term, caller, out, err)
+    start(alloc, cx, rustup, stable, term, caller, out, err)
 }

@@ -1,42 +1,44 @@
 //! The runs of a plan, and the report of those that failed.
 
-ghost use Rattle.std.specs.Prelude.{◌≡◌, None, OnOk, false};
-ghost use Rattle.hack_run.specs.Runs.{RunsAll};
+ghost use Rattle.std.specs.Prelude.{◌≡◌, IfOk, IfSome, IsSome, None, OnOk, false};
+ghost use Rattle.hack_load.specs.ContextView.{context_view};
+ghost use Rattle.hack_versions.specs.RangeSteps.{NeedsStable};
+ghost use Rattle.hack_run.specs.Runs.{DoesPlan, RunsAll};
 
+use crate::drive::drive_context;
 use crate::fault::RunFault;
+use hack_calls::fault::PlanFault;
+use hack_load::context::Context;
 use hack_process::process::{Caller, ProcessFault};
-use hack_runs::plan::Plan;
-use hack_session::session::{Handed, Outcome, Session, Starter, Step, drive_plan};
-use hack_term::partition::Partition;
+use hack_session::session::{Handed, Outcome, Session, Starter, Step};
 use hack_term::term::{LogGroup, Term};
+use hack_versions::version::Version;
 use std::alloc::{AllocError, Global};
 use std::io::Write;
 
-/// How runs are performed.
-#[derive(Clone, Copy)]
-pub(crate) struct Manner {
-    /// The piece of the plan that is run.
-    pub piece: Option<Partition>,
-    /// Whether runs go on behind a failed one.
-    pub keep_going: bool,
-    pub log_group: LogGroup,
-}
-
-/// Performs a piece of the plan, and reports the runs that failed.
+/// Performs the chosen piece of a context's plan, and reports the runs that failed.
 pub(crate) fn start<C: Caller, O: Write, E: Write>(
     alloc: Global,
-    plan: Plan,
-    manner: Manner,
+    cx: &Context,
+    rustup: &str,
+    stable: Result<Option<Version>, String>,
     term: &mut Term,
     caller: &mut C,
     out: &mut O,
     err: &mut E,
 ) -> Result<(), RunFault>
+    requires { IsSome (context_view cx.now).args.subcommand
+        → IfSome (context_view cx.now).args.version_range (λ range. NeedsStable range
+        → IfOk stable (λ latest. IsSome latest)) }
     ensures { OnOk result (term.new.error ≡ false → C.tells
-        → RunsAll plan manner.piece (C.calls caller.old) (C.calls caller.new)) }
+        → DoesPlan RunsAll (context_view cx.now) stable rustup.now
+        (C.calls caller.old) (C.calls caller.new)) }
 {
     let mut fault = None;
-    let session = drive_runs(alloc, plan, manner, &mut fault, term, caller, out, err)?;
+    let session = match drive(alloc, cx, rustup, stable, &mut fault, term, caller, out, err) {
+        Ok(session) => session,
+        Err(fault) => return Err(RunFault::Plan(fault)),
+    };
     report(alloc, &session, term, err)?;
     match fault {
         Some(fault) => Err(RunFault::Process(fault)),
@@ -44,10 +46,11 @@ pub(crate) fn start<C: Caller, O: Write, E: Write>(
     }
 }
 
-/// A starter that performs runs so, with a place for the fault that stops it.
+/// A starter that performs runs as the arguments say, with a place for the fault that stops it.
 pub(crate) fn starter<'a, C: Caller, O: Write, E: Write>(
     alloc: Global,
-    manner: Manner,
+    log_group: LogGroup,
+    keep_going: bool,
     fault: &'a mut Option<ProcessFault>,
     term: &'a mut Term,
     caller: &'a mut C,
@@ -67,29 +70,35 @@ pub(crate) fn starter<'a, C: Caller, O: Write, E: Write>(
         term,
         out,
         err,
-        log_group: manner.log_group,
-        keep_going: manner.keep_going,
+        log_group,
+        keep_going,
         fault,
         refused: 0,
     }
 }
 
 /// Hands the plan to a starter. The fault that stopped it, where it isn't told yet, is kept.
-fn drive_runs<C: Caller, O: Write, E: Write>(
+fn drive<C: Caller, O: Write, E: Write>(
     alloc: Global,
-    plan: Plan,
-    manner: Manner,
+    cx: &Context,
+    rustup: &str,
+    stable: Result<Option<Version>, String>,
     fault: &mut Option<ProcessFault>,
     term: &mut Term,
     caller: &mut C,
     out: &mut O,
     err: &mut E,
-) -> Result<Session, AllocError>
+) -> Result<Session, PlanFault>
+    requires { IsSome (context_view cx.now).args.subcommand
+        → IfSome (context_view cx.now).args.version_range (λ range. NeedsStable range
+        → IfOk stable (λ latest. IsSome latest)) }
     ensures { OnOk result (fault.new ≡ None → term.new.error ≡ false → C.tells
-        → RunsAll plan manner.piece (C.calls caller.old) (C.calls caller.new)) }
+        → DoesPlan RunsAll (context_view cx.now) stable rustup.now
+        (C.calls caller.old) (C.calls caller.new)) }
 {
-    let mut starter = starter(alloc, manner, fault, term, caller, out, err);
-    let session = drive_plan(alloc, plan, manner.piece, manner.keep_going, &mut starter)?;
+    let (log_group, keep_going) = (cx.args().log_group, cx.args().keep_going);
+    let mut starter = starter(alloc, log_group, keep_going, fault, term, caller, out, err);
+    let session = drive_context(alloc, cx, rustup, stable, keep_going, &mut starter)?;
     Ok(session)
 }
 

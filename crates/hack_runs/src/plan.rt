@@ -3,7 +3,9 @@
 
 ghost use Rattle.std.specs.Prelude.{◌≡◌, ◌<◌, ◌^◌, Some, None, length, slice_get, option_map};
 ghost use Rattle.std.specs.Prelude.{IfOk, IfSome, string_bytes, map};
+ghost use Rattle.hack_plan.specs.Spans.{AreTiled};
 ghost use Rattle.hack_process.specs.Commands.{command_of};
+ghost use Rattle.hack_runs.specs.Prepared.{span_of};
 ghost use Rattle.hack_runs.specs.View.{package_view};
 ghost use Rattle.hack_runs.specs.Commands.{command_of_quad, cleaning, lockfile_command, package_at};
 ghost use Rattle.hack_runs.specs.Commands.{name_in, ranked_command};
@@ -30,14 +32,18 @@ pub struct Plan {
 
 impl Model for Plan {
     ghost use Rattle.std.specs.Prelude.{map};
+    ghost use Rattle.std.specs.Prelude.{length};
+    ghost use Rattle.hack_plan.specs.Spans.{AreTiled};
     ghost use Rattle.hack_runs.specs.View.{PlanView, call_view, package_view};
     ghost use Rattle.hack_runs.specs.Plans.{AreRuns};
+    ghost use Rattle.hack_runs.specs.Prepared.{span_of};
 
     ghost Value = { PlanView };
 
     ghost view = { λ p. record { call = call_view p.words; packages = map package_view p.packages.items; versions = p.versions.items; quads = p.places.quads } };
 
-    ghost invariant = { λ p. AreRuns (map package_view p.packages.items) p.places.quads };
+    ghost invariant = { λ p. AreRuns (map package_view p.packages.items) p.places.quads
+        × AreTiled 0 (map span_of p.versions.items) (length p.places.quads) };
 }
 
 /// A place of a plan.
@@ -61,7 +67,10 @@ impl Plan {
     /// Each version that some package uses, or the one "none" without a range, in order, with what
     /// is done before its runs. A version may have no place.
     pub fn versions(&self) -> &[PlanVersion]
-        ensures { result.now ≡ self.now.versions }
+        ensures value { result.now ≡ self.now.versions }
+
+        // The places of each begin where those before it end, from the first place to the last.
+        ensures tiled { AreTiled 0 (map span_of self.now.versions) (length self.now.quads) }
     {
         self.versions.as_slice()
     }

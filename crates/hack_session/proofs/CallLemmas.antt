@@ -1,16 +1,14 @@
 -- What a caller was asked by one command, and by commands behind it.
-use Rattle.std.proofs.Common.{◌≡◌, ◌⊎◌, inl, inr, ℕ, List, [], ◌∷◌, ◌++◌, refl, sym, ◌∙◌, ap, subst, append_assoc, append-nil, rules, Result, Ok, Err}
-use Rattle.std.specs.Prelude.{IfOk, IfErr, OnOk, IsErrAnd, true, false, if◌then◌else◌}
+use Rattle.std.proofs.Common.{◌≡◌, inl, inr, ℕ, List, [], ◌∷◌, refl, sym, ◌∙◌, append-nil, Result, Ok, Err}
+use Rattle.std.specs.Prelude.{IfErr, OnOk}
 use Rattle.hack_process.specs.declared.caller.End.{End}
 use Rattle.hack_process.specs.declared.caller.End.TheVariants.{NeverStarted}
-use Rattle.hack_process.specs.declared.caller.Called.{Called}
 use Rattle.hack_process.specs.declared.fault.ProcessFault.{ProcessFault}
 use Rattle.hack_process.specs.declared.fault.ProcessFault.TheVariants.{Memory, EmptyProgram, NeverExecuted, NotText, Failed as ByFailure}
-use Rattle.hack_process.specs.Calls.{Asked, Answer, Call, Adds, MayAdd, IsSuccess, answer_of}
-use Rattle.hack_process.specs.Faults.{IsFault, Had, Tells}
-use Rattle.hack_session.specs.declared.step.Outcome.{Outcome}
+use Rattle.hack_process.specs.Calls.{Asked, Answer, Call, Adds, MayAdd, IsSuccess}
+use Rattle.hack_process.specs.Faults.{IsFault, Had}
 use Rattle.hack_session.specs.declared.step.Outcome.TheVariants.{Passed, Failed}
-use Rattle.hack_session.specs.Performs.{Succeeds, Ends, Fails, Follows, MayCall, Breaks, Comes, Makes}
+use Rattle.hack_session.specs.Performs.{Succeeds, Ends, Follows, Breaks, Comes, Makes}
 
 call_with : Asked → Answer → Call
 call_with asked answer = record { asked = asked; answer = answer }

@@ -2,7 +2,7 @@
 use Rattle.std.proofs.Common.{◌≡◌, ◌⊎◌, inl, inr, ◌<◌, ◌≤◌, ◌+◌, ◌-◌, ◌*◌, ◌%◌, ℕ, suc, zero, length, get_or, take, drop, map, filter, Some, None, List, [], ◌∷◌, ◌++◌, refl, sym, ◌∙◌, ap, subst, arith, rules, Bool, true, false, Option, cond, append-nil, take-append-drop}
 use Rattle.std.specs.Prelude.{All, AllPairs, Contains, IsTrue, ◌↔◌, slice_get, nat_lt, nat_le, nat_eq, ◌&&◌}
 use Rattle.std.specs.Int.{div_ceil}
-use Rattle.std.specs.List.{list_any, range_with_len, filter_map}
+use Rattle.std.specs.List.{list_any, range_with_len}
 use Rattle.std.proofs.lemmas.List.{take_all}
 use Rattle.std.proofs.lemmas.List.Elements.{filter_map-append}
 use Rattle.std.proofs.lemmas.List.FromFn.{length-range_with_len, get_or-range_with_len}
@@ -17,10 +17,10 @@ use Rattle.hack_runs.specs.View.{PlanView}
 use Rattle.hack_session.specs.declared.step.Step.{Step}
 use Rattle.hack_session.specs.declared.step.Step.TheVariants.{Prepare, Skip, Run}
 use Rattle.hack_session.specs.declared.step.Outcome.{Outcome}
-use Rattle.hack_session.specs.declared.step.Outcome.TheVariants.{Passed, Failed}
+use Rattle.hack_session.specs.declared.step.Outcome.TheVariants.{Passed}
 use Rattle.hack_session.specs.declared.step.Handed.{Handed}
 use Rattle.hack_session.specs.Histories.{Course, IsHistory, IsSameCourse, HasPassed, next_of, passed, stops, stops_at, step_of}
-use Rattle.hack_session.specs.Schedules.{IsChosen, IsTestOf, IsSchedule, in_kind, in_piece, is_place, mark}
+use Rattle.hack_session.specs.Schedules.{IsTestOf, IsSchedule, in_kind, in_piece, is_place, mark}
 use Rattle.hack_session.specs.Handouts.{ArePiece, HandsOut, run_place, runs_of}
 
 is_true : (b : Bool) → IsTrue b → b ≡ true

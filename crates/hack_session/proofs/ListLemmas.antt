@@ -9,10 +9,10 @@ use Rattle.hack_runs.specs.View.{PlanView}
 use Rattle.hack_runs.specs.Commands.{cleaning, command_of_quad, package_at}
 use Rattle.hack_session.specs.declared.lines.LineFault.{LineFault}
 use Rattle.hack_session.specs.declared.step.Step.{Step}
-use Rattle.hack_session.specs.declared.step.Outcome.TheVariants.{Passed, Failed}
+use Rattle.hack_session.specs.declared.step.Outcome.TheVariants.{Failed}
 use Rattle.hack_session.specs.declared.step.Handed.{Handed}
 use Rattle.hack_session.specs.Performs.{GrowsBy}
-use Rattle.hack_session.specs.Lists.{HasListed, is_sent, is_sent_step, line_of, lines_of, run_lines}
+use Rattle.hack_session.specs.Lists.{HasListed, is_sent, is_sent_step, line_of, run_lines}
 use Rattle.hack_session.specs.Joins.{appends_more}
 
 cleaned_lines : (plan : PlanView) (o : Option Quad) (q : Quad) (own clean : Command) → o ≡ Some q → own ≡ command_of_quad plan q → IfSome o (λ x. clean ≡ cleaning plan.call (package_at plan.packages x.package)) → true ≡ plan.call.clean_per_run

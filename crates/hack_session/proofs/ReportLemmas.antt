@@ -1,5 +1,5 @@
 -- Failures as plain data.
-use Rattle.std.proofs.Common.{◌≡◌, ℕ, List, [], ◌∷◌, refl, ap, sym, ◌∙◌, subst, map, filter, string_bytes, bytes_eq, Bool, true, false, cond, ◌||◌, Option, Some, None, rules, arith, slice_get, unwrap_or, option_map, Bor}
+use Rattle.std.proofs.Common.{◌≡◌, ℕ, List, [], ◌∷◌, refl, ap, sym, ◌∙◌, map, filter, string_bytes, bytes_eq, Bool, true, false, cond, ◌||◌, Option, Some, None, unwrap_or, option_map, Bor}
 use Rattle.std.specs.List.{list_any}
 use Rattle.hack_plan.specs.declared.places.Quad.{Quad}
 use Rattle.hack_process.specs.CommandTexts.{text_of}

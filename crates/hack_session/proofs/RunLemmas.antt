@@ -1,6 +1,6 @@
 -- Commands behind commands, and what they come to as a step.
-use Rattle.std.proofs.Common.{◌≡◌, ◌≢◌, ◌⊎◌, inl, inr, ℕ, ◌+◌, ◌-◌, ◌^◌, ◌<◌, List, [], ◌∷◌, ◌++◌, refl, sym, ◌∙◌, ap, subst, append_assoc, append-nil, arith, rules, Bool, true, false, not, Result, Ok, Err, Option, Some, None, map, length, get_or, zero, suc, IsSome, if◌then◌else◌}
-use Rattle.std.specs.Prelude.{All, IfSome, string_bytes, slice_get, ◌==◌, min}
+use Rattle.std.proofs.Common.{◌≡◌, ◌≢◌, inl, inr, ℕ, ◌<◌, List, [], ◌∷◌, ◌++◌, refl, sym, ◌∙◌, ap, subst, append_assoc, append-nil, arith, rules, Bool, true, false, Result, Ok, Err, Option, Some, map, length, get_or, zero, suc, if◌then◌else◌}
+use Rattle.std.specs.Prelude.{All, IfSome, string_bytes, slice_get, ◌==◌}
 use Rattle.std.proofs.Common.{String, Global}
 use Rattle.std.proofs.lemmas.Option.{slice_get_cases}
 use Rattle.hack_versions.specs.declared.version.Version.{Version}

@@ -1,18 +1,20 @@
 -- The steps of a schedule as far as its versions have been taken.
-use Rattle.std.proofs.Common.{◌≡◌, ◌⊎◌, ℕ, ◌+◌, ◌-◌, ◌<◌, ◌≤◌, List, [], ◌∷◌, ◌++◌, map, filter, length, get_or, take, drop, refl, sym, ◌∙◌, ap, subst, arith, rules, Bool, true, false, suc, zero, cond, append_assoc, append-nil, add-zero}
+use Rattle.std.proofs.Common.{◌≡◌, ℕ, ◌+◌, ◌-◌, ◌<◌, ◌≤◌, List, [], ◌∷◌, ◌++◌, map, filter, length, get_or, take, drop, refl, sym, ◌∙◌, ap, subst, arith, rules, Bool, true, false, suc, zero, cond, append_assoc, append-nil}
 use Rattle.std.specs.Prelude.{All}
 use Rattle.std.specs.List.{flat_map, range_with_len}
-use Rattle.std.proofs.lemmas.List.{take_all, take_more, at_drop_more, at_drop_all}
+use Rattle.std.proofs.lemmas.List.{take_all, take_more, at_drop_more}
 use Rattle.std.proofs.lemmas.List.Elements.{filter-append}
 use Rattle.std.proofs.lemmas.List.FromFn.{map-range_with_len_more}
 use Rattle.std.proofs.lemmas.Grind.{flat_map-append, common_steps}
 use Rattle.hack_runs.specs.declared.parts.Preparation.{Preparation}
 use Rattle.hack_runs.specs.declared.parts.PlanVersion.{PlanVersion}
+use Rattle.hack_plan.specs.Spans.{AreTiled}
+use Rattle.hack_runs.specs.Prepared.{span_of}
 use Rattle.hack_runs.specs.View.{PlanView}
 use Rattle.hack_session.specs.declared.step.Step.{Step}
 use Rattle.hack_session.specs.declared.step.Step.TheVariants.{Prepare, Skip, Run}
 use Rattle.hack_session.specs.Histories.{IsStepOf}
-use Rattle.hack_session.specs.Schedules.{mark, places_of, steps_of, is_place, AreTiled}
+use Rattle.hack_session.specs.Schedules.{mark, places_of, steps_of, is_place}
 
 -- a place's step is put behind those of the places before it
 pub push_mark : (f : ℕ → Step) (old now new : List Step) (s : Step) (first place : ℕ) → first ≤ place → now ≡ old ++ map f (range_with_len first (place - first)) → new ≡ now ++ s ∷ [] → s ≡ f place → new ≡ old ++ map f (range_with_len first (place + 1 - first))
@@ -35,23 +37,46 @@ range_join a (suc m) n =
 map_append : {X Y : Type 0} (f : X → Y) (xs ys : List X) → map f (xs ++ ys) ≡ map f xs ++ map f ys
 map_append f xs ys = search (rules, common_steps)
 
--- the versions that are left share out the places that are left
-pub record Listed (inside : ℕ → Bool) (total : ℕ) (vs : List PlanVersion) (i : ℕ) (steps : List Step) (next : ℕ) : Type 0 where
+-- the steps of the first versions; those that are left share out the places from the next one on
+pub record IsLaid (inside : ℕ → Bool) (total : ℕ) (vs : List PlanVersion) (i : ℕ) (steps : List Step) : Type 0 where
+  pub next : ℕ
   pub steps_are : steps ≡ flat_map (steps_of inside) (take i vs)
-  pub left : AreTiled next (drop i vs) total
+  pub left : AreTiled next (map span_of (drop i vs)) total
 
--- the steps of the first versions, whose places go up to the next one
-pub record IsLaid (inside : ℕ → Bool) (total : ℕ) (vs : List PlanVersion) (i : ℕ) (steps : List Step) (next : ℕ) : Type 0 where
-  pub within : next ≤ total
-  pub places : filter is_place steps ≡ map (mark inside) (range_with_len 0 next)
-  pub listed : AreTiled 0 vs total → Listed inside total vs i steps next
+pub laid_first : (inside : ℕ → Bool) (total : ℕ) (vs : List PlanVersion) (steps : List Step) → steps ≡ [] → AreTiled 0 (map span_of vs) total → IsLaid inside total vs 0 steps
+laid_first inside total vs steps e t = record { next = 0; steps_are = e; left = t }
 
-pub laid_first : (inside : ℕ → Bool) (total : ℕ) (vs : List PlanVersion) (steps : List Step) → steps ≡ [] → IsLaid inside total vs 0 steps 0
-laid_first inside total vs steps e = record {
-  within = omega arith;
-  places = ap (filter is_place) e;
-  listed = λ t. record { steps_are = e; left = t };
+tiled_order : (from : ℕ) (vs : List PlanVersion) (to : ℕ) → AreTiled from (map span_of vs) to → from ≤ to
+tiled_order from [] to t = omega (arith, t)
+tiled_order from (v ∷ vs) to t = omega (arith, t.1, tiled_order v.end vs to t.2)
+
+-- the version at hand, in front of those that are left behind it
+here : (inside : ℕ → Bool) (total : ℕ) (vs : List PlanVersion) (i : ℕ) (v : PlanVersion) (steps : List Step) → i < length vs → v ≡ get_or vs i v → (l : IsLaid inside total vs i steps) → AreTiled l.next (map span_of (v ∷ drop (i + 1) vs)) total
+here inside total vs i v steps lt is l =
+    subst (λ (x : PlanVersion). AreTiled l.next (map span_of (x ∷ drop (i + 1) vs)) total) (sym is)
+    (subst (λ (rest : List PlanVersion). AreTiled l.next (map span_of rest) total) (at_drop_more (λ (rest : List PlanVersion). rest) vs i v lt) l.left)
+
+-- its places are some of the plan's
+pub laid_within : (inside : ℕ → Bool) (total : ℕ) (vs : List PlanVersion) (i : ℕ) (v : PlanVersion) (steps : List Step) → i < length vs → v ≡ get_or vs i v → IsLaid inside total vs i steps → (v.first ≤ v.end) × (v.end ≤ total)
+laid_within inside total vs i v steps lt is l =
+    let t = here inside total vs i v steps lt is l in
+    (omega (arith, t.0, t.1), tiled_order v.end (drop (i + 1) vs) total t.2)
+
+-- its steps behind those before it
+pub laid_more : (inside : ℕ → Bool) (total : ℕ) (vs : List PlanVersion) (i : ℕ) (v : PlanVersion) (steps new : List Step) → i < length vs → v ≡ get_or vs i v
+    → new ≡ (steps ++ map Prepare v.preparations.items) ++ map (mark inside) (places_of v) → IsLaid inside total vs i steps → IsLaid inside total vs (i + 1) new
+laid_more inside total vs i v steps new lt is e l = record {
+  next = v.end;
+  steps_are = e ∙ append_assoc steps (map Prepare v.preparations.items) (map (mark inside) (places_of v)) ∙ ap (λ (s : List Step). s ++ steps_of inside v) l.steps_are
+      ∙ ap (λ (s : List Step). flat_map (steps_of inside) (take i vs) ++ s) (sym (append-nil (steps_of inside v)))
+      ∙ sym (flat_map-append (steps_of inside) (take i vs) (v ∷ []))
+      ∙ ap (flat_map (steps_of inside)) (sym (take_more vs i v lt ∙ ap (λ (x : PlanVersion). take i vs ++ x ∷ []) (sym is)));
+  left = (here inside total vs i v steps lt is l).2;
 }
+
+-- behind the last version
+pub laid_all : (inside : ℕ → Bool) (total : ℕ) (vs : List PlanVersion) (i : ℕ) (steps : List Step) → length vs ≤ i → IsLaid inside total vs i steps → steps ≡ flat_map (steps_of inside) vs
+laid_all inside total vs i steps le l = l.steps_are ∙ ap (flat_map (steps_of inside)) (take_all i vs le)
 
 no_places : (ps : List Preparation) → filter is_place (map Prepare ps) ≡ []
 no_places [] = refl
@@ -68,66 +93,35 @@ all_places : (inside : ℕ → Bool) (ps : List ℕ) → filter is_place (map (m
 all_places inside [] = refl
 all_places inside (p ∷ ps) = rw (marked_place inside p) (ap (λ (l : List Step). mark inside p ∷ l) (all_places inside ps))
 
--- places put behind steps
-pub places_more : (inside : ℕ → Bool) (steps : List Step) (ps : List Preparation) (next end : ℕ) → next ≤ end → filter is_place steps ≡ map (mark inside) (range_with_len 0 next)
-    → filter is_place ((steps ++ map Prepare ps) ++ map (mark inside) (range_with_len next (end - next))) ≡ map (mark inside) (range_with_len 0 end)
-places_more inside steps ps next end le e =
-    let n : end ≡ next + (end - next) = omega arith in
-    let z : 0 + next ≡ next = omega arith in
-    filter-append is_place (steps ++ map Prepare ps) (map (mark inside) (range_with_len next (end - next)))
-    ∙ ap (λ (l : List Step). l ++ filter is_place (map (mark inside) (range_with_len next (end - next)))) (filter-append is_place steps (map Prepare ps) ∙ ap (λ (l : List Step). filter is_place steps ++ l) (no_places ps) ∙ append-nil (filter is_place steps) ∙ e)
-    ∙ ap (λ (l : List Step). map (mark inside) (range_with_len 0 next) ++ l) (all_places inside (range_with_len next (end - next)))
-    ∙ sym (map_append (mark inside) (range_with_len 0 next) (range_with_len next (end - next)))
-    ∙ ap (map (mark inside)) (ap (λ (k : ℕ). range_with_len 0 next ++ range_with_len k (end - next)) (sym z) ∙ sym (range_join 0 next (end - next)) ∙ ap (range_with_len 0) (sym n))
+-- the places of versions that share them out
+laid_places : (inside : ℕ → Bool) (from : ℕ) (vs : List PlanVersion) (to : ℕ) → AreTiled from (map span_of vs) to → filter is_place (flat_map (steps_of inside) vs) ≡ map (mark inside) (range_with_len from (to - from))
+laid_places inside from [] to t = ap (λ (n : ℕ). map (mark inside) (range_with_len from n)) gap
+  where
+    gap : 0 ≡ to - from
+    gap = omega (arith, t)
+laid_places inside from (v ∷ vs) to t =
+    filter-append is_place (steps_of inside v) (flat_map (steps_of inside) vs)
+    ∙ ap (λ (l : List Step). l ++ filter is_place (flat_map (steps_of inside) vs)) (filter-append is_place (map Prepare v.preparations.items) (map (mark inside) (places_of v)) ∙ ap (λ (l : List Step). l ++ filter is_place (map (mark inside) (places_of v))) (no_places v.preparations.items) ∙ all_places inside (places_of v) ∙ ap (λ (k : ℕ). map (mark inside) (range_with_len k (v.end - k))) t.0)
+    ∙ ap (λ (l : List Step). map (mark inside) (range_with_len from (v.end - from)) ++ l) (laid_places inside v.end vs to t.2)
+    ∙ sym (map_append (mark inside) (range_with_len from (v.end - from)) (range_with_len v.end (to - v.end)))
+    ∙ ap (map (mark inside)) (ap (λ (k : ℕ). range_with_len from (v.end - from) ++ range_with_len k (to - v.end)) (sym seam) ∙ sym (range_join from (v.end - from) (to - v.end)) ∙ ap (range_with_len from) total)
+  where
+    order : v.end ≤ to
+    order = tiled_order v.end vs to t.2
 
-tiled_order : (from : ℕ) (vs : List PlanVersion) (to : ℕ) → AreTiled from vs to → from ≤ to
-tiled_order from [] to t = omega arith
-tiled_order from (v ∷ vs) to t = let h : v.end ≤ to = tiled_order v.end vs to t.2 in omega arith
+    seam : from + (v.end - from) ≡ v.end
+    seam = omega (arith, t.1)
 
-listed_more : (inside : ℕ → Bool) (total : ℕ) (vs : List PlanVersion) (i : ℕ) (v : PlanVersion) (steps new : List Step) (next end : ℕ)
-    → i < length vs → v ≡ get_or vs i v → (AreTiled next (v ∷ drop (i + 1) vs) total → end ≡ v.end)
-    → new ≡ (steps ++ map Prepare v.preparations.items) ++ map (mark inside) (range_with_len next (end - next))
-    → Listed inside total vs i steps next → Listed inside total vs (i + 1) new end
-listed_more inside total vs i v steps new next end lt is to e l =
-    let tiled : AreTiled next (v ∷ drop (i + 1) vs) total = subst (λ (x : PlanVersion). AreTiled next (x ∷ drop (i + 1) vs) total) (sym is) (subst (λ (rest : List PlanVersion). AreTiled next rest total) (at_drop_more (λ (rest : List PlanVersion). rest) vs i v lt) l.left) in
-    let ends : end ≡ v.end = to tiled in
-    let first : v.first ≡ next = tiled.0 in
-    let here : new ≡ steps ++ steps_of inside v =
-    e ∙ append_assoc steps (map Prepare v.preparations.items) (map (mark inside) (range_with_len next (end - next)))
-    ∙ ap (λ (n : ℕ). steps ++ (map Prepare v.preparations.items ++ map (mark inside) (range_with_len next (n - next)))) ends
-    ∙ ap (λ (n : ℕ). steps ++ (map Prepare v.preparations.items ++ map (mark inside) (range_with_len n (v.end - n)))) (sym first) in
-    record {
-      steps_are = here ∙ ap (λ (l : List Step). l ++ steps_of inside v) l.steps_are
-          ∙ ap (λ (l : List Step). flat_map (steps_of inside) (take i vs) ++ l) (sym (append-nil (steps_of inside v)))
-          ∙ sym (flat_map-append (steps_of inside) (take i vs) (v ∷ []))
-          ∙ ap (flat_map (steps_of inside)) (sym (take_more vs i v lt ∙ ap (λ (x : PlanVersion). take i vs ++ x ∷ []) (sym is)));
-      left = subst (λ (n : ℕ). AreTiled n (drop (i + 1) vs) total) (sym ends) tiled.2;
-    }
+    total : v.end - from + (to - v.end) ≡ to - from
+    total = omega (arith, t.1, order)
 
-pub laid_more : (inside : ℕ → Bool) (total : ℕ) (vs : List PlanVersion) (i : ℕ) (v : PlanVersion) (steps new : List Step) (next end : ℕ)
-    → i < length vs → v ≡ get_or vs i v → next ≤ end → end ≤ total → (next ≤ v.end → v.end ≤ total → end ≡ v.end)
-    → new ≡ (steps ++ map Prepare v.preparations.items) ++ map (mark inside) (range_with_len next (end - next))
-    → IsLaid inside total vs i steps next → IsLaid inside total vs (i + 1) new end
-laid_more inside total vs i v steps new next end lt is low high to e l = record {
-  within = high;
-  places = ap (filter is_place) e ∙ places_more inside steps v.preparations.items next end low l.places;
-  listed = λ t. listed_more inside total vs i v steps new next end lt is (λ tiled. to tiled.1 (tiled_order v.end (drop (i + 1) vs) total tiled.2)) e (l.listed t);
-}
-
--- the places behind the last version's
-pub laid_places : (inside : ℕ → Bool) (total : ℕ) (vs : List PlanVersion) (i : ℕ) (steps new : List Step) (next : ℕ)
-    → new ≡ steps ++ map (mark inside) (range_with_len next (total - next)) → IsLaid inside total vs i steps next → filter is_place new ≡ map (mark inside) (range_with_len 0 total)
-laid_places inside total vs i steps new next e l =
-    ap (filter is_place) (e ∙ ap (λ (s : List Step). s ++ map (mark inside) (range_with_len next (total - next))) (sym (append-nil steps))) ∙ places_more inside steps [] next total l.within l.places
-
-pub laid_steps : (inside : ℕ → Bool) (total : ℕ) (vs : List PlanVersion) (i : ℕ) (steps new : List Step) (next : ℕ) → length vs ≤ i
-    → new ≡ steps ++ map (mark inside) (range_with_len next (total - next)) → IsLaid inside total vs i steps next → AreTiled 0 vs total → new ≡ flat_map (steps_of inside) vs
-laid_steps inside total vs i steps new next le e l t =
-    let listed = l.listed t in
-    let none : drop i vs ≡ [] = at_drop_all (λ (rest : List PlanVersion). rest) vs i le in
-    let done : next ≡ total = subst (λ (rest : List PlanVersion). AreTiled next rest total) none listed.left in
-    let gap : total - next ≡ 0 = omega arith in
-    e ∙ ap (λ (n : ℕ). steps ++ map (mark inside) (range_with_len next n)) gap ∙ append-nil steps ∙ listed.steps_are ∙ ap (flat_map (steps_of inside)) (take_all i vs le)
+-- the steps of all versions, at their places
+pub laid_all_places : (inside : ℕ → Bool) (total : ℕ) (vs : List PlanVersion) (i : ℕ) (steps : List Step) → length vs ≤ i → AreTiled 0 (map span_of vs) total → IsLaid inside total vs i steps
+    → filter is_place steps ≡ map (mark inside) (range_with_len 0 total)
+laid_all_places inside total vs i steps le t l = ap (filter is_place) (laid_all inside total vs i steps le l) ∙ laid_places inside 0 vs total t ∙ ap (λ (n : ℕ). map (mark inside) (range_with_len 0 n)) whole
+  where
+    whole : total - 0 ≡ total
+    whole = omega arith
 
 marked_step : (plan : PlanView) (inside : ℕ → Bool) (place : ℕ) → place < length plan.quads → IsStepOf plan (mark inside place)
 marked_step plan inside place lt = go (inside place)

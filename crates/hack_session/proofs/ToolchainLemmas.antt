@@ -1,7 +1,7 @@
 -- Names of toolchains, and targets in one word.
-use Rattle.std.proofs.Common.{◌≡◌, ◌≢◌, ℕ, List, [], ◌∷◌, ◌++◌, refl, sym, ap, ◌∙◌, Bool, true, false, map, length, rules, arith, cond}
+use Rattle.std.proofs.Common.{◌≡◌, ◌≢◌, ℕ, List, [], ◌∷◌, ◌++◌, refl, sym, ap, ◌∙◌, Bool, true, false, map, length, arith, cond}
 use Rattle.std.proofs.Common.{String, Global}
-use Rattle.std.specs.Prelude.{string_bytes, codes, ◌==◌, if◌then◌else◌}
+use Rattle.std.specs.Prelude.{string_bytes, codes, ◌==◌}
 use Rattle.std.specs.List.{join_by}
 use Rattle.std.proofs.lemmas.List.Folds.{flat_map-map}
 use Rattle.std.proofs.lemmas.Bool.Decides.{nat_tests}

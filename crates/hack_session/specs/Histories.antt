@@ -1,5 +1,5 @@
 -- What a session hands out, and what it was told.
-use Rattle.std.specs.Prelude.{ℕ, ◌≡◌, ◌+◌, ◌<◌, ◌++◌, List, ◌∷◌, [], length, map, take, slice_get, slice_index_or, Bool, true, false, not, Option, Some, None, IfSome, if◌then◌else◌}
+use Rattle.std.specs.Prelude.{ℕ, ◌≡◌, ◌+◌, ◌<◌, ◌++◌, List, ◌∷◌, [], length, map, take, slice_get, slice_index_or, Bool, true, false, not, Option, None, IfSome, if◌then◌else◌}
 use Rattle.std.specs.List.{list_any}
 use Rattle.hack_runs.specs.View.{PlanView}
 use Rattle.hack_session.specs.declared.step.Step.{Step}

@@ -1,12 +1,12 @@
 -- Calls of steps, one behind the other: what the laws of runners need.
-use Rattle.std.proofs.Common.{◌≡◌, ◌⊎◌, inl, inr, ◌+◌, ◌<◌, ℕ, List, [], ◌∷◌, ◌++◌, refl, sym, ◌∙◌, ap, append_assoc, append-nil, arith, rules}
+use Rattle.std.proofs.Common.{◌≡◌, ◌⊎◌, inl, inr, ◌+◌, ℕ, List, [], ◌∷◌, ◌++◌, refl, sym, ◌∙◌, ap, append_assoc, append-nil, arith}
 use Rattle.std.specs.Prelude.{All}
 use Rattle.std.proofs.lemmas.List.Elements.{All-append}
 use Rattle.hack_process.specs.Calls.{Call}
 use Rattle.hack_runs.specs.View.{PlanView}
 use Rattle.hack_session.specs.declared.step.Handed.{Handed}
 use Rattle.hack_session.specs.Histories.{HasPassed}
-use Rattle.hack_session.specs.Performs.{Performs, PerformsAll, GrowsBy, HasPerformed}
+use Rattle.hack_session.specs.Performs.{PerformsAll, GrowsBy, HasPerformed}
 
 pub grows_more : (k l a b c : ℕ) → GrowsBy k a b → GrowsBy l b c → GrowsBy (k + l) a c
 grows_more k l a b c p q h = let e : c ≡ b + l = q h in let f : b ≡ a + k = p (omega arith) in omega arith

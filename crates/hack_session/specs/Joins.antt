@@ -1,5 +1,5 @@
 -- Lists of steps, one behind the other: what the laws of a lister need.
-use Rattle.std.proofs.Common.{◌≡◌, ◌+◌, ◌<◌, ℕ, List, [], ◌∷◌, ◌++◌, Option, Some, None, refl, sym, ◌∙◌, ap, subst, append_assoc, append-nil, arith, rules, length, length-append}
+use Rattle.std.proofs.Common.{◌≡◌, ◌+◌, ℕ, List, [], ◌++◌, Option, Some, None, refl, sym, ◌∙◌, ap, subst, append_assoc, arith, rules, length, length-append}
 use Rattle.std.specs.Prelude.{All, filter, count_by}
 use Rattle.std.specs.List.{flat_map}
 use Rattle.std.specs.Io.KnownBytes.{Appends}
@@ -8,7 +8,6 @@ use Rattle.std.proofs.lemmas.List.Elements.{filter-append}
 use Rattle.std.proofs.lemmas.Grind.{flat_map-append, common_steps}
 use Rattle.hack_runs.specs.View.{PlanView}
 use Rattle.hack_session.specs.declared.step.Handed.{Handed}
-use Rattle.hack_session.specs.Performs.{GrowsBy}
 use Rattle.hack_session.specs.Joined.{grows_more}
 use Rattle.hack_session.specs.Lists.{HasListed, IsListed, is_sent, is_unlisted, listed}
 

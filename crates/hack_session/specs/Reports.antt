@@ -1,5 +1,5 @@
 -- The report of the runs that failed.
-use Rattle.std.specs.Prelude.{ℕ, ◌≡◌, Bool, true, false, List, [], ◌∷◌, ◌++◌, map, filter, length, Option, Some, None, string_bytes, codes, bytes_eq, slice_get, unwrap_or, is_some, option_map, if◌then◌else◌}
+use Rattle.std.specs.Prelude.{ℕ, ◌≡◌, Bool, true, List, [], ◌++◌, map, filter, length, Option, Some, None, string_bytes, codes, bytes_eq, slice_get, unwrap_or, is_some, if◌then◌else◌}
 use Rattle.std.specs.List.{filter_map, flat_map, list_any}
 use Rattle.std.specs.Option.{option_map_or}
 use Rattle.std.specs.Fmt.{decimal}

@@ -1,5 +1,5 @@
 -- The schedule of a plan and a piece.
-use Rattle.std.specs.Prelude.{ℕ, ◌≡◌, ◌-◌, ◌*◌, ◌%◌, ◌<◌, ◌≤◌, ◌↔◌, Bool, true, false, IsTrue, ◌&&◌, List, [], ◌∷◌, ◌++◌, map, filter, length, nat_lt, nat_le, nat_eq, Option, Some, None, if◌then◌else◌}
+use Rattle.std.specs.Prelude.{ℕ, ◌≡◌, ◌-◌, ◌*◌, ◌%◌, ◌<◌, ◌↔◌, Bool, true, false, IsTrue, ◌&&◌, List, ◌++◌, map, filter, length, nat_lt, nat_le, nat_eq, Option, Some, None, if◌then◌else◌}
 use Rattle.std.specs.Int.{div_ceil}
 use Rattle.std.specs.List.{flat_map, range_with_len}
 use Rattle.hack_term.specs.declared.partition.Partition.{Partition}
@@ -32,23 +32,18 @@ places_of v = range_with_len v.first (v.end - v.first)
 abbrev pub steps_of : (ℕ → Bool) → PlanVersion → List Step
 steps_of inside v = map Prepare v.preparations.items ++ map (mark inside) (places_of v)
 
--- each version's places begin where those before it end, from the first place to the last
-abbrev pub AreTiled : ℕ → List PlanVersion → ℕ → Type 0
-AreTiled from [] to = from ≡ to
-AreTiled from (v ∷ vs) to = (v.first ≡ from) × (from ≤ v.end) × AreTiled v.end vs to
-
 -- a step is at a place
 abbrev pub is_place : Step → Bool
 is_place (Prepare preparation) = false
 is_place (Skip place) = true
 is_place (Run place) = true
 
--- all places in order, each once, those outside the piece marked as skipped; and, where the versions share them out, for each version in order its preparations and then its places
+-- all places in order, each once, those outside the piece marked as skipped: for each version in order its preparations and then its places
 pub record IsSchedule (piece : Option Partition) (plan : PlanView) (schedule : List Step) : Type 0 where
   pub inside : ℕ → Bool
   pub test : IsTestOf piece (length plan.quads) inside
   pub places : filter is_place schedule ≡ map (mark inside) (range_with_len 0 (length plan.quads))
-  pub steps : AreTiled 0 plan.versions (length plan.quads) → schedule ≡ flat_map (steps_of inside) plan.versions
+  pub steps : schedule ≡ flat_map (steps_of inside) plan.versions
 
 -- the piece of a kind has the place, as a test
 abbrev pub in_kind : PartitionKind → ℕ → ℕ → ℕ → ℕ → Bool

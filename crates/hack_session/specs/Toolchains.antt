@@ -1,5 +1,5 @@
 -- The commands of rustup on a toolchain.
-use Rattle.std.specs.Prelude.{ℕ, ◌==◌, false, List, [], ◌∷◌, ◌++◌, codes, Option, None, if◌then◌else◌}
+use Rattle.std.specs.Prelude.{ℕ, ◌==◌, List, [], ◌∷◌, ◌++◌, codes, if◌then◌else◌}
 use Rattle.std.specs.List.{join_by}
 use Rattle.hack_process.specs.CommandTexts.{Command}
 use Rattle.hack_runs.specs.Commands.{plain_command}

@@ -4,7 +4,7 @@ ghost use Rattle.std.specs.Prelude.{◌≡◌, ◌<◌, ◌≤◌, ◌-◌, ◌+
 ghost use Rattle.std.specs.List.{flat_map, range_with_len};
 ghost use Rattle.hack_session.specs.declared.step.Step.TheVariants.{Prepare as Prepared};
 ghost use Rattle.hack_session.specs.Histories.{IsStepOf};
-ghost use Rattle.hack_session.specs.Schedules.{AreTiled, in_piece, is_place, mark as marked, steps_of};
+ghost use Rattle.hack_session.specs.Schedules.{in_piece, is_place, mark as marked, steps_of};
 
 use crate::step::Step;
 use hack_plan::progress::Progress;
@@ -13,8 +13,8 @@ use hack_runs::plan::Plan;
 use hack_term::partition::Partition;
 use std::alloc::{AllocError, Global};
 
-/// The steps of a plan: for each version its preparations and then its places, up to where the next
-/// version's begin. Those outside the piece are skipped.
+/// The steps of a plan: for each version its preparations and then its places. Those outside the
+/// piece are skipped.
 pub(crate) fn schedule(
     alloc: Global,
     plan: &Plan,
@@ -23,22 +23,16 @@ pub(crate) fn schedule(
     ensures places { IfOk result (λ steps. filter is_place steps.items
         ≡ map (marked (in_piece piece (length plan.now.quads)))
         (range_with_len 0 (length plan.now.quads))) }
-    ensures steps { IfOk result (λ steps.
-        AreTiled 0 plan.now.versions (length plan.now.quads) → steps.items
+    ensures steps { IfOk result (λ steps. steps.items
         ≡ flat_map (steps_of (in_piece piece (length plan.now.quads))) plan.now.versions) }
     ensures within { IfOk result (λ steps. All (IsStepOf plan.now) steps.items) }
 {
     let total = plan.len();
     let mut steps = Vec::new(alloc);
-    // Each place is put there once, whatever the versions say.
-    let mut next = 0;
     for version in plan.versions() {
         push_preparations(&mut steps, &version.preparations)?;
-        let end = version.end.max(next).min(total);
-        push_places(&mut steps, piece, next, end, total)?;
-        next = end;
+        push_places(&mut steps, piece, version.first, version.end, total)?;
     }
-    push_places(&mut steps, piece, next, total, total)?;
     Ok(steps)
 }
 

@@ -5,7 +5,9 @@ use Rattle.hack_versions.specs.Notes.{note_of}
 use Rattle.hack_words.specs.declared.cli.args.Args.{Args}
 use Rattle.hack_calls.specs.Covered.{AreCovered}
 use Rattle.hack_calls.specs.Made.{IsPlan, IsPlanOf}
+use Rattle.hack_calls.specs.Powersets.{HavePowersets}
 use Rattle.hack_calls.proofs.MadeLemmas.{by-subcommand, same-latest}
+use Rattle.hack_calls.proofs.PowersetLemmas.{powersets}
 use Rattle.hack_calls.proofs.plan.plan_of.Goals as goal
 
 pub returns-in-Ok-clause-ok : goal.returns-in-Ok-clause-ok
@@ -22,3 +24,10 @@ returns-in-Ok-clause-covered c = λ latest is _ powerset each.
     let cx = context_view c.args.cx.now in
     let same = same-latest c.args.stable c.in-Ok.latest latest c.in-Ok.is is in
     subst (λ v. IfOk c.plan_by.result (λ answer. AreCovered cx v answer.0)) same (c.plan_by.ensures.covered c.args.rustup.now c.in_ok-words.ensures powerset each)
+
+pub returns-in-Ok-clause-powersets : goal.returns-in-Ok-clause-powersets
+returns-in-Ok-clause-powersets c = λ _ powerset.
+    let cx = context_view c.args.cx.now in
+    IfOk-weaker c.plan_by.result (λ answer. IsPlan cx c.args.rustup.now c.in-Ok.latest answer.0 (map note_of answer.1.items)) (λ answer. HavePowersets cx answer.0)
+    (λ answer h. powersets cx c.args.rustup.now c.in-Ok.latest answer.0 (map note_of answer.1.items) h powerset)
+    (c.plan_by.ensures.ok c.args.rustup.now c.in_ok-words.ensures)

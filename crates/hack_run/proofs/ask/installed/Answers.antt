@@ -1,4 +1,4 @@
-use Rattle.std.proofs.Common.{true, string_bytes, [], codes, subst, OnOk}
+use Rattle.std.proofs.Common.{true, [], codes, subst, OnOk}
 use Rattle.hack_process.specs.Commands.{asked_of}
 use Rattle.hack_session.specs.Performs.{BreaksInstall, Installs}
 use Rattle.hack_session.specs.Toolchains.{addition_of, trial_of}

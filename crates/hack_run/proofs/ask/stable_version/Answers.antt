@@ -1,4 +1,4 @@
-use Rattle.std.proofs.Common.{◌≡◌, subst, sym, ◌∙◌, true, string_bytes}
+use Rattle.std.proofs.Common.{string_bytes}
 use Rattle.hack_process.specs.CargoTexts.{release_part}
 use Rattle.hack_process.specs.Commands.{command_of}
 use Rattle.hack_versions.specs.ToolTexts.{TellsRelease}

@@ -1,7 +1,9 @@
-use Rattle.std.proofs.Common.{◌≡◌, false, IfOk, string_bytes}
+use Rattle.std.proofs.Common.{◌≡◌, false, IfOk, string_bytes, subst, sym}
 use Rattle.hack_load.specs.Answers.{IsLoaded}
 use Rattle.hack_load.specs.ContextView.{context_view}
 use Rattle.hack_prepare.proofs.HeldLemmas.{loaded-holds}
+use Rattle.hack_words.specs.declared.cli.args.Args.{Args}
+use Rattle.hack_run.specs.Questions.{NeedsAnswer}
 use Rattle.hack_run.proofs.WholeLemmas.{follows}
 use Rattle.hack_run.proofs.stages.follow.Goals as goal
 
@@ -9,18 +11,18 @@ pub returns-clause-done : goal.returns-clause-done
 returns-clause-done g c =
     let held = g.F.Files.bytes_at c.args.files.now in
     let cx = context_view c.in_ok-cx.cx in
-    follows g.C.Caller.tells (g.F.Files.tells × IfOk c.args.answers.loaded (IsLoaded g.F.Files.tells held c.args.env.now)) (c.run_plan.new.term.error ≡ false) c.run_plan.result c.args.args c.args-2.result.now
+    follows g.C.Caller.tells (g.F.Files.tells × IfOk c.args.answers.loaded (IsLoaded g.F.Files.tells held c.args.env.now)) (c.run_plan.new.term.error ≡ false) c.run_plan.result c.args.args
     c.args.answers (string_bytes c.args.env.now.rustup) held (g.F.Files.bytes_at c.edit.new.files)
-    (g.C.Caller.calls c.args.caller.now) (g.C.Caller.calls c.plan.new.caller) (g.C.Caller.calls c.run_plan.new.caller) cx c.in_ok-plan.plan
+    (g.C.Caller.calls c.args.caller.now) (g.C.Caller.calls c.stable_for.new.caller) (g.C.Caller.calls c.run_plan.new.caller) cx c.in_ok-stable.stable
     (λ u. c.in_ok-edit.ensures.prepared u.0 (loaded-holds g.F.Files.tells held c.args.env.now c.args.args c.args.answers cx u.0 u.1 c.in_ok-cx.ensures))
-    c.in_ok-cx.ensures c.args-2.ensures c.in_ok-plan.ensures c.run_plan.ensures
+    c.in_ok-cx.ensures c.in_ok-stable.ensures.asked (λ off. c.in_ok-stable.ensures.unasked (subst (λ (a : Args). ¬ NeedsAnswer a) (sym c.args-2.ensures) off)) (rw c.as_str.ensures.value at c.run_plan.ensures)
 
 pub returns-in_err-edit-clause-safe : goal.returns-in_err-edit-clause-safe
 returns-in_err-edit-clause-safe g c = λ t read.
     c.edit.ensures.safe t (loaded-holds g.F.Files.tells (g.F.Files.bytes_at c.args.files.now) c.args.env.now c.args.args c.args.answers (context_view c.in_ok-cx.cx) t read c.in_ok-cx.ensures)
 
-pub returns-in_err-plan-clause-safe : goal.returns-in_err-plan-clause-safe
-returns-in_err-plan-clause-safe g c = λ t read.
+pub returns-in_err-stable-clause-safe : goal.returns-in_err-stable-clause-safe
+returns-in_err-stable-clause-safe g c = λ t read.
     c.edit.ensures.safe t (loaded-holds g.F.Files.tells (g.F.Files.bytes_at c.args.files.now) c.args.env.now c.args.args c.args.answers (context_view c.in_ok-cx.cx) t read c.in_ok-cx.ensures)
 
 pub returns-clause-safe : goal.returns-clause-safe

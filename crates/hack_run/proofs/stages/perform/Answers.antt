@@ -1,5 +1,5 @@
 use Rattle.std.proofs.Common.{◌<◌, ◌∙◌, ap}
-use Rattle.std.specs.Prelude.{Bool, IfOk, not}
+use Rattle.std.specs.Prelude.{IfOk, not}
 use Rattle.hack_load.specs.Answers.{IsLoaded}
 use Rattle.hack_files.specs.Restore.{registered}
 use Rattle.hack_run.proofs.BackLemmas.{brings_none, kept_none, leaves, safe_new, whole_keeps}

@@ -1,4 +1,3 @@
-use Rattle.std.proofs.Common.{List}
 use Rattle.hack_session.proofs.CallLemmas.{by_success, by_fault}
 use Rattle.hack_session.proofs.calls.call_quietly.Goals as goal
 

@@ -1,4 +1,4 @@
-use Rattle.std.proofs.Common.{◌≡◌, ap, ◌∙◌, sym, slice_get, Err, ◌∷◌, [], false}
+use Rattle.std.proofs.Common.{ap, ◌∙◌, sym, slice_get, Err, ◌∷◌, [], false}
 use Rattle.std.proofs.lemmas.Result.{err_from_is_err_and}
 use Rattle.hack_process.specs.Commands.{asked_of, command_of}
 use Rattle.hack_session.proofs.RunLemmas.{cut_run, ran_as, run_cleaned, run_then, run_stops}

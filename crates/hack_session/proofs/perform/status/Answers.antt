@@ -1,5 +1,4 @@
-use Rattle.std.proofs.Common.{◌≡◌, ◌+◌, ℕ, List, Option, IfOk, string_bytes, option_map, length, ap, ◌∙◌, subst}
-use Rattle.std.specs.Borrow.{Bor}
+use Rattle.std.proofs.Common.{◌≡◌, ◌+◌, ℕ, List, Option, IfOk, string_bytes, option_map, ap, ◌∙◌, subst}
 use Rattle.hack_process.specs.CommandTexts.{text_of}
 use Rattle.hack_process.specs.Commands.{command_of}
 use Rattle.hack_runs.specs.Commands.{command_of_quad, name_in, package_at}

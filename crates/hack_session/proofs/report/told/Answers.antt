@@ -1,7 +1,6 @@
-use Rattle.std.proofs.Common.{◌≡◌, ℕ, List, ap, ◌∙◌, string_bytes, slice_get, refl, unwrap_or, [], true, Option}
+use Rattle.std.proofs.Common.{ℕ, List, ap, ◌∙◌, string_bytes, slice_get, refl, unwrap_or, [], true, Option}
 use Rattle.hack_process.specs.CommandTexts.{text_of}
 use Rattle.hack_process.specs.Commands.{command_of}
-use Rattle.hack_runs.specs.Commands.{command_of_quad, name_in, package_at}
 use Rattle.hack_session.proofs.ReportLemmas.{name_or, told_at}
 use Rattle.hack_session.proofs.report.told.Goals as goal
 

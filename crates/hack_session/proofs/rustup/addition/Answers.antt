@@ -1,5 +1,5 @@
-use Rattle.std.proofs.Common.{◌≡◌, ℕ, List, [], ◌∷◌, ◌++◌, ap, ◌∙◌}
-use Rattle.std.specs.Prelude.{codes, string_bytes, map}
+use Rattle.std.proofs.Common.{ℕ, List, [], ◌∷◌, ◌++◌, ap, ◌∙◌}
+use Rattle.std.specs.Prelude.{codes}
 use Rattle.hack_process.specs.CommandTexts.{Command}
 use Rattle.hack_runs.specs.Commands.{plain_command}
 use Rattle.hack_session.proofs.ToolchainLemmas.{joined_targets}

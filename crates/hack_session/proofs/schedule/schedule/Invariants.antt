@@ -5,4 +5,4 @@ use Rattle.hack_session.proofs.schedule.schedule.Given as goal
 
 abbrev pub invariant-loop-version : goal.invariant-loop-version
 invariant-loop-version l =
-    IsLaid (in_piece l.piece (length l.plan.quads)) (length l.plan.quads) l.version-items l.version-index l.steps.items l.next
+    IsLaid (in_piece l.piece (length l.plan.quads)) (length l.plan.quads) l.version-items l.version-index l.steps.items

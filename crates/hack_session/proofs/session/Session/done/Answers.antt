@@ -1,9 +1,8 @@
 use Rattle.std.proofs.Common.{rules, ◌≡◌, ◌++◌, ◌∷◌, [], ap, sym, ◌∙◌, arith, length, get_or, IsSome, subst, List, ℕ}
 use Rattle.std.specs.List.{list_any}
-use Rattle.hack_session.specs.declared.step.Step.{Step}
 use Rattle.hack_session.specs.declared.step.Handed.{Handed}
 use Rattle.hack_session.specs.Histories.{Course, IsHistory, next_of, stops, Hands}
-use Rattle.hack_session.proofs.HistoryLemmas.{Goes, goes_on, list_any-push, IsHistory-push, hands, with_handed}
+use Rattle.hack_session.proofs.HistoryLemmas.{Goes, goes_on, list_any-push, IsHistory-push, hands}
 use Rattle.hack_session.proofs.session.Session.done.Goals as goal
 
 course : (c : goal.After-unwrap) → Course

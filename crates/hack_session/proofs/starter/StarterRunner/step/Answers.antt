@@ -1,5 +1,4 @@
-use Rattle.std.proofs.Common.{◌≡◌, ◌⊎◌, inl, inr, refl, sym, ap, ◌∙◌, arith, IsSome, Some, true}
-use Rattle.hack_session.specs.Performs.{HasTold}
+use Rattle.std.proofs.Common.{inl, inr, refl, ap, arith}
 use Rattle.hack_session.proofs.RunLemmas.{step_passed, step_failed, step_cut, not_memory, all_passed}
 use Rattle.hack_session.proofs.starter.StarterRunner.step.Goals as goal
 

@@ -1,0 +1,39 @@
+-- The headline, put together from the plan and its session.
+use Rattle.std.proofs.Common.{◌≡◌, sym, subst, List, Option, None, Result, Bool, true, IsSome, Global, String, length}
+use Rattle.hack_calls.specs.Made.{IsPlanOf}
+use Rattle.hack_calls.specs.Powersets.{HavePowersets}
+use Rattle.hack_features.specs.Names.{Name}
+use Rattle.hack_load.specs.Contexts.{ContextRecord}
+use Rattle.hack_runs.specs.View.{PlanView}
+use Rattle.hack_session.specs.Handouts.{HandsOut}
+use Rattle.hack_session.specs.Histories.{Course, IsHistory, next_of}
+use Rattle.hack_session.specs.Schedules.{IsSchedule}
+use Rattle.hack_term.proofs.PieceLemmas.{in_just_one, joined-all}
+use Rattle.hack_versions.specs.Notes.{Note}
+use Rattle.hack_versions.specs.declared.version.Version.{Version}
+use Rattle.hack_words.specs.declared.cli.args.Args.{Args}
+use Rattle.hack_run.specs.Headline.{AreShared, IsHandedOut}
+
+-- the pieces of any plan
+shared : {A : Type 0} (plan : List A) → AreShared plan
+shared plan = record {
+  once = λ kind count place some lt. in_just_one count (length plan) some kind place lt;
+  blocks = λ count some. joined-all count some plan;
+}
+
+-- the session of a context's plan and the chosen piece, driven to its end
+pub handed_out : (cx : ContextRecord) (stable : Result (Option Version) (String Global)) (rustup : Name) (keep_going : Bool) (t : Course) (plan : PlanView) (notes : List Note) (given : Args) → given ≡ cx.args
+    → IsPlanOf cx.args.subcommand stable cx rustup plan notes → (IsSome cx.args.subcommand → cx.args.feature_powerset ≡ true → HavePowersets cx plan)
+    → t.plan ≡ plan → t.keep_going ≡ keep_going → IsSchedule given.partition plan t.schedule → next_of t ≡ None → IsHistory t → HandsOut given.partition (length plan.quads) t
+    → IsHandedOut cx stable rustup keep_going t
+handed_out cx stable rustup keep_going t plan notes given args planned powersets same goes_on schedule complete history runs = record {
+  notes = notes;
+  plan = subst (λ (p : PlanView). IsPlanOf cx.args.subcommand stable cx rustup p notes) (sym same) planned;
+  schedule = subst (λ (p : PlanView). IsSchedule cx.args.partition p t.schedule) (sym same) (subst (λ (a : Args). IsSchedule a.partition plan t.schedule) args schedule);
+  goes_on = goes_on;
+  history = history;
+  complete = complete;
+  runs = subst (λ (p : PlanView). HandsOut cx.args.partition (length p.quads) t) (sym same) (subst (λ (a : Args). HandsOut a.partition (length plan.quads) t) args runs);
+  pieces = shared t.plan.quads;
+  powersets = λ some powerset. subst (λ (p : PlanView). HavePowersets cx p) (sym same) (powersets some powerset);
+}

@@ -1,0 +1,10 @@
+use Rattle.std.proofs.Common.{map}
+use Rattle.hack_load.specs.ContextView.{context_view}
+use Rattle.hack_versions.specs.Notes.{note_of}
+use Rattle.hack_run.proofs.HeadlineLemmas.{handed_out}
+use Rattle.hack_run.proofs.drive.drive_context.Goals as goal
+
+pub returns-clause-headline : goal.returns-clause-headline
+returns-clause-headline g c =
+    handed_out (context_view c.args.cx.now) c.args.stable c.args.rustup.now c.args.keep_going c.in_ok-session.session c.in_ok-plan.plan (map note_of c.in_ok-plan.notices.items) c.args-2.result.now c.args-2.ensures
+    c.in_ok-plan.ensures.ok c.in_ok-plan.ensures.powersets c.in_ok-session.ensures.plan c.in_ok-session.ensures.keep_going c.in_ok-session.ensures.schedule c.in_ok-session.ensures.complete c.in_ok-session.ensures.history c.in_ok-session.ensures.hands_out

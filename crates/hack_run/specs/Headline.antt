@@ -1,0 +1,35 @@
+-- The headline: what is handed out for a context, whatever comes of its steps.
+use Rattle.std.specs.Prelude.{ℕ, ◌≡◌, ◌<◌, Bool, true, List, Option, None, Result, IsSome, length}
+use Rattle.std.proofs.Common.{Global, String}
+use Rattle.hack_calls.specs.Made.{IsPlanOf}
+use Rattle.hack_calls.specs.Powersets.{HavePowersets}
+use Rattle.hack_features.specs.Names.{Name}
+use Rattle.hack_load.specs.Contexts.{ContextRecord}
+use Rattle.hack_session.specs.Handouts.{HandsOut}
+use Rattle.hack_session.specs.Histories.{Course, IsHistory, next_of}
+use Rattle.hack_session.specs.Schedules.{IsSchedule}
+use Rattle.hack_term.specs.Pieces.{InJustOnePiece, joined}
+use Rattle.hack_term.specs.declared.partition.PartitionKind.{PartitionKind}
+use Rattle.hack_versions.specs.Notes.{Note}
+use Rattle.hack_versions.specs.declared.version.Version.{Version}
+
+-- each place of a plan is in exactly one of its pieces, however many there are and however they are dealt; and the blocks, one
+-- behind the other, are the plan
+pub record AreShared {A : Type 0} (plan : List A) : Type 0 where
+  pub once : (kind : PartitionKind) (count place : ℕ) → 0 < count → place < length plan → InJustOnePiece kind count (length plan) place
+  pub blocks : (count : ℕ) → 0 < count → joined count plan ≡ plan
+
+-- The session's plan is the context's: exactly the admissible runs, in order. Its schedule is that of the chosen piece; what was
+-- handed out is a front of it with its outcomes, in which no element but the last stops, and there is no next step. The runs
+-- handed out are the chosen piece of the plan, in order, each place once, until a step stops or the piece ends. The pieces share
+-- out the plan, and under a powerset each package's sets are exactly the listed ones, each once.
+pub record IsHandedOut (cx : ContextRecord) (stable : Result (Option Version) (String Global)) (rustup : Name) (keep_going : Bool) (t : Course) : Type 0 where
+  pub notes : List Note
+  pub plan : IsPlanOf cx.args.subcommand stable cx rustup t.plan notes
+  pub schedule : IsSchedule cx.args.partition t.plan t.schedule
+  pub goes_on : t.keep_going ≡ keep_going
+  pub history : IsHistory t
+  pub complete : next_of t ≡ None
+  pub runs : HandsOut cx.args.partition (length t.plan.quads) t
+  pub pieces : AreShared t.plan.quads
+  pub powersets : IsSome cx.args.subcommand → cx.args.feature_powerset ≡ true → HavePowersets cx t.plan

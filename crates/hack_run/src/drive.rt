@@ -1,0 +1,91 @@
+//! What a call runs: the plan of what is loaded, handed out to a runner.
+
+ghost use Rattle.std.specs.Prelude.{◌≡◌, ◌⊎◌, IfErr, IfOk, IfSome, IsSome, List, map};
+ghost use Rattle.hack_calls.specs.Made.{IsCauseOf};
+ghost use Rattle.hack_load.specs.ContextView.{context_view};
+ghost use Rattle.hack_session.specs.Performs.{HasTold};
+ghost use Rattle.hack_versions.specs.Notes.{Note, note_of};
+ghost use Rattle.hack_versions.specs.RangeSteps.{NeedsStable};
+ghost use Rattle.hack_run.specs.Headline.{IsHandedOut};
+
+use crate::tell::tell_all;
+use hack_calls::fault::PlanFault;
+use hack_calls::plan::plan_of;
+use hack_load::context::Context;
+use hack_process::process::Caller;
+use hack_session::session::{Lines, Lister, Runner, Session, Starter, drive_plan};
+use hack_versions::notice::Notice;
+use hack_versions::version::Version;
+use std::alloc::Global;
+use std::io::Write;
+
+/// A runner that tells the user notices too.
+pub trait Teller: Runner {
+    /// These notices took the first runner to the second.
+    ghost told: { List Note → Self → Self → Type 0 };
+
+    /// Tells notices, in order.
+    fn tell(&mut self, notices: &[Notice])
+        ensures { told (map note_of notices.now) self.old self.new };
+}
+
+/// Makes the plan of a context, tells its notices, and hands out the steps of the chosen piece to
+/// their end. `rustup` is rustup's program; `stable` is the version of the toolchain `stable` where
+/// the range needs it, or the text of the fault of asking for it.
+pub fn drive_context<R: Teller>(
+    alloc: Global,
+    cx: &Context,
+    rustup: &str,
+    stable: Result<Option<Version>, String>,
+    keep_going: bool,
+    runner: &mut R,
+) -> Result<Session, PlanFault>
+    requires { IsSome (context_view cx.now).args.subcommand
+        → IfSome (context_view cx.now).args.version_range (λ range. NeedsStable range
+        → IfOk stable (λ latest. IsSome latest)) }
+
+    // The runs handed out are the chosen piece of the plan, in order, each place once, until a
+    // preparation fails, a run fails and runs don't go on, or the piece ends. The plan is exactly the
+    // admissible runs, in order; each of its places is in exactly one of the pieces, and the blocks
+    // joined are the plan. A package's powerset is exactly the listed sets, each once.
+    ensures headline { IfOk result
+        (IsHandedOut (context_view cx.now) stable rustup.now keep_going) }
+
+    // The runner was told notices, and then handed just these steps with these outcomes, in order.
+    ensures ran { IfOk result (λ s. (notes : List Note) × (mid : R)
+        × R.told notes runner.old mid × R.ran s.plan s.handed mid runner.new) }
+
+    // Where memory wasn't refused, a cause holds for which there is no plan.
+    ensures err { IfErr result (λ e. (e ≡ PlanFault.Memory)
+        ⊎ IsCauseOf (context_view cx.now).args.subcommand stable (context_view cx.now) e) }
+{
+    let (plan, notices) = plan_of(alloc, cx, rustup, stable)?;
+    runner.tell(notices.as_slice());
+    let session = drive_plan(alloc, plan, cx.args().partition, keep_going, runner)?;
+    Ok(session)
+}
+
+impl<C: Caller, O: Write, E: Write> Teller for Starter<'_, C, O, E> {
+    ghost told = { λ notes a b. (a.caller.ghost_name ≡ b.caller.ghost_name)
+        × (a.term.ghost_name ≡ b.term.ghost_name)
+        × (a.fault.ghost_name ≡ b.fault.ghost_name)
+        × (b.caller.now ≡ a.caller.now)
+        × (b.refused ≡ a.refused)
+        × (HasTold a.term.now a.fault.now → HasTold b.term.now b.fault.now) };
+
+    fn tell(&mut self, notices: &[Notice]) {
+        tell_all(notices, self.term, self.err);
+    }
+}
+
+impl<W: Lines, R: Teller> Teller for Lister<'_, W, R> {
+    ghost told = { λ notes a b. (a.out.ghost_name ≡ b.out.ghost_name)
+        × (a.runner.ghost_name ≡ b.runner.ghost_name)
+        × (b.out.now ≡ a.out.now)
+        × (b.refused ≡ a.refused)
+        × R.told notes a.runner.now b.runner.now };
+
+    fn tell(&mut self, notices: &[Notice]) {
+        self.runner.tell(notices);
+    }
+}
