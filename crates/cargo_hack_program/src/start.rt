@@ -14,6 +14,8 @@ pub enum StartFault {
     Words,
     /// A variable that counts is no text in UTF-8.
     Variables,
+    /// Another call edits the manifests of this workspace.
+    Busy,
 }
 
 impl StartFault {
@@ -23,6 +25,7 @@ impl StartFault {
             StartFault::Memory => "out of memory",
             StartFault::Words => "the words must be UTF-8",
             StartFault::Variables => "the variables of the environment must be UTF-8",
+            StartFault::Busy => "another call is editing the manifests of this workspace",
         }
     }
 }
