@@ -17,8 +17,8 @@ fn edit<F: Files>(files: &mut F) -> Result<(), FileFault> {
     files.write("b", b"")
 }
 
-/// The files of such a call, of which each change is kept: two files at first, then each edit behind
-/// its journal, and the removal of the journal.
+/// The files of such a call, of which each change is kept: two files at first, then each edit
+/// behind its journal, and the removal of the journal.
 fn edited<R: Abort>(rt: &R, alloc: Global) -> Result<MemoryFiles, Fail> {
     let mut files = MemoryFiles::new(alloc);
     assert!(rt; files.write("a", b"one\n\ntwo\n").is_ok());

@@ -1,4 +1,5 @@
-//! Tests over files with a journal: wherever a call ends, the next one puts back what it had edited.
+//! Tests over files with a journal: wherever a call ends, the next one puts back what it had
+//! edited.
 #![tactic(auto)]
 
 #[cfg(test)]
