@@ -38,7 +38,8 @@ fn count_failure(failures: &mut u64)
 
 impl<F: Files> Journaled<F> {
     /// Files over these, of which nothing is kept yet, and of which no call has failed. The journal
-    /// is written to this path with the first change.
+    /// is written to this path before the first change; one that is there already would be lost, so
+    /// call `recover` first.
     pub fn new(alloc: Global, files: F, journal: String) -> Self
         ensures journal { string_bytes result.journal ≡ string_bytes journal }
         ensures files { result.files ≡ files }

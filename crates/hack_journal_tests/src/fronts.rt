@@ -56,7 +56,11 @@ fn each_front_comes_back(rt: HostRuntime) -> Result<(), Fail> {
         let told = recovered(rt.alloc(), &mut files)?;
         assert_eq!(rt; told.as_str(), want, "{count} changes");
         let left = held(rt.alloc(), &mut files, &["a", "b", "c", JOURNAL])?;
-        assert_eq!(rt; left.as_str(), "a \"one\\n\\ntwo\\n\" b \"\" c - j - ", "{count} changes");
+        assert_eq!(rt;
+            left.as_str(),
+            "a \"one\\n\\ntwo\\n\" b \"\" c - j - ",
+            "{count} changes"
+        );
     }
     Ok(())
 }

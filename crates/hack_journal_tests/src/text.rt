@@ -32,7 +32,10 @@ fn a_text_is_read_back(rt: HostRuntime) -> Result<(), Fail> {
 fn a_torn_text_is_refused(rt: HostRuntime) -> Result<(), Fail> {
     for len in 0..TEXT.len() {
         let front = TEXT.get(..len).unwrap_or(TEXT);
-        assert!(rt; read_back(rt.alloc(), front) == Err(JournalFault::NotJournal), "{len}");
+        assert!(rt;
+            read_back(rt.alloc(), front) == Err(JournalFault::NotJournal),
+            "{len}"
+        );
     }
     let mut files = MemoryFiles::new(rt.alloc());
     assert!(rt; files.write(JOURNAL, b"edited files\n").is_ok());
