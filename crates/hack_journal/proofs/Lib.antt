@@ -1,5 +1,5 @@
-pub mod TextLemmas
+mod TextLemmas
 mod ChangeLemmas
-pub mod SafeLemmas
-pub mod FinishLemmas
-pub mod RecoverLemmas
+mod SafeLemmas
+mod FinishLemmas
+mod RecoverLemmas

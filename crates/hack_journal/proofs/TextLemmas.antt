@@ -5,7 +5,9 @@ use Rattle.std.specs.Prelude.{not}
 use Rattle.std.proofs.lemmas.Slice.Eq.{bytes_eq-Decides}
 use Rattle.std.proofs.lemmas.Bool.{cases_Bool}
 use Rattle.std.proofs.lemmas.Bool.Decides.{eqb_tells}
-use Rattle.hack_journal.specs.Journal.{Edit, lines, content_text, edit_text, edits_text, IsNext, HaveTextPaths}
+use Rattle.std.proofs.lemmas.Str.{IsUtf8-string_bytes}
+use Rattle.hack_journal.specs.declared.journal.Entry.{Entry}
+use Rattle.hack_journal.specs.Journal.{edits_of, Edit, lines, content_text, edit_text, edits_text, IsNext, HaveTextPaths}
 
 -- how a text that goes on with lines begins
 pub data Begins (byte : ℕ) (left more rest : List ℕ) : Type 0 where
@@ -142,3 +144,8 @@ one_more left (e ∷ es) texts h ne = record { entry = e; others = es; is = refl
 pub at_end : (left : List ℕ) (more : List Edit) → left ≡ edits_text more → left ≡ codes "end\n" → more ≡ []
 at_end left [] h is = refl
 at_end left (e ∷ es) h is = let t : 112 ∷ 97 ∷ 116 ∷ 104 ∷ 32 ∷ (lines e.path ++ (codes "held" ++ (content_text e.held ++ (codes "wrote" ++ (content_text e.wrote ++ edits_text es))))) ≡ 101 ∷ 110 ∷ 100 ∷ 10 ∷ [] = sym (regroup e (edits_text es)) ∙ sym h ∙ is in cc
+
+-- the paths of entries are text
+pub text_paths : (es : List Entry) → HaveTextPaths (edits_of es)
+text_paths [] = tt
+text_paths (e ∷ es) = (IsUtf8-string_bytes e.path, text_paths es)

@@ -88,8 +88,8 @@ fn is_of_call(journal: &str, all: &[Entry], entry: &Entry) -> bool
     agrees(first(all, entry.path.as_str()), entry)
 }
 
-/// Whether these are entries as a call writes them whose entries are all: none is the journal's, and
-/// those of one path agree on what it held.
+/// Whether these entries, of a journal that has `all`, are as a call writes them: none is of the
+/// journal, and those of one path agree on what it held.
 pub fn are_of_call(journal: &str, all: &[Entry], entries: &[Entry]) -> bool
     ensures { IsTrue result ↔
         AreOfCall journal.now (edits_of all.now) (edits_of entries.now) }

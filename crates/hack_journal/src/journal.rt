@@ -211,6 +211,8 @@ fn entries_of(alloc: Global, text: &[u8]) -> Result<Vec<Entry>, JournalFault>
 /// that isn't whole is `NotJournal`, as any that `spell` does not write.
 pub fn read_back(alloc: Global, text: &[u8]) -> Result<Vec<Entry>, JournalFault>
     ensures found { IfOk result (λ entries. text.now ≡ spelling (edits_of entries.items)) }
+    ensures back { (entries : List Entry) → text.now ≡ spelling (edits_of entries) →
+        Reads (λ x. edits_of x.items) result (edits_of entries) }
     ensures only { (edits : List Edit) → HaveTextPaths edits → text.now ≡ spelling edits →
         Reads (λ x. edits_of x.items) result edits }
 {

@@ -3,8 +3,8 @@
 //! Wherever the program ends, each path holds what it held at first, or the journal has it, and
 //! [`crate::recover::recover`] puts it back.
 
-ghost use Rattle.std.specs.Prelude.{◌≡◌, ◌≢◌, ◌++◌, ◌⊎◌, [], ◌∷◌, List, ℕ, None, false};
-ghost use Rattle.std.specs.Prelude.{IfOk, OnOk, OnErr, IsTrue, string_bytes};
+ghost use Rattle.std.specs.Prelude.{◌≡◌, ◌≢◌, ◌++◌, ◌⊎◌, [], ◌∷◌, List, ℕ, None, Some, false};
+ghost use Rattle.std.specs.Prelude.{IfOk, OnOk, OnErr, IsTrue, IsSome, ◌↔◌, string_bytes};
 ghost use Rattle.std.specs.Option.{option_map};
 ghost use Rattle.hack_files.specs.Files.{Contents, Counts, GrowsBy, KeepsOthers, KeepsAll};
 ghost use Rattle.hack_files.specs.Files.{Makes, MakesOrNot, puts};
@@ -38,7 +38,8 @@ fn count_failure(failures: &mut u64)
 
 impl<F: Files> Journaled<F> {
     /// Files over these, of which nothing is kept yet, and of which no call has failed. The journal
-    /// is written to this path with the first change.
+    /// is written to this path before the first change; one that is there already would be lost, so
+    /// call `recover` first.
     pub fn new(alloc: Global, files: F, journal: String) -> Self
         ensures journal { string_bytes result.journal ≡ string_bytes journal }
         ensures files { result.files ≡ files }
@@ -329,7 +330,27 @@ impl<F: Files> Files for Journaled<F> {
 
     ghost failed = { λ files. files.failures };
 
-    fn read(&mut self, alloc: Global, path: &str) -> Result<Vec<u8>, FileFault> {
+    fn read(&mut self, alloc: Global, path: &str) -> Result<Vec<u8>, FileFault>
+        ensures stays { (string_bytes self.old.journal ≡ string_bytes self.new.journal) ×
+            (F.tells → F.whole → Stays (string_bytes self.old.journal)
+            (edits_of self.old.entries.items) (edits_of self.new.entries.items)
+            (F.trace self.old.files) (F.trace self.new.files)
+            (F.bytes_at self.old.files) (F.bytes_at self.new.files)) }
+        ensures counted { Counts self.old.failures self.new.failures result }
+        ensures bytes { IfOk result (λ bytes. F.tells → without (string_bytes self.old.journal)
+            (F.bytes_at self.old.files) path.now ≡ Some bytes.items) }
+        ensures same { F.tells → KeepsAll
+            (without (string_bytes self.old.journal) (F.bytes_at self.old.files))
+            (without (string_bytes self.new.journal) (F.bytes_at self.new.files)) }
+        ensures untraced { F.tells × F.whole → Makes []
+            (but (string_bytes self.old.journal) (F.trace self.old.files))
+            (but (string_bytes self.new.journal) (F.trace self.new.files))
+            (without (string_bytes self.old.journal) (F.bytes_at self.old.files))
+            (without (string_bytes self.new.journal) (F.bytes_at self.new.files)) }
+        // Not even a journal is written.
+        ensures below { F.whole → Makes [] (F.trace self.old.files) (F.trace self.new.files)
+            (F.bytes_at self.old.files) (F.bytes_at self.new.files) }
+    {
         if path == self.journal.as_str() {
             count_failure(&mut self.failures);
             return Err(FileFault::Device);
@@ -353,7 +374,27 @@ impl<F: Files> Files for Journaled<F> {
         }
     }
 
-    fn exists(&mut self, path: &str) -> Result<bool, FileFault> {
+    fn exists(&mut self, path: &str) -> Result<bool, FileFault>
+        ensures stays { (string_bytes self.old.journal ≡ string_bytes self.new.journal) ×
+            (F.tells → F.whole → Stays (string_bytes self.old.journal)
+            (edits_of self.old.entries.items) (edits_of self.new.entries.items)
+            (F.trace self.old.files) (F.trace self.new.files)
+            (F.bytes_at self.old.files) (F.bytes_at self.new.files)) }
+        ensures counted { Counts self.old.failures self.new.failures result }
+        ensures there { IfOk result (λ there. F.tells → IsTrue there ↔ IsSome
+            (without (string_bytes self.old.journal) (F.bytes_at self.old.files) path.now)) }
+        ensures same { F.tells → KeepsAll
+            (without (string_bytes self.old.journal) (F.bytes_at self.old.files))
+            (without (string_bytes self.new.journal) (F.bytes_at self.new.files)) }
+        ensures untraced { F.tells × F.whole → Makes []
+            (but (string_bytes self.old.journal) (F.trace self.old.files))
+            (but (string_bytes self.new.journal) (F.trace self.new.files))
+            (without (string_bytes self.old.journal) (F.bytes_at self.old.files))
+            (without (string_bytes self.new.journal) (F.bytes_at self.new.files)) }
+        // Not even a journal is written.
+        ensures below { F.whole → Makes [] (F.trace self.old.files) (F.trace self.new.files)
+            (F.bytes_at self.old.files) (F.bytes_at self.new.files) }
+    {
         if path == self.journal.as_str() {
             return Ok(false);
         }

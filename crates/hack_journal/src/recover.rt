@@ -24,10 +24,12 @@ pub enum RecoverFault {
     #[error("out of memory")]
     Memory,
     /// What stands at the journal's path is no whole journal. Nothing was changed.
-    #[error("`{0}` is not a whole journal of edited files; put back by hand what it tells, and remove it")]
+    #[error("`{0}` is not a whole journal of edited files; put back by hand what it tells, and \
+        remove it")]
     NotJournal(String),
     /// A path holds neither what it held at first nor what was written there. Nothing was changed.
-    #[error("`{path}` was changed after an interrupted call had edited it; put back by hand what `{journal}` tells, and remove `{journal}`")]
+    #[error("`{path}` was changed after an interrupted call had edited it; put back by hand what \
+        `{journal}` tells, and remove `{journal}`")]
     Changed { path: String, journal: String },
     /// A file can't be read or written. What isn't back yet is still in the journal.
     #[error("{0}")]
@@ -260,8 +262,8 @@ fn take_back<F: Files>(
 /// files held something else. Where no journal is, there is nothing to do, and it answers 0.
 ///
 /// Nothing is written before all is looked at: where a path holds neither what it held at first nor
-/// what was written there, or the journal isn't whole, nothing is changed. It may itself be ended at
-/// any moment, and called again.
+/// what was written there, or the journal isn't whole, nothing is changed. It may itself be ended
+/// at any moment, and called again.
 pub fn recover<F: Files>(alloc: Global, files: &mut F, journal: &str) -> Result<u64, RecoverFault>
     // Each kept path holds what it held at first, and no other path was changed.
     ensures restored { IfOk result (λ count. F.tells →

@@ -1,7 +1,7 @@
 use Rattle.std.proofs.Common.{◌≡◌, ap, sym, ◌∙◌}
 use Rattle.std.proofs.lemmas.Result.{err_from_is_err_and}
 use Rattle.hack_journal.specs.Journal.{edits_text, spelling, edits_of}
-use Rattle.hack_journal.proofs.TextLemmas.{differ_of}
+use Rattle.hack_journal.proofs.TextLemmas.{differ_of, text_paths}
 use Rattle.hack_journal.proofs.journal.read_back.Goals as goal
 
 pub returns-in_err-rest-clause-only : goal.returns-in_err-rest-clause-only
@@ -22,3 +22,15 @@ returns-then-ne-clause-only c = λ entries texts h.
 
 pub returns-clause-only : goal.returns-clause-only
 returns-clause-only c = λ entries texts h. c.in_ok-entries.ensures entries texts (c.in_ok-rest.ensures.only (edits_text entries) h)
+
+pub returns-in_err-rest-clause-back : goal.returns-in_err-rest-clause-back
+returns-in_err-rest-clause-back c = λ entries. returns-in_err-rest-clause-only c (edits_of entries) (text_paths entries)
+
+pub returns-in_err-entries-clause-back : goal.returns-in_err-entries-clause-back
+returns-in_err-entries-clause-back c = λ entries. returns-in_err-entries-clause-only c (edits_of entries) (text_paths entries)
+
+pub returns-then-ne-clause-back : goal.returns-then-ne-clause-back
+returns-then-ne-clause-back c = λ entries. returns-then-ne-clause-only c (edits_of entries) (text_paths entries)
+
+pub returns-clause-back : goal.returns-clause-back
+returns-clause-back c = λ entries. returns-clause-only c (edits_of entries) (text_paths entries)
