@@ -93,11 +93,7 @@ fn manifest<F: Files>(
 }
 
 /// What a file holds, where there is one that can be read.
-fn held<F: Files>(
-    alloc: Global,
-    path: &str,
-    files: &mut F,
-) -> Result<Option<Vec<u8>>, AllocError> {
+fn held<F: Files>(alloc: Global, path: &str, files: &mut F) -> Result<Option<Vec<u8>>, AllocError> {
     match files.exists(path) {
         Ok(true) => (),
         Ok(false) | Err(FileFault::Device) => return Ok(None),

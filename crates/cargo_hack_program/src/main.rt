@@ -43,7 +43,12 @@ fn call<E: Write>(
     let words = words_of(rt)?;
     let env = env_of(rt)?;
     let mut disk = Disk::new(rt);
-    let folder = workspace(rt.alloc(), words.as_slice(), env.current_dir.as_str(), &mut disk)?;
+    let folder = workspace(
+        rt.alloc(),
+        words.as_slice(),
+        env.current_dir.as_str(),
+        &mut disk,
+    )?;
     let journal = journal_in(rt.alloc(), folder.as_str())?;
     let lock = Lock::take(rt, folder.as_str());
     let edits = edits(words.as_slice());
@@ -98,7 +103,9 @@ fn is_restored<F: Files, E: Write>(
         Ok(0) => Ok(true),
         Ok(count) => {
             let noun = if count == 1 { "file" } else { "files" };
-            let text = format!(in alloc; "restored {count} {noun} that an interrupted call had edited")?;
+            let text = format!(in alloc;
+                "restored {count} {noun} that an interrupted call had edited"
+            )?;
             let _ = term.warn(&text, err);
             Ok(true)
         }

@@ -93,7 +93,16 @@ fn follow<F: Files, C: Caller, O: Write, E: Write>(
     let cx = context(alloc, args, answers, term, err)?;
     edit(alloc, &cx, term, files, manager, err)?;
     let stable = stable_for(alloc, cx.args(), env, term, caller)?;
-    run_plan(alloc, &cx, env.rustup.as_str(), stable, term, caller, out, err)
+    run_plan(
+        alloc,
+        &cx,
+        env.rustup.as_str(),
+        stable,
+        term,
+        caller,
+        out,
+        err,
+    )
 }
 
 /// Puts together what is loaded.

@@ -35,7 +35,9 @@ pub(crate) fn start<C: Caller, O: Write, E: Write>(
         (C.calls caller.old) (C.calls caller.new)) }
 {
     let mut fault = None;
-    let session = match drive(alloc, cx, rustup, stable, &mut fault, term, caller, out, err) {
+    let session = match drive(
+        alloc, cx, rustup, stable, &mut fault, term, caller, out, err,
+    ) {
         Ok(session) => session,
         Err(fault) => return Err(RunFault::Plan(fault)),
     };
