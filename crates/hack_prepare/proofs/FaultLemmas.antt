@@ -10,9 +10,11 @@ use Rattle.hack_files.specs.Faults.{HoldsNoText, IsOfRead, IsOfText, IsOfWrite}
 use Rattle.hack_files.specs.Files.{Contents}
 use Rattle.hack_files.specs.declared.fs.FsFault.{FsFault}
 use Rattle.hack_files.specs.declared.fs.FsFault.TheVariants as fs
-use Rattle.hack_prepare.specs.Faults.{IsDevFault, IsEditsFault, IsFault, IsFileFault, IsHeldFault, IsMembersFault, IsOfFile, IsPrepareFault, IsRootFault, IsTextFault, IsUnmade, NoFault}
+use Rattle.hack_prepare.specs.Faults.{IsDevFault, IsEditsFault, IsFault, IsFileFault, IsHeldFault, IsMembersFault, IsOfFile, IsRootFault, IsTextFault, IsUnmade, NoFault}
 use Rattle.hack_prepare.specs.Paths.{IsAlonePath, IsEdited, IsLookedAt, IsReadRoot, IsTextless, Nowhere, Only, OnlyIf}
-use Rattle.hack_prepare.specs.Prepared.{Member, Wanted, edits, edits_root, goes, gone, has_some, is_alone, is_alone_at, is_root}
+use Rattle.hack_prepare.specs.Prepared.{Member, Wanted, edits_root, goes, gone, has_some, is_alone, is_alone_at, is_root}
+use Rattle.hack_load.specs.Contexts.{ContextRecord}
+use Rattle.hack_prepare.specs.PreparedView.{IsPrepareFault, edits_in, members_in, wanted_in}
 use Rattle.hack_prepare.specs.Steps.{KeepsApart}
 use Rattle.hack_prepare.proofs.MemberLemmas.{alone-path}
 use Rattle.hack_prepare.proofs.RootLemmas.{drops-found, drops-missed, edits-is, root-apart, root-found, root-missed, root-read, text-found, text-missed, text_in}
@@ -167,7 +169,7 @@ lock-among tells w ms start e x =
     (λ p h. inr h) (λ p h. absurd h) (λ p h. absurd h) (λ e' f. absurd f) e x
 
 -- where manifests are edited at all
-pub asked-fault : {T : Type 0} (tells : Type 0) (w : Wanted) (ms : List Member) (start : Contents) (r : Result T PrepareFault) → edits w ≡ true
-    → IfErr r (IsEditsFault w ms tells start) → IfErr r (IsPrepareFault w ms tells start)
-asked-fault tells w ms start (Ok v) asked x = x
-asked-fault tells w ms start (Err e) asked x = inr (asked, x)
+pub asked-fault : {T : Type 0} (tells : Type 0) (cx : ContextRecord) (start : Contents) (r : Result T PrepareFault) → edits_in cx ≡ true
+    → IfErr r (IsEditsFault (wanted_in cx) (members_in cx) tells start) → IfErr r (IsPrepareFault cx tells start)
+asked-fault tells cx start (Ok v) asked x = x
+asked-fault tells cx start (Err e) asked x = inr (asked, x)

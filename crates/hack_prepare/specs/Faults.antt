@@ -11,7 +11,7 @@ use Rattle.hack_edits.specs.PrivateCrates.{HasBadForm, HasWork, some_path_contro
 use Rattle.hack_edits.specs.declared.fault.ManifestFault.{ManifestFault}
 use Rattle.hack_edits.specs.declared.fault.ManifestFault.TheVariants as edit
 use Rattle.hack_prepare.specs.Paths.{IsEdited, IsLookedAt, IsReadRoot, IsTextless}
-use Rattle.hack_prepare.specs.Prepared.{HasPrivateRoot, Member, Wanted, drops_at_root, edits, edits_root, gone, has_some, is_alone}
+use Rattle.hack_prepare.specs.Prepared.{HasPrivateRoot, Member, Wanted, drops_at_root, edits_root, gone, has_some, is_alone}
 use Rattle.hack_prepare.specs.Steps.{IsRootText}
 use Rattle.hack_prepare.specs.declared.fault.PrepareFault.{PrepareFault}
 use Rattle.hack_prepare.specs.declared.fault.PrepareFault.TheVariants.{Memory, PrivateRoot, Files, Toml, InlineTarget, WorkspaceForm, PathText, ReadBack}
@@ -108,7 +108,3 @@ IsUnmade w ms tells held e = IsMembersFault w ms e ⊎ IsRootFault w ms tells he
 -- why edits aren't made, or memory ran out
 abbrev pub IsEditsFault : Wanted → List Member → Type 0 → Contents → PrepareFault → Type 0
 IsEditsFault w ms tells held = IsFault (IsLookedAt w ms) (IsEdited w ms) (IsTextless tells held (IsReadRoot w ms)) (IsUnmade w ms tells held)
-
--- why manifests aren't edited: memory ran out, or they are edited at all, and there is a cause
-abbrev pub IsPrepareFault : Wanted → List Member → Type 0 → Contents → PrepareFault → Type 0
-IsPrepareFault w ms tells held e = (e ≡ Memory) ⊎ ((edits w ≡ true) × IsEditsFault w ms tells held e)

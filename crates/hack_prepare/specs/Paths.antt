@@ -4,7 +4,7 @@ use Rattle.std.specs.List.{list_any}
 use Rattle.hack_features.specs.Names.{Name}
 use Rattle.hack_files.specs.Faults.{HoldsNoText}
 use Rattle.hack_files.specs.Files.{Contents}
-use Rattle.hack_prepare.specs.Prepared.{Member, Wanted, edits, edits_root, has_root, is_alone_at, is_edited}
+use Rattle.hack_prepare.specs.Prepared.{Member, Wanted, edits_root, has_root, is_alone_at, is_edited}
 
 -- no path
 abbrev pub Nowhere : Name → Type 0
@@ -37,10 +37,6 @@ IsReadRoot w ms p = (edits_root w ms ≡ true) × (has_root w ms ≡ false) × (
 -- a path that is looked at: such a manifest, or the lockfile
 abbrev pub IsLookedAt : Wanted → List Member → Name → Type 0
 IsLookedAt w ms p = IsReadRoot w ms p ⊎ (p ≡ w.lockfile)
-
--- such a path, where manifests are edited at all
-abbrev pub WhereEdits : Wanted → (Name → Type 0) → Name → Type 0
-WhereEdits w P p = (edits w ≡ true) × P p
 
 -- a path that is read so, and what it holds is no text
 abbrev pub IsTextless : Type 0 → Contents → (Name → Type 0) → Name → Type 0

@@ -31,32 +31,13 @@ pub(crate) fn keep_lockfile<F: Files>(
     ensures err { IfErr result (IsFault (Only path.now) Nowhere Nowhere NoFault) }
 {
     match exists(alloc, files, path) {
-        Ok(true) => keep(alloc, path, files, manager),
-        Ok(false) => Ok(()),
-        Err(fault) => Err(of_file(fault)),
-    }
-}
-
-/// Keeps what a file holds.
-fn keep<F: Files>(
-    alloc: Global,
-    path: &str,
-    files: &mut F,
-    manager: &mut Manager,
-) -> Result<(), PrepareFault>
-    ensures stays { F.stays files.old files.new }
-    ensures counted { CountsCalls (F.failed files.old) (F.failed files.new) result }
-    ensures step { IsStep F.tells AnyStart (Only path.now) manager.old manager.new
-        (F.bytes_at files.old) (F.bytes_at files.new) }
-    ensures kept { OnOk result (manager.old.needs_restore ≡ true
-        → is_kept (registered manager.new) path.now ≡ true) }
-    ensures same { F.tells → KeepsAll (F.bytes_at files.old) (F.bytes_at files.new) }
-    ensures err { IfErr result (IsFault (Only path.now) Nowhere Nowhere NoFault) }
-{
-    let bytes = match read(alloc, files, path) {
-        Ok(bytes) => bytes,
+        Ok(true) => {}
+        Ok(false) => return Ok(()),
         Err(fault) => return Err(of_file(fault)),
-    };
-    manager.register_once(alloc, path, &bytes)?;
+    }
+    match read(alloc, files, path) {
+        Ok(bytes) => manager.register_once(alloc, path, &bytes)?,
+        Err(fault) => return Err(of_file(fault)),
+    }
     Ok(())
 }

@@ -7,11 +7,14 @@ ghost use Rattle.hack_files.specs.Restore.{AreSafe, Brings, Tried, is_kept, regi
 ghost use Rattle.hack_load.specs.ContextView.{context_view};
 ghost use Rattle.hack_versions.specs.Notes.{note_of};
 ghost use Rattle.hack_prepare.specs.Counts.{CountsCalls};
-ghost use Rattle.hack_prepare.specs.Faults.{IsEditsFault, IsPrepareFault};
-ghost use Rattle.hack_prepare.specs.Paths.{IsTouched, WhereEdits};
+ghost use Rattle.hack_prepare.specs.Faults.{IsEditsFault};
+ghost use Rattle.hack_prepare.specs.Paths.{IsTouched};
 ghost use Rattle.hack_prepare.specs.Prepared.{HasPrivateRoot, HoldTexts, IsPartlyPrepared};
-ghost use Rattle.hack_prepare.specs.Prepared.{IsPrepared, KeepsUnedited, edits};
-ghost use Rattle.hack_prepare.specs.PreparedView.{members_in, members_view, wanted_in, wanted_view};
+ghost use Rattle.hack_prepare.specs.Prepared.{IsPrepared, KeepsUnedited};
+ghost use Rattle.hack_prepare.specs.PreparedView.{HasPrivateRootIn, HoldTextsIn, IsPartlyPreparedIn};
+ghost use Rattle.hack_prepare.specs.PreparedView.{IsPrepareFault, IsPreparedIn, IsTouchedIn};
+ghost use Rattle.hack_prepare.specs.PreparedView.{KeepsUneditedIn, edits_in, notes_in};
+ghost use Rattle.hack_prepare.specs.PreparedView.{members_view, wanted_in, wanted_view};
 ghost use Rattle.hack_prepare.specs.Steps.{Grows, IsStep, KeepsOnly};
 ghost use Rattle.hack_prepare.specs.Told.{notes};
 
@@ -50,45 +53,38 @@ pub fn prepare<F: Files>(
 
     // Whatever comes of it, what was written since comes back.
     ensures safe { F.tells → manager.old.needs_restore ≡ true → (start : Contents)
-        → HoldTexts start (members_in (context_view cx.now))
+        → HoldTextsIn (context_view cx.now) start
         → AreSafe (registered manager.old) start (F.bytes_at files.old)
         → AreSafe (registered manager.new) start (F.bytes_at files.new) }
 
-    // Nothing is kept but what is edited, and the lockfile, and these only where edits are asked.
-    ensures kept { KeepsOnly (WhereEdits (wanted_in (context_view cx.now))
-        (IsTouched (wanted_in (context_view cx.now)) (members_in (context_view cx.now))))
-        manager.old manager.new }
+    // No path is kept but those that are edited and the lockfile, and none where no edit is asked.
+    ensures kept { KeepsOnly (IsTouchedIn (context_view cx.now)) manager.old manager.new }
 
     // Each manifest that is edited holds its edit, and every other path what it held.
     ensures prepared { OnOk result (F.tells
-        → HoldTexts (F.bytes_at files.old) (members_in (context_view cx.now))
-        → IsPrepared (wanted_in (context_view cx.now)) (members_in (context_view cx.now))
-        (F.bytes_at files.old) (F.bytes_at files.new)) }
+        → HoldTextsIn (context_view cx.now) (F.bytes_at files.old)
+        → IsPreparedIn (context_view cx.now) (F.bytes_at files.old) (F.bytes_at files.new)) }
 
-    // Where a fault comes, it holds its edit, or what it held, unless a call failed.
-    ensures edited { F.tells
-        → HoldTexts (F.bytes_at files.old) (members_in (context_view cx.now))
-        → IsPartlyPrepared (wanted_in (context_view cx.now)) (members_in (context_view cx.now))
+    // At a fault too, such a manifest holds its edit, or what it held, unless a call failed.
+    ensures edited { F.tells → HoldTextsIn (context_view cx.now) (F.bytes_at files.old)
+        → IsPartlyPreparedIn (context_view cx.now)
         (GrowsBy 1 (F.failed files.old) (F.failed files.new))
         (F.bytes_at files.old) (F.bytes_at files.new) }
 
-    // Whatever comes of it, and whatever the manifests hold, every other path holds what it held.
-    ensures others { F.tells
-        → KeepsUnedited (wanted_in (context_view cx.now)) (members_in (context_view cx.now))
+    // And every other path holds what it held, whatever the manifests hold.
+    ensures others { F.tells → KeepsUneditedIn (context_view cx.now)
         (F.bytes_at files.old) (F.bytes_at files.new) }
     ensures lockfile { OnOk result (F.tells → manager.old.needs_restore ≡ true
-        → edits (wanted_in (context_view cx.now)) ≡ true
+        → edits_in (context_view cx.now) ≡ true
         → IfSome (F.bytes_at files.new (wanted_in (context_view cx.now)).lockfile) (λ _.
         is_kept (registered manager.new) (wanted_in (context_view cx.now)).lockfile ≡ true)) }
-    ensures never { OnOk result (¬ HasPrivateRoot
-        (wanted_in (context_view cx.now)) (members_in (context_view cx.now))) }
-    ensures told { IfOk result (λ notices. map note_of notices.items
-        ≡ notes (wanted_in (context_view cx.now)) (members_in (context_view cx.now))) }
+    ensures never { OnOk result (¬ HasPrivateRootIn (context_view cx.now)) }
+    ensures told { IfOk result (λ notices.
+        map note_of notices.items ≡ notes_in (context_view cx.now)) }
 
     // A refusal has its cause.
-    ensures err { IfErr result (IsPrepareFault
-        (wanted_in (context_view cx.now)) (members_in (context_view cx.now))
-        F.tells (F.bytes_at files.old)) }
+    ensures err { IfErr result
+        (IsPrepareFault (context_view cx.now) F.tells (F.bytes_at files.old)) }
 {
     let args = cx.args();
     let drops_dev = drops_dev(args);

@@ -46,7 +46,8 @@ pub(crate) fn edit_root<F: Files>(
     ensures stays { F.stays files.old files.new }
     ensures counted { CountsCalls (F.failed files.old) (F.failed files.new) result }
     ensures step { IsStep F.tells (λ start. HoldTexts start (members_view members.now))
-        (OnlyIf (edits_root (wanted_view wanted.now) (members_view members.now)) wanted.now.root.now)
+        (OnlyIf (edits_root (wanted_view wanted.now) (members_view members.now))
+        wanted.now.root.now)
         manager.old manager.new (F.bytes_at files.old) (F.bytes_at files.new) }
     ensures edited { OnOk result (F.tells
         → edits_root (wanted_view wanted.now) (members_view members.now) ≡ true → (text : Name)
@@ -66,7 +67,8 @@ pub(crate) fn edit_root<F: Files>(
         ++ root_notes (wanted_view wanted.now) (members_view members.now)) }
     ensures err { IfErr result (IsFault
         (IsReadRoot (wanted_view wanted.now) (members_view members.now))
-        (OnlyIf (edits_root (wanted_view wanted.now) (members_view members.now)) wanted.now.root.now)
+        (OnlyIf (edits_root (wanted_view wanted.now) (members_view members.now))
+        wanted.now.root.now)
         (IsTextless F.tells (F.bytes_at files.old)
         (IsReadRoot (wanted_view wanted.now) (members_view members.now)))
         (IsRootFault (wanted_view wanted.now) (members_view members.now) F.tells
@@ -119,7 +121,8 @@ fn edit_virtual<F: Files>(
         manager.old manager.new (F.bytes_at files.old) (F.bytes_at files.new) }
     ensures edited { OnOk result (F.tells → has_some (texts private.now) ≡ true
         → (text : Name) × (F.bytes_at files.old wanted.now.root.now ≡ Some text)
-        × MakesRoot (wanted_view wanted.now) false (texts private.now) text (F.bytes_at files.new)) }
+        × MakesRoot (wanted_view wanted.now) false (texts private.now) text
+        (F.bytes_at files.new)) }
     ensures partly { F.tells → MakesRootOrNot (wanted_view wanted.now) false (texts private.now)
         (λ text. F.bytes_at files.old wanted.now.root.now ≡ Some text)
         (GrowsBy 1 (F.failed files.old) (F.failed files.new))

@@ -88,6 +88,6 @@ returns-clause-err g c =
     let old = g.F.Files.bytes_at c.args.files.now in
     let new = g.F.Files.bytes_at c.edit.new.files in
     let asked : edits (wanted_in cx) ≡ true = ap (λ (w : Wanted). w.drops_dev || w.no_private) (sym is) ∙ sym c.if-not-is_asked.ensures in
-    asked-fault g.F.Files.tells (wanted_in cx) (members_in cx) old c.edit.result asked
+    asked-fault g.F.Files.tells cx old c.edit.result asked
     (subst (λ (l : List Member). IfErr c.edit.result (IsEditsFault (wanted_in cx) l g.F.Files.tells old)) are
     (subst (λ (w : Wanted). IfErr c.edit.result (IsEditsFault w (members_view c.as_slice.result.now) g.F.Files.tells old)) is c.edit.ensures.err))
