@@ -1,5 +1,7 @@
+mod CountLemmas
 mod StepLemmas
 mod MemberLemmas
 pub mod RootLemmas
 pub mod HeldLemmas
 mod FaultLemmas
+mod EditLemmas

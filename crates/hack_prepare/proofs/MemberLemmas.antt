@@ -1,12 +1,12 @@
 -- The members so far, one more.
 use Rattle.std.proofs.Common.{◌≡◌, ◌≢◌, inl, inr, ℕ, ◌+◌, ◌<◌, List, [], ◌∷◌, ◌++◌, Bool, true, false, cond, Option, Some, length, get_or, map, take, refl, sym, ◌∙◌, ap, subst, append-nil, append_assoc, arith}
 use Rattle.std.specs.Prelude.{◌&&◌, ◌||◌, not, All, Contains, codes}
-use Rattle.std.specs.List.{filter, filter_map, flat_map, list_any}
+use Rattle.std.specs.List.{filter, filter_map, flat_map}
 use Rattle.std.specs.Str.{bytes_eq}
 use Rattle.std.proofs.lemmas.Bool.{cases_Bool, true≢false}
 use Rattle.std.proofs.lemmas.List.{map-append}
 use Rattle.std.proofs.lemmas.List.Elements.{All-contains, All-push, All-take, Contains-push_cases, filter-append, filter_map-append}
-use Rattle.std.proofs.lemmas.List.Folds.{list_any-append}
+use Rattle.std.proofs.lemmas.List.Folds.{list_any_at}
 use Rattle.std.proofs.lemmas.Grind.{flat_map-append}
 use Rattle.std.proofs.lemmas.Slice.Eq.{bytes_eq-Decides}
 use Rattle.hack_features.specs.Names.{Name}
@@ -14,11 +14,13 @@ use Rattle.hack_features.proofs.Steps.{filter_map-found, seen-next}
 use Rattle.hack_metadata.specs.View.{place_at}
 use Rattle.hack_metadata.specs.declared.resolve.PackageId.{PackageId}
 use Rattle.hack_edits.specs.DevDeps.{IsWithoutDev}
-use Rattle.hack_files.specs.Files.{Contents, KeepsOthers}
+use Rattle.hack_files.specs.Files.{Contents, GrowsBy, KeepsOthers}
 use Rattle.hack_versions.specs.Notes.{Note}
-use Rattle.hack_prepare.specs.Prepared.{AllHold, HasPrivateRoot, HoldTexts, Member, Wanted, goes, gone, drops_at_root, is_alone, is_alone_at, is_left, is_root}
-use Rattle.hack_prepare.specs.Steps.{AreTurned, HoldsText, IsStep, IsTurned}
+use Rattle.hack_prepare.specs.Paths.{IsAlonePath, Only}
+use Rattle.hack_prepare.specs.Prepared.{HasPrivateRoot, HoldTexts, Member, Wanted, goes, gone, drops_at_root, is_alone, is_alone_at, is_left, is_root}
+use Rattle.hack_prepare.specs.Steps.{ArePartlyTurned, AreTurned, HoldsText, IsStep, IsTurned, IsTurnedOrNot, KeepsApart}
 use Rattle.hack_files.specs.declared.restore.Manager.{Manager}
+use Rattle.hack_prepare.proofs.CountLemmas.{none_then}
 use Rattle.hack_prepare.proofs.StepLemmas.{step_given, step_then}
 use Rattle.hack_prepare.specs.Told.{dev_note, edit_notes, member_notes, notes, root_notes}
 use Rattle.hack_prepare.specs.PreparedView.{wanted_in}
@@ -87,15 +89,18 @@ never-more w ms m apart before h = elim (Contains-push_cases ms m h.member h.amo
 pub never-none : (w : Wanted) → ¬ HasPrivateRoot w []
 never-none w h = absurd (omega (arith, h.among.1))
 
--- what is edited so far
-pub turned-none : (w : Wanted) (held : Contents) → AreTurned w [] held held
-turned-none w held = record { turned = λ k d lt. absurd (omega (arith, lt)); others = λ q free. refl }
+-- a member that is edited by itself has its path edited
+pub alone-path : (w : Wanted) (ms : List Member) (m : Member) (p : Name) → Contains ms m → is_alone w m ≡ true → p ≡ m.path → IsAlonePath w ms p
+alone-path w ms m p among alone is =
+    let here : is_alone_at w p m ≡ true = ap (λ b. b && bytes_eq m.path p) alone ∙ (bytes_eq-Decides m.path p).1 (sym is) in
+    list_any_at (is_alone_at w p) ms among.0 m among.1 (ap (is_alone_at w p) among.2 ∙ here)
 
-pub turned-same : (w : Wanted) (ms : List Member) (m : Member) (old new : Contents) → is_alone w m ≡ false → AreTurned w ms old new → AreTurned w (ms ++ m ∷ []) old new
-turned-same w ms m old new e h = record {
-  turned = All-push (λ x. is_alone w x ≡ true → IsTurned new x) ms m h.turned (λ is. absurd (true≢false (sym is ∙ e)));
-  others = λ q free. h.others q (or_left (list_any (is_alone_at w q) ms) (list_any (is_alone_at w q) (m ∷ [])) (sym (list_any-append (is_alone_at w q) ms (m ∷ [])) ∙ free));
-}
+-- what is edited so far
+pub turned-none : (w : Wanted) (held : Contents) → AreTurned w [] held
+turned-none w held k d lt = absurd (omega (arith, lt))
+
+turned-same : (w : Wanted) (ms : List Member) (m : Member) (new : Contents) → is_alone w m ≡ false → AreTurned w ms new → AreTurned w (ms ++ m ∷ []) new
+turned-same w ms m new e h = All-push (λ x. is_alone w x ≡ true → IsTurned new x) ms m h (λ is. absurd (true≢false (sym is ∙ e)))
 
 -- what a member's manifest holds stays, or is the edit of the same text
 still : (m x : Member) (mid new : Contents) → (x.path ≡ m.path → x.text ≡ m.text) → IsTurned new m → KeepsOthers m.path mid new → IsTurned mid x → IsTurned new x
@@ -108,19 +113,50 @@ still m x mid new same now keeps before = elim (cases_Bool (bytes_eq x.path m.pa
       (before.0, keeps x.path apart ∙ before.1, before.2)
 ]
 
-and_false : (a b : Bool) → a ≡ true → (a && b) ≡ false → b ≡ false
-and_false true b e h = h
-and_false false b e h = absurd (true≢false (sym e))
+turned-more : (w : Wanted) (ms : List Member) (m : Member) (mid new : Contents) → All (λ x. x.path ≡ m.path → x.text ≡ m.text) ms
+    → IsTurned new m → KeepsOthers m.path mid new → AreTurned w ms mid → AreTurned w (ms ++ m ∷ []) new
+turned-more w ms m mid new same now keeps h =
+    All-push (λ x. is_alone w x ≡ true → IsTurned new x) ms m (λ k d lt is. still m (get_or ms k d) mid new (same k d lt) now keeps (h k d lt is)) (λ is. now)
 
-pub turned-more : (w : Wanted) (ms : List Member) (m : Member) (old mid new : Contents) → is_alone w m ≡ true → All (λ x. x.path ≡ m.path → x.text ≡ m.text) ms
-    → IsTurned new m → KeepsOthers m.path mid new → AreTurned w ms old mid → AreTurned w (ms ++ m ∷ []) old new
-turned-more w ms m old mid new e same now keeps h = record {
-  turned = All-push (λ x. is_alone w x ≡ true → IsTurned new x) ms m (λ k d lt is. still m (get_or ms k d) mid new (same k d lt) now keeps (h.turned k d lt is)) (λ is. now);
-  others = λ q free.
-      let split = sym (list_any-append (is_alone_at w q) ms (m ∷ [])) ∙ free in
-      let here : bytes_eq m.path q ≡ false = and_false (is_alone w m) (bytes_eq m.path q) e (or_left (is_alone_at w q m) false (or_right (list_any (is_alone_at w q) ms) (is_alone_at w q m || false) split)) in
-      keeps q (λ is. true≢false (sym ((bytes_eq-Decides m.path q).1 (sym is)) ∙ here)) ∙ h.others q (or_left (list_any (is_alone_at w q) ms) (list_any (is_alone_at w q) (m ∷ [])) split);
-}
+-- a path at which no member's manifest is edited by itself stays, where such a one is written
+apart-more : (w : Wanted) (ms : List Member) (m : Member) (old mid new : Contents) → Contains ms m → is_alone w m ≡ true → KeepsOthers m.path mid new → KeepsApart w ms old mid → KeepsApart w ms old new
+apart-more w ms m old mid new among alone keeps h q free = keeps q (λ is. true≢false (sym (alone-path w ms m q among alone is) ∙ free)) ∙ h q free
+
+-- a member's manifest that stays
+carried : (failed : Type 0) (x : Member) (old mid new : Contents) → new x.path ≡ mid x.path → IsTurnedOrNot ⊥ old mid x → IsTurnedOrNot failed old new x
+carried failed x old mid new same (inl h) = inl (same ∙ h)
+carried failed x old mid new same (inr (inl t)) = inr (inl (t.0, same ∙ t.1, t.2))
+carried failed x old mid new same (inr (inr f)) = absurd f
+
+-- one at the same path as a member's that is written
+written : (failed : Type 0) (m x : Member) (old mid new : Contents) → x.path ≡ m.path → x.text ≡ m.text → IsTurnedOrNot failed mid new m → IsTurnedOrNot ⊥ old mid x → IsTurnedOrNot failed old new x
+written failed m x old mid new path text (inl same) before = carried failed x old mid new (ap new path ∙ same ∙ ap mid (sym path)) before
+written failed m x old mid new path text (inr (inl t)) before = inr (inl (t.0, ap new path ∙ t.1, subst (λ s. IsWithoutDev s t.0) (sym text) t.2))
+written failed m x old mid new path text (inr (inr f)) before = inr (inr f)
+
+-- a failure of a part is one of the whole
+pub turned-fails : (m : Member) (failed fails : Type 0) (old new : Contents) → (failed → fails) → IsTurnedOrNot failed old new m → IsTurnedOrNot fails old new m
+turned-fails m failed fails old new more (inl h) = inl h
+turned-fails m failed fails old new more (inr (inl t)) = inr (inl t)
+turned-fails m failed fails old new more (inr (inr f)) = inr (inr (more f))
+
+-- each member's manifest holds what it held, or its edit, behind one more
+partly-more : (w : Wanted) (ms : List Member) (m : Member) (failed : Type 0) (old mid new : Contents) → All (λ x. x.path ≡ m.path → x.text ≡ m.text) ms
+    → IsTurnedOrNot failed mid new m → KeepsOthers m.path mid new → ArePartlyTurned w ms ⊥ old mid → ArePartlyTurned w ms failed old new
+partly-more w ms m failed old mid new same now keeps h k d lt is =
+    let x : Member = get_or ms k d in
+    elim (cases_Bool (bytes_eq x.path m.path)) [
+      | inl e ↦ let path : x.path ≡ m.path = (bytes_eq-Decides x.path m.path).0 e in written failed m x old mid new path (same k d lt path) now (h k d lt is)
+      | inr e ↦ carried failed x old mid new (keeps x.path (λ is. true≢false (sym ((bytes_eq-Decides x.path m.path).1 is) ∙ e))) (h k d lt is)
+    ]
+
+-- nothing is edited yet
+pub partly-none : (w : Wanted) (ms : List Member) (failed : Type 0) (held : Contents) → ArePartlyTurned w ms failed held held
+partly-none w ms failed held k d lt is = inl refl
+
+-- and nothing has failed
+pub partly-any : (w : Wanted) (ms : List Member) (failed : Type 0) (old new : Contents) → ArePartlyTurned w ms ⊥ old new → ArePartlyTurned w ms failed old new
+partly-any w ms failed old new h k d lt is = carried failed (get_or ms k d) old new new refl (h k d lt is)
 
 -- members that are found, one more
 pub found-more : (f : ℕ → Option Member) (ids : List PackageId) (k : ℕ) (id : PackageId) (m : Member) (old new : List Member) → k < length ids → id ≡ get_or ids k id
@@ -137,17 +173,33 @@ one-text : (held : Contents) (ms : List Member) (m : Member) → HoldTexts held 
 one-text held ms m holds is k d lt same = let here = holds k d lt in let there : held m.path ≡ Some (get_or ms k d).text = ap held (sym same) ∙ here in cc
 
 -- one more member's step behind earlier ones
-pub visited-fails : (tells : Type 0) (ms : List Member) (m : Member) (old mid new : Manager) (start held now : Contents) (before between after : ℕ) → Contains ms m
-    → IsStep tells (AllHold ms) old mid start held before between → IsStep tells (HoldsText m) mid new held now between after → IsStep tells (AllHold ms) old new start now before after
-visited-fails tells ms m old mid new start held now before between after among first step =
-    step_then tells (AllHold ms) old mid new start held now before between after first
-    (step_given tells (HoldsText m) (AllHold ms) mid new held now between after (λ s holds. All-contains (λ x. s x.path ≡ Some x.text) ms m holds among) step)
+pub visited-fails : (tells : Type 0) (w : Wanted) (ms : List Member) (m : Member) (old mid new : Manager) (start held now : Contents) → Contains ms m → is_alone w m ≡ true
+    → IsStep tells (λ s. HoldTexts s ms) (IsAlonePath w ms) old mid start held → IsStep tells (HoldsText m) (Only m.path) mid new held now
+    → IsStep tells (λ s. HoldTexts s ms) (IsAlonePath w ms) old new start now
+visited-fails tells w ms m old mid new start held now among alone first step =
+    step_then tells (λ s. HoldTexts s ms) (IsAlonePath w ms) old mid new start held now first
+    (step_given tells (HoldsText m) (λ s. HoldTexts s ms) (Only m.path) (IsAlonePath w ms) mid new held now (λ s holds. All-contains (λ x. s x.path ≡ Some x.text) ms m holds among) (λ q is. alone-path w ms m q among alone is) step)
+
+-- what the others hold then
+pub others-fail : (tells : Type 0) (w : Wanted) (ms : List Member) (m : Member) (old mid new : Contents) → Contains ms m → is_alone w m ≡ true
+    → (tells → KeepsApart w ms old mid) → (tells → KeepsOthers m.path mid new) → tells → KeepsApart w ms old new
+others-fail tells w ms m old mid new among alone h keeps t = apart-more w ms m old mid new among alone (keeps t) (h t)
+
+-- and what the members' manifests hold
+pub partly-fails : (tells : Type 0) (w : Wanted) (ms : List Member) (m : Member) (failed : Type 0) (old mid new : Contents) → Contains ms m
+    → (tells → HoldTexts old ms → ArePartlyTurned w ms ⊥ old mid) → (tells → IsTurnedOrNot failed mid new m) → (tells → KeepsOthers m.path mid new)
+    → tells → HoldTexts old ms → ArePartlyTurned w ms failed old new
+partly-fails tells w ms m failed old mid new among h now keeps t holds =
+    partly-more w ms m failed old mid new (one-text old ms m holds (All-contains (λ x. old x.path ≡ Some x.text) ms m holds among)) (now t) (keeps t) (h t holds)
 
 -- what was done for the first k members
 abbrev pub Visited : (tells : Type 0) → Wanted → List Member → ℕ → Manager → Manager → Contents → Contents → ℕ → ℕ → List Name → List Note → List Note → Type 0
 Visited tells w ms k old new start now before after private told notes =
-    IsStep tells (AllHold ms) old new start now before after
-    × (tells → HoldTexts start ms → AreTurned w (take k ms) start now)
+    IsStep tells (λ s. HoldTexts s ms) (IsAlonePath w ms) old new start now
+    × GrowsBy 0 before after
+    × (tells → KeepsApart w ms start now)
+    × (tells → HoldTexts start ms → AreTurned w (take k ms) now)
+    × (tells → HoldTexts start ms → ArePartlyTurned w ms ⊥ start now)
     × (private ≡ gone w (take k ms))
     × (¬ HasPrivateRoot w (take k ms))
     × (notes ≡ told ++ flat_map (member_notes w) (take k ms))
@@ -159,10 +211,13 @@ module _ (tells : Type 0) (w : Wanted) (ms : List Member) (k : ℕ) (m : Member)
   visited-goes new now after private more notes go apart grown h =
       let alone = alone-goes w m go in (
         h.0,
-        λ t holds. subst (λ l. AreTurned w l start now) (sym one) (turned-same w (take k ms) m start now alone (h.1 t holds)),
-        gone-more w (take k ms) m private more h.2 grown go ∙ ap (gone w) (sym one),
-        subst (λ l. ¬ HasPrivateRoot w l) (sym one) (never-more w (take k ms) m (λ _. apart) h.3),
-        told-same w (take k ms) m told notes h.4 alone ∙ ap (λ l. told ++ flat_map (member_notes w) l) (sym one),
+        h.1,
+        h.2,
+        λ t holds. subst (λ l. AreTurned w l now) (sym one) (turned-same w (take k ms) m now alone (h.3 t holds)),
+        h.4,
+        gone-more w (take k ms) m private more h.5 grown go ∙ ap (gone w) (sym one),
+        subst (λ l. ¬ HasPrivateRoot w l) (sym one) (never-more w (take k ms) m (λ _. apart) h.6),
+        told-same w (take k ms) m told notes h.7 alone ∙ ap (λ l. told ++ flat_map (member_notes w) l) (sym one),
       )
 
   -- one more that is left as it is
@@ -170,24 +225,30 @@ module _ (tells : Type 0) (w : Wanted) (ms : List Member) (k : ℕ) (m : Member)
       → Visited tells w ms k old new start now before after private told notes → Visited tells w ms (k + 1) old new start now before after private told notes
   visited-left new now after private notes stay alone h = (
     h.0,
-    λ t holds. subst (λ l. AreTurned w l start now) (sym one) (turned-same w (take k ms) m start now alone (h.1 t holds)),
-    gone-same w (take k ms) m private h.2 stay ∙ ap (gone w) (sym one),
-    subst (λ l. ¬ HasPrivateRoot w l) (sym one) (never-more w (take k ms) m (λ go. absurd (true≢false (sym go ∙ stay))) h.3),
-    told-same w (take k ms) m told notes h.4 alone ∙ ap (λ l. told ++ flat_map (member_notes w) l) (sym one),
+    h.1,
+    h.2,
+    λ t holds. subst (λ l. AreTurned w l now) (sym one) (turned-same w (take k ms) m now alone (h.3 t holds)),
+    h.4,
+    gone-same w (take k ms) m private h.5 stay ∙ ap (gone w) (sym one),
+    subst (λ l. ¬ HasPrivateRoot w l) (sym one) (never-more w (take k ms) m (λ go. absurd (true≢false (sym go ∙ stay))) h.6),
+    told-same w (take k ms) m told notes h.7 alone ∙ ap (λ l. told ++ flat_map (member_notes w) l) (sym one),
   )
 
   -- one more that is edited by itself
   pub visited-alone : (mid new : Manager) (held now : Contents) (between after : ℕ) (private : List Name) (notes more : List Note) → Contains ms m → goes w m ≡ false → is_alone w m ≡ true
-      → IsStep tells (HoldsText m) mid new held now between after → (tells → IsTurned now m) → (tells → KeepsOthers m.path held now) → more ≡ notes ++ dev_note w.verbose m.path
+      → IsStep tells (HoldsText m) (Only m.path) mid new held now → GrowsBy 0 between after → (tells → IsTurned now m) → (tells → KeepsOthers m.path held now) → more ≡ notes ++ dev_note w.verbose m.path
       → Visited tells w ms k old mid start held before between private told notes → Visited tells w ms (k + 1) old new start now before after private told more
-  visited-alone mid new held now between after private notes more among stay alone step turned keeps grown h = (
-    visited-fails tells ms m old mid new start held now before between after among h.0 step,
-    λ t holds. subst (λ l. AreTurned w l start now) (sym one)
-        (turned-more w (take k ms) m start held now alone
-        (All-take (λ x. x.path ≡ m.path → x.text ≡ m.text) k ms (one-text start ms m holds (All-contains (λ x. start x.path ≡ Some x.text) ms m holds among))) (turned t) (keeps t) (h.1 t holds)),
-    gone-same w (take k ms) m private h.2 stay ∙ ap (gone w) (sym one),
-    subst (λ l. ¬ HasPrivateRoot w l) (sym one) (never-more w (take k ms) m (λ go. absurd (true≢false (sym go ∙ stay))) h.3),
-    told-more w (take k ms) m told notes more h.4 grown alone ∙ ap (λ l. told ++ flat_map (member_notes w) l) (sym one),
+  visited-alone mid new held now between after private notes more among stay alone step quiet turned keeps grown h = (
+    visited-fails tells w ms m old mid new start held now among alone h.0 step,
+    none_then 0 before between after h.1 quiet,
+    others-fail tells w ms m start held now among alone h.2 keeps,
+    λ t holds. subst (λ l. AreTurned w l now) (sym one)
+        (turned-more w (take k ms) m held now
+        (All-take (λ x. x.path ≡ m.path → x.text ≡ m.text) k ms (one-text start ms m holds (All-contains (λ x. start x.path ≡ Some x.text) ms m holds among))) (turned t) (keeps t) (h.3 t holds)),
+    partly-fails tells w ms m ⊥ start held now among h.4 (λ t. inr (inl (turned t))) keeps,
+    gone-same w (take k ms) m private h.5 stay ∙ ap (gone w) (sym one),
+    subst (λ l. ¬ HasPrivateRoot w l) (sym one) (never-more w (take k ms) m (λ go. absurd (true≢false (sym go ∙ stay))) h.6),
+    told-more w (take k ms) m told notes more h.7 grown alone ∙ ap (λ l. told ++ flat_map (member_notes w) l) (sym one),
   )
 
 -- what is wanted, by its parts

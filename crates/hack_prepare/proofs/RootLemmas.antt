@@ -1,15 +1,19 @@
 -- The manifest in the folder of the workspace, and all edits together.
-use Rattle.std.proofs.Common.{◌≡◌, inl, inr, suc, List, [], ◌∷◌, Bool, true, false, cond, Option, Some, None, Result, Ok, Err, OnOk, refl, sym, ◌∙◌, ap, subst, arith, get_or}
+use Rattle.std.proofs.Common.{◌≡◌, inl, inr, ℕ, suc, List, [], ◌∷◌, Bool, true, false, cond, Option, Some, None, Result, Ok, Err, OnOk, refl, sym, ◌∙◌, ap, subst, arith, get_or, length, ◌==◌, Bor}
 use Rattle.std.specs.Prelude.{◌&&◌, ◌||◌, not, MatchOption, option_map}
 use Rattle.std.specs.List.{find, list_any}
 use Rattle.std.specs.Str.{bytes_eq}
 use Rattle.std.proofs.lemmas.Bool.{cases_Bool, true≢false}
 use Rattle.std.proofs.lemmas.Slice.Eq.{bytes_eq-Decides}
 use Rattle.hack_features.specs.Names.{Name}
-use Rattle.hack_files.specs.Files.{Contents, KeepsAll, KeepsOthers}
-use Rattle.hack_prepare.specs.Prepared.{HoldTexts, IsPrepared, IsRootEdit, Member, Wanted, drops_at_root, edits_root, gone, has_root, has_some, is_alone, is_alone_at, is_root}
-use Rattle.hack_prepare.specs.Steps.{AreTurned, IsRootText, KeepsBut, MakesRoot}
+use Rattle.hack_files.specs.Files.{Contents, GrowsBy, KeepsAll, KeepsOthers}
+use Rattle.hack_edits.specs.DevDeps.{IsWithoutDev}
+use Rattle.hack_process.specs.PathTexts.{texts}
+use Rattle.hack_prepare.specs.Paths.{Only}
+use Rattle.hack_prepare.specs.Prepared.{HoldTexts, IsPartlyPrepared, IsPrepared, IsRootEdit, KeepsUnedited, Member, TurnsOrStays, Wanted, drops_at_root, edits_root, gone, has_root, has_some, is_alone, is_alone_at, is_root}
+use Rattle.hack_prepare.specs.Steps.{ArePartlyTurned, AreTurned, IsRootText, IsTurnedOrNot, KeepsApart, KeepsBut, MakesRoot, MakesRootOrNot}
 use Rattle.hack_prepare.specs.Told.{edit_notes, root_notes}
+use Rattle.hack_prepare.proofs.CountLemmas.{none_then}
 use Rattle.hack_prepare.proofs.MemberLemmas.{or_left, or_right}
 
 -- what a write of the root's manifest keeps
@@ -18,6 +22,11 @@ keeps-but w b old new e keeps q free = keeps q (λ is. true≢false (sym (ap (λ
 
 abbrev pub text_in : Member → Name
 text_in m = m.text
+
+-- where members are left to go there are some
+pub some-left : (l : List (Bor (List ℕ))) → false ≡ (length l == 0) → has_some (texts l) ≡ true
+some-left [] h = absurd (true≢false (sym h))
+some-left (x ∷ xs) h = refl
 
 -- ---- the member there
 
@@ -149,37 +158,127 @@ and_second : (a b : Bool) → (a && b) ≡ true → b ≡ true
 and_second true b e = e
 and_second false b e = absurd (true≢false (sym e))
 
+alone-by : (d n p r : Bool) → n ≡ true → ((d && not (n && (p || r))) && r) ≡ false
+alone-by false n p r h = refl
+alone-by true true true r h = refl
+alone-by true true false true h = refl
+alone-by true true false false h = refl
+alone-by true false p r h = absurd (true≢false (sym h))
+
+none-alone : (w : Wanted) (ms : List Member) → w.no_private ≡ true → list_any (is_alone_at w w.root) ms ≡ false
+none-alone w [] e = refl
+none-alone w (m ∷ ms) e = ap (λ b. b || list_any (is_alone_at w w.root) ms) (alone-by w.drops_dev w.no_private m.is_private (is_root w m) e) ∙ none-alone w ms e
+
+and_first : (a b : Bool) → (a && b) ≡ true → a ≡ true
+and_first true b e = refl
+and_first false b e = e
+
+-- where the root's manifest is edited at the end, no member's is edited there by itself
+pub root-apart : (w : Wanted) (ms : List Member) → edits_root w ms ≡ true → list_any (is_alone_at w w.root) ms ≡ false
+root-apart w ms e = none-alone w ms (and_first w.no_private (drops_at_root w ms || has_some (gone w ms)) e)
+
 -- what the root's manifest held
-root-old : (w : Wanted) (ms : List Member) (old mid : Contents) (text : Name) → HoldTexts old ms → AreTurned w ms old mid → IsRootText w ms mid text → old w.root ≡ Some text
-root-old w ms old mid text holds turned h = by (find (is_root w) ms) refl h
+root-old : (w : Wanted) (ms : List Member) (old mid : Contents) (text : Name) → HoldTexts old ms → KeepsApart w ms old mid → IsRootText w ms mid text → old w.root ≡ Some text
+root-old w ms old mid text holds apart h = by (find (is_root w) ms) refl h
   where
     by : (o : Option Member) → o ≡ find (is_root w) ms → MatchOption o (mid w.root ≡ Some text) (λ m. text ≡ m.text) → old w.root ≡ Some text
-    by None e k = sym (turned.others w.root (alone-free w ms (root-missed w ms (ap (option_map text_in) e)))) ∙ k
+    by None e k = sym (apart w.root (alone-free w ms (root-missed w ms (ap (option_map text_in) e)))) ∙ k
     by (Some m) e k = root-held w ms text old holds (ap Some k ∙ ap (option_map text_in) e)
 
 -- and that it is the text that is read
-pub root-read : (w : Wanted) (ms : List Member) (old mid : Contents) (text : Name) → HoldTexts old ms → AreTurned w ms old mid → IsRootText w ms mid text → IsRootText w ms old text
-root-read w ms old mid text holds turned h = by (find (is_root w) ms) refl h
+pub root-read : (w : Wanted) (ms : List Member) (old mid : Contents) (text : Name) → KeepsApart w ms old mid → IsRootText w ms mid text → IsRootText w ms old text
+root-read w ms old mid text apart h = by (find (is_root w) ms) refl h
   where
     by : (o : Option Member) → o ≡ find (is_root w) ms → MatchOption o (mid w.root ≡ Some text) (λ m. text ≡ m.text) → MatchOption o (old w.root ≡ Some text) (λ m. text ≡ m.text)
-    by None e k = sym (turned.others w.root (alone-free w ms (root-missed w ms (ap (option_map text_in) e)))) ∙ k
+    by None e k = sym (apart w.root (alone-free w ms (root-missed w ms (ap (option_map text_in) e)))) ∙ k
     by (Some m) e k = k
 
-pub prepared : (w : Wanted) (ms : List Member) (private : List Name) (old mid late new : Contents) → private ≡ gone w ms → HoldTexts old ms → AreTurned w ms old mid
+-- what isn't edited stays
+pub unedited : (w : Wanted) (ms : List Member) (old mid late : Contents) → KeepsApart w ms old mid → KeepsBut w (edits_root w ms) mid late → KeepsUnedited w ms old late
+unedited w ms old mid late apart keeps q free =
+    keeps q (or_right (list_any (is_alone_at w q) ms) (edits_root w ms && bytes_eq q w.root) free)
+    ∙ apart q (or_left (list_any (is_alone_at w q) ms) (edits_root w ms && bytes_eq q w.root) free)
+
+-- also where only members' manifests were written
+pub unedited-apart : (w : Wanted) (ms : List Member) (old mid : Contents) → KeepsApart w ms old mid → KeepsUnedited w ms old mid
+unedited-apart w ms old mid apart q free = apart q (or_left (list_any (is_alone_at w q) ms) (edits_root w ms && bytes_eq q w.root) free)
+
+pub prepared : (w : Wanted) (ms : List Member) (private : List Name) (old mid late new : Contents) → private ≡ gone w ms → HoldTexts old ms → AreTurned w ms mid → KeepsApart w ms old mid
     → (edits_root w ms ≡ true → (x : Name) × IsRootText w ms mid x × MakesRoot w (drops_at_root w ms) private x late)
     → KeepsBut w (edits_root w ms) mid late → KeepsAll late new → IsPrepared w ms old new
-prepared w ms private old mid late new are holds turned made keeps same = record {
+prepared w ms private old mid late new are holds turned apart made keeps same = record {
   alone = λ k d lt is.
-      let t = turned.turned k d lt is in
+      let t = turned k d lt is in
       let m : Member = get_or ms k d in (m.text, t.0, holds k d lt, same m.path ∙ keeps m.path (alone-apart w ms m is) ∙ t.1, t.2);
   root = λ asked.
       let h = made asked in
       let m = h.2 (ap (λ l. drops_at_root w ms || has_some l) are ∙ and_second w.no_private (drops_at_root w ms || has_some (gone w ms)) asked) in
-      (h.0, m.0, root-old w ms old mid h.0 holds turned h.1, same w.root ∙ m.1, subst (λ l. IsRootEdit w.folder (drops_at_root w ms) l h.0 m.0) are m.2);
-  others = λ q free.
-      same q ∙ keeps q (or_right (list_any (is_alone_at w q) ms) (edits_root w ms && bytes_eq q w.root) free)
-      ∙ turned.others q (or_left (list_any (is_alone_at w q) ms) (edits_root w ms && bytes_eq q w.root) free);
+      (h.0, m.0, root-old w ms old mid h.0 holds apart h.1, same w.root ∙ m.1, subst (λ l. IsRootEdit w.folder (drops_at_root w ms) l h.0 m.0) are m.2);
+  others = λ q free. same q ∙ unedited w ms old mid late apart keeps q free;
 }
+
+-- ---- what stands where not all is done
+
+-- all is done
+pub partly-all : (w : Wanted) (ms : List Member) (failed : Type 0) (old new : Contents) → IsPrepared w ms old new → IsPartlyPrepared w ms failed old new
+partly-all w ms failed old new h = record { alone = λ k d lt is. inr (inl (h.alone k d lt is)); root = λ asked. inr (inl (h.root asked)) }
+
+turns-by : (m : Member) (failed : Type 0) (old new : Contents) → old m.path ≡ Some m.text → IsTurnedOrNot failed old new m → TurnsOrStays failed IsWithoutDev m.path old new
+turns-by m failed old new holds (inl h) = inl h
+turns-by m failed old new holds (inr (inl t)) = inr (inl (m.text, t.0, holds, t.1, t.2))
+turns-by m failed old new holds (inr (inr f)) = inr (inr f)
+
+-- the root's manifest isn't written yet
+pub partly-members : (w : Wanted) (ms : List Member) (failed : Type 0) (old new : Contents) → HoldTexts old ms → KeepsApart w ms old new → ArePartlyTurned w ms failed old new → IsPartlyPrepared w ms failed old new
+partly-members w ms failed old new holds apart h = record {
+  alone = λ k d lt is. turns-by (get_or ms k d) failed old new (holds k d lt) (h k d lt is);
+  root = λ asked. inl (apart w.root (root-apart w ms asked));
+}
+
+-- where it held the same before, from a text that is read so
+pub root-or-not : (w : Wanted) (drops : Bool) (private : List Name) (R S : Name → Type 0) (F G : Type 0) (old mid new : Contents) → mid w.root ≡ old w.root → ((t : Name) → R t → S t) → (F → G)
+    → MakesRootOrNot w drops private R F mid new → MakesRootOrNot w drops private S G old new
+root-or-not w drops private R S F G old mid new same reads fails (inl h) = inl (h ∙ same)
+root-or-not w drops private R S F G old mid new same reads fails (inr (inl x)) = inr (inl (x.0, reads x.0 x.1, x.2))
+root-or-not w drops private R S F G old mid new same reads fails (inr (inr f)) = inr (inr (fails f))
+
+root-by : (w : Wanted) (ms : List Member) (private : List Name) (failed fails : Type 0) (old mid late : Contents) → private ≡ gone w ms → HoldTexts old ms → KeepsApart w ms old mid → edits_root w ms ≡ true
+    → (failed → fails) → MakesRootOrNot w (drops_at_root w ms) private (IsRootText w ms mid) failed mid late → TurnsOrStays fails (IsRootEdit w.folder (drops_at_root w ms) (gone w ms)) w.root old late
+root-by w ms private failed fails old mid late are holds apart asked more (inl h) = inl (h ∙ apart w.root (root-apart w ms asked))
+root-by w ms private failed fails old mid late are holds apart asked more (inr (inl x)) =
+    inr (inl (x.0, x.2.0, root-old w ms old mid x.0 holds apart x.1, x.2.1, subst (λ l. IsRootEdit w.folder (drops_at_root w ms) l x.0 x.2.0) are x.2.2))
+root-by w ms private failed fails old mid late are holds apart asked more (inr (inr f)) = inr (inr (more f))
+
+-- the members' manifests are written, and the root's may be
+pub partly-root : (w : Wanted) (ms : List Member) (private : List Name) (failed fails : Type 0) (old mid late : Contents) → private ≡ gone w ms → HoldTexts old ms → AreTurned w ms mid → KeepsApart w ms old mid
+    → KeepsBut w (edits_root w ms) mid late → (failed → fails) → MakesRootOrNot w (drops_at_root w ms) private (IsRootText w ms mid) failed mid late → IsPartlyPrepared w ms fails old late
+partly-root w ms private failed fails old mid late are holds turned apart keeps more made = record {
+  alone = λ k d lt is.
+      let t = turned k d lt is in
+      let m : Member = get_or ms k d in inr (inl (m.text, t.0, holds k d lt, keeps m.path (alone-apart w ms m is) ∙ t.1, t.2));
+  root = λ asked. root-by w ms private failed fails old mid late are holds apart asked more made;
+}
+
+-- a member's text at the root is edited or not
+pub partly-found : (tells failed : Type 0) (w : Wanted) (ms : List Member) (private : List Name) (text : Name) (old new : Contents) → Some text ≡ option_map text_in (find (is_root w) ms)
+    → (tells → MakesRootOrNot w w.drops_dev private (Only text) failed old new) → tells → MakesRootOrNot w (drops_at_root w ms) private (IsRootText w ms old) failed old new
+partly-found tells failed w ms private text old new found h t =
+    subst (λ b. MakesRootOrNot w b private (IsRootText w ms old) failed old new) (sym (drops-found w ms (root-found w ms text found)))
+    (root-or-not w w.drops_dev private (Only text) (IsRootText w ms old) failed failed old old new refl (λ x is. subst (λ s. IsRootText w ms old s) (sym is) (text-found w ms text old found)) (λ f. f) (h t))
+
+-- and one that no member has read
+pub partly-missed : (tells failed : Type 0) (w : Wanted) (ms : List Member) (private : List Name) (old new : Contents) → None ≡ option_map text_in (find (is_root w) ms)
+    → (tells → MakesRootOrNot w false private (λ x. old w.root ≡ Some x) failed old new) → tells → MakesRootOrNot w (drops_at_root w ms) private (IsRootText w ms old) failed old new
+partly-missed tells failed w ms private old new missed h t =
+    subst (λ b. MakesRootOrNot w b private (IsRootText w ms old) failed old new) (sym (drops-missed w ms (root-missed w ms missed)))
+    (root-or-not w false private (λ x. old w.root ≡ Some x) (IsRootText w ms old) failed failed old old new refl (λ x is. text-missed w ms x old missed is) (λ f. f) (h t))
+
+-- what was read is edited or not
+pub partly-read : (tells : Type 0) (w : Wanted) (private : List Name) (text held : Name) (before between after : ℕ) (old mid new : Contents) → held ≡ text → (tells → old w.root ≡ Some text) → (tells → KeepsAll old mid)
+    → GrowsBy 0 before between → (tells → MakesRootOrNot w false private (Only held) (GrowsBy 1 between after) mid new)
+    → tells → MakesRootOrNot w false private (λ x. old w.root ≡ Some x) (GrowsBy 1 before after) old new
+partly-read tells w private text held before between after old mid new is read same quiet h t =
+    root-or-not w false private (Only held) (λ x. old w.root ≡ Some x) (GrowsBy 1 between after) (GrowsBy 1 before after) old mid new (same t w.root) (λ x here. read t ∙ ap Some (sym (here ∙ is))) (none_then 1 before between after quiet) (h t)
 
 -- what is held is the same before and behind
 pub prepared-moved : (w : Wanted) (ms : List Member) (first old new last : Contents) → KeepsAll first old → KeepsAll new last → IsPrepared w ms old new → IsPrepared w ms first last

@@ -1,17 +1,17 @@
 -- Why manifests aren't edited.
-use Rattle.std.specs.Prelude.{◌≡◌, ◌⊎◌, ℕ, suc, Bool, true, MatchBool, None, List, Contains, string_bytes}
-use Rattle.std.specs.List.{list_any}
+use Rattle.std.specs.Prelude.{◌≡◌, ◌⊎◌, Bool, true, false, MatchBool, Some, None, List, Contains, string_bytes}
 use Rattle.toml.specs.Parse.{parse_document}
 use Rattle.hack_features.specs.Names.{Name}
 use Rattle.hack_files.specs.declared.fs.FsFault.{FsFault}
 use Rattle.hack_files.specs.declared.fs.FsFault.TheVariants as fs
-use Rattle.hack_files.specs.Files.{Contents, GrowsBy}
+use Rattle.hack_files.specs.Files.{Contents}
 use Rattle.hack_edits.specs.DevDeps.{HasInlineTarget, IsMisread, IsWithoutDev}
 use Rattle.hack_edits.specs.Members.{in_order}
 use Rattle.hack_edits.specs.PrivateCrates.{HasBadForm, HasWork, some_path_control}
 use Rattle.hack_edits.specs.declared.fault.ManifestFault.{ManifestFault}
 use Rattle.hack_edits.specs.declared.fault.ManifestFault.TheVariants as edit
-use Rattle.hack_prepare.specs.Prepared.{HasPrivateRoot, Member, Wanted, drops_at_root, edits_root, gone, is_alone, is_alone_at, is_edited}
+use Rattle.hack_prepare.specs.Paths.{IsEdited, IsLookedAt, IsReadRoot, IsTextless}
+use Rattle.hack_prepare.specs.Prepared.{HasPrivateRoot, Member, Wanted, drops_at_root, edits_root, gone, has_some, is_alone}
 use Rattle.hack_prepare.specs.Steps.{IsRootText}
 use Rattle.hack_prepare.specs.declared.fault.PrepareFault.{PrepareFault}
 use Rattle.hack_prepare.specs.declared.fault.PrepareFault.TheVariants.{Memory, PrivateRoot, Files, Toml, InlineTarget, WorkspaceForm, PathText, ReadBack}
@@ -58,32 +58,16 @@ IsOfFile (fs.NotText path) e = e ≡ Files (fs.NotText path)
 
 -- ---- why nothing more is edited
 
--- some call failed
-abbrev pub Grew : ℕ → ℕ → Type 0
-Grew before now = (k : ℕ) × GrowsBy (suc k) before now
-
--- a file that is read so, or written so, can't be, and that was counted; or what is read is no text
-abbrev pub IsFileFault : (Name → Type 0) → (Name → Type 0) → ℕ → ℕ → FsFault → Type 0
-IsFileFault reads writes before now (fs.Read p) = reads (string_bytes p) × Grew before now
-IsFileFault reads writes before now (fs.Write p) = writes (string_bytes p) × Grew before now
-IsFileFault reads writes before now (fs.NotText p) = reads (string_bytes p)
-IsFileFault reads writes before now fs.Memory = ⊥
+-- a file that is read so, or written so, can't be; or what such a path holds is no text
+abbrev pub IsFileFault : (Name → Type 0) → (Name → Type 0) → (Name → Type 0) → FsFault → Type 0
+IsFileFault reads writes textless (fs.Read p) = reads (string_bytes p)
+IsFileFault reads writes textless (fs.Write p) = writes (string_bytes p)
+IsFileFault reads writes textless (fs.NotText p) = textless (string_bytes p)
+IsFileFault reads writes textless fs.Memory = ⊥
 
 -- memory ran out, or it is a fault of a file, or such a fault
-abbrev pub IsFault : (Name → Type 0) → (Name → Type 0) → (PrepareFault → Type 0) → ℕ → ℕ → PrepareFault → Type 0
-IsFault reads writes P before now e = (e ≡ Memory) ⊎ (((f : FsFault) × (e ≡ Files f) × IsFileFault reads writes before now f) ⊎ P e)
-
--- no path
-abbrev pub Nowhere : Name → Type 0
-Nowhere p = ⊥
-
--- this path
-abbrev pub Only : Name → Name → Type 0
-Only path p = p ≡ path
-
--- this path, if it is asked for
-abbrev pub OnlyIf : Bool → Name → Name → Type 0
-OnlyIf asked path p = (asked ≡ true) × (p ≡ path)
+abbrev pub IsFault : (Name → Type 0) → (Name → Type 0) → (Name → Type 0) → (PrepareFault → Type 0) → PrepareFault → Type 0
+IsFault reads writes textless P e = (e ≡ Memory) ⊎ (((f : FsFault) × (e ≡ Files f) × IsFileFault reads writes textless f) ⊎ P e)
 
 -- no fault
 abbrev pub NoFault : PrepareFault → Type 0
@@ -100,15 +84,15 @@ pub record IsMemberFault (w : Wanted) (ms : List Member) (e : PrepareFault) : Ty
 abbrev pub IsMembersFault : Wanted → List Member → PrepareFault → Type 0
 IsMembersFault w ms e = ((e ≡ PrivateRoot) × HasPrivateRoot w ms) ⊎ IsMemberFault w ms e
 
--- some member's manifest that is edited by itself is at this path
-abbrev pub IsAlonePath : Wanted → List Member → Name → Type 0
-IsAlonePath w ms p = list_any (is_alone_at w p) ms ≡ true
-
 -- why a workspace's text isn't edited: its development dependencies don't go, or, behind these, its members
 abbrev pub IsTextFault : Wanted → Bool → List Name → Name → PrepareFault → Type 0
 IsTextFault w drops_dev private text e =
     ((drops_dev ≡ true) × IsDevFault w.root text e)
     ⊎ ((between : Name) × MatchBool drops_dev (IsWithoutDev text between) (between ≡ text) × IsPrivateFault w.root w.folder (in_order private) between e)
+
+-- members don't go from the text that is held
+abbrev pub IsHeldFault : Wanted → List Name → Type 0 → Contents → PrepareFault → Type 0
+IsHeldFault w private tells held e = (has_some private ≡ true) × (text : Name) × (tells → held w.root ≡ Some text) × IsTextFault w false private text e
 
 -- the same for the text that a member has read, or that is held
 pub record IsRootFault (w : Wanted) (ms : List Member) (tells : Type 0) (held : Contents) (e : PrepareFault) : Type 0 where
@@ -117,18 +101,10 @@ pub record IsRootFault (w : Wanted) (ms : List Member) (tells : Type 0) (held : 
   pub read : tells → IsRootText w ms held text
   pub fault : IsTextFault w (drops_at_root w ms) (gone w ms) text e
 
--- a file that is looked at: the root's manifest, or the lockfile
-abbrev pub IsLookedAt : Wanted → Name → Type 0
-IsLookedAt w p = (p ≡ w.root) ⊎ (p ≡ w.lockfile)
-
--- a path that is edited
-abbrev pub IsEdited : Wanted → List Member → Name → Type 0
-IsEdited w ms p = is_edited w ms p ≡ true
-
 -- an edit isn't made
 abbrev pub IsUnmade : Wanted → List Member → Type 0 → Contents → PrepareFault → Type 0
 IsUnmade w ms tells held e = IsMembersFault w ms e ⊎ IsRootFault w ms tells held e
 
--- why the manifests aren't edited
-abbrev pub IsPrepareFault : Wanted → List Member → Type 0 → Contents → ℕ → ℕ → PrepareFault → Type 0
-IsPrepareFault w ms tells held = IsFault (IsLookedAt w) (IsEdited w ms) (IsUnmade w ms tells held)
+-- why edits aren't made, or memory ran out
+abbrev pub IsEditsFault : Wanted → List Member → Type 0 → Contents → PrepareFault → Type 0
+IsEditsFault w ms tells held = IsFault (IsLookedAt w ms) (IsEdited w ms) (IsTextless tells held (IsReadRoot w ms)) (IsUnmade w ms tells held)

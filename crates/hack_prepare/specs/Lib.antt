@@ -1,4 +1,6 @@
+pub mod Counts
 pub mod Faults
+pub mod Paths
 pub mod Prepared
 pub mod PreparedView
 pub mod Steps

@@ -1,5 +1,5 @@
 -- What is edited before the runs of a call, and what becomes of it.
-use Rattle.std.specs.Prelude.{◌≡◌, ◌&&◌, ◌||◌, Bool, true, false, not, MatchBool, List, [], ◌∷◌, Some, All, Contains, map}
+use Rattle.std.specs.Prelude.{◌≡◌, ◌⊎◌, ◌&&◌, ◌||◌, Bool, true, false, not, MatchBool, List, [], ◌∷◌, Some, All, Contains, map}
 use Rattle.std.specs.List.{filter, list_any}
 use Rattle.std.specs.Str.{bytes_eq}
 use Rattle.hack_features.specs.Names.{Name}
@@ -30,10 +30,6 @@ pub record Member : Type 0 where
 -- each member's manifest holds what was read there
 abbrev pub HoldTexts : Contents → List Member → Type 0
 HoldTexts held ms = All (λ m. held m.path ≡ Some m.text) ms
-
--- the same, of what is held
-abbrev pub AllHold : List Member → Contents → Type 0
-AllHold ms held = HoldTexts held ms
 
 -- ---- what is edited
 
@@ -98,11 +94,24 @@ pub record IsRootEdit (folder : Name) (drops_dev : Bool) (private : List Name) (
   pub dev : MatchBool drops_dev (IsWithoutDev text between) (between ≡ text)
   pub members : MatchBool (has_some private) (IsWithoutPrivate folder (in_order private) between turned) (turned ≡ between)
 
+-- every path that isn't edited holds what it held
+abbrev pub KeepsUnedited : Wanted → List Member → Contents → Contents → Type 0
+KeepsUnedited w ms old new = (q : Name) → is_edited w ms q ≡ false → new q ≡ old q
+
 -- each manifest that is edited holds its edit, and every other path what it held
 pub record IsPrepared (w : Wanted) (ms : List Member) (old new : Contents) : Type 0 where
   pub alone : All (λ m. is_alone w m ≡ true → Turns IsWithoutDev m.path old new) ms
   pub root : edits_root w ms ≡ true → Turns (IsRootEdit w.folder (drops_at_root w ms) (gone w ms)) w.root old new
-  pub others : (q : Name) → is_edited w ms q ≡ false → new q ≡ old q
+  pub others : KeepsUnedited w ms old new
+
+-- a path holds what it held, or what is made of that so, or this has failed
+abbrev pub TurnsOrStays : Type 0 → (Name → Name → Type 0) → Name → Contents → Contents → Type 0
+TurnsOrStays failed P path old new = (new path ≡ old path) ⊎ (Turns P path old new ⊎ failed)
+
+-- each manifest that is edited holds what it held, or its edit, or this has failed
+pub record IsPartlyPrepared (w : Wanted) (ms : List Member) (failed : Type 0) (old new : Contents) : Type 0 where
+  pub alone : All (λ m. is_alone w m ≡ true → TurnsOrStays failed IsWithoutDev m.path old new) ms
+  pub root : edits_root w ms ≡ true → TurnsOrStays failed (IsRootEdit w.folder (drops_at_root w ms) (gone w ms)) w.root old new
 
 -- a private member stands in the folder of the workspace, and private members are to go
 pub record HasPrivateRoot (w : Wanted) (ms : List Member) : Type 0 where

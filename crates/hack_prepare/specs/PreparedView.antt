@@ -1,9 +1,17 @@
 -- What a call wants of the manifests, from what is loaded for it.
-use Rattle.std.specs.Prelude.{◌||◌, ℕ, List, Option, codes, map, option_and_then, option_map, string_bytes}
+use Rattle.std.specs.Prelude.{◌≡◌, ◌⊎◌, ◌||◌, ℕ, Bool, true, List, Option, codes, map, option_and_then, option_map, string_bytes}
 use Rattle.std.specs.List.{filter_map}
 use Rattle.hack_process.specs.PathTexts.{join_of}
 use Rattle.hack_load.specs.Contexts.{ContextRecord, is_private_at, manifest_at, package_at}
-use Rattle.hack_prepare.specs.Prepared.{Member, Wanted}
+use Rattle.hack_features.specs.Names.{Name}
+use Rattle.hack_files.specs.Files.{Contents}
+use Rattle.hack_versions.specs.Notes.{Note}
+use Rattle.hack_prepare.specs.Faults.{IsEditsFault}
+use Rattle.hack_prepare.specs.Paths.{IsTouched}
+use Rattle.hack_prepare.specs.Prepared.{HasPrivateRoot, HoldTexts, IsPartlyPrepared, IsPrepared, KeepsUnedited, Member, Wanted, edits}
+use Rattle.hack_prepare.specs.Told.{notes}
+use Rattle.hack_prepare.specs.declared.fault.PrepareFault.{PrepareFault}
+use Rattle.hack_prepare.specs.declared.fault.PrepareFault.TheVariants.{Memory}
 use Rattle.hack_prepare.specs.declared.wanted.Member.{Member as TheMember}
 use Rattle.hack_prepare.specs.declared.wanted.Wanted.{Wanted as TheWanted}
 
@@ -37,3 +45,41 @@ wanted_in cx = record {
   root = join_of cx.metadata.workspace_root (codes "Cargo.toml");
   lockfile = join_of cx.metadata.workspace_root (codes "Cargo.lock");
 }
+
+-- ---- what is said of manifests, for a context: its members, and what its arguments want of them
+
+-- each member's manifest holds what was loaded of it
+abbrev pub HoldTextsIn : ContextRecord → Contents → Type 0
+HoldTextsIn cx held = HoldTexts held (members_in cx)
+
+-- manifests are edited at all
+abbrev pub edits_in : ContextRecord → Bool
+edits_in cx = edits (wanted_in cx)
+
+-- a private member stands in the folder of the workspace, and private members are to go
+abbrev pub HasPrivateRootIn : ContextRecord → Type 0
+HasPrivateRootIn cx = HasPrivateRoot (wanted_in cx) (members_in cx)
+
+-- each manifest that is edited holds its edit, and every other path what it held
+abbrev pub IsPreparedIn : ContextRecord → Contents → Contents → Type 0
+IsPreparedIn cx = IsPrepared (wanted_in cx) (members_in cx)
+
+-- each manifest that is edited holds what it held, or its edit, or this has failed
+abbrev pub IsPartlyPreparedIn : ContextRecord → Type 0 → Contents → Contents → Type 0
+IsPartlyPreparedIn cx = IsPartlyPrepared (wanted_in cx) (members_in cx)
+
+-- every path that isn't edited holds what it held
+abbrev pub KeepsUneditedIn : ContextRecord → Contents → Contents → Type 0
+KeepsUneditedIn cx = KeepsUnedited (wanted_in cx) (members_in cx)
+
+-- a path that is edited, or the lockfile, where manifests are edited at all
+abbrev pub IsTouchedIn : ContextRecord → Name → Type 0
+IsTouchedIn cx p = (edits_in cx ≡ true) × IsTouched (wanted_in cx) (members_in cx) p
+
+-- what the user is told
+abbrev pub notes_in : ContextRecord → List Note
+notes_in cx = notes (wanted_in cx) (members_in cx)
+
+-- why manifests aren't edited: memory ran out, or they are edited at all, and there is a cause
+abbrev pub IsPrepareFault : ContextRecord → Type 0 → Contents → PrepareFault → Type 0
+IsPrepareFault cx tells held e = (e ≡ Memory) ⊎ ((edits_in cx ≡ true) × IsEditsFault (wanted_in cx) (members_in cx) tells held e)

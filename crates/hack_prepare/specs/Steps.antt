@@ -1,5 +1,5 @@
 -- What a step of the edits does to files, to what is kept, and to the count of failures.
-use Rattle.std.specs.Prelude.{◌≡◌, ◌&&◌, ◌||◌, ℕ, Bool, true, false, List, Some, MatchOption, All}
+use Rattle.std.specs.Prelude.{◌≡◌, ◌⊎◌, ◌&&◌, ◌||◌, ℕ, Bool, true, false, List, Some, MatchOption, All}
 use Rattle.std.specs.List.{find, list_any}
 use Rattle.std.specs.Str.{bytes_eq}
 use Rattle.hack_features.specs.Names.{Name}
@@ -13,12 +13,16 @@ use Rattle.hack_prepare.specs.Prepared.{Member, Wanted, IsRootEdit, has_some, is
 abbrev pub Grows : ℕ → ℕ → Type 0
 Grows before now = (k : ℕ) × GrowsBy k before now
 
--- What a step does to the manager, to what files hold, and to the count of failures: where files come back, what is safe
--- stays so for each start that meets a premise.
-pub record IsStep (tells : Type 0) (P : Contents → Type 0) (old new : Manager) (mid held : Contents) (before now : ℕ) : Type 0 where
-  pub grows : Grows before now
+-- a path that is kept was kept before, or is one of these
+abbrev pub KeepsOnly : (Name → Type 0) → Manager → Manager → Type 0
+KeepsOnly P old new = (q : Name) → is_kept (registered new) q ≡ true → (is_kept (registered old) q ≡ true) ⊎ P q
+
+-- What a step does to the manager and to what files hold: it keeps none but these paths, and where files come back, what is
+-- safe stays so for each start that meets a premise.
+pub record IsStep (tells : Type 0) (P : Contents → Type 0) (K : Name → Type 0) (old new : Manager) (mid held : Contents) : Type 0 where
   pub needs : new.needs_restore ≡ old.needs_restore
   pub unkept : old.needs_restore ≡ false → registered new ≡ registered old
+  pub kept : KeepsOnly K old new
   pub safe : tells → old.needs_restore ≡ true → (start : Contents) → P start → AreSafe (registered old) start mid → AreSafe (registered new) start held
 
 -- nothing is asked of the start
@@ -37,15 +41,34 @@ HoldsText m held = held m.path ≡ Some m.text
 abbrev pub IsTurned : Contents → Member → Type 0
 IsTurned new m = (turned : Name) × (new m.path ≡ Some turned) × IsWithoutDev m.text turned
 
--- the manifests of these members are edited by themselves where they are to be, and every other path holds what it held
-pub record AreTurned (w : Wanted) (ms : List Member) (old new : Contents) : Type 0 where
-  pub turned : All (λ m. is_alone w m ≡ true → IsTurned new m) ms
-  pub others : (q : Name) → list_any (is_alone_at w q) ms ≡ false → new q ≡ old q
+-- a member's manifest holds what it held, or its text without development dependencies, or this has failed
+abbrev pub IsTurnedOrNot : Type 0 → Contents → Contents → Member → Type 0
+IsTurnedOrNot failed old new m = (new m.path ≡ old m.path) ⊎ (IsTurned new m ⊎ failed)
 
--- a path holds an edit of a workspace's text, if one is asked for
+-- so does each of these members' that is edited by itself
+abbrev pub ArePartlyTurned : Wanted → List Member → Type 0 → Contents → Contents → Type 0
+ArePartlyTurned w ms failed old new = All (λ m. is_alone w m ≡ true → IsTurnedOrNot failed old new m) ms
+
+-- every path at which no member's manifest is edited by itself holds what it held
+abbrev pub KeepsApart : Wanted → List Member → Contents → Contents → Type 0
+KeepsApart w ms old new = (q : Name) → list_any (is_alone_at w q) ms ≡ false → new q ≡ old q
+
+-- the manifests of these members are edited by themselves where they are to be
+abbrev pub AreTurned : Wanted → List Member → Contents → Type 0
+AreTurned w ms new = All (λ m. is_alone w m ≡ true → IsTurned new m) ms
+
+-- the root's manifest holds an edit of this text
+abbrev pub HoldsRootEdit : Wanted → Bool → List Name → Contents → Name → Type 0
+HoldsRootEdit w drops_dev private new text = (turned : Name) × (new w.root ≡ Some turned) × IsRootEdit w.folder drops_dev private text turned
+
+-- the same, if one is asked for
 abbrev pub MakesRoot : Wanted → Bool → List Name → Name → Contents → Type 0
-MakesRoot w drops_dev private text new =
-    (drops_dev || has_some private) ≡ true → (turned : Name) × (new w.root ≡ Some turned) × IsRootEdit w.folder drops_dev private text turned
+MakesRoot w drops_dev private text new = (drops_dev || has_some private) ≡ true → HoldsRootEdit w drops_dev private new text
+
+-- the root's manifest holds what it held, or an edit of such a text, or this has failed
+abbrev pub MakesRootOrNot : Wanted → Bool → List Name → (Name → Type 0) → Type 0 → Contents → Contents → Type 0
+MakesRootOrNot w drops_dev private reads failed old new =
+    (new w.root ≡ old w.root) ⊎ (((text : Name) × reads text × HoldsRootEdit w drops_dev private new text) ⊎ failed)
 
 -- every path but the root's manifest holds what it held, and that too, if no edit is asked for
 abbrev pub KeepsBut : Wanted → Bool → Contents → Contents → Type 0

@@ -3,7 +3,9 @@
 ghost use Rattle.std.specs.Prelude.{◌≡◌, OnOk, IfErr, IfSome, true};
 ghost use Rattle.hack_files.specs.Files.{KeepsAll};
 ghost use Rattle.hack_files.specs.Restore.{is_kept, registered};
-ghost use Rattle.hack_prepare.specs.Faults.{IsFault, NoFault, Nowhere, Only};
+ghost use Rattle.hack_prepare.specs.Counts.{CountsCalls};
+ghost use Rattle.hack_prepare.specs.Faults.{IsFault, NoFault};
+ghost use Rattle.hack_prepare.specs.Paths.{Nowhere, Only};
 ghost use Rattle.hack_prepare.specs.Steps.{AnyStart, IsStep};
 
 use crate::fault::{PrepareFault, of_file};
@@ -19,42 +21,23 @@ pub(crate) fn keep_lockfile<F: Files>(
     manager: &mut Manager,
 ) -> Result<(), PrepareFault>
     ensures stays { F.stays files.old files.new }
-    ensures step { IsStep F.tells AnyStart manager.old manager.new
-        (F.bytes_at files.old) (F.bytes_at files.new) (F.failed files.old) (F.failed files.new) }
+    ensures counted { CountsCalls (F.failed files.old) (F.failed files.new) result }
+    ensures step { IsStep F.tells AnyStart (Only path.now) manager.old manager.new
+        (F.bytes_at files.old) (F.bytes_at files.new) }
     ensures kept { OnOk result (F.tells → manager.old.needs_restore ≡ true
         → IfSome (F.bytes_at files.old path.now) (λ _.
         is_kept (registered manager.new) path.now ≡ true)) }
     ensures same { F.tells → KeepsAll (F.bytes_at files.old) (F.bytes_at files.new) }
-    ensures err { IfErr result (IsFault (Only path.now) Nowhere NoFault
-        (F.failed files.old) (F.failed files.new)) }
+    ensures err { IfErr result (IsFault (Only path.now) Nowhere Nowhere NoFault) }
 {
     match exists(alloc, files, path) {
-        Ok(true) => keep(alloc, path, files, manager),
-        Ok(false) => Ok(()),
-        Err(fault) => Err(of_file(fault)),
-    }
-}
-
-/// Keeps what a file holds.
-fn keep<F: Files>(
-    alloc: Global,
-    path: &str,
-    files: &mut F,
-    manager: &mut Manager,
-) -> Result<(), PrepareFault>
-    ensures stays { F.stays files.old files.new }
-    ensures step { IsStep F.tells AnyStart manager.old manager.new
-        (F.bytes_at files.old) (F.bytes_at files.new) (F.failed files.old) (F.failed files.new) }
-    ensures kept { OnOk result (manager.old.needs_restore ≡ true
-        → is_kept (registered manager.new) path.now ≡ true) }
-    ensures same { F.tells → KeepsAll (F.bytes_at files.old) (F.bytes_at files.new) }
-    ensures err { IfErr result (IsFault (Only path.now) Nowhere NoFault
-        (F.failed files.old) (F.failed files.new)) }
-{
-    let bytes = match read(alloc, files, path) {
-        Ok(bytes) => bytes,
+        Ok(true) => {}
+        Ok(false) => return Ok(()),
         Err(fault) => return Err(of_file(fault)),
-    };
-    manager.register_once(alloc, path, &bytes)?;
+    }
+    match read(alloc, files, path) {
+        Ok(bytes) => manager.register_once(alloc, path, &bytes)?,
+        Err(fault) => return Err(of_file(fault)),
+    }
     Ok(())
 }

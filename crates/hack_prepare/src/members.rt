@@ -2,14 +2,16 @@
 
 ghost use Rattle.std.specs.Prelude.{◌≡◌, ◌++◌, IfErr, IfOk, OnOk, map};
 ghost use Rattle.std.specs.List.{flat_map};
-ghost use Rattle.hack_files.specs.Files.{KeepsOthers};
+ghost use Rattle.hack_files.specs.Files.{GrowsBy, KeepsOthers};
 ghost use Rattle.hack_process.specs.PathTexts.{texts};
 ghost use Rattle.hack_versions.specs.Notes.{note_of};
-ghost use Rattle.hack_prepare.specs.Faults.{IsAlonePath, IsDevFault, IsFault, IsMembersFault};
-ghost use Rattle.hack_prepare.specs.Faults.{Nowhere, Only};
-ghost use Rattle.hack_prepare.specs.Prepared.{AllHold, HasPrivateRoot, HoldTexts, gone};
+ghost use Rattle.hack_prepare.specs.Counts.{CountsCalls};
+ghost use Rattle.hack_prepare.specs.Faults.{IsDevFault, IsFault, IsMembersFault};
+ghost use Rattle.hack_prepare.specs.Paths.{IsAlonePath, Nowhere, Only};
+ghost use Rattle.hack_prepare.specs.Prepared.{HasPrivateRoot, HoldTexts, gone};
 ghost use Rattle.hack_prepare.specs.PreparedView.{member_view, members_view, wanted_view};
-ghost use Rattle.hack_prepare.specs.Steps.{AreTurned, HoldsText, IsStep, IsTurned};
+ghost use Rattle.hack_prepare.specs.Steps.{ArePartlyTurned, AreTurned, HoldsText, IsStep};
+ghost use Rattle.hack_prepare.specs.Steps.{IsTurned, IsTurnedOrNot, KeepsApart};
 ghost use Rattle.hack_prepare.specs.Told.{dev_note, member_notes};
 
 use crate::edits::without_dev;
@@ -33,21 +35,28 @@ pub(crate) fn edit_members<'a, F: Files>(
     notices: &mut Vec<Notice>,
 ) -> Result<Vec<&'a str>, PrepareFault>
     ensures stays { F.stays files.old files.new }
-    ensures step { IsStep F.tells (AllHold (members_view members.now)) manager.old manager.new
-        (F.bytes_at files.old) (F.bytes_at files.new) (F.failed files.old) (F.failed files.new) }
+    ensures counted { CountsCalls (F.failed files.old) (F.failed files.new) result }
+    ensures step { IsStep F.tells (λ start. HoldTexts start (members_view members.now))
+        (IsAlonePath (wanted_view wanted.now) (members_view members.now)) manager.old manager.new
+        (F.bytes_at files.old) (F.bytes_at files.new) }
     ensures turned { OnOk result (F.tells
         → HoldTexts (F.bytes_at files.old) (members_view members.now)
-        → AreTurned (wanted_view wanted.now) (members_view members.now)
-        (F.bytes_at files.old) (F.bytes_at files.new)) }
+        → AreTurned (wanted_view wanted.now) (members_view members.now) (F.bytes_at files.new)) }
+    ensures partly { F.tells → HoldTexts (F.bytes_at files.old) (members_view members.now)
+        → ArePartlyTurned (wanted_view wanted.now) (members_view members.now)
+        (GrowsBy 1 (F.failed files.old) (F.failed files.new))
+        (F.bytes_at files.old) (F.bytes_at files.new) }
+    ensures others { F.tells → KeepsApart (wanted_view wanted.now) (members_view members.now)
+        (F.bytes_at files.old) (F.bytes_at files.new) }
     ensures gone { IfOk result (λ paths.
         texts paths.items ≡ gone (wanted_view wanted.now) (members_view members.now)) }
-    ensures never { OnOk result (¬ HasPrivateRoot (wanted_view wanted.now) (members_view members.now)) }
+    ensures never { OnOk result
+        (¬ HasPrivateRoot (wanted_view wanted.now) (members_view members.now)) }
     ensures told { OnOk result (map note_of notices.new.items ≡ map note_of notices.old.items
         ++ flat_map (member_notes (wanted_view wanted.now)) (members_view members.now)) }
     ensures err { IfErr result (IsFault Nowhere
-        (IsAlonePath (wanted_view wanted.now) (members_view members.now))
-        (IsMembersFault (wanted_view wanted.now) (members_view members.now))
-        (F.failed files.old) (F.failed files.new)) }
+        (IsAlonePath (wanted_view wanted.now) (members_view members.now)) Nowhere
+        (IsMembersFault (wanted_view wanted.now) (members_view members.now))) }
 {
     let mut gone = Vec::new(alloc);
     for member in members {
@@ -73,17 +82,20 @@ fn edit_member<F: Files>(
     notices: &mut Vec<Notice>,
 ) -> Result<(), PrepareFault>
     ensures stays { F.stays files.old files.new }
-    ensures step { IsStep F.tells (HoldsText (member_view member.now)) manager.old manager.new
-        (F.bytes_at files.old) (F.bytes_at files.new) (F.failed files.old) (F.failed files.new) }
+    ensures counted { CountsCalls (F.failed files.old) (F.failed files.new) result }
+    ensures step { IsStep F.tells (HoldsText (member_view member.now))
+        (Only (member_view member.now).path) manager.old manager.new
+        (F.bytes_at files.old) (F.bytes_at files.new) }
     ensures turned { OnOk result (F.tells
         → IsTurned (F.bytes_at files.new) (member_view member.now)) }
+    ensures partly { F.tells → IsTurnedOrNot (GrowsBy 1 (F.failed files.old) (F.failed files.new))
+        (F.bytes_at files.old) (F.bytes_at files.new) (member_view member.now) }
     ensures others { F.tells → KeepsOthers (member_view member.now).path
         (F.bytes_at files.old) (F.bytes_at files.new) }
     ensures told { OnOk result (map note_of notices.new.items
         ≡ map note_of notices.old.items ++ dev_note verbose (member_view member.now).path) }
-    ensures err { IfErr result (IsFault Nowhere (Only (member_view member.now).path)
-        (IsDevFault (member_view member.now).path (member_view member.now).text)
-        (F.failed files.old) (F.failed files.new)) }
+    ensures err { IfErr result (IsFault Nowhere (Only (member_view member.now).path) Nowhere
+        (IsDevFault (member_view member.now).path (member_view member.now).text)) }
 {
     tell_dev(alloc, verbose, member.path, notices)?;
     let text = without_dev(alloc, member.path, member.text)?;

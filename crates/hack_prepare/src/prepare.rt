@@ -1,14 +1,21 @@
 //! What is done to the files of a workspace before the runs of a call, and undone at its end.
 
-ghost use Rattle.std.specs.Prelude.{◌≡◌, ◌<◌, ◌↔◌, ◌⊎◌, ◌||◌, IfErr, IfOk, IfSome, OnOk, IsTrue, true, false, map, List};
+ghost use Rattle.std.specs.Prelude.{◌≡◌, ◌<◌, ◌↔◌, ◌⊎◌, ◌||◌, IfErr, IfOk, IfSome, OnOk, IsTrue};
+ghost use Rattle.std.specs.Prelude.{List, false, map, true};
 ghost use Rattle.hack_files.specs.Files.{Change, Contents, GrowsBy, Makes};
 ghost use Rattle.hack_files.specs.Restore.{AreSafe, Brings, Tried, is_kept, registered};
 ghost use Rattle.hack_load.specs.ContextView.{context_view};
 ghost use Rattle.hack_versions.specs.Notes.{note_of};
-ghost use Rattle.hack_prepare.specs.Faults.{IsPrepareFault};
-ghost use Rattle.hack_prepare.specs.Prepared.{AllHold, HasPrivateRoot, HoldTexts, IsPrepared, edits};
-ghost use Rattle.hack_prepare.specs.PreparedView.{members_in, members_view, wanted_in, wanted_view};
-ghost use Rattle.hack_prepare.specs.Steps.{Grows, IsStep};
+ghost use Rattle.hack_prepare.specs.Counts.{CountsCalls};
+ghost use Rattle.hack_prepare.specs.Faults.{IsEditsFault};
+ghost use Rattle.hack_prepare.specs.Paths.{IsTouched};
+ghost use Rattle.hack_prepare.specs.Prepared.{HasPrivateRoot, HoldTexts, IsPartlyPrepared};
+ghost use Rattle.hack_prepare.specs.Prepared.{IsPrepared, KeepsUnedited};
+ghost use Rattle.hack_prepare.specs.PreparedView.{HasPrivateRootIn, HoldTextsIn, IsPartlyPreparedIn};
+ghost use Rattle.hack_prepare.specs.PreparedView.{IsPrepareFault, IsPreparedIn, IsTouchedIn};
+ghost use Rattle.hack_prepare.specs.PreparedView.{KeepsUneditedIn, edits_in, notes_in};
+ghost use Rattle.hack_prepare.specs.PreparedView.{members_view, wanted_in, wanted_view};
+ghost use Rattle.hack_prepare.specs.Steps.{Grows, IsStep, KeepsOnly};
 ghost use Rattle.hack_prepare.specs.Told.{notes};
 
 use crate::fault::PrepareFault;
@@ -39,32 +46,45 @@ pub fn prepare<F: Files>(
 ) -> Result<Vec<Notice>, PrepareFault>
     ensures stays { F.stays files.old files.new }
     ensures grows { Grows (F.failed files.old) (F.failed files.new) }
+    ensures counted { CountsCalls (F.failed files.old) (F.failed files.new) result }
     ensures needs { manager.new.needs_restore ≡ manager.old.needs_restore }
     ensures unkept { manager.old.needs_restore ≡ false
         → registered manager.new ≡ registered manager.old }
 
     // Whatever comes of it, what was written since comes back.
     ensures safe { F.tells → manager.old.needs_restore ≡ true → (start : Contents)
-        → HoldTexts start (members_in (context_view cx.now))
+        → HoldTextsIn (context_view cx.now) start
         → AreSafe (registered manager.old) start (F.bytes_at files.old)
         → AreSafe (registered manager.new) start (F.bytes_at files.new) }
 
+    // No path is kept but those that are edited and the lockfile, and none where no edit is asked.
+    ensures kept { KeepsOnly (IsTouchedIn (context_view cx.now)) manager.old manager.new }
+
     // Each manifest that is edited holds its edit, and every other path what it held.
-    ensures prepared { OnOk result (F.tells → HoldTexts (F.bytes_at files.old) (members_in (context_view cx.now))
-        → IsPrepared (wanted_in (context_view cx.now)) (members_in (context_view cx.now))
-        (F.bytes_at files.old) (F.bytes_at files.new)) }
+    ensures prepared { OnOk result (F.tells
+        → HoldTextsIn (context_view cx.now) (F.bytes_at files.old)
+        → IsPreparedIn (context_view cx.now) (F.bytes_at files.old) (F.bytes_at files.new)) }
+
+    // At a fault too, such a manifest holds its edit, or what it held, unless a call failed.
+    ensures edited { F.tells → HoldTextsIn (context_view cx.now) (F.bytes_at files.old)
+        → IsPartlyPreparedIn (context_view cx.now)
+        (GrowsBy 1 (F.failed files.old) (F.failed files.new))
+        (F.bytes_at files.old) (F.bytes_at files.new) }
+
+    // And every other path holds what it held, whatever the manifests hold.
+    ensures others { F.tells → KeepsUneditedIn (context_view cx.now)
+        (F.bytes_at files.old) (F.bytes_at files.new) }
     ensures lockfile { OnOk result (F.tells → manager.old.needs_restore ≡ true
-        → edits (wanted_in (context_view cx.now)) ≡ true
+        → edits_in (context_view cx.now) ≡ true
         → IfSome (F.bytes_at files.new (wanted_in (context_view cx.now)).lockfile) (λ _.
         is_kept (registered manager.new) (wanted_in (context_view cx.now)).lockfile ≡ true)) }
-    ensures never { OnOk result (¬ HasPrivateRoot (wanted_in (context_view cx.now)) (members_in (context_view cx.now))) }
-    ensures told { IfOk result (λ notices. map note_of notices.items
-        ≡ notes (wanted_in (context_view cx.now)) (members_in (context_view cx.now))) }
+    ensures never { OnOk result (¬ HasPrivateRootIn (context_view cx.now)) }
+    ensures told { IfOk result (λ notices.
+        map note_of notices.items ≡ notes_in (context_view cx.now)) }
 
     // A refusal has its cause.
-    ensures err { IfErr result (IsPrepareFault (wanted_in (context_view cx.now)) (members_in (context_view cx.now))
-        (F.tells × HoldTexts (F.bytes_at files.old) (members_in (context_view cx.now)))
-        (F.bytes_at files.old) (F.failed files.old) (F.failed files.new)) }
+    ensures err { IfErr result
+        (IsPrepareFault (context_view cx.now) F.tells (F.bytes_at files.old)) }
 {
     let args = cx.args();
     let drops_dev = drops_dev(args);
@@ -109,21 +129,32 @@ fn edit<F: Files>(
     manager: &mut Manager,
 ) -> Result<Vec<Notice>, PrepareFault>
     ensures stays { F.stays files.old files.new }
-    ensures step { IsStep F.tells (AllHold (members_view members.now)) manager.old manager.new
-        (F.bytes_at files.old) (F.bytes_at files.new) (F.failed files.old) (F.failed files.new) }
+    ensures counted { CountsCalls (F.failed files.old) (F.failed files.new) result }
+    ensures step { IsStep F.tells (λ start. HoldTexts start (members_view members.now))
+        (IsTouched (wanted_view wanted.now) (members_view members.now))
+        manager.old manager.new (F.bytes_at files.old) (F.bytes_at files.new) }
 
     // Each manifest that is edited holds its edit, and every other path what it held.
-    ensures prepared { OnOk result (F.tells → HoldTexts (F.bytes_at files.old) (members_view members.now)
+    ensures prepared { OnOk result (F.tells
+        → HoldTexts (F.bytes_at files.old) (members_view members.now)
         → IsPrepared (wanted_view wanted.now) (members_view members.now)
         (F.bytes_at files.old) (F.bytes_at files.new)) }
+    ensures edited { F.tells → HoldTexts (F.bytes_at files.old) (members_view members.now)
+        → IsPartlyPrepared (wanted_view wanted.now) (members_view members.now)
+        (GrowsBy 1 (F.failed files.old) (F.failed files.new))
+        (F.bytes_at files.old) (F.bytes_at files.new) }
+    ensures others { F.tells
+        → KeepsUnedited (wanted_view wanted.now) (members_view members.now)
+        (F.bytes_at files.old) (F.bytes_at files.new) }
     ensures lockfile { OnOk result (F.tells → manager.old.needs_restore ≡ true
         → IfSome (F.bytes_at files.new (wanted_view wanted.now).lockfile) (λ _.
         is_kept (registered manager.new) (wanted_view wanted.now).lockfile ≡ true)) }
-    ensures never { OnOk result (¬ HasPrivateRoot (wanted_view wanted.now) (members_view members.now)) }
+    ensures never { OnOk result
+        (¬ HasPrivateRoot (wanted_view wanted.now) (members_view members.now)) }
     ensures told { IfOk result (λ notices. map note_of notices.items
         ≡ notes (wanted_view wanted.now) (members_view members.now)) }
-    ensures err { IfErr result (IsPrepareFault (wanted_view wanted.now) (members_view members.now) (F.tells × HoldTexts (F.bytes_at files.old) (members_view members.now))
-        (F.bytes_at files.old) (F.failed files.old) (F.failed files.new)) }
+    ensures err { IfErr result (IsEditsFault (wanted_view wanted.now) (members_view members.now)
+        F.tells (F.bytes_at files.old)) }
 {
     let mut notices = Vec::new(alloc);
     let gone = edit_members(alloc, wanted, members, files, manager, &mut notices)?;

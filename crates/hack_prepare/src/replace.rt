@@ -1,8 +1,10 @@
 //! A manifest that is edited: what it holds is kept, and then its edit is written.
 
-ghost use Rattle.std.specs.Prelude.{◌≡◌, IfErr, OnOk, Some};
-ghost use Rattle.hack_files.specs.Files.{KeepsOthers};
-ghost use Rattle.hack_prepare.specs.Faults.{IsFault, NoFault, Nowhere, Only};
+ghost use Rattle.std.specs.Prelude.{◌≡◌, ◌⊎◌, IfErr, OnOk, Some};
+ghost use Rattle.hack_files.specs.Files.{GrowsBy, KeepsOthers};
+ghost use Rattle.hack_prepare.specs.Counts.{CountsCalls};
+ghost use Rattle.hack_prepare.specs.Faults.{IsFault, NoFault};
+ghost use Rattle.hack_prepare.specs.Paths.{Nowhere, Only};
 ghost use Rattle.hack_prepare.specs.Steps.{HeldUnkept, IsStep};
 
 use crate::fault::{PrepareFault, of_file};
@@ -20,12 +22,15 @@ pub(crate) fn replace<F: Files>(
     manager: &mut Manager,
 ) -> Result<(), PrepareFault>
     ensures stays { F.stays files.old files.new }
-    ensures step { IsStep F.tells (HeldUnkept manager.old path.now held.now) manager.old manager.new
-        (F.bytes_at files.old) (F.bytes_at files.new) (F.failed files.old) (F.failed files.new) }
+    ensures counted { CountsCalls (F.failed files.old) (F.failed files.new) result }
+    ensures step { IsStep F.tells (HeldUnkept manager.old path.now held.now) (Only path.now)
+        manager.old manager.new (F.bytes_at files.old) (F.bytes_at files.new) }
     ensures written { OnOk result (F.tells → F.bytes_at files.new path.now ≡ Some text.now) }
+    ensures partly { F.tells → (F.bytes_at files.new path.now ≡ F.bytes_at files.old path.now)
+        ⊎ ((F.bytes_at files.new path.now ≡ Some text.now)
+        ⊎ GrowsBy 1 (F.failed files.old) (F.failed files.new)) }
     ensures others { F.tells → KeepsOthers path.now (F.bytes_at files.old) (F.bytes_at files.new) }
-    ensures err { IfErr result (IsFault Nowhere (Only path.now) NoFault
-        (F.failed files.old) (F.failed files.new)) }
+    ensures err { IfErr result (IsFault Nowhere (Only path.now) Nowhere NoFault) }
 {
     manager.register_once(alloc, path, held.as_bytes())?;
     match write(alloc, files, path, text.as_bytes()) {

@@ -1,20 +1,24 @@
 //! The manifest in the folder of the workspace, which gets all its edits in one write.
 
-ghost use Rattle.std.specs.Prelude.{◌≡◌, ◌⊎◌, ◌++◌, ◌&&◌, ◌||◌, IfErr, IfOk, OnOk, MatchBool, Some, true, false};
-ghost use Rattle.std.specs.Prelude.{map, option_copied, option_map, string_bytes};
+ghost use Rattle.std.specs.Prelude.{◌≡◌, ◌⊎◌, ◌++◌, ◌&&◌, ◌||◌, IfErr, IfOk, OnOk, MatchBool, Some};
+ghost use Rattle.std.specs.Prelude.{map, option_copied, option_map, string_bytes, true, false};
 ghost use Rattle.std.specs.List.{find};
 ghost use Rattle.hack_features.specs.Names.{Name};
+ghost use Rattle.hack_files.specs.Files.{GrowsBy};
 ghost use Rattle.hack_process.specs.PathTexts.{texts};
 ghost use Rattle.hack_versions.specs.Notes.{note_of};
 ghost use Rattle.hack_edits.specs.DevDeps.{IsWithoutDev};
 ghost use Rattle.hack_edits.specs.Members.{in_order};
 ghost use Rattle.hack_edits.specs.PrivateCrates.{IsWithoutPrivate};
-ghost use Rattle.hack_prepare.specs.Faults.{IsDevFault, IsFault, IsPrivateFault, IsRootFault};
-ghost use Rattle.hack_prepare.specs.Faults.{IsTextFault, Nowhere, Only, OnlyIf};
-ghost use Rattle.hack_prepare.specs.Prepared.{AllHold, drops_at_root, edits_root, gone};
+ghost use Rattle.hack_prepare.specs.Counts.{CountsCalls};
+ghost use Rattle.hack_prepare.specs.Faults.{IsDevFault, IsFault, IsHeldFault, IsPrivateFault};
+ghost use Rattle.hack_prepare.specs.Faults.{IsRootFault, IsTextFault};
+ghost use Rattle.hack_prepare.specs.Paths.{IsReadRoot, IsTextless, Nowhere, Only, OnlyIf};
+ghost use Rattle.hack_prepare.specs.Prepared.{HoldTexts, drops_at_root, edits_root, gone};
 ghost use Rattle.hack_prepare.specs.Prepared.{has_some, is_root};
 ghost use Rattle.hack_prepare.specs.PreparedView.{members_view, wanted_view};
-ghost use Rattle.hack_prepare.specs.Steps.{AnyStart, HeldUnkept, IsRootText, IsStep, KeepsBut, MakesRoot};
+ghost use Rattle.hack_prepare.specs.Steps.{AnyStart, HeldUnkept, IsRootText, IsStep, KeepsBut};
+ghost use Rattle.hack_prepare.specs.Steps.{MakesRoot, MakesRootOrNot};
 ghost use Rattle.hack_prepare.specs.Told.{dev_note, edit_notes, private_note, root_notes};
 
 use crate::edits::{without_dev, without_private};
@@ -40,21 +44,35 @@ pub(crate) fn edit_root<F: Files>(
 ) -> Result<(), PrepareFault>
     requires { texts private.now ≡ gone (wanted_view wanted.now) (members_view members.now) }
     ensures stays { F.stays files.old files.new }
-    ensures step { IsStep F.tells (AllHold (members_view members.now)) manager.old manager.new
-        (F.bytes_at files.old) (F.bytes_at files.new) (F.failed files.old) (F.failed files.new) }
-    ensures edited { OnOk result (F.tells → edits_root (wanted_view wanted.now) (members_view members.now)
-        ≡ true → (text : Name) × IsRootText (wanted_view wanted.now) (members_view members.now)
-        (F.bytes_at files.old) text × MakesRoot (wanted_view wanted.now)
+    ensures counted { CountsCalls (F.failed files.old) (F.failed files.new) result }
+    ensures step { IsStep F.tells (λ start. HoldTexts start (members_view members.now))
+        (OnlyIf (edits_root (wanted_view wanted.now) (members_view members.now))
+        wanted.now.root.now)
+        manager.old manager.new (F.bytes_at files.old) (F.bytes_at files.new) }
+    ensures edited { OnOk result (F.tells
+        → edits_root (wanted_view wanted.now) (members_view members.now) ≡ true → (text : Name)
+        × IsRootText (wanted_view wanted.now) (members_view members.now) (F.bytes_at files.old) text
+        × MakesRoot (wanted_view wanted.now)
         (drops_at_root (wanted_view wanted.now) (members_view members.now)) (texts private.now) text
         (F.bytes_at files.new)) }
+    ensures partly { F.tells → MakesRootOrNot (wanted_view wanted.now)
+        (drops_at_root (wanted_view wanted.now) (members_view members.now)) (texts private.now)
+        (IsRootText (wanted_view wanted.now) (members_view members.now) (F.bytes_at files.old))
+        (GrowsBy 1 (F.failed files.old) (F.failed files.new))
+        (F.bytes_at files.old) (F.bytes_at files.new) }
     ensures others { F.tells → KeepsBut (wanted_view wanted.now)
         (edits_root (wanted_view wanted.now) (members_view members.now))
         (F.bytes_at files.old) (F.bytes_at files.new) }
     ensures told { OnOk result (map note_of notices.new.items ≡ map note_of notices.old.items
         ++ root_notes (wanted_view wanted.now) (members_view members.now)) }
-    ensures err { IfErr result (IsFault (Only (wanted_view wanted.now).root)
-        (OnlyIf (edits_root (wanted_view wanted.now) (members_view members.now)) (wanted_view wanted.now).root)
-        (IsRootFault (wanted_view wanted.now) (members_view members.now) F.tells (F.bytes_at files.old)) (F.failed files.old) (F.failed files.new)) }
+    ensures err { IfErr result (IsFault
+        (IsReadRoot (wanted_view wanted.now) (members_view members.now))
+        (OnlyIf (edits_root (wanted_view wanted.now) (members_view members.now))
+        wanted.now.root.now)
+        (IsTextless F.tells (F.bytes_at files.old)
+        (IsReadRoot (wanted_view wanted.now) (members_view members.now)))
+        (IsRootFault (wanted_view wanted.now) (members_view members.now) F.tells
+        (F.bytes_at files.old))) }
 {
     if !wanted.no_private {
         return Ok(());
@@ -97,20 +115,28 @@ fn edit_virtual<F: Files>(
     notices: &mut Vec<Notice>,
 ) -> Result<(), PrepareFault>
     ensures stays { F.stays files.old files.new }
-    ensures step { IsStep F.tells AnyStart manager.old manager.new
-        (F.bytes_at files.old) (F.bytes_at files.new) (F.failed files.old) (F.failed files.new) }
+    ensures counted { CountsCalls (F.failed files.old) (F.failed files.new) result }
+    ensures step { IsStep F.tells AnyStart
+        (OnlyIf (has_some (texts private.now)) wanted.now.root.now)
+        manager.old manager.new (F.bytes_at files.old) (F.bytes_at files.new) }
     ensures edited { OnOk result (F.tells → has_some (texts private.now) ≡ true
-        → (text : Name) × (F.bytes_at files.old (wanted_view wanted.now).root ≡ Some text)
-        × MakesRoot (wanted_view wanted.now) false (texts private.now) text (F.bytes_at files.new)) }
+        → (text : Name) × (F.bytes_at files.old wanted.now.root.now ≡ Some text)
+        × MakesRoot (wanted_view wanted.now) false (texts private.now) text
+        (F.bytes_at files.new)) }
+    ensures partly { F.tells → MakesRootOrNot (wanted_view wanted.now) false (texts private.now)
+        (λ text. F.bytes_at files.old wanted.now.root.now ≡ Some text)
+        (GrowsBy 1 (F.failed files.old) (F.failed files.new))
+        (F.bytes_at files.old) (F.bytes_at files.new) }
     ensures others { F.tells → KeepsBut (wanted_view wanted.now) (has_some (texts private.now))
         (F.bytes_at files.old) (F.bytes_at files.new) }
     ensures told { OnOk result (map note_of notices.new.items ≡ map note_of notices.old.items
         ++ edit_notes (wanted_view wanted.now) false (texts private.now)) }
-    ensures err { IfErr result (IsFault (Only (wanted_view wanted.now).root)
-        (OnlyIf (has_some (texts private.now)) (wanted_view wanted.now).root)
-        (λ e. (has_some (texts private.now) ≡ true) × (text : Name) × (F.tells
-        → F.bytes_at files.old (wanted_view wanted.now).root ≡ Some text)
-        × IsTextFault (wanted_view wanted.now) false (texts private.now) text e) (F.failed files.old) (F.failed files.new)) }
+    ensures err { IfErr result (IsFault (OnlyIf (has_some (texts private.now)) wanted.now.root.now)
+        (OnlyIf (has_some (texts private.now)) wanted.now.root.now)
+        (IsTextless F.tells (F.bytes_at files.old)
+        (OnlyIf (has_some (texts private.now)) wanted.now.root.now))
+        (IsHeldFault (wanted_view wanted.now) (texts private.now) F.tells
+        (F.bytes_at files.old))) }
 {
     if private.is_empty() {
         return Ok(());
@@ -142,18 +168,24 @@ fn edit_held<F: Files>(
     notices: &mut Vec<Notice>,
 ) -> Result<(), PrepareFault>
     ensures stays { F.stays files.old files.new }
-    ensures step { IsStep F.tells (HeldUnkept manager.old (wanted_view wanted.now).root held.now) manager.old manager.new
-        (F.bytes_at files.old) (F.bytes_at files.new) (F.failed files.old) (F.failed files.new) }
+    ensures counted { CountsCalls (F.failed files.old) (F.failed files.new) result }
+    ensures step { IsStep F.tells (HeldUnkept manager.old wanted.now.root.now held.now)
+        (OnlyIf (drops_dev || has_some (texts private.now)) wanted.now.root.now)
+        manager.old manager.new (F.bytes_at files.old) (F.bytes_at files.new) }
     ensures edited { OnOk result (F.tells → MakesRoot (wanted_view wanted.now) drops_dev
         (texts private.now) held.now (F.bytes_at files.new)) }
-    ensures others { F.tells → KeepsBut (wanted_view wanted.now) (drops_dev || has_some (texts private.now))
+    ensures partly { F.tells → MakesRootOrNot (wanted_view wanted.now) drops_dev
+        (texts private.now) (Only held.now) (GrowsBy 1 (F.failed files.old) (F.failed files.new))
+        (F.bytes_at files.old) (F.bytes_at files.new) }
+    ensures others { F.tells → KeepsBut (wanted_view wanted.now)
+        (drops_dev || has_some (texts private.now))
         (F.bytes_at files.old) (F.bytes_at files.new) }
     ensures told { OnOk result (map note_of notices.new.items ≡ map note_of notices.old.items
         ++ edit_notes (wanted_view wanted.now) drops_dev (texts private.now)) }
     ensures err { IfErr result (IsFault Nowhere
-        (OnlyIf (drops_dev || has_some (texts private.now)) (wanted_view wanted.now).root)
+        (OnlyIf (drops_dev || has_some (texts private.now)) wanted.now.root.now) Nowhere
         (λ e. ((drops_dev || has_some (texts private.now)) ≡ true)
-        × IsTextFault (wanted_view wanted.now) drops_dev (texts private.now) held.now e) (F.failed files.old) (F.failed files.new)) }
+        × IsTextFault (wanted_view wanted.now) drops_dev (texts private.now) held.now e)) }
 {
     if !is_asked(drops_dev, private) {
         return Ok(());
@@ -181,9 +213,9 @@ fn dev_edit(
     ensures ok { IfOk result (λ new. MatchBool drops_dev
         (IsWithoutDev text.now (string_bytes new)) (string_bytes new ≡ text.now)) }
     ensures told { OnOk result (map note_of notices.new.items ≡ map note_of notices.old.items
-        ++ dev_note (drops_dev && (wanted_view wanted.now).verbose) (wanted_view wanted.now).root) }
+        ++ dev_note (drops_dev && wanted.now.verbose) wanted.now.root.now) }
     ensures err { IfErr result (λ e. (e ≡ PrepareFault.Memory)
-        ⊎ ((drops_dev ≡ true) × IsDevFault (wanted_view wanted.now).root text.now e)) }
+        ⊎ ((drops_dev ≡ true) × IsDevFault wanted.now.root.now text.now e)) }
 {
     if !drops_dev {
         return Ok(String::from_str(alloc, text)?);
@@ -201,12 +233,13 @@ fn private_edit(
     notices: &mut Vec<Notice>,
 ) -> Result<String, PrepareFault>
     ensures ok { IfOk result (λ new. MatchBool (has_some (texts private.now))
-        (IsWithoutPrivate (wanted_view wanted.now).folder (in_order (texts private.now))
+        (IsWithoutPrivate wanted.now.folder.now (in_order (texts private.now))
         (string_bytes text) (string_bytes new)) (string_bytes new ≡ string_bytes text)) }
     ensures told { OnOk result (map note_of notices.new.items ≡ map note_of notices.old.items
-        ++ private_note (has_some (texts private.now) && (wanted_view wanted.now).verbose) (wanted_view wanted.now).root) }
-    ensures err { IfErr result (λ e. (e ≡ PrepareFault.Memory) ⊎ IsPrivateFault (wanted_view wanted.now).root
-        (wanted_view wanted.now).folder (in_order (texts private.now)) (string_bytes text) e) }
+        ++ private_note (has_some (texts private.now) && wanted.now.verbose) wanted.now.root.now) }
+    ensures err { IfErr result (λ e. (e ≡ PrepareFault.Memory)
+        ⊎ IsPrivateFault wanted.now.root.now wanted.now.folder.now (in_order (texts private.now))
+        (string_bytes text) e) }
 {
     if private.is_empty() {
         return Ok(text);

@@ -1,11 +1,18 @@
-use Rattle.hack_prepare.specs.Steps.{AnyStart}
-use Rattle.hack_prepare.proofs.StepLemmas.{grows_counted, step_look, step_then}
+use Rattle.std.proofs.Common.{◌≡◌, ◌∙◌, Some, IfSome, true, ap, subst, sym}
+use Rattle.hack_files.specs.Restore.{is_kept, registered}
+use Rattle.hack_prepare.proofs.StepLemmas.{locked, locked_now}
 use Rattle.hack_prepare.proofs.lockfile.keep_lockfile.Goals as goal
 
-pub returns-in-Ok-true-clause-step : goal.returns-in-Ok-true-clause-step
-returns-in-Ok-true-clause-step g c =
-    step_then g.F.Files.tells AnyStart c.args.manager.now c.args.manager.now c.keep.new.manager (g.F.Files.bytes_at c.args.files.now) (g.F.Files.bytes_at c.exists.new.files) (g.F.Files.bytes_at c.keep.new.files)
-    (g.F.Files.failed c.args.files.now) (g.F.Files.failed c.exists.new.files) (g.F.Files.failed c.keep.new.files)
-    (step_look g.F.Files.tells AnyStart c.args.manager.now (g.F.Files.bytes_at c.args.files.now) (g.F.Files.bytes_at c.exists.new.files) (g.F.Files.failed c.args.files.now) (g.F.Files.failed c.exists.new.files)
-    (grows_counted _ _ c.exists.result c.exists.ensures.counted) c.exists.ensures.same)
-    c.keep.ensures.step
+pub returns-clause-step : goal.returns-clause-step
+returns-clause-step g c =
+    let path = c.args.path.now in
+    locked g.F.Files.tells (record { path = path; bytes = c.deref.result.now }) c.args.manager.now c.register_once.new.self
+    (g.F.Files.bytes_at c.args.files.now) (g.F.Files.bytes_at c.read.new.files)
+    c.in_ok-register_once-in-Ok.ensures.ok c.register_once.ensures.needs
+    (λ t. sym (c.exists.ensures.same t path) ∙ c.in-Ok.ensures.bytes t ∙ ap Some (sym c.deref.ensures.value)) (λ t q. c.read.ensures.same t q ∙ c.exists.ensures.same t q)
+
+pub returns-clause-kept : goal.returns-clause-kept
+returns-clause-kept g c = λ t e.
+    let path = c.args.path.now in
+    subst (λ o. IfSome o (λ _. is_kept (registered c.register_once.new.self) path ≡ true)) (sym (c.in-Ok.ensures.bytes t) ∙ c.exists.ensures.same t path)
+    (locked_now (record { path = path; bytes = c.deref.result.now }) c.args.manager.now c.register_once.new.self c.in_ok-register_once-in-Ok.ensures.ok e)

@@ -7,7 +7,9 @@ use Rattle.hack_process.specs.PathTexts.{texts}
 use Rattle.hack_versions.specs.Notes.{note_of}
 use Rattle.hack_prepare.specs.PreparedView.{member_view, members_view, wanted_view}
 use Rattle.hack_prepare.specs.declared.wanted.Member.{Member}
-use Rattle.hack_prepare.proofs.MemberLemmas.{visited-alone, visited-fails, visited-goes, visited-left}
+use Rattle.hack_files.specs.Files.{GrowsBy}
+use Rattle.hack_prepare.proofs.CountLemmas.{fault_then, none_then}
+use Rattle.hack_prepare.proofs.MemberLemmas.{others-fail, partly-fails, turned-fails, visited-alone, visited-fails, visited-goes, visited-left}
 use Rattle.hack_prepare.proofs.members.edit_members.Goals.{then-goes+else-is_root+in_ok-push, else-goes+then-is_alone+in_ok-edit_member, else-goes+else-is_alone}
 use Rattle.hack_prepare.proofs.members.edit_members.Goals as goal
 
@@ -44,7 +46,7 @@ loop-member-preserved g c =
             g.F.Files.stays_more _ _ _ h.0 b.edit_member.ensures.stays,
             visited-alone tells w ms k m one c.args.manager.now start before told c.loop-member.manager b.edit_member.new.manager now (g.F.Files.bytes_at b.edit_member.new.files) after (g.F.Files.failed b.edit_member.new.files)
                 private notes (map note_of b.edit_member.new.notices.items) (seen_here member_view xs k x c.loop-member-test.true same) (sym b.if-goes.ensures) (sym b.if-is_alone.ensures)
-                b.edit_member.ensures.step b.in_ok-edit_member.ensures.turned b.edit_member.ensures.others b.in_ok-edit_member.ensures.told h.1,
+                b.edit_member.ensures.step b.in_ok-edit_member.ensures.counted b.in_ok-edit_member.ensures.turned b.edit_member.ensures.others b.in_ok-edit_member.ensures.told h.1,
           )
       | else-goes+else-is_alone b ↦
           rw (b.files-is, b.manager-is, b.notices-is, b.gone-is) (
@@ -53,6 +55,11 @@ loop-member-preserved g c =
           )
     ]
 
+pub returns-in_err-edit_member-clause-counted : goal.returns-in_err-edit_member-clause-counted
+returns-in_err-edit_member-clause-counted g c =
+    let p = err_from_is_err_and c.from_residual-in_err-edit_member.result c.from_residual-in_err-edit_member.ensures.1 in
+    rw (p.1, p.2) (fault_then (g.F.Files.failed c.args.files.now) (g.F.Files.failed c.loop-member.files) (g.F.Files.failed c.edit_member.new.files) _ c.loop-member.invariant.1.1 c.in_err-edit_member.ensures.counted)
+
 pub returns-in_err-edit_member-clause-step : goal.returns-in_err-edit_member-clause-step
 returns-in_err-edit_member-clause-step g c =
     let xs : List Member = c.args.members.now in
@@ -60,10 +67,35 @@ returns-in_err-edit_member-clause-step g c =
     let d : Member = record { path = record { ref_ptr = (0, 0); now = [] }; text = record { ref_ptr = (0, 0); now = [] }; is_private = false } in
     let x : Member = get_or xs k d in
     let among = seen_here member_view xs k x c.loop-member-test.true (get_or_default xs k d x c.loop-member-test.true) in
-    visited-fails g.F.Files.tells (members_view xs) (member_view x) c.args.manager.now c.loop-member.manager c.edit_member.new.manager
+    visited-fails g.F.Files.tells (wanted_view c.args.wanted.now) (members_view xs) (member_view x) c.args.manager.now c.loop-member.manager c.edit_member.new.manager
     (g.F.Files.bytes_at c.args.files.now) (g.F.Files.bytes_at c.loop-member.files) (g.F.Files.bytes_at c.edit_member.new.files)
-    (g.F.Files.failed c.args.files.now) (g.F.Files.failed c.loop-member.files) (g.F.Files.failed c.edit_member.new.files)
-    among c.loop-member.invariant.1.0 c.edit_member.ensures.step
+    among (sym c.if-is_alone.ensures) c.loop-member.invariant.1.0 c.edit_member.ensures.step
+
+pub returns-in_err-edit_member-clause-partly : goal.returns-in_err-edit_member-clause-partly
+returns-in_err-edit_member-clause-partly g c =
+    let xs : List Member = c.args.members.now in
+    let k = c.loop-member.member-index in
+    let d : Member = record { path = record { ref_ptr = (0, 0); now = [] }; text = record { ref_ptr = (0, 0); now = [] }; is_private = false } in
+    let x : Member = get_or xs k d in
+    let among = seen_here member_view xs k x c.loop-member-test.true (get_or_default xs k d x c.loop-member-test.true) in
+    let fails = GrowsBy 1 (g.F.Files.failed c.args.files.now) (g.F.Files.failed c.edit_member.new.files) in
+    partly-fails g.F.Files.tells (wanted_view c.args.wanted.now) (members_view xs) (member_view x) fails
+    (g.F.Files.bytes_at c.args.files.now) (g.F.Files.bytes_at c.loop-member.files) (g.F.Files.bytes_at c.edit_member.new.files)
+    among c.loop-member.invariant.1.4
+    (λ t. turned-fails (member_view x) _ fails (g.F.Files.bytes_at c.loop-member.files) (g.F.Files.bytes_at c.edit_member.new.files)
+    (none_then 1 (g.F.Files.failed c.args.files.now) (g.F.Files.failed c.loop-member.files) (g.F.Files.failed c.edit_member.new.files) c.loop-member.invariant.1.1) (c.edit_member.ensures.partly t))
+    c.edit_member.ensures.others
+
+pub returns-in_err-edit_member-clause-others : goal.returns-in_err-edit_member-clause-others
+returns-in_err-edit_member-clause-others g c =
+    let xs : List Member = c.args.members.now in
+    let k = c.loop-member.member-index in
+    let d : Member = record { path = record { ref_ptr = (0, 0); now = [] }; text = record { ref_ptr = (0, 0); now = [] }; is_private = false } in
+    let x : Member = get_or xs k d in
+    let among = seen_here member_view xs k x c.loop-member-test.true (get_or_default xs k d x c.loop-member-test.true) in
+    others-fail g.F.Files.tells (wanted_view c.args.wanted.now) (members_view xs) (member_view x)
+    (g.F.Files.bytes_at c.args.files.now) (g.F.Files.bytes_at c.loop-member.files) (g.F.Files.bytes_at c.edit_member.new.files)
+    among (sym c.if-is_alone.ensures) c.loop-member.invariant.1.2 c.edit_member.ensures.others
 
 pub returns-in_err-edit_member-clause-err : goal.returns-in_err-edit_member-clause-err
 returns-in_err-edit_member-clause-err g c =
@@ -73,8 +105,7 @@ returns-in_err-edit_member-clause-err g c =
     let x : Member = get_or xs k d in
     let p = err_from_is_err_and c.from_residual-in_err-edit_member.result c.from_residual-in_err-edit_member.ensures.1 in
     let among = seen_here member_view xs k x c.loop-member-test.true (get_or_default xs k d x c.loop-member-test.true) in
-    rw (p.1, p.2) (member-fault (wanted_view c.args.wanted.now) (members_view xs) (member_view x) (g.F.Files.failed c.args.files.now) (g.F.Files.failed c.loop-member.files) (g.F.Files.failed c.edit_member.new.files) _
-    among (sym c.if-is_alone.ensures) c.loop-member.invariant.1.0.grows c.in_err-edit_member.ensures.err)
+    rw (p.1, p.2) (member-fault (wanted_view c.args.wanted.now) (members_view xs) (member_view x) _ among (sym c.if-is_alone.ensures) c.in_err-edit_member.ensures.err)
 
 pub returns-then-is_root-clause-err : goal.returns-then-is_root-clause-err
 returns-then-is_root-clause-err g c =
@@ -83,4 +114,4 @@ returns-then-is_root-clause-err g c =
     let d : Member = record { path = record { ref_ptr = (0, 0); now = [] }; text = record { ref_ptr = (0, 0); now = [] }; is_private = false } in
     let x : Member = get_or xs k d in
     let among = seen_here member_view xs k x c.loop-member-test.true (get_or_default xs k d x c.loop-member-test.true) in
-    root-fault (wanted_view c.args.wanted.now) (members_view xs) (member_view x) (g.F.Files.failed c.args.files.now) (g.F.Files.failed c.loop-member.files) among (sym c.if-goes.ensures) (sym c.if-is_root.ensures)
+    root-fault (wanted_view c.args.wanted.now) (members_view xs) (member_view x) among (sym c.if-goes.ensures) (sym c.if-is_root.ensures)

@@ -1,0 +1,30 @@
+-- How many calls of files have failed.
+use Rattle.std.specs.Prelude.{◌⊎◌, ℕ, Result, Ok, Err}
+use Rattle.hack_files.specs.declared.fs.FsFault.{FsFault}
+use Rattle.hack_files.specs.declared.fs.FsFault.TheVariants as fs
+use Rattle.hack_files.specs.Files.{GrowsBy}
+use Rattle.hack_prepare.specs.declared.fault.PrepareFault.{PrepareFault}
+use Rattle.hack_prepare.specs.declared.fault.PrepareFault.TheVariants.{Memory, PrivateRoot, Files, Toml, InlineTarget, WorkspaceForm, PathText, ReadBack}
+
+-- a file that can't be read or written is one call that failed; one that was read and is no text is none
+abbrev pub CountsFile : ℕ → ℕ → FsFault → Type 0
+CountsFile before now (fs.Read p) = GrowsBy 1 before now
+CountsFile before now (fs.Write p) = GrowsBy 1 before now
+CountsFile before now (fs.NotText p) = GrowsBy 0 before now
+CountsFile before now fs.Memory = ⊥
+
+-- so does a fault; want of memory is one call that failed, or none; each other fault is none
+abbrev pub CountsFault : ℕ → ℕ → PrepareFault → Type 0
+CountsFault before now Memory = GrowsBy 0 before now ⊎ GrowsBy 1 before now
+CountsFault before now (Files f) = CountsFile before now f
+CountsFault before now PrivateRoot = GrowsBy 0 before now
+CountsFault before now (Toml p) = GrowsBy 0 before now
+CountsFault before now (InlineTarget p) = GrowsBy 0 before now
+CountsFault before now (WorkspaceForm p) = GrowsBy 0 before now
+CountsFault before now (PathText p) = GrowsBy 0 before now
+CountsFault before now (ReadBack p) = GrowsBy 0 before now
+
+-- what comes of it tells how many calls failed: at Ok none, at a fault what the fault counts
+abbrev pub CountsCalls : {T : Type 0} → ℕ → ℕ → Result T PrepareFault → Type 0
+CountsCalls before now (Ok _) = GrowsBy 0 before now
+CountsCalls before now (Err e) = CountsFault before now e

@@ -1,0 +1,43 @@
+-- Paths that are read, written and kept.
+use Rattle.std.specs.Prelude.{◌≡◌, ◌⊎◌, Bool, true, false, List}
+use Rattle.std.specs.List.{list_any}
+use Rattle.hack_features.specs.Names.{Name}
+use Rattle.hack_files.specs.Faults.{HoldsNoText}
+use Rattle.hack_files.specs.Files.{Contents}
+use Rattle.hack_prepare.specs.Prepared.{Member, Wanted, edits_root, has_root, is_alone_at, is_edited}
+
+-- no path
+abbrev pub Nowhere : Name → Type 0
+Nowhere p = ⊥
+
+-- this path
+abbrev pub Only : Name → Name → Type 0
+Only path p = p ≡ path
+
+-- this path, if it is asked for
+abbrev pub OnlyIf : Bool → Name → Name → Type 0
+OnlyIf asked path p = (asked ≡ true) × (p ≡ path)
+
+-- some member's manifest that is edited by itself is at this path
+abbrev pub IsAlonePath : Wanted → List Member → Name → Type 0
+IsAlonePath w ms p = list_any (is_alone_at w p) ms ≡ true
+
+-- a path that is edited
+abbrev pub IsEdited : Wanted → List Member → Name → Type 0
+IsEdited w ms p = is_edited w ms p ≡ true
+
+-- a path that is edited, or the lockfile
+abbrev pub IsTouched : Wanted → List Member → Name → Type 0
+IsTouched w ms p = IsEdited w ms p ⊎ (p ≡ w.lockfile)
+
+-- the manifest in the folder of the workspace, which is edited, and which no member has read
+abbrev pub IsReadRoot : Wanted → List Member → Name → Type 0
+IsReadRoot w ms p = (edits_root w ms ≡ true) × (has_root w ms ≡ false) × (p ≡ w.root)
+
+-- a path that is looked at: such a manifest, or the lockfile
+abbrev pub IsLookedAt : Wanted → List Member → Name → Type 0
+IsLookedAt w ms p = IsReadRoot w ms p ⊎ (p ≡ w.lockfile)
+
+-- a path that is read so, and what it holds is no text
+abbrev pub IsTextless : Type 0 → Contents → (Name → Type 0) → Name → Type 0
+IsTextless tells held reads p = reads p × HoldsNoText tells (held p)
