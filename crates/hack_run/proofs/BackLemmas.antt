@@ -1,5 +1,5 @@
 -- Files come back.
-use Rattle.std.proofs.Common.{◌≡◌, ◌+◌, ◌-◌, ◌∙◌, ℕ, List, [], ◌++◌, Result, Ok, Err, OnOk, length, replicate, arith, refl, sym, subst}
+use Rattle.std.proofs.Common.{◌≡◌, ◌+◌, ◌-◌, ◌<◌, ◌∙◌, ℕ, zero, suc, Bool, true, false, List, [], ◌++◌, Result, Ok, Err, IsOk, IsTrue, OnOk, length, replicate, arith, refl, sym, subst}
 use Rattle.std.proofs.lemmas.List.{length-append, length-replicate}
 use Rattle.std.proofs.lemmas.List.Elements.{Contains-append_left, Contains-append_right}
 use Rattle.hack_features.specs.Names.{Name}
@@ -10,6 +10,7 @@ use Rattle.hack_files.proofs.RestoreLemmas.{grows_more}
 use Rattle.hack_files.proofs.SafeLemmas.{safe_back, safe_none}
 use Rattle.hack_load.specs.LeavesFew.{LeavesFew}
 use Rattle.hack_prepare.specs.Steps.{Grows}
+use Rattle.hack_run.specs.Restores.{IsClean}
 
 -- nothing is done to files
 pub leaves_none : (held : Contents) (n : ℕ) → LeavesFew (Unit {0}) held held n n
@@ -52,3 +53,39 @@ kept_none first mid last empty same kept = kept ∙ same ∙ empty
 pub whole_keeps : {T E : Type 0} (tells : Type 0) (old new : Contents) (k n : ℕ) (r : Result T E) → OnOk r (GrowsBy 0 k n × (tells → KeepsAll old new)) → OnOk r (tells → KeepsAll old new)
 whole_keeps tells old new k n (Ok v) h = h.1
 whole_keeps tells old new k n (Err e) h = tt
+
+-- no call of the files failed
+counted_none : (n : ℕ) → GrowsBy 0 n n
+counted_none n = λ low. omega (arith, low)
+
+-- nothing was done to files
+pub clean_none : (returns tells : Type 0) (held : Contents) (n : ℕ) → IsClean returns tells held held n n
+clean_none returns tells held n = (counted_none n, λ back t q. refl)
+
+-- what is so for edits that stay by some measure is so by a stronger one
+pub clean_by : {T E : Type 0} (P Q quiet tells : Type 0) (old new : Contents) (k n : ℕ) (r : Result T E) → (Q → P) → OnOk r (quiet → IsClean P tells old new k n) → OnOk r (quiet → IsClean Q tells old new k n)
+clean_by P Q quiet tells old new k n (Ok v) f h = λ q. let c = h q in (c.0, λ back. c.1 (f back))
+clean_by P Q quiet tells old new k n (Err e) f h = tt
+
+-- a count that would be told is nothing where nothing is told
+none_told : (b : Bool) (r : ℕ) → (0 < r → IsTrue b) → b ≡ false → r ≡ 0
+none_told true r told quiet = absurd (cc)
+none_told false zero told quiet = refl
+none_told false (suc r) told quiet = let t : IsTrue false = told (omega arith) in absurd t
+
+-- where all was loaded, edited and brought back, and no call of the files failed
+pub cleans : {T E U G : Type 0} (tells returns : Type 0) (came : Result T E) (loaded : Result U G) (files : List Kept) (first asked mid last : Contents) (k n m o r : ℕ) (error : Bool)
+    → OnOk loaded (GrowsBy 0 k n × (tells → KeepsAll first asked)) → OnOk came (IsOk loaded × GrowsBy 0 n m) → (returns → tells → AreSafe files asked mid)
+    → GrowsBy r m o → (0 < r → IsTrue error) → (tells → Brings files mid last r)
+    → OnOk came (error ≡ false → IsClean returns tells first last k o)
+cleans tells returns (Err e) loaded files first asked mid last k n m o r error whole counted safe back told brings = tt
+cleans tells returns (Ok v) (Err g) files first asked mid last k n m o r error whole counted safe back told brings = absurd (cc)
+cleans tells returns (Ok v) (Ok u) files first asked mid last k n m o r error whole counted safe back told brings = λ quiet.
+    let none : r ≡ 0 = none_told error r told quiet in
+    let last_counted : GrowsBy 0 m o = subst (λ c. GrowsBy c m o) none back in (
+      grows_more 0 0 k m o (grows_more 0 0 k n m whole.0 counted.1) last_counted,
+      λ returned t q.
+          let are = safe returned t in
+          let lost = brings t are.distinct in
+          safe_back files lost.0 asked mid last are lost.2 q (λ bad. absurd (omega (arith, bad.1, lost.1, none))) ∙ whole.1 t q,
+    )

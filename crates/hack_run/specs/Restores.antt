@@ -1,6 +1,7 @@
 -- Calls whose edits don't stay.
-use Rattle.std.specs.Prelude.{◌≡◌, false, List}
+use Rattle.std.specs.Prelude.{◌≡◌, ℕ, false, List}
 use Rattle.hack_features.specs.Names.{Name}
+use Rattle.hack_files.specs.Files.{Contents, GrowsBy, KeepsAll}
 use Rattle.hack_versions.specs.Notes.{Note}
 use Rattle.hack_versions.specs.declared.rustup.Rustup.{Rustup}
 use Rattle.hack_words.specs.Answers.{Answers as IsAnswer, around_of}
@@ -19,3 +20,7 @@ ComesBack parsed.List = Unit {0}
 abbrev pub RestoresEdits : Env → List Name → Type 0
 RestoresEdits env words = (rustup : Rustup) (answer : Parsed) (notes : List Note)
     → IsAnswer (around_of env rustup) (ComesTo (around_of env rustup) words) answer notes → ComesBack answer
+
+-- no call of the files failed, and, where edits don't stay, each path holds what it held
+abbrev pub IsClean : Type 0 → Type 0 → Contents → Contents → ℕ → ℕ → Type 0
+IsClean returns tells old new before now = GrowsBy 0 before now × (returns → tells → KeepsAll old new)

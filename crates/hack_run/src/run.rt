@@ -6,7 +6,7 @@ ghost use Rattle.hack_features.specs.Names.{names_of};
 ghost use Rattle.hack_load.specs.LeavesFew.{LeavesFew};
 ghost use Rattle.hack_process.specs.Calls.{MayAdd};
 ghost use Rattle.hack_run.specs.Questions.{rustup_asked};
-ghost use Rattle.hack_run.specs.Restores.{ComesBack, RestoresEdits};
+ghost use Rattle.hack_run.specs.Restores.{ComesBack, IsClean, RestoresEdits};
 ghost use Rattle.hack_run.specs.Whole.{AreRefused, IsDone, ListsCommands, Obeys};
 
 use crate::ask::rustup_for;
@@ -55,6 +55,13 @@ pub fn run<F: Files, C: Caller, O: Write, E: Write>(
     // for at most as many paths as calls of the files failed.
     ensures back { RestoresEdits env.now (names_of words.now) → F.tells → LeavesFew (Unit {0})
         (F.bytes_at files.old) (F.bytes_at files.new) (F.failed files.old) (F.failed files.new) }
+
+    // A call of the files that failed is told as an error: where none was told, none failed, and each
+    // path holds what it held, unless the words ask for edits that stay.
+    ensures clean { term.new.error ≡ false
+        → IsClean (RestoresEdits env.now (names_of words.now)) F.tells
+        (F.bytes_at files.old) (F.bytes_at files.new)
+        (F.failed files.old) (F.failed files.new) }
 {
     let came = read(alloc, words, env, term, files, runner, out, err);
     tell_end(alloc, came, term, err);
@@ -80,6 +87,10 @@ fn read<F: Files, C: Caller, O: Write, E: Write>(
         (F.failed files.old) (C.calls runner.old) (C.calls runner.new)) }
     ensures back { RestoresEdits env.now (names_of words.now) → F.tells → LeavesFew (Unit {0})
         (F.bytes_at files.old) (F.bytes_at files.new) (F.failed files.old) (F.failed files.new) }
+    ensures clean { OnOk result (term.new.error ≡ false
+        → IsClean (RestoresEdits env.now (names_of words.now)) F.tells
+        (F.bytes_at files.old) (F.bytes_at files.new)
+        (F.failed files.old) (F.failed files.new)) }
 {
     let rustup = rustup_for(alloc, words, env, term.verbose, runner)?;
     match Args::parse(alloc, words, env, rustup) {
@@ -118,6 +129,9 @@ fn obey<F: Files, C: Caller, O: Write, E: Write>(
         (F.failed files.old) (C.calls runner.old) (C.calls runner.new)) }
     ensures back { ComesBack parsed → F.tells → LeavesFew (Unit {0})
         (F.bytes_at files.old) (F.bytes_at files.new) (F.failed files.old) (F.failed files.new) }
+    ensures clean { OnOk result (term.new.error ≡ false → IsClean (ComesBack parsed) F.tells
+        (F.bytes_at files.old) (F.bytes_at files.new)
+        (F.failed files.old) (F.failed files.new)) }
 {
     match parsed {
         Parsed::Args(args) => {

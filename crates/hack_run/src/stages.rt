@@ -1,16 +1,17 @@
 //! The stages of a call behind its words: what is loaded, manifests that are edited, the plan, and its
 //! runs or their list.
 
-ghost use Rattle.std.specs.Prelude.{◌≡◌, IfOk, IfSome, IsSome, OnOk, false, string_bytes, true};
+ghost use Rattle.std.specs.Prelude.{◌≡◌, IfOk, IfSome, IsOk, IsSome, OnOk, false, string_bytes, true};
+ghost use Rattle.hack_files.specs.Files.{GrowsBy};
 ghost use Rattle.hack_files.specs.Restore.{AreSafe, registered};
 ghost use Rattle.hack_load.specs.Answers.{IsLoaded};
 ghost use Rattle.hack_load.specs.ContextOf.{IsContextFrom};
 ghost use Rattle.hack_load.specs.ContextView.{context_view};
 ghost use Rattle.hack_load.specs.LeavesFew.{LeavesFew};
-ghost use Rattle.hack_prepare.specs.Prepared.{HoldTexts, IsPrepared};
-ghost use Rattle.hack_prepare.specs.PreparedView.{members_in, wanted_in};
+ghost use Rattle.hack_prepare.specs.PreparedView.{HoldTextsIn, IsPreparedIn};
 ghost use Rattle.hack_prepare.specs.Steps.{Grows};
 ghost use Rattle.hack_versions.specs.RangeSteps.{NeedsStable};
+ghost use Rattle.hack_run.specs.Restores.{IsClean};
 ghost use Rattle.hack_run.specs.Runs.{Does, DoesPlan};
 ghost use Rattle.hack_run.specs.Whole.{Follows, Performs};
 
@@ -46,6 +47,9 @@ pub(crate) fn perform<F: Files, C: Caller, O: Write, E: Write>(
         (F.failed files.old) (C.calls caller.old) (C.calls caller.new)) }
     ensures back { args.remove_dev_deps ≡ false → F.tells → LeavesFew (Unit {0})
         (F.bytes_at files.old) (F.bytes_at files.new) (F.failed files.old) (F.failed files.new) }
+    ensures clean { OnOk result (term.new.error ≡ false
+        → IsClean (args.remove_dev_deps ≡ false) F.tells (F.bytes_at files.old)
+        (F.bytes_at files.new) (F.failed files.old) (F.failed files.new)) }
 {
     let mut manager = Manager::new(alloc, !args.remove_dev_deps);
     let answers = Answers::ask(alloc, &args, env, caller, files, &mut manager);
@@ -85,6 +89,8 @@ fn follow<F: Files, C: Caller, O: Write, E: Write>(
     ensures unkept { manager.old.needs_restore ≡ false
         → registered manager.new ≡ registered manager.old }
     ensures grows { Grows (F.failed files.old) (F.failed files.new) }
+    ensures counted { OnOk result (IsOk answers.loaded
+        × GrowsBy 0 (F.failed files.old) (F.failed files.new)) }
     ensures safe { F.tells → IfOk answers.loaded (IsLoaded F.tells (F.bytes_at files.old) env.now)
         → manager.old.needs_restore ≡ true
         → AreSafe (registered manager.old) (F.bytes_at files.old) (F.bytes_at files.old)
@@ -135,13 +141,13 @@ fn edit<F: Files, E: Write>(
     err: &mut E,
 ) -> Result<(), RunFault>
     ensures grows { Grows (F.failed files.old) (F.failed files.new) }
+    ensures counted { OnOk result (GrowsBy 0 (F.failed files.old) (F.failed files.new)) }
     ensures prepared { OnOk result (F.tells
-        → HoldTexts (F.bytes_at files.old) (members_in (context_view cx.now))
-        → IsPrepared (wanted_in (context_view cx.now)) (members_in (context_view cx.now))
-        (F.bytes_at files.old) (F.bytes_at files.new)) }
+        → HoldTextsIn (context_view cx.now) (F.bytes_at files.old)
+        → IsPreparedIn (context_view cx.now) (F.bytes_at files.old) (F.bytes_at files.new)) }
     ensures unkept { manager.old.needs_restore ≡ false
         → registered manager.new ≡ registered manager.old }
-    ensures safe { F.tells → HoldTexts (F.bytes_at files.old) (members_in (context_view cx.now))
+    ensures safe { F.tells → HoldTextsIn (context_view cx.now) (F.bytes_at files.old)
         → manager.old.needs_restore ≡ true
         → AreSafe (registered manager.old) (F.bytes_at files.old) (F.bytes_at files.old)
         → AreSafe (registered manager.new) (F.bytes_at files.old) (F.bytes_at files.new) }

@@ -1,8 +1,8 @@
-use Rattle.std.proofs.Common.{◌<◌, ◌∙◌, ap}
+use Rattle.std.proofs.Common.{◌≡◌, ◌<◌, ◌∙◌, ap, false, inr}
 use Rattle.std.specs.Prelude.{IfOk, not}
 use Rattle.hack_load.specs.Answers.{IsLoaded}
 use Rattle.hack_files.specs.Restore.{registered}
-use Rattle.hack_run.proofs.BackLemmas.{brings_none, kept_none, leaves, safe_new, whole_keeps}
+use Rattle.hack_run.proofs.BackLemmas.{brings_none, cleans, kept_none, leaves, safe_new, whole_keeps}
 use Rattle.hack_run.proofs.WholeLemmas.{performs}
 use Rattle.hack_run.proofs.stages.perform.Goals as goal
 
@@ -32,3 +32,13 @@ returns-clause-back g c = λ kept t.
     t c.ask-answers.ensures.left
     (c.follow-came.ensures.safe t c.ask-answers.ensures.read (c.ask-answers.ensures.needs ∙ c.new-manager.ensures.needs ∙ ap not kept) (safe_new c.new-manager.result c.ask-answers.new.manager asked c.new-manager.ensures.nothing c.ask-answers.ensures.kept))
     c.follow-came.ensures.grows c.finish.ensures.counted (c.finish.ensures.restored t)
+
+pub returns-clause-clean : goal.returns-clause-clean
+returns-clause-clean g c =
+    let asked = g.F.Files.bytes_at c.ask-answers.new.files in
+    cleans g.F.Files.tells (c.args.args.remove_dev_deps ≡ false) c.follow-came.result c.ask-answers.result.loaded (registered c.follow-came.new.manager)
+    (g.F.Files.bytes_at c.args.files.now) asked (g.F.Files.bytes_at c.follow-came.new.files) (g.F.Files.bytes_at c.finish.new.files)
+    (g.F.Files.failed c.args.files.now) (g.F.Files.failed c.ask-answers.new.files) (g.F.Files.failed c.follow-came.new.files) (g.F.Files.failed c.finish.new.files) c.finish.result c.finish.new.term.error
+    c.ask-answers.ensures.whole c.follow-came.ensures.counted
+    (λ kept t. c.follow-came.ensures.safe t c.ask-answers.ensures.read (c.ask-answers.ensures.needs ∙ c.new-manager.ensures.needs ∙ ap not kept) (safe_new c.new-manager.result c.ask-answers.new.manager asked c.new-manager.ensures.nothing c.ask-answers.ensures.kept))
+    c.finish.ensures.counted (λ some. c.finish.ensures.noted.1 (inr some)) c.finish.ensures.restored
