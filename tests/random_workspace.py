@@ -1,0 +1,348 @@
+"""Random small workspaces, words for `cargo-hack` that break no rule, and what stands in for cargo and rustup. The scripts
+slow_plan and fuzz use it.
+"""
+import json
+import os
+import random
+import re
+import subprocess
+from collections import namedtuple
+
+# A use of an option: its name, its value, and how both were written: the words, and what of them is passed on.
+Use = namedtuple("Use", "name value words written")
+
+
+def parts(text):
+    """The names of a group: between commas, or else between spaces."""
+    return text.split("," if "," in text else " ")
+
+
+FEATURES = ["a", "b", "c", "default", "std", "x-y", "B", "e1"]
+DEPENDENCIES = ["d", "e", "tokio"]
+VALUES = ["nope", "tokio/full", "tokio?/full", "d/x", "e?/y", "dep:d", "dep:e", "dep:tokio", "a/x", "dep:a", "d", "e"]
+VERSIONS = [None, None, "1.60", "1.61", "1.61.2", "1.62", "1.63.0"]
+TARGETS = ["x86_64-unknown-linux-gnu", "aarch64-apple-darwin", "wasm32-unknown-unknown"]
+
+
+def random_map(rng, names):
+    """A feature map: a chain, a cycle, or values at random."""
+    style = rng.choice(["none", "chain", "cycle", "random", "random", "random"])
+    features = {name: [] for name in names}
+    for place, name in enumerate(names):
+        if style == "chain" and place or style == "cycle":
+            features[name].append(names[place - 1])
+        if style == "random":
+            features[name] += rng.sample(names, min(len(names), rng.choice([0, 0, 1, 1, 2])))
+        if rng.random() < 0.35:
+            features[name] += rng.sample(VALUES, rng.choice([1, 1, 2]))
+    return features
+
+
+def random_package(rng, name, folder, most):
+    version = rng.choice(["0.1.0", "1.2.3", "0.10.0-alpha.1"])
+    manifest = random_map(rng, rng.sample(FEATURES, rng.randint(0, most)))
+    dependencies = []
+    for it in rng.sample(DEPENDENCIES, rng.choice([0, 0, 1, 1, 2])):
+        rename = rng.choice([None, None, None, "re" + it])
+        dependencies.append({"name": it, "optional": rng.random() < 0.7, "rename": rename})
+        if rng.random() < 0.1:
+            dependencies.append(dict(dependencies[-1], optional=rng.random() < 0.5))
+    # Newer cargos tell of an optional dependency that is a feature by itself as of a feature.
+    record = dict(manifest)
+    if rng.random() < 0.7:
+        for it in dependencies:
+            own = it["rename"] or it["name"]
+            if it["optional"] and all("dep:" + own not in values for values in manifest.values()):
+                record.setdefault(own, ["dep:" + own])
+    private = rng.random() < 0.2
+    style = rng.choice(["#{v}", "#{n}@{v}", ""])
+    return {
+        "id": f"path+file://{folder}" + style.format(n=name, v=version), "name": name, "version": version,
+        "dependencies": dependencies, "manifest": manifest, "record": record, "private": private,
+        "publish": [] if private else rng.choice([None, None, ["elsewhere"]]),
+        "manifest_path": f"{folder}/Cargo.toml", "rust_version": rng.choice(VERSIONS),
+    }
+
+
+def random_workspace(rng, root, most=5):
+    names = rng.sample(["alpha", "beta", "al", "gamma_2", "zed", "Upper"], rng.randint(1, 4))
+    rooted = rng.random() < 0.4
+    packages = [
+        random_package(rng, name, root if rooted and not place else f"{root}/{name}", most)
+        for place, name in enumerate(names)
+    ]
+    if rng.random() < 0.06:
+        packages[0]["rust_version"] = rng.choice(["2.0", "1", "1.58"])
+    members = [it["id"] for it in packages]
+    rng.shuffle(members)
+    if rng.random() < 0.05:
+        members.append(members[0])
+    nodes = {it["id"]: [] for it in packages}
+    for package in list(packages):
+        for it in package["dependencies"]:
+            if it["name"] + "#1" not in [one["id"] for one in packages]:
+                packages.append({
+                    "id": it["name"] + "#1", "name": it["name"], "version": "1.0.0", "dependencies": [], "manifest": {},
+                    "record": {f: [] for f in rng.sample(["x", "full", "rt"], rng.randint(0, 2))}, "private": False,
+                    "publish": None, "manifest_path": f"/cargo/{it['name']}/Cargo.toml", "rust_version": None})
+            kinds = rng.choice([[(None, None)], [(None, None)], [("dev", None)], [(None, "cfg(unix)"), (None, None)]])
+            nodes[package["id"]].append((it["name"] + "#1", kinds))
+    rng.shuffle(packages)
+    own = [it["manifest_path"] for it in packages if it["id"] in members]
+    located = rng.choice(own + [f"{root}/Cargo.toml"] * 2)
+    folder = rng.choice([root, root, os.path.dirname(rng.choice(own))])
+    minor = rng.choice([90, 90, 90, 70, 64, 63, 57, 40, 38, None])
+    return {"root": root, "packages": packages, "members": members, "nodes": nodes, "located": located, "folder": folder,
+            "minor": minor, "stable": rng.choice([None, None, 63, 95])}
+
+
+def names_near(rng, workspace, low, high, but=()):
+    """Some names of features, mostly of the workspace's packages."""
+    names = {name for it in workspace["packages"] for name in [*it["manifest"], *(d["name"] for d in it["dependencies"])]}
+    names = sorted(names | set(rng.sample(FEATURES, 2)) | ({"nope"} if rng.random() < 0.2 else set()))
+    names = [it for it in names if it not in but]
+    return rng.sample(names, min(len(names), rng.randint(low, high)))
+
+
+def random_words(rng, workspace):
+    """Words that break no rule: the uses in their order, and the words behind `--`."""
+    uses = []
+
+    def add(name, value=None, alias=None):
+        written = alias or name
+        if value is None:
+            words = [written]
+        elif written.startswith("--"):
+            words = [f"{written}={value}"] if rng.random() < 0.4 else [written, value]
+        else:
+            words = rng.choice([[written, value], [written + value], [f"{written}={value}"]])
+        uses.append(Use(name, value, words, [written]))
+
+    def chance(likelihood):
+        return rng.random() < likelihood
+
+    def near(low, high, but=()):
+        return names_near(rng, workspace, low, high, but)
+
+    def joined(names):
+        return rng.choice(", ").join(names)
+
+    def quoted(names):
+        text = joined(names)
+        return rng.choice([text, text, f"'{text}'", f'"{text}"'])
+
+    sub = rng.choice(["check", "check", "build", "clippy"])
+    uses.append(Use("subcommand", None, [sub], [sub]))
+    mode = rng.choices(["plain", "each", "powerset"], [15, 25, 60])[0]
+    unknown_fits, named = False, set()
+    if mode == "plain":
+        if chance(0.5):
+            add("--workspace-behavior", None, "--workspace-behavior=cargo")
+        if chance(0.3):
+            add(rng.choice(["--all-features", "--no-default-features"]))
+    else:
+        add("--each-feature" if mode == "each" else "--feature-powerset")
+    features = near(1, 2) if chance(0.25) else []
+    if features:
+        add("--features", quoted(features), rng.choice(["--features", "-F"]))
+        unknown_fits = True
+        named |= set(features)
+        if chance(0.2):
+            more = near(1, 1)
+            add("--features", joined(more))
+            named |= set(more)
+    if mode == "powerset":
+        if chance(0.3):
+            add("--depth", str(rng.choice([0, 1, 1, 2, 2, 3, 10])))
+        for option, likelihood in (("--group-features", 0.2), ("--mutually-exclusive-features", 0.25),
+                                   ("--at-least-one-of", 0.25)):
+            for _ in range(rng.choice([1, 1, 2]) if chance(likelihood) else 0):
+                group = near(2, 3) + ([""] if chance(0.03) else [])
+                if len(group) < 2:
+                    group += ["nope"]
+                add(option, joined(group))
+                unknown_fits |= option == "--group-features"
+                if option != "--at-least-one-of":
+                    named |= set(group)
+        for it in [it for it in uses if it.name == "--mutually-exclusive-features"]:
+            if chance(0.4):
+                package = rng.choice(workspace["packages"])["name"]
+                add("--allow-together", f"{package}={rng.choice(', ').join(parts(it.value))}")
+    if mode != "plain":
+        if chance(0.12):
+            include = near(1, 4)
+            include += include[:1] if chance(0.3) else []
+            add("--include-features", quoted(include))
+            unknown_fits = True
+            named |= set(include)
+        else:
+            if chance(0.4):
+                some = rng.sample(DEPENDENCIES + ["red", "nope"], rng.randint(1, 3))
+                value = rng.choice([None, None, None, "", joined(some)])
+                if value is None:
+                    add("--optional-deps")
+                else:
+                    uses.append(Use("--optional-deps", value, [f"--optional-deps={value}"], []))
+                    named |= set(parts(value))
+            newest = max(workspace["minor"] or 0, workspace["stable"] or 0)
+            if newest >= 41 and workspace["minor"] and chance(0.15):
+                add("--include-deps-features")
+        for option in ("--exclude-no-default-features", "--exclude-all-features"):
+            if chance(0.15):
+                add(option)
+        excluded = near(1, 2, named) if chance(0.25) else []
+        if excluded:
+            add("--exclude-features", quoted(excluded), rng.choice(["--exclude-features", "--skip"]))
+    if unknown_fits and chance(0.5):
+        add("--ignore-unknown-features")
+    random_packages(rng, workspace, add)
+    random_versions(rng, workspace, add)
+    for target in rng.choices(TARGETS, k=rng.choice([0, 0, 0, 0, 1, 2, 3])):
+        add("--target", target)
+    for option, likelihood in (("--clean-per-run", 0.15), ("--no-manifest-path", 0.2), ("--locked", 0.1),
+                               ("--keep-going", 0.05), ("--no-dev-deps", 0.05)):
+        if chance(likelihood):
+            add(option)
+    for _ in range(rng.choice([0, 0, 0, 1, 2, 3])):
+        add("--verbose", None, rng.choice(["-v", "--verbose"]))
+    for words, passed in ((["-nq"], ["-n", "-q"]), (["-j4"], ["-j4"]), (["--foo=bar"], ["--foo=bar"]), (["--lib"], ["--lib"])):
+        if chance(0.06):
+            uses.append(Use("unknown", None, words, passed))
+    if chance(0.05):
+        add("--color", "never")
+    if chance(0.1):
+        add("--manifest-path", f"{workspace['root']}/Cargo.toml", rng.choice(["--manifest-path", "-m"]))
+    add("--print-command-list")
+    rng.shuffle(uses)
+    # Without a value it would take a next word that is no option.
+    uses.sort(key=lambda it: it.words == ["--optional-deps"])
+    return uses, rng.choice([[], [], [], ["-D", "warnings"], ["--workspace"]])
+
+
+def random_packages(rng, workspace, add):
+    """Words that choose packages."""
+
+    def spec():
+        it = rng.choice([it for it in workspace["packages"] if it["id"] in workspace["members"]])
+        return rng.choice([
+            it["name"], it["name"], it["name"], f"{it['name']}@{it['version']}", f"{it['name']}:1",
+            it["id"], it["id"].split("#")[0], it["id"].split("+")[1], f"{it['id'].split('#')[0]}#{it['version']}",
+            f"{it['id'].split('#')[0]}#{it['name']}", f"{it['id'].split('#')[0]}#{it['name']}@{it['version']}"])
+
+    if rng.random() < 0.6:
+        add("--workspace", None, rng.choice(["--workspace", "--all"]))
+    elif rng.random() < 0.5:
+        for _ in range(rng.randint(1, 2)):
+            add("--package", spec() if rng.random() < 0.97 else "nobody", rng.choice(["-p", "--package"]))
+    if rng.random() < 0.15:
+        add("--exclude", spec() if rng.random() < 0.9 else "nobody")
+    if rng.random() < 0.15:
+        add("--ignore-private")
+    # Else the workspace's own package would be private, which is refused.
+    root = [it for it in workspace["packages"] if it["manifest_path"] == f"{workspace['root']}/Cargo.toml"]
+    if rng.random() < 0.06 and not any(it["private"] for it in root):
+        add("--no-private")
+
+
+def random_versions(rng, workspace, add):
+    """Words that choose versions."""
+    which = rng.random()
+    if which < 0.1:
+        add("--rust-version")
+    elif which < 0.35:
+        ranges = ["1.60..=1.63", "1.60..1.62", "1.61..=1.61", "..=1.64", "..=1.62", "1.62..=1.60", "1.60.1..=1.61",
+                  "1.59..=1.64", "1.63..=1.65"]
+        if workspace["stable"]:
+            ranges += ["1.62..", f"1.{workspace['stable'] - 1}..", "2.0..", f"1.{workspace['stable']}"]
+            ranges += [".."] if workspace["stable"] < 64 else []
+        add("--version-range", rng.choice(ranges) if rng.random() < 0.95 else "1.60..=2.1")
+        if rng.random() < 0.4:
+            add("--version-step", str(rng.choice([1, 2, 3])))
+    else:
+        return
+    if rng.random() < 0.3:
+        add("--clean-per-version")
+
+
+# ---- Asking the program.
+
+STAND_IN = """#!/bin/sh
+case "$*" in
+    "run stable cargo -vV") {stable};;
+    -vV) {version};;
+    --version) echo 'rustup 1.27.1 (54dd3d00f 2024-04-24)';;
+    *"metadata "*) printf '%s\\n' {metadata};;
+    *locate-project*) printf '%s\\n' {located};;
+esac
+"""
+
+
+def told(minor):
+    return f"printf 'cargo 1.{minor}.0\\nrelease: 1.{minor}.0\\nhost: h\\n'" if minor else "exit 1"
+
+
+def sheltered(value):
+    return "'" + json.dumps(value).replace("'", "'\\''") + "'"
+
+
+def metadata(workspace):
+    """What cargo tells, as old as it is."""
+    newest = max(workspace["minor"] or 0, workspace["stable"] or 0)
+    packages = []
+    for it in workspace["packages"]:
+        record = {key: it[key] for key in ("id", "name", "version", "dependencies", "manifest_path")}
+        record["features"] = it["record"]
+        if newest >= 39:
+            record["publish"] = it["publish"]
+        if newest >= 58:
+            record["rust_version"] = it["rust_version"]
+        packages.append(record)
+    nodes = [
+        {"id": it, "deps": [
+            {"pkg": other, "dep_kinds": [{"kind": kind, "target": target} for kind, target in kinds]}
+            for other, kinds in deps]}
+        for it, deps in workspace["nodes"].items()
+    ]
+    return {"packages": packages, "workspace_members": workspace["members"], "resolve": {"nodes": nodes},
+            "workspace_root": workspace["root"]}
+
+
+def manifest(package):
+    lines = ["[package]", f'name = "{package["name"]}"']
+    if package["rust_version"]:
+        lines.append(f'rust-version = "{package["rust_version"]}"')
+    if package["publish"] is not None:
+        lines.append("publish = false" if package["private"] else 'publish = ["elsewhere"]')
+    lines.append("[features]")
+    lines += [f"{json.dumps(name)} = {json.dumps(values)}" for name, values in package["manifest"].items()]
+    return "\n".join(lines) + "\n\n[dev-dependencies]\nd = '1'\n"
+
+
+def write(path, text):
+    os.makedirs(os.path.dirname(path), exist_ok=True)
+    with open(path, "w", encoding="utf-8") as it:
+        it.write(text)
+
+
+def lay_out(workspace, tools):
+    """The files of a workspace, and what stands in for cargo and rustup."""
+    root = workspace["root"]
+    members = [it for it in workspace["packages"] if it["id"] in workspace["members"]]
+    write(f"{root}/Cargo.toml", "")
+    write(f"{root}/Cargo.lock", "# kept\n")
+    for it in members:
+        write(it["manifest_path"], manifest(it))
+    with open(f"{root}/Cargo.toml", "a", encoding="utf-8") as it:
+        it.write('\n[workspace]\nmembers = ["*"]\n')
+    text = STAND_IN.format(stable=told(workspace["stable"]), version=told(workspace["minor"]),
+                           metadata=sheltered(metadata(workspace)), located=sheltered({"root": workspace["located"]}))
+    workspace["cargo"], workspace["rustup"] = f"{tools}/cargo", f"{tools}/rustup.sh"
+    for tool in (workspace["cargo"], workspace["rustup"]):
+        write(tool, text)
+        os.chmod(tool, 0o755)
+
+
+def call(program, workspace, words):
+    environment = {"PATH": os.environ["PATH"], "CARGO": workspace["cargo"], "CARGO_HACK_RUSTUP": workspace["rustup"]}
+    return subprocess.run([program, "hack", *words], cwd=workspace["folder"], env=environment, stdin=subprocess.DEVNULL,
+                          capture_output=True, text=True, errors="replace", timeout=60, check=False)
