@@ -18,9 +18,10 @@ def parts(text):
 
 
 FEATURES = ["a", "b", "c", "default", "std", "x-y", "B", "e1"]
-DEPENDENCIES = ["d", "e", "tokio"]
-VALUES = ["nope", "tokio/full", "tokio?/full", "d/x", "e?/y", "dep:d", "dep:e", "dep:tokio", "a/x", "dep:a", "d", "e"]
-VERSIONS = [None, None, "1.60", "1.61", "1.61.2", "1.62", "1.63.0"]
+DEPENDENCIES = ["d", "e", "tokio", "a"]
+VALUES = ["nope", "tokio/full", "tokio?/full", "d/x", "e?/y", "dep:d", "dep:e", "dep:tokio", "dep:a", "d", "e", "a/x", "a?/x",
+          "b/x", "b?/x", "c?/x", "std?/x"]
+VERSIONS = ["1.60", "1.61", "1.61.2", "1.62", "1.63.0"]
 TARGETS = ["x86_64-unknown-linux-gnu", "aarch64-apple-darwin", "wasm32-unknown-unknown"]
 
 
@@ -33,7 +34,7 @@ def random_map(rng, names):
             features[name].append(names[place - 1])
         if style == "random":
             features[name] += rng.sample(names, min(len(names), rng.choice([0, 0, 1, 1, 2])))
-        if rng.random() < 0.35:
+        if rng.random() < 0.5:
             features[name] += rng.sample(VALUES, rng.choice([1, 1, 2]))
     return features
 
@@ -54,13 +55,13 @@ def random_package(rng, name, folder, most):
             own = it["rename"] or it["name"]
             if it["optional"] and all("dep:" + own not in values for values in manifest.values()):
                 record.setdefault(own, ["dep:" + own])
-    private = rng.random() < 0.2
+    private = rng.random() < 0.25
     style = rng.choice(["#{v}", "#{n}@{v}", ""])
     return {
         "id": f"path+file://{folder}" + style.format(n=name, v=version), "name": name, "version": version,
         "dependencies": dependencies, "manifest": manifest, "record": record, "private": private,
         "publish": [] if private else rng.choice([None, None, ["elsewhere"]]),
-        "manifest_path": f"{folder}/Cargo.toml", "rust_version": rng.choice(VERSIONS),
+        "manifest_path": f"{folder}/Cargo.toml", "rust_version": None if rng.random() < 0.15 else rng.choice(VERSIONS),
     }
 
 
@@ -72,7 +73,10 @@ def random_workspace(rng, root, most=5):
         for place, name in enumerate(names)
     ]
     if rng.random() < 0.06:
-        packages[0]["rust_version"] = rng.choice(["2.0", "1", "1.58"])
+        packages[0]["rust_version"] = rng.choice(["2.0", "1", "1.58", "1.70"])
+    if rng.random() < 0.15:
+        for it in packages:
+            it["rust_version"] = packages[0]["rust_version"]
     members = [it["id"] for it in packages]
     rng.shuffle(members)
     if rng.random() < 0.05:
@@ -96,12 +100,16 @@ def random_workspace(rng, root, most=5):
             "minor": minor, "stable": rng.choice([None, None, 63, 95])}
 
 
-def names_near(rng, workspace, low, high, but=()):
-    """Some names of features, mostly of the workspace's packages."""
-    names = {name for it in workspace["packages"] for name in [*it["manifest"], *(d["name"] for d in it["dependencies"])]}
-    names = sorted(names | set(rng.sample(FEATURES, 2)) | ({"nope"} if rng.random() < 0.2 else set()))
-    names = [it for it in names if it not in but]
-    return rng.sample(names, min(len(names), rng.randint(low, high)))
+def names_near(rng, workspace):
+    """A few names that words may speak of: features, dependencies, values of features, their fronts."""
+    names = set()
+    for it in workspace["packages"]:
+        values = [value for values in it["manifest"].values() for value in values]
+        names |= {*it["manifest"], *(one["rename"] or one["name"] for one in it["dependencies"])}
+        names |= {one for value in values for one in (value, value.split("/")[0], value.split("?")[0]) if rng.random() < 0.5}
+        names |= {f"{one['rename'] or one['name']}/{rng.choice(['x', 'full', 'rt'])}" for one in it["dependencies"]}
+    names = sorted(names | set(rng.sample(FEATURES, 2)))
+    return rng.sample(names, min(len(names), rng.randint(3, 7))) + ["nope"] * (rng.random() < 0.2)
 
 
 def random_words(rng, workspace):
@@ -121,14 +129,20 @@ def random_words(rng, workspace):
     def chance(likelihood):
         return rng.random() < likelihood
 
+    focus = names_near(rng, workspace)
+    members = [it for it in workspace["packages"] if it["id"] in workspace["members"]]
+
     def near(low, high, but=()):
-        return names_near(rng, workspace, low, high, but)
+        names = [it for it in focus if it not in but]
+        return rng.sample(names, min(len(names), rng.randint(low, high)))
 
     def joined(names):
         return rng.choice(", ").join(names)
 
     def quoted(names):
         text = joined(names)
+        if len(names) > 1 and chance(0.1):
+            text += text[len(names[0])]
         return rng.choice([text, text, f"'{text}'", f'"{text}"'])
 
     sub = rng.choice(["check", "check", "build", "clippy"])
@@ -154,10 +168,13 @@ def random_words(rng, workspace):
     if mode == "powerset":
         if chance(0.3):
             add("--depth", str(rng.choice([0, 1, 1, 2, 2, 3, 10])))
-        for option, likelihood in (("--group-features", 0.2), ("--mutually-exclusive-features", 0.25),
+        for option, likelihood in (("--group-features", 0.25), ("--mutually-exclusive-features", 0.35),
                                    ("--at-least-one-of", 0.25)):
             for _ in range(rng.choice([1, 1, 2]) if chance(likelihood) else 0):
                 group = near(2, 3) + ([""] if chance(0.03) else [])
+                own = sorted(rng.choice(members)["manifest"])
+                if len(own) > 1 and chance(0.5):
+                    group = rng.sample(own, 2)
                 if len(group) < 2:
                     group += ["nope"]
                 add(option, joined(group))
@@ -165,11 +182,14 @@ def random_words(rng, workspace):
                 if option != "--at-least-one-of":
                     named |= set(group)
         for it in [it for it in uses if it.name == "--mutually-exclusive-features"]:
-            if chance(0.4):
-                package = rng.choice(workspace["packages"])["name"]
-                add("--allow-together", f"{package}={rng.choice(', ').join(parts(it.value))}")
+            if chance(0.6):
+                owners = [one for one in members if set(parts(it.value)) <= set(one["manifest"])]
+                package = rng.choice(owners or members)["name"]
+                add("--allow-together", f"{package}={joined(parts(it.value))}")
+                if chance(0.4):
+                    add("--mutually-exclusive-features", joined(parts(it.value)[::-1]))
     if mode != "plain":
-        if chance(0.12):
+        if chance(0.2):
             include = near(1, 4)
             include += include[:1] if chance(0.3) else []
             add("--include-features", quoted(include))
@@ -185,7 +205,7 @@ def random_words(rng, workspace):
                     uses.append(Use("--optional-deps", value, [f"--optional-deps={value}"], []))
                     named |= set(parts(value))
             newest = max(workspace["minor"] or 0, workspace["stable"] or 0)
-            if newest >= 41 and workspace["minor"] and chance(0.15):
+            if newest >= 41 and workspace["minor"] and chance(0.2):
                 add("--include-deps-features")
         for option in ("--exclude-no-default-features", "--exclude-all-features"):
             if chance(0.15):
@@ -224,23 +244,24 @@ def random_packages(rng, workspace, add):
 
     def spec():
         it = rng.choice([it for it in workspace["packages"] if it["id"] in workspace["members"]])
+        version = rng.choice([it["version"], it["version"].split("-")[0], it["version"][:3].rstrip("."), it["version"][0], "1"])
         return rng.choice([
-            it["name"], it["name"], it["name"], f"{it['name']}@{it['version']}", f"{it['name']}:1",
-            it["id"], it["id"].split("#")[0], it["id"].split("+")[1], f"{it['id'].split('#')[0]}#{it['version']}",
-            f"{it['id'].split('#')[0]}#{it['name']}", f"{it['id'].split('#')[0]}#{it['name']}@{it['version']}"])
+            it["name"], it["name"], it["name"], it["name"] + rng.choice("@:") + version,
+            it["id"], it["id"].split("#")[0], it["id"].split("+")[1], f"{it['id'].split('#')[0]}#{version}",
+            f"{it['id'].split('#')[0]}#{it['name']}", f"{it['id'].split('#')[0]}#{it['name']}@{version}"])
 
     if rng.random() < 0.6:
         add("--workspace", None, rng.choice(["--workspace", "--all"]))
     elif rng.random() < 0.5:
         for _ in range(rng.randint(1, 2)):
             add("--package", spec() if rng.random() < 0.97 else "nobody", rng.choice(["-p", "--package"]))
-    if rng.random() < 0.15:
+    if rng.random() < 0.25:
         add("--exclude", spec() if rng.random() < 0.9 else "nobody")
     if rng.random() < 0.15:
         add("--ignore-private")
     # Else the workspace's own package would be private, which is refused.
     root = [it for it in workspace["packages"] if it["manifest_path"] == f"{workspace['root']}/Cargo.toml"]
-    if rng.random() < 0.06 and not any(it["private"] for it in root):
+    if rng.random() < 0.1 and not any(it["private"] for it in root):
         add("--no-private")
 
 
@@ -249,15 +270,14 @@ def random_versions(rng, workspace, add):
     which = rng.random()
     if which < 0.1:
         add("--rust-version")
-    elif which < 0.35:
-        ranges = ["1.60..=1.63", "1.60..1.62", "1.61..=1.61", "..=1.64", "..=1.62", "1.62..=1.60", "1.60.1..=1.61",
-                  "1.59..=1.64", "1.63..=1.65"]
+    elif which < 0.4:
+        ranges = ["1.60..=1.63", "1.60..1.62", "1.61..=1.61", "1.60.1..=1.61", "1.59..=1.64", "1.63..=1.65"]
+        ranges += ["..=1.64", "..=1.65", "..=1.63", "..=1.62", "..1.64.2"] * 2
         if workspace["stable"]:
-            ranges += ["1.62..", f"1.{workspace['stable'] - 1}..", "2.0..", f"1.{workspace['stable']}"]
-            ranges += [".."] if workspace["stable"] < 64 else []
-        add("--version-range", rng.choice(ranges) if rng.random() < 0.95 else "1.60..=2.1")
-        if rng.random() < 0.4:
-            add("--version-step", str(rng.choice([1, 2, 3])))
+            ranges += ["1.62..", f"1.{workspace['stable'] - 1}..", f"1.{workspace['stable']}"] + [".."] * (workspace["stable"] < 64)
+        add("--version-range", rng.choice(ranges) if rng.random() < 0.93 else rng.choice(["1.60..=2.1", "2.0..=2.1", "1.62..=1.60"]))
+        if rng.random() < 0.5:
+            add("--version-step", str(rng.choice([1, 2, 2, 3])))
     else:
         return
     if rng.random() < 0.3:
