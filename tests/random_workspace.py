@@ -1,10 +1,8 @@
-"""Random small workspaces, words for `cargo-hack` that break no rule, and what stands in for cargo and rustup. The scripts
-slow_plan and fuzz use it.
+"""Random small workspaces, words for `cargo-hack` that break no rule, and what stands in for cargo and rustup: for the
+scripts slow_plan and fuzz.
 """
 import json
 import os
-import random
-import re
 import subprocess
 from collections import namedtuple
 
@@ -19,8 +17,8 @@ def parts(text):
 
 FEATURES = ["a", "b", "c", "default", "std", "x-y", "B", "e1"]
 DEPENDENCIES = ["d", "e", "tokio", "a"]
-VALUES = ["nope", "tokio/full", "tokio?/full", "d/x", "e?/y", "dep:d", "dep:e", "dep:tokio", "dep:a", "d", "e", "a/x", "a?/x",
-          "b/x", "b?/x", "c?/x", "std?/x"]
+VALUES = ["nope", "tokio/full", "tokio?/full", "d/x", "e?/y", "dep:d", "dep:e", "dep:tokio", "dep:a", "d", "e", "a/x",
+          "a?/x", "b/x", "b?/x", "c?/x", "std?/x"]
 VERSIONS = ["1.60", "1.61", "1.61.2", "1.62", "1.63.0"]
 TARGETS = ["x86_64-unknown-linux-gnu", "aarch64-apple-darwin", "wasm32-unknown-unknown"]
 
@@ -66,6 +64,7 @@ def random_package(rng, name, folder, most):
 
 
 def random_workspace(rng, root, most=5):
+    """A workspace of one to four packages, each with at most so many features."""
     names = rng.sample(["alpha", "beta", "al", "gamma_2", "zed", "Upper"], rng.randint(1, 4))
     rooted = rng.random() < 0.4
     packages = [
@@ -96,8 +95,8 @@ def random_workspace(rng, root, most=5):
     located = rng.choice(own + [f"{root}/Cargo.toml"] * 2)
     folder = rng.choice([root, root, os.path.dirname(rng.choice(own))])
     minor = rng.choice([90, 90, 90, 70, 64, 63, 57, 40, 38, None])
-    return {"root": root, "packages": packages, "members": members, "nodes": nodes, "located": located, "folder": folder,
-            "minor": minor, "stable": rng.choice([None, None, 63, 95])}
+    return {"root": root, "packages": packages, "members": members, "nodes": nodes, "located": located,
+            "folder": folder, "minor": minor, "stable": rng.choice([None, None, 63, 95])}
 
 
 def names_near(rng, workspace):
@@ -106,182 +105,204 @@ def names_near(rng, workspace):
     for it in workspace["packages"]:
         values = [value for values in it["manifest"].values() for value in values]
         names |= {*it["manifest"], *(one["rename"] or one["name"] for one in it["dependencies"])}
-        names |= {one for value in values for one in (value, value.split("/")[0], value.split("?")[0]) if rng.random() < 0.5}
+        fronts = [one for value in values for one in (value, value.split("/")[0], value.split("?")[0])]
+        names |= {one for one in fronts if rng.random() < 0.5}
         names |= {f"{one['rename'] or one['name']}/{rng.choice(['x', 'full', 'rt'])}" for one in it["dependencies"]}
     names = sorted(names | set(rng.sample(FEATURES, 2)))
     return rng.sample(names, min(len(names), rng.randint(3, 7))) + ["nope"] * (rng.random() < 0.2)
 
 
-def random_words(rng, workspace):
-    """Words that break no rule: the uses in their order, and the words behind `--`."""
-    uses = []
+class Words:
+    """Words in the making: the uses of options, and the names that they speak of."""
 
-    def add(name, value=None, alias=None):
+    def __init__(self, rng, workspace):
+        self.rng, self.workspace, self.uses = rng, workspace, []
+        self.focus = names_near(rng, workspace)
+        self.members = [it for it in workspace["packages"] if it["id"] in workspace["members"]]
+        # Names that may not be excluded too, and whether unknown ones may be ignored.
+        self.named, self.has_lists = set(), False
+
+    def add(self, name, value=None, alias=None):
         written = alias or name
         if value is None:
             words = [written]
         elif written.startswith("--"):
-            words = [f"{written}={value}"] if rng.random() < 0.4 else [written, value]
+            words = [f"{written}={value}"] if self.rng.random() < 0.4 else [written, value]
         else:
-            words = rng.choice([[written, value], [written + value], [f"{written}={value}"]])
-        uses.append(Use(name, value, words, [written]))
+            words = self.rng.choice([[written, value], [written + value], [f"{written}={value}"]])
+        self.uses.append(Use(name, value, words, [written]))
 
-    def chance(likelihood):
-        return rng.random() < likelihood
+    def chance(self, likelihood):
+        return self.rng.random() < likelihood
 
-    focus = names_near(rng, workspace)
-    members = [it for it in workspace["packages"] if it["id"] in workspace["members"]]
+    def near(self, low, high, but=()):
+        names = [it for it in self.focus if it not in but]
+        return self.rng.sample(names, min(len(names), self.rng.randint(low, high)))
 
-    def near(low, high, but=()):
-        names = [it for it in focus if it not in but]
-        return rng.sample(names, min(len(names), rng.randint(low, high)))
+    def joined(self, names):
+        return self.rng.choice(", ").join(names)
 
-    def joined(names):
-        return rng.choice(", ").join(names)
-
-    def quoted(names):
-        text = joined(names)
-        if len(names) > 1 and chance(0.1):
+    def quoted(self, names):
+        text = self.joined(names)
+        if len(names) > 1 and self.chance(0.1):
             text += text[len(names[0])]
-        return rng.choice([text, text, f"'{text}'", f'"{text}"'])
+        return self.rng.choice([text, text, f"'{text}'", f'"{text}"'])
 
-    sub = rng.choice(["check", "check", "build", "clippy"])
-    uses.append(Use("subcommand", None, [sub], [sub]))
-    mode = rng.choices(["plain", "each", "powerset"], [15, 25, 60])[0]
-    unknown_fits, named = False, set()
-    if mode == "plain":
-        if chance(0.5):
-            add("--workspace-behavior", None, "--workspace-behavior=cargo")
-        if chance(0.3):
-            add(rng.choice(["--all-features", "--no-default-features"]))
-    else:
-        add("--each-feature" if mode == "each" else "--feature-powerset")
-    features = near(1, 2) if chance(0.25) else []
-    if features:
-        add("--features", quoted(features), rng.choice(["--features", "-F"]))
-        unknown_fits = True
-        named |= set(features)
-        if chance(0.2):
-            more = near(1, 1)
-            add("--features", joined(more))
-            named |= set(more)
-    if mode == "powerset":
-        if chance(0.3):
-            add("--depth", str(rng.choice([0, 1, 1, 2, 2, 3, 10])))
+    def features(self):
+        features = self.near(1, 2) if self.chance(0.25) else []
+        if features:
+            self.add("--features", self.quoted(features), self.rng.choice(["--features", "-F"]))
+            self.has_lists = True
+            self.named |= set(features)
+            if self.chance(0.2):
+                more = self.near(1, 1)
+                self.add("--features", self.joined(more))
+                self.named |= set(more)
+
+    def groups(self):
+        """What chooses among the sets of a powerset."""
+        if self.chance(0.3):
+            self.add("--depth", str(self.rng.choice([0, 1, 1, 2, 2, 3, 10])))
         for option, likelihood in (("--group-features", 0.25), ("--mutually-exclusive-features", 0.35),
                                    ("--at-least-one-of", 0.25)):
-            for _ in range(rng.choice([1, 1, 2]) if chance(likelihood) else 0):
-                group = near(2, 3) + ([""] if chance(0.03) else [])
-                own = sorted(rng.choice(members)["manifest"])
-                if len(own) > 1 and chance(0.5):
-                    group = rng.sample(own, 2)
+            for _ in range(self.rng.choice([1, 1, 2]) if self.chance(likelihood) else 0):
+                group = self.near(2, 3) + ([""] if self.chance(0.03) else [])
+                own = sorted(self.rng.choice(self.members)["manifest"])
+                if len(own) > 1 and self.chance(0.5):
+                    group = self.rng.sample(own, 2)
                 if len(group) < 2:
                     group += ["nope"]
-                add(option, joined(group))
-                unknown_fits |= option == "--group-features"
+                self.add(option, self.joined(group))
+                self.has_lists |= option == "--group-features"
                 if option != "--at-least-one-of":
-                    named |= set(group)
-        for it in [it for it in uses if it.name == "--mutually-exclusive-features"]:
-            if chance(0.6):
-                owners = [one for one in members if set(parts(it.value)) <= set(one["manifest"])]
-                package = rng.choice(owners or members)["name"]
-                add("--allow-together", f"{package}={joined(parts(it.value))}")
-                if chance(0.4):
-                    add("--mutually-exclusive-features", joined(parts(it.value)[::-1]))
-    if mode != "plain":
-        if chance(0.2):
-            include = near(1, 4)
-            include += include[:1] if chance(0.3) else []
-            add("--include-features", quoted(include))
-            unknown_fits = True
-            named |= set(include)
+                    self.named |= set(group)
+        for it in [it for it in self.uses if it.name == "--mutually-exclusive-features"]:
+            if self.chance(0.6):
+                owners = [one for one in self.members if set(parts(it.value)) <= set(one["manifest"])]
+                package = self.rng.choice(owners or self.members)["name"]
+                self.add("--allow-together", f"{package}={self.joined(parts(it.value))}")
+                if self.chance(0.4):
+                    self.add("--mutually-exclusive-features", self.joined(parts(it.value)[::-1]))
+
+    def candidates(self):
+        """What combinations are made of, and which are left out."""
+        if self.chance(0.2):
+            include = self.near(1, 4)
+            include += include[:1] if self.chance(0.3) else []
+            self.add("--include-features", self.quoted(include))
+            self.has_lists = True
+            self.named |= set(include)
         else:
-            if chance(0.4):
-                some = rng.sample(DEPENDENCIES + ["red", "nope"], rng.randint(1, 3))
-                value = rng.choice([None, None, None, "", joined(some)])
-                if value is None:
-                    add("--optional-deps")
-                else:
-                    uses.append(Use("--optional-deps", value, [f"--optional-deps={value}"], []))
-                    named |= set(parts(value))
-            newest = max(workspace["minor"] or 0, workspace["stable"] or 0)
-            if newest >= 41 and workspace["minor"] and chance(0.2):
-                add("--include-deps-features")
+            self.dependencies()
         for option in ("--exclude-no-default-features", "--exclude-all-features"):
-            if chance(0.15):
-                add(option)
-        excluded = near(1, 2, named) if chance(0.25) else []
+            if self.chance(0.15):
+                self.add(option)
+        excluded = self.near(1, 2, self.named) if self.chance(0.25) else []
         if excluded:
-            add("--exclude-features", quoted(excluded), rng.choice(["--exclude-features", "--skip"]))
-    if unknown_fits and chance(0.5):
-        add("--ignore-unknown-features")
-    random_packages(rng, workspace, add)
-    random_versions(rng, workspace, add)
-    for target in rng.choices(TARGETS, k=rng.choice([0, 0, 0, 0, 1, 2, 3])):
-        add("--target", target)
-    for option, likelihood in (("--clean-per-run", 0.15), ("--no-manifest-path", 0.2), ("--locked", 0.1),
-                               ("--keep-going", 0.05), ("--no-dev-deps", 0.05)):
-        if chance(likelihood):
-            add(option)
-    for _ in range(rng.choice([0, 0, 0, 1, 2, 3])):
-        add("--verbose", None, rng.choice(["-v", "--verbose"]))
-    for words, passed in ((["-nq"], ["-n", "-q"]), (["-j4"], ["-j4"]), (["--foo=bar"], ["--foo=bar"]), (["--lib"], ["--lib"])):
-        if chance(0.06):
-            uses.append(Use("unknown", None, words, passed))
-    if chance(0.05):
-        add("--color", "never")
-    if chance(0.1):
-        add("--manifest-path", f"{workspace['root']}/Cargo.toml", rng.choice(["--manifest-path", "-m"]))
-    add("--print-command-list")
-    rng.shuffle(uses)
-    # Without a value it would take a next word that is no option.
-    uses.sort(key=lambda it: it.words == ["--optional-deps"])
-    return uses, rng.choice([[], [], [], ["-D", "warnings"], ["--workspace"]])
+            self.add("--exclude-features", self.quoted(excluded), self.rng.choice(["--exclude-features", "--skip"]))
+
+    def dependencies(self):
+        if self.chance(0.4):
+            some = self.rng.sample(DEPENDENCIES + ["red", "nope"], self.rng.randint(1, 3))
+            value = self.rng.choice([None, None, None, "", self.joined(some)])
+            if value is None:
+                self.add("--optional-deps")
+            else:
+                self.uses.append(Use("--optional-deps", value, [f"--optional-deps={value}"], []))
+                self.named |= set(parts(value))
+        if newest_of(self.workspace) >= 41 and self.workspace["minor"] and self.chance(0.2):
+            self.add("--include-deps-features")
+
+    def spec(self):
+        """A package ID specification of a member."""
+        it = self.rng.choice(self.members)
+        full = it["version"]
+        version = self.rng.choice([full, full.split("-")[0], full[:3].rstrip("."), full[0], "1"])
+        place = it["id"].split("#")[0]
+        return self.rng.choice([
+            it["name"], it["name"], it["name"], it["name"] + self.rng.choice("@:") + version, it["id"], place,
+            it["id"].split("+")[1], f"{place}#{version}", f"{place}#{it['name']}", f"{place}#{it['name']}@{version}"])
+
+    def packages(self):
+        if self.chance(0.6):
+            self.add("--workspace", None, self.rng.choice(["--workspace", "--all"]))
+        elif self.chance(0.5):
+            for _ in range(self.rng.randint(1, 2)):
+                spec = self.spec() if self.chance(0.97) else "nobody"
+                self.add("--package", spec, self.rng.choice(["-p", "--package"]))
+        if self.chance(0.25):
+            self.add("--exclude", self.spec() if self.chance(0.9) else "nobody")
+        if self.chance(0.15):
+            self.add("--ignore-private")
+        # Else the workspace's own package would be private, which is refused.
+        root = [it for it in self.members if it["manifest_path"] == f"{self.workspace['root']}/Cargo.toml"]
+        if self.chance(0.1) and not any(it["private"] for it in root):
+            self.add("--no-private")
+
+    def versions(self):
+        which, stable = self.rng.random(), self.workspace["stable"]
+        if which < 0.1:
+            self.add("--rust-version")
+        elif which < 0.4:
+            ranges = ["1.60..=1.63", "1.60..1.62", "1.61..=1.61", "1.60.1..=1.61", "1.59..=1.64", "1.63..=1.65"]
+            ranges += ["..=1.64", "..=1.65", "..=1.63", "..=1.62", "..1.64.2"] * 2
+            if stable:
+                ranges += ["1.62..", f"1.{stable - 1}..", f"1.{stable}"] + [".."] * (stable < 64)
+            if not self.chance(0.93):
+                ranges = ["1.60..=2.1", "2.0..=2.1", "1.62..=1.60"]
+            self.add("--version-range", self.rng.choice(ranges))
+            if self.chance(0.5):
+                self.add("--version-step", str(self.rng.choice([1, 2, 2, 3])))
+        if which < 0.4 and self.chance(0.3):
+            self.add("--clean-per-version")
+
+    def others(self):
+        for target in self.rng.choices(TARGETS, k=self.rng.choice([0, 0, 0, 0, 1, 2, 3])):
+            self.add("--target", target)
+        for option, likelihood in (("--clean-per-run", 0.15), ("--no-manifest-path", 0.2), ("--locked", 0.1),
+                                   ("--keep-going", 0.05), ("--no-dev-deps", 0.05)):
+            if self.chance(likelihood):
+                self.add(option)
+        for _ in range(self.rng.choice([0, 0, 0, 1, 2, 3])):
+            self.add("--verbose", None, self.rng.choice(["-v", "--verbose"]))
+        for word, passed in (("-nq", "-n -q"), ("-j4", "-j4"), ("--foo=bar", "--foo=bar"), ("--lib", "--lib")):
+            if self.chance(0.06):
+                self.uses.append(Use("unknown", None, [word], passed.split()))
+        if self.chance(0.05):
+            self.add("--color", "never")
+        if self.chance(0.1):
+            path = f"{self.workspace['root']}/Cargo.toml"
+            self.add("--manifest-path", path, self.rng.choice(["--manifest-path", "-m"]))
+        self.add("--print-command-list")
 
 
-def random_packages(rng, workspace, add):
-    """Words that choose packages."""
-
-    def spec():
-        it = rng.choice([it for it in workspace["packages"] if it["id"] in workspace["members"]])
-        version = rng.choice([it["version"], it["version"].split("-")[0], it["version"][:3].rstrip("."), it["version"][0], "1"])
-        return rng.choice([
-            it["name"], it["name"], it["name"], it["name"] + rng.choice("@:") + version,
-            it["id"], it["id"].split("#")[0], it["id"].split("+")[1], f"{it['id'].split('#')[0]}#{version}",
-            f"{it['id'].split('#')[0]}#{it['name']}", f"{it['id'].split('#')[0]}#{it['name']}@{version}"])
-
-    if rng.random() < 0.6:
-        add("--workspace", None, rng.choice(["--workspace", "--all"]))
-    elif rng.random() < 0.5:
-        for _ in range(rng.randint(1, 2)):
-            add("--package", spec() if rng.random() < 0.97 else "nobody", rng.choice(["-p", "--package"]))
-    if rng.random() < 0.25:
-        add("--exclude", spec() if rng.random() < 0.9 else "nobody")
-    if rng.random() < 0.15:
-        add("--ignore-private")
-    # Else the workspace's own package would be private, which is refused.
-    root = [it for it in workspace["packages"] if it["manifest_path"] == f"{workspace['root']}/Cargo.toml"]
-    if rng.random() < 0.1 and not any(it["private"] for it in root):
-        add("--no-private")
-
-
-def random_versions(rng, workspace, add):
-    """Words that choose versions."""
-    which = rng.random()
-    if which < 0.1:
-        add("--rust-version")
-    elif which < 0.4:
-        ranges = ["1.60..=1.63", "1.60..1.62", "1.61..=1.61", "1.60.1..=1.61", "1.59..=1.64", "1.63..=1.65"]
-        ranges += ["..=1.64", "..=1.65", "..=1.63", "..=1.62", "..1.64.2"] * 2
-        if workspace["stable"]:
-            ranges += ["1.62..", f"1.{workspace['stable'] - 1}..", f"1.{workspace['stable']}"] + [".."] * (workspace["stable"] < 64)
-        add("--version-range", rng.choice(ranges) if rng.random() < 0.93 else rng.choice(["1.60..=2.1", "2.0..=2.1", "1.62..=1.60"]))
-        if rng.random() < 0.5:
-            add("--version-step", str(rng.choice([1, 2, 2, 3])))
+def random_words(rng, workspace):
+    """Words that break no rule: the uses in their order, and the words behind `--`."""
+    words = Words(rng, workspace)
+    sub = rng.choice(["check", "check", "build", "clippy"])
+    words.uses.append(Use("subcommand", None, [sub], [sub]))
+    mode = rng.choices(["plain", "each", "powerset"], [15, 25, 60])[0]
+    if mode != "plain":
+        words.add("--each-feature" if mode == "each" else "--feature-powerset")
     else:
-        return
-    if rng.random() < 0.3:
-        add("--clean-per-version")
+        if words.chance(0.5):
+            words.add("--workspace-behavior", None, "--workspace-behavior=cargo")
+        if words.chance(0.3):
+            words.add(rng.choice(["--all-features", "--no-default-features"]))
+    words.features()
+    if mode == "powerset":
+        words.groups()
+    if mode != "plain":
+        words.candidates()
+    if words.has_lists and words.chance(0.5):
+        words.add("--ignore-unknown-features")
+    words.packages()
+    words.versions()
+    words.others()
+    rng.shuffle(words.uses)
+    # Without a value it would take a next word that is no option.
+    words.uses.sort(key=lambda it: it.words == ["--optional-deps"])
+    return words.uses, rng.choice([[], [], [], ["-D", "warnings"], ["--workspace"]])
 
 
 # ---- Asking the program.
@@ -305,9 +326,14 @@ def sheltered(value):
     return "'" + json.dumps(value).replace("'", "'\\''") + "'"
 
 
+def newest_of(workspace):
+    """The minor version of the cargo that is asked: stable's where it is newer."""
+    return max(workspace["minor"] or 0, workspace["stable"] or 0)
+
+
 def metadata(workspace):
     """What cargo tells, as old as it is."""
-    newest = max(workspace["minor"] or 0, workspace["stable"] or 0)
+    newest = newest_of(workspace)
     packages = []
     for it in workspace["packages"]:
         record = {key: it[key] for key in ("id", "name", "version", "dependencies", "manifest_path")}
@@ -363,6 +389,11 @@ def lay_out(workspace, tools):
 
 
 def call(program, workspace, words):
+    """How a call ends; one that doesn't end in a minute has the status of the command `timeout`."""
+    command = [program, "hack", *words]
     environment = {"PATH": os.environ["PATH"], "CARGO": workspace["cargo"], "CARGO_HACK_RUSTUP": workspace["rustup"]}
-    return subprocess.run([program, "hack", *words], cwd=workspace["folder"], env=environment, stdin=subprocess.DEVNULL,
-                          capture_output=True, text=True, errors="replace", timeout=60, check=False)
+    try:
+        return subprocess.run(command, cwd=workspace["folder"], env=environment, stdin=subprocess.DEVNULL,
+                              capture_output=True, text=True, errors="replace", timeout=60, check=False)
+    except subprocess.TimeoutExpired:
+        return subprocess.CompletedProcess(command, 124, "", "no end within a minute")
