@@ -62,6 +62,11 @@ counted_none n = λ low. omega (arith, low)
 pub clean_none : (returns tells : Type 0) (held : Contents) (n : ℕ) → IsClean returns tells held held n n
 clean_none returns tells held n = (counted_none n, λ back t q. refl)
 
+-- nor where a call came to anything without them
+pub clean_rest : {T E : Type 0} (quiet returns tells : Type 0) (held : Contents) (n : ℕ) (r : Result T E) → OnOk r (quiet → IsClean returns tells held held n n)
+clean_rest quiet returns tells held n (Ok v) = λ q. clean_none returns tells held n
+clean_rest quiet returns tells held n (Err e) = tt
+
 -- what is so for edits that stay by some measure is so by a stronger one
 pub clean_by : {T E : Type 0} (P Q quiet tells : Type 0) (old new : Contents) (k n : ℕ) (r : Result T E) → (Q → P) → OnOk r (quiet → IsClean P tells old new k n) → OnOk r (quiet → IsClean Q tells old new k n)
 clean_by P Q quiet tells old new k n (Ok v) f h = λ q. let c = h q in (c.0, λ back. c.1 (f back))

@@ -1,4 +1,7 @@
-use Rattle.std.proofs.Common.{◌≡◌, false}
+use Rattle.std.proofs.Common.{◌≡◌, OnOk, false, subst, sym}
+use Rattle.hack_words.specs.declared.cli.parse.Parsed.{Parsed}
+use Rattle.hack_run.specs.Restores.{ComesBack, IsClean}
+use Rattle.hack_run.proofs.BackLemmas.{clean_rest}
 use Rattle.hack_run.proofs.WholeLemmas.{obeys}
 use Rattle.hack_run.proofs.run.obey.Goals as goal
 
@@ -6,3 +9,16 @@ pub returns-in-Args-clause-done : goal.returns-in-Args-clause-done
 returns-in-Args-clause-done g c =
     obeys g.C.Caller.tells g.F.Files.tells (c.perform.new.term.error ≡ false) c.perform.result c.in-Args.args c.args.parsed c.args.env.now (g.F.Files.bytes_at c.args.files.now) (g.F.Files.bytes_at c.perform.new.files)
     (g.F.Files.failed c.args.files.now) (g.C.Caller.calls c.args.runner.now) (g.C.Caller.calls c.perform.new.caller) c.in-Args.is c.perform.ensures.done
+
+pub returns-in-Args-clause-clean : goal.returns-in-Args-clause-clean
+returns-in-Args-clause-clean g c =
+    subst (λ (p : Parsed). OnOk c.perform.result (c.perform.new.term.error ≡ false → IsClean (ComesBack p) g.F.Files.tells (g.F.Files.bytes_at c.args.files.now) (g.F.Files.bytes_at c.perform.new.files)
+    (g.F.Files.failed c.args.files.now) (g.F.Files.failed c.perform.new.files))) (sym c.in-Args.is) c.perform.ensures.clean
+
+pub returns-in-Print-clause-clean : goal.returns-in-Print-clause-clean
+returns-in-Print-clause-clean g c =
+    clean_rest (c.args.term.now.error ≡ false) (ComesBack c.args.parsed) g.F.Files.tells (g.F.Files.bytes_at c.args.files.now) (g.F.Files.failed c.args.files.now) c.print.result
+
+pub returns-in-List-clause-clean : goal.returns-in-List-clause-clean
+returns-in-List-clause-clean g c =
+    clean_rest (c.tell_all.new.term.error ≡ false) (ComesBack c.args.parsed) g.F.Files.tells (g.F.Files.bytes_at c.args.files.now) (g.F.Files.failed c.args.files.now) c.list_commands.result

@@ -1,6 +1,8 @@
 use Rattle.std.proofs.Common.{◌≡◌, false, map}
 use Rattle.hack_features.specs.Names.{names_of}
 use Rattle.hack_versions.specs.Notes.{note_of}
+use Rattle.hack_run.specs.Restores.{ComesBack, RestoresEdits}
+use Rattle.hack_run.proofs.BackLemmas.{clean_by}
 use Rattle.hack_run.proofs.WholeLemmas.{done}
 use Rattle.hack_run.proofs.run.read.Goals as goal
 
@@ -12,3 +14,9 @@ returns-in-Ok-clause-done g c =
     done g.C.Caller.tells g.F.Files.tells (c.obey.new.term.error ≡ false) c.obey.result (names_of c.args.words.now) c.args.env.now (g.F.Files.bytes_at c.args.files.now) (g.F.Files.bytes_at c.obey.new.files)
     (g.F.Files.failed c.args.files.now) (g.C.Caller.calls c.args.runner.now) (g.C.Caller.calls c.rustup_for.new.caller) (g.C.Caller.calls c.obey.new.runner)
     c.in_ok-rustup.rustup c.in-Ok.answer.0 (map note_of c.in-Ok.answer.1.items) c.in-Ok.ensures.ok c.rustup_for.ensures c.obey.ensures.done
+
+pub returns-in-Ok-clause-clean : goal.returns-in-Ok-clause-clean
+returns-in-Ok-clause-clean g c =
+    clean_by (ComesBack c.in-Ok.answer.0) (RestoresEdits c.args.env.now (names_of c.args.words.now)) (c.obey.new.term.error ≡ false) g.F.Files.tells (g.F.Files.bytes_at c.args.files.now) (g.F.Files.bytes_at c.obey.new.files)
+    (g.F.Files.failed c.args.files.now) (g.F.Files.failed c.obey.new.files) c.obey.result
+    (λ back. back c.in_ok-rustup.rustup c.in-Ok.answer.0 (map note_of c.in-Ok.answer.1.items) c.in-Ok.ensures.ok) c.obey.ensures.clean
