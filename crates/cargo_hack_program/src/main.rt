@@ -4,7 +4,7 @@
 mod journal;
 mod start;
 
-use crate::journal::{Lock, drop_empty, edits, journal_in, workspace};
+use crate::journal::{Lock, Noted, drop_empty, edits, journal_in, workspace};
 use crate::start::{StartFault, coloring, env_of, words_of};
 use hack_files::fs::{Disk, Files};
 use hack_journal::journaled::Journaled;
@@ -62,10 +62,14 @@ fn call<E: Write>(
         drop(lock);
         return Ok(perform(rt, words.as_slice(), &env, term, &mut disk, err));
     }
-    let mut files = Journaled::new(rt.alloc(), disk, journal);
+    let mut files = Noted {
+        journaled: Journaled::new(rt.alloc(), disk, journal),
+        plain: Disk::new(rt),
+        failures: 0,
+    };
     let status = perform(rt, words.as_slice(), &env, term, &mut files, err);
     // A journal that can't be removed, or is still needed, is the next call's.
-    let _ = files.finish();
+    let _ = files.journaled.finish();
     Ok(status)
 }
 

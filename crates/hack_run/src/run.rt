@@ -38,6 +38,9 @@ pub fn run<F: Files, C: Caller, O: Write, E: Write>(
         ↔ (IsTrue term.new.error ⊎ (IsTrue term.new.warn × IsTrue env.now.deny_warnings)) }
     ensures at_most_one { result ≤ 1 }
 
+    // What each call of the files keeps is kept by all.
+    ensures stays { F.stays files.old files.new }
+
     // Words that are refused whatever rustup answers are told as an error, and then it was asked for
     // its version at most.
     ensures refused { AreRefused env.now (names_of words.now) → (term.new.error ≡ true)
@@ -79,6 +82,7 @@ fn read<F: Files, C: Caller, O: Write, E: Write>(
     out: &mut O,
     err: &mut E,
 ) -> Result<(), RunFault>
+    ensures stays { F.stays files.old files.new }
     ensures refused { AreRefused env.now (names_of words.now) → IsErr result
         × (C.tells → MayAdd (rustup_asked (string_bytes env.now.rustup))
         (C.calls runner.old) (C.calls runner.new)) }
@@ -124,6 +128,7 @@ fn obey<F: Files, C: Caller, O: Write, E: Write>(
     out: &mut O,
     err: &mut E,
 ) -> Result<(), RunFault>
+    ensures stays { F.stays files.old files.new }
     ensures done { OnOk result (term.new.error ≡ false → C.tells → F.tells
         → Obeys parsed env.now (F.bytes_at files.old) (F.bytes_at files.new)
         (F.failed files.old) (C.calls runner.old) (C.calls runner.new)) }

@@ -42,6 +42,7 @@ pub(crate) fn perform<F: Files, C: Caller, O: Write, E: Write>(
     out: &mut O,
     err: &mut E,
 ) -> Result<(), RunFault>
+    ensures stays { F.stays files.old files.new }
     ensures done { OnOk result (term.new.error ≡ false → C.tells → F.tells
         → Performs args env.now (F.bytes_at files.old) (F.bytes_at files.new)
         (F.failed files.old) (C.calls caller.old) (C.calls caller.new)) }
@@ -82,6 +83,7 @@ fn follow<F: Files, C: Caller, O: Write, E: Write>(
     out: &mut O,
     err: &mut E,
 ) -> Result<(), RunFault>
+    ensures stays { F.stays files.old files.new }
     ensures done { OnOk result (term.new.error ≡ false → C.tells
         → (F.tells × IfOk answers.loaded (IsLoaded F.tells (F.bytes_at files.old) env.now))
         → Follows args answers (string_bytes env.now.rustup)
@@ -140,6 +142,7 @@ fn edit<F: Files, E: Write>(
     manager: &mut Manager,
     err: &mut E,
 ) -> Result<(), RunFault>
+    ensures stays { F.stays files.old files.new }
     ensures grows { Grows (F.failed files.old) (F.failed files.new) }
     ensures counted { OnOk result (GrowsBy 0 (F.failed files.old) (F.failed files.new)) }
     ensures prepared { OnOk result (F.tells
