@@ -1,10 +1,6 @@
 -- Counts of failures, one after another.
-use Rattle.std.proofs.Common.{ℕ}
+use Rattle.std.proofs.Common.{ℕ, arith}
 use Rattle.hack_files.specs.Files.{GrowsBy}
-use Rattle.hack_files.proofs.RestoreLemmas.{grows_more}
 
-pub grows_none : (x y z : ℕ) → GrowsBy 0 x y → GrowsBy 0 y z → GrowsBy 0 x z
-grows_none x y z f g = grows_more 0 0 x y z f g
-
-pub grows_one : (x y z : ℕ) → GrowsBy 0 x y → GrowsBy 1 y z → GrowsBy 1 x z
-grows_one x y z f g = grows_more 0 1 x y z f g
+pub grows_then : (k x y z : ℕ) → GrowsBy 0 x y → GrowsBy k y z → GrowsBy k x z
+grows_then k x y z f g = λ low. let first = f low in let second = g (omega (arith, first)) in omega (arith, first, second)

@@ -12,7 +12,7 @@ use hack_files::fs::{FileFault, Files};
 use std::alloc::Global;
 
 /// What a path holds, or `None` where nothing is there.
-#[tactic(auto, using(crate::proofs::CountLemmas::grows_none, crate::proofs::CountLemmas::grows_one))]
+#[tactic(auto, using(crate::proofs::CountLemmas::grows_then))]
 pub fn look<F: Files>(
     alloc: Global,
     files: &mut F,

@@ -87,7 +87,7 @@ fn no_journal(alloc: Global, journal: &str) -> RecoverFault
 }
 
 // The entries of the journal, if there is one.
-#[tactic(auto, using(crate::proofs::CountLemmas::grows_none, crate::proofs::CountLemmas::grows_one))]
+#[tactic(auto, using(crate::proofs::CountLemmas::grows_then))]
 fn entries_in<F: Files>(
     alloc: Global,
     files: &mut F,
@@ -126,7 +126,7 @@ fn entries_in<F: Files>(
 }
 
 // Refuses an entry whose path holds what none of all entries tells.
-#[tactic(auto, using(crate::proofs::CountLemmas::grows_none, crate::proofs::CountLemmas::grows_one))]
+#[tactic(auto, using(crate::proofs::CountLemmas::grows_then))]
 fn check<F: Files>(
     alloc: Global,
     files: &mut F,
@@ -157,7 +157,7 @@ fn check<F: Files>(
 }
 
 // The same of each of these.
-#[tactic(auto, using(crate::proofs::CountLemmas::grows_none, crate::proofs::CountLemmas::grows_one))]
+#[tactic(auto, using(crate::proofs::CountLemmas::grows_then))]
 fn check_all<F: Files>(
     alloc: Global,
     files: &mut F,
@@ -184,7 +184,7 @@ fn check_all<F: Files>(
 }
 
 // Puts back what this entry keeps, and says whether the path held something else.
-#[tactic(auto, using(crate::proofs::CountLemmas::grows_none, crate::proofs::CountLemmas::grows_one))]
+#[tactic(auto, using(crate::proofs::CountLemmas::grows_then))]
 fn put_back<F: Files>(alloc: Global, files: &mut F, entry: &Entry) -> Result<bool, RecoverFault>
     ensures failures { IsCounted (F.failed files.old) (F.failed files.new) result }
     ensures back { OnOk result (F.tells → KeepsAll
@@ -211,7 +211,7 @@ fn put_back<F: Files>(alloc: Global, files: &mut F, entry: &Entry) -> Result<boo
 }
 
 // Puts back what these entries keep, in order, and says how many paths held something else.
-#[tactic(auto, using(crate::proofs::CountLemmas::grows_none, crate::proofs::CountLemmas::grows_one))]
+#[tactic(auto, using(crate::proofs::CountLemmas::grows_then))]
 fn put_all_back<F: Files>(
     alloc: Global,
     files: &mut F,
@@ -245,7 +245,7 @@ fn put_all_back<F: Files>(
 }
 
 // Puts back what the entries of a journal keep, and then removes it.
-#[tactic(auto, using(crate::proofs::CountLemmas::grows_none, crate::proofs::CountLemmas::grows_one))]
+#[tactic(auto, using(crate::proofs::CountLemmas::grows_then))]
 fn take_back<F: Files>(
     alloc: Global,
     files: &mut F,
@@ -279,8 +279,9 @@ fn take_back<F: Files>(
 /// Nothing is written before all is looked at: where a path holds neither what it held at first nor
 /// what was written there, or the journal isn't whole, nothing is changed. It may itself be ended
 /// at any moment, and called again.
-#[tactic(auto, using(crate::proofs::CountLemmas::grows_none, crate::proofs::CountLemmas::grows_one))]
+#[tactic(auto, using(crate::proofs::CountLemmas::grows_then))]
 pub fn recover<F: Files>(alloc: Global, files: &mut F, journal: &str) -> Result<u64, RecoverFault>
+    // It ends at the first failure of the files, and tells it.
     ensures failures { IsCounted (F.failed files.old) (F.failed files.new) result }
     // Each kept path holds what it held at first, and no other path was changed.
     ensures restored { IfOk result (λ count. F.tells →
