@@ -3,3 +3,4 @@ mod ChangeLemmas
 mod SafeLemmas
 mod FinishLemmas
 mod RecoverLemmas
+mod CountLemmas

@@ -1,7 +1,7 @@
 -- What an ended call had edited is put back.
-use Rattle.std.specs.Prelude.{◌≡◌, ◌≢◌, ◌⊎◌, ◌+◌, [], ◌∷◌, ℕ, List, Option, Some, None, string_bytes}
+use Rattle.std.specs.Prelude.{◌≡◌, ◌≢◌, ◌⊎◌, ◌+◌, [], ◌∷◌, ℕ, List, Option, Some, None, Result, Ok, Err, string_bytes}
 use Rattle.std.specs.Str.{IsUtf8}
-use Rattle.hack_files.specs.Files.{Change, Contents, KeepsAll, KeepsOthers}
+use Rattle.hack_files.specs.Files.{Change, Contents, GrowsBy, KeepsAll, KeepsOthers}
 use Rattle.hack_journal.specs.Journal.{Edit, spelling}
 use Rattle.hack_journal.specs.Safe.{Tells, AreBack, first_of, gives, without}
 use Rattle.hack_journal.specs.declared.recover.RecoverFault.{RecoverFault}
@@ -100,3 +100,15 @@ IsRefusal Memory = ⊥
 IsRefusal (NotJournal j) = Unit {0}
 IsRefusal (Changed p j) = Unit {0}
 IsRefusal (Files f) = ⊥
+
+-- a fault of a file was counted, and nothing else was; want of memory may be the files' own
+abbrev pub CountsFault : ℕ → ℕ → RecoverFault → Type 0
+CountsFault old new Memory = GrowsBy 0 old new ⊎ GrowsBy 1 old new
+CountsFault old new (NotJournal j) = GrowsBy 0 old new
+CountsFault old new (Changed p j) = GrowsBy 0 old new
+CountsFault old new (Files f) = GrowsBy 1 old new
+
+-- a failure that ends the call is counted, and there is no other
+abbrev pub IsCounted : {T : Type 0} → ℕ → ℕ → Result T RecoverFault → Type 0
+IsCounted old new (Ok _) = GrowsBy 0 old new
+IsCounted old new (Err e) = CountsFault old new e

@@ -2,7 +2,7 @@
 
 ghost use Rattle.std.specs.Prelude.{◌≡◌, ◌↔◌, [], ◌∷◌, IfOk, OnOk, OnErr, IsTrue};
 ghost use Rattle.std.specs.Option.{option_map};
-ghost use Rattle.hack_files.specs.Files.{KeepsOthers, KeepsAll, Makes, MakesOrNot};
+ghost use Rattle.hack_files.specs.Files.{Counts, KeepsOthers, KeepsAll, Makes, MakesOrNot};
 ghost use Rattle.hack_journal.specs.Journal.{edit_of, edits_of};
 ghost use Rattle.hack_journal.specs.Safe.{AreBack, gives};
 
@@ -12,11 +12,13 @@ use hack_files::fs::{FileFault, Files};
 use std::alloc::Global;
 
 /// What a path holds, or `None` where nothing is there.
+#[tactic(auto, using(crate::proofs::CountLemmas::grows_then))]
 pub fn look<F: Files>(
     alloc: Global,
     files: &mut F,
     path: &str,
 ) -> Result<Option<Vec<u8>>, FileFault>
+    ensures failures { Counts (F.failed files.old) (F.failed files.new) result }
     ensures held { IfOk result (λ held. F.tells →
         F.bytes_at files.old path.now ≡ option_map (λ bytes. bytes.items) held) }
     ensures same { F.tells → KeepsAll (F.bytes_at files.old) (F.bytes_at files.new) }
@@ -32,6 +34,7 @@ pub fn look<F: Files>(
 
 /// Puts these bytes at a path, or removes what is there.
 pub fn put<F: Files>(files: &mut F, path: &str, bytes: Option<&[u8]>) -> Result<(), FileFault>
+    ensures failures { Counts (F.failed files.old) (F.failed files.new) result }
     ensures put { OnOk result (F.tells →
         F.bytes_at files.new path.now ≡ option_map (λ bytes. bytes.now) bytes.entry) }
     ensures others { F.tells → KeepsOthers path.now (F.bytes_at files.old) (F.bytes_at files.new) }

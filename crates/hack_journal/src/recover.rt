@@ -3,13 +3,13 @@
 ghost use Rattle.std.specs.Prelude.{◌≡◌, ◌≢◌, ◌↔◌, ◌≤◌, [], ◌∷◌, List, ℕ, Some, None, Vec};
 ghost use Rattle.std.specs.Prelude.{IfOk, IfErr, OnOk, false, length};
 ghost use Rattle.hack_files.specs.Files.{Contents, KeepsOthers, KeepsAll, Makes, MakesOrNot};
-ghost use Rattle.hack_files.specs.Files.{after, changed};
+ghost use Rattle.hack_files.specs.Files.{GrowsBy, after, changed};
 ghost use Rattle.hack_journal.specs.Journal.{Edit, edit_of, edits_of, spelling, HaveTextPaths};
 ghost use Rattle.hack_journal.specs.Safe.{IsSafe, IsSafeBy, StaysSafe, KeepFirst, Tells};
 ghost use Rattle.hack_journal.specs.Safe.{gives, without};
 ghost use Rattle.hack_journal.specs.Recover.{AreOfCall, AreTold, backs, Differ, IsRestored};
 ghost use Rattle.hack_journal.specs.Recover.{IsWhy, IsWhyUnread, IsWhyNotTold};
-ghost use Rattle.hack_journal.specs.Recover.{IsRefusal, NamesNoJournal};
+ghost use Rattle.hack_journal.specs.Recover.{IsRefusal, NamesNoJournal, CountsFault, IsCounted};
 
 use crate::contents::{look, put};
 use crate::entries::{are_of_call, same, tells};
@@ -49,7 +49,8 @@ impl From<AllocError> for RecoverFault {
 
 // The fault of a look at a path.
 fn read_fault(alloc: Global, path: &str, fault: FileFault) -> RecoverFault
-    ensures { ¬ IsRefusal result }
+    ensures failures { (old new : ℕ) → GrowsBy 1 old new → CountsFault old new result }
+    ensures kind { ¬ IsRefusal result }
 {
     match fault {
         FileFault::Memory => RecoverFault::Memory,
@@ -62,7 +63,8 @@ fn read_fault(alloc: Global, path: &str, fault: FileFault) -> RecoverFault
 
 // The fault of a write or a removal.
 fn write_fault(alloc: Global, path: &str, fault: FileFault) -> RecoverFault
-    ensures { ¬ IsRefusal result }
+    ensures failures { (old new : ℕ) → GrowsBy 1 old new → CountsFault old new result }
+    ensures kind { ¬ IsRefusal result }
 {
     match fault {
         FileFault::Memory => RecoverFault::Memory,
@@ -75,7 +77,8 @@ fn write_fault(alloc: Global, path: &str, fault: FileFault) -> RecoverFault
 
 // The fault of a text that is no journal.
 fn no_journal(alloc: Global, journal: &str) -> RecoverFault
-    ensures { NamesNoJournal journal.now result }
+    ensures failures { (old new : ℕ) → GrowsBy 0 old new → CountsFault old new result }
+    ensures kind { NamesNoJournal journal.now result }
 {
     match String::from_str(alloc, journal) {
         Ok(journal) => RecoverFault::NotJournal(journal),
@@ -84,11 +87,13 @@ fn no_journal(alloc: Global, journal: &str) -> RecoverFault
 }
 
 // The entries of the journal, if there is one.
+#[tactic(auto, using(crate::proofs::CountLemmas::grows_then))]
 fn entries_in<F: Files>(
     alloc: Global,
     files: &mut F,
     journal: &str,
 ) -> Result<Option<Vec<Entry>>, RecoverFault>
+    ensures failures { IsCounted (F.failed files.old) (F.failed files.new) result }
     ensures none { IfOk result (λ found. found ≡ None → F.tells →
         F.bytes_at files.old journal.now ≡ None) }
     ensures some { IfOk result (λ found. (entries : Vec Entry Global) → found ≡ Some entries →
@@ -121,6 +126,7 @@ fn entries_in<F: Files>(
 }
 
 // Refuses an entry whose path holds what none of all entries tells.
+#[tactic(auto, using(crate::proofs::CountLemmas::grows_then))]
 fn check<F: Files>(
     alloc: Global,
     files: &mut F,
@@ -128,6 +134,7 @@ fn check<F: Files>(
     all: &[Entry],
     entry: &Entry,
 ) -> Result<(), RecoverFault>
+    ensures failures { IsCounted (F.failed files.old) (F.failed files.new) result }
     ensures told { OnOk result (F.tells → Tells (edits_of all.now) (edit_of entry.now).path
         (F.bytes_at files.old (edit_of entry.now).path)) }
     ensures why { IfErr result (IsWhyNotTold journal.now F.tells (edits_of all.now)
@@ -150,6 +157,7 @@ fn check<F: Files>(
 }
 
 // The same of each of these.
+#[tactic(auto, using(crate::proofs::CountLemmas::grows_then))]
 fn check_all<F: Files>(
     alloc: Global,
     files: &mut F,
@@ -157,6 +165,7 @@ fn check_all<F: Files>(
     all: &[Entry],
     entries: &[Entry],
 ) -> Result<(), RecoverFault>
+    ensures failures { IsCounted (F.failed files.old) (F.failed files.new) result }
     ensures told { OnOk result (F.tells →
         AreTold (edits_of all.now) (edits_of entries.now) (F.bytes_at files.old)) }
     ensures why { IfErr result (IsWhyNotTold journal.now F.tells (edits_of all.now)
@@ -175,7 +184,9 @@ fn check_all<F: Files>(
 }
 
 // Puts back what this entry keeps, and says whether the path held something else.
+#[tactic(auto, using(crate::proofs::CountLemmas::grows_then))]
 fn put_back<F: Files>(alloc: Global, files: &mut F, entry: &Entry) -> Result<bool, RecoverFault>
+    ensures failures { IsCounted (F.failed files.old) (F.failed files.new) result }
     ensures back { OnOk result (F.tells → KeepsAll
         (changed (gives (edit_of entry.now).path (edit_of entry.now).held) (F.bytes_at files.old))
         (F.bytes_at files.new)) }
@@ -200,11 +211,13 @@ fn put_back<F: Files>(alloc: Global, files: &mut F, entry: &Entry) -> Result<boo
 }
 
 // Puts back what these entries keep, in order, and says how many paths held something else.
+#[tactic(auto, using(crate::proofs::CountLemmas::grows_then))]
 fn put_all_back<F: Files>(
     alloc: Global,
     files: &mut F,
     entries: &[Entry],
 ) -> Result<u64, RecoverFault>
+    ensures failures { IsCounted (F.failed files.old) (F.failed files.new) result }
     ensures back { OnOk result (F.tells →
         KeepsAll (after (backs (edits_of entries.now)) (F.bytes_at files.old))
         (F.bytes_at files.new)) }
@@ -232,12 +245,14 @@ fn put_all_back<F: Files>(
 }
 
 // Puts back what the entries of a journal keep, and then removes it.
+#[tactic(auto, using(crate::proofs::CountLemmas::grows_then))]
 fn take_back<F: Files>(
     alloc: Global,
     files: &mut F,
     journal: &str,
     entries: &[Entry],
 ) -> Result<u64, RecoverFault>
+    ensures failures { IsCounted (F.failed files.old) (F.failed files.new) result }
     ensures back { OnOk result (F.tells → KeepsOthers journal.now
         (after (backs (edits_of entries.now)) (F.bytes_at files.old)) (F.bytes_at files.new)) }
     ensures gone { OnOk result (F.tells → F.bytes_at files.new journal.now ≡ None) }
@@ -264,7 +279,10 @@ fn take_back<F: Files>(
 /// Nothing is written before all is looked at: where a path holds neither what it held at first nor
 /// what was written there, or the journal isn't whole, nothing is changed. It may itself be ended
 /// at any moment, and called again.
+#[tactic(auto, using(crate::proofs::CountLemmas::grows_then))]
 pub fn recover<F: Files>(alloc: Global, files: &mut F, journal: &str) -> Result<u64, RecoverFault>
+    // It ends at the first failure of the files, and tells it.
+    ensures failures { IsCounted (F.failed files.old) (F.failed files.new) result }
     // Each kept path holds what it held at first, and no other path was changed.
     ensures restored { IfOk result (λ count. F.tells →
         IsRestored journal.now count (F.bytes_at files.old) (F.bytes_at files.new)) }
