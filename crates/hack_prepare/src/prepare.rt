@@ -11,10 +11,11 @@ ghost use Rattle.hack_prepare.specs.Faults.{IsEditsFault};
 ghost use Rattle.hack_prepare.specs.Paths.{IsTouched};
 ghost use Rattle.hack_prepare.specs.Prepared.{HasPrivateRoot, HoldTexts, IsPartlyPrepared};
 ghost use Rattle.hack_prepare.specs.Prepared.{IsPrepared, KeepsUnedited};
-ghost use Rattle.hack_prepare.specs.PreparedView.{HasPrivateRootIn, HoldTextsIn, IsPartlyPreparedIn};
-ghost use Rattle.hack_prepare.specs.PreparedView.{IsPrepareFault, IsPreparedIn, IsTouchedIn};
-ghost use Rattle.hack_prepare.specs.PreparedView.{KeepsUneditedIn, edits_in, notes_in};
-ghost use Rattle.hack_prepare.specs.PreparedView.{members_view, wanted_in, wanted_view};
+ghost use Rattle.hack_prepare.specs.PreparedView.{HasPrivateRootIn, HoldTextsIn};
+ghost use Rattle.hack_prepare.specs.PreparedView.{IsPartlyPreparedIn, IsPrepareFault};
+ghost use Rattle.hack_prepare.specs.PreparedView.{IsPreparedIn, IsTouchedIn, KeepsUneditedIn};
+ghost use Rattle.hack_prepare.specs.PreparedView.{edits_in, members_view, notes_in};
+ghost use Rattle.hack_prepare.specs.PreparedView.{wanted_in, wanted_view};
 ghost use Rattle.hack_prepare.specs.Steps.{Grows, IsStep, KeepsOnly};
 ghost use Rattle.hack_prepare.specs.Told.{notes};
 
