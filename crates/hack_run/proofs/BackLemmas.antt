@@ -76,7 +76,13 @@ clean_by P Q quiet tells old new k n (Err e) f h = tt
 none_told : (b : Bool) (r : ℕ) → (0 < r → IsTrue b) → b ≡ false → r ≡ 0
 none_told true r told quiet = absurd (cc)
 none_told false zero told quiet = refl
-none_told false (suc r) told quiet = let t : IsTrue false = told (omega arith) in absurd t
+none_told false (suc r) told quiet = let t : IsTrue false = told (omega arith) in absurd (cc)
+
+-- where something came of it, all was loaded and no call of the files failed
+pub counted_ok : {T E U G : Type 0} (came : Result T E) (loaded : Result U G) (u : U) (n m : ℕ) → loaded ≡ Ok u → GrowsBy 0 n m → OnOk came (IsOk loaded × GrowsBy 0 n m)
+counted_ok (Ok v) (Ok w) u n m is counted = (refl, counted)
+counted_ok (Ok v) (Err g) u n m is counted = absurd (cc)
+counted_ok (Err e) loaded u n m is counted = tt
 
 -- where all was loaded, edited and brought back, and no call of the files failed
 pub cleans : {T E U G : Type 0} (tells returns : Type 0) (came : Result T E) (loaded : Result U G) (files : List Kept) (first asked mid last : Contents) (k n m o r : ℕ) (error : Bool)

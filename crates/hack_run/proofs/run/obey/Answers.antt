@@ -21,4 +21,4 @@ returns-in-Print-clause-clean g c =
 
 pub returns-in-List-clause-clean : goal.returns-in-List-clause-clean
 returns-in-List-clause-clean g c =
-    clean_rest (c.tell_all.new.term.error ≡ false) (ComesBack c.args.parsed) g.F.Files.tells (g.F.Files.bytes_at c.args.files.now) (g.F.Files.failed c.args.files.now) c.list_commands.result
+    clean_rest (c.tell_all-in-List.new.term.error ≡ false) (ComesBack c.args.parsed) g.F.Files.tells (g.F.Files.bytes_at c.args.files.now) (g.F.Files.failed c.args.files.now) c.list_commands.result

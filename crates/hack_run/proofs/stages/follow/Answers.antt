@@ -4,6 +4,7 @@ use Rattle.hack_load.specs.ContextView.{context_view}
 use Rattle.hack_prepare.proofs.HeldLemmas.{loaded-holds}
 use Rattle.hack_words.specs.declared.cli.args.Args.{Args}
 use Rattle.hack_run.specs.Questions.{NeedsAnswer}
+use Rattle.hack_run.proofs.BackLemmas.{counted_ok}
 use Rattle.hack_run.proofs.WholeLemmas.{follows}
 use Rattle.hack_run.proofs.stages.follow.Goals as goal
 
@@ -28,3 +29,6 @@ returns-in_err-stable-clause-safe g c = λ t read.
 pub returns-clause-safe : goal.returns-clause-safe
 returns-clause-safe g c = λ t read.
     c.edit.ensures.safe t (loaded-holds g.F.Files.tells (g.F.Files.bytes_at c.args.files.now) c.args.env.now c.args.args c.args.answers (context_view c.in_ok-cx.cx) t read c.in_ok-cx.ensures)
+
+pub returns-clause-counted : goal.returns-clause-counted
+returns-clause-counted g c = counted_ok c.run_plan.result c.args.answers.loaded _ (g.F.Files.failed c.args.files.now) (g.F.Files.failed c.edit.new.files) c.in_ok-cx.ensures.1 c.in_ok-edit.ensures.counted

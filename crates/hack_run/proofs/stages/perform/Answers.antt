@@ -42,3 +42,6 @@ returns-clause-clean g c =
     c.ask-answers.ensures.whole c.follow-came.ensures.counted
     (λ kept t. c.follow-came.ensures.safe t c.ask-answers.ensures.read (c.ask-answers.ensures.needs ∙ c.new-manager.ensures.needs ∙ ap not kept) (safe_new c.new-manager.result c.ask-answers.new.manager asked c.new-manager.ensures.nothing c.ask-answers.ensures.kept))
     c.finish.ensures.counted (λ some. c.finish.ensures.noted.1 (inr some)) c.finish.ensures.restored
+
+pub returns-clause-stays : goal.returns-clause-stays
+returns-clause-stays g c = g.F.Files.stays_more _ _ _ c.ask-answers.ensures.stays (g.F.Files.stays_more _ _ _ c.follow-came.ensures.stays c.finish.ensures.stays)
