@@ -188,7 +188,7 @@ fn is_lockfile(path: &str) -> bool {
 
 /// Counts a failure. The count stays at its greatest value.
 fn counted<T: Drop>(outcome: Result<T, FileFault>, failures: &mut u64) -> Result<T, FileFault>
-    ensures { Counts failures.old failures.new outcome }
+    ensures counted { Counts failures.old failures.new outcome }
     ensures same { result ≡ outcome }
 {
     if outcome.is_err() {
