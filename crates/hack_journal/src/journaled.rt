@@ -30,7 +30,7 @@ pub struct Journaled<F: Files> {
 }
 
 // One more failure. The count stays at its greatest value.
-fn count_failure(failures: &mut u64)
+pub(crate) fn count_failure(failures: &mut u64)
     ensures { GrowsBy 1 failures.old failures.new }
 {
     *failures = failures.saturating_add(1);

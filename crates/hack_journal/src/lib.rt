@@ -1,6 +1,7 @@
 //! Files that survive any end of the program: a journal keeps what an edit replaces.
 #![tactic(auto)]
 
+pub mod apart;
 mod contents;
 mod entries;
 pub mod journal;

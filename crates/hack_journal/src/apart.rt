@@ -1,0 +1,129 @@
+//! Files of which the lockfiles stand apart.
+//!
+//! Cargo itself changes `Cargo.lock` during a call, so a journal can't tell what it held. Over a
+//! journal for the other files, writes of lockfiles pass it by.
+
+ghost use Rattle.std.specs.Prelude.{◌≡◌, [], IsTrue};
+ghost use Rattle.hack_files.specs.Files.{Counts};
+ghost use Rattle.hack_journal.specs.Apart.{is_lockfile, apart};
+
+use crate::journaled::count_failure;
+use hack_files::fs::{FileFault, Files};
+use std::alloc::Global;
+
+/// Files of which those at lockfiles are those of `B`, and all others those of `A`. Neither knows
+/// of the other's.
+#[derive(Drop)]
+pub struct Apart<A: Files, B: Files> {
+    pub files: A,
+    pub lockfiles: B,
+    failures: u64,
+}
+
+/// Whether a path is a lockfile's: its last part is `Cargo.lock`.
+pub fn is_lockfile(path: &str) -> bool
+    ensures { result ≡ is_lockfile path.now }
+{
+    path == "Cargo.lock" || path.ends_with("/Cargo.lock")
+}
+
+impl<A: Files, B: Files> Apart<A, B> {
+    /// Files over these, of which no call has failed.
+    pub fn new(files: A, lockfiles: B) -> Self
+        ensures files { result.files ≡ files }
+        ensures lockfiles { result.lockfiles ≡ lockfiles }
+        ensures failures { result.failures ≡ 0 }
+    {
+        Apart {
+            files,
+            lockfiles,
+            failures: 0,
+        }
+    }
+}
+
+impl<A: Files, B: Files> Files for Apart<A, B> {
+    ghost tells = { A.tells × B.tells };
+
+    // The order of changes across the two is not told.
+    ghost whole = { ⊥ };
+
+    ghost stays = { λ a b. A.stays a.files b.files × B.stays a.lockfiles b.lockfiles };
+
+    ghost stays_none = { λ a. (A.stays_none a.files, B.stays_none a.lockfiles) };
+
+    ghost stays_more = { λ a b c f g. (
+      A.stays_more a.files b.files c.files f.0 g.0,
+      B.stays_more a.lockfiles b.lockfiles c.lockfiles f.1 g.1,
+    ) };
+
+    ghost bytes_at = { λ s. apart (A.bytes_at s.files) (B.bytes_at s.lockfiles) };
+
+    ghost trace = { λ _. [] };
+
+    ghost failed = { λ s. s.failures };
+
+    fn read(&mut self, alloc: Global, path: &str) -> Result<Vec<u8>, FileFault> {
+        let outcome = if is_lockfile(path) {
+            self.lockfiles.read(alloc, path)
+        } else {
+            self.files.read(alloc, path)
+        };
+        match outcome {
+            Ok(bytes) => Ok(bytes),
+            Err(fault) => {
+                count_failure(&mut self.failures);
+                Err(fault)
+            }
+        }
+    }
+
+    fn write(&mut self, path: &str, bytes: &[u8]) -> Result<(), FileFault> {
+        let outcome = if is_lockfile(path) {
+            self.lockfiles.write(path, bytes)
+        } else {
+            self.files.write(path, bytes)
+        };
+        match outcome {
+            Ok(()) => Ok(()),
+            Err(fault) => {
+                count_failure(&mut self.failures);
+                Err(fault)
+            }
+        }
+    }
+
+    fn exists(&mut self, path: &str) -> Result<bool, FileFault> {
+        let outcome = if is_lockfile(path) {
+            self.lockfiles.exists(path)
+        } else {
+            self.files.exists(path)
+        };
+        match outcome {
+            Ok(there) => Ok(there),
+            Err(fault) => {
+                count_failure(&mut self.failures);
+                Err(fault)
+            }
+        }
+    }
+
+    fn remove(&mut self, path: &str) -> Result<(), FileFault> {
+        let outcome = if is_lockfile(path) {
+            self.lockfiles.remove(path)
+        } else {
+            self.files.remove(path)
+        };
+        match outcome {
+            Ok(()) => Ok(()),
+            Err(fault) => {
+                count_failure(&mut self.failures);
+                Err(fault)
+            }
+        }
+    }
+
+    fn failures(&self) -> u64 {
+        self.failures
+    }
+}
