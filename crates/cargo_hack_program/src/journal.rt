@@ -1,9 +1,6 @@
 //! The journal of a call that edits manifests: where it stands, who may use it, and what a call that was
 //! interrupted left there.
 
-ghost use Rattle.std.specs.Prelude.{◌≡◌, [], None};
-ghost use Rattle.hack_files.specs.Files.{Counts};
-
 use hack_files::fs::{FileFault, Files};
 use hack_process::paths::{join, normal, parent};
 use std::alloc::{AllocError, Global};
@@ -169,88 +166,5 @@ impl Lock {
             Lock::Theirs => true,
             Lock::Ours(_) | Lock::Unknown => false,
         }
-    }
-}
-
-/// Files with a journal, but for lockfiles: cargo changes these too, so a journal can't tell what they
-/// held. A call keeps them in memory alone.
-#[derive(Drop)]
-pub struct Noted<J: Files, D: Files> {
-    pub journaled: J,
-    pub plain: D,
-    pub failures: u64,
-}
-
-/// Whether a path is a lockfile's.
-fn is_lockfile(path: &str) -> bool {
-    path == "Cargo.lock" || path.ends_with("/Cargo.lock")
-}
-
-/// Counts a failure. The count stays at its greatest value.
-fn counted<T: Drop>(outcome: Result<T, FileFault>, failures: &mut u64) -> Result<T, FileFault>
-    ensures counted { Counts failures.old failures.new outcome }
-    ensures same { result ≡ outcome }
-{
-    if outcome.is_err() {
-        *failures = failures.saturating_add(1);
-    }
-    outcome
-}
-
-impl<J: Files, D: Files> Files for Noted<J, D> {
-    ghost tells = { ⊥ };
-
-    ghost whole = { ⊥ };
-
-    ghost stays = { λ _ _. Unit {0} };
-
-    ghost stays_none = { λ _. tt };
-
-    ghost stays_more = { λ _ _ _ _ _. tt };
-
-    ghost bytes_at = { λ _ _. None };
-
-    ghost trace = { λ _. [] };
-
-    ghost failed = { λ files. files.failures };
-
-    fn read(&mut self, alloc: Global, path: &str) -> Result<Vec<u8>, FileFault> {
-        let outcome = if is_lockfile(path) {
-            self.plain.read(alloc, path)
-        } else {
-            self.journaled.read(alloc, path)
-        };
-        counted(outcome, &mut self.failures)
-    }
-
-    fn write(&mut self, path: &str, bytes: &[u8]) -> Result<(), FileFault> {
-        let outcome = if is_lockfile(path) {
-            self.plain.write(path, bytes)
-        } else {
-            self.journaled.write(path, bytes)
-        };
-        counted(outcome, &mut self.failures)
-    }
-
-    fn exists(&mut self, path: &str) -> Result<bool, FileFault> {
-        let outcome = if is_lockfile(path) {
-            self.plain.exists(path)
-        } else {
-            self.journaled.exists(path)
-        };
-        counted(outcome, &mut self.failures)
-    }
-
-    fn remove(&mut self, path: &str) -> Result<(), FileFault> {
-        let outcome = if is_lockfile(path) {
-            self.plain.remove(path)
-        } else {
-            self.journaled.remove(path)
-        };
-        counted(outcome, &mut self.failures)
-    }
-
-    fn failures(&self) -> u64 {
-        self.failures
     }
 }

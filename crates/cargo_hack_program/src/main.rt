@@ -4,15 +4,14 @@
 mod journal;
 mod start;
 
-use crate::journal::{Lock, Noted, drop_empty, edits, journal_in, workspace};
+use crate::journal::{Lock, drop_empty, edits, journal_in, workspace};
 use crate::start::{StartFault, coloring, env_of, words_of};
 use hack_files::fs::{Disk, Files};
-use hack_journal::journaled::Journaled;
 use hack_journal::recover::{RecoverFault, recover};
 use hack_process::process::Child;
+use hack_run::journaled::run_journaled;
 use hack_run::run::run;
 use hack_term::term::{Coloring, Term};
-use hack_words::cli::Env;
 use std::alloc::Global;
 use std::io;
 use std::io::{IsTerminal, Write};
@@ -58,40 +57,34 @@ fn call<E: Write>(
     if !lock.is_theirs() && !is_restored(rt.alloc(), journal.as_str(), &mut disk, term, err)? {
         return Ok(1);
     }
+    let mut child = Child::new(rt);
+    let mut out = io::writer(rt);
     if !edits {
         drop(lock);
-        return Ok(perform(rt, words.as_slice(), &env, term, &mut disk, err));
+        return Ok(run(
+            rt.alloc(),
+            words.as_slice(),
+            &env,
+            term,
+            &mut disk,
+            &mut child,
+            &mut out,
+            err,
+        ));
     }
-    let mut files = Noted {
-        journaled: Journaled::new(rt.alloc(), disk, journal),
-        plain: Disk::new(rt),
-        failures: 0,
-    };
-    let status = perform(rt, words.as_slice(), &env, term, &mut files, err);
-    // A journal that can't be removed, or is still needed, is the next call's.
-    let _ = files.journaled.finish();
-    Ok(status)
-}
-
-/// Performs the call over these files.
-fn perform<F: Files, E: Write>(
-    rt: &HostRuntime,
-    words: &[String],
-    env: &Env,
-    term: &mut Term,
-    files: &mut F,
-    err: &mut E,
-) -> u8 {
-    run(
+    let (status, _) = run_journaled(
         rt.alloc(),
-        words,
-        env,
+        words.as_slice(),
+        &env,
         term,
-        files,
-        &mut Child::new(rt),
-        &mut io::writer(rt),
+        disk,
+        Disk::new(rt),
+        journal,
+        &mut child,
+        &mut out,
         err,
-    )
+    );
+    Ok(status)
 }
 
 /// Brings back what an interrupted call left edited, and tells of it. Where it can't, a fault was told.

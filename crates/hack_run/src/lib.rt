@@ -4,6 +4,7 @@
 mod ask;
 pub mod drive;
 mod fault;
+pub mod journaled;
 mod list;
 pub mod run;
 mod stages;
