@@ -11,8 +11,8 @@ use crate::journaled::count_failure;
 use hack_files::fs::{FileFault, Files};
 use std::alloc::Global;
 
-/// Files of which those at lockfiles are those of `B`, and all others those of `A`. Neither knows
-/// of the other's.
+/// Files of which the lockfiles are those of `B`, and all others those of `A`. A call goes to one
+/// of the two alone, by its path.
 #[derive(Drop)]
 pub struct Apart<A: Files, B: Files> {
     pub files: A,
@@ -73,7 +73,7 @@ impl<A: Files, B: Files> Files for Apart<A, B> {
         ensures same { A.tells × B.tells → KeepsAll
             (apart (A.bytes_at self.old.files) (B.bytes_at self.old.lockfiles))
             (apart (A.bytes_at self.new.files) (B.bytes_at self.new.lockfiles)) }
-        // The files that the path is none of are left as they are.
+        // A lockfile passes the other files by, and another file the lockfiles.
         ensures files { IsTrue (is_lockfile path.now) → self.new.files ≡ self.old.files }
         ensures lockfiles { ¬ IsTrue (is_lockfile path.now) →
             self.new.lockfiles ≡ self.old.lockfiles }
@@ -102,7 +102,7 @@ impl<A: Files, B: Files> Files for Apart<A, B> {
         ensures others { A.tells × B.tells → KeepsOthers path.now
             (apart (A.bytes_at self.old.files) (B.bytes_at self.old.lockfiles))
             (apart (A.bytes_at self.new.files) (B.bytes_at self.new.lockfiles)) }
-        // The files that the path is none of are left as they are.
+        // A lockfile passes the other files by, and another file the lockfiles.
         ensures files { IsTrue (is_lockfile path.now) → self.new.files ≡ self.old.files }
         ensures lockfiles { ¬ IsTrue (is_lockfile path.now) →
             self.new.lockfiles ≡ self.old.lockfiles }
@@ -130,7 +130,7 @@ impl<A: Files, B: Files> Files for Apart<A, B> {
         ensures same { A.tells × B.tells → KeepsAll
             (apart (A.bytes_at self.old.files) (B.bytes_at self.old.lockfiles))
             (apart (A.bytes_at self.new.files) (B.bytes_at self.new.lockfiles)) }
-        // The files that the path is none of are left as they are.
+        // A lockfile passes the other files by, and another file the lockfiles.
         ensures files { IsTrue (is_lockfile path.now) → self.new.files ≡ self.old.files }
         ensures lockfiles { ¬ IsTrue (is_lockfile path.now) →
             self.new.lockfiles ≡ self.old.lockfiles }
@@ -159,7 +159,7 @@ impl<A: Files, B: Files> Files for Apart<A, B> {
         ensures others { A.tells × B.tells → KeepsOthers path.now
             (apart (A.bytes_at self.old.files) (B.bytes_at self.old.lockfiles))
             (apart (A.bytes_at self.new.files) (B.bytes_at self.new.lockfiles)) }
-        // The files that the path is none of are left as they are.
+        // A lockfile passes the other files by, and another file the lockfiles.
         ensures files { IsTrue (is_lockfile path.now) → self.new.files ≡ self.old.files }
         ensures lockfiles { ¬ IsTrue (is_lockfile path.now) →
             self.new.lockfiles ≡ self.old.lockfiles }
