@@ -3,16 +3,16 @@
 //! Cargo itself changes `Cargo.lock` during a call, so a journal can't tell what it held. Over a
 //! journal for the other files, writes of lockfiles pass it by.
 
-ghost use Rattle.std.specs.Prelude.{◌≡◌, [], IsTrue};
-ghost use Rattle.hack_files.specs.Files.{Counts};
+ghost use Rattle.std.specs.Prelude.{◌≡◌, ◌↔◌, [], None, Some, IfOk, OnOk, IsTrue, IsSome};
+ghost use Rattle.hack_files.specs.Files.{Counts, KeepsOthers, KeepsAll};
 ghost use Rattle.hack_journal.specs.Apart.{is_lockfile, apart};
 
 use crate::journaled::count_failure;
 use hack_files::fs::{FileFault, Files};
 use std::alloc::Global;
 
-/// Files of which those at lockfiles are those of `B`, and all others those of `A`. Neither knows
-/// of the other's.
+/// Files of which the lockfiles are those of `B`, and all others those of `A`. A call goes to one
+/// of the two alone, by its path.
 #[derive(Drop)]
 pub struct Apart<A: Files, B: Files> {
     pub files: A,
@@ -63,7 +63,21 @@ impl<A: Files, B: Files> Files for Apart<A, B> {
 
     ghost failed = { λ s. s.failures };
 
-    fn read(&mut self, alloc: Global, path: &str) -> Result<Vec<u8>, FileFault> {
+    fn read(&mut self, alloc: Global, path: &str) -> Result<Vec<u8>, FileFault>
+        ensures stays { A.stays self.old.files self.new.files ×
+            B.stays self.old.lockfiles self.new.lockfiles }
+        ensures counted { Counts self.old.failures self.new.failures result }
+        ensures bytes { IfOk result (λ bytes. A.tells × B.tells →
+            apart (A.bytes_at self.old.files) (B.bytes_at self.old.lockfiles) path.now ≡
+            Some bytes.items) }
+        ensures same { A.tells × B.tells → KeepsAll
+            (apart (A.bytes_at self.old.files) (B.bytes_at self.old.lockfiles))
+            (apart (A.bytes_at self.new.files) (B.bytes_at self.new.lockfiles)) }
+        // A lockfile passes the other files by, and another file the lockfiles.
+        ensures files { IsTrue (is_lockfile path.now) → self.new.files ≡ self.old.files }
+        ensures lockfiles { ¬ IsTrue (is_lockfile path.now) →
+            self.new.lockfiles ≡ self.old.lockfiles }
+    {
         let outcome = if is_lockfile(path) {
             self.lockfiles.read(alloc, path)
         } else {
@@ -78,7 +92,21 @@ impl<A: Files, B: Files> Files for Apart<A, B> {
         }
     }
 
-    fn write(&mut self, path: &str, bytes: &[u8]) -> Result<(), FileFault> {
+    fn write(&mut self, path: &str, bytes: &[u8]) -> Result<(), FileFault>
+        ensures stays { A.stays self.old.files self.new.files ×
+            B.stays self.old.lockfiles self.new.lockfiles }
+        ensures counted { Counts self.old.failures self.new.failures result }
+        ensures written { OnOk result (A.tells × B.tells →
+            apart (A.bytes_at self.new.files) (B.bytes_at self.new.lockfiles) path.now ≡
+            Some bytes.now) }
+        ensures others { A.tells × B.tells → KeepsOthers path.now
+            (apart (A.bytes_at self.old.files) (B.bytes_at self.old.lockfiles))
+            (apart (A.bytes_at self.new.files) (B.bytes_at self.new.lockfiles)) }
+        // A lockfile passes the other files by, and another file the lockfiles.
+        ensures files { IsTrue (is_lockfile path.now) → self.new.files ≡ self.old.files }
+        ensures lockfiles { ¬ IsTrue (is_lockfile path.now) →
+            self.new.lockfiles ≡ self.old.lockfiles }
+    {
         let outcome = if is_lockfile(path) {
             self.lockfiles.write(path, bytes)
         } else {
@@ -93,7 +121,20 @@ impl<A: Files, B: Files> Files for Apart<A, B> {
         }
     }
 
-    fn exists(&mut self, path: &str) -> Result<bool, FileFault> {
+    fn exists(&mut self, path: &str) -> Result<bool, FileFault>
+        ensures stays { A.stays self.old.files self.new.files ×
+            B.stays self.old.lockfiles self.new.lockfiles }
+        ensures counted { Counts self.old.failures self.new.failures result }
+        ensures there { IfOk result (λ there. A.tells × B.tells → IsTrue there ↔
+            IsSome (apart (A.bytes_at self.old.files) (B.bytes_at self.old.lockfiles) path.now)) }
+        ensures same { A.tells × B.tells → KeepsAll
+            (apart (A.bytes_at self.old.files) (B.bytes_at self.old.lockfiles))
+            (apart (A.bytes_at self.new.files) (B.bytes_at self.new.lockfiles)) }
+        // A lockfile passes the other files by, and another file the lockfiles.
+        ensures files { IsTrue (is_lockfile path.now) → self.new.files ≡ self.old.files }
+        ensures lockfiles { ¬ IsTrue (is_lockfile path.now) →
+            self.new.lockfiles ≡ self.old.lockfiles }
+    {
         let outcome = if is_lockfile(path) {
             self.lockfiles.exists(path)
         } else {
@@ -108,7 +149,21 @@ impl<A: Files, B: Files> Files for Apart<A, B> {
         }
     }
 
-    fn remove(&mut self, path: &str) -> Result<(), FileFault> {
+    fn remove(&mut self, path: &str) -> Result<(), FileFault>
+        ensures stays { A.stays self.old.files self.new.files ×
+            B.stays self.old.lockfiles self.new.lockfiles }
+        ensures counted { Counts self.old.failures self.new.failures result }
+        ensures removed { OnOk result (A.tells × B.tells →
+            apart (A.bytes_at self.new.files) (B.bytes_at self.new.lockfiles) path.now ≡
+            None) }
+        ensures others { A.tells × B.tells → KeepsOthers path.now
+            (apart (A.bytes_at self.old.files) (B.bytes_at self.old.lockfiles))
+            (apart (A.bytes_at self.new.files) (B.bytes_at self.new.lockfiles)) }
+        // A lockfile passes the other files by, and another file the lockfiles.
+        ensures files { IsTrue (is_lockfile path.now) → self.new.files ≡ self.old.files }
+        ensures lockfiles { ¬ IsTrue (is_lockfile path.now) →
+            self.new.lockfiles ≡ self.old.lockfiles }
+    {
         let outcome = if is_lockfile(path) {
             self.lockfiles.remove(path)
         } else {
