@@ -2,7 +2,8 @@
 //! interrupted left there.
 
 use hack_files::fs::{FileFault, Files};
-use hack_process::paths::{join, normal, parent};
+use hack_journal::journal::{JournalFault, read_back};
+use hack_process::paths::{join, normal, parent, under};
 use std::alloc::{AllocError, Global};
 use std::fs::{File, OpenOptions, TryLockError};
 use std::rt;
@@ -10,16 +11,31 @@ use std::rt;
 /// The journal's name, in the folder of the workspace.
 const NAME: &str = ".cargo-hack-journal";
 
-/// Whether words ask for edits of manifests that come back.
-pub fn edits(words: &[String]) -> bool {
-    for word in words {
-        match word.as_str() {
-            "--" => return false,
-            "--no-dev-deps" | "--no-private" => return true,
-            _ => (),
+/// What words ask of manifests.
+#[derive(Clone, Copy, Debug, PartialEq, Eq)]
+pub enum Edits {
+    /// They stay as they are.
+    None,
+    /// They are edited, and come back.
+    Back,
+    /// They are edited for good.
+    Good,
+}
+
+impl Edits {
+    /// What these words ask of them.
+    pub fn of(words: &[String]) -> Edits {
+        let mut asked = Edits::None;
+        for word in words {
+            match word.as_str() {
+                "--" => return asked,
+                "--remove-dev-deps" => return Edits::Good,
+                "--no-dev-deps" | "--no-private" => asked = Edits::Back,
+                _ => (),
+            }
         }
+        asked
     }
-    false
 }
 
 /// The folder of the workspace that a call is about, as cargo looks for it: at or above the folder of
@@ -124,7 +140,16 @@ pub fn journal_in(alloc: Global, folder: &str) -> Result<String, AllocError> {
     join(alloc, folder, NAME)
 }
 
-/// Removes a journal of no byte: it was made by a call that was interrupted before it edited anything.
+/// Whether something stands at the journal's path.
+pub fn is_there<F: Files>(journal: &str, files: &mut F) -> Result<bool, AllocError> {
+    match files.exists(journal) {
+        Ok(there) => Ok(there),
+        Err(FileFault::Device) => Ok(false),
+        Err(FileFault::Memory) => Err(AllocError),
+    }
+}
+
+/// Removes a journal of no byte: it was made by a call that edited nothing.
 pub fn drop_empty<F: Files>(alloc: Global, journal: &str, files: &mut F) -> Result<(), AllocError> {
     if let Some(bytes) = held(alloc, journal, files)? {
         if bytes.is_empty() {
@@ -132,6 +157,35 @@ pub fn drop_empty<F: Files>(alloc: Global, journal: &str, files: &mut F) -> Resu
         }
     }
     Ok(())
+}
+
+/// The first path in a journal that is no manifest inside the folder. Such a journal was written elsewhere,
+/// and isn't followed.
+pub fn stranger<F: Files>(
+    alloc: Global,
+    folder: &str,
+    journal: &str,
+    files: &mut F,
+) -> Result<Option<String>, AllocError> {
+    let Some(bytes) = held(alloc, journal, files)? else {
+        return Ok(None);
+    };
+    let entries = match read_back(alloc, &bytes) {
+        Ok(entries) => entries,
+        Err(JournalFault::NotJournal) => return Ok(None),
+        Err(JournalFault::Memory) => return Err(AllocError),
+    };
+    for entry in &entries {
+        if !is_manifest_in(folder, entry.path.as_str()) {
+            return Ok(Some(String::from_str(alloc, entry.path.as_str())?));
+        }
+    }
+    Ok(None)
+}
+
+/// Whether a path is that of a manifest inside a folder.
+fn is_manifest_in(folder: &str, path: &str) -> bool {
+    path.ends_with("/Cargo.toml") && !path.contains("/../") && under(path, folder) != path
 }
 
 /// Who uses a workspace's journal while the value lives: a lock on the workspace's folder, which goes
@@ -157,14 +211,6 @@ impl Lock {
             Ok(()) => Lock::Ours(file),
             Err(TryLockError::WouldBlock) => Lock::Theirs,
             Err(TryLockError::Error(_)) => Lock::Unknown,
-        }
-    }
-
-    /// Whether another call has it.
-    pub fn is_theirs(&self) -> bool {
-        match self {
-            Lock::Theirs => true,
-            Lock::Ours(_) | Lock::Unknown => false,
         }
     }
 }

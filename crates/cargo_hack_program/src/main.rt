@@ -4,7 +4,7 @@
 mod journal;
 mod start;
 
-use crate::journal::{Lock, drop_empty, edits, journal_in, workspace};
+use crate::journal::{Edits, Lock, drop_empty, is_there, journal_in, stranger, workspace};
 use crate::start::{StartFault, coloring, env_of, words_of};
 use hack_files::fs::{Disk, Files};
 use hack_journal::recover::{RecoverFault, recover};
@@ -12,6 +12,7 @@ use hack_process::process::Child;
 use hack_run::journaled::run_journaled;
 use hack_run::run::run;
 use hack_term::term::{Coloring, Term};
+use hack_words::cli::Env;
 use std::alloc::Global;
 use std::io;
 use std::io::{IsTerminal, Write};
@@ -38,64 +39,124 @@ fn call<E: Write>(
     term: &mut Term,
     err: &mut E,
 ) -> Result<u8, StartFault> {
+    let alloc = rt.alloc();
     term.coloring = coloring(rt, is_terminal)?;
     let words = words_of(rt)?;
     let env = env_of(rt)?;
     let mut disk = Disk::new(rt);
-    let folder = workspace(
-        rt.alloc(),
-        words.as_slice(),
-        env.current_dir.as_str(),
-        &mut disk,
-    )?;
-    let journal = journal_in(rt.alloc(), folder.as_str())?;
-    let lock = Lock::take(rt, folder.as_str());
-    let edits = edits(words.as_slice());
-    if lock.is_theirs() && edits {
-        return Err(StartFault::Busy);
+    let folder = workspace(alloc, &words, env.current_dir.as_str(), &mut disk)?;
+    let journal = journal_in(alloc, folder.as_str())?;
+    let edits = Edits::of(&words);
+    let is_journaled = is_there(journal.as_str(), &mut disk)?;
+    if edits == Edits::None && !is_journaled {
+        return Ok(plain(rt, &words, &env, term, disk, err));
     }
-    if !lock.is_theirs() && !is_restored(rt.alloc(), journal.as_str(), &mut disk, term, err)? {
+    let lock = Lock::take(rt, folder.as_str());
+    match &lock {
+        Lock::Ours(_) => (),
+        Lock::Theirs if edits != Edits::None => return Err(StartFault::Busy),
+        Lock::Unknown if edits != Edits::None && is_journaled => return Err(StartFault::Unlocked),
+        // Nothing is brought back under another call, and without a lock no journal is of use.
+        Lock::Theirs | Lock::Unknown => return Ok(plain(rt, &words, &env, term, disk, err)),
+    }
+    if !is_restored(
+        alloc,
+        folder.as_str(),
+        journal.as_str(),
+        &mut disk,
+        term,
+        err,
+    )? {
         return Ok(1);
     }
-    let mut child = Child::new(rt);
-    let mut out = io::writer(rt);
-    if !edits {
-        drop(lock);
-        return Ok(run(
-            rt.alloc(),
-            words.as_slice(),
-            &env,
-            term,
-            &mut disk,
-            &mut child,
-            &mut out,
-            err,
-        ));
-    }
-    let (status, _) = run_journaled(
+    let status = match edits {
+        Edits::None => {
+            drop(lock);
+            return Ok(plain(rt, &words, &env, term, disk, err));
+        }
+        Edits::Good => plain(rt, &words, &env, term, disk, err),
+        Edits::Back => journaled(rt, &words, &env, journal, term, disk, err)?,
+    };
+    drop(lock);
+    Ok(status)
+}
+
+/// Performs the call without a journal.
+fn plain<E: Write>(
+    rt: &HostRuntime,
+    words: &[String],
+    env: &Env,
+    term: &mut Term,
+    disk: Disk<&HostRuntime>,
+    err: &mut E,
+) -> u8 {
+    let mut disk = disk;
+    run(
         rt.alloc(),
-        words.as_slice(),
-        &env,
+        words,
+        env,
+        term,
+        &mut disk,
+        &mut Child::new(rt),
+        &mut io::writer(rt),
+        err,
+    )
+}
+
+/// Performs the call, and keeps a journal of what it edits.
+fn journaled<E: Write>(
+    rt: &HostRuntime,
+    words: &[String],
+    env: &Env,
+    journal: String,
+    term: &mut Term,
+    disk: Disk<&HostRuntime>,
+    err: &mut E,
+) -> Result<u8, StartFault> {
+    let alloc = rt.alloc();
+    let mut disk = disk;
+    let path = String::from_str(alloc, journal.as_str())?;
+    // So its first bytes take the place of a file too, as a whole.
+    let _ = disk.write(path.as_str(), b"");
+    let (status, disk, _) = run_journaled(
+        alloc,
+        words,
+        env,
         term,
         disk,
         Disk::new(rt),
         journal,
-        &mut child,
-        &mut out,
+        &mut Child::new(rt),
+        &mut io::writer(rt),
         err,
     );
-    Ok(status)
+    let mut disk = disk;
+    drop_empty(alloc, path.as_str(), &mut disk)?;
+    if !is_there(path.as_str(), &mut disk)? {
+        return Ok(status);
+    }
+    let text = format!(in alloc; "`{path}` stays: the next call brings back what it tells")?;
+    let _ = term.warn(&text, err);
+    Ok(term.status(env.deny_warnings))
 }
 
 /// Brings back what an interrupted call left edited, and tells of it. Where it can't, a fault was told.
 fn is_restored<F: Files, E: Write>(
     alloc: Global,
+    folder: &str,
     journal: &str,
     files: &mut F,
     term: &mut Term,
     err: &mut E,
 ) -> Result<bool, StartFault> {
     drop_empty(alloc, journal, files)?;
+    if let Some(path) = stranger(alloc, folder, journal, files)? {
+        let text = format!(in alloc;
+            "`{journal}` tells of `{path}`, which is no manifest in its folder; put back by hand what it tells, and remove it"
+        )?;
+        let _ = term.error(&text, err);
+        return Ok(false);
+    }
     match recover(alloc, files, journal) {
         Ok(0) => Ok(true),
         Ok(count) => {

@@ -16,6 +16,8 @@ pub enum StartFault {
     Variables,
     /// Another call edits the manifests of this workspace.
     Busy,
+    /// An interrupted call left a journal, and the folder of the workspace can't be locked.
+    Unlocked,
 }
 
 impl StartFault {
@@ -26,6 +28,9 @@ impl StartFault {
             StartFault::Words => "the words must be UTF-8",
             StartFault::Variables => "the variables of the environment must be UTF-8",
             StartFault::Busy => "another call is editing the manifests of this workspace",
+            StartFault::Unlocked => {
+                "there is a journal of edited manifests, and the folder of the workspace can't be locked"
+            }
         }
     }
 }

@@ -1,5 +1,6 @@
 mod BackLemmas
 mod CallLemmas
 mod HeadlineLemmas
+mod JournalLemmas
 mod RunLemmas
 mod WholeLemmas

@@ -1,4 +1,5 @@
 pub mod Headline
+pub mod Journals
 pub mod Questions
 pub mod Restores
 pub mod Runs

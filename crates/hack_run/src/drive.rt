@@ -1,7 +1,7 @@
 //! What a call runs: the plan of what is loaded, handed out to a runner.
 
 ghost use Rattle.std.specs.Prelude.{◌≡◌, ◌⊎◌, IfErr, IfOk, IfSome, IsSome, List, map};
-ghost use Rattle.hack_calls.specs.Made.{IsCauseOf};
+ghost use Rattle.hack_calls.specs.Made.{IsCauseOf, IsPlanOf};
 ghost use Rattle.hack_load.specs.ContextView.{context_view};
 ghost use Rattle.hack_session.specs.Performs.{HasTold};
 ghost use Rattle.hack_versions.specs.Notes.{Note, note_of};
@@ -51,8 +51,11 @@ pub fn drive_context<R: Teller>(
     ensures headline { IfOk result
         (IsHandedOut (context_view cx.now) stable rustup.now keep_going) }
 
-    // The runner was told notices, and then handed just these steps with these outcomes, in order.
+    // The runner was told just the plan's notices, and then handed just these steps with these
+    // outcomes, in order.
     ensures ran { IfOk result (λ s. (notes : List Note) × (mid : R)
+        × IsPlanOf (context_view cx.now).args.subcommand stable (context_view cx.now) rustup.now
+        s.plan notes
         × R.told notes runner.old mid × R.ran s.plan s.handed mid runner.new) }
 
     // Where memory wasn't refused, a cause holds for which there is no plan.

@@ -1,7 +1,8 @@
 //! For the bench: cuts the manifest on standard input as often as the words say (`pieces 100`), takes
-//! its development dependencies out (`edits 100`), or loads a workspace of so many members that all
-//! have this manifest (`members 100`), over a caller and files in memory. Prints how many pieces
-//! there are, how many bytes are left, or how many members and candidates there are.
+//! its development dependencies out (`edits 100`), loads a workspace of so many members that all have
+//! this manifest (`members 100`), or runs each feature of all there (`runs 100`), over a caller and
+//! files in memory. Prints how many pieces there are, how many bytes are left, how many members and
+//! candidates there are, or how many calls were made.
 #![tactic(auto)]
 
 use hack_edits::manifest::remove_dev_deps;
@@ -10,6 +11,7 @@ use hack_files::restore::Manager;
 use hack_load::context::{Answers, Context};
 use hack_load::process::{End, FakeCaller};
 use hack_manifest::manifest::Pieces;
+use hack_run::run::run;
 use hack_words::cli::{Args, Env, Parsed};
 use hack_words::rustup::Rustup;
 use hack_words::term::{Coloring, Term};
@@ -89,7 +91,7 @@ fn caller(alloc: Global, members: u32) -> Result<FakeCaller, AllocError> {
         ),
         ("cargo locate-project", "{\"root\":\"/w/p0/Cargo.toml\"}"),
     ];
-    let mut caller = FakeCaller::new(alloc, End::Status(101));
+    let mut caller = FakeCaller::new(alloc, End::Status(0));
     for (line, text) in replies {
         caller.answer(line, End::Status(0), text.as_bytes(), b"")?;
     }
@@ -135,10 +137,32 @@ fn load(alloc: Global, text: &str, members: u32) -> Result<String, AllocError> {
     }
 }
 
+/// Runs each feature of so many members that all have this manifest.
+fn perform(alloc: Global, text: &str, members: u32) -> Result<String, AllocError> {
+    let env = Env::new(alloc, &[], String::from_str(alloc, "/w")?)?;
+    let mut words = Vec::new(alloc);
+    for word in ["hack", "check", "--workspace", "--each-feature"] {
+        words.push(String::from_str(alloc, word)?)?;
+    }
+    let mut caller = caller(alloc, members)?;
+    let mut files = files(alloc, text, members)?;
+    let status = run(
+        alloc,
+        &words,
+        &env,
+        &mut Term::new(Coloring::Never, false),
+        &mut files,
+        &mut caller,
+        &mut io::sink(),
+        &mut io::sink(),
+    );
+    format!(in alloc; "status {status}, {} calls", caller.made().len())
+}
+
 /// What the words ask for.
 fn told(alloc: Global, words: &[String], text: &str) -> Result<String, AllocError> {
     let [what, count] = words else {
-        return String::from_str(alloc, "usage: load_bench pieces|edits|members COUNT");
+        return String::from_str(alloc, "usage: load_bench pieces|edits|members|runs COUNT");
     };
     let Ok(count) = count.as_str().parse::<u32>() else {
         return String::from_str(alloc, "the count is no number");
@@ -146,6 +170,7 @@ fn told(alloc: Global, words: &[String], text: &str) -> Result<String, AllocErro
     match what.as_str() {
         "pieces" => cut(alloc, text, count),
         "edits" => edit(alloc, text, count),
+        "runs" => perform(alloc, text, count),
         _ => load(alloc, text, count),
     }
 }
