@@ -8,4 +8,6 @@ mod failing;
 #[cfg(test)]
 mod given;
 #[cfg(test)]
+mod journaled;
+#[cfg(test)]
 mod prepared;
