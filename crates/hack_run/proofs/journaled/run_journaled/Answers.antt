@@ -38,8 +38,8 @@ returns-clause-safe g c = λ tells whole absent.
     let bytes = g.F.Files.bytes_at in
     let ran = rw c.new-files.ensures.files at c.run-status.ensures.stays in
     let both = stays_join (string_bytes first.journal) (string_bytes mid.journal) (edits_of first.entries.items) (edits_of mid.entries.items) (edits_of last.entries.items)
-        (trace first.files) (trace mid.files) (trace last.files) (bytes first.files) (bytes mid.files) (bytes last.files)
-        ran.0.0 (ran.0.1 tells whole) (c.finish.ensures.stays tells whole) (bytes c.args.files) (c.new.ensures.begun absent) in
+    (trace first.files) (trace mid.files) (trace last.files) (bytes first.files) (bytes mid.files) (bytes last.files)
+    ran.0.0 (ran.0.1 tells whole) (c.finish.ensures.stays tells whole) (bytes c.args.files) (c.new.ensures.begun absent) in
     let named = rw c.new.ensures.journal at both.0 in
     let from = rw c.new.ensures.files at named in
     rw c.into_inner.ensures from
