@@ -1,9 +1,7 @@
 use Rattle.std.proofs.Common.{refl, string_bytes, subst}
 use Rattle.hack_features.specs.Names.{names_of}
 use Rattle.hack_files.specs.Files.{Contents, KeepsAll}
-use Rattle.hack_journal.specs.Apart.{apart}
 use Rattle.hack_journal.specs.Journal.{edits_of}
-use Rattle.hack_journal.specs.Safe.{without}
 use Rattle.hack_journal.specs.SafeLaws.{stays_join}
 use Rattle.hack_run.specs.Journals.{seen}
 use Rattle.hack_run.specs.Whole.{IsDone}
