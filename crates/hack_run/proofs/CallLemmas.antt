@@ -1,5 +1,5 @@
 -- Calls that a question makes, and what is made of its answer.
-use Rattle.std.proofs.Common.{◌≡◌, refl, inl, inr, List, Option, Some, None, Result, Ok, Err, IfOk, IfErr, OnOk, IsSome, true, subst, Global, String}
+use Rattle.std.proofs.Common.{◌≡◌, refl, inl, inr, List, Option, Some, None, Result, Ok, Err, IfOk, IfErr, OnOk, IsSome, Bool, true, false, sym, subst, ◌^◌, ◌-◌, Global, String}
 use Rattle.hack_features.specs.Names.{Name}
 use Rattle.hack_process.specs.Calls.{Answer, Asked, Call, IsSuccess, MayAdd}
 use Rattle.hack_process.specs.CargoTexts.{release_part}
@@ -13,7 +13,9 @@ use Rattle.hack_versions.specs.declared.version.Version.{Version}
 use Rattle.hack_session.specs.Performs.{Comes, Makes}
 use Rattle.hack_session.specs.declared.step.Outcome.{Outcome}
 use Rattle.hack_session.specs.declared.step.Outcome.TheVariants.{Passed}
-use Rattle.hack_run.specs.Questions.{AsksStable, InstallsStable, IsLatest, ReadsStable, TellsStable, stable_command}
+use Rattle.hack_versions.specs.declared.rustup.Rustup.{Rustup}
+use Rattle.hack_versions.specs.declared.rustup.Rustup.TheVariants as known
+use Rattle.hack_run.specs.Questions.{AsksRustup, AsksStable, InstallsStable, IsLatest, IsUnknown, ReadsStable, TellsMinor, TellsStable, rustup_asked, rustup_command, stable_command}
 
 -- a command that failed may have been called
 fault_may : (tells : Type 0) (asked : Asked) (shown : Name) (old new : List Call) (e : ProcessFault) → IsReadFault tells asked shown old new e → tells → MayAdd asked old new
@@ -79,3 +81,24 @@ is_known P (Ok (Ok None)) p = absurd p
 is_known P (Ok (Ok (Some v))) p = refl
 is_known P (Ok (Err text)) p = tt
 is_known P (Err e) p = tt
+
+-- rustup was asked, and its answer read
+pub asks_rustup : {E : Type 0} (tells : Type 0) (wants : Bool) (rustup answer : Name) (c : Command) (old new : List Call) (r : Result Rustup E) → wants ≡ true → c ≡ rustup_command rustup
+    → (tells → Had (λ told. IsSuccess told.end × (answer ≡ without_line_ends told.stdout)) (asked_of true c) old new) → IfOk r (TellsMinor answer) → IfOk r (λ known. tells → AsksRustup wants rustup known old new)
+asks_rustup tells wants rustup answer c old new (Ok known) is same had told = λ t.
+    subst (λ b. AsksRustup b rustup known old new) (sym is) (inl (record {
+      answer = answer;
+      read = subst (λ k. Had (λ told. IsSuccess told.end × (answer ≡ without_line_ends told.stdout)) (asked_of true k) old new) same (had t);
+      told = told;
+    }))
+asks_rustup tells wants rustup answer c old new (Err e) is same had told = tt
+
+-- asking it failed
+pub asks_in_vain : {E : Type 0} (tells : Type 0) (wants : Bool) (rustup : Name) (old new : List Call) (r : Result Rustup E) → wants ≡ true → (tells → MayAdd (rustup_asked rustup) old new)
+    → IfOk r IsUnknown → IfOk r (λ known. tells → AsksRustup wants rustup known old new)
+asks_in_vain tells wants rustup old new (Ok known) is may unknown = λ t. subst (λ b. AsksRustup b rustup known old new) (sym is) (inr (unknown, may t))
+asks_in_vain tells wants rustup old new (Err e) is may unknown = tt
+
+-- nothing was asked
+pub asks_nothing : (wants : Bool) (rustup : Name) (old : List Call) → wants ≡ false → AsksRustup wants rustup (known.Known (2 ^ 32 - 1)) old old
+asks_nothing wants rustup old is = subst (λ b. AsksRustup b rustup (known.Known (2 ^ 32 - 1)) old old) (sym is) (refl, refl)

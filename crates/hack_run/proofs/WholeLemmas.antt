@@ -7,7 +7,7 @@ use Rattle.hack_load.specs.declared.loaded.Loaded.{Loaded}
 use Rattle.hack_prepare.specs.Prepared.{IsPrepared}
 use Rattle.hack_prepare.specs.PreparedView.{members_in, wanted_in}
 use Rattle.hack_prepare.proofs.RootLemmas.{prepared-moved}
-use Rattle.hack_process.specs.Calls.{Call, MayAdd}
+use Rattle.hack_process.specs.Calls.{Call}
 use Rattle.hack_load.specs.Answers.{AreAnswers}
 use Rattle.hack_load.specs.ContextOf.{IsContextFrom}
 use Rattle.hack_load.specs.Contexts.{ContextRecord}
@@ -16,6 +16,7 @@ use Rattle.hack_versions.specs.Notes.{Note}
 use Rattle.hack_versions.specs.declared.rustup.Rustup.{Rustup}
 use Rattle.hack_words.specs.Answers.{Answers as IsAnswer, around_of}
 use Rattle.hack_words.specs.Call.{ComesTo}
+use Rattle.hack_words.specs.Start.{wants_rustup}
 use Rattle.hack_words.specs.declared.cli.parse.Parsed.{Parsed}
 use Rattle.hack_words.specs.declared.cli.parse.Parsed.TheVariants as parsed
 use Rattle.hack_words.specs.declared.cli.args.Args.{Args}
@@ -23,7 +24,7 @@ use Rattle.hack_words.specs.declared.cli.env.Env.{Env}
 use Rattle.hack_term.specs.declared.term.Term.{Term}
 use Rattle.hack_versions.specs.declared.version.Version.{Version}
 use Rattle.hack_run.specs.Runs.{Does, DoesPlan}
-use Rattle.hack_run.specs.Questions.{AsksStable, NeedsAnswer, rustup_asked}
+use Rattle.hack_run.specs.Questions.{AsksRustup, AsksStable, NeedsAnswer}
 use Rattle.hack_run.specs.Whole.{Follows, IsDone, Obeys, Performs}
 
 on_ok : {T E : Type 0} (P Q : Type 0) (r : Result T E) → (P → Q) → OnOk r P → OnOk r Q
@@ -102,7 +103,7 @@ obeys tells told quiet r args answer env held last before old new is performed =
 
 -- the words were read, and what they ask for was done
 pub done : {T E : Type 0} (tells told quiet : Type 0) (r : Result T E) (words : List Name) (env : Env) (held last : Contents) (before : ℕ) (old mid new : List Call) (rustup : Rustup) (answer : Parsed) (notes : List Note)
-    → IsAnswer (around_of env rustup) (ComesTo (around_of env rustup) words) answer notes → (tells → MayAdd (rustup_asked (string_bytes env.rustup)) old mid)
+    → IsAnswer (around_of env rustup) (ComesTo (around_of env rustup) words) answer notes → (tells → AsksRustup (wants_rustup words) (string_bytes env.rustup) rustup old mid)
     → OnOk r (quiet → tells → told → Obeys answer env held last before mid new)
     → OnOk r (quiet → tells → told → IsDone words env held last before old new)
 done tells told quiet r words env held last before old mid new rustup answer notes read asked obeyed =

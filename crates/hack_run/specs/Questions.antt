@@ -1,15 +1,17 @@
 -- What rustup is asked before there is a plan.
-use Rattle.std.specs.Prelude.{◌≡◌, ◌∷◌, [], List, Option, Some, None, Result, Ok, Err, IsSome, IsSomeAnd, codes, true}
+use Rattle.std.specs.Prelude.{◌≡◌, ◌⊎◌, ◌∷◌, ◌^◌, ◌-◌, [], Bool, List, Option, Some, None, Result, Ok, Err, IsSome, IsSomeAnd, codes, false, true}
 use Rattle.std.proofs.Common.{Global, String}
 use Rattle.hack_features.specs.Names.{Name}
-use Rattle.hack_process.specs.Calls.{Asked, Call, IsSuccess}
+use Rattle.hack_process.specs.Calls.{Asked, Call, IsSuccess, MayAdd}
 use Rattle.hack_process.specs.CargoTexts.{release_part}
 use Rattle.hack_process.specs.Commands.{asked_of}
 use Rattle.hack_process.specs.CommandTexts.{Command}
 use Rattle.hack_process.specs.Faults.{Had, without_line_ends}
 use Rattle.hack_runs.specs.Commands.{plain_command}
 use Rattle.hack_versions.specs.RangeSteps.{NeedsStable}
-use Rattle.hack_versions.specs.ToolTexts.{TellsRelease}
+use Rattle.hack_versions.specs.ToolTexts.{TellsRelease, rustup_part}
+use Rattle.hack_versions.specs.declared.rustup.Rustup.{Rustup}
+use Rattle.hack_versions.specs.declared.rustup.Rustup.TheVariants.{Known, Unknown}
 use Rattle.hack_versions.specs.declared.version.Version.{Version}
 use Rattle.hack_words.specs.declared.cli.args.Args.{Args}
 use Rattle.hack_session.specs.Performs.{Installs, Makes}
@@ -23,6 +25,28 @@ rustup_command rustup = plain_command rustup [] (codes "--version" ∷ [])
 -- the same, as a caller is asked
 abbrev pub rustup_asked : Name → Asked
 rustup_asked rustup = asked_of true (rustup_command rustup)
+
+-- an answer tells rustup's minor version, where it is known
+abbrev pub TellsMinor : Name → Rustup → Type 0
+TellsMinor answer (Known minor) = (v : Version) × TellsRelease (rustup_part answer) v × (minor ≡ v.minor)
+TellsMinor answer (Unknown text) = Unit {0}
+
+-- rustup's version isn't known
+abbrev pub IsUnknown : Rustup → Type 0
+IsUnknown (Known minor) = ⊥
+IsUnknown (Unknown text) = Unit {0}
+
+-- rustup was asked, and its answer tells this minor version
+pub record ReadsRustup (rustup : Name) (known : Rustup) (old new : List Call) : Type 0 where
+  pub answer : Name
+  pub read : Had (λ told. IsSuccess told.end × (answer ≡ without_line_ends told.stdout)) (rustup_asked rustup) old new
+  pub told : TellsMinor answer known
+
+-- where a word needs it, rustup was asked, and what is known of it is what it told; where asking failed it isn't known. Where no
+-- word needs it nothing was asked, and any version will do
+abbrev pub AsksRustup : Bool → Name → Rustup → List Call → List Call → Type 0
+AsksRustup false rustup known old new = (known ≡ Known (2 ^ 32 - 1)) × (new ≡ old)
+AsksRustup true rustup known old new = ReadsRustup rustup known old new ⊎ (IsUnknown known × MayAdd (rustup_asked rustup) old new)
 
 -- stable's cargo is asked for its version
 abbrev pub stable_command : Name → Command

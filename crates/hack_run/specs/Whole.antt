@@ -3,7 +3,7 @@ use Rattle.std.specs.Prelude.{◌≡◌, ◌∷◌, [], ℕ, false, true, List, 
 use Rattle.std.proofs.Common.{Global, String}
 use Rattle.hack_features.specs.Names.{Name}
 use Rattle.hack_files.specs.Files.{Contents}
-use Rattle.hack_process.specs.Calls.{Call, IsSuccess, MayAdd}
+use Rattle.hack_process.specs.Calls.{Call, IsSuccess}
 use Rattle.hack_process.specs.Commands.{asked_of}
 use Rattle.hack_process.specs.Faults.{Had}
 use Rattle.hack_load.specs.Answers.{AreAnswers}
@@ -15,6 +15,7 @@ use Rattle.hack_versions.specs.declared.rustup.Rustup.{Rustup}
 use Rattle.hack_versions.specs.declared.version.Version.{Version}
 use Rattle.hack_words.specs.Answers.{Answers as IsAnswer, around_of}
 use Rattle.hack_words.specs.Call.{ComesTo, Faulty}
+use Rattle.hack_words.specs.Start.{wants_rustup}
 use Rattle.hack_words.specs.declared.cli.args.Args.{Args}
 use Rattle.hack_words.specs.declared.cli.env.Env.{Env}
 use Rattle.hack_words.specs.declared.cli.parse.Parsed.{Parsed}
@@ -25,7 +26,7 @@ use Rattle.hack_runs.specs.View.{PlanView}
 use Rattle.hack_calls.specs.Made.{IsPlanOf}
 use Rattle.hack_prepare.specs.Prepared.{IsPrepared}
 use Rattle.hack_prepare.specs.PreparedView.{members_in, wanted_in}
-use Rattle.hack_run.specs.Questions.{AsksStable, NeedsAnswer, rustup_asked}
+use Rattle.hack_run.specs.Questions.{AsksRustup, AsksStable, NeedsAnswer}
 use Rattle.hack_run.specs.Runs.{Does}
 
 -- the words are refused, whatever rustup answers
@@ -69,12 +70,12 @@ Obeys (parsed.Args args) env held last before old new = Performs args env held l
 Obeys (parsed.Print text) env held last before old new = new ≡ old
 Obeys parsed.List env held last before old new = ListsCommands (string_bytes env.cargo) old new
 
--- the words were read, where rustup's version was asked for at most, and what they ask for was done
+-- the words were read, behind what was asked of rustup for them, and what they ask for was done
 pub record IsDone (words : List Name) (env : Env) (held last : Contents) (before : ℕ) (old new : List Call) : Type 0 where
   pub rustup : Rustup
   pub answer : Parsed
   pub notes : List Note
   pub mid : List Call
-  pub asked : MayAdd (rustup_asked (string_bytes env.rustup)) old mid
+  pub asked : AsksRustup (wants_rustup words) (string_bytes env.rustup) rustup old mid
   pub read : IsAnswer (around_of env rustup) (ComesTo (around_of env rustup) words) answer notes
   pub obeyed : Obeys answer env held last before mid new

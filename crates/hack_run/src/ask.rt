@@ -2,13 +2,15 @@
 
 ghost use Rattle.std.specs.Prelude.{◌≡◌, IfOk, IfSome, IsSome, IsSomeAnd, None, Ok, OnOk, false, string_bytes};
 ghost use Rattle.std.specs.Prelude.{true};
+ghost use Rattle.hack_features.specs.Names.{names_of};
 ghost use Rattle.hack_process.specs.Calls.{MayAdd};
 ghost use Rattle.hack_process.specs.CargoTexts.{release_part};
 ghost use Rattle.hack_process.specs.Commands.{command_of};
 ghost use Rattle.hack_versions.specs.RangeSteps.{NeedsStable};
 ghost use Rattle.hack_versions.specs.ToolTexts.{TellsRelease};
+ghost use Rattle.hack_words.specs.Start.{wants_rustup as rustup_wanted};
 ghost use Rattle.hack_run.specs.Questions.{AsksStable, InstallsStable, IsLatest, NeedsAnswer};
-ghost use Rattle.hack_run.specs.Questions.{ReadsStable};
+ghost use Rattle.hack_run.specs.Questions.{AsksRustup, IsUnknown, ReadsStable, TellsMinor};
 ghost use Rattle.hack_run.specs.Questions.{rustup_asked, rustup_command as asks_rustup};
 ghost use Rattle.hack_run.specs.Questions.{stable_command as asks_stable};
 
@@ -31,8 +33,11 @@ pub(crate) fn rustup_for<C: Caller>(
     verbose: bool,
     caller: &mut C,
 ) -> Result<Rustup, AllocError>
-    ensures { C.tells → MayAdd (rustup_asked (string_bytes env.now.rustup))
+    ensures may { C.tells → MayAdd (rustup_asked (string_bytes env.now.rustup))
         (C.calls caller.old) (C.calls caller.new) }
+    ensures asked { IfOk result (λ known. C.tells → AsksRustup
+        (rustup_wanted (names_of words.now)) (string_bytes env.now.rustup) known
+        (C.calls caller.old) (C.calls caller.new)) }
 {
     if !wants_rustup(words) {
         return Ok(Rustup::Known(u32::MAX));
@@ -53,7 +58,9 @@ fn rustup_command<'a>(alloc: Global, env: &Env) -> Result<ProcessBuilder<'a>, Al
 }
 
 /// What is known of rustup where asking it failed.
-fn unknown(alloc: Global, fault: ProcessFault) -> Result<Rustup, AllocError> {
+fn unknown(alloc: Global, fault: ProcessFault) -> Result<Rustup, AllocError>
+    ensures { IfOk result IsUnknown }
+{
     match fault {
         ProcessFault::Memory => Err(AllocError),
         fault => Ok(Rustup::Unknown(format!(in alloc; "{fault}")?)),
@@ -67,7 +74,9 @@ fn rustup_in(
     answer: &str,
     env: &Env,
     verbose: bool,
-) -> Result<Rustup, AllocError> {
+) -> Result<Rustup, AllocError>
+    ensures { IfOk result (TellsMinor answer.now) }
+{
     match minor_version(alloc, answer) {
         Ok(minor) => Ok(Rustup::Known(minor)),
         Err(VersionTextFault::Memory) => Err(AllocError),

@@ -1,13 +1,20 @@
-use Rattle.std.proofs.Common.{◌≡◌, subst, true, string_bytes}
+use Rattle.std.proofs.Common.{◌≡◌, subst, sym, true, string_bytes}
+use Rattle.hack_features.specs.Names.{names_of}
+use Rattle.hack_words.specs.Start.{wants_rustup}
 use Rattle.hack_process.specs.Calls.{IsSuccess, MayAdd}
 use Rattle.hack_process.specs.CommandTexts.{text_of}
 use Rattle.hack_process.specs.Commands.{asked_of, command_of}
 use Rattle.hack_process.specs.Faults.{without_line_ends}
-use Rattle.hack_run.proofs.CallLemmas.{read_may}
+use Rattle.hack_run.proofs.CallLemmas.{asks_in_vain, read_may}
 use Rattle.hack_run.proofs.ask.rustup_for.Goals as goal
 
 -- src/ask.rt:25:1
-pub returns : goal.returns
-returns g c = λ t.
+pub returns-clause-may : goal.returns-clause-may
+returns-clause-may g c = λ t.
     subst (λ k. MayAdd (asked_of true k) (g.C.Caller.calls c.args.caller.now) (g.C.Caller.calls c.read.new.caller)) c.in_ok-asked.ensures
     (read_may g.C.Caller.tells (λ text answer. IsSuccess answer.end × (string_bytes text ≡ without_line_ends answer.stdout)) (asked_of true (command_of c.in_ok-asked.asked)) (text_of true c.as_str.result.now (command_of c.in_ok-asked.asked)) (g.C.Caller.calls c.args.caller.now) (g.C.Caller.calls c.read.new.caller) c.read.result c.read.ensures.ok c.read.ensures.err t)
+
+pub returns-clause-asked : goal.returns-clause-asked
+returns-clause-asked g c =
+    asks_in_vain g.C.Caller.tells (wants_rustup (names_of c.args.words.now)) (string_bytes c.args.env.now.rustup) (g.C.Caller.calls c.args.caller.now) (g.C.Caller.calls c.read.new.caller) c.unknown.result
+    (sym c.if-not-wants_rustup.ensures) (returns-clause-may g c) c.unknown.ensures

@@ -13,7 +13,7 @@ pub returns-in-Ok-clause-done : goal.returns-in-Ok-clause-done
 returns-in-Ok-clause-done g c =
     done g.C.Caller.tells g.F.Files.tells (c.obey.new.term.error ≡ false) c.obey.result (names_of c.args.words.now) c.args.env.now (g.F.Files.bytes_at c.args.files.now) (g.F.Files.bytes_at c.obey.new.files)
     (g.F.Files.failed c.args.files.now) (g.C.Caller.calls c.args.runner.now) (g.C.Caller.calls c.rustup_for.new.caller) (g.C.Caller.calls c.obey.new.runner)
-    c.in_ok-rustup.rustup c.in-Ok.answer.0 (map note_of c.in-Ok.answer.1.items) c.in-Ok.ensures.ok c.rustup_for.ensures c.obey.ensures.done
+    c.in_ok-rustup.rustup c.in-Ok.answer.0 (map note_of c.in-Ok.answer.1.items) c.in-Ok.ensures.ok c.in_ok-rustup.ensures.asked c.obey.ensures.done
 
 pub returns-in-Ok-clause-clean : goal.returns-in-Ok-clause-clean
 returns-in-Ok-clause-clean g c =
