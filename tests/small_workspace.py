@@ -1,0 +1,52 @@
+"""A small workspace with a private member, what stands in for cargo there, and libraries that are loaded before a program: for
+the scripts refused_memory and killed.
+"""
+import os
+import subprocess
+
+# Its files. `q` is private, and the lockfile is one that cargo wouldn't write.
+FILES = {
+    "Cargo.toml": '[workspace]\nmembers = ["p", "q"]\n',
+    "Cargo.lock": "# kept\n",
+    "p/Cargo.toml": '[package]\nname = "p"\n\n[features]\na = ["d/x"]\nb = []\n\n[dev-dependencies]\nd = "1"\n',
+    "q/Cargo.toml": '[package]\nname = "q"\npublish = false\n\n[dev-dependencies]\nd = "1"\n',
+}
+
+PACKAGE = (
+    '{{"id":"{0}","name":"{0}","version":"0.1.0","dependencies":[],"features":{1},"manifest_path":"{2}/{0}/Cargo.toml",'
+    '"publish":{3},"rust_version":"1.60"}}'
+)
+
+
+def write(path, text, mode=0o644):
+    """Writes a file, and the folders that it stands in."""
+    os.makedirs(os.path.dirname(path), exist_ok=True)
+    with open(path, "w", encoding="utf-8") as it:
+        it.write(text)
+    os.chmod(path, mode)
+
+
+def write_files(workspace):
+    """The files of the workspace."""
+    for name, text in FILES.items():
+        write(f"{workspace}/{name}", text)
+
+
+def stand_in(cargo, script, workspace):
+    """A script at the path of cargo, with the answers beside it that it gives for the workspace."""
+    p = PACKAGE.format("p", '{"a":["d/x"],"b":[]}', workspace, "null")
+    q = PACKAGE.format("q", "{}", workspace, "[]")
+    write(cargo, script, 0o755)
+    write(f"{cargo}.version", "cargo 1.90.0\nrelease: 1.90.0\nhost: h\n")
+    write(f"{cargo}.rustup", "rustup 1.27.1 (54dd3d00f 2024-04-24)\n")
+    write(f"{cargo}.locate", f'{{"root":"{workspace}/Cargo.toml"}}')
+    write(
+        f"{cargo}.metadata",
+        f'{{"packages":[{p},{q}],"workspace_members":["p","q"],"resolve":null,"workspace_root":"{workspace}"}}',
+    )
+
+
+def library(path, source):
+    """Makes a library of C, to be loaded before a program."""
+    write(f"{path}.c", source)
+    subprocess.run(["cc", "-O1", "-shared", "-fPIC", "-o", path, f"{path}.c", "-ldl"], check=True)
