@@ -2,5 +2,5 @@ mod TextLemmas
 mod ChangeLemmas
 mod SafeLemmas
 mod FinishLemmas
-mod RecoverLemmas
+pub mod RecoverLemmas
 mod CountLemmas

@@ -1,5 +1,5 @@
 -- The headline: what is handed out for a context, whatever comes of its steps.
-use Rattle.std.specs.Prelude.{ℕ, ◌≡◌, ◌<◌, Bool, true, List, Option, None, Result, IsSome, length}
+use Rattle.std.specs.Prelude.{ℕ, ◌≡◌, ◌<◌, ◌&&◌, not, true, List, Option, None, Result, IsSome, length}
 use Rattle.std.proofs.Common.{Global, String}
 use Rattle.hack_calls.specs.Made.{IsPlanOf}
 use Rattle.hack_calls.specs.Powersets.{HavePowersets}
@@ -23,11 +23,11 @@ pub record AreShared {A : Type 0} (plan : List A) : Type 0 where
 -- handed out is a front of it with its outcomes, in which no element but the last stops, and there is no next step. The runs
 -- handed out are the chosen piece of the plan, in order, each place once, until a step stops or the piece ends. The pieces share
 -- out the plan, and under a powerset each package's sets are exactly the listed ones, each once.
-pub record IsHandedOut (cx : ContextRecord) (stable : Result (Option Version) (String Global)) (rustup : Name) (keep_going : Bool) (t : Course) : Type 0 where
+pub record IsHandedOut (cx : ContextRecord) (stable : Result (Option Version) (String Global)) (rustup : Name) (t : Course) : Type 0 where
   pub notes : List Note
   pub plan : IsPlanOf cx.args.subcommand stable cx rustup t.plan notes
   pub schedule : IsSchedule cx.args.partition t.plan t.schedule
-  pub goes_on : t.keep_going ≡ keep_going
+  pub goes_on : t.keep_going ≡ (cx.args.keep_going && not cx.args.print_command_list)
   pub history : IsHistory t
   pub complete : next_of t ≡ None
   pub runs : HandsOut cx.args.partition (length t.plan.quads) t

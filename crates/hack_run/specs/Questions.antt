@@ -1,5 +1,5 @@
 -- What rustup is asked before there is a plan.
-use Rattle.std.specs.Prelude.{◌≡◌, ◌⊎◌, ◌∷◌, ◌^◌, ◌-◌, [], Bool, List, Option, Some, None, Result, Ok, Err, IsSome, IsSomeAnd, codes, false, true}
+use Rattle.std.specs.Prelude.{◌≡◌, ◌⊎◌, ◌∷◌, ◌^◌, ◌-◌, [], Bool, List, Option, Some, None, Result, Ok, Err, IfOk, IfSome, IsSome, IsSomeAnd, codes, false, true}
 use Rattle.std.proofs.Common.{Global, String}
 use Rattle.hack_features.specs.Names.{Name}
 use Rattle.hack_process.specs.Calls.{Asked, Call, IsSuccess, MayAdd}
@@ -78,6 +78,10 @@ IsLatest P (Err text) = Unit {0}
 -- there is a subcommand, and an end of the range is stable's version
 abbrev pub NeedsAnswer : Args → Type 0
 NeedsAnswer args = IsSome args.subcommand × IsSomeAnd args.version_range NeedsStable
+
+-- where it does, stable's version is known, unless asking for it failed
+abbrev pub IsAnswered : Args → Result (Option Version) (String Global) → Type 0
+IsAnswered args stable = IsSome args.subcommand → IfSome args.version_range (λ range. NeedsStable range → IfOk stable (λ latest. IsSome latest))
 
 -- stable's version was asked for, or nothing was; where that failed, its fault has a text
 abbrev pub AsksStable : Name → Result (Option Version) (String Global) → List Call → List Call → Type 0

@@ -51,7 +51,7 @@ pub record DoesPlan (Done : PlanView → Option Partition → List Call → List
 -- for a context a list was handed out to its end, and what isn't listed to a runner; none of the list failed
 pub record ListsOver {R : Type 0} (Told : List Note → R → R → Type 0) (Ran : PlanView → List Handed → R → R → Type 0) (cx : ContextRecord) (stable : Result (Option Version) (String Global)) (rustup : Name) (old new : R) : Type 0 where
   pub course : Course
-  pub handed : IsHandedOut cx stable rustup false course
+  pub handed : IsHandedOut cx stable rustup course
   pub notes : List Note
   pub mid : R
   pub told : Told notes old mid

@@ -10,7 +10,8 @@ ghost use Rattle.hack_versions.specs.RangeSteps.{NeedsStable};
 ghost use Rattle.hack_versions.specs.ToolTexts.{TellsRelease};
 ghost use Rattle.hack_words.specs.Start.{wants_rustup as rustup_wanted};
 ghost use Rattle.hack_run.specs.Questions.{AsksStable, InstallsStable, IsLatest, NeedsAnswer};
-ghost use Rattle.hack_run.specs.Questions.{AsksRustup, IsUnknown, ReadsStable, TellsMinor};
+ghost use Rattle.hack_run.specs.Questions.{AsksRustup, IsAnswered, IsUnknown, ReadsStable};
+ghost use Rattle.hack_run.specs.Questions.{TellsMinor};
 ghost use Rattle.hack_run.specs.Questions.{rustup_asked, rustup_command as asks_rustup};
 ghost use Rattle.hack_run.specs.Questions.{stable_command as asks_stable};
 
@@ -111,9 +112,7 @@ pub(crate) fn stable_for<C: Caller>(
     ensures asked { IfOk result (λ stable. C.tells → AsksStable (string_bytes env.now.rustup)
         stable (C.calls caller.old) (C.calls caller.new)) }
     ensures unasked { IfOk result (λ stable. ¬ NeedsAnswer args.now → stable ≡ Ok None) }
-    ensures needed { IfOk result (λ stable. IsSome args.now.subcommand
-        → IfSome args.now.version_range (λ range. NeedsStable range
-        → IfOk stable (λ latest. IsSome latest))) }
+    ensures needed { IfOk result (IsAnswered args.now) }
 {
     if args.subcommand.is_none() || !is_stable_asked(args) {
         return Ok(Ok(None));

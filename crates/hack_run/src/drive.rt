@@ -1,12 +1,12 @@
 //! What a call runs: the plan of what is loaded, handed out to a runner.
 
-ghost use Rattle.std.specs.Prelude.{◌≡◌, ◌⊎◌, IfErr, IfOk, IfSome, IsSome, List, map};
+ghost use Rattle.std.specs.Prelude.{◌≡◌, ◌⊎◌, ◌&&◌, IfErr, IfOk, List, map, not};
 ghost use Rattle.hack_calls.specs.Made.{IsCauseOf, IsPlanOf};
 ghost use Rattle.hack_load.specs.ContextView.{context_view};
 ghost use Rattle.hack_session.specs.Performs.{HasTold};
 ghost use Rattle.hack_versions.specs.Notes.{Note, note_of};
-ghost use Rattle.hack_versions.specs.RangeSteps.{NeedsStable};
 ghost use Rattle.hack_run.specs.Headline.{IsHandedOut};
+ghost use Rattle.hack_run.specs.Questions.{IsAnswered};
 
 use crate::tell::tell_all;
 use hack_calls::fault::PlanFault;
@@ -16,6 +16,7 @@ use hack_process::process::Caller;
 use hack_session::session::{Lines, Lister, Runner, Session, Starter, drive_plan};
 use hack_versions::notice::Notice;
 use hack_versions::version::Version;
+use hack_words::cli::Args;
 use std::alloc::Global;
 use std::io::Write;
 
@@ -37,19 +38,16 @@ pub fn drive_context<R: Teller>(
     cx: &Context,
     rustup: &str,
     stable: Result<Option<Version>, String>,
-    keep_going: bool,
     runner: &mut R,
 ) -> Result<Session, PlanFault>
-    requires { IsSome (context_view cx.now).args.subcommand
-        → IfSome (context_view cx.now).args.version_range (λ range. NeedsStable range
-        → IfOk stable (λ latest. IsSome latest)) }
+    requires { IsAnswered (context_view cx.now).args stable }
 
     // The runs handed out are the chosen piece of the plan, in order, each place once, until a
     // preparation fails, a run fails and runs don't go on, or the piece ends. The plan is exactly the
     // admissible runs, in order; each of its places is in exactly one of the pieces, and the blocks
     // joined are the plan. A package's powerset is exactly the listed sets, each once.
     ensures headline { IfOk result
-        (IsHandedOut (context_view cx.now) stable rustup.now keep_going) }
+        (IsHandedOut (context_view cx.now) stable rustup.now) }
 
     // The runner was told just the plan's notices, and then handed just these steps with these
     // outcomes, in order.
@@ -64,8 +62,16 @@ pub fn drive_context<R: Teller>(
 {
     let (plan, notices) = plan_of(alloc, cx, rustup, stable)?;
     runner.tell(notices.as_slice());
+    let keep_going = goes_on(cx.args());
     let session = drive_plan(alloc, plan, cx.args().partition, keep_going, runner)?;
     Ok(session)
+}
+
+/// Whether runs go on behind a failed one. A list ends at the first line that isn't written.
+fn goes_on(args: &Args) -> bool
+    ensures { result ≡ (args.now.keep_going && not args.now.print_command_list) }
+{
+    args.keep_going && !args.print_command_list
 }
 
 impl<C: Caller, O: Write, E: Write> Teller for Starter<'_, C, O, E> {

@@ -1,8 +1,8 @@
 //! The command list of a plan.
 
-ghost use Rattle.std.specs.Prelude.{◌≡◌, IfOk, IfSome, IsSome, None, Ok, OnOk, false};
+ghost use Rattle.std.specs.Prelude.{◌≡◌, None, Ok, OnOk, false};
 ghost use Rattle.hack_load.specs.ContextView.{context_view};
-ghost use Rattle.hack_versions.specs.RangeSteps.{NeedsStable};
+ghost use Rattle.hack_run.specs.Questions.{IsAnswered};
 ghost use Rattle.hack_run.specs.Runs.{DoesPlan, ListsOver, SendsAll};
 
 use crate::drive::{Teller, drive_context};
@@ -41,9 +41,7 @@ pub(crate) fn list<C: Caller, O: Write, E: Write>(
     out: &mut O,
     err: &mut E,
 ) -> Result<(), RunFault>
-    requires { IsSome (context_view cx.now).args.subcommand
-        → IfSome (context_view cx.now).args.version_range (λ range. NeedsStable range
-        → IfOk stable (λ latest. IsSome latest)) }
+    requires { IsAnswered (context_view cx.now).args stable }
     ensures { OnOk result (term.new.error ≡ false → C.tells
         → DoesPlan SendsAll (context_view cx.now) stable rustup.now
         (C.calls caller.old) (C.calls caller.new)) }
@@ -68,9 +66,7 @@ fn hand_to_lister<C: Caller, O: Write, E: Write>(
     out: &mut O,
     err: &mut E,
 ) -> Listed
-    requires { IsSome (context_view cx.now).args.subcommand
-        → IfSome (context_view cx.now).args.version_range (λ range. NeedsStable range
-        → IfOk stable (λ latest. IsSome latest)) }
+    requires { IsAnswered (context_view cx.now).args stable }
     ensures { result.refused ≡ Ok false → result.fault ≡ None → result.failed ≡ 0
         → term.new.error ≡ false → C.tells
         → DoesPlan SendsAll (context_view cx.now) stable rustup.now
@@ -106,9 +102,7 @@ fn list_over<'a, W: Lines, R: Teller>(
     out: &'a mut W,
     runner: &'a mut R,
 ) -> Result<bool, PlanFault>
-    requires { IsSome (context_view cx.now).args.subcommand
-        → IfSome (context_view cx.now).args.version_range (λ range. NeedsStable range
-        → IfOk stable (λ latest. IsSome latest)) }
+    requires { IsAnswered (context_view cx.now).args stable }
     ensures { result ≡ Ok false → W.failed out.old ≡ 0 → W.failed out.new ≡ 0
         → ListsOver R.told R.ran (context_view cx.now) stable rustup.now runner.old runner.new }
 {
@@ -118,7 +112,7 @@ fn list_over<'a, W: Lines, R: Teller>(
         runner,
         refused: 0,
     };
-    let _session = drive_context(alloc, cx, rustup, stable, false, &mut lister)?;
+    let _session = drive_context(alloc, cx, rustup, stable, &mut lister)?;
     Ok(lister.refused > 0)
 }
 

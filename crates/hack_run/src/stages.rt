@@ -1,7 +1,7 @@
 //! The stages of a call behind its words: what is loaded, manifests that are edited, the plan, and its
 //! runs or their list.
 
-ghost use Rattle.std.specs.Prelude.{◌≡◌, IfOk, IfSome, IsOk, IsSome, OnOk, false, string_bytes, true};
+ghost use Rattle.std.specs.Prelude.{◌≡◌, IfOk, IsOk, OnOk, false, string_bytes, true};
 ghost use Rattle.hack_files.specs.Files.{GrowsBy};
 ghost use Rattle.hack_files.specs.Restore.{AreSafe, registered};
 ghost use Rattle.hack_load.specs.Answers.{IsLoaded};
@@ -10,8 +10,8 @@ ghost use Rattle.hack_load.specs.ContextView.{context_view};
 ghost use Rattle.hack_load.specs.LeavesFew.{LeavesFew};
 ghost use Rattle.hack_prepare.specs.PreparedView.{HoldTextsIn, IsPreparedIn};
 ghost use Rattle.hack_prepare.specs.Steps.{Grows};
-ghost use Rattle.hack_versions.specs.RangeSteps.{NeedsStable};
 ghost use Rattle.hack_run.specs.Restores.{IsClean};
+ghost use Rattle.hack_run.specs.Questions.{IsAnswered};
 ghost use Rattle.hack_run.specs.Runs.{Does, DoesPlan};
 ghost use Rattle.hack_run.specs.Whole.{Follows, Performs};
 
@@ -175,9 +175,7 @@ fn run_plan<C: Caller, O: Write, E: Write>(
     out: &mut O,
     err: &mut E,
 ) -> Result<(), RunFault>
-    requires { IsSome (context_view cx.now).args.subcommand
-        → IfSome (context_view cx.now).args.version_range (λ range. NeedsStable range
-        → IfOk stable (λ latest. IsSome latest)) }
+    requires { IsAnswered (context_view cx.now).args stable }
     ensures { OnOk result (term.new.error ≡ false → C.tells
         → DoesPlan (Does (context_view cx.now).args.print_command_list) (context_view cx.now)
         stable rustup.now (C.calls caller.old) (C.calls caller.new)) }

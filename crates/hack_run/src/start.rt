@@ -1,8 +1,8 @@
 //! The runs of a plan, and the report of those that failed.
 
-ghost use Rattle.std.specs.Prelude.{◌≡◌, IfOk, IfSome, IsSome, None, OnOk, false};
+ghost use Rattle.std.specs.Prelude.{◌≡◌, None, OnOk, false};
 ghost use Rattle.hack_load.specs.ContextView.{context_view};
-ghost use Rattle.hack_versions.specs.RangeSteps.{NeedsStable};
+ghost use Rattle.hack_run.specs.Questions.{IsAnswered};
 ghost use Rattle.hack_run.specs.Runs.{DoesPlan, RunsAll};
 
 use crate::drive::drive_context;
@@ -27,9 +27,7 @@ pub(crate) fn start<C: Caller, O: Write, E: Write>(
     out: &mut O,
     err: &mut E,
 ) -> Result<(), RunFault>
-    requires { IsSome (context_view cx.now).args.subcommand
-        → IfSome (context_view cx.now).args.version_range (λ range. NeedsStable range
-        → IfOk stable (λ latest. IsSome latest)) }
+    requires { IsAnswered (context_view cx.now).args stable }
     ensures { OnOk result (term.new.error ≡ false → C.tells
         → DoesPlan RunsAll (context_view cx.now) stable rustup.now
         (C.calls caller.old) (C.calls caller.new)) }
@@ -91,16 +89,14 @@ fn drive<C: Caller, O: Write, E: Write>(
     out: &mut O,
     err: &mut E,
 ) -> Result<Session, PlanFault>
-    requires { IsSome (context_view cx.now).args.subcommand
-        → IfSome (context_view cx.now).args.version_range (λ range. NeedsStable range
-        → IfOk stable (λ latest. IsSome latest)) }
+    requires { IsAnswered (context_view cx.now).args stable }
     ensures { OnOk result (fault.new ≡ None → term.new.error ≡ false → C.tells
         → DoesPlan RunsAll (context_view cx.now) stable rustup.now
         (C.calls caller.old) (C.calls caller.new)) }
 {
     let (log_group, keep_going) = (cx.args().log_group, cx.args().keep_going);
     let mut starter = starter(alloc, log_group, keep_going, fault, term, caller, out, err);
-    let session = drive_context(alloc, cx, rustup, stable, keep_going, &mut starter)?;
+    let session = drive_context(alloc, cx, rustup, stable, &mut starter)?;
     Ok(session)
 }
 
