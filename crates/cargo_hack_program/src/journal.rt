@@ -107,12 +107,23 @@ fn manifest<F: Files>(
     }
 }
 
-/// What a file holds, where there is one that can be read.
-fn held<F: Files>(alloc: Global, path: &str, files: &mut F) -> Result<Option<Vec<u8>>, AllocError> {
+/// Whether something stands at a path.
+pub fn is_there<F: Files>(path: &str, files: &mut F) -> Result<bool, AllocError> {
     match files.exists(path) {
-        Ok(true) => (),
-        Ok(false) | Err(FileFault::Device) => return Ok(None),
-        Err(FileFault::Memory) => return Err(AllocError),
+        Ok(there) => Ok(there),
+        Err(FileFault::Device) => Ok(false),
+        Err(FileFault::Memory) => Err(AllocError),
+    }
+}
+
+/// What a file holds, where there is one that can be read.
+pub fn held<F: Files>(
+    alloc: Global,
+    path: &str,
+    files: &mut F,
+) -> Result<Option<Vec<u8>>, AllocError> {
+    if !is_there(path, files)? {
+        return Ok(None);
     }
     match files.read(alloc, path) {
         Ok(bytes) => Ok(Some(bytes)),
@@ -140,37 +151,10 @@ pub fn journal_in(alloc: Global, folder: &str) -> Result<String, AllocError> {
     join(alloc, folder, NAME)
 }
 
-/// Whether something stands at the journal's path.
-pub fn is_there<F: Files>(journal: &str, files: &mut F) -> Result<bool, AllocError> {
-    match files.exists(journal) {
-        Ok(there) => Ok(there),
-        Err(FileFault::Device) => Ok(false),
-        Err(FileFault::Memory) => Err(AllocError),
-    }
-}
-
-/// Removes a journal of no byte: it was made by a call that edited nothing.
-pub fn drop_empty<F: Files>(alloc: Global, journal: &str, files: &mut F) -> Result<(), AllocError> {
-    if let Some(bytes) = held(alloc, journal, files)? {
-        if bytes.is_empty() {
-            let _ = files.remove(journal);
-        }
-    }
-    Ok(())
-}
-
-/// The first path in a journal that is no manifest inside the folder. Such a journal was written elsewhere,
-/// and isn't followed.
-pub fn stranger<F: Files>(
-    alloc: Global,
-    folder: &str,
-    journal: &str,
-    files: &mut F,
-) -> Result<Option<String>, AllocError> {
-    let Some(bytes) = held(alloc, journal, files)? else {
-        return Ok(None);
-    };
-    let entries = match read_back(alloc, &bytes) {
+/// The first path in the bytes of a journal that is no manifest inside the folder. Such a journal was
+/// written elsewhere, and isn't followed.
+pub fn stranger(alloc: Global, folder: &str, bytes: &[u8]) -> Result<Option<String>, AllocError> {
+    let entries = match read_back(alloc, bytes) {
         Ok(entries) => entries,
         Err(JournalFault::NotJournal) => return Ok(None),
         Err(JournalFault::Memory) => return Err(AllocError),

@@ -4,7 +4,7 @@
 mod journal;
 mod start;
 
-use crate::journal::{Edits, Lock, drop_empty, is_there, journal_in, stranger, workspace};
+use crate::journal::{Edits, Lock, held, is_there, journal_in, stranger, workspace};
 use crate::start::{StartFault, coloring, env_of, words_of};
 use hack_files::fs::{Disk, Files};
 use hack_journal::recover::{RecoverFault, recover};
@@ -49,7 +49,7 @@ fn call<E: Write>(
     let edits = Edits::of(&words);
     let is_journaled = is_there(journal.as_str(), &mut disk)?;
     if edits == Edits::None && !is_journaled {
-        return Ok(plain(rt, &words, &env, term, disk, err));
+        return Ok(plain(rt, &words, &env, term, &mut disk, err));
     }
     let lock = Lock::take(rt, folder.as_str());
     match &lock {
@@ -57,7 +57,7 @@ fn call<E: Write>(
         Lock::Theirs if edits != Edits::None => return Err(StartFault::Busy),
         Lock::Unknown if edits != Edits::None && is_journaled => return Err(StartFault::Unlocked),
         // Nothing is brought back under another call, and without a lock no journal is of use.
-        Lock::Theirs | Lock::Unknown => return Ok(plain(rt, &words, &env, term, disk, err)),
+        Lock::Theirs | Lock::Unknown => return Ok(plain(rt, &words, &env, term, &mut disk, err)),
     }
     if !is_restored(
         alloc,
@@ -72,9 +72,9 @@ fn call<E: Write>(
     let status = match edits {
         Edits::None => {
             drop(lock);
-            return Ok(plain(rt, &words, &env, term, disk, err));
+            return Ok(plain(rt, &words, &env, term, &mut disk, err));
         }
-        Edits::Good => plain(rt, &words, &env, term, disk, err),
+        Edits::Good => plain(rt, &words, &env, term, &mut disk, err),
         Edits::Back => journaled(rt, &words, &env, journal, term, disk, err)?,
     };
     drop(lock);
@@ -87,16 +87,15 @@ fn plain<E: Write>(
     words: &[String],
     env: &Env,
     term: &mut Term,
-    disk: Disk<&HostRuntime>,
+    disk: &mut Disk<&HostRuntime>,
     err: &mut E,
 ) -> u8 {
-    let mut disk = disk;
     run(
         rt.alloc(),
         words,
         env,
         term,
-        &mut disk,
+        disk,
         &mut Child::new(rt),
         &mut io::writer(rt),
         err,
@@ -131,7 +130,6 @@ fn journaled<E: Write>(
         err,
     );
     let mut disk = disk;
-    drop_empty(alloc, path.as_str(), &mut disk)?;
     if !is_there(path.as_str(), &mut disk)? {
         return Ok(status);
     }
@@ -149,13 +147,19 @@ fn is_restored<F: Files, E: Write>(
     term: &mut Term,
     err: &mut E,
 ) -> Result<bool, StartFault> {
-    drop_empty(alloc, journal, files)?;
-    if let Some(path) = stranger(alloc, folder, journal, files)? {
-        let text = format!(in alloc;
-            "`{journal}` tells of `{path}`, which is no manifest in its folder; put back by hand what it tells, and remove it"
-        )?;
-        let _ = term.error(&text, err);
-        return Ok(false);
+    if let Some(bytes) = held(alloc, journal, files)? {
+        // Made by a call that edited nothing.
+        if bytes.is_empty() {
+            let _ = files.remove(journal);
+            return Ok(true);
+        }
+        if let Some(path) = stranger(alloc, folder, &bytes)? {
+            let text = format!(in alloc;
+                "`{journal}` tells of `{path}`, which is no manifest in its folder; put back by hand what it tells, and remove it"
+            )?;
+            let _ = term.error(&text, err);
+            return Ok(false);
+        }
     }
     match recover(alloc, files, journal) {
         Ok(0) => Ok(true),
