@@ -3,13 +3,12 @@ PREFIX ?= /usr/local
 
 PROGRAM := crates/powerset_list/out/powerset_list
 CARGO_HACK := crates/cargo_hack_program/out/cargo_hack_program
-EXCLUSIVE := native-tls,openssl,rustls
 
 .DEFAULT_GOAL := help
 .PHONY: help run program install test quick planted bench faults stand-ins
 
 help:
-	@echo 'make run      prints the command list of the sample in examples/, by a trial build without proofs'
+	@echo 'make run      calls cargo hack on the workspace in examples/, over a cargo in memory, by a trial build without proofs'
 	@echo 'make test     proves and tests everything from nothing: the gate'
 	@echo 'make quick    lays out and checks CRATE=NAME and what stands on it, and the rows, over what is kept'
 	@echo 'make planted  tries the edits that the gate leaves out, of all crates or of CRATE=NAME'
@@ -18,9 +17,9 @@ help:
 	@echo 'make faults   proves and builds powerset-list, and compares what it tells of refused calls'
 	@echo 'make stand-ins proves and builds the programs that stand in for cargo and rustup in tests, and tries them'
 
-# A trial build proves nothing, and so is ready in less than a minute.
+# A trial build proves nothing, and so is ready in less than two minutes.
 run:
-	@cd crates/powerset_list && rt try -- --mutually-exclusive-features $(EXCLUSIVE) < ../../examples/features.json
+	@cd crates/sample_calls && rt try < stdin
 
 test:
 	@tests/gate

@@ -1,15 +1,17 @@
-//! What cargo-hack runs for a workspace: the runs of its packages, and the lists of their commands.
+//! cargo-hack as a library: all that its crates give out, under one name. The modules are called as
+//! those of cargo-hack, where it has them; what each item promises is told by its own crate.
 #![tactic(auto)]
 
-mod call;
-mod fault;
-mod input;
-mod lines;
-mod list;
-mod wishes;
-mod writes;
+pub mod features;
+pub mod journal;
+pub mod manifest;
+pub mod plan;
+pub mod powerset_list;
+pub mod run;
+pub mod rustup;
 
-pub use call::{Ending, call_powerset_list};
-pub use fault::ListFault;
-pub use lines::command;
-pub use list::powerset_list;
+pub use hack_load::{cargo, context, metadata, process};
+pub use hack_process::paths;
+pub use hack_session::session;
+pub use hack_versions::notice;
+pub use hack_words::{cli, fs, lexopt, lists, partition, restore, term, version};

@@ -1,7 +1,7 @@
 //! Command lists: from words and the bytes of a feature map to the bytes of the list, or the first fault.
 
 use crate::given::words;
-use cargo_hack::{ListFault, powerset_list};
+use hack_powerset_list::{ListFault, powerset_list};
 use std::alloc::{AllocError, Global};
 use std::io;
 use std::io::{ErrorKind, Read, Write};

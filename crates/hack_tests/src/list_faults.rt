@@ -2,7 +2,7 @@
 //! and what is told of it.
 
 use crate::given::words;
-use cargo_hack::{Ending, ListFault, call_powerset_list, command, powerset_list};
+use hack_powerset_list::{Ending, ListFault, call_powerset_list, command, powerset_list};
 use hack_features::Feature;
 use hack_plan::runs::Run;
 use hack_process::process::ProcessBuilder;

@@ -1,7 +1,7 @@
 //! Prints the command list of the feature powerset of the feature map on standard input.
 #![tactic(auto)]
 
-use cargo_hack::call_powerset_list;
+use hack_powerset_list::call_powerset_list;
 use std::process::ExitCode;
 use std::{env, io};
 

@@ -2,7 +2,7 @@
 //! a list.
 #![tactic(auto)]
 
-use cargo_hack::call_powerset_list;
+use hack_powerset_list::call_powerset_list;
 use std::process::ExitCode;
 use std::{env, io};
 

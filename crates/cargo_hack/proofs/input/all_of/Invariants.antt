@@ -1,6 +1,0 @@
-use Rattle.std.proofs.Common.{◌≡◌, take}
-use Rattle.hack_features.specs.Feature.{candidates_of, groups_of}
-use Rattle.cargo_hack.proofs.input.all_of.Given as goal
-
-abbrev pub invariant-loop-feature : goal.invariant-loop-feature
-invariant-loop-feature l = candidates_of l.all.items ≡ take l.feature-index (groups_of l.features)

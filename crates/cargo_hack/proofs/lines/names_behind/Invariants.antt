@@ -1,7 +1,0 @@
-use Rattle.std.proofs.Common.{◌≡◌, ◌++◌, map, take}
-use Rattle.hack_features.specs.Names.{names_of}
-use Rattle.hack_features.specs.Feature.{name_of}
-use Rattle.cargo_hack.proofs.lines.names_behind.Given as goal
-
-abbrev pub invariant-loop-feature : goal.invariant-loop-feature
-invariant-loop-feature l = names_of l.texts.items ≡ take l.feature-index (map (λ name. l.before ++ name) (map name_of l.features))

@@ -1,0 +1,6 @@
+//! Files that keep in a journal what they replace, and what brings it back after an interrupted call.
+
+pub use hack_journal::apart::{Apart, is_lockfile};
+pub use hack_journal::journal::{Entry, JournalFault, read_back, spell};
+pub use hack_journal::journaled::Journaled;
+pub use hack_journal::recover::{RecoverFault, recover};

@@ -1,0 +1,3 @@
+//! The command list of a feature map's powerset.
+
+pub use hack_powerset_list::{Ending, ListFault, call_powerset_list, command, powerset_list};

@@ -1,0 +1,12 @@
+use Rattle.std.proofs.Common.{◌≡◌, length}
+use Rattle.hack_features.specs.Names.{names_of}
+use Rattle.hack_powerset_list.specs.Words.{none_written, with_words}
+use Rattle.hack_powerset_list.specs.WishesView.{written_in}
+use Rattle.hack_powerset_list.proofs.wishes.Values.of.Given as goal
+
+-- the words say what those that are left say behind the values so far
+abbrev pub invariant-loop-left : goal.invariant-loop-left
+invariant-loop-left l = with_words none_written (names_of l.words) ≡ with_words (written_in l.values) (names_of l.left)
+
+abbrev pub decreases-loop-left : goal.decreases-loop-left
+decreases-loop-left l = length l.left

@@ -1,0 +1,12 @@
+-- What the texts hold that lines are made of.
+use Rattle.std.specs.Prelude.{◌≡◌, ◌++◌, List, map, string_bytes, codes}
+use Rattle.hack_features.specs.Names.{Name, names_of}
+use Rattle.hack_powerset_list.specs.declared.lines.Texts.{Texts}
+
+-- the texts of the lines of `cargo check`, where the candidates have these names
+pub record AreTexts (names : List Name) (t : Texts) : Type 0 where
+  pub plain : string_bytes t.plain ≡ codes "cargo check"
+  pub all : string_bytes t.all ≡ codes "cargo check --all-features"
+  pub bare : string_bytes t.bare ≡ codes "cargo check --no-default-features"
+  pub first : names_of t.first.items ≡ map (λ name. codes " --features " ++ name) names
+  pub next : names_of t.next.items ≡ map (λ name. codes "," ++ name) names

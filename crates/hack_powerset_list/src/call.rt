@@ -1,0 +1,75 @@
+//! A whole call of the program `powerset-list`: its words, its streams and its exit status.
+
+ghost use Rattle.std.specs.Prelude.{◌≡◌, ◌⊎◌, drop, OnOk, IfOk, IfErr};
+ghost use Rattle.std.specs.Vec.Iter.{into_iter_items};
+ghost use Rattle.hack_powerset_list.specs.Endings.{IsDone, IsRefused, RefusesCall, WritesForCall};
+
+use crate::fault::ListFault;
+use crate::list::powerset_list;
+use std::alloc::{AllocError, Global};
+use std::env::Args;
+use std::io;
+use std::io::{Read, Write};
+
+/// How a call ends.
+#[derive(Clone, Copy, Debug)]
+pub struct Ending {
+    /// The exit status: 1 after a fault, else 0.
+    pub status: u8,
+    /// Whether the line of the fault, where there is one, was written whole.
+    pub told: bool,
+}
+
+/// The words behind the program's name.
+fn words_of(alloc: Global, arguments: Args) -> Result<Vec<String>, AllocError>
+    ensures { IfOk result (λ words. words.items ≡ drop 1 (into_iter_items arguments)) }
+{
+    arguments.skip(1).collect(alloc)
+}
+
+/// The list for the arguments, or why there is none.
+fn list_for<R: Read, W: Write>(
+    alloc: Global,
+    arguments: io::Result<Args>,
+    input: &mut R,
+    out: &mut W,
+) -> Result<(), ListFault>
+    ensures ok { OnOk result (WritesForCall arguments
+        (R.remaining input.old) (W.contents out.old) (W.contents out.new)) }
+    ensures err { IfErr result (RefusesCall arguments
+        (R.remaining input.old) (W.contents out.old) (W.contents out.new)) }
+{
+    match arguments {
+        Ok(all) => {
+            let words = words_of(alloc, all)?;
+            powerset_list(alloc, words.as_slice(), input, out)
+        }
+        Err(error) => Err(ListFault::of_error(&error, ListFault::NotText)),
+    }
+}
+
+/// What the program `powerset-list` does: `powerset_list` for the words behind the first of the
+/// arguments, which are handed in as `env::args` answers them. A fault is told by a line on `err`.
+pub fn call_powerset_list<R: Read, W: Write, E: Write>(
+    alloc: Global,
+    arguments: io::Result<Args>,
+    input: &mut R,
+    out: &mut W,
+    err: &mut E,
+) -> Ending
+    ensures { IsDone arguments (R.remaining input.old) (W.contents out.old) (W.contents out.new)
+        (E.contents err.old) (E.contents err.new) result
+        ⊎ IsRefused arguments (R.remaining input.old) (W.contents out.old) (W.contents out.new)
+        (E.contents err.old) (E.contents err.new) result }
+{
+    match list_for(alloc, arguments, input, out) {
+        Ok(()) => Ending {
+            status: 0,
+            told: true,
+        },
+        Err(fault) => Ending {
+            status: 1,
+            told: fault.tell(err).is_ok(),
+        },
+    }
+}

@@ -1,0 +1,15 @@
+//! The work of `powerset-list`: from words and the bytes of a feature map to the bytes of its command list, or the first fault.
+#![tactic(auto)]
+
+mod call;
+mod fault;
+mod input;
+mod lines;
+mod list;
+mod wishes;
+mod writes;
+
+pub use call::{Ending, call_powerset_list};
+pub use fault::ListFault;
+pub use lines::command;
+pub use list::powerset_list;

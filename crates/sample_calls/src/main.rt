@@ -1,0 +1,89 @@
+//! Calls of `cargo hack` on the workspace in `examples`, as a user of the library makes them: over a
+//! caller and files in memory, so that no cargo is asked and nothing is built. Standard input has what
+//! cargo tells of the workspace, on a line, and each manifest behind a line `== PATH`. Prints each call,
+//! what it tells, and its list.
+#![tactic(auto)]
+
+use cargo_hack::cli::Env;
+use cargo_hack::fs::{Files, MemoryFiles};
+use cargo_hack::process::{End, FakeCaller};
+use cargo_hack::run::run;
+use cargo_hack::term::{Coloring, Term};
+use std::alloc::{AllocError, Global};
+use std::io;
+
+/// The words of each call.
+const CALLS: [&str; 3] = [
+    "hack check --feature-powerset --print-command-list --ignore-private --depth 2",
+    "hack check --each-feature --exclude-all-features --partition 2/2",
+    "hack test --feature-powerset --ignore-private --exclude-features default,binary,json --keep-going",
+];
+
+/// A command for which cargo fails: these two features don't build together.
+const FAILING: &str =
+    "cargo test --manifest-path codec/Cargo.toml --no-default-features --features compact,trace";
+
+/// A caller that answers as cargo does where it told this of the workspace.
+fn caller(alloc: Global, told: &str) -> Result<FakeCaller, AllocError> {
+    let mut caller = FakeCaller::new(alloc, End::Status(0));
+    for (line, answer) in [
+        (
+            "cargo -vV",
+            "release: 1.95.0\nhost: x86_64-unknown-linux-gnu\n",
+        ),
+        ("cargo metadata --format-version=1 --no-deps", told),
+        ("cargo locate-project", "{\"root\":\"/w/Cargo.toml\"}"),
+    ] {
+        caller.answer(line, End::Status(0), answer.as_bytes(), b"")?;
+    }
+    caller.answer(FAILING, End::Status(101), b"", b"")?;
+    Ok(caller)
+}
+
+/// What cargo tells of the workspace, and files with its manifests.
+fn workspace(alloc: Global, input: &str) -> Result<(String, MemoryFiles), AllocError> {
+    let mut files = MemoryFiles::new(alloc);
+    let mut parts = input.split("\n== ");
+    let told = String::from_str(alloc, parts.next().unwrap_or(""))?;
+    for part in parts {
+        if let Some((path, manifest)) = part.split_once('\n') {
+            let _ = files.write(path, manifest.as_bytes());
+        }
+    }
+    Ok((told, files))
+}
+
+/// The lines of a call with these words, and of what it tells and lists.
+fn call(alloc: Global, line: &str, input: &str) -> Result<String, AllocError> {
+    let (told, files) = workspace(alloc, input)?;
+    let mut files = files;
+    let mut words = Vec::new(alloc);
+    for word in line.split(' ') {
+        words.push(String::from_str(alloc, word)?)?;
+    }
+    let mut out = Vec::new(alloc);
+    let mut err = Vec::new(alloc);
+    let status = run(
+        alloc,
+        &words,
+        &Env::new(alloc, &[], String::from_str(alloc, "/w")?)?,
+        &mut Term::new(Coloring::Never, false),
+        &mut files,
+        &mut caller(alloc, told.as_str())?,
+        &mut out,
+        &mut err,
+    );
+    let listed = String::from_utf8_lossy(alloc, &out)?;
+    let notes = String::from_utf8_lossy(alloc, &err)?;
+    format!(in alloc; "$ cargo {line}\n{notes}{listed}status {status}\n")
+}
+
+fn main(rt: HostRuntime) -> io::Result<()> {
+    let alloc = rt.alloc();
+    let input = io::read_to_string(alloc, rt.reader())?;
+    for line in CALLS {
+        let lines = call(alloc, line, input.as_str())?;
+        println!(rt; "{lines}")?;
+    }
+    Ok(())
+}
