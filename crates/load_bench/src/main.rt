@@ -1,20 +1,22 @@
 //! For the bench: cuts the manifest on standard input as often as the words say (`pieces 100`), takes
 //! its development dependencies out (`edits 100`), loads a workspace of so many members that all have
-//! this manifest (`members 100`), or runs each feature of all there (`runs 100`), over a caller and
-//! files in memory. Prints how many pieces there are, how many bytes are left, how many members and
-//! candidates there are, or how many calls were made.
+//! this manifest (`members 100`), runs each feature of all there (`runs 100`), or plans a call there
+//! (`plan 100 hack check --feature-powerset`), over a caller and files in memory. Prints how many
+//! pieces there are, how many bytes are left, how many members and candidates there are, how many
+//! calls were made, or how many places the plan has and the last one's command.
 #![tactic(auto)]
 
-use hack_edits::manifest::remove_dev_deps;
-use hack_files::fs::{Files, MemoryFiles};
-use hack_files::restore::Manager;
-use hack_load::context::{Answers, Context};
-use hack_load::process::{End, FakeCaller};
-use hack_manifest::manifest::Pieces;
-use hack_run::run::run;
-use hack_words::cli::{Args, Env, Parsed};
-use hack_words::rustup::Rustup;
-use hack_words::term::{Coloring, Term};
+use cargo_hack::cli::{Args, Env, Parsed};
+use cargo_hack::context::{Answers, Context};
+use cargo_hack::fs::{Files, MemoryFiles};
+use cargo_hack::manifest::{Pieces, remove_dev_deps};
+use cargo_hack::plan::{Plan, plan_of};
+use cargo_hack::process::{End, FakeCaller};
+use cargo_hack::restore::Manager;
+use cargo_hack::run::run;
+use cargo_hack::rustup::Rustup;
+use cargo_hack::term::{Coloring, Term};
+use cargo_hack::version::Version;
 use std::alloc::{AllocError, Global};
 use std::{env, io};
 
@@ -62,22 +64,27 @@ fn records(alloc: Global, members: u32) -> Result<String, AllocError> {
     )
 }
 
-/// The arguments of `hack check`.
-fn args(alloc: Global, env: &Env) -> Result<Option<Args>, AllocError> {
-    let mut words = Vec::new(alloc);
-    words.push(String::from_str(alloc, "hack")?)?;
-    words.push(String::from_str(alloc, "check")?)?;
-    match Args::parse(alloc, &words, env, Rustup::Known(27)) {
+/// The arguments that these words come to.
+fn args(alloc: Global, words: &[String], env: &Env) -> Result<Option<Args>, AllocError> {
+    match Args::parse(alloc, words, env, Rustup::Known(27)) {
         Ok(read) => {
             let (parsed, _) = read;
             match parsed {
                 Parsed::Args(args) => Ok(Some(args)),
-                Parsed::Print(_) => Ok(None),
-                Parsed::List => Ok(None),
+                Parsed::Print(_) | Parsed::List => Ok(None),
             }
         }
         Err(_) => Ok(None),
     }
+}
+
+/// These words, each a text.
+fn words_of(alloc: Global, texts: &[&str]) -> Result<Vec<String>, AllocError> {
+    let mut words = Vec::new(alloc);
+    for text in texts {
+        words.push(String::from_str(alloc, text)?)?;
+    }
+    Ok(words)
 }
 
 /// A caller that answers all that a call asks of cargo.
@@ -108,11 +115,17 @@ fn files(alloc: Global, text: &str, members: u32) -> Result<MemoryFiles, AllocEr
     Ok(files)
 }
 
-/// What is loaded for a call in a workspace of so many members that all have this manifest.
-fn load(alloc: Global, text: &str, members: u32) -> Result<String, AllocError> {
+/// What is loaded for a call of these words in a workspace of so many members that all have this
+/// manifest; or why it isn't.
+fn context(
+    alloc: Global,
+    text: &str,
+    members: u32,
+    words: &[String],
+) -> Result<Result<Context, String>, AllocError> {
     let env = Env::new(alloc, &[], String::from_str(alloc, "/w")?)?;
-    let Some(args) = args(alloc, &env)? else {
-        return String::from_str(alloc, "no arguments");
+    let Some(args) = args(alloc, words, &env)? else {
+        return Ok(Err(String::from_str(alloc, "no arguments")?));
     };
     let mut caller = caller(alloc, members)?;
     let mut files = files(alloc, text, members)?;
@@ -126,24 +139,68 @@ fn load(alloc: Global, text: &str, members: u32) -> Result<String, AllocError> {
     match Context::new(alloc, args, answers) {
         Ok(made) => {
             let (cx, _) = made;
-            let members = cx.workspace_members().len();
-            let candidates = match cx.current_package() {
-                Some(id) => cx.pkg_features(id).normal().len(),
-                None => 0,
-            };
-            format!(in alloc; "{members} members with {candidates} features each")
+            Ok(Ok(cx))
+        }
+        Err(fault) => Ok(Err(format!(in alloc; "{fault}")?)),
+    }
+}
+
+/// How many members and candidates are loaded.
+fn load(alloc: Global, text: &str, members: u32) -> Result<String, AllocError> {
+    let words = words_of(alloc, &["hack", "check"])?;
+    let cx = match context(alloc, text, members, &words)? {
+        Ok(cx) => cx,
+        Err(why) => return Ok(why),
+    };
+    let members = cx.workspace_members().len();
+    let candidates = match cx.current_package() {
+        Some(id) => cx.pkg_features(id).normal().len(),
+        None => 0,
+    };
+    format!(in alloc; "{members} members with {candidates} features each")
+}
+
+/// How many places the plan of a call of these words has, and the last one's command. A thousand
+/// commands all over the plan are made.
+fn plan(alloc: Global, text: &str, members: u32, words: &[String]) -> Result<String, AllocError> {
+    let cx = match context(alloc, text, members, words)? {
+        Ok(cx) => cx,
+        Err(why) => return Ok(why),
+    };
+    let stable = Version {
+        major: 1,
+        minor: 95,
+        patch: None,
+    };
+    match plan_of(alloc, &cx, "rustup", Ok(Some(stable))) {
+        Ok(made) => {
+            let (plan, _) = made;
+            planned(alloc, &plan)
         }
         Err(fault) => format!(in alloc; "{fault}"),
     }
 }
 
+/// How many places a plan has, and the last one's command.
+fn planned(alloc: Global, plan: &Plan) -> Result<String, AllocError> {
+    let total = plan.len();
+    let mut last = String::new(alloc);
+    for i in 1..=1000_usize {
+        let place = (total / 1000)
+            .wrapping_mul(i)
+            .wrapping_add(total % 1000)
+            .wrapping_sub(1);
+        if place < total {
+            last = format!(in alloc; "{}", plan.run(alloc, place)?.command)?;
+        }
+    }
+    format!(in alloc; "{total} places, the last one {last}")
+}
+
 /// Runs each feature of so many members that all have this manifest.
 fn perform(alloc: Global, text: &str, members: u32) -> Result<String, AllocError> {
     let env = Env::new(alloc, &[], String::from_str(alloc, "/w")?)?;
-    let mut words = Vec::new(alloc);
-    for word in ["hack", "check", "--workspace", "--each-feature"] {
-        words.push(String::from_str(alloc, word)?)?;
-    }
+    let words = words_of(alloc, &["hack", "check", "--workspace", "--each-feature"])?;
     let mut caller = caller(alloc, members)?;
     let mut files = files(alloc, text, members)?;
     let status = run(
@@ -161,8 +218,11 @@ fn perform(alloc: Global, text: &str, members: u32) -> Result<String, AllocError
 
 /// What the words ask for.
 fn told(alloc: Global, words: &[String], text: &str) -> Result<String, AllocError> {
-    let [what, count] = words else {
-        return String::from_str(alloc, "usage: load_bench pieces|edits|members|runs COUNT");
+    let [what, count, call @ ..] = words else {
+        return String::from_str(
+            alloc,
+            "usage: load_bench pieces|edits|members|runs|plan COUNT [WORD]...",
+        );
     };
     let Ok(count) = count.as_str().parse::<u32>() else {
         return String::from_str(alloc, "the count is no number");
@@ -171,6 +231,7 @@ fn told(alloc: Global, words: &[String], text: &str) -> Result<String, AllocErro
         "pieces" => cut(alloc, text, count),
         "edits" => edit(alloc, text, count),
         "runs" => perform(alloc, text, count),
+        "plan" => plan(alloc, text, count, call),
         _ => load(alloc, text, count),
     }
 }
