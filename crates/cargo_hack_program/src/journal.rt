@@ -3,15 +3,19 @@
 
 use hack_files::fs::{FileFault, Files};
 use hack_journal::journal::{JournalFault, read_back};
+use hack_manifest::lookup::{find_table, value_at};
 use hack_process::paths::{join, normal, parent, under};
+use hack_words::cli::{Args, CliFault, Env, Parsed};
+use hack_words::rustup::Rustup;
 use std::alloc::{AllocError, Global};
 use std::fs::{File, OpenOptions, TryLockError};
 use std::rt;
+use toml::Value;
 
 /// The journal's name, in the folder of the workspace.
 const NAME: &str = ".cargo-hack-journal";
 
-/// What words ask of manifests.
+/// What a call asks of manifests.
 #[derive(Clone, Copy, Debug, PartialEq, Eq)]
 pub enum Edits {
     /// They stay as they are.
@@ -22,41 +26,76 @@ pub enum Edits {
     Good,
 }
 
-impl Edits {
-    /// What these words ask of them.
-    pub fn of(words: &[String]) -> Edits {
-        let mut asked = Edits::None;
-        for word in words {
-            match word.as_str() {
-                "--" => return asked,
-                "--remove-dev-deps" => return Edits::Good,
-                "--no-dev-deps" | "--no-private" => asked = Edits::Back,
-                _ => (),
+/// What a call says of manifests: what it asks of them, and the one that it names.
+#[derive(Drop)]
+pub struct Asked {
+    pub edits: Edits,
+    pub manifest_path: Option<String>,
+}
+
+impl Asked {
+    /// What these words ask. Words that are refused, or that ask for a text, ask nothing of manifests.
+    pub fn of(alloc: Global, words: &[String], env: &Env) -> Result<Asked, AllocError> {
+        // What is known of rustup decides only whether words are refused.
+        match Args::parse(alloc, words, env, Rustup::Known(u32::MAX)) {
+            Ok(read) => {
+                let (parsed, _) = read;
+                match parsed {
+                    Parsed::Args(args) => Asked::by(alloc, &args),
+                    Parsed::Print(_) | Parsed::List => Ok(Asked::nothing()),
+                }
             }
+            Err(CliFault::Memory) => Err(AllocError),
+            Err(_) => Ok(Asked::nothing()),
         }
-        asked
+    }
+
+    fn by(alloc: Global, args: &Args) -> Result<Asked, AllocError> {
+        let edits = if args.remove_dev_deps {
+            Edits::Good
+        } else if args.no_dev_deps || args.no_private {
+            Edits::Back
+        } else {
+            Edits::None
+        };
+        let manifest_path = match &args.manifest_path {
+            Some(path) => Some(String::from_str(alloc, path.as_str())?),
+            None => None,
+        };
+        Ok(Asked {
+            edits,
+            manifest_path,
+        })
+    }
+
+    fn nothing() -> Asked {
+        Asked {
+            edits: Edits::None,
+            manifest_path: None,
+        }
     }
 }
 
 /// The folder of the workspace that a call is about, as cargo looks for it: at or above the folder of
-/// `--manifest-path`, or else the current one, the nearest whose manifest is a workspace's; without one,
-/// the nearest with a manifest.
+/// `--manifest-path`, or else the current one, the nearest whose manifest is a workspace's or names
+/// that of its workspace; without one, the nearest with a manifest.
 pub fn workspace<F: Files>(
     alloc: Global,
-    words: &[String],
+    manifest_path: Option<&str>,
     dir: &str,
     files: &mut F,
 ) -> Result<String, AllocError> {
-    let start = start(alloc, words, dir)?;
+    let start = start(alloc, manifest_path, dir)?;
     let mut folder = start.as_str();
     let mut nearest = None;
     // Each folder's path is shorter than that of one inside it.
     for _ in 0..start.len() {
         if let Some(text) = manifest(alloc, folder, files)? {
-            if is_workspace(text.as_str()) {
-                return String::from_str(alloc, folder);
+            match root_of(alloc, text.as_str())? {
+                Root::Here => return String::from_str(alloc, folder),
+                Root::At(path) => return within(alloc, folder, path.as_str()),
+                Root::Unsaid => nearest = nearest.or(Some(folder)),
             }
-            nearest = nearest.or(Some(folder));
         }
         folder = parent(folder);
     }
@@ -64,34 +103,55 @@ pub fn workspace<F: Files>(
 }
 
 /// The folder in which cargo begins to look.
-fn start(alloc: Global, words: &[String], dir: &str) -> Result<String, AllocError> {
-    match manifest_path(words) {
+fn start(alloc: Global, manifest_path: Option<&str>, dir: &str) -> Result<String, AllocError> {
+    match manifest_path {
         Some(path) => {
-            let path = join(alloc, dir, path)?;
-            let path = normal(alloc, path.as_str())?;
+            let path = within(alloc, dir, path)?;
             String::from_str(alloc, parent(path.as_str()))
         }
         None => String::from_str(alloc, dir),
     }
 }
 
-/// The value of `--manifest-path`.
-fn manifest_path(words: &[String]) -> Option<&str> {
-    let mut is_next = false;
-    for word in words {
-        let word = word.as_str();
-        if is_next {
-            return Some(word);
+/// A path that is told in a folder.
+fn within(alloc: Global, folder: &str, path: &str) -> Result<String, AllocError> {
+    let path = join(alloc, folder, path)?;
+    normal(alloc, path.as_str())
+}
+
+/// Where a manifest says that the one of its workspace stands.
+#[derive(Drop)]
+enum Root {
+    /// It is itself a workspace's.
+    Here,
+    /// In another folder, by `package.workspace`.
+    At(String),
+    /// It doesn't say so, or isn't read.
+    Unsaid,
+}
+
+/// Where the manifest of this text says that its workspace is.
+fn root_of(alloc: Global, text: &str) -> Result<Root, AllocError> {
+    let table = match toml::table_from_str(alloc, text) {
+        Ok(table) => table,
+        Err(fault) => {
+            return if fault.is_memory() {
+                Err(AllocError)
+            } else {
+                Ok(Root::Unsaid)
+            };
         }
-        if word == "--" {
-            return None;
-        }
-        if let Some(path) = word.strip_prefix("--manifest-path=") {
-            return Some(path);
-        }
-        is_next = word == "--manifest-path";
+    };
+    if find_table(&table, "workspace").is_some() {
+        return Ok(Root::Here);
     }
-    None
+    let Some(package) = find_table(&table, "package") else {
+        return Ok(Root::Unsaid);
+    };
+    match value_at(package, "workspace") {
+        Some(Value::String(path)) => Ok(Root::At(String::from_str(alloc, path.as_str())?)),
+        _ => Ok(Root::Unsaid),
+    }
 }
 
 /// The manifest in a folder, where there is one.
@@ -130,20 +190,6 @@ pub fn held<F: Files>(
         Err(FileFault::Device) => Ok(None),
         Err(FileFault::Memory) => Err(AllocError),
     }
-}
-
-/// Whether a manifest has a table `[workspace]`.
-fn is_workspace(text: &str) -> bool {
-    for line in text.lines() {
-        let line = line.trim_start();
-        if line.starts_with("[workspace]")
-            || line.starts_with("[workspace.")
-            || line.starts_with("workspace.")
-        {
-            return true;
-        }
-    }
-    false
 }
 
 /// The path of the journal in a folder.

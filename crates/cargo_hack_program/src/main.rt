@@ -4,7 +4,7 @@
 mod journal;
 mod start;
 
-use crate::journal::{Edits, Lock, held, is_there, journal_in, stranger, workspace};
+use crate::journal::{Asked, Edits, Lock, held, is_there, journal_in, stranger, workspace};
 use crate::start::{StartFault, coloring, env_of, words_of};
 use hack_files::fs::{Disk, Files};
 use hack_journal::recover::{RecoverFault, recover};
@@ -44,9 +44,13 @@ fn call<E: Write>(
     let words = words_of(rt)?;
     let env = env_of(rt)?;
     let mut disk = Disk::new(rt);
-    let folder = workspace(alloc, &words, env.current_dir.as_str(), &mut disk)?;
+    let Asked {
+        edits,
+        manifest_path,
+    } = Asked::of(alloc, &words, &env)?;
+    let named = manifest_path.as_ref().map(|path| path.as_str());
+    let folder = workspace(alloc, named, env.current_dir.as_str(), &mut disk)?;
     let journal = journal_in(alloc, folder.as_str())?;
-    let edits = Edits::of(&words);
     let is_journaled = is_there(journal.as_str(), &mut disk)?;
     if edits == Edits::None && !is_journaled {
         return Ok(plain(rt, &words, &env, term, &mut disk, err));
