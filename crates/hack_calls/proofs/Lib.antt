@@ -5,3 +5,6 @@ mod PlanLemmas
 mod PowersetLemmas
 mod CauseLemmas
 mod MadeLemmas
+mod SceneLemmas
+mod OnceLemmas
+mod NeverLemmas

@@ -23,6 +23,7 @@ use crate::scene::scene;
 use crate::words::call_words;
 use hack_load::context::Context;
 use hack_packages::determine::determine_package_list;
+use hack_packages::fault::PackagesFault;
 use hack_packages::packages::PackageList;
 use hack_plan::versions::{Scene, Versions};
 use hack_runs::parts::CallWords;
@@ -58,6 +59,10 @@ pub fn plan_of(
     ensures powersets { IsSome (context_view cx.now).args.subcommand
         → (context_view cx.now).args.feature_powerset ≡ true
         → IfOk result (λ answer. HavePowersets (context_view cx.now) answer.0) }
+
+    // An answer has no cause: the call is refused exactly where one holds.
+    ensures never { IfOk result (λ _. (e : PlanFault)
+        → ¬ IsCauseOf (context_view cx.now).args.subcommand stable (context_view cx.now) e) }
     ensures err { IfErr result (λ e. (e ≡ PlanFault.Memory)
         ⊎ IsCauseOf (context_view cx.now).args.subcommand stable (context_view cx.now) e) }
 {
@@ -87,6 +92,7 @@ fn plan_by(
         → (context_view cx.now).args.feature_powerset ≡ true
         → ¬ ((context_view cx.now).args.workspace_behavior ≡ Cargo)
         → IfOk result (λ answer. AreCovered (context_view cx.now) latest answer.0) }
+    ensures never { IfOk result (λ _. (e : PlanFault) → ¬ IsCause (context_view cx.now) latest e) }
     ensures err { IfErr result (λ e. (e ≡ PlanFault.Memory)
         ⊎ IsCause (context_view cx.now) latest e) }
 {
@@ -113,6 +119,8 @@ fn chosen_list(alloc: Global, cx: &Context) -> Result<(PackageList, Vec<Notice>)
     ensures members { IfOk result (λ answer.
         All (λ id. Contains (context_view cx.now).metadata.workspace_members id.index)
         answer.0.ids.items) }
+    ensures never { IfOk result (λ _. (e : PackagesFault)
+        → ¬ IsChoiceFault (context_view cx.now) e) }
     ensures err { IfErr result (λ e. (e ≡ PlanFault.Memory)
         ⊎ IsListFault (context_view cx.now) e) }
 {

@@ -13,6 +13,7 @@ use Rattle.hack_versions.specs.declared.version.VersionFault.{VersionFault}
 use Rattle.hack_calls.specs.Calls.{IsSceneOf, ArePlanned, HasBadOwn, left_out_notes}
 use Rattle.hack_calls.specs.Made.{run_counts}
 use Rattle.hack_calls.proofs.CauseLemmas.{range-cause, places-cause, counts-same, all-told}
+use Rattle.hack_calls.proofs.NeverLemmas.{no-cause}
 use Rattle.hack_calls.proofs.PlanLemmas.{members-length, planned-length, covers}
 use Rattle.hack_calls.proofs.plan.plan_by.Goals as goal
 
@@ -91,3 +92,27 @@ returns-clause-ok c = λ rustup call.
 pub returns-clause-covered : goal.returns-clause-covered
 returns-clause-covered c = λ rustup call powerset each.
     covers (context_view c.args.cx.now) rustup c.args.latest c.in-Ok.plan _ (returns-clause-ok c rustup call) powerset each
+
+pub returns-clause-never : goal.returns-clause-never
+returns-clause-never c =
+    let cx = context_view c.args.cx.now in
+    let ids = c.in_ok-list.list.ids.items in
+    let single = c.in_ok-list.list.is_single in
+    let scene = c.in_ok-scene.scene in
+    let packages = c.in_ok-packages.packages.items in
+    let on_features = map note_of c.in_ok-packages.on_features.items in
+    no-cause cx c.args.latest (record {
+      ids = map place_at ids;
+      single = single;
+      scene = scene;
+      packages = map package_view packages;
+      notes = map note_of c.in_ok-list.notices.items;
+      on_features = on_features;
+      chosen = c.in_ok-list.ensures.ok;
+      of_call = subst (λ l. IsSceneOf cx (map place_at l) scene) c.as_slice.ensures.value c.in_ok-scene.ensures.ok;
+      planned = subst (λ l. ArePlanned cx single (map place_at l) (map package_view packages) on_features) c.as_slice-ids.ensures.value c.in_ok-packages.ensures;
+      known = c.in_ok-list.ensures.never;
+      readable = subst (λ (l : List PackageId). (e : VersionFault) → ¬ HasBadOwn cx (map place_at l) e) c.as_slice.ensures.value c.in_ok-scene.ensures.never;
+      in_range = c.in_ok-versions.ensures.never;
+      fits = λ many. c.in-Ok.ensures.never (subst (λ v. HasTooMany scene (counts_in packages) v) (sym c.in_ok-versions.ensures.stable) (subst (λ ns. HasTooMany scene ns c.args.latest) (counts-same packages) many));
+    })

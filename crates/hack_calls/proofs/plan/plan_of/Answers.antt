@@ -4,9 +4,11 @@ use Rattle.hack_load.specs.ContextView.{context_view}
 use Rattle.hack_versions.specs.Notes.{note_of}
 use Rattle.hack_words.specs.declared.cli.args.Args.{Args}
 use Rattle.hack_calls.specs.Covered.{AreCovered}
-use Rattle.hack_calls.specs.Made.{IsPlan, IsPlanOf}
+use Rattle.hack_calls.specs.Made.{IsPlan, IsPlanOf, IsCause, IsCauseOf}
+use Rattle.hack_calls.specs.declared.fault.PlanFault.{PlanFault}
 use Rattle.hack_calls.specs.Powersets.{HavePowersets}
 use Rattle.hack_calls.proofs.MadeLemmas.{by-subcommand, same-latest}
+use Rattle.hack_calls.proofs.NeverLemmas.{cause-by}
 use Rattle.hack_calls.proofs.PowersetLemmas.{powersets}
 use Rattle.hack_calls.proofs.plan.plan_of.Goals as goal
 
@@ -31,3 +33,9 @@ returns-in-Ok-clause-powersets c = λ _ powerset.
     IfOk-weaker c.plan_by.result (λ answer. IsPlan cx c.args.rustup.now c.in-Ok.latest answer.0 (map note_of answer.1.items)) (λ answer. HavePowersets cx answer.0)
     (λ answer h. powersets cx c.args.rustup.now c.in-Ok.latest answer.0 (map note_of answer.1.items) h powerset)
     (c.plan_by.ensures.ok c.args.rustup.now c.in_ok-words.ensures)
+
+pub returns-in-Ok-clause-never : goal.returns-in-Ok-clause-never
+returns-in-Ok-clause-never c =
+    let cx = context_view c.args.cx.now in
+    IfOk-weaker c.plan_by.result (λ _. (e : PlanFault) → ¬ IsCause cx c.in-Ok.latest e) (λ _. (e : PlanFault) → ¬ IsCauseOf cx.args.subcommand c.args.stable cx e)
+    (λ answer never e bad. never e (cause-by cx.args.subcommand c.args.stable c.in-Ok.latest cx e c.in-Ok.is bad)) c.plan_by.ensures.never

@@ -1,0 +1,57 @@
+-- A plan leaves no cause: what a cause says of some choice, scene and runs, it would say of the plan's own.
+use Rattle.std.proofs.Common.{◌≡◌, subst, List, ℕ, Bool, Option, Some, None, Result, Ok, String, Global}
+use Rattle.hack_load.specs.Contexts.{ContextRecord}
+use Rattle.hack_packages.specs.ContextMembers.{AreChosen, IsChoiceFault}
+use Rattle.hack_packages.specs.declared.fault.PackagesFault.{PackagesFault}
+use Rattle.hack_plan.specs.Quads.{HasTooMany}
+use Rattle.hack_plan.specs.Scenes.{IsVersionsFault}
+use Rattle.hack_plan.specs.declared.versions.Scene.{Scene}
+use Rattle.hack_runs.specs.View.{PackageView}
+use Rattle.hack_versions.specs.Notes.{Note}
+use Rattle.hack_versions.specs.declared.rustup.RangeFault.{RangeFault}
+use Rattle.hack_versions.specs.declared.version.Version.{Version}
+use Rattle.hack_versions.specs.declared.version.VersionFault.{VersionFault}
+use Rattle.hack_calls.specs.Calls.{ArePlanned, HasBadOwn, IsSceneOf}
+use Rattle.hack_calls.specs.Made.{IsCause, IsCauseBy, IsCauseOf, run_counts}
+use Rattle.hack_calls.specs.declared.fault.PlanFault.{PlanFault}
+use Rattle.hack_calls.specs.declared.fault.PlanFault.TheVariants as fault
+use Rattle.hack_calls.proofs.OnceLemmas.{chosen-once, counts-once, scenes-agree}
+use Rattle.hack_calls.proofs.SceneLemmas.{fault-same, many-same}
+
+-- what is made of a call, where it is refused for none of its parts
+pub record IsSound (cx : ContextRecord) (latest : Option Version) : Type 0 where
+  pub ids : List ℕ
+  pub single : Bool
+  pub scene : Scene
+  pub packages : List PackageView
+  pub notes : List Note
+  pub on_features : List Note
+  pub chosen : AreChosen cx ids single notes
+  pub of_call : IsSceneOf cx ids scene
+  pub planned : ArePlanned cx single ids packages on_features
+  pub known : (e : PackagesFault) → ¬ IsChoiceFault cx e
+  pub readable : (e : VersionFault) → ¬ HasBadOwn cx ids e
+  pub in_range : (e : RangeFault) → ¬ IsVersionsFault scene.range scene latest e
+  pub fits : ¬ HasTooMany scene (run_counts packages) latest
+
+-- then no cause holds
+pub no-cause : (cx : ContextRecord) (latest : Option Version) → IsSound cx latest → (e : PlanFault) → ¬ IsCause cx latest e
+no-cause cx latest h fault.Memory bad = bad
+no-cause cx latest h (fault.Stable text) bad = bad
+no-cause cx latest h (fault.Packages e) bad = h.known e bad
+no-cause cx latest h (fault.Version e) bad = h.readable e (subst (λ ids. HasBadOwn cx ids e) (chosen-once cx bad.ids h.ids bad.single h.single bad.notes h.notes bad.chosen h.chosen) bad.bad)
+no-cause cx latest h (fault.Range e) bad =
+    let ids = chosen-once cx bad.ids h.ids bad.single h.single bad.notes h.notes bad.chosen h.chosen in
+    let agree = scenes-agree cx h.ids bad.scene h.scene (subst (λ l. IsSceneOf cx l bad.scene) ids bad.of_call) h.of_call in
+    h.in_range e (fault-same bad.scene h.scene agree latest e bad.bad)
+no-cause cx latest h fault.TooManyRuns bad =
+    let ids = chosen-once cx bad.ids h.ids bad.single h.single bad.notes h.notes bad.chosen h.chosen in
+    let agree = scenes-agree cx h.ids bad.scene h.scene (subst (λ l. IsSceneOf cx l bad.scene) ids bad.of_call) h.of_call in
+    let planned = subst (λ l. ArePlanned cx bad.single l bad.packages bad.on_features) ids bad.planned in
+    let counts = counts-once cx h.ids bad.single h.single bad.packages h.packages bad.on_features h.on_features planned h.planned in
+    h.fits (subst (λ ns. HasTooMany h.scene ns latest) counts (many-same bad.scene h.scene agree (run_counts bad.packages) latest bad.many))
+
+-- a cause that is told by what was answered of `stable` is one for this version
+pub cause-by : (subcommand : Option (String Global)) (stable : Result (Option Version) (String Global)) (latest : Option Version) (cx : ContextRecord) (e : PlanFault) → stable ≡ Ok latest → IsCauseOf subcommand stable cx e → IsCause cx latest e
+cause-by None stable latest cx e is bad = absurd bad
+cause-by (Some name) stable latest cx e is bad = subst (λ s. IsCauseBy s cx e) is bad
