@@ -2,5 +2,6 @@ mod BackLemmas
 mod CallLemmas
 mod HeadlineLemmas
 mod JournalLemmas
+mod MadeLemmas
 mod RunLemmas
 mod WholeLemmas

@@ -1,5 +1,6 @@
 pub mod Headline
 pub mod Journals
+pub mod Made
 pub mod Questions
 pub mod Restores
 pub mod Runs

@@ -1,14 +1,15 @@
 //! What rustup is asked before there is a plan: its own version, and that of the toolchain `stable`.
 
-ghost use Rattle.std.specs.Prelude.{◌≡◌, IfOk, IfSome, IsSome, IsSomeAnd, None, Ok, OnOk, false, string_bytes};
-ghost use Rattle.std.specs.Prelude.{true};
+ghost use Rattle.std.specs.Prelude.{◌≡◌, IfOk, IfSome, IsSome, IsSomeAnd, None, Ok, OnErr, OnOk, false};
+ghost use Rattle.std.specs.Prelude.{string_bytes, true};
 ghost use Rattle.hack_features.specs.Names.{names_of};
 ghost use Rattle.hack_process.specs.Calls.{MayAdd};
 ghost use Rattle.hack_process.specs.CargoTexts.{release_part};
-ghost use Rattle.hack_process.specs.Commands.{command_of};
+ghost use Rattle.hack_process.specs.Commands.{asked_of, command_of};
 ghost use Rattle.hack_versions.specs.RangeSteps.{NeedsStable};
 ghost use Rattle.hack_versions.specs.ToolTexts.{TellsRelease};
 ghost use Rattle.hack_words.specs.Start.{wants_rustup as rustup_wanted};
+ghost use Rattle.hack_run.specs.Made.{FailsStable, MayAskStable};
 ghost use Rattle.hack_run.specs.Questions.{AsksStable, InstallsStable, IsLatest, NeedsAnswer};
 ghost use Rattle.hack_run.specs.Questions.{AsksRustup, IsAnswered, IsUnknown, ReadsStable};
 ghost use Rattle.hack_run.specs.Questions.{TellsMinor};
@@ -39,6 +40,7 @@ pub(crate) fn rustup_for<C: Caller>(
     ensures asked { IfOk result (λ known. C.tells → AsksRustup
         (rustup_wanted (names_of words.now)) (string_bytes env.now.rustup) known
         (C.calls caller.old) (C.calls caller.new)) }
+    ensures unneeded { rustup_wanted (names_of words.now) ≡ false → caller.new ≡ caller.old }
 {
     if !wants_rustup(words) {
         return Ok(Rustup::Known(u32::MAX));
@@ -113,6 +115,9 @@ pub(crate) fn stable_for<C: Caller>(
         stable (C.calls caller.old) (C.calls caller.new)) }
     ensures unasked { IfOk result (λ stable. ¬ NeedsAnswer args.now → stable ≡ Ok None) }
     ensures needed { IfOk result (IsAnswered args.now) }
+    ensures made { C.tells → MayAskStable (string_bytes env.now.rustup)
+        (C.calls caller.old) (C.calls caller.new) }
+    ensures unneeded { ¬ NeedsAnswer args.now → caller.new ≡ caller.old }
 {
     if args.subcommand.is_none() || !is_stable_asked(args) {
         return Ok(Ok(None));
@@ -141,7 +146,9 @@ fn installed<C: Caller>(
     term: &Term,
     caller: &mut C,
 ) -> Result<(), ProcessFault>
-    ensures { OnOk result (C.tells → InstallsStable (string_bytes env.now.rustup)
+    ensures ok { OnOk result (C.tells → InstallsStable (string_bytes env.now.rustup)
+        (C.calls caller.old) (C.calls caller.new)) }
+    ensures err { OnErr result (C.tells → FailsStable (string_bytes env.now.rustup)
         (C.calls caller.old) (C.calls caller.new)) }
 {
     let mut screen = Screen {
@@ -190,8 +197,10 @@ fn stable_version<C: Caller>(
     verbose: bool,
     caller: &mut C,
 ) -> Result<Result<Option<Version>, String>, AllocError>
-    ensures { IfOk result (IsLatest (λ v. C.tells → ReadsStable (string_bytes env.now.rustup) v
+    ensures read { IfOk result (IsLatest (λ v. C.tells → ReadsStable (string_bytes env.now.rustup) v
         (C.calls caller.old) (C.calls caller.new))) }
+    ensures may { C.tells → MayAdd (asked_of true (asks_stable (string_bytes env.now.rustup)))
+        (C.calls caller.old) (C.calls caller.new) }
 {
     let asked = stable_command(alloc, env)?;
     match asked.read(alloc, caller, env.current_dir.as_str()) {

@@ -3,6 +3,7 @@
 ghost use Rattle.std.specs.Prelude.{◌≡◌, ◌⊎◌, ◌&&◌, IfErr, IfOk, List, map, not};
 ghost use Rattle.hack_calls.specs.Made.{IsCauseOf, IsPlanOf};
 ghost use Rattle.hack_load.specs.ContextView.{context_view};
+ghost use Rattle.hack_runs.specs.View.{PlanView};
 ghost use Rattle.hack_session.specs.Performs.{HasTold};
 ghost use Rattle.hack_versions.specs.Notes.{Note, note_of};
 ghost use Rattle.hack_run.specs.Headline.{IsHandedOut};
@@ -59,6 +60,13 @@ pub fn drive_context<R: Teller>(
     // Where memory wasn't refused, a cause holds for which there is no plan.
     ensures err { IfErr result (λ e. (e ≡ PlanFault.Memory)
         ⊎ IsCauseOf (context_view cx.now).args.subcommand stable (context_view cx.now) e) }
+
+    // Where it is refused, nothing was handed out: nothing was done at all, or memory was refused behind
+    // the plan, and the runner was told just its notices.
+    ensures refused { IfErr result (λ e. (runner.new ≡ runner.old)
+        ⊎ ((e ≡ PlanFault.Memory) × (plan : PlanView) × (notes : List Note)
+        × IsPlanOf (context_view cx.now).args.subcommand stable (context_view cx.now) rustup.now
+        plan notes × R.told notes runner.old runner.new)) }
 {
     let (plan, notices) = plan_of(alloc, cx, rustup, stable)?;
     runner.tell(notices.as_slice());

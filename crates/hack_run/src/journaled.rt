@@ -6,6 +6,7 @@ ghost use Rattle.hack_files.specs.Files.{KeepsAll};
 ghost use Rattle.hack_journal.specs.Safe.{StaysSafe};
 ghost use Rattle.hack_process.specs.Calls.{MayAdd};
 ghost use Rattle.hack_run.specs.Journals.{seen};
+ghost use Rattle.hack_run.specs.Made.{MadeOnce};
 ghost use Rattle.hack_run.specs.Questions.{rustup_asked};
 ghost use Rattle.hack_run.specs.Restores.{RestoresEdits};
 ghost use Rattle.hack_run.specs.Whole.{AreRefused, IsDone};
@@ -39,8 +40,9 @@ pub fn run_journaled<F: Files, L: Files, C: Caller, O: Write, E: Write>(
         ↔ (IsTrue term.new.error ⊎ (IsTrue term.new.warn × IsTrue env.now.deny_warnings)) }
     ensures at_most_one { result.0 ≤ 1 }
 
-    // What is refused, and what was done where no error was told, is what `run` says; and then each
-    // path holds what it held, unless the words ask for edits that stay.
+    // What is refused, what was done where no error was told, and what was called whatever came of it,
+    // is what `run` says; and where no error was told each path holds what it held, unless the words
+    // ask for edits that stay.
     ensures refused { AreRefused env.now (names_of words.now) → (term.new.error ≡ true)
         × (C.tells → MayAdd (rustup_asked (string_bytes env.now.rustup))
         (C.calls runner.old) (C.calls runner.new)) }
@@ -48,6 +50,9 @@ pub fn run_journaled<F: Files, L: Files, C: Caller, O: Write, E: Write>(
         → IsDone (names_of words.now) env.now
         (seen (string_bytes journal) (F.bytes_at files) (L.bytes_at lockfiles))
         (seen (string_bytes journal) (F.bytes_at result.1) (L.bytes_at result.2)) 0
+        (C.calls runner.old) (C.calls runner.new) }
+    ensures made { C.tells → F.tells → L.tells → MadeOnce (names_of words.now) env.now
+        (seen (string_bytes journal) (F.bytes_at files) (L.bytes_at lockfiles)) 0
         (C.calls runner.old) (C.calls runner.new) }
     ensures clean { term.new.error ≡ false → RestoresEdits env.now (names_of words.now)
         → F.tells → L.tells → KeepsAll

@@ -1,7 +1,8 @@
 //! The command list of a plan.
 
-ghost use Rattle.std.specs.Prelude.{◌≡◌, None, Ok, OnOk, false};
+ghost use Rattle.std.specs.Prelude.{◌≡◌, None, Ok, OnOk, false, true};
 ghost use Rattle.hack_load.specs.ContextView.{context_view};
+ghost use Rattle.hack_run.specs.Made.{HandsOverAtMostOne, PerformsAtMostOne};
 ghost use Rattle.hack_run.specs.Questions.{IsAnswered};
 ghost use Rattle.hack_run.specs.Runs.{DoesPlan, ListsOver, SendsAll};
 
@@ -42,9 +43,11 @@ pub(crate) fn list<C: Caller, O: Write, E: Write>(
     err: &mut E,
 ) -> Result<(), RunFault>
     requires { IsAnswered (context_view cx.now).args stable }
-    ensures { OnOk result (term.new.error ≡ false → C.tells
+    ensures done { OnOk result (term.new.error ≡ false → C.tells
         → DoesPlan SendsAll (context_view cx.now) stable rustup.now
         (C.calls caller.old) (C.calls caller.new)) }
+    ensures made { C.tells → PerformsAtMostOne true (context_view cx.now) stable rustup.now
+        (C.calls caller.old) (C.calls caller.new) }
 {
     let mut buffer = match BufWriter::new(alloc, out) {
         Ok(buffer) => buffer,
@@ -67,9 +70,11 @@ fn hand_to_lister<C: Caller, O: Write, E: Write>(
     err: &mut E,
 ) -> Listed
     requires { IsAnswered (context_view cx.now).args stable }
-    ensures { result.refused ≡ Ok false → result.fault ≡ None → result.failed ≡ 0
+    ensures done { result.refused ≡ Ok false → result.fault ≡ None → result.failed ≡ 0
         → term.new.error ≡ false → C.tells
         → DoesPlan SendsAll (context_view cx.now) stable rustup.now
+        (C.calls caller.old) (C.calls caller.new) }
+    ensures made { C.tells → PerformsAtMostOne true (context_view cx.now) stable rustup.now
         (C.calls caller.old) (C.calls caller.new) }
 {
     let mut nothing = io::sink();
@@ -103,8 +108,10 @@ fn list_over<'a, W: Lines, R: Teller>(
     runner: &'a mut R,
 ) -> Result<bool, PlanFault>
     requires { IsAnswered (context_view cx.now).args stable }
-    ensures { result ≡ Ok false → W.failed out.old ≡ 0 → W.failed out.new ≡ 0
+    ensures done { result ≡ Ok false → W.failed out.old ≡ 0 → W.failed out.new ≡ 0
         → ListsOver R.told R.ran (context_view cx.now) stable rustup.now runner.old runner.new }
+    ensures made { HandsOverAtMostOne R.told R.ran (context_view cx.now) stable rustup.now
+        runner.old runner.new }
 {
     let mut lister = Lister {
         alloc,

@@ -5,6 +5,7 @@ ghost use Rattle.std.specs.Prelude.{string_bytes};
 ghost use Rattle.hack_features.specs.Names.{names_of};
 ghost use Rattle.hack_load.specs.LeavesFew.{LeavesFew};
 ghost use Rattle.hack_process.specs.Calls.{MayAdd};
+ghost use Rattle.hack_run.specs.Made.{MadeOnce, TriesOnce, listing_asked};
 ghost use Rattle.hack_run.specs.Questions.{rustup_asked};
 ghost use Rattle.hack_run.specs.Restores.{ComesBack, IsClean, RestoresEdits};
 ghost use Rattle.hack_run.specs.Whole.{AreRefused, IsDone, ListsCommands, Obeys};
@@ -54,6 +55,11 @@ pub fn run<F: Files, C: Caller, O: Write, E: Write>(
         env.now (F.bytes_at files.old) (F.bytes_at files.new) (F.failed files.old)
         (C.calls runner.old) (C.calls runner.new) }
 
+    // Whatever comes of the call: behind its questions the steps of one history of the plan made just
+    // their calls, or no step did.
+    ensures made { C.tells → F.tells → MadeOnce (names_of words.now) env.now
+        (F.bytes_at files.old) (F.failed files.old) (C.calls runner.old) (C.calls runner.new) }
+
     // Files come back: unless the words ask for edits that stay, each path holds what it held, but
     // for at most as many paths as calls of the files failed.
     ensures back { RestoresEdits env.now (names_of words.now) → F.tells → LeavesFew (Unit {0})
@@ -89,6 +95,8 @@ fn read<F: Files, C: Caller, O: Write, E: Write>(
     ensures done { OnOk result (term.new.error ≡ false → C.tells → F.tells
         → IsDone (names_of words.now) env.now (F.bytes_at files.old) (F.bytes_at files.new)
         (F.failed files.old) (C.calls runner.old) (C.calls runner.new)) }
+    ensures made { C.tells → F.tells → MadeOnce (names_of words.now) env.now
+        (F.bytes_at files.old) (F.failed files.old) (C.calls runner.old) (C.calls runner.new) }
     ensures back { RestoresEdits env.now (names_of words.now) → F.tells → LeavesFew (Unit {0})
         (F.bytes_at files.old) (F.bytes_at files.new) (F.failed files.old) (F.failed files.new) }
     ensures clean { OnOk result (term.new.error ≡ false
@@ -132,6 +140,8 @@ fn obey<F: Files, C: Caller, O: Write, E: Write>(
     ensures done { OnOk result (term.new.error ≡ false → C.tells → F.tells
         → Obeys parsed env.now (F.bytes_at files.old) (F.bytes_at files.new)
         (F.failed files.old) (C.calls runner.old) (C.calls runner.new)) }
+    ensures made { C.tells → F.tells → TriesOnce parsed env.now (F.bytes_at files.old)
+        (F.failed files.old) (C.calls runner.old) (C.calls runner.new) }
     ensures back { ComesBack parsed → F.tells → LeavesFew (Unit {0})
         (F.bytes_at files.old) (F.bytes_at files.new) (F.failed files.old) (F.failed files.new) }
     ensures clean { OnOk result (term.new.error ≡ false → IsClean (ComesBack parsed) F.tells
@@ -170,8 +180,10 @@ fn print<O: Write>(text: &str, out: &mut O) -> Result<(), RunFault> {
 
 /// Has cargo list its commands.
 fn list_commands<C: Caller>(alloc: Global, env: &Env, runner: &mut C) -> Result<(), RunFault>
-    ensures { OnOk result (C.tells → ListsCommands (string_bytes env.now.cargo)
+    ensures done { OnOk result (C.tells → ListsCommands (string_bytes env.now.cargo)
         (C.calls runner.old) (C.calls runner.new)) }
+    ensures made { C.tells → MayAdd (listing_asked (string_bytes env.now.cargo))
+        (C.calls runner.old) (C.calls runner.new) }
 {
     let mut command = ProcessBuilder::new(alloc, env.cargo.as_str())?;
     command.arg("--list")?;

@@ -10,6 +10,7 @@ ghost use Rattle.hack_load.specs.ContextView.{context_view};
 ghost use Rattle.hack_load.specs.LeavesFew.{LeavesFew};
 ghost use Rattle.hack_prepare.specs.PreparedView.{HoldTextsIn, IsPreparedIn};
 ghost use Rattle.hack_prepare.specs.Steps.{Grows};
+ghost use Rattle.hack_run.specs.Made.{AfterAnswers, MakesOnce, PerformsAtMostOne};
 ghost use Rattle.hack_run.specs.Restores.{IsClean};
 ghost use Rattle.hack_run.specs.Questions.{IsAnswered};
 ghost use Rattle.hack_run.specs.Runs.{Does, DoesPlan};
@@ -46,6 +47,8 @@ pub(crate) fn perform<F: Files, C: Caller, O: Write, E: Write>(
     ensures done { OnOk result (term.new.error ≡ false → C.tells → F.tells
         → Performs args env.now (F.bytes_at files.old) (F.bytes_at files.new)
         (F.failed files.old) (C.calls caller.old) (C.calls caller.new)) }
+    ensures made { C.tells → F.tells → MakesOnce args env.now (F.bytes_at files.old)
+        (F.failed files.old) (C.calls caller.old) (C.calls caller.new) }
     ensures back { args.remove_dev_deps ≡ false → F.tells → LeavesFew (Unit {0})
         (F.bytes_at files.old) (F.bytes_at files.new) (F.failed files.old) (F.failed files.new) }
     ensures clean { OnOk result (term.new.error ≡ false
@@ -88,6 +91,8 @@ fn follow<F: Files, C: Caller, O: Write, E: Write>(
         → (F.tells × IfOk answers.loaded (IsLoaded F.tells (F.bytes_at files.old) env.now))
         → Follows args answers (string_bytes env.now.rustup)
         (F.bytes_at files.old) (F.bytes_at files.new) (C.calls caller.old) (C.calls caller.new)) }
+    ensures made { C.tells → AfterAnswers args answers (string_bytes env.now.rustup)
+        (C.calls caller.old) (C.calls caller.new) }
     ensures unkept { manager.old.needs_restore ≡ false
         → registered manager.new ≡ registered manager.old }
     ensures grows { Grows (F.failed files.old) (F.failed files.new) }
@@ -176,9 +181,11 @@ fn run_plan<C: Caller, O: Write, E: Write>(
     err: &mut E,
 ) -> Result<(), RunFault>
     requires { IsAnswered (context_view cx.now).args stable }
-    ensures { OnOk result (term.new.error ≡ false → C.tells
+    ensures done { OnOk result (term.new.error ≡ false → C.tells
         → DoesPlan (Does (context_view cx.now).args.print_command_list) (context_view cx.now)
         stable rustup.now (C.calls caller.old) (C.calls caller.new)) }
+    ensures made { C.tells → PerformsAtMostOne (context_view cx.now).args.print_command_list
+        (context_view cx.now) stable rustup.now (C.calls caller.old) (C.calls caller.new) }
 {
     if cx.args().print_command_list {
         return list(alloc, cx, rustup, stable, term, caller, out, err);

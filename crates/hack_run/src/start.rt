@@ -2,6 +2,7 @@
 
 ghost use Rattle.std.specs.Prelude.{◌≡◌, None, OnOk, false};
 ghost use Rattle.hack_load.specs.ContextView.{context_view};
+ghost use Rattle.hack_run.specs.Made.{PerformsAtMostOne};
 ghost use Rattle.hack_run.specs.Questions.{IsAnswered};
 ghost use Rattle.hack_run.specs.Runs.{DoesPlan, RunsAll};
 
@@ -28,9 +29,11 @@ pub(crate) fn start<C: Caller, O: Write, E: Write>(
     err: &mut E,
 ) -> Result<(), RunFault>
     requires { IsAnswered (context_view cx.now).args stable }
-    ensures { OnOk result (term.new.error ≡ false → C.tells
+    ensures done { OnOk result (term.new.error ≡ false → C.tells
         → DoesPlan RunsAll (context_view cx.now) stable rustup.now
         (C.calls caller.old) (C.calls caller.new)) }
+    ensures made { C.tells → PerformsAtMostOne false (context_view cx.now) stable rustup.now
+        (C.calls caller.old) (C.calls caller.new) }
 {
     let mut fault = None;
     let session = match drive(
@@ -90,9 +93,11 @@ fn drive<C: Caller, O: Write, E: Write>(
     err: &mut E,
 ) -> Result<Session, PlanFault>
     requires { IsAnswered (context_view cx.now).args stable }
-    ensures { OnOk result (fault.new ≡ None → term.new.error ≡ false → C.tells
+    ensures done { OnOk result (fault.new ≡ None → term.new.error ≡ false → C.tells
         → DoesPlan RunsAll (context_view cx.now) stable rustup.now
         (C.calls caller.old) (C.calls caller.new)) }
+    ensures made { C.tells → PerformsAtMostOne false (context_view cx.now) stable rustup.now
+        (C.calls caller.old) (C.calls caller.new) }
 {
     let (log_group, keep_going) = (cx.args().log_group, cx.args().keep_going);
     let mut starter = starter(alloc, log_group, keep_going, fault, term, caller, out, err);

@@ -1,17 +1,25 @@
-use Rattle.std.proofs.Common.{string_bytes}
+use Rattle.std.proofs.Common.{◌≡◌, string_bytes, subst, true}
+use Rattle.hack_process.specs.Calls.{IsSuccess, MayAdd}
 use Rattle.hack_process.specs.CargoTexts.{release_part}
-use Rattle.hack_process.specs.Commands.{command_of}
+use Rattle.hack_process.specs.Commands.{asked_of, command_of}
+use Rattle.hack_process.specs.CommandTexts.{text_of}
+use Rattle.hack_process.specs.Faults.{without_line_ends}
 use Rattle.hack_versions.specs.ToolTexts.{TellsRelease}
 use Rattle.hack_run.specs.Questions.{ReadsStable}
-use Rattle.hack_run.proofs.CallLemmas.{answer_map, reads}
+use Rattle.hack_run.proofs.CallLemmas.{answer_map, read_may, reads}
 use Rattle.hack_run.proofs.ask.stable_version.Goals as goal
 
 -- src/ask.rt:174:1
-pub returns-in-Ok : goal.returns-in-Ok
-returns-in-Ok g c =
+pub returns-in-Ok-clause-read : goal.returns-in-Ok-clause-read
+returns-in-Ok-clause-read g c =
     answer_map (TellsRelease (release_part c.as_str-in-Ok.result.now))
     (λ v. g.C.Caller.tells → ReadsStable (string_bytes c.args.env.now.rustup) v (g.C.Caller.calls c.args.caller.now) (g.C.Caller.calls c.read.new.caller))
     c.stable_in.result
     (reads g.C.Caller.tells (string_bytes c.args.env.now.rustup) c.as_str-in-Ok.result.now (command_of c.in_ok-asked.asked) (g.C.Caller.calls c.args.caller.now) (g.C.Caller.calls c.read.new.caller) c.in_ok-asked.ensures
     (rw c.as_str-in-Ok.ensures.value c.in-Ok.ensures.ok))
     c.stable_in.ensures
+
+pub returns-clause-may : goal.returns-clause-may
+returns-clause-may g c = λ t.
+    subst (λ k. MayAdd (asked_of true k) (g.C.Caller.calls c.args.caller.now) (g.C.Caller.calls c.read.new.caller)) c.in_ok-asked.ensures
+    (read_may g.C.Caller.tells (λ text answer. IsSuccess answer.end × (string_bytes text ≡ without_line_ends answer.stdout)) (asked_of true (command_of c.in_ok-asked.asked)) (text_of true c.as_str.result.now (command_of c.in_ok-asked.asked)) (g.C.Caller.calls c.args.caller.now) (g.C.Caller.calls c.read.new.caller) c.read.result c.read.ensures.ok c.read.ensures.err t)

@@ -17,6 +17,10 @@ returns-clause-done g c = λ quiet t files lockfiles.
     subst (λ (last : Contents). IsDone (names_of c.args.words.now) c.args.env.now (seen (string_bytes c.args.journal) (bytes c.args.files) (g.L.Files.bytes_at c.args.lockfiles)) last 0 (g.C.Caller.calls c.args.runner.now) (g.C.Caller.calls c.run-status.new.runner))
     (seen_same (string_bytes c.args.journal) (string_bytes mid.files.journal) (bytes mid.files.files) (bytes c.finish.new.self.files) (bytes c.into_inner.result) (g.L.Files.bytes_at mid.lockfiles) ran.0.0 (c.finish.ensures.others files) (rw c.into_inner.ensures refl)) did
 
+pub returns-clause-made : goal.returns-clause-made
+returns-clause-made g c = λ t files lockfiles.
+    rw (c.new-files.ensures.files, c.new-files.ensures.lockfiles, c.new-files.ensures.failures, c.new.ensures.journal, c.new.ensures.files) at (c.run-status.ensures.made t (files, lockfiles))
+
 pub returns-clause-clean : goal.returns-clause-clean
 returns-clause-clean g c = λ quiet back files lockfiles.
     let mid = c.run-status.new.files in

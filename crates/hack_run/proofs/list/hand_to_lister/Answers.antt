@@ -7,11 +7,11 @@ use Rattle.hack_run.proofs.RunLemmas.{sends_all}
 use Rattle.hack_run.proofs.list.hand_to_lister.Goals as goal
 
 -- src/list.rt:61:1
-pub returns : goal.returns
-returns g c = λ ok none short quiet t.
+pub returns-clause-done : goal.returns-clause-done
+returns-clause-done g c = λ ok none short quiet t.
     let cx = context_view c.args.cx.now in
     let calls = g.C.Caller.calls in
-    let l = c.list_over-refused.ensures ok refl short in
+    let l = c.list_over-refused.ensures.done ok refl short in
     let last = c.list_over-refused.new.runner in
     let caller_is = c.caller-1.given.1 (sym c.starter-starter.ensures.caller.0 ∙ l.told.0 ∙ l.ran.0) in
     let term_is = c.term-1.given.1 (sym c.starter-starter.ensures.term.0 ∙ l.told.1 ∙ l.ran.1) in

@@ -1,10 +1,11 @@
-use Rattle.std.proofs.Common.{◌≡◌, false, IfOk, string_bytes, subst, sym}
+use Rattle.std.proofs.Common.{◌≡◌, ap, false, IfOk, inl, inr, refl, string_bytes, subst, sym}
 use Rattle.hack_load.specs.Answers.{IsLoaded}
 use Rattle.hack_load.specs.ContextView.{context_view}
 use Rattle.hack_prepare.proofs.HeldLemmas.{loaded-holds}
 use Rattle.hack_words.specs.declared.cli.args.Args.{Args}
 use Rattle.hack_run.specs.Questions.{NeedsAnswer}
 use Rattle.hack_run.proofs.BackLemmas.{counted_ok}
+use Rattle.hack_run.proofs.MadeLemmas.{goes_on}
 use Rattle.hack_run.proofs.WholeLemmas.{follows}
 use Rattle.hack_run.proofs.stages.follow.Goals as goal
 
@@ -16,7 +17,7 @@ returns-clause-done g c =
     c.args.answers (string_bytes c.args.env.now.rustup) held (g.F.Files.bytes_at c.edit.new.files)
     (g.C.Caller.calls c.args.caller.now) (g.C.Caller.calls c.stable_for.new.caller) (g.C.Caller.calls c.run_plan.new.caller) cx c.in_ok-stable.stable
     (λ u. c.in_ok-edit.ensures.prepared u.0 (loaded-holds g.F.Files.tells held c.args.env.now c.args.args c.args.answers cx u.0 u.1 c.in_ok-cx.ensures))
-    c.in_ok-cx.ensures c.in_ok-stable.ensures.asked (λ off. c.in_ok-stable.ensures.unasked (subst (λ (a : Args). ¬ NeedsAnswer a) (sym c.args-2.ensures) off)) (rw c.as_str.ensures.value at c.run_plan.ensures)
+    c.in_ok-cx.ensures c.in_ok-stable.ensures.asked (λ off. c.in_ok-stable.ensures.unasked (subst (λ (a : Args). ¬ NeedsAnswer a) (sym c.args-2.ensures) off)) (rw c.as_str.ensures.value at c.run_plan.ensures.done)
 
 pub returns-in_err-edit-clause-safe : goal.returns-in_err-edit-clause-safe
 returns-in_err-edit-clause-safe g c = λ t read.
@@ -32,3 +33,27 @@ returns-clause-safe g c = λ t read.
 
 pub returns-clause-counted : goal.returns-clause-counted
 returns-clause-counted g c = counted_ok c.run_plan.result c.args.answers.loaded _ (g.F.Files.failed c.args.files.now) (g.F.Files.failed c.edit.new.files) c.in_ok-cx.ensures.1 c.in_ok-edit.ensures.counted
+
+pub returns-in_err-stable-clause-made : goal.returns-in_err-stable-clause-made
+returns-in_err-stable-clause-made g c = λ t.
+    inr (
+      context_view c.in_ok-cx.cx,
+      c.in_ok-cx.ensures,
+      record {
+        mid = g.C.Caller.calls c.stable_for.new.caller;
+        asked = c.stable_for.ensures.made t;
+        needed = λ off. ap g.C.Caller.calls (c.stable_for.ensures.unneeded (subst (λ (a : Args). ¬ NeedsAnswer a) (sym c.args-2.ensures) off));
+        runs = inl refl;
+      },
+    )
+
+pub returns-clause-made : goal.returns-clause-made
+returns-clause-made g c = λ t.
+    inr (
+      context_view c.in_ok-cx.cx,
+      c.in_ok-cx.ensures,
+      goes_on (context_view c.in_ok-cx.cx) c.in_ok-stable.stable (string_bytes c.args.env.now.rustup)
+          (g.C.Caller.calls c.args.caller.now) (g.C.Caller.calls c.stable_for.new.caller) (g.C.Caller.calls c.run_plan.new.caller) (c.stable_for.ensures.made t)
+          (λ off. ap g.C.Caller.calls (c.stable_for.ensures.unneeded (subst (λ (a : Args). ¬ NeedsAnswer a) (sym c.args-2.ensures) off)))
+          (c.in_ok-stable.ensures.asked t) (rw c.as_str.ensures.value at (c.run_plan.ensures.made t)),
+    )

@@ -6,8 +6,8 @@ use Rattle.hack_run.specs.Runs.{DoesPlan, RunsAll}
 use Rattle.hack_run.proofs.RunLemmas.{runs_all}
 use Rattle.hack_run.proofs.start.drive.Goals as goal
 
-pub returns : goal.returns
-returns g c = λ none quiet t.
+pub returns-clause-done : goal.returns-clause-done
+returns-clause-done g c = λ none quiet t.
     let cx = context_view c.args.cx.now in
     let calls = g.C.Caller.calls in
     let session = c.in_ok-session.session in

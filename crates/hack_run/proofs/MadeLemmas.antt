@@ -1,0 +1,29 @@
+-- What a call called, put together from its stages.
+use Rattle.std.proofs.Common.{◌≡◌, ◌⊎◌, inl, inr, List, Option, Result, Ok, Err, OnErr, Global, String}
+use Rattle.hack_features.specs.Names.{Name}
+use Rattle.hack_load.specs.Contexts.{ContextRecord}
+use Rattle.hack_process.specs.Calls.{Call}
+use Rattle.hack_process.specs.declared.fault.ProcessFault.{ProcessFault}
+use Rattle.hack_process.specs.declared.fault.ProcessFault.TheVariants as process
+use Rattle.hack_session.specs.Performs.{Comes, Makes}
+use Rattle.hack_session.specs.declared.step.Outcome.{Outcome}
+use Rattle.hack_session.specs.declared.step.Outcome.TheVariants.{Failed}
+use Rattle.hack_versions.specs.declared.version.Version.{Version}
+use Rattle.hack_run.specs.Made.{GoesOn, MayAskStable, PerformsAtMostOne}
+use Rattle.hack_run.specs.Questions.{AsksStable, NeedsAnswer}
+
+-- where calls come to a fault they failed, or memory was refused
+pub fails : {T : Type 0} (tells : Type 0) (Ended : List Call → Outcome → Type 0) (Cut : List Call → Type 0) (old new : List Call) (r : Result T ProcessFault)
+    → (tells → Makes (λ calls. Comes (Ended calls) (Cut calls) r) old new) → OnErr r (tells → Makes (λ calls. Ended calls Failed ⊎ Cut calls) old new)
+fails tells Ended Cut old new (Ok done) h = tt
+fails tells Ended Cut old new (Err process.Memory) h = λ t. let m = h t in record { made = m.made; grown = m.grown; such = inr m.such }
+fails tells Ended Cut old new (Err process.EmptyProgram) h = λ t. let m = h t in record { made = m.made; grown = m.grown; such = inl m.such }
+fails tells Ended Cut old new (Err (process.NeverExecuted text)) h = λ t. let m = h t in record { made = m.made; grown = m.grown; such = inl m.such }
+fails tells Ended Cut old new (Err (process.NotText text)) h = λ t. let m = h t in record { made = m.made; grown = m.grown; such = inl m.such }
+fails tells Ended Cut old new (Err (process.Failed failure)) h = λ t. let m = h t in record { made = m.made; grown = m.grown; such = inl m.such }
+
+-- behind what was asked of stable
+pub goes_on : (cx : ContextRecord) (stable : Result (Option Version) (String Global)) (rustup : Name) (old mid new : List Call) → MayAskStable rustup old mid → (¬ NeedsAnswer cx.args → mid ≡ old)
+    → AsksStable rustup stable old mid → PerformsAtMostOne cx.args.print_command_list cx stable rustup mid new → GoesOn cx rustup old new
+goes_on cx stable rustup old mid new asked needed told (inl same) = record { mid = mid; asked = asked; needed = needed; runs = inl same }
+goes_on cx stable rustup old mid new asked needed told (inr one) = record { mid = mid; asked = asked; needed = needed; runs = inr (record { stable = stable; told = told; performs = one }) }

@@ -1,0 +1,125 @@
+-- What a call called, whatever came of it.
+use Rattle.std.specs.Prelude.{ℕ, ◌≡◌, ◌⊎◌, ◌∷◌, [], Bool, List, Option, Result, codes, false, filter, string_bytes, true}
+use Rattle.std.proofs.Common.{Global, String}
+use Rattle.hack_features.specs.Names.{Name}
+use Rattle.hack_files.specs.Files.{Contents}
+use Rattle.hack_load.specs.Answers.{AreAnswers}
+use Rattle.hack_load.specs.ContextOf.{IsContextFrom}
+use Rattle.hack_load.specs.Contexts.{ContextRecord}
+use Rattle.hack_load.specs.declared.answers.Answers.{Answers}
+use Rattle.hack_process.specs.Calls.{Asked, Call, MayAdd}
+use Rattle.hack_process.specs.Commands.{asked_of}
+use Rattle.hack_runs.specs.Commands.{plain_command}
+use Rattle.hack_runs.specs.View.{PlanView}
+use Rattle.hack_session.specs.Histories.{Course}
+use Rattle.hack_session.specs.Lists.{is_sent}
+use Rattle.hack_session.specs.Performs.{BreaksInstall, Installs, Makes, PerformsAll}
+use Rattle.hack_session.specs.Toolchains.{addition_of, trial_of}
+use Rattle.hack_session.specs.declared.step.Handed.{Handed}
+use Rattle.hack_session.specs.declared.step.Outcome.TheVariants.{Failed}
+use Rattle.hack_versions.specs.Notes.{Note}
+use Rattle.hack_versions.specs.declared.rustup.Rustup.{Rustup}
+use Rattle.hack_versions.specs.declared.version.Version.{Version}
+use Rattle.hack_words.specs.Answers.{Answers as IsAnswer, around_of}
+use Rattle.hack_words.specs.Call.{ComesTo}
+use Rattle.hack_words.specs.Start.{wants_rustup}
+use Rattle.hack_words.specs.declared.cli.args.Args.{Args}
+use Rattle.hack_words.specs.declared.cli.env.Env.{Env}
+use Rattle.hack_words.specs.declared.cli.parse.Parsed.{Parsed}
+use Rattle.hack_words.specs.declared.cli.parse.Parsed.TheVariants as parsed
+use Rattle.hack_run.specs.Headline.{IsHandedOut}
+use Rattle.hack_run.specs.Questions.{AsksRustup, AsksStable, InstallsStable, NeedsAnswer, rustup_asked, stable_command}
+
+-- the steps that call something, by whether commands are listed: a list's own steps call nothing
+abbrev pub performed : Bool → List Handed → List Handed
+performed true steps = filter is_sent steps
+performed false steps = steps
+
+-- one history of the plan of a context was handed out, where this was asked of stable, and its steps made just these calls, one behind the other
+pub record PerformsOne (listing : Bool) (cx : ContextRecord) (stable : Result (Option Version) (String Global)) (rustup : Name) (old new : List Call) : Type 0 where
+  pub course : Course
+  pub cut : ℕ
+  pub handed : IsHandedOut cx stable rustup course
+  pub calls : Makes (λ made. PerformsAll course.plan (performed listing course.handed) made cut) old new
+
+-- one history was performed, or nothing was called
+abbrev pub PerformsAtMostOne : Bool → ContextRecord → Result (Option Version) (String Global) → Name → List Call → List Call → Type 0
+PerformsAtMostOne listing cx stable rustup old new = (new ≡ old) ⊎ PerformsOne listing cx stable rustup old new
+
+-- for a context a list was handed out to its end, and what isn't listed to a runner, whatever came of it
+pub record HandsOver {R : Type 0} (Told : List Note → R → R → Type 0) (Ran : PlanView → List Handed → R → R → Type 0) (cx : ContextRecord) (stable : Result (Option Version) (String Global)) (rustup : Name) (old new : R) : Type 0 where
+  pub course : Course
+  pub handed : IsHandedOut cx stable rustup course
+  pub notes : List Note
+  pub mid : R
+  pub told : Told notes old mid
+  pub ran : Ran course.plan (filter is_sent course.handed) mid new
+
+-- a list was handed out so; or nothing was, and the runner was told notices at most
+abbrev pub HandsOverAtMostOne : {R : Type 0} → (List Note → R → R → Type 0) → (PlanView → List Handed → R → R → Type 0) → ContextRecord → Result (Option Version) (String Global) → Name → R → R → Type 0
+HandsOverAtMostOne Told Ran cx stable rustup old new =
+    (new ≡ old) ⊎ (((notes : List Note) × Told notes old new) ⊎ HandsOver Told Ran cx stable rustup old new)
+
+-- the toolchain `stable` was tried, and added where that failed, up to what failed or what memory was refused for
+abbrev pub FailsStable : Name → List Call → List Call → Type 0
+FailsStable rustup old new =
+    Makes (λ calls. Installs [] (asked_of true (trial_of rustup (codes "stable"))) (asked_of true (addition_of rustup (codes "stable") [])) calls Failed
+    ⊎ BreaksInstall [] (asked_of true (trial_of rustup (codes "stable"))) (asked_of true (addition_of rustup (codes "stable") [])) calls) old new
+
+-- stable was asked for at most once: nothing was asked; or the toolchain was made sure of, and its cargo asked at most once; or that failed
+abbrev pub MayAskStable : Name → List Call → List Call → Type 0
+MayAskStable rustup old new =
+    (new ≡ old)
+    ⊎ (((mid : List Call) × InstallsStable rustup old mid × MayAdd (asked_of true (stable_command rustup)) mid new)
+    ⊎ FailsStable rustup old new)
+
+-- what stable was asked told this, and then one history of the plan was performed
+pub record PerformsBehind (cx : ContextRecord) (rustup : Name) (old mid new : List Call) : Type 0 where
+  pub stable : Result (Option Version) (String Global)
+  pub told : AsksStable rustup stable old mid
+  pub performs : PerformsOne cx.args.print_command_list cx stable rustup mid new
+
+-- stable was asked for where the range needs it, and then one history of the plan was performed, or nothing was called
+pub record GoesOn (cx : ContextRecord) (rustup : Name) (old new : List Call) : Type 0 where
+  pub mid : List Call
+  pub asked : MayAskStable rustup old mid
+  pub needed : ¬ NeedsAnswer cx.args → mid ≡ old
+  pub runs : (new ≡ mid) ⊎ PerformsBehind cx rustup old mid new
+
+-- behind what was answered nothing was called, or a context was made of it, and that was gone on with
+abbrev pub AfterAnswers : Args → Answers → Name → List Call → List Call → Type 0
+AfterAnswers args answers rustup old new = (new ≡ old) ⊎ ((cx : ContextRecord) × IsContextFrom args answers cx × GoesOn cx rustup old new)
+
+-- the questions of these arguments were asked in their order, each once, up to one that ended them, and then that was gone on with
+pub record MakesOnce (args : Args) (env : Env) (held : Contents) (before : ℕ) (old new : List Call) : Type 0 where
+  pub answers : Answers
+  pub now : ℕ
+  pub mid : List Call
+  pub asked : AreAnswers args env held before now old mid answers
+  pub behind : AfterAnswers args answers (string_bytes env.rustup) mid new
+
+-- cargo is asked to list its commands, as a caller is asked
+abbrev pub listing_asked : Name → Asked
+listing_asked cargo = asked_of false (plain_command cargo [] (codes "--list" ∷ []))
+
+-- what words ask for was tried once: a history was performed, a text was printed, or cargo was called for its commands
+abbrev pub TriesOnce : Parsed → Env → Contents → ℕ → List Call → List Call → Type 0
+TriesOnce (parsed.Args args) env held before old new = MakesOnce args env held before old new
+TriesOnce (parsed.Print text) env held before old new = new ≡ old
+TriesOnce parsed.List env held before old new = MayAdd (listing_asked (string_bytes env.cargo)) old new
+
+-- the words were read, behind what was asked of rustup for them, and what they ask for was tried once
+pub record TriesRead (words : List Name) (env : Env) (held : Contents) (before : ℕ) (old mid new : List Call) : Type 0 where
+  pub rustup : Rustup
+  pub answer : Parsed
+  pub notes : List Note
+  pub told : AsksRustup (wants_rustup words) (string_bytes env.rustup) rustup old mid
+  pub read : IsAnswer (around_of env rustup) (ComesTo (around_of env rustup) words) answer notes
+  pub tried : TriesOnce answer env held before mid new
+
+-- rustup was asked for its version at most, where a word needs it; behind it nothing was called, or what the words ask for was tried once
+pub record MadeOnce (words : List Name) (env : Env) (held : Contents) (before : ℕ) (old new : List Call) : Type 0 where
+  pub mid : List Call
+  pub asked : MayAdd (rustup_asked (string_bytes env.rustup)) old mid
+  pub needed : wants_rustup words ≡ false → mid ≡ old
+  pub behind : (new ≡ mid) ⊎ TriesRead words env held before old mid new
