@@ -57,7 +57,10 @@ pub fn drive_context<R: Teller>(
         s.plan notes
         × R.told notes runner.old mid × R.ran s.plan s.handed mid runner.new) }
 
-    // Where memory wasn't refused, a cause holds for which there is no plan.
+    // Refused exactly where there is no plan: an answer has no cause, and a refusal has one, unless
+    // memory was refused.
+    ensures never { IfOk result (λ _. (e : PlanFault)
+        → ¬ IsCauseOf (context_view cx.now).args.subcommand stable (context_view cx.now) e) }
     ensures err { IfErr result (λ e. (e ≡ PlanFault.Memory)
         ⊎ IsCauseOf (context_view cx.now).args.subcommand stable (context_view cx.now) e) }
 
