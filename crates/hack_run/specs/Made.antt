@@ -90,7 +90,7 @@ pub record GoesOn (cx : ContextRecord) (rustup : Name) (old new : List Call) : T
 abbrev pub AfterAnswers : Args → Answers → Name → List Call → List Call → Type 0
 AfterAnswers args answers rustup old new = (new ≡ old) ⊎ ((cx : ContextRecord) × IsContextFrom args answers cx × GoesOn cx rustup old new)
 
--- the questions of these arguments were asked in their order, each once, up to one that ended them, and then that was gone on with
+-- the questions of these arguments were asked in their order, up to one that ended them, and then that was gone on with
 pub record MakesOnce (args : Args) (env : Env) (held : Contents) (before : ℕ) (old new : List Call) : Type 0 where
   pub answers : Answers
   pub now : ℕ
