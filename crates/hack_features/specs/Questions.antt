@@ -1,5 +1,5 @@
 -- The sets that an enumeration by questions finds, and how many questions it may ask.
-use Rattle.std.specs.Prelude.{◌≢◌, ℕ, ◌*◌, ◌≤◌, List, [], ◌∷◌, ◌++◌, map, filter, length, Bool, IsTrue, ◌&&◌, ◌==◌, not}
+use Rattle.std.specs.Prelude.{◌≡◌, ◌≢◌, ℕ, ◌*◌, ◌≤◌, List, [], ◌∷◌, ◌++◌, map, filter, drop, length, Bool, IsTrue, ◌&&◌, ◌==◌, not}
 use Rattle.hack_features.specs.Sets.{IsListing}
 
 -- a nonempty set that passes both tests
@@ -21,3 +21,7 @@ with_next may next sets = map (λ s. s ++ next ∷ []) (filter (λ s. may (s ++ 
 -- the set is not empty and complete
 abbrev pub is_whole : (List ℕ → Bool) → List ℕ → Bool
 is_whole complete s = not (length s == 0) && complete s
+
+-- the sets that are not empty and are complete are all but the first
+abbrev pub AreComplete : (List ℕ → Bool) → List (List ℕ) → Type 0
+AreComplete complete sets = filter (is_whole complete) sets ≡ drop 1 sets
