@@ -2,9 +2,9 @@
 //! and what is told of it.
 
 use crate::given::words;
-use hack_powerset_list::{Ending, ListFault, call_powerset_list, command, powerset_list};
 use hack_features::Feature;
 use hack_plan::runs::Run;
+use hack_powerset_list::{Ending, ListFault, call_powerset_list, command, powerset_list};
 use hack_process::process::ProcessBuilder;
 use std::alloc::{AllocError, Global};
 use std::env::Args;
