@@ -53,6 +53,7 @@ pub fn put<F: Files>(files: &mut F, path: &str, bytes: Option<&[u8]>) -> Result<
 
 // Whether the path of the entry holds what it held at first.
 fn is_back<F: Files>(alloc: Global, files: &mut F, entry: &Entry) -> Result<bool, FileFault>
+    ensures failures { Counts (F.failed files.old) (F.failed files.new) result }
     ensures back { IfOk result (λ back. F.tells → IsTrue back ↔
         (F.bytes_at files.old (edit_of entry.now).path ≡ (edit_of entry.now).held)) }
     ensures same { F.tells → KeepsAll (F.bytes_at files.old) (F.bytes_at files.new) }
@@ -64,11 +65,13 @@ fn is_back<F: Files>(alloc: Global, files: &mut F, entry: &Entry) -> Result<bool
 }
 
 /// Whether the paths of all these entries hold what they held at first.
+#[tactic(auto, using(crate::proofs::CountLemmas::grows_then))]
 pub fn are_back<F: Files>(
     alloc: Global,
     files: &mut F,
     entries: &[Entry],
 ) -> Result<bool, FileFault>
+    ensures failures { Counts (F.failed files.old) (F.failed files.new) result }
     ensures back { IfOk result (λ back. F.tells →
         IsTrue back ↔ AreBack (edits_of entries.now) (F.bytes_at files.old)) }
     ensures same { F.tells → KeepsAll (F.bytes_at files.old) (F.bytes_at files.new) }

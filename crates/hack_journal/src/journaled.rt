@@ -238,8 +238,10 @@ impl<F: Files> Journaled<F> {
     }
 
     // Removes the journal where each entry's path is back, and says whether none is there.
+    #[tactic(auto, using(crate::proofs::CountLemmas::grows_then))]
     fn close(&mut self) -> Result<bool, FileFault>
         ensures journal { self.new.journal ≡ self.old.journal }
+        ensures below { Counts (F.failed self.old.files) (F.failed self.new.files) result }
         ensures failures { self.new.failures ≡ self.old.failures }
         ensures others { F.tells → KeepsOthers (string_bytes self.old.journal)
             (F.bytes_at self.old.files) (F.bytes_at self.new.files) }
@@ -273,6 +275,9 @@ impl<F: Files> Journaled<F> {
     pub fn finish(&mut self) -> Result<bool, FileFault>
         ensures journal { self.new.journal ≡ self.old.journal }
         ensures counted { Counts self.old.failures self.new.failures result }
+
+        // It fails only where a call of the files below failed.
+        ensures below { Counts (F.failed self.old.files) (F.failed self.new.files) result }
         ensures others { F.tells → KeepsOthers (string_bytes self.old.journal)
             (F.bytes_at self.old.files) (F.bytes_at self.new.files) }
         ensures stays { F.tells → F.whole → Stays (string_bytes self.old.journal)
