@@ -29,6 +29,7 @@ use Rattle.hack_words.specs.declared.cli.parse.Parsed.{Parsed}
 use Rattle.hack_words.specs.declared.cli.parse.Parsed.TheVariants as parsed
 use Rattle.hack_run.specs.Headline.{IsHandedOut}
 use Rattle.hack_run.specs.Questions.{AsksRustup, AsksStable, InstallsStable, NeedsAnswer, rustup_asked, stable_command}
+use Rattle.hack_run.specs.Runs.{HandsOver}
 
 -- the steps that call something, by whether commands are listed: a list's own steps call nothing
 abbrev pub performed : Bool → List Handed → List Handed
@@ -45,15 +46,6 @@ pub record PerformsOne (listing : Bool) (cx : ContextRecord) (stable : Result (O
 -- one history was performed, or nothing was called
 abbrev pub PerformsAtMostOne : Bool → ContextRecord → Result (Option Version) (String Global) → Name → List Call → List Call → Type 0
 PerformsAtMostOne listing cx stable rustup old new = (new ≡ old) ⊎ PerformsOne listing cx stable rustup old new
-
--- for a context a list was handed out to its end, and what isn't listed to a runner, whatever came of it
-pub record HandsOver {R : Type 0} (Told : List Note → R → R → Type 0) (Ran : PlanView → List Handed → R → R → Type 0) (cx : ContextRecord) (stable : Result (Option Version) (String Global)) (rustup : Name) (old new : R) : Type 0 where
-  pub course : Course
-  pub handed : IsHandedOut cx stable rustup course
-  pub notes : List Note
-  pub mid : R
-  pub told : Told notes old mid
-  pub ran : Ran course.plan (filter is_sent course.handed) mid new
 
 -- a list was handed out so; or nothing was, and the runner was told notices at most
 abbrev pub HandsOverAtMostOne : {R : Type 0} → (List Note → R → R → Type 0) → (PlanView → List Handed → R → R → Type 0) → ContextRecord → Result (Option Version) (String Global) → Name → R → R → Type 0

@@ -48,12 +48,16 @@ pub record DoesPlan (Done : PlanView → Option Partition → List Call → List
   pub planned : IsPlanOf cx.args.subcommand stable cx rustup plan notes
   pub done : Done plan cx.args.partition old new
 
--- for a context a list was handed out to its end, and what isn't listed to a runner; none of the list failed
-pub record ListsOver {R : Type 0} (Told : List Note → R → R → Type 0) (Ran : PlanView → List Handed → R → R → Type 0) (cx : ContextRecord) (stable : Result (Option Version) (String Global)) (rustup : Name) (old new : R) : Type 0 where
+-- for a context a list was handed out to its end, and what isn't listed to a runner, whatever came of it
+pub record HandsOver {R : Type 0} (Told : List Note → R → R → Type 0) (Ran : PlanView → List Handed → R → R → Type 0) (cx : ContextRecord) (stable : Result (Option Version) (String Global)) (rustup : Name) (old new : R) : Type 0 where
   pub course : Course
   pub handed : IsHandedOut cx stable rustup course
   pub notes : List Note
   pub mid : R
   pub told : Told notes old mid
   pub ran : Ran course.plan (filter is_sent course.handed) mid new
-  pub listed : All IsListed course.handed
+
+-- it was, and none of the list failed
+pub record ListsOver {R : Type 0} (Told : List Note → R → R → Type 0) (Ran : PlanView → List Handed → R → R → Type 0) (cx : ContextRecord) (stable : Result (Option Version) (String Global)) (rustup : Name) (old new : R) : Type 0 where
+  pub over : HandsOver Told Ran cx stable rustup old new
+  pub listed : All IsListed over.course.handed

@@ -11,7 +11,8 @@ pub returns-clause-done : goal.returns-clause-done
 returns-clause-done g c = λ ok none short quiet t.
     let cx = context_view c.args.cx.now in
     let calls = g.C.Caller.calls in
-    let l = c.list_over-refused.ensures.done ok refl short in
+    let list = c.list_over-refused.ensures.done ok refl short in
+    let l = list.over in
     let last = c.list_over-refused.new.runner in
     let caller_is = c.caller-1.given.1 (sym c.starter-starter.ensures.caller.0 ∙ l.told.0 ∙ l.ran.0) in
     let term_is = c.term-1.given.1 (sym c.starter-starter.ensures.term.0 ∙ l.told.1 ∙ l.ran.1) in
@@ -23,5 +24,5 @@ returns-clause-done g c = λ ok none short quiet t.
       planned = l.handed.plan;
       done = subst (λ old. SendsAll l.course.plan cx.args.partition (calls old) (calls last.caller.now)) (l.told.3 ∙ c.starter-starter.ensures.caller.1)
           (sends_all l.course.plan cx.args.partition l.course.schedule l.course.handed (calls l.mid.caller.now) (calls last.caller.now) l.mid.refused last.refused last.term.now last.fault.now
-          l.handed.schedule (whole l.course l.handed.history l.handed.complete) (l.ran.3 t) l.ran.5 l.listed (sym fault_is ∙ none) (sym (ap (λ (k : Term). k.error) term_is) ∙ quiet));
+          l.handed.schedule (whole l.course l.handed.history l.handed.complete) (l.ran.3 t) l.ran.5 list.listed (sym fault_is ∙ none) (sym (ap (λ (k : Term). k.error) term_is) ∙ quiet));
     })

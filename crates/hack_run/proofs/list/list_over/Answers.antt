@@ -16,12 +16,14 @@ returns-clause-done g c = λ ok before after.
     let out_is = c.out-2-1.given.1 (told.0 ∙ ran.0) in
     let runner_is = c.runner-2-1.given.1 (told.1 ∙ ran.1) in
     record {
-      course = session;
-      handed = headline;
-      notes = c.in_ok-_session.ensures.ran.0;
-      mid = mid.runner.now;
-      told = told.4;
-      ran = subst (λ new. g.R.Runner.ran session.plan (filter is_sent session.handed) mid.runner.now new) (sym runner_is) ran.2;
+      over = record {
+        course = session;
+        handed = headline;
+        notes = c.in_ok-_session.ensures.ran.0;
+        mid = mid.runner.now;
+        told = told.4;
+        ran = subst (λ new. g.R.Runner.ran session.plan (filter is_sent session.handed) mid.runner.now new) (sym runner_is) ran.2;
+      };
       listed = all_listed session.plan session.handed (g.W.Lines.contents mid.out.now) (g.W.Lines.contents last.out.now) (g.W.Lines.failed mid.out.now) (g.W.Lines.failed last.out.now) mid.refused last.refused
           (ap g.W.Lines.failed told.2 ∙ before) (sym (ap g.W.Lines.failed out_is) ∙ after) told.3 (none_refused last.refused ok) ran.3;
     }
