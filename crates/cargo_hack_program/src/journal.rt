@@ -1,5 +1,5 @@
-//! The journal of a call that edits manifests: where it stands, who may use it, and what a call that was
-//! interrupted left there.
+//! The journal of a call that edits manifests: where it stands, who may use it, and what a call
+//! that was interrupted left there.
 
 use hack_files::fs::{FileFault, Files};
 use hack_journal::journal::{JournalFault, read_back};
@@ -34,7 +34,8 @@ pub struct Asked {
 }
 
 impl Asked {
-    /// What these words ask. Words that are refused, or that ask for a text, ask nothing of manifests.
+    /// What these words ask. Words that are refused, or that ask for a text, ask nothing of
+    /// manifests.
     pub fn of(alloc: Global, words: &[String], env: &Env) -> Result<Asked, AllocError> {
         // What is known of rustup decides only whether words are refused.
         match Args::parse(alloc, words, env, Rustup::Known(u32::MAX)) {
@@ -76,9 +77,9 @@ impl Asked {
     }
 }
 
-/// The folder of the workspace that a call is about, as cargo looks for it: at or above the folder of
-/// `--manifest-path`, or else the current one, the nearest whose manifest is a workspace's or names
-/// that of its workspace; without one, the nearest with a manifest.
+/// The folder of the workspace that a call is about, as cargo looks for it: at or above the folder
+/// of `--manifest-path`, or else the current one, the nearest whose manifest is a workspace's or
+/// names that of its workspace; without one, the nearest with a manifest.
 pub fn workspace<F: Files>(
     alloc: Global,
     manifest_path: Option<&str>,
@@ -197,8 +198,8 @@ pub fn journal_in(alloc: Global, folder: &str) -> Result<String, AllocError> {
     join(alloc, folder, NAME)
 }
 
-/// The first path in the bytes of a journal that is no manifest inside the folder. Such a journal was
-/// written elsewhere, and isn't followed.
+/// The first path in the bytes of a journal that is no manifest inside the folder. Such a journal
+/// was written elsewhere, and isn't followed.
 pub fn stranger(alloc: Global, folder: &str, bytes: &[u8]) -> Result<Option<String>, AllocError> {
     let entries = match read_back(alloc, bytes) {
         Ok(entries) => entries,
@@ -218,8 +219,8 @@ fn is_manifest_in(folder: &str, path: &str) -> bool {
     path.ends_with("/Cargo.toml") && !path.contains("/../") && under(path, folder) != path
 }
 
-/// Who uses a workspace's journal while the value lives: a lock on the workspace's folder, which goes
-/// with the program.
+/// Who uses a workspace's journal while the value lives: a lock on the workspace's folder, which
+/// goes with the program.
 #[derive(Drop)]
 pub enum Lock {
     /// This call.

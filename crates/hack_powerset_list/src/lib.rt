@@ -1,4 +1,5 @@
-//! The work of `powerset-list`: from words and the bytes of a feature map to the bytes of its command list, or the first fault.
+//! The work of `powerset-list`: from words and the bytes of a feature map to the bytes of its
+//! command list, or the first fault.
 #![tactic(auto)]
 
 mod call;

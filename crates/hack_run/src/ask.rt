@@ -1,7 +1,7 @@
 //! What rustup is asked before there is a plan: its own version, and that of the toolchain `stable`.
 
-ghost use Rattle.std.specs.Prelude.{◌≡◌, IfOk, IfSome, IsSome, IsSomeAnd, None, Ok, OnErr, OnOk, false};
-ghost use Rattle.std.specs.Prelude.{string_bytes, true};
+ghost use Rattle.std.specs.Prelude.{◌≡◌, IfOk, IfSome, IsSome, IsSomeAnd, None, Ok, OnErr, OnOk};
+ghost use Rattle.std.specs.Prelude.{false, string_bytes, true};
 ghost use Rattle.hack_features.specs.Names.{names_of};
 ghost use Rattle.hack_process.specs.Calls.{MayAdd};
 ghost use Rattle.hack_process.specs.CargoTexts.{release_part};

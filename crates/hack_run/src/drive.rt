@@ -44,9 +44,9 @@ pub fn drive_context<R: Teller>(
     requires { IsAnswered (context_view cx.now).args stable }
 
     // The runs handed out are the chosen piece of the plan, in order, each place once, until a
-    // preparation fails, a run fails and runs don't go on, or the piece ends. The plan is exactly the
-    // admissible runs, in order; each of its places is in exactly one of the pieces, and the blocks
-    // joined are the plan. A package's powerset is exactly the listed sets, each once.
+    // preparation fails, a run fails and runs don't go on, or the piece ends. The plan is exactly
+    // the admissible runs, in order; each of its places is in exactly one of the pieces, and the
+    // blocks joined are the plan. A package's powerset is exactly the listed sets, each once.
     ensures headline { IfOk result
         (IsHandedOut (context_view cx.now) stable rustup.now) }
 
@@ -64,8 +64,8 @@ pub fn drive_context<R: Teller>(
     ensures err { IfErr result (λ e. (e ≡ PlanFault.Memory)
         ⊎ IsCauseOf (context_view cx.now).args.subcommand stable (context_view cx.now) e) }
 
-    // Where it is refused, nothing was handed out: nothing was done at all, or memory was refused behind
-    // the plan, and the runner was told just its notices.
+    // Where it is refused, nothing was handed out: nothing was done at all, or memory was refused
+    // behind the plan, and the runner was told just its notices.
     ensures refused { IfErr result (λ e. (runner.new ≡ runner.old)
         ⊎ ((e ≡ PlanFault.Memory) × (plan : PlanView) × (notes : List Note)
         × IsPlanOf (context_view cx.now).args.subcommand stable (context_view cx.now) rustup.now

@@ -21,9 +21,10 @@ use hack_words::cli::Env;
 use std::alloc::Global;
 use std::io::Write;
 
-/// Performs a call as [`run`] does, and answers its exit status, the files and the lockfiles. What is
-/// changed of the files is noted before in a journal at this path, where none may stand yet; at the end
-/// it goes, unless some file isn't back. Lockfiles, which cargo changes too, are those of other files.
+/// Performs a call as [`run`] does, and answers its exit status, the files and the lockfiles. What
+/// is changed of the files is noted before in a journal at this path, where none may stand yet; at
+/// the end it goes, unless some file isn't back. Lockfiles, which cargo changes too, are those of
+/// other files.
 pub fn run_journaled<F: Files, L: Files, C: Caller, O: Write, E: Write>(
     alloc: Global,
     words: &[String],
@@ -40,9 +41,9 @@ pub fn run_journaled<F: Files, L: Files, C: Caller, O: Write, E: Write>(
         ↔ (IsTrue term.new.error ⊎ (IsTrue term.new.warn × IsTrue env.now.deny_warnings)) }
     ensures at_most_one { result.0 ≤ 1 }
 
-    // What is refused, what was done where no error was told, and what was called whatever came of it,
-    // is what `run` says; and where no error was told each path holds what it held, unless the words
-    // ask for edits that stay.
+    // What is refused, what was done where no error was told, and what was called whatever came of
+    // it, is what `run` says; and where no error was told each path holds what it held, unless the
+    // words ask for edits that stay.
     ensures refused { AreRefused env.now (names_of words.now) → (term.new.error ≡ true)
         × (C.tells → MayAdd (rustup_asked (string_bytes env.now.rustup))
         (C.calls runner.old) (C.calls runner.new)) }

@@ -23,8 +23,8 @@ use std::alloc::Global;
 use std::io::Write;
 
 /// Performs the call of these words, the first of which is `hack`, and answers its exit status.
-/// What is printed goes to `out`, and what is told to `err`, the line of a fault last. The colouring
-/// of the terminal is that of `--color auto`.
+/// What is printed goes to `out`, and what is told to `err`, the line of a fault last. The
+/// colouring of the terminal is that of `--color auto`.
 pub fn run<F: Files, C: Caller, O: Write, E: Write>(
     alloc: Global,
     words: &[String],
@@ -42,8 +42,8 @@ pub fn run<F: Files, C: Caller, O: Write, E: Write>(
     // What each call of the files keeps is kept by all.
     ensures stays { F.stays files.old files.new }
 
-    // Words that are refused whatever rustup answers are told as an error, and then it was asked for
-    // its version at most.
+    // Words that are refused whatever rustup answers are told as an error, and then it was asked
+    // for its version at most.
     ensures refused { AreRefused env.now (names_of words.now) → (term.new.error ≡ true)
         × (C.tells → MayAdd (rustup_asked (string_bytes env.now.rustup))
         (C.calls runner.old) (C.calls runner.new)) }
@@ -55,8 +55,8 @@ pub fn run<F: Files, C: Caller, O: Write, E: Write>(
         env.now (F.bytes_at files.old) (F.bytes_at files.new) (F.failed files.old)
         (C.calls runner.old) (C.calls runner.new) }
 
-    // Whatever comes of the call: behind its questions the steps of one history of the plan made just
-    // their calls, or no step did.
+    // Whatever comes of the call: behind its questions the steps of one history of the plan made
+    // just their calls, or no step did.
     ensures made { C.tells → F.tells → MadeOnce (names_of words.now) env.now
         (F.bytes_at files.old) (F.failed files.old) (C.calls runner.old) (C.calls runner.new) }
 
@@ -65,8 +65,8 @@ pub fn run<F: Files, C: Caller, O: Write, E: Write>(
     ensures back { RestoresEdits env.now (names_of words.now) → F.tells → LeavesFew (Unit {0})
         (F.bytes_at files.old) (F.bytes_at files.new) (F.failed files.old) (F.failed files.new) }
 
-    // A call of the files that failed is told as an error: where none was told, none failed, and each
-    // path holds what it held, unless the words ask for edits that stay.
+    // A call of the files that failed is told as an error: where none was told, none failed, and
+    // each path holds what it held, unless the words ask for edits that stay.
     ensures clean { term.new.error ≡ false
         → IsClean (RestoresEdits env.now (names_of words.now)) F.tells
         (F.bytes_at files.old) (F.bytes_at files.new)

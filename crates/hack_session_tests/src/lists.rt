@@ -9,7 +9,8 @@ use std::alloc::Global;
 use std::io::Write;
 use std::test::Fail;
 
-/// Lists the commands of a row, and sends what isn't listed to a runner; how many steps were handed out.
+/// Lists the commands of a row, and sends what isn't listed to a runner; how many steps were handed
+/// out.
 fn list_over<W: Lines, R: Runner>(
     alloc: Global,
     row: Row<'_>,
@@ -33,7 +34,8 @@ fn list_over<W: Lines, R: Runner>(
     Ok(session.handed().len())
 }
 
-/// Lists the commands of a row on a writer; how many steps were handed out, and how many lines failed.
+/// Lists the commands of a row on a writer; how many steps were handed out, and how many lines
+/// failed.
 fn list_on<W: Write>(alloc: Global, row: Row<'_>, list: &mut W) -> Result<(usize, u64), Fail> {
     let mut caller = FakeCaller::new(alloc, End::Status(0));
     let mut term = Term::new(Coloring::Never, false);
@@ -66,7 +68,8 @@ fn listed(alloc: Global, row: Row<'_>) -> Result<Option<String>, Fail> {
     Ok(String::from_utf8(list).ok())
 }
 
-/// What a writer holds that fails at this write, how many steps were handed out, and how many lines failed.
+/// What a writer holds that fails at this write, how many steps were handed out, and how many lines
+/// failed.
 fn cut_short(alloc: Global, row: Row<'_>, failing: u64) -> Result<(String, usize, u64), Fail> {
     let mut list = FailingWriter::new(Vec::new(alloc), failing);
     let (handed, failed) = list_on(alloc, row, &mut list)?;

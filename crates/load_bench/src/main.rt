@@ -1,9 +1,9 @@
-//! For the bench: cuts the manifest on standard input as often as the words say (`pieces 100`), takes
-//! its development dependencies out (`edits 100`), loads a workspace of so many members that all have
-//! this manifest (`members 100`), runs each feature of all there (`runs 100`), or plans a call there
-//! (`plan 100 hack check --feature-powerset`), over a caller and files in memory. Prints how many
-//! pieces there are, how many bytes are left, how many members and candidates there are, how many
-//! calls were made, or how many places the plan has and the last one's command.
+//! For the bench: cuts the manifest on standard input as often as the words say (`pieces 100`),
+//! takes its development dependencies out (`edits 100`), loads a workspace of so many members that
+//! all have this manifest (`members 100`), runs each feature of all there (`runs 100`), or plans a
+//! call there (`plan 100 hack check --feature-powerset`), over a caller and files in memory. Prints
+//! how many pieces there are, how many bytes are left, how many members and candidates there are,
+//! how many calls were made, or how many places the plan has and the last one's command.
 #![tactic(auto)]
 
 use cargo_hack::cli::{Args, Env, Parsed};

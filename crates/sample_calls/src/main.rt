@@ -1,7 +1,7 @@
-//! Calls of `cargo hack` on the workspace in `examples`, as a user of the library makes them: over a
-//! caller and files in memory, so that no cargo is asked and nothing is built. Standard input has what
-//! cargo tells of the workspace, on a line, and each manifest behind a line `== PATH`. Prints each call,
-//! what it tells, and its list.
+//! Calls of `cargo hack` on the workspace in `examples`, as a user of the library makes them: over
+//! a caller and files in memory, so that no cargo is asked and nothing is built. Standard input has
+//! what cargo tells of the workspace, on a line, and each manifest behind a line `== PATH`. Prints
+//! each call, what it tells, and its list.
 #![tactic(auto)]
 
 use cargo_hack::cli::Env;
