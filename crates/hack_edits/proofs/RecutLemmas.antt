@@ -1,12 +1,17 @@
--- The pieces that stay are the pieces of the text that they make.
-use Rattle.std.proofs.Common.{◌≡◌, ◌⊎◌, ℕ, ◌+◌, ◌-◌, ◌<◌, ◌≤◌, List, [], ◌∷◌, ◌++◌, length, map, Bool, true, false, cond, refl, sym, ap, subst, ◌∙◌, inl, inr, arith, length-append}
-use Rattle.std.proofs.lemmas.List.{take-append-le, get_or_append_left}
+-- What is left of pieces is cut again into pieces with their paths.
+use Rattle.std.proofs.Common.{◌≡◌, ◌⊎◌, ℕ, ◌+◌, ◌-◌, ◌<◌, ◌≤◌, List, [], ◌∷◌, ◌++◌, length, map, Bool, true, false, refl, sym, ap, subst, ◌∙◌, inl, inr, arith, length-append, String, string_bytes, string_eq}
+use Rattle.std.proofs.lemmas.List.{take-append-le, get_or_append_left, append-nil}
+use Rattle.hack_features.specs.Names.{Name, names_of}
 use Rattle.hack_manifest.specs.Paths.{View, is_header, IsPath, HavePaths, next_header, AreCut}
 use Rattle.hack_manifest.specs.Runs.{IsLines, IsRun, IsFirstRun, HasNoRun, IsCutInto, stands}
+use Rattle.hack_manifest.proofs.OnceLemmas.{own-once}
 use Rattle.hack_edits.specs.KeyPaths.{is_dev, name_at, dev_key, target_key}
-use Rattle.hack_edits.specs.DevDeps.{kept, kept_text, some_dev, HasNoDevPiece}
-use Rattle.std.specs.Prelude.{◌&&◌, ◌||◌}
+use Rattle.hack_edits.specs.DevDeps.{some_dev, HasNoDevPiece}
+use Rattle.hack_edits.specs.Recut.{EndsInFeed, KeepsKey, AreRecut}
+use Rattle.std.specs.Prelude.{◌&&◌, ◌||◌, MatchBool}
 use Rattle.std.specs.Str.{bytes_eq}
+use Rattle.std.specs.Cmp.Lexicographic.{pointwise}
+use Rattle.std.proofs.lemmas.Slice.Eq.{bytes_eq-Decides}
 use Rattle.std.proofs.lemmas.Bool.{cases_Bool, false≢true}
 
 -- lengths of two joined texts, at m
@@ -72,25 +77,46 @@ first-moved p r s ends first =
       shortest = λ m below run. first.shortest m below (run-below p s r m below run);
     }
 
--- an empty text is no pieces, and what stays of them is empty
-empty_text : (ps : List View) (tail text : List ℕ) → IsCutInto (map (λ p. p.text) ps) tail text → length text ≡ 0 → length (kept_text ps tail) ≡ 0
-empty_text [] tail text h none = ap length h.0 ∙ none
-empty_text (p ∷ ps) tail text (rest, whole, first, more) none =
+-- a first run by itself is one in front of a text, unless it must end in a line feed and doesn't
+first-put : (q s : List ℕ) → ((length s ≡ 0) ⊎ EndsInFeed q) → IsFirstRun q (length q) → IsFirstRun (q ++ s) (length q)
+first-put q s end first =
+    let P : List ℕ → Type 0 = λ t. IsFirstRun t (length q) in
+    let alone : IsFirstRun (q ++ []) (length q) = subst P (sym (append-nil q)) first in
+    let some : 0 < length q = first.run.lines.some in
+    let whole : length (q ++ s) ≡ length q + length s = length-append q s in
+    let last : length q - 1 < length q = omega arith in
+    record {
+      run = record {
+        lines = record {
+          some = some;
+          within = omega arith;
+          ends = elim end [
+            | inl none ↦ inl (omega arith)
+            | inr feed ↦ inr (get_or_append_left q s 0 (length q - 1) last ∙ feed)
+          ];
+        };
+        reads = ap stands (take-append-le (length q) q s (omega arith) ∙ sym (take-append-le (length q) q [] (omega arith))) ∙ alone.run.reads;
+      };
+      shortest = λ m below run. alone.shortest m below (run-below q s [] m below run);
+    }
+
+-- how a first run ends: the text ends with it, or it ends in a line feed
+run-end : (p r : List ℕ) → IsFirstRun (p ++ r) (length p) → (length r ≡ 0) ⊎ EndsInFeed p
+run-end p r first =
+    let some : 0 < length p = first.run.lines.some in
+    let whole : length (p ++ r) ≡ length p + length r = length-append p r in
+    elim first.run.lines.ends [
+      | inl all ↦ inl (omega arith)
+      | inr feed ↦ inr (sym (get_or_append_left p r 0 (length p - 1) (omega arith)) ∙ feed)
+    ]
+
+-- an empty text is no pieces, and what is left of them is empty
+empty_text : (ps : List View) (tail text new : List ℕ) → IsCutInto (map (λ p. p.text) ps) tail text → AreRecut ps tail new → length text ≡ 0 → length new ≡ 0
+empty_text [] tail text new h left none = ap length (left ∙ h.0) ∙ none
+empty_text (p ∷ ps) tail text new (rest, whole, first, more) left none =
     let some : 0 < length p.text = first.run.lines.some in
     let within : length p.text ≤ length text = first.run.lines.within in
     absurd (omega arith)
-
-recut_at : (b : Bool) (p : View) (ps : List View) (tail rest : List ℕ) → IsCutInto (map (λ p. p.text) ps) tail rest → IsFirstRun (p.text ++ rest) (length p.text)
-    → IsCutInto (map (λ p. p.text) (kept ps)) tail (kept_text ps tail)
-    → IsCutInto (map (λ p. p.text) (cond b (kept ps) (p ∷ kept ps))) tail (cond b (kept_text ps tail) (p.text ++ kept_text ps tail))
-recut_at true p ps tail rest more first again = again
-recut_at false p ps tail rest more first again = (kept_text ps tail, refl, first-moved p.text rest (kept_text ps tail) (empty_text ps tail rest more) first, again)
-
-pub recut : (ps : List View) (tail text : List ℕ) → IsCutInto (map (λ p. p.text) ps) tail text → IsCutInto (map (λ p. p.text) (kept ps)) tail (kept_text ps tail)
-recut [] tail text h = (refl, (let P : List ℕ → Type 0 = λ t. HasNoRun t in subst P (sym h.0) h.1))
-recut (p ∷ ps) tail text (rest, whole, first, more) =
-    let P : List ℕ → Type 0 = λ t. IsFirstRun t (length p.text) in
-    recut_at (is_dev p.path) p ps tail rest more (subst P whole first) (recut ps tail rest more)
 
 -- ---- their paths
 
@@ -143,27 +169,88 @@ follows-kept header now p f =
           subst P (sym (next-plain header p e)) (subst Q (sym (next-plain now p e)) f)
     ]
 
-pub paths-kept : (ps : List View) (header now : List (List ℕ)) → Follows header now → HavePaths header ps → HavePaths now (kept ps)
-paths-kept [] header now f h = tt
-paths-kept (p ∷ ps) header now f h =
-    elim (cases_Bool (is_dev p.path)) [
-      | inl gone ↦ rw gone (paths-kept ps (next_header header p) now (follows-gone header now p gone f) h.1)
-      | inr stays ↦ rw stays (path-moved header now p.text p.path stays f h.0, paths-kept ps (next_header header p) (next_header now p) (follows-kept header now p f) h.1)
-    ]
+-- behind a key, which is no header
+follows-plain : (header now : List Name) (p : View) → is_header p.text ≡ false → Follows header now → Follows (next_header header p) now
+follows-plain header now p e f = let P : List Name → Type 0 = λ t. Follows t now in subst P (sym (next-plain header p e)) f
 
--- what stays is cut into the pieces that stay
-pub recut-whole : (ps : List View) (tail text : List ℕ) → AreCut text ps tail → AreCut (kept_text ps tail) (kept ps) tail
-recut-whole ps tail text cut = record { texts = recut ps tail text cut.texts; paths = paths-kept ps [] [] (inl refl) cut.paths }
+-- ---- what is left
 
-none_at : (b : Bool) (p : View) (ps : List View) → is_dev p.path ≡ b → some_dev ps ≡ false → some_dev (cond b ps (p ∷ ps)) ≡ false
-none_at true p ps is none = none
-none_at false p ps is none = rw (is, none) refl
+-- the text is pieces behind this header, of which none is one of development dependencies
+record IsCutAgain (header : List Name) (tail text : List ℕ) : Type 0 where
+  pieces : List View
+  texts : IsCutInto (map (λ p. p.text) pieces) tail text
+  paths : HavePaths header pieces
+  none : some_dev pieces ≡ false
 
--- none of the pieces that stay is one of development dependencies
-none-kept : (ps : List View) → some_dev (kept ps) ≡ false
-none-kept [] = refl
-none-kept (p ∷ ps) = none_at (is_dev p.path) p (kept ps) refl (none-kept ps)
+-- a piece in front
+with-piece : (now : List Name) (p : View) (tail text : List ℕ) → is_dev p.path ≡ false → IsPath now p.text p.path → IsFirstRun (p.text ++ text) (length p.text)
+    → IsCutAgain (next_header now p) tail text → IsCutAgain now tail (p.text ++ text)
+with-piece now p tail text stays path first again =
+    record {
+      pieces = p ∷ again.pieces;
+      texts = (text, refl, first, again.texts);
+      paths = (path, again.paths);
+      none = rw (stays, again.none) refl;
+    }
 
--- the text of the pieces that stay has no piece of development dependencies
-pub no_dev-kept : (ps : List View) (tail text : List ℕ) → AreCut text ps tail → HasNoDevPiece (kept_text ps tail)
-no_dev-kept ps tail text cut = record { pieces = kept ps; tail = tail; cut = recut-whole ps tail text cut; none = none-kept ps }
+-- a key with its names in front
+with-key : (header now : List Name) (p : View) (part tail text : List ℕ) → is_dev p.path ≡ false → Follows header now → IsPath header p.text p.path → KeepsKey p.text part
+    → IsFirstRun (part ++ text) (length part) → IsCutAgain now tail text → IsCutAgain now tail (part ++ text)
+with-key header now p part tail text stays f path keeps first again =
+    let left : View = record { text = part; path = p.path } in
+    let moved : IsPath now p.text p.path = path-moved header now p.text p.path stays f path in
+    let P : List Name → Type 0 = λ t. IsCutAgain t tail text in
+    let here : IsPath now part p.path = record {
+      own = λ is. absurd (false≢true (sym keeps.still_plain ∙ is));
+      behind = λ plain. (let (key, own, is) = moved.behind keeps.plain in (keeps.key, keeps.kept, is ∙ ap (λ k. now ++ k) (own-once p.text key keeps.key own keeps.own)));
+    } in
+    with-piece now left tail text stays here first (subst P (sym (next-plain now left keeps.still_plain)) again)
+
+-- behind a piece that goes, that stays, and that keeps its key
+recut-step : (b : Bool) (p : View) (header now : List Name) (part tail rest new : List ℕ) → is_dev p.path ≡ b → Follows header now → IsPath header p.text p.path
+    → IsFirstRun (p.text ++ rest) (length p.text) → (length rest ≡ 0 → length new ≡ 0) → MatchBool b (part ≡ []) ((part ≡ p.text) ⊎ KeepsKey p.text part)
+    → ((next : List Name) → Follows (next_header header p) next → IsCutAgain next tail new) → IsCutAgain now tail (part ++ new)
+recut-step true p header now part tail rest new gone f path first ends none again =
+    let P : List ℕ → Type 0 = λ t. IsCutAgain now tail (t ++ new) in
+    subst P (sym none) (again now (follows-gone header now p gone f))
+recut-step false p header now part tail rest new stays f path first ends (inl same) again =
+    let P : List ℕ → Type 0 = λ t. IsCutAgain now tail (t ++ new) in
+    let moved : IsPath now p.text p.path = path-moved header now p.text p.path stays f path in
+    subst P (sym same) (with-piece now p tail new stays moved (first-moved p.text rest new ends first) (again (next_header now p) (follows-kept header now p f)))
+recut-step false p header now part tail rest new stays f path first ends (inr keeps) again =
+    let end : (length new ≡ 0) ⊎ EndsInFeed part = elim (run-end p.text rest first) [
+      | inl none ↦ inl (ends none)
+      | inr feed ↦ inr (keeps.feed feed)
+    ] in
+    with-key header now p part tail new stays f path keeps (first-put part new end keeps.run) (again now (follows-plain header now p keeps.plain f))
+
+recut : (ps : List View) (header now : List Name) (tail text new : List ℕ) → Follows header now → IsCutInto (map (λ p. p.text) ps) tail text → HavePaths header ps
+    → AreRecut ps tail new → IsCutAgain now tail new
+recut [] header now tail text new f h paths left =
+    let P : List ℕ → Type 0 = λ t. HasNoRun t in
+    record { pieces = []; texts = (sym left, subst P (sym h.0 ∙ sym left) h.1); paths = tt; none = refl }
+recut (p ∷ ps) header now tail text new f (rest, whole, first, more) (path, paths) (part, behind, joined, is, others) =
+    let P : List ℕ → Type 0 = λ t. IsFirstRun t (length p.text) in
+    let Q : List ℕ → Type 0 = λ t. IsCutAgain now tail t in
+    subst Q (sym joined) (recut-step (is_dev p.path) p header now part tail rest behind refl f path (subst P whole first) (empty_text ps tail rest behind more others) is
+    (λ next follows. recut ps (next_header header p) next tail rest behind follows more paths others))
+
+-- what is left of a text's pieces has no piece of development dependencies
+pub no_dev-left : (ps : List View) (tail text new : List ℕ) → AreCut text ps tail → AreRecut ps tail new → HasNoDevPiece new
+no_dev-left ps tail text new cut left =
+    let again = recut ps [] [] tail text new (inl refl) cut.texts cut.paths left in
+    record { pieces = again.pieces; tail = tail; cut = record { texts = again.texts; paths = again.paths }; none = again.none }
+
+-- names that are the same one by one are the same
+pub same-names : {Y : Type 0} (xs ys : List (String Y)) → pointwise string_eq xs ys ≡ true → names_of xs ≡ names_of ys
+same-names [] [] h = refl
+same-names [] (y ∷ ys) h = absurd (cc)
+same-names (x ∷ xs) [] h = absurd (cc)
+same-names (x ∷ xs) (y ∷ ys) h =
+    let both : (string_eq x y ≡ true) × (pointwise string_eq xs ys ≡ true) = and-both (string_eq x y) (pointwise string_eq xs ys) h in
+    let first : string_bytes x ≡ string_bytes y = (bytes_eq-Decides (string_bytes x) (string_bytes y)).0 both.0 in
+    ap (λ n. n ∷ names_of xs) first ∙ ap (λ ns. string_bytes y ∷ ns) (same-names xs ys both.1)
+  where
+    and-both : (a b : Bool) → (a && b) ≡ true → (a ≡ true) × (b ≡ true)
+    and-both true b h = (refl, h)
+    and-both false b h = absurd (cc)

@@ -9,11 +9,11 @@ ghost use Rattle.hack_manifest.specs.Paths.{AreCut};
 ghost use Rattle.hack_manifest.specs.View.{piece_view, slice_view, pieces_view};
 ghost use Rattle.hack_edits.specs.Arrays.{IsCutInside};
 ghost use Rattle.hack_edits.specs.DevDeps.{some_dev, loses_texts, cuts_arrays, is_cut, some_inline};
-ghost use Rattle.hack_edits.specs.DevDeps.{holds_inline, IsLeft, AreLeft, kept_text};
+ghost use Rattle.hack_edits.specs.DevDeps.{holds_inline, AreLeft, kept_text};
 ghost use Rattle.hack_edits.specs.DevDeps.{has_dev_work, HasNoDevPiece, IsEdit, IsWithoutDev};
 ghost use Rattle.hack_edits.specs.DevDeps.{HasNoDev, HasInlineTarget, IsMisread};
 ghost use Rattle.hack_edits.specs.DevTree.{reads_as_left};
-ghost use Rattle.hack_edits.specs.KeyPaths.{is_dev};
+ghost use Rattle.hack_edits.specs.Recut.{AreRecut, Leaves};
 
 use crate::arrays::without_elements;
 use crate::dev_tree::reads_as;
@@ -23,6 +23,7 @@ use crate::lookup::{
     FEATURES, TARGET, feature_loses, feature_value, holds_dev, target_has_dev, targets_hold_dev,
     value_goes,
 };
+use crate::recut::keeps_key;
 use crate::tables::{copy_of, tree_of};
 use hack_manifest::manifest::{Piece, Pieces};
 use hack_manifest::path::starts_table;
@@ -85,19 +86,19 @@ fn without_dev_pieces(
     if any_inline(old, &cut.pieces) {
         return Err(ManifestFault::InlineTarget);
     }
-    let Some(new) = joined(alloc, old, &cut.pieces, cut.tail)? else {
+    let Some(Left { text, known }) = joined(alloc, old, &cut.pieces, cut.tail)? else {
         return Err(ManifestFault::ReadBack);
     };
-    if !reads_as(alloc, old, copy, new.as_str())? {
+    if !reads_as(alloc, old, copy, text.as_str())? {
         return Err(ManifestFault::ReadBack);
     }
-    if !any_cut(old, &cut.pieces) {
-        return Ok(new);
+    if known {
+        return Ok(text);
     }
-    if has_dev_piece(alloc, new.as_str())? {
+    if has_dev_piece(alloc, text.as_str())? {
         return Err(ManifestFault::ReadBack);
     }
-    Ok(new)
+    Ok(text)
 }
 
 /// Whether there is something to take out: a table of the tree, or a piece.
@@ -127,63 +128,82 @@ fn has_dev_piece(alloc: Global, text: &str) -> Result<bool, AllocError>
     Ok(any_dev(&cut.pieces))
 }
 
-/// Whether some piece that stays loses texts.
-fn any_cut(old: &Table, pieces: &[Piece<'_>]) -> bool
-    ensures { result ≡ cuts_arrays (table_view old.now) (slice_view pieces.now) }
-{
-    for piece in pieces {
-        if piece_is_cut(old, piece) {
-            return true;
-        }
-    }
-    false
+/// What is left of pieces, joined.
+#[derive(Drop)]
+struct Left {
+    text: String,
+    /// Whether what is left of each piece is known to be that piece again, with its path.
+    known: bool,
 }
 
-/// Whether a piece stays and loses texts.
-fn piece_is_cut(old: &Table, piece: &Piece<'_>) -> bool
-    ensures { result ≡ is_cut (table_view old.now) (piece_view piece.now) }
-{
-    !is_dev_path(&piece.path) && path_loses(old, &piece.path)
-}
-
-/// What is left of the pieces, joined.
+/// What is left of the pieces, if the brackets of each array that loses texts are found.
 fn joined(
     alloc: Global,
     old: &Table,
     pieces: &[Piece<'_>],
     tail: &str,
-) -> Result<Option<String>, AllocError>
-    ensures left { IfOk result (λ o. IfSome o (λ s.
-        AreLeft (table_view old.now) (slice_view pieces.now) tail.now (string_bytes s))) }
+) -> Result<Option<Left>, AllocError>
+    ensures left { IfOk result (λ o. IfSome o (λ j.
+        AreLeft (table_view old.now) (slice_view pieces.now) tail.now (string_bytes j.text))) }
+    ensures known { IfOk result (λ o. IfSome o (λ j. j.known ≡ true
+        → AreRecut (slice_view pieces.now) tail.now (string_bytes j.text))) }
+    ensures unknown { IfOk result (λ o. IfSome o (λ j. j.known ≡ false
+        → cuts_arrays (table_view old.now) (slice_view pieces.now) ≡ true)) }
     ensures none { IfOk result (λ o.
         IfNone o (cuts_arrays (table_view old.now) (slice_view pieces.now) ≡ true)) }
 {
     let mut text = String::new(alloc);
+    let mut known = true;
     for piece in pieces {
-        match left_of(alloc, old, piece)? {
-            Some(part) => text.push_str(part.as_str())?,
+        match push_left(alloc, old, piece, &mut text)? {
+            Some(same) => known = known && same,
             None => return Ok(None),
         }
     }
     text.push_str(tail)?;
-    Ok(Some(text))
+    Ok(Some(Left { text, known }))
 }
 
-/// What is left of a piece, if the brackets of an array that loses texts are found.
-fn left_of(alloc: Global, old: &Table, piece: &Piece<'_>) -> Result<Option<String>, AllocError>
-    ensures left { IfOk result (λ o. IfSome o (λ s.
-        IsLeft (table_view old.now) (piece_view piece.now) (string_bytes s))) }
-    ensures none { IfOk result (λ o. IfNone o ((is_dev (names_of piece.now.path.items) ≡ false)
-        × (loses_texts (table_view old.now) (names_of piece.now.path.items) ≡ true))) }
+/// Puts what is left of a piece behind the text, if the brackets of an array that loses texts are
+/// found, and says whether that is known to be a piece again.
+fn push_left(
+    alloc: Global,
+    old: &Table,
+    piece: &Piece<'_>,
+    text: &mut String,
+) -> Result<Option<bool>, AllocError>
+    ensures left { IfOk result (λ o. IfSome o (λ known. Leaves (table_view old.now)
+        (piece_view piece.now) known (string_bytes text.old) (string_bytes text.new))) }
+    ensures none { IfOk result (λ o. IfNone o
+        (is_cut (table_view old.now) (piece_view piece.now) ≡ true)) }
 {
     if is_dev_path(&piece.path) {
-        return Ok(Some(String::new(alloc)));
+        return Ok(Some(true));
     }
     if path_loses(old, &piece.path) {
-        return thinned_feature(alloc, old, piece);
+        return push_thinned(alloc, old, piece, text);
     }
-    let whole = String::from_str(alloc, piece.text)?;
-    Ok(Some(whole))
+    text.push_str(piece.text)?;
+    Ok(Some(true))
+}
+
+/// Puts a feature without the texts that go behind the text.
+fn push_thinned(
+    alloc: Global,
+    old: &Table,
+    piece: &Piece<'_>,
+    text: &mut String,
+) -> Result<Option<bool>, AllocError>
+    requires { is_cut (table_view old.now) (piece_view piece.now) ≡ true }
+    ensures { IfOk result (λ o. IfSome o (λ known. Leaves (table_view old.now)
+        (piece_view piece.now) known (string_bytes text.old) (string_bytes text.new))) }
+{
+    let Some(part) = thinned_feature(alloc, old, piece)? else {
+        return Ok(None);
+    };
+    text.push_str(part.as_str())?;
+    let known = keeps_key(alloc, piece.text, part.as_str())?;
+    Ok(Some(known))
 }
 
 /// A feature without the texts that go.

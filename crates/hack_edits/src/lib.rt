@@ -12,6 +12,7 @@ mod lookup;
 pub mod manifest;
 mod members;
 mod private_crates;
+mod recut;
 mod same;
 mod tables;
 mod workspace_tree;

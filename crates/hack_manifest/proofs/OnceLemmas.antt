@@ -51,12 +51,13 @@ texts_once (p ∷ ps) (q ∷ qs) s t text (r, pw, pf, pm) (u, qw, qf, qm) =
     let rest = texts_once ps qs s t u (subst P back pm) qm in
     (ap (λ x. x ∷ ps) front ∙ ap (λ xs. q ∷ xs) rest.0, rest.1)
 
-own_once : (piece : List ℕ) (k l : List Name) → IsOwnKey piece k → IsOwnKey piece l → k ≡ l
-own_once piece k l (at_front n f is) (at_front m g also) =
+-- a piece has one own key
+pub own-once : (piece : List ℕ) (k l : List Name) → IsOwnKey piece k → IsOwnKey piece l → k ≡ l
+own-once piece k l (at_front n f is) (at_front m g also) =
     is ∙ ap (λ n. chain_at (take n piece ++ 48 ∷ [])) (front_once 61 (48 ∷ []) piece n m f g) ∙ sym also
-own_once piece k l (at_front n f is) (no_front none also) = absurd (none n f.front)
-own_once piece k l (no_front none is) (at_front m g also) = absurd (none m g.front)
-own_once piece k l (no_front none is) (no_front other also) = is ∙ sym also
+own-once piece k l (at_front n f is) (no_front none also) = absurd (none n f.front)
+own-once piece k l (no_front none is) (at_front m g also) = absurd (none m g.front)
+own-once piece k l (no_front none is) (no_front other also) = is ∙ sym also
 
 path_once : (header : List Name) (piece : List ℕ) (p q : List Name) → IsPath header piece p → IsPath header piece q → p ≡ q
 path_once header piece p q a b =
@@ -65,7 +66,7 @@ path_once header piece p q a b =
       | inr key ↦
           let (k, mine, is) = a.behind key in
           let (l, other, also) = b.behind key in
-          is ∙ ap (λ names. header ++ names) (own_once piece k l mine other) ∙ sym also
+          is ∙ ap (λ names. header ++ names) (own-once piece k l mine other) ∙ sym also
     ]
 
 view_same : (p q : View) → p.text ≡ q.text → p.path ≡ q.path → p ≡ q
