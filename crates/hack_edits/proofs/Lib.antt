@@ -5,3 +5,4 @@ pub mod RecutLemmas
 pub mod AgainLemmas
 pub mod PrivateLemmas
 pub mod OrderLemmas
+pub mod AsideLemmas

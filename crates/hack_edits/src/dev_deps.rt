@@ -24,7 +24,7 @@ use crate::lookup::{
     value_goes,
 };
 use crate::recut::keeps_key;
-use crate::tables::{copy_of, tree_of};
+use crate::tables::tree_of;
 use hack_manifest::manifest::{Piece, Pieces};
 use hack_manifest::path::starts_table;
 use hack_manifest::pieces::cut;
@@ -51,8 +51,7 @@ pub fn remove_dev_deps(alloc: Global, text: &str) -> Result<String, ManifestFaul
         let same = String::from_str(alloc, text)?;
         return Ok(same);
     }
-    let copy = copy_of(&old)?;
-    without_dev_pieces(alloc, &old, copy, &cut)
+    without_dev_pieces(alloc, old, &cut)
 }
 
 /// Carries a law: what removing gives has nothing to take out, so a second removal changes nothing.
@@ -61,35 +60,29 @@ pub fn nothing_left()
 {}
 
 /// The edit of a manifest that has something to take out.
-fn without_dev_pieces(
-    alloc: Global,
-    old: &Table,
-    copy: Table,
-    cut: &Pieces<'_>,
-) -> Result<String, ManifestFault>
-    requires copy { table_view copy ≡ table_view old.now }
-    requires cut { (text : List ℕ) × AreCut text (pieces_view cut.now) cut.now.tail.now }
+fn without_dev_pieces(alloc: Global, old: Table, cut: &Pieces<'_>) -> Result<String, ManifestFault>
+    requires { (text : List ℕ) × AreCut text (pieces_view cut.now) cut.now.tail.now }
     ensures ok { IfOk result (λ s.
-        IsEdit (table_view old.now) (pieces_view cut.now) cut.now.tail.now (string_bytes s)) }
+        IsEdit (table_view old) (pieces_view cut.now) cut.now.tail.now (string_bytes s)) }
     ensures inline { result ≡ Err ManifestFault.InlineTarget
-        → some_inline (table_view old.now) (pieces_view cut.now) ≡ true }
+        → some_inline (table_view old) (pieces_view cut.now) ≡ true }
     ensures open_tables { result ≡ Err ManifestFault.ReadBack
-        → some_inline (table_view old.now) (pieces_view cut.now) ≡ false }
+        → some_inline (table_view old) (pieces_view cut.now) ≡ false }
     ensures read_back { result ≡ Err ManifestFault.ReadBack
-        → (cuts_arrays (table_view old.now) (pieces_view cut.now) ≡ true)
-        ⊎ (reads_as_left (table_view old.now)
+        → (cuts_arrays (table_view old) (pieces_view cut.now) ≡ true)
+        ⊎ (reads_as_left (table_view old)
         (parse_document (kept_text (pieces_view cut.now) cut.now.tail.now)) ≡ false) }
     ensures toml { result ≢ Err ManifestFault.Toml }
     ensures form { result ≢ Err ManifestFault.WorkspaceForm }
     ensures path { result ≢ Err ManifestFault.PathText }
 {
-    if any_inline(old, &cut.pieces) {
+    if any_inline(&old, &cut.pieces) {
         return Err(ManifestFault::InlineTarget);
     }
-    let Some(Left { text, known }) = joined(alloc, old, &cut.pieces, cut.tail)? else {
+    let Some(Left { text, known }) = joined(alloc, &old, &cut.pieces, cut.tail)? else {
         return Err(ManifestFault::ReadBack);
     };
-    if !reads_as(alloc, old, copy, text.as_str())? {
+    if !reads_as(alloc, old, text.as_str())? {
         return Err(ManifestFault::ReadBack);
     }
     if known {

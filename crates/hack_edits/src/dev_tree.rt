@@ -20,54 +20,47 @@ use toml::value::Array;
 use toml::{Table, Value};
 
 /// Whether a text is read as what stays of the tree of another.
-pub fn reads_as(alloc: Global, old: &Table, copy: Table, new: &str) -> Result<bool, AllocError>
-    requires { table_view copy ≡ table_view old.now }
-    ensures { IfOk result (λ b. b ≡ reads_as_left (table_view old.now) (parse_document new.now)) }
+pub fn reads_as(alloc: Global, old: Table, new: &str) -> Result<bool, AllocError>
+    ensures { IfOk result (λ b. b ≡ reads_as_left (table_view old) (parse_document new.now)) }
 {
     match tree_of(alloc, new)? {
-        Some(tree) => is_rest(alloc, old, copy, tree),
+        Some(tree) => is_rest(alloc, old, tree),
         None => Ok(false),
     }
 }
 
-/// Whether a tree is what stays of the old one, of which `copy` is a copy.
-fn is_rest(alloc: Global, old: &Table, copy: Table, new: Table) -> Result<bool, AllocError>
-    requires { table_view copy ≡ table_view old.now }
-    ensures { IfOk result (λ b. b ≡ reads_as_left (table_view old.now) (Some (table_view new))) }
+/// Whether a tree is what stays of the old one.
+fn is_rest(alloc: Global, old: Table, new: Table) -> Result<bool, AllocError>
+    ensures { IfOk result (λ b. b ≡ reads_as_left (table_view old) (Some (table_view new))) }
 {
     if holds_dev(&new) {
         return Ok(false);
     }
-    let thinned = drop_texts(alloc, old, copy)?;
+    let thinned = drop_texts(alloc, old)?;
     let expected = tidy(alloc, thinned, true)?;
     let found = tidy(alloc, new, false)?;
     Ok(same_table(&expected, &found))
 }
 
-/// A tree without the features' texts that go.
-fn drop_texts(alloc: Global, old: &Table, table: Table) -> Result<Table, AllocError>
-    ensures { IfOk result (λ t. table_view t
-        ≡ without_texts (table_view old.now) (table_view table)) }
+/// A tree without the features' texts that go. What goes is asked of the tree without its features,
+/// which says the same.
+fn drop_texts(alloc: Global, old: Table) -> Result<Table, AllocError>
+    ensures { IfOk result (λ t. table_view t ≡ without_texts (table_view old) (table_view old)) }
 {
-    let mut top = table;
+    let mut top = old;
     let features = top.remove(FEATURES);
-    put_features(alloc, old, &mut top, features)?;
+    put_features(alloc, &mut top, features)?;
     Ok(top)
 }
 
 /// Puts back what stays of the features.
-fn put_features(
-    alloc: Global,
-    old: &Table,
-    top: &mut Table,
-    features: Option<Value>,
-) -> Result<(), AllocError>
-    ensures { OnOk result (table_view top.new
-        ≡ with_features (table_view old.now) (option_map view features) (table_view top.old)) }
+fn put_features(alloc: Global, top: &mut Table, features: Option<Value>) -> Result<(), AllocError>
+    ensures { OnOk result (table_view top.new ≡ with_features (table_view top.old)
+        (option_map view features) (table_view top.old)) }
 {
     match features {
         Some(value) => {
-            let kept = strip_features(alloc, old, value)?;
+            let kept = strip_features(alloc, top, value)?;
             let key = String::from_str(alloc, FEATURES)?;
             put_at(top, key, kept)
         }

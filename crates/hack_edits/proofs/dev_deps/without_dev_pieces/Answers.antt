@@ -12,7 +12,7 @@ use Rattle.hack_edits.proofs.dev_deps.without_dev_pieces.Goals as goal
 
 pub returns-then-not-branch-clause-read_back : goal.returns-then-not-branch-clause-read_back
 returns-then-not-branch-clause-read_back c _ =
-    let old = table_view c.args.old.now in
+    let old = table_view c.args.old in
     let ps = pieces_view c.args.cut.now in
     let tail = c.args.cut.now.tail.now in
     let new = string_bytes c.in-Some.field-0.text in
@@ -26,7 +26,7 @@ returns-then-not-branch-clause-read_back c _ =
 
 pub returns-then-known-clause-ok : goal.returns-then-known-clause-ok
 returns-then-known-clause-ok c =
-    let old = table_view c.args.old.now in
+    let old = table_view c.args.old in
     let ps = pieces_view c.args.cut.now in
     let tail = c.args.cut.now.tail.now in
     let new = string_bytes c.in-Some.field-0.text in
@@ -34,5 +34,5 @@ returns-then-known-clause-ok c =
     record {
       left = rw (c.in-Some.is, c.deref-2.ensures.value) at c.in_ok-text.ensures.left;
       tree = ap (λ t. reads_as_left old (parse_document t)) (sym c.as_str.ensures.value) ∙ sym c.in_ok-reads_as.ensures ∙ c.if-not-branch.false;
-      done = no_dev-left ps tail c.requires.cut.0 new c.requires.cut.1 recut;
+      done = no_dev-left ps tail c.requires.0 new c.requires.1 recut;
     }

@@ -1,0 +1,91 @@
+-- Which texts of features go is said by the tree without its features too.
+use Rattle.std.proofs.Common.{◌≡◌, true, false, ◌&&◌, ◌||◌, not, Option, Some, None, Ordering, Less, Equal, Greater, nat_cmp, is_eq, refl, sym, ap, ◌∙◌, inl, inr}
+use Rattle.std.proofs.lemmas.Bool.{cases_Bool}
+use Rattle.std.proofs.lemmas.Map.Text.{is_eq-slice_cmp}
+use Rattle.std.proofs.lemmas.Slice.Eq.{bytes_eq-Decides}
+use Rattle.std.specs.Cmp.Lexicographic.{slice_cmp}
+use Rattle.std.specs.Ordering.{match_ordering}
+use Rattle.std.specs.Prelude.{◌==◌, length, option_and_then}
+use Rattle.std.specs.List.{before_first, position_or_len}
+use Rattle.toml.specs.Data.{Data, string, integer, float, boolean, datetime, array, table, Items, no_items, item, Members, no_members, member, get_member, as_table, same_key}
+use Rattle.hack_features.specs.Names.{Name}
+use Rattle.hack_manifest.specs.Manifest.{table_at, features_key}
+use Rattle.hack_edits.specs.KeyPaths.{dev_key, target_key}
+use Rattle.hack_edits.specs.Lookup.{normal_key, build_key, has_key, passes, some_table, lists, depends, is_dev_only, is_slash, item_goes}
+use Rattle.hack_edits.specs.DevTree.{items_left, array_left, arrays_left, features_left, with_features}
+use Rattle.hack_edits.specs.Tables.{remove_member, put}
+
+-- a key that is another one's beside
+passed : {X : Type 0} (o : Ordering) (x y : X) → is_eq o ≡ false → x ≡ match_ordering o x y x
+passed Less x y h = refl
+passed Equal x y h = absurd (cc)
+passed Greater x y h = refl
+
+apart : (j k l : Name) → same_key k j ≡ false → same_key j l ≡ true → same_key k l ≡ false
+apart j k l other same =
+    let is : j ≡ l = (bytes_eq-Decides j l).0 (sym (is_eq-slice_cmp j l) ∙ same) in
+    ap (same_key k) (sym is) ∙ other
+
+-- without one key another one holds what it held
+get-aside : (j k : Name) → same_key k j ≡ false → (ms : Members) → get_member k (remove_member j ms) ≡ get_member k ms
+get-aside j k other no_members = refl
+get-aside j k other (member l d ms) =
+    elim (cases_Bool (same_key j l)) [
+      | inl same ↦ rw same (passed (slice_cmp nat_cmp k l) (get_member k ms) (Some d) (apart j k l other same))
+      | inr differs ↦ rw differs (ap (λ o. match_ordering (slice_cmp nat_cmp k l) o (Some d) o) (get-aside j k other ms))
+    ]
+
+table-aside : (j k : Name) → same_key k j ≡ false → (ms : Members) → table_at k (remove_member j ms) ≡ table_at k ms
+table-aside j k other ms = ap (λ o. option_and_then as_table o) (get-aside j k other ms)
+
+depends-aside : (j section key : Name) → same_key section j ≡ false → same_key target_key j ≡ false → (ms : Members) → depends section key (remove_member j ms) ≡ depends section key ms
+depends-aside j section key other apart_too ms =
+    ap (λ o. passes (has_key key) o || passes (some_table (lists section key)) (table_at target_key (remove_member j ms))) (table-aside j section other ms)
+    ∙ ap (λ o. lists section key ms || passes (some_table (lists section key)) o) (table-aside j target_key apart_too ms)
+
+dev_only-aside : (name : Name) (ms : Members) → is_dev_only name (remove_member features_key ms) ≡ is_dev_only name ms
+dev_only-aside name ms =
+    ap (λ b. b && not (depends normal_key name (remove_member features_key ms) || depends build_key name (remove_member features_key ms))) (depends-aside features_key dev_key name refl refl ms)
+    ∙ ap (λ b. depends dev_key name ms && not (b || depends build_key name (remove_member features_key ms))) (depends-aside features_key normal_key name refl refl ms)
+    ∙ ap (λ b. depends dev_key name ms && not (depends normal_key name ms || b)) (depends-aside features_key build_key name refl refl ms)
+
+goes-aside : (ms : Members) (d : Data) → item_goes (remove_member features_key ms) d ≡ item_goes ms d
+goes-aside ms (string s) = ap (λ b. not (position_or_len is_slash s == length s) && b) (dev_only-aside (before_first is_slash s) ms)
+goes-aside ms (integer z) = refl
+goes-aside ms (float x) = refl
+goes-aside ms (boolean b) = refl
+goes-aside ms (datetime t) = refl
+goes-aside ms (array ds) = refl
+goes-aside ms (table ts) = refl
+
+items-aside : (old : Members) (ds : Items) → items_left (remove_member features_key old) ds ≡ items_left old ds
+items-aside old no_items = refl
+items-aside old (item d ds) = rw (goes-aside old d, items-aside old ds) refl
+
+array-aside : (old : Members) (d : Data) → array_left (remove_member features_key old) d ≡ array_left old d
+array-aside old (array ds) = ap array (items-aside old ds)
+array-aside old (string s) = refl
+array-aside old (integer z) = refl
+array-aside old (float x) = refl
+array-aside old (boolean b) = refl
+array-aside old (datetime t) = refl
+array-aside old (table ts) = refl
+
+arrays-aside : (old kept ms : Members) → arrays_left (remove_member features_key old) kept ms ≡ arrays_left old kept ms
+arrays-aside old kept no_members = refl
+arrays-aside old kept (member x d ms) =
+    ap (λ a. arrays_left (remove_member features_key old) (put x a kept) ms) (array-aside old d) ∙ arrays-aside old (put x (array_left old d) kept) ms
+
+features-aside : (old : Members) (d : Data) → features_left (remove_member features_key old) d ≡ features_left old d
+features-aside old (table ms) = ap table (arrays-aside old no_members ms)
+features-aside old (string s) = refl
+features-aside old (integer z) = refl
+features-aside old (float x) = refl
+features-aside old (boolean b) = refl
+features-aside old (datetime t) = refl
+features-aside old (array ds) = refl
+
+-- what stays of the features, by the tree without them
+pub with_features-aside : (old : Members) (o : Option Data) (ms : Members) → with_features (remove_member features_key old) o ms ≡ with_features old o ms
+with_features-aside old None ms = refl
+with_features-aside old (Some d) ms = ap (λ f. put features_key f ms) (features-aside old d)
