@@ -12,38 +12,7 @@ use Rattle.std.specs.Prelude.{◌&&◌, ◌||◌, MatchBool}
 use Rattle.std.specs.Str.{bytes_eq}
 use Rattle.std.specs.Cmp.Lexicographic.{pointwise}
 use Rattle.std.proofs.lemmas.Slice.Eq.{bytes_eq-Decides}
-use Rattle.std.proofs.lemmas.Bool.{cases_Bool, false≢true}
-
--- lengths of two joined texts, at m
-same_end : (p r s : List ℕ) (m : ℕ) → m ≤ length p → (length r ≡ 0 → length s ≡ 0) → m ≡ length (p ++ r) → m ≡ length (p ++ s)
-same_end p r s m below ends all =
-    let left : m ≡ length p + length r = all ∙ length-append p r in
-    let none : length r ≡ 0 = omega arith in
-    let gone : length s ≡ 0 = ends none in
-    let right : length (p ++ s) ≡ length p + length s = length-append p s in
-    omega arith
-
--- whole lines within p are the same whatever follows, unless p is all of the text
-lines-moved : (p r s : List ℕ) (m : ℕ) → m ≤ length p → (length r ≡ 0 → length s ≡ 0) → IsLines (p ++ r) m → IsLines (p ++ s) m
-lines-moved p r s m below ends l =
-    let right : length (p ++ s) ≡ length p + length s = length-append p s in
-    let some : 0 < m = l.some in
-    let here : m - 1 < length p = omega arith in
-    record {
-      some = some;
-      within = omega arith;
-      ends = elim l.ends [
-        | inl all ↦ inl (same_end p r s m below ends all)
-        | inr feed ↦ inr (get_or_append_left p s 0 (m - 1) here ∙ sym (get_or_append_left p r 0 (m - 1) here) ∙ feed)
-      ];
-    }
-
-run-moved : (p r s : List ℕ) (m : ℕ) → m ≤ length p → (length r ≡ 0 → length s ≡ 0) → IsRun (p ++ r) m → IsRun (p ++ s) m
-run-moved p r s m below ends run =
-    record {
-      lines = lines-moved p r s m below ends run.lines;
-      reads = ap stands (take-append-le m p s below ∙ sym (take-append-le m p r below)) ∙ run.reads;
-    }
+use Rattle.std.proofs.lemmas.Bool.{cases_Bool, false≢true, and_parts}
 
 -- below p's whole length nothing is asked of what follows
 lines-below : (p r s : List ℕ) (m : ℕ) → m < length p → IsLines (p ++ r) m → IsLines (p ++ s) m
@@ -69,22 +38,13 @@ run-below p r s m below run =
       reads = ap stands (take-append-le m p s within ∙ sym (take-append-le m p r within)) ∙ run.reads;
     }
 
--- a first run is one whatever follows, unless it is all of the text
-first-moved : (p r s : List ℕ) → (length r ≡ 0 → length s ≡ 0) → IsFirstRun (p ++ r) (length p) → IsFirstRun (p ++ s) (length p)
-first-moved p r s ends first =
-    record {
-      run = run-moved p r s (length p) (omega arith) ends first.run;
-      shortest = λ m below run. first.shortest m below (run-below p s r m below run);
-    }
-
--- a first run by itself is one in front of a text, unless it must end in a line feed and doesn't
-first-put : (q s : List ℕ) → ((length s ≡ 0) ⊎ EndsInFeed q) → IsFirstRun q (length q) → IsFirstRun (q ++ s) (length q)
-first-put q s end first =
-    let P : List ℕ → Type 0 = λ t. IsFirstRun t (length q) in
-    let alone : IsFirstRun (q ++ []) (length q) = subst P (sym (append-nil q)) first in
-    let some : 0 < length q = first.run.lines.some in
-    let whole : length (q ++ s) ≡ length q + length s = length-append q s in
-    let last : length q - 1 < length q = omega arith in
+-- a first run is one whatever follows, where nothing does or it ends in a line feed
+first-moved : (p r s : List ℕ) → ((length s ≡ 0) ⊎ EndsInFeed p) → IsFirstRun (p ++ r) (length p) → IsFirstRun (p ++ s) (length p)
+first-moved p r s end first =
+    let some : 0 < length p = first.run.lines.some in
+    let whole : length (p ++ s) ≡ length p + length s = length-append p s in
+    let last : length p - 1 < length p = omega arith in
+    let all : length p ≤ length p = omega arith in
     record {
       run = record {
         lines = record {
@@ -92,12 +52,12 @@ first-put q s end first =
           within = omega arith;
           ends = elim end [
             | inl none ↦ inl (omega arith)
-            | inr feed ↦ inr (get_or_append_left q s 0 (length q - 1) last ∙ feed)
+            | inr feed ↦ inr (get_or_append_left p s 0 (length p - 1) last ∙ feed)
           ];
         };
-        reads = ap stands (take-append-le (length q) q s (omega arith) ∙ sym (take-append-le (length q) q [] (omega arith))) ∙ alone.run.reads;
+        reads = ap stands (take-append-le (length p) p s all ∙ sym (take-append-le (length p) p r all)) ∙ first.run.reads;
       };
-      shortest = λ m below run. alone.shortest m below (run-below q s [] m below run);
+      shortest = λ m below run. first.shortest m below (run-below p s r m below run);
     }
 
 -- how a first run ends: the text ends with it, or it ends in a line feed
@@ -216,13 +176,18 @@ recut-step true p header now part tail rest new gone f path first ends none agai
 recut-step false p header now part tail rest new stays f path first ends (inl same) again =
     let P : List ℕ → Type 0 = λ t. IsCutAgain now tail (t ++ new) in
     let moved : IsPath now p.text p.path = path-moved header now p.text p.path stays f path in
-    subst P (sym same) (with-piece now p tail new stays moved (first-moved p.text rest new ends first) (again (next_header now p) (follows-kept header now p f)))
+    let end : (length new ≡ 0) ⊎ EndsInFeed p.text = elim (run-end p.text rest first) [
+      | inl none ↦ inl (ends none)
+      | inr feed ↦ inr feed
+    ] in
+    subst P (sym same) (with-piece now p tail new stays moved (first-moved p.text rest new end first) (again (next_header now p) (follows-kept header now p f)))
 recut-step false p header now part tail rest new stays f path first ends (inr keeps) again =
+    let P : List ℕ → Type 0 = λ t. IsFirstRun t (length part) in
     let end : (length new ≡ 0) ⊎ EndsInFeed part = elim (run-end p.text rest first) [
       | inl none ↦ inl (ends none)
       | inr feed ↦ inr (keeps.feed feed)
     ] in
-    with-key header now p part tail new stays f path keeps (first-put part new end keeps.run) (again now (follows-plain header now p keeps.plain f))
+    with-key header now p part tail new stays f path keeps (first-moved part [] new end (subst P (sym (append-nil part)) keeps.run)) (again now (follows-plain header now p keeps.plain f))
 
 recut : (ps : List View) (header now : List Name) (tail text new : List ℕ) → Follows header now → IsCutInto (map (λ p. p.text) ps) tail text → HavePaths header ps
     → AreRecut ps tail new → IsCutAgain now tail new
@@ -247,10 +212,6 @@ same-names [] [] h = refl
 same-names [] (y ∷ ys) h = absurd (cc)
 same-names (x ∷ xs) [] h = absurd (cc)
 same-names (x ∷ xs) (y ∷ ys) h =
-    let both : (string_eq x y ≡ true) × (pointwise string_eq xs ys ≡ true) = and-both (string_eq x y) (pointwise string_eq xs ys) h in
+    let both = and_parts (string_eq x y) (pointwise string_eq xs ys) h in
     let first : string_bytes x ≡ string_bytes y = (bytes_eq-Decides (string_bytes x) (string_bytes y)).0 both.0 in
     ap (λ n. n ∷ names_of xs) first ∙ ap (λ ns. string_bytes y ∷ ns) (same-names xs ys both.1)
-  where
-    and-both : (a b : Bool) → (a && b) ≡ true → (a ≡ true) × (b ≡ true)
-    and-both true b h = (refl, h)
-    and-both false b h = absurd (cc)

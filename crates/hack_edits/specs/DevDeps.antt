@@ -10,6 +10,7 @@ use Rattle.hack_manifest.specs.Paths.{View, AreCut, is_header}
 use Rattle.hack_edits.specs.Arrays.{IsCutInside}
 use Rattle.hack_edits.specs.DevTree.{reads_as_left}
 use Rattle.hack_edits.specs.KeyPaths.{target_key, name_at, is_dev}
+use Rattle.hack_edits.specs.Parts.{AreParts}
 use Rattle.hack_edits.specs.Lookup.{has_dev, has_target_dev, has_dev_under, feature, loses_texts_at}
 
 -- ---- the pieces
@@ -49,18 +50,12 @@ IsLeft old p part = MatchBool (is_dev p.path) (part ≡ []) (MatchBool (loses_te
 
 -- what is left of the pieces, in order, and the tail
 abbrev pub AreLeft : Members → List View → List ℕ → List ℕ → Type 0
-AreLeft old [] tail new = new ≡ tail
-AreLeft old (p ∷ ps) tail new = (part rest : List ℕ) × (new ≡ part ++ rest) × IsLeft old p part × AreLeft old ps tail rest
+AreLeft old ps tail new = AreParts (IsLeft old) ps tail new
 
 -- the pieces that stay, whole and in order, and the tail
 abbrev pub kept_text : List View → List ℕ → List ℕ
 kept_text [] tail = tail
 kept_text (p ∷ ps) tail = if is_dev p.path then kept_text ps tail else p.text ++ kept_text ps tail
-
--- the pieces that stay
-abbrev pub kept : List View → List View
-kept [] = []
-kept (p ∷ ps) = if is_dev p.path then kept ps else p ∷ kept ps
 
 -- ---- the edit
 

@@ -6,6 +6,7 @@ pub mod Lookup
 pub mod DevTree
 pub mod DevDeps
 pub mod Members
+pub mod Parts
 pub mod Recut
 pub mod Exclude
 pub mod WorkspaceTree

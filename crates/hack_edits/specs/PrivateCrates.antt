@@ -1,5 +1,5 @@
 -- A manifest without private crates.
-use Rattle.std.specs.Prelude.{◌≡◌, ◌==◌, ℕ, ◌&&◌, ◌||◌, Bool, true, false, not, nat_lt, MatchBool, List, [], ◌∷◌, ◌++◌, Option, Some, None, is_some}
+use Rattle.std.specs.Prelude.{◌≡◌, ◌==◌, ℕ, ◌&&◌, ◌||◌, Bool, true, false, not, nat_lt, MatchBool, List, Option, Some, None, is_some}
 use Rattle.std.specs.List.{list_any}
 use Rattle.toml.specs.Data.{Data, array, Members, get_member}
 use Rattle.toml.specs.Parse.{parse_document}
@@ -11,6 +11,7 @@ use Rattle.hack_edits.specs.Arrays.{IsCutInside}
 use Rattle.hack_edits.specs.Exclude.{with_line, IsAddedInside, adds}
 use Rattle.hack_edits.specs.KeyPaths.{workspace_key, members_key, exclude_key, is_pair, is_header_of}
 use Rattle.hack_edits.specs.Members.{items_at, folders}
+use Rattle.hack_edits.specs.Parts.{AreParts}
 use Rattle.hack_edits.specs.WorkspaceTree.{takes, has_work, reads_without}
 
 -- What is made of a piece, where members go or not, and with texts to add: slices are cut out of the array of members,
@@ -23,8 +24,7 @@ IsMade takes ts ws p part =
 
 -- what is made of the pieces, in order, and the tail
 abbrev pub AreMade : Bool → List Name → Members → List View → List ℕ → List ℕ → Type 0
-AreMade takes ts ws [] tail new = new ≡ tail
-AreMade takes ts ws (p ∷ pieces) tail new = (part rest : List ℕ) × (new ≡ part ++ rest) × IsMade takes ts ws p part × AreMade takes ts ws pieces tail rest
+AreMade takes ts ws pieces tail new = AreParts (IsMade takes ts ws) pieces tail new
 
 -- What is made of the pieces, which `toml` reads as the tree with the workspace that is expected.
 pub record IsWorkspaceEdit (root : Name) (ps : List Name) (text : List ℕ) (old ws : Members) (new : List ℕ) : Type 0 where

@@ -1,11 +1,12 @@
 -- What is left of a manifest's pieces, as pieces again.
-use Rattle.std.specs.Prelude.{◌≡◌, ◌⊎◌, ℕ, ◌-◌, Bool, true, false, MatchBool, List, [], ◌∷◌, ◌++◌, length, slice_index}
+use Rattle.std.specs.Prelude.{◌≡◌, ◌⊎◌, ℕ, ◌-◌, Bool, true, false, MatchBool, List, [], ◌++◌, length, slice_index}
 use Rattle.toml.specs.Data.{Members}
 use Rattle.hack_features.specs.Names.{Name}
 use Rattle.hack_manifest.specs.Paths.{View, IsOwnKey, is_header}
 use Rattle.hack_manifest.specs.Runs.{IsFirstRun}
 use Rattle.hack_edits.specs.DevDeps.{IsLeft, is_cut}
 use Rattle.hack_edits.specs.KeyPaths.{is_dev}
+use Rattle.hack_edits.specs.Parts.{AreParts}
 
 -- the text ends in a line feed
 abbrev pub EndsInFeed : List ℕ → Type 0
@@ -27,8 +28,7 @@ IsRecut p part = MatchBool (is_dev p.path) (part ≡ []) ((part ≡ p.text) ⊎ 
 
 -- what is left of the pieces, in order, and the tail
 abbrev pub AreRecut : List View → List ℕ → List ℕ → Type 0
-AreRecut [] tail new = new ≡ tail
-AreRecut (p ∷ ps) tail new = (part rest : List ℕ) × (new ≡ part ++ rest) × IsRecut p part × AreRecut ps tail rest
+AreRecut ps tail new = AreParts IsRecut ps tail new
 
 -- what is left of a piece was put behind a text; where it isn't known to be a piece again, texts go from it
 pub record Leaves (old : Members) (p : View) (known : Bool) (before after : List ℕ) : Type 0 where

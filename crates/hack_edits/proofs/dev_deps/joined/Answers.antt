@@ -1,10 +1,10 @@
-use Rattle.std.proofs.Common.{◌≡◌, ◌⊎◌, ◌++◌, ℕ, List, ap, sym, subst, inl, inr, refl, true, false, ◌∙◌, string_bytes, map}
+use Rattle.std.proofs.Common.{◌≡◌, ◌⊎◌, ◌++◌, ℕ, List, ap, sym, subst, inl, inr, true, false, ◌∙◌, string_bytes, map}
 use Rattle.std.proofs.lemmas.Bool.{false≢true}
 use Rattle.toml.specs.View.{table_view}
 use Rattle.hack_manifest.specs.View.{piece_view}
-use Rattle.hack_edits.specs.DevDeps.{AreLeft}
-use Rattle.hack_edits.specs.Recut.{AreRecut, Leaves}
-use Rattle.hack_edits.proofs.LeftLemmas.{more-pieces, cuts_arrays-more, cuts_arrays-here}
+use Rattle.hack_edits.specs.DevDeps.{IsLeft, AreLeft}
+use Rattle.hack_edits.specs.Recut.{IsRecut, AreRecut, Leaves}
+use Rattle.hack_edits.proofs.LeftLemmas.{parts-more, cuts_arrays-more, cuts_arrays-here}
 use Rattle.hack_edits.proofs.dev_deps.joined.Goals.{then-known, else-known}
 use Rattle.hack_edits.proofs.dev_deps.joined.Goals as goal
 
@@ -32,10 +32,8 @@ loop-piece-preserved c =
     let Q : List ℕ → Type 0 = λ t. AreRecut ps tail t in
     let behind : (more : List ℕ) → string_bytes c.push_left.new.text ++ more ≡ (before ++ left.part) ++ more = λ more. ap (λ t. t ++ more) left.whole in
     record {
-      left = λ more rest. subst P (sym (behind more)) (more-pieces (λ vs new. AreLeft old vs tail new) xs i x ps before left.part inside c.piece-item.is
-          (λ vs others h. (left.part, others, refl, left.left, h)) so_far.left more rest);
-      known = λ h more rest. subst Q (sym (behind more)) (more-pieces (λ vs new. AreRecut vs tail new) xs i x ps before left.part inside c.piece-item.is
-          (λ vs others is. (left.part, others, refl, left.recut (both h).1, is)) (so_far.known (both h).0) more rest);
+      left = λ more rest. subst P (sym (behind more)) (parts-more (IsLeft old) xs i x ps tail before left.part inside c.piece-item.is left.left so_far.left more rest);
+      known = λ h more rest. subst Q (sym (behind more)) (parts-more IsRecut xs i x ps tail before left.part inside c.piece-item.is (left.recut (both h).1) (so_far.known (both h).0) more rest);
       unknown = λ h. elim (either h) [
         | inl earlier ↦ so_far.unknown earlier
         | inr here ↦ cuts_arrays-here old xs i x ps inside c.piece-item.is so_far.cuts (left.cut here)

@@ -3,7 +3,7 @@ use Rattle.toml.specs.View.{table_view}
 use Rattle.hack_process.specs.PathTexts.{texts, parent_of}
 use Rattle.hack_manifest.specs.View.{piece_view}
 use Rattle.hack_edits.specs.PrivateCrates.{IsMade}
-use Rattle.hack_edits.proofs.PrivateLemmas.{made-more}
+use Rattle.hack_edits.proofs.LeftLemmas.{parts-more}
 use Rattle.hack_edits.proofs.private_crates.joined_parts.Goals as goal
 
 pub loop-piece-preserved : goal.loop-piece-preserved
@@ -14,4 +14,4 @@ loop-piece-preserved c =
     let xs = c.args.pieces.now in
     let made : IsMade takes ts ws (piece_view c.piece-item.result) c.in-Some.part.items = rw c.in-Some.is at c.in_ok-part.ensures in
     let text : c.extend_from_slice.new.self.items ≡ c.loop-piece.new.items ++ c.in-Some.part.items = c.in_ok-extend_from_slice-in-Some.ensures.items ∙ ap (λ t. c.loop-piece.new.items ++ t) c.as_slice.ensures.value in
-    λ more rest. rw text (made-more takes ts ws xs c.loop-piece.piece-index c.piece-item.result (map piece_view xs) c.args.tail.now c.loop-piece.new.items c.in-Some.part.items c.loop-piece-test.true c.piece-item.is made c.loop-piece.invariant more rest)
+    λ more rest. rw text (parts-more (IsMade takes ts ws) xs c.loop-piece.piece-index c.piece-item.result (map piece_view xs) c.args.tail.now c.loop-piece.new.items c.in-Some.part.items c.loop-piece-test.true c.piece-item.is made c.loop-piece.invariant more rest)
