@@ -1,4 +1,4 @@
-use Rattle.std.proofs.Common.{◌∙◌, refl}
+use Rattle.std.proofs.Common.{refl}
 use Rattle.hack_edits.specs.Members.{led_manifest}
 use Rattle.hack_edits.proofs.members.manifest_of.Goals as goal
 
