@@ -1,10 +1,11 @@
 //! The lines of a command list.
 
-ghost use Rattle.std.specs.Prelude.{◌≡◌, ◌++◌, [], ◌∷◌, List, codes, map, string_bytes};
+ghost use Rattle.std.specs.Prelude.{◌≡◌, ◌<◌, ◌++◌, [], ◌∷◌, List, ℕ, codes, length, map, string_bytes};
 ghost use Rattle.std.specs.Prelude.{IfOk, OnOk, OnErr};
 ghost use Rattle.std.specs.Io.KnownBytes.{Appends};
 ghost use Rattle.hack_features.specs.Names.{Name, shown, names_of};
 ghost use Rattle.hack_features.specs.Feature.{name_of};
+ghost use Rattle.hack_features.specs.Forest.{sets_in};
 ghost use Rattle.hack_features.specs.Sets.{chosen};
 ghost use Rattle.hack_process.specs.CommandTexts.{Command, listed_of};
 ghost use Rattle.hack_process.specs.Commands.{command_of};
@@ -12,11 +13,10 @@ ghost use Rattle.hack_term.specs.Writes.{AppendsFront};
 ghost use Rattle.hack_plan.specs.Runs.{run_of};
 ghost use Rattle.hack_plan.specs.RunsView.{runs_in};
 ghost use Rattle.hack_powerset_list.specs.Lines.{run_text, run_line, run_lines, run_command};
-ghost use Rattle.hack_powerset_list.specs.LineWords.{bare_command, shown_names, TurnsPage};
-ghost use Rattle.hack_powerset_list.specs.LinesView.{AreTexts};
+ghost use Rattle.hack_powerset_list.specs.LineWords.{bare_command, shown_names, HasLine, TurnsPage};
 
 use crate::writes::write_text;
-use hack_features::Feature;
+use hack_features::{Feature, FeatureSets};
 use hack_plan::runs::{Run, Runs};
 use hack_process::process::ProcessBuilder;
 use std::alloc::{AllocError, Global};
@@ -69,6 +69,8 @@ fn names_behind(
 }
 
 impl Texts {
+    ghost use Rattle.hack_powerset_list.specs.LinesView.{AreTexts, AreFronts};
+
     /// The texts of `cargo check`.
     fn of_check(alloc: Global, features: &[Feature]) -> Result<Texts, AllocError>
         ensures { IfOk result (AreTexts (map name_of features.now)) }
@@ -84,14 +86,25 @@ impl Texts {
         })
     }
 
-    /// Puts the names at the positions behind what stands on the page, with the option before them;
-    /// nothing where there is none.
-    fn push_names(&self, positions: &[usize], page: &mut String) -> Result<(), AllocError>
-        ensures { (names : List Name) → AreTexts names self.now
-            → OnOk result (string_bytes page.new
-            ≡ string_bytes page.old ++ shown_names (chosen names positions.now)) }
+    /// Puts names behind what stands on the page, with the option before them: first those of `front`, as they stand
+    /// in a line, then those at the positions. Nothing is put there where there is none.
+    fn push_names(
+        &self,
+        front: &str,
+        positions: &[usize],
+        page: &mut String,
+    ) -> Result<(), AllocError>
+        ensures { (names : List Name) (before : List ℕ) → AreTexts names self.now
+            → front.now ≡ shown_names (chosen names before)
+            → OnOk result (string_bytes page.new ≡ string_bytes page.old
+            ++ shown_names (chosen names (before ++ positions.now))) }
     {
-        let mut texts = self.first.as_slice();
+        page.push_str(front)?;
+        let mut texts = if front.is_empty() {
+            self.first.as_slice()
+        } else {
+            self.next.as_slice()
+        };
         for p in positions {
             let Some(text) = texts.get(*p) else {
                 continue;
@@ -102,11 +115,19 @@ impl Texts {
         Ok(())
     }
 
-    /// Puts the text of a run behind what stands on the page.
-    fn push_run(&self, run: Run, positions: &[usize], page: &mut String) -> Result<(), AllocError>
-        ensures { (names : List Name) → AreTexts names self.now
-            → OnOk result (string_bytes page.new
-            ≡ string_bytes page.old ++ run_text names (run_of run positions.now)) }
+    /// Puts the text of a run behind what stands on the page. Where it is one of a set, the names in `front` and those
+    /// at the positions are the set's.
+    fn push_run(
+        &self,
+        run: Run,
+        front: &str,
+        positions: &[usize],
+        page: &mut String,
+    ) -> Result<(), AllocError>
+        ensures { (names : List Name) (before : List ℕ) → AreTexts names self.now
+            → front.now ≡ shown_names (chosen names before)
+            → OnOk result (string_bytes page.new ≡ string_bytes page.old
+            ++ run_text names (run_of run (before ++ positions.now))) }
     {
         match run {
             Run::Plain => page.push_str(self.plain.as_str()),
@@ -114,18 +135,80 @@ impl Texts {
             Run::NoDefaultFeatures => page.push_str(self.bare.as_str()),
             Run::Features => {
                 page.push_str(self.bare.as_str())?;
-                self.push_names(positions, page)
+                self.push_names(front, positions, page)
             }
         }
     }
 
-    /// Puts the line of a run behind what stands on the page.
-    fn push_line(&self, run: Run, positions: &[usize], page: &mut String) -> Result<(), AllocError>
-        ensures { (names : List Name) → AreTexts names self.now
-            → OnOk result (string_bytes page.new
-            ≡ string_bytes page.old ++ run_line names (run_of run positions.now)) }
+    /// The names of the empty set and of the first ones, as they stand in a line.
+    fn fronts(&self, alloc: Global, sets: &FeatureSets) -> Result<Vec<String>, AllocError>
+        ensures some { IfOk result (λ fronts. 0 < length fronts.items) }
+        ensures fronts { IfOk result (λ fronts. (names : List Name) → AreTexts names self.now
+            → AreFronts names (sets_in sets.now) fronts.items) }
     {
-        self.push_run(run, positions, page)?;
+        let mut fronts = Vec::new(alloc);
+        fronts.push(String::new(alloc))?;
+        let mut positions = Vec::new(alloc);
+        for rank in 0..sets.len().min(FRONTS) {
+            sets.read(rank, &mut positions)?;
+            let mut text = String::new(alloc);
+            self.push_names("", positions.as_slice(), &mut text)?;
+            fronts.push(text)?;
+        }
+        Ok(fronts)
+    }
+}
+
+/// How many of the first sets have a text of their names: many sets begin with one of them.
+const FRONTS: usize = 4_096;
+
+/// The lines of the runs of a package, made of texts.
+#[derive(Drop)]
+struct Lines<'a> {
+    texts: Texts,
+    /// The names of the empty set and of the first ones, as they stand in a line.
+    fronts: Vec<String>,
+    runs: &'a Runs,
+    ghost some: { 0 < length fronts.items },
+}
+
+impl<'a> Lines<'a> {
+    ghost use Rattle.hack_powerset_list.specs.LinesView.{AreLines};
+
+    /// The lines of `cargo check`.
+    fn of_check(
+        alloc: Global,
+        features: &[Feature],
+        runs: &'a Runs,
+    ) -> Result<Lines<'a>, AllocError>
+        ensures lines { IfOk result (AreLines (map name_of features.now)) }
+        ensures runs { IfOk result (λ lines. lines.runs.now ≡ runs.now) }
+    {
+        let texts = Texts::of_check(alloc, features)?;
+        let fronts = texts.fronts(alloc, runs.sets())?;
+        Ok(Lines {
+            texts,
+            fronts,
+            runs,
+        })
+    }
+
+    /// Puts the line of the run of that rank behind what stands on the page. What stands in `positions` is replaced.
+    fn push(
+        &self,
+        rank: usize,
+        positions: &mut Vec<usize>,
+        page: &mut String,
+    ) -> Result<(), AllocError>
+        requires { rank < length (runs_in self.now.runs.now) }
+        ensures { (names : List Name) → AreLines names self.now
+            → OnOk result (HasLine (run_line names) (runs_in self.now.runs.now) rank
+            (string_bytes page.old) (string_bytes page.new)) }
+    {
+        let most = self.fronts.len() - 1;
+        let (run, front) = self.runs.run_behind(rank, most, positions)?;
+        let front = self.fronts[front].as_str();
+        self.texts.push_run(run, front, positions.as_slice(), page)?;
         page.push_str("\n")
     }
 }
@@ -161,12 +244,11 @@ pub fn write_lines<W: Write>(
     ensures front { AppendsFront (W.contents out.old) (W.contents out.new)
         (run_lines (map name_of features.now) (runs_in runs.now)) }
 {
-    let texts = Texts::of_check(alloc, features)?;
+    let lines = Lines::of_check(alloc, features, runs)?;
     let mut page = String::with_capacity(alloc, 2 * FULL)?;
     let mut positions = Vec::new(alloc);
     for rank in 0..runs.len() {
-        let run = runs.run(rank, &mut positions)?;
-        texts.push_line(run, positions.as_slice(), &mut page)?;
+        lines.push(rank, &mut positions, &mut page)?;
         turn_full_page(&mut page, out)?;
     }
     write_text(page.as_str(), out)?;

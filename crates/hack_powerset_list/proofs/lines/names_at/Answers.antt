@@ -16,7 +16,7 @@ loop-p-preserved-in_default c =
     let xs = c.args.positions.now in
     let p : ℕ = get_or xs c.loop-p.p-index 0 in
     let none : slice_get fs p ≡ None = slice_get_past fs p (ltb-false p (length fs) (sym c.in_default.ensures.lookup.0)) in
-    c.loop-p.invariant ∙ chosen-missed (map name_of fs) xs c.loop-p.p-index c.loop-p-test.true (slice_get-map name_of fs p ∙ ap (option_map name_of) none)
+    c.loop-p.invariant ∙ chosen-missed (map name_of fs) [] xs c.loop-p.p-index c.loop-p-test.true (slice_get-map name_of fs p ∙ ap (option_map name_of) none)
 
 pub loop-p-preserved : goal.loop-p-preserved
 loop-p-preserved c =
@@ -30,4 +30,4 @@ loop-p-preserved c =
     ∙ map-append (λ (t : Bor Name). t.now) c.loop-p.names.items (c.name.result ∷ [])
     ∙ ap (λ l. l ++ c.name.result.now ∷ []) c.loop-p.invariant
     ∙ ap (λ n. chosen (map name_of fs) (take c.loop-p.p-index xs) ++ n ∷ []) c.name.ensures
-    ∙ chosen-found (map name_of fs) xs c.loop-p.p-index c.loop-p-test.true (name_of feature) (slice_get-map name_of fs p ∙ ap (option_map name_of) found)
+    ∙ chosen-found (map name_of fs) [] xs c.loop-p.p-index c.loop-p-test.true (name_of feature) (slice_get-map name_of fs p ∙ ap (option_map name_of) found)

@@ -6,20 +6,15 @@ use Rattle.hack_term.specs.Writes.{AppendsFront}
 use Rattle.hack_term.proofs.WriteLemmas.{Appends-kept}
 use Rattle.hack_features.specs.Names.{Name}
 use Rattle.hack_features.specs.Feature.{name_of}
-use Rattle.hack_plan.specs.Runs.{PackageRun, run_of}
+use Rattle.hack_plan.specs.Runs.{PackageRun}
 use Rattle.hack_plan.specs.RunsView.{runs_in}
+use Rattle.hack_powerset_list.specs.LineWords.{HasLine}
 use Rattle.hack_powerset_list.specs.Lines.{run_line, run_lines}
 use Rattle.hack_powerset_list.proofs.PageLemmas.{front-of-texts, front-with-page, page-more}
 use Rattle.hack_powerset_list.proofs.lines.write_lines.Goals as goal
 
-pub returns-in_err-run-clause-front : goal.returns-in_err-run-clause-front
-returns-in_err-run-clause-front g c =
-    let so_far = c.loop-rank.invariant in
-    let names : List Name = map name_of c.args.features.now in
-    front-of-texts (run_line names) (runs_in c.args.runs.now) c.loop-rank.rank _ _ so_far.0 (string_bytes c.loop-rank.page) so_far.2 so_far.1
-
-pub returns-in_err-push_line-clause-front : goal.returns-in_err-push_line-clause-front
-returns-in_err-push_line-clause-front g c =
+pub returns-in_err-push-clause-front : goal.returns-in_err-push-clause-front
+returns-in_err-push-clause-front g c =
     let so_far = c.loop-rank.invariant in
     let names : List Name = map name_of c.args.features.now in
     front-of-texts (run_line names) (runs_in c.args.runs.now) c.loop-rank.rank _ _ so_far.0 (string_bytes c.loop-rank.page) so_far.2 so_far.1
@@ -29,28 +24,28 @@ returns-in_err-turn_full_page-clause-front g c =
     let so_far = c.loop-rank.invariant in
     let names : List Name = map name_of c.args.features.now in
     let runs : List PackageRun = runs_in c.args.runs.now in
-    let page = string_bytes c.loop-rank.page in
-    let new = string_bytes c.push_line.new.page in
-    let pushed : new ≡ page ++ run_line names (run_of c.in_ok-run.run' c.run.new.positions.items) =
-    subst (λ l. new ≡ page ++ run_line names (run_of c.in_ok-run.run' l)) c.as_slice.ensures.value (c.in_ok-push_line.ensures names c.in_ok-texts.ensures) in
+    let new = string_bytes c.push.new.page in
+    let line : HasLine (run_line names) runs c.loop-rank.rank (string_bytes c.loop-rank.page) new =
+    subst (λ r. HasLine (run_line names) (runs_in r) c.loop-rank.rank (string_bytes c.loop-rank.page) new) c.in_ok-lines.ensures.runs
+    (c.in_ok-push.ensures names c.in_ok-lines.ensures.lines) in
     front-with-page (run_line names) runs (c.loop-rank.rank + 1) _ _ _ so_far.0 new
-    (page-more (run_line names) runs c.loop-rank.rank _ so_far.0 page new c.in_ok-run.ensures pushed so_far.2) so_far.1 c.in_err-turn_full_page.ensures.err
+    (page-more (run_line names) runs c.loop-rank.rank line.run so_far.0 _ new line.found line.pushed so_far.2) so_far.1 c.in_err-turn_full_page.ensures.err
 
 pub loop-rank-preserved : goal.loop-rank-preserved
 loop-rank-preserved g c =
     let so_far = c.loop-rank.invariant in
     let names : List Name = map name_of c.args.features.now in
     let runs : List PackageRun = runs_in c.args.runs.now in
-    let page = string_bytes c.loop-rank.page in
-    let new = string_bytes c.push_line.new.page in
-    let pushed : new ≡ page ++ run_line names (run_of c.in_ok-run.run' c.run.new.positions.items) =
-    subst (λ l. new ≡ page ++ run_line names (run_of c.in_ok-run.run' l)) c.as_slice.ensures.value (c.in_ok-push_line.ensures names c.in_ok-texts.ensures) in
+    let new = string_bytes c.push.new.page in
+    let line : HasLine (run_line names) runs c.loop-rank.rank (string_bytes c.loop-rank.page) new =
+    subst (λ r. HasLine (run_line names) (runs_in r) c.loop-rank.rank (string_bytes c.loop-rank.page) new) c.in_ok-lines.ensures.runs
+    (c.in_ok-push.ensures names c.in_ok-lines.ensures.lines) in
     let turned = c.in_ok-turn_full_page.ensures.ok in (
       so_far.0 ++ turned.written,
       Appends-trans _ _ _ so_far.0 turned.written so_far.1 turned.appended,
       append_assoc so_far.0 turned.written (string_bytes c.turn_full_page.new.page)
           ∙ ap (λ l. so_far.0 ++ l) (sym turned.whole)
-          ∙ page-more (run_line names) runs c.loop-rank.rank _ so_far.0 page new c.in_ok-run.ensures pushed so_far.2,
+          ∙ page-more (run_line names) runs c.loop-rank.rank line.run so_far.0 _ new line.found line.pushed so_far.2,
     )
 
 pub returns-in_err-write_text-clause-front : goal.returns-in_err-write_text-clause-front

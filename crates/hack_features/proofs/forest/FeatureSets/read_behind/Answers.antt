@@ -1,0 +1,28 @@
+use Rattle.std.proofs.Common.{◌+◌, ◌<◌, ◌≡◌, ◌++◌, IfOk, sym, ◌∷◌, [], arith, List, ℕ, length, All, get_or, length-drop, ap, subst}
+use Rattle.std.proofs.lemmas.List.{length-map}
+use Rattle.hack_features.specs.Links.{places_in}
+use Rattle.hack_features.specs.Forest.{sets_of, picked, set_of_number}
+use Rattle.hack_features.proofs.ForestLemmas.{length-grown, behind-numbered}
+use Rattle.hack_features.proofs.forest.FeatureSets.read_behind.Goals as goal
+
+pub overflow_add-rank : goal.overflow_add-rank
+overflow_add-rank c =
+    let all : List (List ℕ) = sets_of c.args.self.now.forest in
+    let links = c.args.self.now.forest.links in
+    omega (arith, c.requires, ap (λ p. length (picked p all)) c.in-None.is, length-drop 1 all, length-grown ([] ∷ []) links.items, links.ok.0, links.ok.1, links.small)
+
+pub read-requires : goal.read-requires
+read-requires c =
+    let all : List (List ℕ) = sets_of c.args.self.now.forest in
+    let n : ℕ = length c.args.self.now.forest.links.items + 1 in
+    let places : List ℕ = c.in-Some.places.items in
+    let inside : All (λ p. p < n) places = subst (λ p. All (λ q. q < n) (places_in p)) c.in-Some.is c.args.self.now.inside in
+    let within : c.args.rank < length places = omega (arith, c.requires, ap (λ p. length (picked p all)) c.in-Some.is, length-map places (λ p. get_or all p [])) in
+    omega (arith, inside c.args.rank c.index.result.now within, c.index.ensures, length-grown ([] ∷ []) c.args.self.now.forest.links.items)
+
+pub returns-in-None-clause-set : goal.returns-in-None-clause-set
+returns-in-None-clause-set c =
+    let all : List (List ℕ) = sets_of c.args.self.now.forest in
+    let set : List ℕ = c.read_behind.new.set.items in
+    subst (λ p. IfOk c.read_behind.result (λ front. get_or (picked p all) c.args.rank [] ≡ set_of_number front (picked p all) ++ set)) (sym c.in-None.is)
+    (behind-numbered c.args.self.now.forest.links.items c.args.rank set c.read_behind.result c.read_behind.ensures.set)
