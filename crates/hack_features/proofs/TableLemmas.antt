@@ -467,3 +467,16 @@ next_group R seen more group b rows row e t h r = subst (λ gs. Matched R gs (ro
 
 pub matched_next : {X Y : Type 0} (R : X → Y → Type 0) (seen more : List X) (x : X) (rows : List Y) (row : Y) → more ≡ seen ++ x ∷ [] → Matched R seen rows → R x row → Matched R more (rows ++ row ∷ [])
 matched_next R seen more x rows row e h r = subst (λ l. Matched R l (rows ++ row ∷ [])) (sym e) (table.next h r)
+
+-- rows without an entry
+
+row-none : (rows : List (List Bool)) (p : ℕ) → All (λ (row : List Bool). row ≡ []) rows → get_or rows p [] ≡ []
+row-none [] p none = refl
+row-none (row ∷ rows) zero none = none 0 [] (omega arith)
+row-none (row ∷ rows) (suc p) none = row-none rows p (λ k d lt. none (suc k) d (omega (arith, lt)))
+
+-- where no row has an entry, no candidate spares another
+pub lean-bare : (rows : List (List Bool)) → All (λ (row : List Bool). row ≡ []) rows → (s : List ℕ) → is_lean rows s ≡ true
+lean-bare rows none s =
+    all_pass (λ p. list_all (λ q. not (cell rows p q)) s) s (λ p within.
+    all_pass (λ q. not (cell rows p q)) s (λ q within. ap (λ row. not (bit row q)) (row-none rows p none)))

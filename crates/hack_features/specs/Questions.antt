@@ -25,3 +25,7 @@ is_whole complete s = not (length s == 0) && complete s
 -- the sets that are not empty and are complete are all but the first
 abbrev pub AreComplete : (List ℕ → Bool) → List (List ℕ) → Type 0
 AreComplete complete sets = filter (is_whole complete) sets ≡ drop 1 sets
+
+-- both tests pass each set
+abbrev pub IsFree : (List ℕ → Bool) → (List ℕ → Bool) → Type 0
+IsFree may complete = (s : List ℕ) → IsTrue (may s) × IsTrue (complete s)

@@ -284,6 +284,10 @@ impl Questions for Rules<'_> {
         self.tables.is_required(positions)
     }
 
+    fn is_free(&self) -> bool {
+        self.given.depth.is_none() && self.tables.are_bare()
+    }
+
     fn asked(&self) -> u128 {
         self.asked
     }

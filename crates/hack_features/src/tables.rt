@@ -276,6 +276,18 @@ fn has_none(row: &[bool], positions: &[usize], last: usize) -> bool
     !bit(row, last)
 }
 
+/// Whether no row has an entry.
+fn are_empty(rows: &[Vec<bool>]) -> bool
+    ensures { IsTrue result → (s : List ℕ) → IsTrue (is_lean (rows_of rows.now) s) }
+{
+    for row in rows {
+        if !row.is_empty() {
+            return false;
+        }
+    }
+    true
+}
+
 /// Whether the entries at the positions and at `last` are at most 1 in sum.
 fn has_at_most_one(row: &[usize], positions: &[usize], last: usize) -> bool
     ensures { result ≡ nat_le (sum_by (count_at row.now) (positions.now ++ last ∷ [])) 1 }
@@ -355,6 +367,15 @@ impl Tables {
             }
         }
         true
+    }
+
+    /// Whether there is nothing to ask: no candidate spares another, and there is no group.
+    pub(crate) fn are_bare(&self) -> bool
+        ensures { IsTrue result → (s : List ℕ) → IsTrue (is_lean (rows_of self.now.spares.items) s)
+            × IsTrue (is_exclusive (rows_of self.now.hits.items) s)
+            × IsTrue (is_required (rows_of self.now.serves.items) s) }
+    {
+        self.hits.is_empty() && self.serves.is_empty() && are_empty(self.spares.as_slice())
     }
 
     /// Whether each at-least-one group is served by one of those at the positions.
