@@ -1,5 +1,5 @@
 -- What a call fixes: which packages are chosen, and of each of them the name, the own version and the runs.
-use Rattle.std.proofs.Common.{◌≡◌, ◌↔◌, refl, sym, ap, subst, ◌∙◌, inl, inr, ℕ, List, [], ◌∷◌, map, filter, length, not, Bool, true, false, Option, Some, None, IsTrue, IsSomeAnd, MatchOption, All, Contains}
+use Rattle.std.proofs.Common.{◌≡◌, ◌↔◌, refl, sym, ap, subst, ◌∙◌, inl, inr, ℕ, List, [], ◌∷◌, map, filter, length, not, Bool, true, false, Option, Some, None, IsTrue, All, Contains}
 use Rattle.std.specs.List.{AllZip}
 use Rattle.std.proofs.lemmas.List.Elements.{All-contains}
 use Rattle.std.proofs.lemmas.Option.{same_Some}
@@ -20,10 +20,10 @@ use Rattle.hack_plan.specs.Runs.{PackageRun, runs_from}
 use Rattle.hack_plan.specs.declared.versions.Scene.{Scene}
 use Rattle.hack_runs.specs.View.{PackageView}
 use Rattle.hack_versions.specs.Notes.{Note}
-use Rattle.hack_versions.specs.VersionTexts.{IsNumber, IsVersionText, front_of, rest_of}
 use Rattle.hack_versions.specs.declared.group.PackageVersion.{PackageVersion}
 use Rattle.hack_versions.specs.declared.version.Version.{Version}
 use Rattle.hack_versions.specs.declared.version.VersionRange.{VersionRange}
+use Rattle.hack_versions.proofs.RangeLemmas.{version-same}
 use Rattle.hack_calls.specs.Calls.{AreMembers, starts, grows, ArePlanned, begins, adds, IsMember, IsOwn, IsPlanned, IsSceneOf}
 use Rattle.hack_calls.specs.Made.{run_counts}
 use Rattle.hack_calls.proofs.SceneLemmas.{AgreeScenes, AreAlike, map-alike, zip-alike}
@@ -55,39 +55,12 @@ chosen-once cx ids others single one notes more h k = listed-once (choosing cx.a
 
 -- ---- their own versions
 
--- a text is read as one number
-number-once : (text : List ℕ) (m n : ℕ) → IsNumber text m → IsNumber text n → m ≡ n
-number-once text m n h k = sym h.1 ∙ k.1
-
-patch-once : (o : Option (List ℕ)) (p q : Option ℕ) → MatchOption o (p ≡ None) (λ last. IsSomeAnd p (IsNumber last)) → MatchOption o (q ≡ None) (λ last. IsSomeAnd q (IsNumber last)) → p ≡ q
-patch-once None p q h k = h ∙ sym k
-patch-once (Some last) None q h k = absurd h
-patch-once (Some last) (Some m) None h k = absurd k
-patch-once (Some last) (Some m) (Some n) h k = ap Some (number-once last m n h k)
-
-rest-once : (o : Option (List ℕ)) (v w : Version) → IsSomeAnd o (λ rest. IsNumber (front_of 46 rest) v.minor × MatchOption (rest_of 46 rest) (v.patch ≡ None) (λ last. IsSomeAnd v.patch (IsNumber last)))
-    → IsSomeAnd o (λ rest. IsNumber (front_of 46 rest) w.minor × MatchOption (rest_of 46 rest) (w.patch ≡ None) (λ last. IsSomeAnd w.patch (IsNumber last))) → (v.minor ≡ w.minor) × (v.patch ≡ w.patch)
-rest-once None v w h k = absurd h
-rest-once (Some rest) v w h k = (number-once (front_of 46 rest) v.minor w.minor h.0 k.0, patch-once (rest_of 46 rest) v.patch w.patch h.1 k.1)
-
-same-version : (v w : Version) → v.major ≡ w.major → v.minor ≡ w.minor → v.patch ≡ w.patch → v ≡ w
-same-version v w major minor patch =
-    ap (λ (n : ℕ). let r : Version = record { major = n; minor = v.minor; patch = v.patch } in r) major
-    ∙ ap (λ (n : ℕ). let r : Version = record { major = w.major; minor = n; patch = v.patch } in r) minor
-    ∙ ap (λ (o : Option ℕ). let r : Version = record { major = w.major; minor = w.minor; patch = o } in r) patch
-
--- a text is read as one version
-version-once : (text : List ℕ) (v w : Version) → IsVersionText text v → IsVersionText text w → v ≡ w
-version-once text v w h k =
-    let rest = rest-once (rest_of 46 text) v w h.1 k.1 in
-    same-version v w (number-once (front_of 46 text) v.major w.major h.0 k.0) rest.0 rest.1
-
 own-once : (range : Option VersionRange) (text : Option Name) (v w : Option Version) → IsOwn range text v → IsOwn range text w → v ≡ w
 own-once None text v w h k = h ∙ sym k
 own-once (Some range) None v w h k = h ∙ sym k
 own-once (Some range) (Some text) None w h k = absurd h
 own-once (Some range) (Some text) (Some v) None h k = absurd k
-own-once (Some range) (Some text) (Some v) (Some w) h k = ap Some (version-once text v w h k)
+own-once (Some range) (Some text) (Some v) (Some w) h k = ap Some (version-same text v w h k)
 
 member-once : (cx : ContextRecord) (id : ℕ) (m n : PackageVersion) → IsMember cx id m → IsMember cx id n → AreAlike m n
 member-once cx id m n h k = record {

@@ -1,7 +1,7 @@
 -- What the words of `powerset-list` ask for, and why they are refused.
 use Rattle.std.specs.Prelude.{◌≡◌, ◌⊎◌, ℕ, List, [], ◌∷◌, ◌++◌, Option, None, Some, All, Contains, map, codes, bytes_eq, string_bytes, option_and_then, if◌then◌else◌}
 use Rattle.hack_features.specs.Names.{Name}
-use Rattle.hack_term.specs.Partitions.{IsNumber}
+use Rattle.hack_versions.specs.Numbers.{IsNumber}
 use Rattle.hack_term.specs.Lists.{HasSeparator, group_names}
 use Rattle.hack_powerset_list.specs.declared.fault.ListFault.{ListFault}
 use Rattle.hack_powerset_list.specs.declared.fault.ListFault.TheVariants as list
@@ -42,12 +42,12 @@ with_words w (option ∷ value ∷ words) = option_and_then (λ more. with_words
 -- the depth that is written, if any, is this number
 abbrev pub IsDepth : Option Name → Option ℕ → Type 0
 IsDepth None depth = depth ≡ None
-IsDepth (Some text) depth = (n : ℕ) × IsNumber text n × (depth ≡ Some n)
+IsDepth (Some text) depth = (n : ℕ) × IsNumber 64 text n × (depth ≡ Some n)
 
 -- a depth is written, as this text, which is no number
 pub record IsNoDepth (depth : Option Name) (text : Name) : Type 0 where
   pub written : depth ≡ Some text
-  pub bad : (n : ℕ) → IsNumber text n → ⊥
+  pub bad : (n : ℕ) → IsNumber 64 text n → ⊥
 
 -- each list has a separator, and the groups are the names of the lists
 pub record AreGroups (lists : List Name) (groups : List (List Name)) : Type 0 where

@@ -1,4 +1,2 @@
 pub mod GroupLemmas
-pub mod RangeReadingLemmas
-pub mod ReadingLemmas
 pub mod TargetLemmas

@@ -1,24 +1,28 @@
 -- What uses of options ask for: the fields of the arguments.
-use Rattle.std.specs.Prelude.{ℕ, ◌||◌, ◌&&◌, not, ◌++◌, ◌-◌, List, [], ◌∷◌, Bool, false, Option, Some, None, Result, Ok, Err, codes, nat_lt, bytes_eq, option_map, option_and_then, if◌then◌else◌}
+use Rattle.std.specs.Prelude.{ℕ, ◌||◌, ◌&&◌, not, ◌++◌, ◌-◌, List, [], ◌∷◌, Bool, false, if◌then◌else◌}
+use Rattle.std.specs.Prelude.{Option, Some, None, Result, Ok, Err, option_map, option_and_then}
+use Rattle.std.specs.Prelude.{codes, nat_lt, bytes_eq}
 use Rattle.std.specs.List.{list_any, repeat}
 use Rattle.hack_options.specs.declared.Opt.TheVariants as opt
 use Rattle.hack_uses.specs.Faults.{LongFlag, ShortFlag}
 use Rattle.hack_uses.specs.Passed.{leading_of, count_of}
 use Rattle.hack_uses.specs.Uses.{Use, Known, Unknown, Word, is_given}
 use Rattle.hack_uses.specs.Values.{value_given}
+use Rattle.hack_versions.specs.Numbers.{number_of}
+use Rattle.hack_versions.specs.Readings.{BadRange, ReadRange, range_of}
 use Rattle.hack_versions.specs.declared.version.VersionRange.{VersionRange}
 use Rattle.hack_versions.specs.declared.version.MaybeVersion.TheVariants.{Msrv}
+use Rattle.hack_term.specs.Groups.{log_group_of}
+use Rattle.hack_term.specs.Lines.{coloring_of}
+use Rattle.hack_term.specs.Partitions.{PieceNumbers, piece_of, kind_of}
 use Rattle.hack_term.specs.declared.term.Coloring.{Coloring}
 use Rattle.hack_term.specs.declared.term.Coloring.TheVariants.{Auto}
 use Rattle.hack_term.specs.declared.log_group.LogGroup.{LogGroup}
 use Rattle.hack_term.specs.declared.log_group.LogGroup.TheVariants as group
 use Rattle.hack_term.specs.declared.partition.PartitionKind.{PartitionKind}
 use Rattle.hack_term.specs.declared.partition.PartitionKind.TheVariants.{Block}
-use Rattle.hack_rules.specs.CliFaults.{BadRange}
 use Rattle.hack_rules.specs.CliLists.{names_given}
 use Rattle.hack_rules.specs.Listed.{Listed}
-use Rattle.hack_rules.specs.RangeReadings.{ReadRange, range_of}
-use Rattle.hack_rules.specs.Readings.{Piece, coloring_of, log_group_of, kind_of, number_of, piece_of}
 use Rattle.hack_rules.specs.Rules.{is_nonempty}
 
 -- a value, or what stands in its place
@@ -79,7 +83,7 @@ log_group_asked github us =
     else or_else (group_found github us) (option_and_then log_group_of (value_given opt.LogGroup us))
 
 -- the piece of the plan
-abbrev pub piece_asked : List Use → Option Piece
+abbrev pub piece_asked : List Use → Option PieceNumbers
 piece_asked us = option_and_then piece_of (value_given opt.Partition us)
 
 -- how places are dealt to pieces

@@ -1,7 +1,11 @@
 -- Why words are refused, without where the texts of a fault lie in memory.
-use Rattle.std.specs.Prelude.{ℕ, ◌≡◌, List, Option, Some, None, Result, Ok, Err, MatchOption, string_bytes, option_map}
+use Rattle.std.specs.Prelude.{ℕ, ◌≡◌, List, Option, Some, None, Result, Ok, Err, MatchOption}
+use Rattle.std.specs.Prelude.{string_bytes, option_map}
 use Rattle.hack_options.specs.declared.Opt.{Opt}
-use Rattle.hack_uses.specs.Faults.{fault_of as cut_fault_of, Fault as CutFault}
+use Rattle.hack_uses.specs.Faults.{fault_of as cut_fault_of, Fault as WrongCut}
+use Rattle.hack_uses.specs.declared.fault.CutFault.{CutFault}
+use Rattle.hack_uses.specs.declared.fault.CutFault.TheVariants as cut
+use Rattle.hack_versions.specs.Readings.{BadRange, bad_range_of}
 use Rattle.hack_versions.specs.declared.version.VersionFault.{VersionFault}
 use Rattle.hack_versions.specs.declared.version.VersionFault.TheVariants as version
 use Rattle.hack_term.specs.declared.log_group.LogGroupFault.{LogGroupFault}
@@ -12,17 +16,11 @@ use Rattle.hack_rules.specs.declared.fault.Beside.{Beside}
 use Rattle.hack_rules.specs.declared.fault.CliFault.{CliFault}
 use Rattle.hack_rules.specs.declared.fault.CliFault.TheVariants as code
 
--- why a text is no range of versions
-pub data BadRange : Type 0 where
-  MissingMinor : BadRange
-  BadNumber : List ℕ → BadRange
-  OpenInclusive : List ℕ → BadRange
-
 -- why words are refused
 pub data Fault : Type 0 where
   NoWord : Fault
   NotHack : List ℕ → Fault
-  Cut : CutFault → Fault
+  Cut : WrongCut → Fault
   Color : List ℕ → Fault
   TermColor : List ℕ → Fault
   Needs : Opt → Beside → Fault
@@ -42,13 +40,6 @@ pub data Fault : Type 0 where
   PartitionKind : List ℕ → Fault
   LiftForm : List ℕ → Fault
   LiftGroup : List ℕ → Fault
-
--- the fault of a range; none where memory ran out
-abbrev pub bad_range_of : VersionFault → Option BadRange
-bad_range_of version.Memory = None
-bad_range_of version.MissingMinor = Some MissingMinor
-bad_range_of (version.BadNumber text) = Some (BadNumber (string_bytes text))
-bad_range_of (version.OpenInclusive text) = Some (OpenInclusive (string_bytes text))
 
 -- the fault of a log group; none where memory ran out
 abbrev pub log_group_fault_of : LogGroupFault → Option Fault
@@ -86,7 +77,28 @@ fault_of (code.Partition fault) = partition_fault_of fault
 fault_of (code.LiftForm found) = Some (LiftForm (string_bytes found))
 fault_of (code.LiftGroup found) = Some (LiftGroup (string_bytes found))
 
--- a check passes just where its rule has no fault, and else gives that fault, unless memory ran out, which is told as that alone
+-- a fault of a cut among those of words; want of memory is told as that alone
+abbrev pub told_of_cut : CutFault → CliFault
+told_of_cut cut.Memory = code.Memory
+told_of_cut fault = code.Cut fault
+
+-- a fault of a range among those of words; want of memory is told as that alone
+abbrev pub told_of_range : VersionFault → CliFault
+told_of_range version.Memory = code.Memory
+told_of_range fault = code.Range fault
+
+-- a fault of a log group among those of words; want of memory is told as that alone
+abbrev pub told_of_log_group : LogGroupFault → CliFault
+told_of_log_group log_group.Memory = code.Memory
+told_of_log_group fault = code.LogGroup fault
+
+-- a fault of a piece or its kind among those of words; want of memory is told as that alone
+abbrev pub told_of_partition : PartitionFault → CliFault
+told_of_partition partition.Memory = code.Memory
+told_of_partition fault = code.Partition fault
+
+-- a check passes just where its rule has no fault, and else gives that fault, unless memory ran out,
+-- which is told as that alone
 abbrev pub Checks : {A : Type 0} → Result A CliFault → Option Fault → Type 0
 Checks (Ok a) rule = rule ≡ None
 Checks (Err e) rule = MatchOption (fault_of e) (e ≡ code.Memory) (λ fault. rule ≡ Some fault)

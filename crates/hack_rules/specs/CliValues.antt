@@ -1,10 +1,10 @@
 -- What is wrong with the texts of options.
-use Rattle.std.specs.Prelude.{◌≡◌, ℕ, ◌==◌, List, Option, Some, None, Result, Ok, Err, if◌then◌else◌}
-use Rattle.hack_rules.specs.declared.fault.CliFault.{CliFault}
-use Rattle.hack_rules.specs.declared.fault.CliFault.TheVariants.{Memory}
-use Rattle.hack_rules.specs.CliFaults.{BadRange, Fault, fault_of, Number, ZeroStep, LogGroup, Partition, PartitionKind, Range}
-use Rattle.hack_rules.specs.Readings.{number_of, log_group_of, kind_of, piece_of}
-use Rattle.hack_rules.specs.RangeReadings.{range_of}
+use Rattle.std.specs.Prelude.{ℕ, ◌==◌, List, Option, Some, None, Result, Ok, Err, if◌then◌else◌}
+use Rattle.hack_versions.specs.Numbers.{number_of}
+use Rattle.hack_versions.specs.Readings.{BadRange, range_of}
+use Rattle.hack_term.specs.Groups.{log_group_of}
+use Rattle.hack_term.specs.Partitions.{piece_of, kind_of}
+use Rattle.hack_rules.specs.CliFaults.{Fault, Number, ZeroStep, LogGroup, Partition, PartitionKind, Range}
 
 -- the fault of a text, unless something is read
 abbrev pub unless_read : {A : Type 0} → Fault → Option A → Option Fault
@@ -43,7 +43,3 @@ bad_range_fault (Err bad) = Some (Range bad)
 -- a range of versions
 abbrev pub range_fault : List ℕ → Option Fault
 range_fault text = bad_range_fault (range_of text)
-
--- want of memory is told by its own fault, not inside another one
-abbrev pub IsPlain : CliFault → Type 0
-IsPlain e = fault_of e ≡ None → e ≡ Memory

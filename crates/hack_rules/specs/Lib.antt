@@ -7,6 +7,4 @@ pub mod CliValues
 pub mod LateView
 pub mod Listed
 pub mod ListsView
-pub mod RangeReadings
-pub mod Readings
 pub mod Rules

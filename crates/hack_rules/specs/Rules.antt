@@ -11,9 +11,9 @@ use Rattle.hack_rules.specs.declared.fault.Beside.TheVariants as beside
 use Rattle.hack_rules.specs.CliFaults.{Fault, Color, TermColor, Needs, Single, BesideSubcommand, Install, Clash, ClashWord, Excluded, NoSubcommand, OldRustup}
 use Rattle.hack_rules.specs.CliLists.{lift_form, lift_group, first_fault_of}
 use Rattle.hack_rules.specs.CliValues.{unless_read, depth_fault, step_fault, log_group_fault, partition_fault, kind_fault, range_fault}
+use Rattle.hack_term.specs.Lines.{coloring_of}
 use Rattle.hack_term.specs.Lists.{is_list}
 use Rattle.hack_rules.specs.Listed.{Listed, listed}
-use Rattle.hack_rules.specs.Readings.{coloring_of}
 
 -- a fault where a test is true
 abbrev pub fault_if : Bool → Fault → Option Fault

@@ -1,6 +1,7 @@
 //! Why the words of a call are refused.
 
 ghost use Rattle.std.specs.Prelude.{◌≡◌};
+ghost use Rattle.hack_rules.specs.CliFaults.{told_of_cut, told_of_range, told_of_log_group, told_of_partition};
 ghost use Rattle.hack_rules.specs.declared.fault.CliFault.TheVariants.{Memory};
 
 use hack_options::Opt;
@@ -109,5 +110,49 @@ impl<T: Drop> From<AllocFailed<T>> for CliFault {
 
     fn from(_e: AllocFailed<T>) -> CliFault {
         CliFault::Memory
+    }
+}
+
+impl From<CutFault> for CliFault {
+    ghost from_gives = { λ fault e. e ≡ told_of_cut fault };
+
+    fn from(fault: CutFault) -> CliFault {
+        match fault {
+            CutFault::Memory => CliFault::Memory,
+            _ => CliFault::Cut { fault },
+        }
+    }
+}
+
+impl From<VersionFault> for CliFault {
+    ghost from_gives = { λ fault e. e ≡ told_of_range fault };
+
+    fn from(fault: VersionFault) -> CliFault {
+        match fault {
+            VersionFault::Memory => CliFault::Memory,
+            _ => CliFault::Range { fault },
+        }
+    }
+}
+
+impl From<LogGroupFault> for CliFault {
+    ghost from_gives = { λ fault e. e ≡ told_of_log_group fault };
+
+    fn from(fault: LogGroupFault) -> CliFault {
+        match fault {
+            LogGroupFault::Memory => CliFault::Memory,
+            _ => CliFault::LogGroup { fault },
+        }
+    }
+}
+
+impl From<PartitionFault> for CliFault {
+    ghost from_gives = { λ fault e. e ≡ told_of_partition fault };
+
+    fn from(fault: PartitionFault) -> CliFault {
+        match fault {
+            PartitionFault::Memory => CliFault::Memory,
+            _ => CliFault::Partition { fault },
+        }
     }
 }

@@ -62,7 +62,7 @@ fn said_range(alloc: Global, uses: &[Use]) -> Result<Option<(VersionRange, bool)
         ≡ option_and_then read_range (value_given Opt.VersionRange (views uses.now))) }
 {
     match value(Opt::VersionRange, uses) {
-        Some(text) => Ok(Some(values::range(alloc, text.as_str())?)),
+        Some(text) => Ok(Some(VersionRange::parse(alloc, text.as_str())?)),
         None => Ok(None),
     }
 }
@@ -141,7 +141,7 @@ fn log_group(alloc: Global, github_actions: bool, uses: &[Use]) -> Result<LogGro
     ensures value { IfOk result (λ group. group ≡ log_group_asked github_actions (views uses.now)) }
 {
     let group = match value(Opt::LogGroup, uses) {
-        Some(text) => values::log_group(alloc, text.as_str())?,
+        Some(text) => LogGroup::parse(alloc, text.as_str())?,
         None => LogGroup::auto(github_actions && !formats_messages(uses)),
     };
     if given(Opt::PrintCommandList, uses) {
@@ -157,14 +157,14 @@ fn partition(alloc: Global, uses: &[Use]) -> Result<Option<Partition>, CliFault>
     ensures kind { IfOk result (λ partition. IfSome partition (λ p. p.kind ≡ kind_asked (views uses.now))) }
 {
     let piece = match value(Opt::Partition, uses) {
-        Some(text) => Some(values::partition(alloc, text.as_str())?),
+        Some(text) => Some(Partition::parse(alloc, text.as_str())?),
         None => None,
     };
     let option = Opt::PartitionKind;
     let there = given(Opt::Partition, uses);
     needs(given(option, uses), option, Beside::Partition, there)?;
     let kind = match value(Opt::PartitionKind, uses) {
-        Some(text) => values::kind(alloc, text.as_str())?,
+        Some(text) => PartitionKind::parse(alloc, text.as_str())?,
         None => PartitionKind::Block,
     };
     match piece {

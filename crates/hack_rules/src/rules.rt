@@ -79,7 +79,7 @@ fn coloring(term_color: Option<&String>, uses: &[Use]) -> Result<Coloring, CliFa
     ensures value { IfOk result (λ coloring. coloring ≡ coloring_asked (option_map (λ text. string_bytes text.now) term_color.entry) (views uses.now)) }
 {
     if let Some(said) = value(Opt::Color, uses) {
-        return match values::coloring(said.as_str()) {
+        return match Coloring::parse(said.as_str()) {
             Some(coloring) => Ok(coloring),
             None => Err(CliFault::Color {
                 found: said.clone()?,
@@ -89,7 +89,7 @@ fn coloring(term_color: Option<&String>, uses: &[Use]) -> Result<Coloring, CliFa
     let Some(found) = term_color else {
         return Ok(Coloring::Auto);
     };
-    match values::coloring(found.as_str()) {
+    match Coloring::parse(found.as_str()) {
         Some(coloring) => Ok(coloring),
         None => Err(CliFault::TermColor {
             found: found.clone()?,

@@ -2,7 +2,7 @@
 
 use crate::answers::{joined, word, yes};
 use crate::table::Group;
-use hack_term::lists::{has_separator, split_group, split_list};
+use hack_term::lists::{has_separator, split_group, split_names};
 use hack_term::partition::{Partition, PartitionKind};
 use hack_term::term::{Coloring, LogGroup};
 use std::alloc::{AllocError, Global};
@@ -18,7 +18,7 @@ pub(crate) fn answer(
     let first = word(words, 0);
     let text = match group.kind.as_str() {
         "group" => joined(alloc, &split_group(alloc, first)?)?,
-        "list" => list_text(alloc, first)?,
+        "list" => joined(alloc, &split_names(alloc, first)?)?,
         "has a separator" => yes(alloc, has_separator(first))?,
         "piece" => piece_text(alloc, first)?,
         "kind of pieces" => kind_text(alloc, first)?,
@@ -28,13 +28,6 @@ pub(crate) fn answer(
         _ => return Ok(None),
     };
     Ok(Some(text))
-}
-
-fn list_text(alloc: Global, text: &str) -> Result<String, AllocError> {
-    match split_list(alloc, text) {
-        Ok(names) => joined(alloc, &names),
-        Err(fault) => format!(in alloc; "{fault}"),
-    }
 }
 
 fn kind_name(kind: PartitionKind) -> &'static str {

@@ -1,4 +1,5 @@
 pub mod ListLemmas
 pub mod PieceLemmas
+pub mod ReadingLemmas
 pub mod TextLemmas
 pub mod WriteLemmas

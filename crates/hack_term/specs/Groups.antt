@@ -1,5 +1,6 @@
 -- Groups of lines in a log.
-use Rattle.std.specs.Prelude.{◌≡◌, ℕ, List, [], codes, string_bytes}
+use Rattle.std.specs.Prelude.{◌≡◌, ℕ, List, [], codes, bytes_eq, string_bytes, if◌then◌else◌}
+use Rattle.std.specs.Prelude.{Option, Some, None as Nothing}
 use Rattle.hack_term.specs.Writes.{line}
 use Rattle.hack_term.specs.Lines.{info_line}
 use Rattle.hack_term.specs.declared.term.Coloring.{Coloring}
@@ -16,6 +17,13 @@ group_name GithubActions = codes "github-actions"
 -- the text names no kind of groups
 abbrev pub IsNoGroup : List ℕ → Type 0
 IsNoGroup text = (group : LogGroup) → text ≡ group_name group → ⊥
+
+-- the kind of groups that a text names, if it names one
+abbrev pub log_group_of : List ℕ → Option LogGroup
+log_group_of text =
+    if bytes_eq text (codes "none") then Some None
+    else if bytes_eq text (codes "github-actions") then Some GithubActions
+    else Nothing
 
 -- why a text is refused
 abbrev pub RefusesGroup : List ℕ → LogGroupFault → Type 0

@@ -1,5 +1,6 @@
 -- The lines that a user is told.
-use Rattle.std.specs.Prelude.{◌≡◌, ℕ, List, [], ◌∷◌, ◌++◌, codes, true}
+use Rattle.std.specs.Prelude.{◌≡◌, ℕ, List, [], ◌∷◌, ◌++◌, codes, bytes_eq, true}
+use Rattle.std.specs.Prelude.{Option, Some, None, if◌then◌else◌}
 use Rattle.hack_versions.specs.declared.notice.NoticeKind.{NoticeKind}
 use Rattle.hack_versions.specs.declared.notice.NoticeKind.TheVariants.{Info, Warn, QuietWarn}
 use Rattle.hack_term.specs.Writes.{line}
@@ -16,6 +17,14 @@ coloring_name Never = codes "never"
 -- the text is that of no colouring
 abbrev pub IsNoColoring : List ℕ → Type 0
 IsNoColoring text = (coloring : Coloring) → text ≡ coloring_name coloring → ⊥
+
+-- the colouring that a text names, if it names one
+abbrev pub coloring_of : List ℕ → Option Coloring
+coloring_of text =
+    if bytes_eq text (codes "auto") then Some Auto
+    else if bytes_eq text (codes "always") then Some Always
+    else if bytes_eq text (codes "never") then Some Never
+    else None
 
 -- an escape sequence that sets how text looks: 0 resets, 1 is bold, 31 is red, 33 is yellow
 abbrev pub look : List ℕ → List ℕ

@@ -1,5 +1,6 @@
 -- Lists of names in one text.
-use Rattle.std.specs.Prelude.{ℕ, Bool, List, ◌==◌, ◌≡◌, ◌⊎◌, ◌&&◌, ◌||◌, ◌-◌, length, take, drop, codes, Contains, slice_index, nat_lt, if◌then◌else◌}
+use Rattle.std.specs.Prelude.{ℕ, Bool, List, ◌==◌, ◌⊎◌, ◌&&◌, ◌||◌, ◌-◌, if◌then◌else◌}
+use Rattle.std.specs.Prelude.{length, take, drop, Contains, slice_index, nat_lt}
 use Rattle.std.specs.List.{slice_split, list_any, filter}
 
 -- a comma
@@ -25,10 +26,6 @@ separator_of text = if list_any (λ b. b == comma) text then comma else space
 -- the names of a group: the parts between its separators, empty ones too
 abbrev pub group_names : List ℕ → List (List ℕ)
 group_names text = slice_split (λ b. b == separator_of text) text
-
--- a text of a quote sign alone
-abbrev pub IsLoneQuote : List ℕ → Type 0
-IsLoneQuote text = (text ≡ codes "'") ⊎ (text ≡ codes "\"")
 
 -- the text begins with a quote and ends with a second one like it
 abbrev pub is_between : ℕ → List ℕ → Bool

@@ -1,22 +1,40 @@
 -- The texts of pieces and of their kinds.
-use Rattle.std.specs.Prelude.{◌≡◌, ℕ, ◌^◌, ◌<◌, ◌≤◌, List, ◌++◌, codes, string_bytes}
-use Rattle.std.specs.Str.Parse.{IsNumeral, digits_value, without_leading_plus}
+use Rattle.std.specs.Prelude.{◌≡◌, ℕ, ◌<◌, ◌≤◌, ◌&&◌, not, nat_lt, List, ◌++◌, codes, bytes_eq}
+use Rattle.std.specs.Prelude.{Option, Some, None, option_and_then, string_bytes, if◌then◌else◌}
+use Rattle.hack_versions.specs.Numbers.{IsNumber, number_of}
+use Rattle.hack_versions.specs.VersionTexts.{front_of, rest_of}
 use Rattle.hack_term.specs.declared.partition.PartitionKind.{PartitionKind}
 use Rattle.hack_term.specs.declared.partition.PartitionKind.TheVariants.{Block, Turn}
 use Rattle.hack_term.specs.declared.partition.PartitionFault.{PartitionFault}
 use Rattle.hack_term.specs.declared.partition.PartitionFault.TheVariants.{Piece, Kind, Memory}
 
--- an optional + and one or more digits that write n, which is below 2 ^ 64
-abbrev pub IsNumber : List ℕ → ℕ → Type 0
-IsNumber text n = IsNumeral 10 (without_leading_plus text) × (digits_value 10 (without_leading_plus text) ≡ n) × (n < 2 ^ 64)
-
 -- the text m/n of piece m of n
 abbrev pub IsPiece : List ℕ → ℕ → ℕ → Type 0
-IsPiece text m n = (before : List ℕ) × (behind : List ℕ) × (text ≡ before ++ codes "/" ++ behind) × IsNumber before m × IsNumber behind n × (0 < m) × (m ≤ n)
+IsPiece text m n =
+    (before : List ℕ) × (behind : List ℕ) × (text ≡ before ++ codes "/" ++ behind)
+    × IsNumber 64 before m × IsNumber 64 behind n × (0 < m) × (m ≤ n)
 
 -- the text is that of no piece
 abbrev pub IsNoPiece : List ℕ → Type 0
 IsNoPiece text = (m n : ℕ) → IsPiece text m n → ⊥
+
+-- which piece, and of how many
+pub record PieceNumbers : Type 0 where
+  pub piece : ℕ
+  pub count : ℕ
+
+-- both numbers, where the first is from 1 and at most the second
+abbrev pub piece_if : Option ℕ → Option ℕ → Option PieceNumbers
+piece_if (Some m) (Some n) =
+    if nat_lt 0 m && not (nat_lt n m) then Some (record { piece = m; count = n }) else None
+piece_if (Some m) None = None
+piece_if None n = None
+
+-- the piece that a text names, if it names one: m/n, cut at the first slash
+abbrev pub piece_of : List ℕ → Option PieceNumbers
+piece_of text =
+    option_and_then (λ rest. piece_if (number_of 64 (front_of 47 text)) (number_of 64 rest))
+    (rest_of 47 text)
 
 -- why a text is refused as a piece
 abbrev pub RefusesPiece : List ℕ → PartitionFault → Type 0
@@ -32,6 +50,13 @@ kind_name Turn = codes "turn"
 -- the text is that of no kind
 abbrev pub IsNoKind : List ℕ → Type 0
 IsNoKind text = (kind : PartitionKind) → text ≡ kind_name kind → ⊥
+
+-- the kind of pieces that a text names, if it names one
+abbrev pub kind_of : List ℕ → Option PartitionKind
+kind_of text =
+    if bytes_eq text (codes "block") then Some Block
+    else if bytes_eq text (codes "turn") then Some Turn
+    else None
 
 -- why a text is refused as a kind
 abbrev pub RefusesKind : List ℕ → PartitionFault → Type 0

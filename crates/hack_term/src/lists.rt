@@ -1,40 +1,11 @@
 //! Lists of names in one word: how the values of the options that take several names are split.
 
-ghost use Rattle.std.specs.Prelude.{◌≡◌, ◌<◌, ◌↔◌, IsTrue, IfOk, IsErrOf, map, string_bytes};
-ghost use Rattle.hack_term.specs.Lists.{HasSeparator, is_list, group_names, list_names, IsLoneQuote, separator_of, unquoted as without_quotes, is_quoted as quoted, is_between as between};
+ghost use Rattle.std.specs.Prelude.{◌≡◌, ◌↔◌, IsTrue, IfOk, map, string_bytes};
+ghost use Rattle.hack_term.specs.Lists.{HasSeparator, is_list, group_names, list_names};
+ghost use Rattle.hack_term.specs.Lists.{separator_of, unquoted as without_quotes};
+ghost use Rattle.hack_term.specs.Lists.{is_quoted as quoted, is_between as between};
 
-use std::alloc::{AllocError, AllocFailed, Global};
-use thiserror::Error;
-
-/// Why a list of names is refused.
-#[derive(Debug, Drop, Error)]
-pub enum NamesFault {
-    /// The text is a single quote sign, `'` or `"`.
-    #[error("a list must not be a lone quote sign")]
-    LoneQuote,
-    #[error("out of memory")]
-    Memory,
-}
-
-impl From<AllocError> for NamesFault {
-    ghost use Rattle.hack_term.specs.declared.lists.NamesFault.TheVariants.{Memory};
-
-    ghost from_gives = { λ _ e. e ≡ Memory };
-
-    fn from(_e: AllocError) -> NamesFault {
-        NamesFault::Memory
-    }
-}
-
-impl<T: Drop> From<AllocFailed<T>> for NamesFault {
-    ghost use Rattle.hack_term.specs.declared.lists.NamesFault.TheVariants.{Memory};
-
-    ghost from_gives = { λ _ e. e ≡ Memory };
-
-    fn from(_e: AllocFailed<T>) -> NamesFault {
-        NamesFault::Memory
-    }
-}
+use std::alloc::{AllocError, Global};
 
 /// Whether a text has a comma or a space, so that it can be a list of two names or more.
 pub fn has_separator(text: &str) -> bool
@@ -102,15 +73,4 @@ pub fn split_names(alloc: Global, text: &str) -> Result<Vec<String>, AllocError>
         }
     }
     Ok(names)
-}
-
-/// The names of a list, as `split_names` gives them, where the list is no lone quote sign.
-pub fn split_list(alloc: Global, text: &str) -> Result<Vec<String>, NamesFault>
-    ensures names { IfOk result (λ names. map string_bytes names.items ≡ list_names text.now) }
-    ensures lone_quote { IsErrOf result NamesFault.LoneQuote ↔ IsLoneQuote text.now }
-{
-    if text == "'" || text == "\"" {
-        return Err(NamesFault::LoneQuote);
-    }
-    Ok(split_names(alloc, text)?)
 }

@@ -1,9 +1,11 @@
 //! Groups of lines in a log that can be folded.
 
-ghost use Rattle.std.specs.Prelude.{◌≡◌, ◌↔◌, IsTrue, IfOk, IfErr, OnOk, IsSome};
+ghost use Rattle.std.specs.Prelude.{◌≡◌, ◌↔◌, ◌⊎◌, IsTrue, IfOk, IfErr, MatchResult, OnOk};
+ghost use Rattle.std.specs.Prelude.{IsSome, Some, None as Nothing};
 ghost use Rattle.std.specs.Io.KnownBytes.{Appends};
 ghost use Rattle.hack_term.specs.Writes.{AppendsFront};
-ghost use Rattle.hack_term.specs.Groups.{group_name, RefusesGroup, opening_line, message_line, closing_line};
+ghost use Rattle.hack_term.specs.Groups.{group_name, RefusesGroup, log_group_of};
+ghost use Rattle.hack_term.specs.Groups.{opening_line, message_line, closing_line};
 
 use crate::term::Term;
 use crate::writes::{write_front, write_line};
@@ -51,6 +53,8 @@ impl LogGroup {
     pub fn parse(alloc: Global, text: &str) -> Result<LogGroup, LogGroupFault>
         ensures group { IfOk result (λ group. text.now ≡ group_name group) }
         ensures refused { IfErr result (RefusesGroup text.now) }
+        ensures value { MatchResult result (λ group. log_group_of text.now ≡ Some group)
+            (λ e. (e ≡ LogGroupFault.Memory) ⊎ (log_group_of text.now ≡ Nothing)) }
     {
         match text {
             "none" => Ok(LogGroup::None),

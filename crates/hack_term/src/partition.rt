@@ -1,9 +1,11 @@
 //! A piece of a plan, as one machine of several runs it: `m/n` is the m-th of n pieces.
 
-ghost use Rattle.std.specs.Prelude.{◌≡◌, ◌<◌, ◌≤◌, ◌↔◌, List, ℕ, IsTrue, IfOk, IfErr, IfSome, IfNone};
+ghost use Rattle.std.specs.Prelude.{◌≡◌, ◌<◌, ◌≤◌, ◌↔◌, ◌⊎◌, List, ℕ, IsTrue};
+ghost use Rattle.std.specs.Prelude.{IfOk, IfErr, MatchResult, IfSome, IfNone, Some, None};
 ghost use Rattle.hack_term.specs.declared.partition.PartitionKind.{PartitionKind as Kind};
 ghost use Rattle.hack_term.specs.Pieces.{InPiece, InJustOnePiece, joined};
-ghost use Rattle.hack_term.specs.Partitions.{IsPiece, IsNoPiece, RefusesPiece, kind_name, RefusesKind};
+ghost use Rattle.hack_term.specs.Partitions.{IsPiece, IsNoPiece, RefusesPiece, piece_of};
+ghost use Rattle.hack_term.specs.Partitions.{kind_name, RefusesKind, kind_of};
 
 use std::alloc::{AllocError, Global};
 use thiserror::Error;
@@ -45,6 +47,8 @@ impl PartitionKind {
     pub fn parse(alloc: Global, text: &str) -> Result<PartitionKind, PartitionFault>
         ensures kind { IfOk result (λ kind. text.now ≡ kind_name kind) }
         ensures refused { IfErr result (RefusesKind text.now) }
+        ensures value { MatchResult result (λ kind. kind_of text.now ≡ Some kind)
+            (λ e. (e ≡ PartitionFault.Memory) ⊎ (kind_of text.now ≡ None)) }
     {
         match text {
             "block" => Ok(PartitionKind::Block),
@@ -91,6 +95,9 @@ impl Partition {
         ensures piece { IfOk result (λ p. IsPiece text.now p.piece p.count) }
         ensures blocks { IfOk result (λ p. p.kind ≡ PartitionKind.Block) }
         ensures refused { IfErr result (RefusesPiece text.now) }
+        ensures value { MatchResult result
+            (λ p. piece_of text.now ≡ Some (record { piece = p.piece; count = p.count }))
+            (λ e. (e ≡ PartitionFault.Memory) ⊎ (piece_of text.now ≡ None)) }
     {
         match read_piece(text) {
             Some(partition) => Ok(partition),

@@ -5,7 +5,10 @@
 ghost use Rattle.std.specs.Prelude.{◌≡◌, ◌↔◌, ◌≤◌, ◌⊎◌, IsTrue, IfSome, IfNone, OnOk, true, false, string_bytes};
 ghost use Rattle.std.specs.Io.KnownBytes.{Appends};
 ghost use Rattle.hack_term.specs.Writes.{AppendsFront};
-ghost use Rattle.hack_term.specs.Lines.{coloring_name, IsNoColoring, info_label as label_of_info, warning_label as label_of_warnings, error_label as label_of_errors, info_line, warning_line, error_line, notice_line, after_notice};
+ghost use Rattle.hack_term.specs.Lines.{coloring_name, IsNoColoring, coloring_of};
+ghost use Rattle.hack_term.specs.Lines.{info_label as label_of_info, warning_label as label_of_warnings};
+ghost use Rattle.hack_term.specs.Lines.{error_label as label_of_errors, info_line, warning_line, error_line};
+ghost use Rattle.hack_term.specs.Lines.{notice_line, after_notice};
 
 pub use crate::log_group::{LogGroup, LogGroupFault, LogGroupGuard};
 use crate::writes::write_line;
@@ -27,6 +30,7 @@ impl Coloring {
     pub fn parse(text: &str) -> Option<Coloring>
         ensures some { IfSome result (λ coloring. text.now ≡ coloring_name coloring) }
         ensures none { IfNone result (IsNoColoring text.now) }
+        ensures value { result ≡ coloring_of text.now }
     {
         match text {
             "auto" => Some(Coloring::Auto),

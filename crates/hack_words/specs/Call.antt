@@ -6,12 +6,12 @@ use Rattle.hack_uses.specs.Reads.{Reading, Met, End, Prints as Questions, Fails,
 use Rattle.hack_uses.specs.Uses.{Use, is_given}
 use Rattle.hack_uses.specs.Values.{value_given}
 use Rattle.hack_versions.specs.Notes.{Note}
+use Rattle.hack_versions.specs.Readings.{Sides, at_dots}
 use Rattle.hack_versions.specs.declared.notice.NoticeKind.{NoticeKind}
 use Rattle.hack_versions.specs.declared.notice.NoticeKind.TheVariants.{Info, Warn, QuietWarn}
 use Rattle.hack_rules.specs.Asked.{is_old_asked}
 use Rattle.hack_rules.specs.CliFaults.{Fault, Cut}
 use Rattle.hack_rules.specs.Listed.{Listed, listed}
-use Rattle.hack_rules.specs.RangeReadings.{Sides, at_dots}
 use Rattle.hack_rules.specs.Rules.{Verdict, Accepted, Lists, Refused, is_nonempty, is_ranged, verdict_of}
 use Rattle.hack_words.specs.Start.{Start, Refuses, Cuts, start_of}
 

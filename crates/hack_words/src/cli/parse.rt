@@ -24,7 +24,7 @@ use hack_rules::fault::CliFault;
 use hack_rules::late_rules::{self, Late, is_ranged};
 use hack_rules::listed::Lists;
 use hack_rules::rules::{self, Early, has, has_some};
-use hack_uses::{CutFault, Cuts, Print, Use, all_uses, given, leading, subcommand, value};
+use hack_uses::{Cuts, Print, Use, all_uses, given, leading, subcommand, value};
 use hack_versions::notice::Notice;
 use hack_versions::rustup::Rustup;
 use std::alloc::{AllocError, Global};
@@ -165,11 +165,7 @@ fn text_of(alloc: Global, print: Print) -> Result<String, AllocError>
 fn cut(alloc: Global, words: Vec<String>) -> Result<Cuts, CliFault>
     ensures { GivesCuts result (map string_bytes words.items) }
 {
-    match all_uses(alloc, words) {
-        Ok(cuts) => Ok(cuts),
-        Err(CutFault::Memory) => Err(CliFault::Memory),
-        Err(fault) => Err(CliFault::Cut { fault }),
-    }
+    Ok(all_uses(alloc, words)?)
 }
 
 /// The answer to words that ask for a text.

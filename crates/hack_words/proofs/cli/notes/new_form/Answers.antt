@@ -2,7 +2,7 @@ use Rattle.std.proofs.Common.{subst}
 use Rattle.std.specs.Prelude.{MatchOption}
 use Rattle.hack_versions.proofs.CutLemmas.{cut-from_split}
 use Rattle.hack_versions.specs.VersionTexts.{IsCut, IsUncut}
-use Rattle.hack_rules.proofs.RangeReadingLemmas.{cut-read, uncut-read}
+use Rattle.hack_versions.proofs.ReadingLemmas.{cut-read, uncut-read}
 use Rattle.hack_words.proofs.cli.notes.new_form.Goals as goal
 
 pub returns-in-Some : goal.returns-in-Some

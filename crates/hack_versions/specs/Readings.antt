@@ -1,16 +1,38 @@
--- What the text of a range of versions is read as.
-use Rattle.std.specs.Prelude.{ℕ, ◌==◌, List, [], ◌∷◌, Bool, true, false, Option, Some, None, Result, Ok, Err, codes, drop, nat_eq, option_map, if◌then◌else◌}
+-- What the texts of versions and of ranges of versions are read as.
+use Rattle.std.specs.Prelude.{◌≡◌, ℕ, ◌==◌, List, [], ◌∷◌, Bool, true, false, if◌then◌else◌}
+use Rattle.std.specs.Prelude.{Option, Some, None, Result, Ok, Err, MatchOption, option_map}
+use Rattle.std.specs.Prelude.{codes, drop, nat_eq, string_bytes}
 use Rattle.std.specs.List.{starts_with}
+use Rattle.hack_versions.specs.Numbers.{number_of}
 use Rattle.hack_versions.specs.VersionTexts.{front_of, rest_of}
 use Rattle.hack_versions.specs.declared.version.Version.{Version}
 use Rattle.hack_versions.specs.declared.version.MaybeVersion.{MaybeVersion}
-use Rattle.hack_versions.specs.declared.version.MaybeVersion.TheVariants.{Version as Given, Msrv, Stable}
+use Rattle.hack_versions.specs.declared.version.MaybeVersion.TheVariants.{Version as Given}
+use Rattle.hack_versions.specs.declared.version.MaybeVersion.TheVariants.{Msrv, Stable}
 use Rattle.hack_versions.specs.declared.version.VersionRange.{VersionRange}
-use Rattle.hack_rules.specs.Readings.{number_of}
-use Rattle.hack_rules.specs.CliFaults.{BadRange, MissingMinor, BadNumber, OpenInclusive}
+use Rattle.hack_versions.specs.declared.version.VersionFault.{VersionFault}
+use Rattle.hack_versions.specs.declared.version.VersionFault.TheVariants as fault
+
+-- why a text is no version, or no range of versions
+pub data BadRange : Type 0 where
+  MissingMinor : BadRange
+  BadNumber : List ℕ → BadRange
+  OpenInclusive : List ℕ → BadRange
+
+-- what a fault says of a text; nothing where memory ran out
+abbrev pub bad_range_of : VersionFault → Option BadRange
+bad_range_of fault.Memory = None
+bad_range_of fault.MissingMinor = Some MissingMinor
+bad_range_of (fault.BadNumber text) = Some (BadNumber (string_bytes text))
+bad_range_of (fault.OpenInclusive text) = Some (OpenInclusive (string_bytes text))
+
+-- a text is not read, for the reason that the fault says, unless memory ran out
+abbrev pub IsRefusedBy : {A : Type 0} → Result A BadRange → VersionFault → Type 0
+IsRefusedBy reading e = MatchOption (bad_range_of e) (e ≡ fault.Memory) (λ bad. reading ≡ Err bad)
 
 -- what is read of what was read so far, unless that was refused
-abbrev pub then_read : {A B : Type 0} → (A → Result B BadRange) → Result A BadRange → Result B BadRange
+abbrev pub then_read : {A B : Type 0} →
+    (A → Result B BadRange) → Result A BadRange → Result B BadRange
 then_read f (Ok a) = f a
 then_read f (Err bad) = Err bad
 
@@ -31,16 +53,19 @@ part_of text = or_bad text (number_of 32 text)
 -- a version of these parts, with what stands behind the second dot
 abbrev pub with_patch : ℕ → ℕ → Option (List ℕ) → Result Version BadRange
 with_patch major minor None = Ok (record { major = major; minor = minor; patch = None })
-with_patch major minor (Some text) = read_as (λ patch. record { major = major; minor = minor; patch = Some patch }) (part_of text)
+with_patch major minor (Some text) =
+    read_as (λ patch. record { major = major; minor = minor; patch = Some patch }) (part_of text)
 
 -- a version of this major part, with what stands behind the first dot
 abbrev pub with_minor : ℕ → Option (List ℕ) → Result Version BadRange
 with_minor major None = Err MissingMinor
-with_minor major (Some text) = then_read (λ minor. with_patch major minor (rest_of 46 text)) (part_of (front_of 46 text))
+with_minor major (Some text) =
+    then_read (λ minor. with_patch major minor (rest_of 46 text)) (part_of (front_of 46 text))
 
 -- a version, cut at its first two dots
 abbrev pub version_of : List ℕ → Result Version BadRange
-version_of text = then_read (λ major. with_minor major (rest_of 46 text)) (part_of (front_of 46 text))
+version_of text =
+    then_read (λ major. with_minor major (rest_of 46 text)) (part_of (front_of 46 text))
 
 -- a bound of a range: a version, or what the empty text stands for
 abbrev pub bound_of : MaybeVersion → List ℕ → Result MaybeVersion BadRange
@@ -55,12 +80,15 @@ pub record End : Type 0 where
 -- what stands behind `..=`: a version
 abbrev pub behind_equals : List ℕ → List ℕ → Result End BadRange
 behind_equals front [] = Err (OpenInclusive front)
-behind_equals front (c ∷ cs) = read_as (λ bound. record { bound = bound; old = false }) (bound_of Stable (c ∷ cs))
+behind_equals front (c ∷ cs) =
+    read_as (λ bound. record { bound = bound; old = false }) (bound_of Stable (c ∷ cs))
 
 -- what stands behind `..`: nothing, `=` and a version, or a version alone, which is the old form
 abbrev pub end_of : List ℕ → List ℕ → Result End BadRange
 end_of front [] = Ok (record { bound = Stable; old = false })
-end_of front (b ∷ bs) = if b == 61 then behind_equals front bs else read_as (λ bound. record { bound = bound; old = true }) (bound_of Stable (b ∷ bs))
+end_of front (b ∷ bs) =
+    if b == 61 then behind_equals front bs
+    else read_as (λ bound. record { bound = bound; old = true }) (bound_of Stable (b ∷ bs))
 
 -- both sides of a cut
 pub record Sides : Type 0 where
@@ -71,7 +99,8 @@ pub record Sides : Type 0 where
 abbrev pub at_dots : List ℕ → Option Sides
 at_dots [] = None
 at_dots (b ∷ bs) =
-    if starts_with nat_eq (b ∷ bs) (codes "..") then Some (record { front = []; back = drop 2 (b ∷ bs) })
+    if starts_with nat_eq (b ∷ bs) (codes "..")
+    then Some (record { front = []; back = drop 2 (b ∷ bs) })
     else option_map (λ sides. record { front = b ∷ sides.front; back = sides.back }) (at_dots bs)
 
 -- a range, and whether it has the old form
@@ -81,12 +110,18 @@ pub record ReadRange : Type 0 where
 
 -- a start and an end
 abbrev pub with_end : End → MaybeVersion → ReadRange
-with_end end start = record { range = record { start_inclusive = start; end_inclusive = end.bound }; old = end.old }
+with_end end start = record {
+  range = record { start_inclusive = start; end_inclusive = end.bound };
+  old = end.old;
+}
 
 -- a range of these sides: its end is read before its start, and without `..` the text is its start
 abbrev pub range_at : List ℕ → Option Sides → Result ReadRange BadRange
-range_at text None = read_as (with_end (record { bound = Stable; old = false })) (bound_of Msrv text)
-range_at text (Some sides) = then_read (λ end. read_as (with_end end) (bound_of Msrv sides.front)) (end_of sides.front sides.back)
+range_at text None =
+    read_as (with_end (record { bound = Stable; old = false })) (bound_of Msrv text)
+range_at text (Some sides) =
+    then_read (λ end. read_as (with_end end) (bound_of Msrv sides.front))
+    (end_of sides.front sides.back)
 
 -- a range, cut at its first `..`
 abbrev pub range_of : List ℕ → Result ReadRange BadRange

@@ -1,5 +1,5 @@
--- What a text of a range of versions is read as, where a call says how it is written.
-use Rattle.std.proofs.Common.{◌≡◌, ◌≢◌, ◌⊎◌, inl, inr, ℕ, ◌==◌, ◌++◌, List, [], ◌∷◌, Bool, true, false, drop, nat_eq, codes, Option, Some, None, Result, Ok, Err, IfSome, IsTrue, IsSomeAnd, MatchOption, option_map, arith, refl, ap, sym, subst, ◌∙◌}
+-- What the texts of versions and ranges are read as, where a call says how they are written.
+use Rattle.std.proofs.Common.{◌≡◌, ◌≢◌, ◌⊎◌, inl, inr, ℕ, ◌==◌, ◌++◌, List, [], ◌∷◌, Bool, true, false, drop, nat_eq, codes, Option, Some, None, Result, Ok, Err, IsTrue, IsSomeAnd, MatchOption, option_map, arith, refl, ap, sym, subst, ◌∙◌}
 use Rattle.std.specs.List.{starts_with}
 use Rattle.std.proofs.lemmas.Bool.Decides.{nat_tests, Decides-eqb}
 use Rattle.std.proofs.lemmas.Slice.Eq.{starts_is}
@@ -9,67 +9,63 @@ use Rattle.hack_versions.specs.declared.version.MaybeVersion.TheVariants.{Versio
 use Rattle.hack_versions.specs.declared.version.VersionRange.{VersionRange}
 use Rattle.hack_versions.specs.declared.version.VersionFault.{VersionFault}
 use Rattle.hack_versions.specs.declared.version.VersionFault.TheVariants as fault
-use Rattle.hack_versions.specs.VersionTexts.{front_of, rest_of, IsNumber, IsSomeNumber, IsBadNumber, IsVersionText, IsVersionFault, IsCut, IsUncut, IsBare, IsBoundText, IsBoundFault, IsEndText, IsOpen, IsEndFault, IsRangeText, IsRangeTextFault}
-use Rattle.hack_rules.specs.CliFaults.{BadRange, BadNumber, OpenInclusive, Range, bad_range_of}
-use Rattle.hack_rules.specs.CliValues.{bad_range_fault, range_fault}
-use Rattle.hack_rules.specs.RangeReadings.{End, Sides, ReadRange, then_read, read_as, or_bad, part_of, with_patch, with_minor, version_of, bound_of, behind_equals, end_of, at_dots, with_end, range_at, range_of}
-use Rattle.hack_rules.proofs.ReadingLemmas.{number-read, number-unread}
+use Rattle.hack_versions.specs.Numbers.{IsNumber}
+use Rattle.hack_versions.specs.VersionTexts.{front_of, rest_of, IsSomeNumber, IsBadNumber, IsVersionText, IsVersionFault, IsCut, IsUncut, IsBare, IsBoundText, IsBoundFault, IsEndText, IsOpen, IsEndFault, IsRangeText, IsRangeTextFault}
+use Rattle.hack_versions.specs.Readings.{BadRange, BadNumber, OpenInclusive, IsRefusedBy}
+use Rattle.hack_versions.specs.Readings.{End, Sides, ReadRange, then_read, read_as, or_bad, part_of, with_patch, with_minor, version_of, bound_of, behind_equals, end_of, at_dots, with_end, range_at, range_of}
+use Rattle.hack_versions.proofs.NumberLemmas.{number-read, number-unread}
 
--- the reading is refused as the fault says, unless memory ran out
-abbrev Refused : {A : Type 0} → Result A BadRange → VersionFault → Type 0
-Refused r e = IfSome (bad_range_of e) (λ bad. r ≡ Err bad)
-
-Refused-then : {A B : Type 0} (f : A → Result B BadRange) (r : Result A BadRange) (e : VersionFault) → Refused r e → Refused (then_read f r) e
-Refused-then f r fault.Memory h = tt
+Refused-then : {A B : Type 0} (f : A → Result B BadRange) (r : Result A BadRange) (e : VersionFault) → IsRefusedBy r e → IsRefusedBy (then_read f r) e
+Refused-then f r fault.Memory h = h
 Refused-then f r fault.MissingMinor h = ap (then_read f) h
 Refused-then f r (fault.BadNumber s) h = ap (then_read f) h
 Refused-then f r (fault.OpenInclusive s) h = ap (then_read f) h
 
-Refused-as : {A B : Type 0} (f : A → B) (r : Result A BadRange) (e : VersionFault) → Refused r e → Refused (read_as f r) e
-Refused-as f r fault.Memory h = tt
+Refused-as : {A B : Type 0} (f : A → B) (r : Result A BadRange) (e : VersionFault) → IsRefusedBy r e → IsRefusedBy (read_as f r) e
+Refused-as f r fault.Memory h = h
 Refused-as f r fault.MissingMinor h = ap (read_as f) h
 Refused-as f r (fault.BadNumber s) h = ap (read_as f) h
 Refused-as f r (fault.OpenInclusive s) h = ap (read_as f) h
 
 -- the first of two readings went well
-Refused-next : {A B : Type 0} (f : A → Result B BadRange) (r : Result A BadRange) (a : A) (e : VersionFault) → r ≡ Ok a → Refused (f a) e → Refused (then_read f r) e
-Refused-next {A} f r a e h k = subst (λ (x : Result A BadRange). Refused (then_read f x) e) (sym h) k
+Refused-next : {A B : Type 0} (f : A → Result B BadRange) (r : Result A BadRange) (a : A) (e : VersionFault) → r ≡ Ok a → IsRefusedBy (f a) e → IsRefusedBy (then_read f r) e
+Refused-next {A} f r a e h k = subst (λ (x : Result A BadRange). IsRefusedBy (then_read f x) e) (sym h) k
 
 -- parts
 
-part-read : (text : List ℕ) (n : ℕ) → IsNumber text n → part_of text ≡ Ok n
-part-read text n h = ap (or_bad text) (number-read 32 n text h.0 h.1 h.2)
+part-read : (text : List ℕ) (n : ℕ) → IsNumber 32 text n → part_of text ≡ Ok n
+part-read text n h = ap (or_bad text) (number-read 32 n text h)
 
-part-bad : (text : List ℕ) (e : VersionFault) → IsBadNumber text e → Refused (part_of text) e
-part-bad text (fault.BadNumber s) h = ap (or_bad text) (number-unread 32 text (λ n k. h.1 n (k.0, k.1, k.2))) ∙ ap (λ t. Err (BadNumber t)) (sym h.0)
+part-bad : (text : List ℕ) (e : VersionFault) → IsBadNumber text e → IsRefusedBy (part_of text) e
+part-bad text (fault.BadNumber s) h = ap (or_bad text) (number-unread 32 text h.1) ∙ ap (λ t. Err (BadNumber t)) (sym h.0)
 part-bad text fault.MissingMinor h = absurd h
 part-bad text (fault.OpenInclusive s) h = absurd h
-part-bad text fault.Memory h = tt
+part-bad text fault.Memory h = absurd h
 
 -- versions
 
-patch-read : (o : Option (List ℕ)) (major minor : ℕ) (patch : Option ℕ) → MatchOption o (patch ≡ None) (λ last. IsSomeAnd patch (IsNumber last)) → with_patch major minor o ≡ Ok (record { major = major; minor = minor; patch = patch })
+patch-read : (o : Option (List ℕ)) (major minor : ℕ) (patch : Option ℕ) → MatchOption o (patch ≡ None) (λ last. IsSomeAnd patch (IsNumber 32 last)) → with_patch major minor o ≡ Ok (record { major = major; minor = minor; patch = patch })
 patch-read None major minor patch h = ap (λ (p : Option ℕ). Ok (record { major = major; minor = minor; patch = p })) (sym h)
 patch-read (Some last) major minor None h = absurd h
 patch-read (Some last) major minor (Some n) h = ap (read_as (λ p. record { major = major; minor = minor; patch = Some p })) (part-read last n h)
 
-minor-read : (o : Option (List ℕ)) (v : Version) → IsSomeAnd o (λ rest. IsNumber (front_of 46 rest) v.minor × MatchOption (rest_of 46 rest) (v.patch ≡ None) (λ last. IsSomeAnd v.patch (IsNumber last))) → with_minor v.major o ≡ Ok v
+minor-read : (o : Option (List ℕ)) (v : Version) → IsSomeAnd o (λ rest. IsNumber 32 (front_of 46 rest) v.minor × MatchOption (rest_of 46 rest) (v.patch ≡ None) (λ last. IsSomeAnd v.patch (IsNumber 32 last))) → with_minor v.major o ≡ Ok v
 minor-read None v h = absurd h
 minor-read (Some text) v h = ap (then_read (λ minor. with_patch v.major minor (rest_of 46 text))) (part-read (front_of 46 text) v.minor h.0) ∙ patch-read (rest_of 46 text) v.major v.minor v.patch h.1
 
-version-read : (text : List ℕ) (v : Version) → IsVersionText text v → version_of text ≡ Ok v
+pub version-read : (text : List ℕ) (v : Version) → IsVersionText text v → version_of text ≡ Ok v
 version-read text v h = ap (then_read (λ major. with_minor major (rest_of 46 text))) (part-read (front_of 46 text) v.major h.0) ∙ minor-read (rest_of 46 text) v h.1
 
-patch-bad : (o : Option (List ℕ)) (major minor : ℕ) (e : VersionFault) → IsSomeAnd o (λ last. IsBadNumber last e) → Refused (with_patch major minor o) e
+patch-bad : (o : Option (List ℕ)) (major minor : ℕ) (e : VersionFault) → IsSomeAnd o (λ last. IsBadNumber last e) → IsRefusedBy (with_patch major minor o) e
 patch-bad None major minor e h = absurd h
 patch-bad (Some last) major minor e h = Refused-as (λ p. record { major = major; minor = minor; patch = Some p }) (part_of last) e (part-bad last e h)
 
-minor-bad : (o : Option (List ℕ)) (major : ℕ) (e : VersionFault) → MatchOption o (e ≡ fault.MissingMinor) (λ rest. IsBadNumber (front_of 46 rest) e ⊎ (IsSomeNumber (front_of 46 rest) × IsSomeAnd (rest_of 46 rest) (λ last. IsBadNumber last e))) → Refused (with_minor major o) e
-minor-bad None major e h = subst (λ (e : VersionFault). Refused (with_minor major None) e) (sym h) refl
+minor-bad : (o : Option (List ℕ)) (major : ℕ) (e : VersionFault) → MatchOption o (e ≡ fault.MissingMinor) (λ rest. IsBadNumber (front_of 46 rest) e ⊎ (IsSomeNumber (front_of 46 rest) × IsSomeAnd (rest_of 46 rest) (λ last. IsBadNumber last e))) → IsRefusedBy (with_minor major o) e
+minor-bad None major e h = subst (λ (e : VersionFault). IsRefusedBy (with_minor major None) e) (sym h) refl
 minor-bad (Some text) major e (inl h) = Refused-then (λ minor. with_patch major minor (rest_of 46 text)) (part_of (front_of 46 text)) e (part-bad (front_of 46 text) e h)
 minor-bad (Some text) major e (inr h) = Refused-next (λ minor. with_patch major minor (rest_of 46 text)) (part_of (front_of 46 text)) h.0.0 e (part-read (front_of 46 text) h.0.0 h.0.1) (patch-bad (rest_of 46 text) major h.0.0 e h.1)
 
-version-bad : (text : List ℕ) (e : VersionFault) → IsVersionFault text e → Refused (version_of text) e
+version-bad : (text : List ℕ) (e : VersionFault) → IsVersionFault text e → IsRefusedBy (version_of text) e
 version-bad text e (inl h) = Refused-then (λ major. with_minor major (rest_of 46 text)) (part_of (front_of 46 text)) e (part-bad (front_of 46 text) e h)
 version-bad text e (inr h) = Refused-next (λ major. with_minor major (rest_of 46 text)) (part_of (front_of 46 text)) h.0.0 e (part-read (front_of 46 text) h.0.0 h.0.1) (minor-bad (rest_of 46 text) h.0.0 e h.1)
 
@@ -84,7 +80,7 @@ bound-read empty [] bound (inr h) = absurd (h.0 refl)
 bound-read empty (b ∷ bs) bound (inl h) = absurd (not-empty b bs h.0)
 bound-read empty (b ∷ bs) bound (inr h) = ap (read_as Given) (version-read (b ∷ bs) h.1 h.2) ∙ ap Ok (sym h.3)
 
-bound-bad : (empty : MaybeVersion) (text : List ℕ) (e : VersionFault) → IsBoundFault text e → Refused (bound_of empty text) e
+bound-bad : (empty : MaybeVersion) (text : List ℕ) (e : VersionFault) → IsBoundFault text e → IsRefusedBy (bound_of empty text) e
 bound-bad empty [] e h = absurd (h.0 refl)
 bound-bad empty (b ∷ bs) e h = Refused-as Given (version_of (b ∷ bs)) e (version-bad (b ∷ bs) e h.1)
 
@@ -115,19 +111,19 @@ end-read front (b ∷ bs) end old (inr h) =
     let is_old : old ≡ true = h.2.1 (not-empty b bs) in
     rw (not-equals b bs h.0) (ap (read_as (ends true)) (bound-read Stable (b ∷ bs) end h.1) ∙ ap (λ b. Ok (ends b end)) (sym is_old))
 
-open-bad : (front : List ℕ) (e : VersionFault) → IsOpen front e → Refused (behind_equals front []) e
+open-bad : (front : List ℕ) (e : VersionFault) → IsOpen front e → IsRefusedBy (behind_equals front []) e
 open-bad front (fault.OpenInclusive s) h = ap (λ t. Err (OpenInclusive t)) (sym h)
 open-bad front fault.MissingMinor h = absurd h
 open-bad front (fault.BadNumber s) h = absurd h
-open-bad front fault.Memory h = tt
+open-bad front fault.Memory h = absurd h
 
-equals-bad : (front back : List ℕ) (e : VersionFault) → IsBoundFault back e → Refused (behind_equals front back) e
+equals-bad : (front back : List ℕ) (e : VersionFault) → IsBoundFault back e → IsRefusedBy (behind_equals front back) e
 equals-bad front [] e h = absurd (h.0 refl)
 equals-bad front (c ∷ cs) e h = Refused-as (ends false) (bound_of Stable (c ∷ cs)) e (bound-bad Stable (c ∷ cs) e h)
 
-end-bad : (front back : List ℕ) (e : VersionFault) → IsEndFault front back e → Refused (end_of front back) e
-end-bad front back e (inl h) = subst (λ (t : List ℕ). Refused (end_of front t) e) (sym h.0) (open-bad front e h.1)
-end-bad front back e (inr (inl h)) = subst (λ (t : List ℕ). Refused (end_of front t) e) (sym h.1) (equals-bad front h.0 e h.2)
+end-bad : (front back : List ℕ) (e : VersionFault) → IsEndFault front back e → IsRefusedBy (end_of front back) e
+end-bad front back e (inl h) = subst (λ (t : List ℕ). IsRefusedBy (end_of front t) e) (sym h.0) (open-bad front e h.1)
+end-bad front back e (inr (inl h)) = subst (λ (t : List ℕ). IsRefusedBy (end_of front t) e) (sym h.1) (equals-bad front h.0 e h.2)
 end-bad front [] e (inr (inr h)) = absurd (h.1.0 refl)
 end-bad front (b ∷ bs) e (inr (inr h)) = rw (not-equals b bs h.0) (Refused-as (ends true) (bound_of Stable (b ∷ bs)) e (bound-bad Stable (b ∷ bs) e h.1))
 
@@ -180,20 +176,18 @@ range-read text range old (inr h) =
 abbrev with_start : List ℕ → End → Result ReadRange BadRange
 with_start front end = read_as (with_end end) (bound_of Msrv front)
 
-range-bad : (text : List ℕ) (e : VersionFault) → IsRangeTextFault text e → Refused (range_of text) e
-range-bad text e (inl h) = subst (λ (o : Option Sides). Refused (range_at text o) e) (sym (uncut-read text h.0)) (Refused-as (with_end (ends false Stable)) (bound_of Msrv text) e (bound-bad Msrv text e h.1))
-range-bad text e (inr h) = subst (λ (o : Option Sides). Refused (range_at text o) e) (sym (cut-read text h.0 h.1 h.2)) (sides h.3)
+range-bad : (text : List ℕ) (e : VersionFault) → IsRangeTextFault text e → IsRefusedBy (range_of text) e
+range-bad text e (inl h) = subst (λ (o : Option Sides). IsRefusedBy (range_at text o) e) (sym (uncut-read text h.0)) (Refused-as (with_end (ends false Stable)) (bound_of Msrv text) e (bound-bad Msrv text e h.1))
+range-bad text e (inr h) = subst (λ (o : Option Sides). IsRefusedBy (range_at text o) e) (sym (cut-read text h.0 h.1 h.2)) (sides h.3)
   where
-    sides : IsEndFault h.0 h.1 e ⊎ (((end : MaybeVersion) × (old : Bool) × IsEndText h.1 end old) × IsBoundFault h.0 e) → Refused (then_read (with_start h.0) (end_of h.0 h.1)) e
+    sides : IsEndFault h.0 h.1 e ⊎ (((end : MaybeVersion) × (old : Bool) × IsEndText h.1 end old) × IsBoundFault h.0 e) → IsRefusedBy (then_read (with_start h.0) (end_of h.0 h.1)) e
     sides (inl k) = Refused-then (with_start h.0) (end_of h.0 h.1) e (end-bad h.0 h.1 e k)
     sides (inr k) = Refused-next (with_start h.0) (end_of h.0 h.1) (ends k.0.1 k.0.0) e (end-read h.0 h.1 k.0.0 k.0.1 k.0.2) (Refused-as (with_end (ends k.0.1 k.0.0)) (bound_of Msrv h.0) e (bound-bad Msrv h.0 e k.1))
 
-Refused-told : (r : Result ReadRange BadRange) (e : VersionFault) → Refused r e → IfSome (option_map Range (bad_range_of e)) (λ bad. bad_range_fault r ≡ Some bad)
-Refused-told r fault.Memory h = tt
-Refused-told r fault.MissingMinor h = ap bad_range_fault h
-Refused-told r (fault.BadNumber s) h = ap bad_range_fault h
-Refused-told r (fault.OpenInclusive s) h = ap bad_range_fault h
+pub version-unread : (text : List ℕ) (e : VersionFault) → (e ≡ fault.Memory) ⊎ IsVersionFault text e → IsRefusedBy (version_of text) e
+version-unread text e (inl h) = subst (λ (e : VersionFault). IsRefusedBy (version_of text) e) (sym h) refl
+version-unread text e (inr h) = version-bad text e h
 
-pub range-refused : (text : List ℕ) (e : VersionFault) → (e ≡ fault.Memory) ⊎ IsRangeTextFault text e → IfSome (option_map Range (bad_range_of e)) (λ bad. range_fault text ≡ Some bad)
-range-refused text e (inl h) = subst (λ (e : VersionFault). IfSome (option_map Range (bad_range_of e)) (λ bad. range_fault text ≡ Some bad)) (sym h) tt
-range-refused text e (inr h) = Refused-told (range_of text) e (range-bad text e h)
+pub range-unread : (text : List ℕ) (e : VersionFault) → (e ≡ fault.Memory) ⊎ IsRangeTextFault text e → IsRefusedBy (range_of text) e
+range-unread text e (inl h) = subst (λ (e : VersionFault). IsRefusedBy (range_of text) e) (sym h) refl
+range-unread text e (inr h) = range-bad text e h
