@@ -1,7 +1,7 @@
 -- The options that words name.
 use Rattle.std.specs.Prelude.{ℕ, List, Option}
 use Rattle.hack_options.specs.declared.Opt.{Opt}
-use Rattle.hack_options.specs.declared.rows.TheConstants.{ALL}
+use Rattle.hack_options.specs.declared.table.TheConstants.{ALL}
 use Rattle.hack_options.specs.Table.{named, lettered}
 
 -- the option of a long name

@@ -1,5 +1,5 @@
--- The table of options: how each is written and cut.
-use Rattle.std.specs.Prelude.{ℕ, List, [], ◌∷◌, ◌==◌, Bool, true, false, Option, Some, None, codes, slice_get, if◌then◌else◌}
+-- The table of options: how each is written and cut, and how the help shows it.
+use Rattle.std.specs.Prelude.{ℕ, List, [], ◌∷◌, ◌==◌, Bool, true, false, Option, Some, None, codes, slice_get, is_some, if◌then◌else◌}
 use Rattle.std.specs.Str.{bytes_eq}
 use denote.Enum.Bare.{sameb}
 use Rattle.hack_options.specs.contracts.Opt.{the_type}
@@ -7,75 +7,90 @@ use Rattle.hack_options.specs.declared.Opt.{Opt}
 use Rattle.hack_options.specs.declared.Opt.TheVariants as opt
 use Rattle.hack_options.specs.declared.Kind.{Kind}
 use Rattle.hack_options.specs.declared.Kind.TheVariants.{Flag, Value, Names, OptionalNames, Help, Version, Refused}
-use Rattle.hack_options.specs.declared.Row.{Row}
+use Rattle.hack_options.specs.declared.table.Row.{Row}
 
--- how an option is written and cut
+-- a row of the table: how an option is written and cut, and whether and how the help shows it
 pub record Entry : Type 0 where
   pub letter : Option ℕ
+  pub letter_shown : Bool
   pub name : List ℕ
   pub kind : Kind
   pub once : Bool
+  pub value : List ℕ
+  pub in_help : Bool
 
 -- what a row says of that
 abbrev pub entry : Row → Entry
-entry row = record { letter = row.letter; name = row.name.now; kind = row.kind; once = row.once }
+entry row = record { letter = row.letter; letter_shown = row.letter_shown; name = row.name.now; kind = row.kind; once = row.once; value = row.value.now; in_help = is_some row.told }
 
 -- an option without a letter that stands once
 abbrev pub once : List ℕ → Kind → Entry
-once name kind = record { letter = None; name = name; kind = kind; once = true }
+once name kind = record { letter = None; letter_shown = true; name = name; kind = kind; once = true; value = []; in_help = false }
 
 -- an option without a letter that may be repeated
 abbrev pub many : List ℕ → Kind → Entry
-many name kind = record { letter = None; name = name; kind = kind; once = false }
+many name kind = record (once name kind) { once = false }
 
 -- the same option, that the one letter of the text names too
 abbrev pub or_letter : List ℕ → Entry → Entry
 or_letter text e = record e { letter = slice_get text 0 }
 
--- how each option is written and cut
+-- the same, where the help doesn't show the letter
+abbrev pub or_hidden_letter : List ℕ → Entry → Entry
+or_hidden_letter text e = record e { letter = slice_get text 0; letter_shown = false }
+
+-- the same option, with the value that the help shows behind its name
+abbrev pub with_value : List ℕ → Entry → Entry
+with_value value e = record e { value = value }
+
+-- the same option, that the help tells of
+abbrev pub with_help : Entry → Entry
+with_help e = record e { in_help = true }
+
+-- the row of each option
 abbrev pub entry_of : Opt → Entry
-entry_of opt.Package = or_letter (codes "p") (many (codes "package") Value)
-entry_of opt.All = once (codes "all") Flag
-entry_of opt.Workspace = once (codes "workspace") Flag
-entry_of opt.Exclude = many (codes "exclude") Value
-entry_of opt.ManifestPath = or_letter (codes "m") (once (codes "manifest-path") Value)
-entry_of opt.Locked = once (codes "locked") Flag
-entry_of opt.Features = or_letter (codes "F") (many (codes "features") Names)
-entry_of opt.EachFeature = once (codes "each-feature") Flag
-entry_of opt.FeaturePowerset = once (codes "feature-powerset") Flag
-entry_of opt.OptionalDeps = once (codes "optional-deps") OptionalNames
-entry_of opt.Skip = many (codes "skip") Names
-entry_of opt.ExcludeFeatures = many (codes "exclude-features") Names
-entry_of opt.ExcludeNoDefaultFeatures = once (codes "exclude-no-default-features") Flag
-entry_of opt.ExcludeAllFeatures = once (codes "exclude-all-features") Flag
-entry_of opt.Depth = once (codes "depth") Value
-entry_of opt.GroupFeatures = many (codes "group-features") Value
-entry_of opt.Target = many (codes "target") Value
-entry_of opt.MutuallyExclusiveFeatures = many (codes "mutually-exclusive-features") Value
-entry_of opt.AllowTogether = many (codes "allow-together") Value
-entry_of opt.AtLeastOneOf = many (codes "at-least-one-of") Value
-entry_of opt.IncludeFeatures = many (codes "include-features") Names
-entry_of opt.NoDevDeps = once (codes "no-dev-deps") Flag
-entry_of opt.RemoveDevDeps = once (codes "remove-dev-deps") Flag
-entry_of opt.NoPrivate = once (codes "no-private") Flag
-entry_of opt.IgnorePrivate = once (codes "ignore-private") Flag
-entry_of opt.IgnoreUnknownFeatures = once (codes "ignore-unknown-features") Flag
-entry_of opt.RustVersion = once (codes "rust-version") Flag
-entry_of opt.VersionRange = once (codes "version-range") Value
-entry_of opt.VersionStep = once (codes "version-step") Value
-entry_of opt.CleanPerRun = once (codes "clean-per-run") Flag
-entry_of opt.CleanPerVersion = once (codes "clean-per-version") Flag
-entry_of opt.KeepGoing = once (codes "keep-going") Flag
-entry_of opt.Partition = once (codes "partition") Value
-entry_of opt.PartitionKind = once (codes "partition-kind") Value
-entry_of opt.LogGroup = once (codes "log-group") Value
-entry_of opt.WorkspaceBehavior = many (codes "workspace-behavior") Refused
-entry_of opt.PrintCommandList = once (codes "print-command-list") Flag
-entry_of opt.NoManifestPath = once (codes "no-manifest-path") Flag
-entry_of opt.Verbose = or_letter (codes "v") (many (codes "verbose") Flag)
-entry_of opt.Color = once (codes "color") Value
-entry_of opt.Help = or_letter (codes "h") (many (codes "help") Help)
-entry_of opt.Version = or_letter (codes "V") (many (codes "version") Version)
+entry_of opt.Package = with_help (with_value (codes "<SPEC>...") (or_letter (codes "p") (many (codes "package") Value)))
+entry_of opt.All = with_help (once (codes "all") Flag)
+entry_of opt.Workspace = with_help (once (codes "workspace") Flag)
+entry_of opt.Exclude = with_help (with_value (codes "<SPEC>...") (many (codes "exclude") Value))
+entry_of opt.ManifestPath = with_help (with_value (codes "<PATH>") (or_hidden_letter (codes "m") (once (codes "manifest-path") Value)))
+entry_of opt.Locked = with_help (once (codes "locked") Flag)
+entry_of opt.Features = with_help (with_value (codes "<FEATURES>...") (or_letter (codes "F") (many (codes "features") Names)))
+entry_of opt.EachFeature = with_help (once (codes "each-feature") Flag)
+entry_of opt.FeaturePowerset = with_help (once (codes "feature-powerset") Flag)
+entry_of opt.OptionalDeps = with_help (with_value (codes "[DEPS]...") (once (codes "optional-deps") OptionalNames))
+entry_of opt.Skip = with_help (with_value (codes "<FEATURES>...") (many (codes "skip") Names))
+entry_of opt.ExcludeFeatures = with_help (with_value (codes "<FEATURES>...") (many (codes "exclude-features") Names))
+entry_of opt.ExcludeNoDefaultFeatures = with_help (once (codes "exclude-no-default-features") Flag)
+entry_of opt.ExcludeAllFeatures = with_help (once (codes "exclude-all-features") Flag)
+entry_of opt.Depth = with_help (with_value (codes "<NUM>") (once (codes "depth") Value))
+entry_of opt.GroupFeatures = with_help (with_value (codes "<FEATURES>...") (many (codes "group-features") Value))
+entry_of opt.Target = with_help (with_value (codes "<TRIPLE>") (many (codes "target") Value))
+entry_of opt.MutuallyExclusiveFeatures = with_help (with_value (codes "<FEATURES>...") (many (codes "mutually-exclusive-features") Value))
+entry_of opt.AllowTogether = with_help (with_value (codes "<PKG=FEATURES>...") (many (codes "allow-together") Value))
+entry_of opt.AtLeastOneOf = with_help (with_value (codes "<FEATURES>...") (many (codes "at-least-one-of") Value))
+entry_of opt.IncludeFeatures = with_help (with_value (codes "<FEATURES>...") (many (codes "include-features") Names))
+entry_of opt.NoDevDeps = with_help (once (codes "no-dev-deps") Flag)
+entry_of opt.RemoveDevDeps = with_help (once (codes "remove-dev-deps") Flag)
+entry_of opt.NoPrivate = with_help (once (codes "no-private") Flag)
+entry_of opt.IgnorePrivate = with_help (once (codes "ignore-private") Flag)
+entry_of opt.IgnoreUnknownFeatures = with_help (once (codes "ignore-unknown-features") Flag)
+entry_of opt.RustVersion = with_help (once (codes "rust-version") Flag)
+entry_of opt.VersionRange = with_help (with_value (codes "[START]..[=END]") (once (codes "version-range") Value))
+entry_of opt.VersionStep = with_help (with_value (codes "<NUM>") (once (codes "version-step") Value))
+entry_of opt.CleanPerRun = with_help (once (codes "clean-per-run") Flag)
+entry_of opt.CleanPerVersion = with_help (once (codes "clean-per-version") Flag)
+entry_of opt.KeepGoing = with_help (once (codes "keep-going") Flag)
+entry_of opt.Partition = with_help (with_value (codes "<M/N>") (once (codes "partition") Value))
+entry_of opt.PartitionKind = with_help (with_value (codes "<KIND>") (once (codes "partition-kind") Value))
+entry_of opt.LogGroup = with_help (with_value (codes "<KIND>") (once (codes "log-group") Value))
+entry_of opt.WorkspaceBehavior = with_help (many (codes "workspace-behavior") Refused)
+entry_of opt.PrintCommandList = with_help (once (codes "print-command-list") Flag)
+entry_of opt.NoManifestPath = with_help (once (codes "no-manifest-path") Flag)
+entry_of opt.Verbose = with_help (or_letter (codes "v") (many (codes "verbose") Flag))
+entry_of opt.Color = with_help (with_value (codes "<WHEN>") (once (codes "color") Value))
+entry_of opt.Help = with_help (or_letter (codes "h") (many (codes "help") Help))
+entry_of opt.Version = with_help (or_letter (codes "V") (many (codes "version") Version))
 entry_of opt.NoDefaultFeatures = many (codes "no-default-features") Flag
 entry_of opt.AllFeatures = many (codes "all-features") Flag
 entry_of opt.IncludeDepsFeatures = once (codes "include-deps-features") Flag

@@ -75,9 +75,8 @@ impl fmt::Display for RowUsage {
     ghost output = { λ row. Some (row_usage row.option) };
 
     fn fmt<W: fmt::Write>(&self, f: &mut fmt::Formatter<W>) -> fmt::Result {
-        let name = self.option.row().name;
-        let value = self.option.value();
-        write!(f, "--{name} {value}")
+        let row = self.option.row();
+        write!(f, "--{} {}", row.name, row.value)
     }
 }
 
@@ -99,24 +98,20 @@ impl Opt {
         WithAlias { option: self }
     }
 
-    /// Whether a row of the help has just this name: that of `--workspace-behavior` has its value too, and three
-    /// options have no row.
+    /// Whether a row of the help has just this name: that of `--workspace-behavior` has its value too.
     fn has_usage(self) -> bool
         ensures { result ≡ named_in_help self }
     {
-        !matches!(
-            self,
-            Opt::WorkspaceBehavior
-                | Opt::NoDefaultFeatures
-                | Opt::AllFeatures
-                | Opt::IncludeDepsFeatures
-        )
+        match self {
+            Opt::WorkspaceBehavior => false,
+            option => option.row().told.is_some(),
+        }
     }
 
     /// Whether the help shows the option's letter.
-    pub(crate) fn shows_letter(self) -> bool
+    fn shows_letter(self) -> bool
         ensures { result ≡ letter_in_help self }
     {
-        !matches!(self, Opt::ManifestPath)
+        self.row().letter_shown
     }
 }
