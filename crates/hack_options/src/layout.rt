@@ -2,7 +2,7 @@
 
 ghost use Rattle.std.specs.Prelude.{◌≡◌, true, false};
 
-use crate::table::{Row, Told};
+use crate::table::{HelpText, Row};
 use crate::{ALL, Opt};
 use std::fmt;
 
@@ -77,7 +77,7 @@ impl fmt::Display for Help {
 #[derive(Clone, Copy)]
 struct ShortRow {
     option: Opt,
-    told: Told,
+    told: HelpText,
 }
 
 impl fmt::Display for ShortRow {
@@ -98,7 +98,7 @@ impl fmt::Display for ShortRow {
 #[derive(Clone, Copy)]
 struct LongRow {
     option: Opt,
-    told: Told,
+    told: HelpText,
 }
 
 impl fmt::Display for LongRow {

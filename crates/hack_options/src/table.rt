@@ -1,8 +1,8 @@
-//! The table of options: one row each, of how it is written and cut, and of what the help tells.
+//! The table of options. Each has a row: how it is written, how it is cut, and what the help tells of it.
 
-ghost use Rattle.std.specs.Prelude.{◌≡◌, ◌↔◌, IsTrue, false, Some};
-ghost use Rattle.hack_options.specs.Table.{entry, entry_of, meaning_of, same};
-ghost use Rattle.hack_options.specs.Table.{once as once_entry, many as many_entry, with_help};
+ghost use Rattle.std.specs.Prelude.{◌≡◌, ◌↔◌, IsTrue, IsSome, is_some, false, Some};
+ghost use Rattle.hack_options.specs.Table.{entry, entry_of, out_of_help, meaning_of, same};
+ghost use Rattle.hack_options.specs.Table.{flag as flag_entry, once as once_entry, many as many_entry};
 
 use crate::{Kind, Opt};
 
@@ -32,21 +32,28 @@ pub struct Row {
     /// as `--workspace-behavior=cargo`.
     pub value: &'static str,
     /// What the help tells. It has no row for two options of Cargo and for `--include-deps-features`.
-    pub(crate) told: Option<Told>,
+    pub(crate) told: Option<HelpText>,
 }
 
 /// What the help tells of an option.
 #[derive(Clone, Copy)]
-pub(crate) struct Told {
+pub(crate) struct HelpText {
     /// What the option does, in a few words with no point at their end.
     pub text: &'static str,
     /// What the long help says beyond that.
     pub paragraphs: &'static [&'static str],
 }
 
+/// An option that stands once and takes nothing.
+fn flag(name: &'static str) -> Row
+    ensures { entry result ≡ out_of_help (flag_entry name.now) }
+{
+    once(name, Kind::Flag)
+}
+
 /// An option that stands once.
 fn once(name: &'static str, kind: Kind) -> Row
-    ensures { entry result ≡ once_entry name.now kind }
+    ensures { entry result ≡ out_of_help (once_entry name.now kind) }
 {
     Row {
         letter: None,
@@ -61,7 +68,7 @@ fn once(name: &'static str, kind: Kind) -> Row
 
 /// An option that may be repeated.
 fn many(name: &'static str, kind: Kind) -> Row
-    ensures { entry result ≡ many_entry name.now kind }
+    ensures { entry result ≡ out_of_help (many_entry name.now kind) }
 {
     Row {
         once: false,
@@ -91,22 +98,26 @@ impl Row {
         }
     }
 
-    /// The same option, with the value that the help shows.
+    /// The same option, with the value that messages and the help show.
     fn shows(self, value: &'static str) -> Row
         ensures { entry result ≡ record (entry self) { value = value.now } }
     {
         Row { value, ..self }
     }
+}
 
-    /// The same option, with what the help tells of it.
-    fn told(self, text: &'static str, paragraphs: &'static [&'static str]) -> Row
-        ensures { entry result ≡ with_help (entry self) }
-    {
-        Row {
-            told: Some(Told { text, paragraphs }),
-            ..self
-        }
-    }
+/// A few words.
+fn brief(text: &'static str) -> Option<HelpText>
+    ensures { IsSome result }
+{
+    explained(text, &[])
+}
+
+/// A few words, and paragraphs in the long help.
+fn explained(text: &'static str, paragraphs: &'static [&'static str]) -> Option<HelpText>
+    ensures { IsSome result }
+{
+    Some(HelpText { text, paragraphs })
 }
 
 /// All options, in the order of the help; those that the help doesn't show stand last.
@@ -159,233 +170,247 @@ pub const ALL: [Opt; 45] = [
 ];
 
 impl Opt {
-    /// The option's row.
+    /// The option's row: one arm of `written`, and one of `told`.
     pub fn row(self) -> Row
         ensures { entry result ≡ entry_of self }
+    {
+        Row {
+            told: self.told(),
+            ..self.written()
+        }
+    }
+
+    /// How the option is written and cut, and the value that is shown for it.
+    fn written(self) -> Row
+        ensures { entry result ≡ out_of_help (entry_of self) }
     {
         match self {
             Opt::Package => many("package", Kind::Value)
                 .lettered('p')
-                .shows("<SPEC>...")
-                .told("Package(s) to check", &[]),
-            Opt::All => once("all", Kind::Flag).told("Alias for --workspace", &[]),
-            Opt::Workspace => once("workspace", Kind::Flag).told(
-                "Perform command for all packages in the workspace",
-                &[],
-            ),
-            Opt::Exclude => many("exclude", Kind::Value)
-                .shows("<SPEC>...")
-                .told("Exclude packages from the check", &[]),
+                .shows("<SPEC>..."),
+            Opt::All => flag("all"),
+            Opt::Workspace => flag("workspace"),
+            Opt::Exclude => many("exclude", Kind::Value).shows("<SPEC>..."),
             Opt::ManifestPath => once("manifest-path", Kind::Value)
                 .hidden_letter('m')
-                .shows("<PATH>")
-                .told("Path to Cargo.toml", &[]),
-            Opt::Locked => once("locked", Kind::Flag).told("Require Cargo.lock is up to date", &[]),
+                .shows("<PATH>"),
+            Opt::Locked => flag("locked"),
             Opt::Features => many("features", Kind::Names)
                 .lettered('F')
-                .shows("<FEATURES>...")
-                .told("Space or comma separated list of features to activate", &[]),
-            Opt::EachFeature => once("each-feature", Kind::Flag).told(
+                .shows("<FEATURES>..."),
+            Opt::EachFeature => flag("each-feature"),
+            Opt::FeaturePowerset => flag("feature-powerset"),
+            Opt::OptionalDeps => once("optional-deps", Kind::OptionalNames).shows("[DEPS]..."),
+            Opt::Skip => many("skip", Kind::Names).shows("<FEATURES>..."),
+            Opt::ExcludeFeatures => many("exclude-features", Kind::Names).shows("<FEATURES>..."),
+            Opt::ExcludeNoDefaultFeatures => flag("exclude-no-default-features"),
+            Opt::ExcludeAllFeatures => flag("exclude-all-features"),
+            Opt::Depth => once("depth", Kind::Value).shows("<NUM>"),
+            Opt::GroupFeatures => many("group-features", Kind::Value).shows("<FEATURES>..."),
+            Opt::Target => many("target", Kind::Value).shows("<TRIPLE>"),
+            Opt::MutuallyExclusiveFeatures => many(
+                "mutually-exclusive-features",
+                Kind::Value,
+            ).shows("<FEATURES>..."),
+            Opt::AllowTogether => many("allow-together", Kind::Value).shows("<PKG=FEATURES>..."),
+            Opt::AtLeastOneOf => many("at-least-one-of", Kind::Value).shows("<FEATURES>..."),
+            Opt::IncludeFeatures => many("include-features", Kind::Names).shows("<FEATURES>..."),
+            Opt::NoDevDeps => flag("no-dev-deps"),
+            Opt::RemoveDevDeps => flag("remove-dev-deps"),
+            Opt::NoPrivate => flag("no-private"),
+            Opt::IgnorePrivate => flag("ignore-private"),
+            Opt::IgnoreUnknownFeatures => flag("ignore-unknown-features"),
+            Opt::RustVersion => flag("rust-version"),
+            Opt::VersionRange => once("version-range", Kind::Value).shows("[START]..[=END]"),
+            Opt::VersionStep => once("version-step", Kind::Value).shows("<NUM>"),
+            Opt::CleanPerRun => flag("clean-per-run"),
+            Opt::CleanPerVersion => flag("clean-per-version"),
+            Opt::KeepGoing => flag("keep-going"),
+            Opt::Partition => once("partition", Kind::Value).shows("<M/N>"),
+            Opt::PartitionKind => once("partition-kind", Kind::Value).shows("<KIND>"),
+            Opt::LogGroup => once("log-group", Kind::Value).shows("<KIND>"),
+            Opt::WorkspaceBehavior => many("workspace-behavior", Kind::Refused),
+            Opt::PrintCommandList => flag("print-command-list"),
+            Opt::NoManifestPath => flag("no-manifest-path"),
+            Opt::Verbose => many("verbose", Kind::Flag).lettered('v'),
+            Opt::Color => once("color", Kind::Value).shows("<WHEN>"),
+            Opt::Help => many("help", Kind::Help).lettered('h'),
+            Opt::Version => many("version", Kind::Version).lettered('V'),
+            Opt::NoDefaultFeatures => many("no-default-features", Kind::Flag),
+            Opt::AllFeatures => many("all-features", Kind::Flag),
+            Opt::IncludeDepsFeatures => flag("include-deps-features"),
+        }
+    }
+
+    /// What the help tells of the option, where it has a row for it.
+    fn told(self) -> Option<HelpText>
+        ensures { is_some result ≡ (entry_of self).in_help }
+    {
+        match self {
+            Opt::Package => brief("Package(s) to check"),
+            Opt::All => brief("Alias for --workspace"),
+            Opt::Workspace => brief("Perform command for all packages in the workspace"),
+            Opt::Exclude => brief("Exclude packages from the check"),
+            Opt::ManifestPath => brief("Path to Cargo.toml"),
+            Opt::Locked => brief("Require Cargo.lock is up to date"),
+            Opt::Features => brief("Space or comma separated list of features to activate"),
+            Opt::EachFeature => explained(
                 "Perform for each feature of the package",
                 &[
                     ALSO_WITHOUT_DEFAULT,
                     "When this flag is not used together with --exclude-features (--skip) and --include-features and there are multiple features, this also includes runs with just --all-features flag.",
                 ],
             ),
-            Opt::FeaturePowerset => once("feature-powerset", Kind::Flag).told(
+            Opt::FeaturePowerset => explained(
                 "Perform for the feature powerset of the package",
                 &[
                     ALSO_WITHOUT_DEFAULT,
                     "When this flag is used together with --depth or namespaced features (-Z namespaced-features) and not used together with --exclude-features (--skip) and --include-features and there are multiple features, this also includes runs with just --all-features flag.",
                 ],
             ),
-            Opt::OptionalDeps => once("optional-deps", Kind::OptionalNames)
-                .shows("[DEPS]...")
-                .told(
-                    "Use optional dependencies as features",
-                    &[
-                        "If DEPS are not specified, all optional dependencies are considered as features.",
-                        WITH_FEATURE_SETS,
-                    ],
-                ),
-            Opt::Skip => many("skip", Kind::Names)
-                .shows("<FEATURES>...")
-                .told("Alias for --exclude-features", &[]),
-            Opt::ExcludeFeatures => many("exclude-features", Kind::Names)
-                .shows("<FEATURES>...")
-                .told(
-                    "Space or comma separated list of features to exclude",
-                    &[
-                        "To exclude run of default feature, using value `--exclude-features default`.",
-                        "To exclude run of just --no-default-features flag, using --exclude-no-default-features flag.",
-                        "To exclude run of just --all-features flag, using --exclude-all-features flag.",
-                        WITH_FEATURE_SETS,
-                    ],
-                ),
-            Opt::ExcludeNoDefaultFeatures => once("exclude-no-default-features", Kind::Flag).told(
+            Opt::OptionalDeps => explained(
+                "Use optional dependencies as features",
+                &[
+                    "If DEPS are not specified, all optional dependencies are considered as features.",
+                    WITH_FEATURE_SETS,
+                ],
+            ),
+            Opt::Skip => brief("Alias for --exclude-features"),
+            Opt::ExcludeFeatures => explained(
+                "Space or comma separated list of features to exclude",
+                &[
+                    "To exclude run of default feature, using value `--exclude-features default`.",
+                    "To exclude run of just --no-default-features flag, using --exclude-no-default-features flag.",
+                    "To exclude run of just --all-features flag, using --exclude-all-features flag.",
+                    WITH_FEATURE_SETS,
+                ],
+            ),
+            Opt::ExcludeNoDefaultFeatures => explained(
                 "Exclude run of just --no-default-features flag",
                 &[WITH_FEATURE_SETS],
             ),
-            Opt::ExcludeAllFeatures => once("exclude-all-features", Kind::Flag).told(
+            Opt::ExcludeAllFeatures => explained(
                 "Exclude run of just --all-features flag",
                 &[WITH_FEATURE_SETS],
             ),
-            Opt::Depth => once("depth", Kind::Value).shows("<NUM>").told(
+            Opt::Depth => explained(
                 "Specify a max number of simultaneous feature flags of --feature-powerset",
                 &[
                     "If NUM is set to 1, --feature-powerset is equivalent to --each-feature.",
                     WITH_POWERSET,
                 ],
             ),
-            Opt::GroupFeatures => many("group-features", Kind::Value)
-                .shows("<FEATURES>...")
-                .told(
-                    "Space or comma separated list of features to group",
-                    &[
-                        "This treats the specified features as if it were a single feature.",
-                        "To specify multiple groups, use this option multiple times: `--group-features a,b --group-features c,d`",
-                        WITH_POWERSET,
-                    ],
-                ),
-            Opt::Target => many("target", Kind::Value).shows("<TRIPLE>").told(
+            Opt::GroupFeatures => explained(
+                "Space or comma separated list of features to group",
+                &[
+                    "This treats the specified features as if it were a single feature.",
+                    "To specify multiple groups, use this option multiple times: `--group-features a,b --group-features c,d`",
+                    WITH_POWERSET,
+                ],
+            ),
+            Opt::Target => explained(
                 "Build for specified target triple",
                 &[
                     "Comma-separated lists of targets are not supported, but you can specify the whole --target option multiple times to do multiple targets.",
                     "This is actually not a cargo-hack option, it is interpreted by Cargo itself.",
                 ],
             ),
-            Opt::MutuallyExclusiveFeatures => many("mutually-exclusive-features", Kind::Value)
-                .shows("<FEATURES>...")
-                .told(
-                    "Space or comma separated list of features to not use together",
-                    &[
-                        "To specify multiple groups, use this option multiple times: `--mutually-exclusive-features a,b --mutually-exclusive-features c,d`",
-                        WITH_POWERSET,
-                    ],
-                ),
-            Opt::AllowTogether => many("allow-together", Kind::Value)
-                .shows("<PKG=FEATURES>...")
-                .told(
-                    "Lift one group of --mutually-exclusive-features for one package",
-                    &[
-                        "This flag can only be used together with --mutually-exclusive-features flag.",
-                    ],
-                ),
-            Opt::AtLeastOneOf => many("at-least-one-of", Kind::Value)
-                .shows("<FEATURES>...")
-                .told(
-                    "Space or comma separated list of features. Skips sets of features that don't enable any of the features listed",
-                    &[
-                        "To specify multiple groups, use this option multiple times: `--at-least-one-of a,b --at-least-one-of c,d`",
-                        WITH_POWERSET,
-                    ],
-                ),
-            Opt::IncludeFeatures => many("include-features", Kind::Names)
-                .shows("<FEATURES>...")
-                .told(
-                    "Include only the specified features in the feature combinations instead of package features",
-                    &[WITH_FEATURE_SETS],
-                ),
-            Opt::NoDevDeps => once("no-dev-deps", Kind::Flag).told(
+            Opt::MutuallyExclusiveFeatures => explained(
+                "Space or comma separated list of features to not use together",
+                &[
+                    "To specify multiple groups, use this option multiple times: `--mutually-exclusive-features a,b --mutually-exclusive-features c,d`",
+                    WITH_POWERSET,
+                ],
+            ),
+            Opt::AllowTogether => explained(
+                "Lift one group of --mutually-exclusive-features for one package",
+                &["This flag can only be used together with --mutually-exclusive-features flag."],
+            ),
+            Opt::AtLeastOneOf => explained(
+                "Space or comma separated list of features. Skips sets of features that don't enable any of the features listed",
+                &[
+                    "To specify multiple groups, use this option multiple times: `--at-least-one-of a,b --at-least-one-of c,d`",
+                    WITH_POWERSET,
+                ],
+            ),
+            Opt::IncludeFeatures => explained(
+                "Include only the specified features in the feature combinations instead of package features",
+                &[WITH_FEATURE_SETS],
+            ),
+            Opt::NoDevDeps => explained(
                 "Perform without dev-dependencies",
                 &[
                     "Note that this flag removes dev-dependencies from real `Cargo.toml` while cargo-hack is running and restores it when finished.",
                 ],
             ),
-            Opt::RemoveDevDeps => once("remove-dev-deps", Kind::Flag).told(
+            Opt::RemoveDevDeps => brief(
                 "Equivalent to --no-dev-deps flag except for does not restore the original `Cargo.toml` after performed",
-                &[],
             ),
-            Opt::NoPrivate => once("no-private", Kind::Flag).told(
-                "Perform without `publish = false` crates",
-                &[],
-            ),
-            Opt::IgnorePrivate => once("ignore-private", Kind::Flag).told(
-                "Skip to perform on `publish = false` packages",
-                &[],
-            ),
-            Opt::IgnoreUnknownFeatures => once("ignore-unknown-features", Kind::Flag).told(
+            Opt::NoPrivate => brief("Perform without `publish = false` crates"),
+            Opt::IgnorePrivate => brief("Skip to perform on `publish = false` packages"),
+            Opt::IgnoreUnknownFeatures => explained(
                 "Skip passing --features flag to `cargo` if that feature does not exist in the package",
                 &[
                     "This flag can be used with --features, --include-features, or --group-features.",
                 ],
             ),
-            Opt::RustVersion => once("rust-version", Kind::Flag).told(
+            Opt::RustVersion => explained(
                 "Perform commands on `package.rust-version`",
                 &["This cannot be used with --version-range."],
             ),
-            Opt::VersionRange => once("version-range", Kind::Value)
-                .shows("[START]..[=END]")
-                .told(
-                    "Perform commands on a specified (inclusive) range of Rust versions",
-                    &[
-                        "If the upper bound of the range is omitted, the latest stable compiler is used as the upper bound.",
-                        "If the lower bound of the range is omitted, the value of the `rust-version` field in `Cargo.toml` is used as the lower bound.",
-                        "Note that ranges are always inclusive ranges.",
-                    ],
-                ),
-            Opt::VersionStep => once("version-step", Kind::Value).shows("<NUM>").told(
+            Opt::VersionRange => explained(
+                "Perform commands on a specified (inclusive) range of Rust versions",
+                &[
+                    "If the upper bound of the range is omitted, the latest stable compiler is used as the upper bound.",
+                    "If the lower bound of the range is omitted, the value of the `rust-version` field in `Cargo.toml` is used as the lower bound.",
+                    "Note that ranges are always inclusive ranges.",
+                ],
+            ),
+            Opt::VersionStep => explained(
                 "Specify the version interval of --version-range (default to `1`)",
                 &[WITH_VERSION_RANGE],
             ),
-            Opt::CleanPerRun => once("clean-per-run", Kind::Flag).told(
+            Opt::CleanPerRun => explained(
                 "Remove artifacts for that package before running the command",
                 &[
                     "If used this flag with --workspace, --each-feature, or --feature-powerset, artifacts will be removed before each run.",
                     "Note that dependencies artifacts will be preserved.",
                 ],
             ),
-            Opt::CleanPerVersion => once("clean-per-version", Kind::Flag).told(
+            Opt::CleanPerVersion => explained(
                 "Remove artifacts per Rust version",
                 &[
                     "Note that dependencies artifacts will also be removed.",
                     WITH_VERSION_RANGE,
                 ],
             ),
-            Opt::KeepGoing => once("keep-going", Kind::Flag).told("Keep going on failure", &[]),
-            Opt::Partition => once("partition", Kind::Value).shows("<M/N>").told(
-                "Partition runs and execute only its subset according to M/N",
-                &[],
-            ),
-            Opt::PartitionKind => once("partition-kind", Kind::Value).shows("<KIND>").told(
+            Opt::KeepGoing => brief("Keep going on failure"),
+            Opt::Partition => brief("Partition runs and execute only its subset according to M/N"),
+            Opt::PartitionKind => explained(
                 "Partitioning: block, turn",
                 &["This flag can only be used together with --partition flag."],
             ),
-            Opt::LogGroup => once("log-group", Kind::Value).shows("<KIND>").told(
+            Opt::LogGroup => explained(
                 "Log grouping: none, github-actions",
                 &["If this option is not used, the environment will be automatically detected."],
             ),
-            Opt::WorkspaceBehavior => many("workspace-behavior", Kind::Refused).told(
+            Opt::WorkspaceBehavior => explained(
                 "Use Cargo's workspace handling",
                 &[
                     "This is for use cases where cargo-hack's workspace handling does not work.",
                     "Note that this is incompatible with flags that require cargo-hack's workspace handling to work properly (e.g., `--each-feature`, `--feature-powerset`, etc.).",
                 ],
             ),
-            Opt::PrintCommandList => once("print-command-list", Kind::Flag).told(
-                "Print commands without run (Unstable)",
-                &[],
-            ),
-            Opt::NoManifestPath => once("no-manifest-path", Kind::Flag).told(
-                "Do not pass --manifest-path option to cargo (Unstable)",
-                &[],
-            ),
-            Opt::Verbose => many("verbose", Kind::Flag)
-                .lettered('v')
-                .told("Use verbose output", &[]),
-            Opt::Color => once("color", Kind::Value).shows("<WHEN>").told(
+            Opt::PrintCommandList => brief("Print commands without run (Unstable)"),
+            Opt::NoManifestPath => brief("Do not pass --manifest-path option to cargo (Unstable)"),
+            Opt::Verbose => brief("Use verbose output"),
+            Opt::Color => explained(
                 "Coloring: auto, always, never",
                 &["This flag will be propagated to cargo."],
             ),
-            Opt::Help => many("help", Kind::Help)
-                .lettered('h')
-                .told("Prints help information", &[]),
-            Opt::Version => many("version", Kind::Version)
-                .lettered('V')
-                .told("Prints version information", &[]),
-            Opt::NoDefaultFeatures => many("no-default-features", Kind::Flag),
-            Opt::AllFeatures => many("all-features", Kind::Flag),
-            Opt::IncludeDepsFeatures => once("include-deps-features", Kind::Flag),
+            Opt::Help => brief("Prints help information"),
+            Opt::Version => brief("Prints version information"),
+            Opt::NoDefaultFeatures | Opt::AllFeatures | Opt::IncludeDepsFeatures => None,
         }
     }
 
