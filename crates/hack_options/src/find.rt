@@ -1,7 +1,7 @@
 //! Finds the option that a word names.
 
-ghost use Rattle.std.specs.Prelude.{◌≡◌, ◌↔◌, Some};
-ghost use Rattle.hack_options.specs.Find.{long_option, short_option};
+ghost use Rattle.std.specs.Prelude.{◌≡◌, Some};
+ghost use Rattle.hack_options.specs.Find.{Finds, long_option, short_option};
 ghost use Rattle.hack_options.specs.Table.{entry_of, named, lettered};
 
 use crate::{ALL, Opt};
@@ -33,7 +33,7 @@ fn find_letter(options: &[Opt], letter: char) -> Option<Opt>
 /// The option of a long name, written without its two dashes.
 pub fn long(name: &str) -> Option<Opt>
     ensures value { result ≡ long_option name.now }
-    ensures each { (option : Opt) → (result ≡ Some option) ↔ ((entry_of option).name ≡ name.now) }
+    ensures each { Finds result (λ option. (entry_of option).name ≡ name.now) }
 {
     find_name(&ALL, name)
 }
@@ -41,7 +41,7 @@ pub fn long(name: &str) -> Option<Opt>
 /// The option of a letter.
 pub fn short(letter: char) -> Option<Opt>
     ensures value { result ≡ short_option letter }
-    ensures each { (option : Opt) → (result ≡ Some option) ↔ ((entry_of option).letter ≡ Some letter) }
+    ensures each { Finds result (λ option. (entry_of option).letter ≡ Some letter) }
 {
     find_letter(&ALL, letter)
 }

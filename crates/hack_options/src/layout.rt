@@ -2,7 +2,7 @@
 
 ghost use Rattle.std.specs.Prelude.{◌≡◌, true, false};
 
-use crate::table::{HelpText, Row};
+use crate::table::HelpText;
 use crate::{ALL, Opt};
 use std::fmt;
 
@@ -82,7 +82,9 @@ struct ShortRow {
 
 impl fmt::Display for ShortRow {
     fn fmt<W: fmt::Write>(&self, f: &mut fmt::Formatter<W>) -> fmt::Result {
-        let name = Name::of(self.option);
+        let name = Name {
+            option: self.option,
+        };
         let pad = Spaces {
             count: name.places_left(),
         };
@@ -103,7 +105,9 @@ struct LongRow {
 
 impl fmt::Display for LongRow {
     fn fmt<W: fmt::Write>(&self, f: &mut fmt::Formatter<W>) -> fmt::Result {
-        let name = Name::of(self.option);
+        let name = Name {
+            option: self.option,
+        };
         let indent = Spaces { count: LONG_INDENT };
         let text = Wrapped {
             text: self.told.text,
@@ -125,21 +129,13 @@ impl fmt::Display for LongRow {
 #[derive(Clone, Copy)]
 struct Name {
     option: Opt,
-    row: Row,
 }
 
 impl Name {
-    fn of(option: Opt) -> Name {
-        Name {
-            option,
-            row: option.row(),
-        }
-    }
-
     /// How many places of the short form the name and the value leave.
     fn places_left(&self) -> usize {
         let left = NAME_PLACES.saturating_sub("--".len() + self.option.shown_name().len());
-        match self.row.value {
+        match self.option.row().value {
             "" => left,
             value => left.saturating_sub(" ".len() + value.len()),
         }
@@ -148,12 +144,13 @@ impl Name {
 
 impl fmt::Display for Name {
     fn fmt<W: fmt::Write>(&self, f: &mut fmt::Formatter<W>) -> fmt::Result {
-        match self.row.letter {
-            Some(letter) if self.row.letter_shown => write!(f, "-{letter}, ")?,
+        let row = self.option.row();
+        match row.letter {
+            Some(letter) if row.letter_shown => write!(f, "-{letter}, ")?,
             _ => write!(f, "    ")?,
         }
         write!(f, "{}", self.option)?;
-        match self.row.value {
+        match row.value {
             "" => Ok(()),
             value => write!(f, " {value}"),
         }

@@ -1,6 +1,6 @@
 //! How messages name options.
 
-ghost use Rattle.std.specs.Prelude.{◌≡◌, Some};
+ghost use Rattle.std.specs.Prelude.{◌≡◌, ◌&&◌, Some};
 ghost use Rattle.hack_options.specs.Texts.{shown, shown_name as name_of, shown_with_alias, aliased, usage_text, has_usage as named_in_help, shows_letter as letter_in_help};
 
 use crate::{Opt, long, short};
@@ -52,11 +52,7 @@ impl fmt::Display for Usage<'_> {
                 _ => write!(f, "--{name}"),
             },
             Usage::Short(letter) => match short(*letter) {
-                Some(option) if option.has_usage() && option.shows_letter() => write!(
-                    f,
-                    "{}",
-                    RowUsage { option }
-                ),
+                Some(option) if option.has_letter_usage() => write!(f, "{}", RowUsage { option }),
                 _ => write!(f, "-{letter}"),
             },
         }
@@ -108,10 +104,10 @@ impl Opt {
         }
     }
 
-    /// Whether the help shows the option's letter.
-    fn shows_letter(self) -> bool
-        ensures { result ≡ letter_in_help self }
+    /// Whether a row of the help has just this name, and its letter too.
+    fn has_letter_usage(self) -> bool
+        ensures { result ≡ (named_in_help self && letter_in_help self) }
     {
-        self.row().letter_shown
+        self.has_usage() && self.row().letter_shown
     }
 }

@@ -44,82 +44,6 @@ pub(crate) struct HelpText {
     pub paragraphs: &'static [&'static str],
 }
 
-/// An option that stands once and takes nothing.
-fn flag(name: &'static str) -> Row
-    ensures { entry result ≡ out_of_help (flag_entry name.now) }
-{
-    once(name, Kind::Flag)
-}
-
-/// An option that stands once.
-fn once(name: &'static str, kind: Kind) -> Row
-    ensures { entry result ≡ out_of_help (once_entry name.now kind) }
-{
-    Row {
-        letter: None,
-        letter_shown: true,
-        name,
-        kind,
-        once: true,
-        value: "",
-        told: None,
-    }
-}
-
-/// An option that may be repeated.
-fn many(name: &'static str, kind: Kind) -> Row
-    ensures { entry result ≡ out_of_help (many_entry name.now kind) }
-{
-    Row {
-        once: false,
-        ..once(name, kind)
-    }
-}
-
-impl Row {
-    /// The same option, written as a letter too.
-    fn lettered(self, letter: char) -> Row
-        ensures { entry result ≡ record (entry self) { letter = Some letter } }
-    {
-        Row {
-            letter: Some(letter),
-            ..self
-        }
-    }
-
-    /// The same, where the help doesn't show the letter.
-    fn hidden_letter(self, letter: char) -> Row
-        ensures { entry result ≡ record (entry self) { letter = Some letter; letter_shown = false } }
-    {
-        Row {
-            letter: Some(letter),
-            letter_shown: false,
-            ..self
-        }
-    }
-
-    /// The same option, with the value that messages and the help show.
-    fn shows(self, value: &'static str) -> Row
-        ensures { entry result ≡ record (entry self) { value = value.now } }
-    {
-        Row { value, ..self }
-    }
-}
-
-/// A few words.
-fn brief(text: &'static str) -> Option<HelpText>
-    ensures { IsSome result }
-{
-    explained(text, &[])
-}
-
-/// A few words, and paragraphs in the long help.
-fn explained(text: &'static str, paragraphs: &'static [&'static str]) -> Option<HelpText>
-    ensures { IsSome result }
-{
-    Some(HelpText { text, paragraphs })
-}
-
 /// All options, in the order of the help; those that the help doesn't show stand last.
 pub const ALL: [Opt; 45] = [
     Opt::Package,
@@ -185,59 +109,54 @@ impl Opt {
         ensures { entry result ≡ out_of_help (entry_of self) }
     {
         match self {
-            Opt::Package => many("package", Kind::Value)
-                .lettered('p')
-                .shows("<SPEC>..."),
+            Opt::Package => many("package", Kind::Value, "<SPEC>...").lettered('p'),
             Opt::All => flag("all"),
             Opt::Workspace => flag("workspace"),
-            Opt::Exclude => many("exclude", Kind::Value).shows("<SPEC>..."),
-            Opt::ManifestPath => once("manifest-path", Kind::Value)
-                .hidden_letter('m')
-                .shows("<PATH>"),
+            Opt::Exclude => many("exclude", Kind::Value, "<SPEC>..."),
+            Opt::ManifestPath => once("manifest-path", Kind::Value, "<PATH>").hidden_letter('m'),
             Opt::Locked => flag("locked"),
-            Opt::Features => many("features", Kind::Names)
-                .lettered('F')
-                .shows("<FEATURES>..."),
+            Opt::Features => many("features", Kind::Names, "<FEATURES>...").lettered('F'),
             Opt::EachFeature => flag("each-feature"),
             Opt::FeaturePowerset => flag("feature-powerset"),
-            Opt::OptionalDeps => once("optional-deps", Kind::OptionalNames).shows("[DEPS]..."),
-            Opt::Skip => many("skip", Kind::Names).shows("<FEATURES>..."),
-            Opt::ExcludeFeatures => many("exclude-features", Kind::Names).shows("<FEATURES>..."),
+            Opt::OptionalDeps => once("optional-deps", Kind::OptionalNames, "[DEPS]..."),
+            Opt::Skip => many("skip", Kind::Names, "<FEATURES>..."),
+            Opt::ExcludeFeatures => many("exclude-features", Kind::Names, "<FEATURES>..."),
             Opt::ExcludeNoDefaultFeatures => flag("exclude-no-default-features"),
             Opt::ExcludeAllFeatures => flag("exclude-all-features"),
-            Opt::Depth => once("depth", Kind::Value).shows("<NUM>"),
-            Opt::GroupFeatures => many("group-features", Kind::Value).shows("<FEATURES>..."),
-            Opt::Target => many("target", Kind::Value).shows("<TRIPLE>"),
+            Opt::Depth => once("depth", Kind::Value, "<NUM>"),
+            Opt::GroupFeatures => many("group-features", Kind::Value, "<FEATURES>..."),
+            Opt::Target => many("target", Kind::Value, "<TRIPLE>"),
             Opt::MutuallyExclusiveFeatures => many(
                 "mutually-exclusive-features",
                 Kind::Value,
-            ).shows("<FEATURES>..."),
-            Opt::AllowTogether => many("allow-together", Kind::Value).shows("<PKG=FEATURES>..."),
-            Opt::AtLeastOneOf => many("at-least-one-of", Kind::Value).shows("<FEATURES>..."),
-            Opt::IncludeFeatures => many("include-features", Kind::Names).shows("<FEATURES>..."),
+                "<FEATURES>...",
+            ),
+            Opt::AllowTogether => many("allow-together", Kind::Value, "<PKG=FEATURES>..."),
+            Opt::AtLeastOneOf => many("at-least-one-of", Kind::Value, "<FEATURES>..."),
+            Opt::IncludeFeatures => many("include-features", Kind::Names, "<FEATURES>..."),
             Opt::NoDevDeps => flag("no-dev-deps"),
             Opt::RemoveDevDeps => flag("remove-dev-deps"),
             Opt::NoPrivate => flag("no-private"),
             Opt::IgnorePrivate => flag("ignore-private"),
             Opt::IgnoreUnknownFeatures => flag("ignore-unknown-features"),
             Opt::RustVersion => flag("rust-version"),
-            Opt::VersionRange => once("version-range", Kind::Value).shows("[START]..[=END]"),
-            Opt::VersionStep => once("version-step", Kind::Value).shows("<NUM>"),
+            Opt::VersionRange => once("version-range", Kind::Value, "[START]..[=END]"),
+            Opt::VersionStep => once("version-step", Kind::Value, "<NUM>"),
             Opt::CleanPerRun => flag("clean-per-run"),
             Opt::CleanPerVersion => flag("clean-per-version"),
             Opt::KeepGoing => flag("keep-going"),
-            Opt::Partition => once("partition", Kind::Value).shows("<M/N>"),
-            Opt::PartitionKind => once("partition-kind", Kind::Value).shows("<KIND>"),
-            Opt::LogGroup => once("log-group", Kind::Value).shows("<KIND>"),
-            Opt::WorkspaceBehavior => many("workspace-behavior", Kind::Refused),
+            Opt::Partition => once("partition", Kind::Value, "<M/N>"),
+            Opt::PartitionKind => once("partition-kind", Kind::Value, "<KIND>"),
+            Opt::LogGroup => once("log-group", Kind::Value, "<KIND>"),
+            Opt::WorkspaceBehavior => many("workspace-behavior", Kind::Refused, ""),
             Opt::PrintCommandList => flag("print-command-list"),
             Opt::NoManifestPath => flag("no-manifest-path"),
-            Opt::Verbose => many("verbose", Kind::Flag).lettered('v'),
-            Opt::Color => once("color", Kind::Value).shows("<WHEN>"),
-            Opt::Help => many("help", Kind::Help).lettered('h'),
-            Opt::Version => many("version", Kind::Version).lettered('V'),
-            Opt::NoDefaultFeatures => many("no-default-features", Kind::Flag),
-            Opt::AllFeatures => many("all-features", Kind::Flag),
+            Opt::Verbose => many("verbose", Kind::Flag, "").lettered('v'),
+            Opt::Color => once("color", Kind::Value, "<WHEN>"),
+            Opt::Help => many("help", Kind::Help, "").lettered('h'),
+            Opt::Version => many("version", Kind::Version, "").lettered('V'),
+            Opt::NoDefaultFeatures => many("no-default-features", Kind::Flag, ""),
+            Opt::AllFeatures => many("all-features", Kind::Flag, ""),
             Opt::IncludeDepsFeatures => flag("include-deps-features"),
         }
     }
@@ -432,4 +351,73 @@ impl Opt {
     {
         self == other
     }
+}
+
+/// An option that stands once and takes nothing.
+fn flag(name: &'static str) -> Row
+    ensures { entry result ≡ out_of_help (flag_entry name.now) }
+{
+    once(name, Kind::Flag, "")
+}
+
+/// An option that stands once, with the value that the help shows behind its name.
+fn once(name: &'static str, kind: Kind, value: &'static str) -> Row
+    ensures { entry result ≡ out_of_help (once_entry name.now kind value.now) }
+{
+    Row {
+        letter: None,
+        letter_shown: true,
+        name,
+        kind,
+        once: true,
+        value,
+        told: None,
+    }
+}
+
+/// An option that may be repeated, with the value that the help shows behind its name.
+fn many(name: &'static str, kind: Kind, value: &'static str) -> Row
+    ensures { entry result ≡ out_of_help (many_entry name.now kind value.now) }
+{
+    Row {
+        once: false,
+        ..once(name, kind, value)
+    }
+}
+
+impl Row {
+    /// The same option, written as a letter too.
+    fn lettered(self, letter: char) -> Row
+        ensures { entry result ≡ record (entry self) { letter = Some letter } }
+    {
+        Row {
+            letter: Some(letter),
+            ..self
+        }
+    }
+
+    /// The same, where the help doesn't show the letter.
+    fn hidden_letter(self, letter: char) -> Row
+        ensures { entry result ≡ record (entry self) { letter = Some letter; letter_shown = false } }
+    {
+        Row {
+            letter: Some(letter),
+            letter_shown: false,
+            ..self
+        }
+    }
+}
+
+/// A few words.
+fn brief(text: &'static str) -> Option<HelpText>
+    ensures { IsSome result }
+{
+    explained(text, &[])
+}
+
+/// A few words, and paragraphs in the long help.
+fn explained(text: &'static str, paragraphs: &'static [&'static str]) -> Option<HelpText>
+    ensures { IsSome result }
+{
+    Some(HelpText { text, paragraphs })
 }
