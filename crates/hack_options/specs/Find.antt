@@ -1,7 +1,7 @@
 -- The options that words name.
-use Rattle.std.specs.Prelude.{ℕ, List, Option}
+use Rattle.std.specs.Prelude.{ℕ, ◌≡◌, ◌↔◌, List, Option, Some}
 use Rattle.hack_options.specs.declared.Opt.{Opt}
-use Rattle.hack_options.specs.declared.rows.TheConstants.{ALL}
+use Rattle.hack_options.specs.declared.table.TheConstants.{ALL}
 use Rattle.hack_options.specs.Table.{named, lettered}
 
 -- the option of a long name
@@ -11,3 +11,7 @@ long_option name = named name ALL
 -- the option of a letter
 abbrev pub short_option : ℕ → Option Opt
 short_option letter = lettered letter ALL
+
+-- the answer is the one option of which this holds; none where it holds of none
+abbrev pub Finds : Option Opt → (Opt → Type 0) → Type 0
+Finds found P = (option : Opt) → (found ≡ Some option) ↔ P option

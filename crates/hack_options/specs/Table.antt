@@ -1,5 +1,5 @@
--- The table of options: how each is written and cut.
-use Rattle.std.specs.Prelude.{ℕ, List, [], ◌∷◌, ◌==◌, Bool, true, false, Option, Some, None, codes, slice_get, if◌then◌else◌}
+-- The table of options: how each is written and cut, and how the help shows it.
+use Rattle.std.specs.Prelude.{ℕ, List, [], ◌∷◌, ◌==◌, Bool, true, false, Option, Some, None, codes, slice_get, is_some, if◌then◌else◌}
 use Rattle.std.specs.Str.{bytes_eq}
 use denote.Enum.Bare.{sameb}
 use Rattle.hack_options.specs.contracts.Opt.{the_type}
@@ -7,78 +7,93 @@ use Rattle.hack_options.specs.declared.Opt.{Opt}
 use Rattle.hack_options.specs.declared.Opt.TheVariants as opt
 use Rattle.hack_options.specs.declared.Kind.{Kind}
 use Rattle.hack_options.specs.declared.Kind.TheVariants.{Flag, Value, Names, OptionalNames, Help, Version, Refused}
-use Rattle.hack_options.specs.declared.Row.{Row}
+use Rattle.hack_options.specs.declared.table.Row.{Row}
 
--- how an option is written and cut
+-- a row of the table: how an option is written and cut, and whether and how the help shows it
 pub record Entry : Type 0 where
   pub letter : Option ℕ
+  pub letter_shown : Bool
   pub name : List ℕ
   pub kind : Kind
   pub once : Bool
+  pub value : List ℕ
+  pub in_help : Bool
 
 -- what a row says of that
 abbrev pub entry : Row → Entry
-entry row = record { letter = row.letter; name = row.name.now; kind = row.kind; once = row.once }
+entry row = record { letter = row.letter; letter_shown = row.letter_shown; name = row.name.now; kind = row.kind; once = row.once; value = row.value.now; in_help = is_some row.told }
 
--- an option without a letter that stands once
-abbrev pub once : List ℕ → Kind → Entry
-once name kind = record { letter = None; name = name; kind = kind; once = true }
+-- an option without a letter that stands once, with the value that the help shows behind its name
+abbrev pub once : List ℕ → Kind → List ℕ → Entry
+once name kind value = record { letter = None; letter_shown = true; name = name; kind = kind; once = true; value = value; in_help = true }
 
--- an option without a letter that may be repeated
-abbrev pub many : List ℕ → Kind → Entry
-many name kind = record { letter = None; name = name; kind = kind; once = false }
+-- an option without a letter that stands once and takes nothing
+abbrev pub flag : List ℕ → Entry
+flag name = once name Flag []
+
+-- an option without a letter that may be repeated, with the value that the help shows
+abbrev pub many : List ℕ → Kind → List ℕ → Entry
+many name kind value = record (once name kind value) { once = false }
 
 -- the same option, that the one letter of the text names too
 abbrev pub or_letter : List ℕ → Entry → Entry
 or_letter text e = record e { letter = slice_get text 0 }
 
--- how each option is written and cut
+-- the same, where the help doesn't show the letter
+abbrev pub or_hidden_letter : List ℕ → Entry → Entry
+or_hidden_letter text e = record e { letter = slice_get text 0; letter_shown = false }
+
+-- the same option, of which the help tells nothing
+abbrev pub out_of_help : Entry → Entry
+out_of_help e = record e { in_help = false }
+
+-- the row of each option
 abbrev pub entry_of : Opt → Entry
-entry_of opt.Package = or_letter (codes "p") (many (codes "package") Value)
-entry_of opt.All = once (codes "all") Flag
-entry_of opt.Workspace = once (codes "workspace") Flag
-entry_of opt.Exclude = many (codes "exclude") Value
-entry_of opt.ManifestPath = or_letter (codes "m") (once (codes "manifest-path") Value)
-entry_of opt.Locked = once (codes "locked") Flag
-entry_of opt.Features = or_letter (codes "F") (many (codes "features") Names)
-entry_of opt.EachFeature = once (codes "each-feature") Flag
-entry_of opt.FeaturePowerset = once (codes "feature-powerset") Flag
-entry_of opt.OptionalDeps = once (codes "optional-deps") OptionalNames
-entry_of opt.Skip = many (codes "skip") Names
-entry_of opt.ExcludeFeatures = many (codes "exclude-features") Names
-entry_of opt.ExcludeNoDefaultFeatures = once (codes "exclude-no-default-features") Flag
-entry_of opt.ExcludeAllFeatures = once (codes "exclude-all-features") Flag
-entry_of opt.Depth = once (codes "depth") Value
-entry_of opt.GroupFeatures = many (codes "group-features") Value
-entry_of opt.Target = many (codes "target") Value
-entry_of opt.MutuallyExclusiveFeatures = many (codes "mutually-exclusive-features") Value
-entry_of opt.AllowTogether = many (codes "allow-together") Value
-entry_of opt.AtLeastOneOf = many (codes "at-least-one-of") Value
-entry_of opt.IncludeFeatures = many (codes "include-features") Names
-entry_of opt.NoDevDeps = once (codes "no-dev-deps") Flag
-entry_of opt.RemoveDevDeps = once (codes "remove-dev-deps") Flag
-entry_of opt.NoPrivate = once (codes "no-private") Flag
-entry_of opt.IgnorePrivate = once (codes "ignore-private") Flag
-entry_of opt.IgnoreUnknownFeatures = once (codes "ignore-unknown-features") Flag
-entry_of opt.RustVersion = once (codes "rust-version") Flag
-entry_of opt.VersionRange = once (codes "version-range") Value
-entry_of opt.VersionStep = once (codes "version-step") Value
-entry_of opt.CleanPerRun = once (codes "clean-per-run") Flag
-entry_of opt.CleanPerVersion = once (codes "clean-per-version") Flag
-entry_of opt.KeepGoing = once (codes "keep-going") Flag
-entry_of opt.Partition = once (codes "partition") Value
-entry_of opt.PartitionKind = once (codes "partition-kind") Value
-entry_of opt.LogGroup = once (codes "log-group") Value
-entry_of opt.WorkspaceBehavior = many (codes "workspace-behavior") Refused
-entry_of opt.PrintCommandList = once (codes "print-command-list") Flag
-entry_of opt.NoManifestPath = once (codes "no-manifest-path") Flag
-entry_of opt.Verbose = or_letter (codes "v") (many (codes "verbose") Flag)
-entry_of opt.Color = once (codes "color") Value
-entry_of opt.Help = or_letter (codes "h") (many (codes "help") Help)
-entry_of opt.Version = or_letter (codes "V") (many (codes "version") Version)
-entry_of opt.NoDefaultFeatures = many (codes "no-default-features") Flag
-entry_of opt.AllFeatures = many (codes "all-features") Flag
-entry_of opt.IncludeDepsFeatures = once (codes "include-deps-features") Flag
+entry_of opt.Package = or_letter (codes "p") (many (codes "package") Value (codes "<SPEC>..."))
+entry_of opt.All = flag (codes "all")
+entry_of opt.Workspace = flag (codes "workspace")
+entry_of opt.Exclude = many (codes "exclude") Value (codes "<SPEC>...")
+entry_of opt.ManifestPath = or_hidden_letter (codes "m") (once (codes "manifest-path") Value (codes "<PATH>"))
+entry_of opt.Locked = flag (codes "locked")
+entry_of opt.Features = or_letter (codes "F") (many (codes "features") Names (codes "<FEATURES>..."))
+entry_of opt.EachFeature = flag (codes "each-feature")
+entry_of opt.FeaturePowerset = flag (codes "feature-powerset")
+entry_of opt.OptionalDeps = once (codes "optional-deps") OptionalNames (codes "[DEPS]...")
+entry_of opt.Skip = many (codes "skip") Names (codes "<FEATURES>...")
+entry_of opt.ExcludeFeatures = many (codes "exclude-features") Names (codes "<FEATURES>...")
+entry_of opt.ExcludeNoDefaultFeatures = flag (codes "exclude-no-default-features")
+entry_of opt.ExcludeAllFeatures = flag (codes "exclude-all-features")
+entry_of opt.Depth = once (codes "depth") Value (codes "<NUM>")
+entry_of opt.GroupFeatures = many (codes "group-features") Value (codes "<FEATURES>...")
+entry_of opt.Target = many (codes "target") Value (codes "<TRIPLE>")
+entry_of opt.MutuallyExclusiveFeatures = many (codes "mutually-exclusive-features") Value (codes "<FEATURES>...")
+entry_of opt.AllowTogether = many (codes "allow-together") Value (codes "<PKG=FEATURES>...")
+entry_of opt.AtLeastOneOf = many (codes "at-least-one-of") Value (codes "<FEATURES>...")
+entry_of opt.IncludeFeatures = many (codes "include-features") Names (codes "<FEATURES>...")
+entry_of opt.NoDevDeps = flag (codes "no-dev-deps")
+entry_of opt.RemoveDevDeps = flag (codes "remove-dev-deps")
+entry_of opt.NoPrivate = flag (codes "no-private")
+entry_of opt.IgnorePrivate = flag (codes "ignore-private")
+entry_of opt.IgnoreUnknownFeatures = flag (codes "ignore-unknown-features")
+entry_of opt.RustVersion = flag (codes "rust-version")
+entry_of opt.VersionRange = once (codes "version-range") Value (codes "[START]..[=END]")
+entry_of opt.VersionStep = once (codes "version-step") Value (codes "<NUM>")
+entry_of opt.CleanPerRun = flag (codes "clean-per-run")
+entry_of opt.CleanPerVersion = flag (codes "clean-per-version")
+entry_of opt.KeepGoing = flag (codes "keep-going")
+entry_of opt.Partition = once (codes "partition") Value (codes "<M/N>")
+entry_of opt.PartitionKind = once (codes "partition-kind") Value (codes "<KIND>")
+entry_of opt.LogGroup = once (codes "log-group") Value (codes "<KIND>")
+entry_of opt.WorkspaceBehavior = many (codes "workspace-behavior") Refused []
+entry_of opt.PrintCommandList = flag (codes "print-command-list")
+entry_of opt.NoManifestPath = flag (codes "no-manifest-path")
+entry_of opt.Verbose = or_letter (codes "v") (many (codes "verbose") Flag [])
+entry_of opt.Color = once (codes "color") Value (codes "<WHEN>")
+entry_of opt.Help = or_letter (codes "h") (many (codes "help") Help [])
+entry_of opt.Version = or_letter (codes "V") (many (codes "version") Version [])
+entry_of opt.NoDefaultFeatures = out_of_help (many (codes "no-default-features") Flag [])
+entry_of opt.AllFeatures = out_of_help (many (codes "all-features") Flag [])
+entry_of opt.IncludeDepsFeatures = out_of_help (flag (codes "include-deps-features"))
 
 -- what an alias stands for
 abbrev pub meaning_of : Opt → Opt

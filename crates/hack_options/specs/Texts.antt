@@ -1,5 +1,5 @@
 -- How messages and the help show options.
-use Rattle.std.specs.Prelude.{ℕ, List, ◌++◌, ◌&&◌, Bool, true, false, Option, Some, None, codes, encode_utf8, if◌then◌else◌}
+use Rattle.std.specs.Prelude.{ℕ, List, ◌++◌, ◌&&◌, Bool, false, Option, Some, None, codes, encode_utf8, if◌then◌else◌}
 use Rattle.hack_options.specs.declared.Opt.{Opt}
 use Rattle.hack_options.specs.declared.Opt.TheVariants as opt
 use Rattle.hack_options.specs.declared.messages.Usage.{Usage}
@@ -24,40 +24,16 @@ shown_with_alias o = shown o
 
 -- the value that the help shows behind the name; nothing where the option takes none, or has it in its name
 abbrev pub value_of : Opt → List ℕ
-value_of opt.Package = codes "<SPEC>..."
-value_of opt.Exclude = codes "<SPEC>..."
-value_of opt.ManifestPath = codes "<PATH>"
-value_of opt.Features = codes "<FEATURES>..."
-value_of opt.OptionalDeps = codes "[DEPS]..."
-value_of opt.Skip = codes "<FEATURES>..."
-value_of opt.ExcludeFeatures = codes "<FEATURES>..."
-value_of opt.Depth = codes "<NUM>"
-value_of opt.GroupFeatures = codes "<FEATURES>..."
-value_of opt.Target = codes "<TRIPLE>"
-value_of opt.MutuallyExclusiveFeatures = codes "<FEATURES>..."
-value_of opt.AllowTogether = codes "<PKG=FEATURES>..."
-value_of opt.AtLeastOneOf = codes "<FEATURES>..."
-value_of opt.IncludeFeatures = codes "<FEATURES>..."
-value_of opt.VersionRange = codes "[START]..[=END]"
-value_of opt.VersionStep = codes "<NUM>"
-value_of opt.Partition = codes "<M/N>"
-value_of opt.PartitionKind = codes "<KIND>"
-value_of opt.LogGroup = codes "<KIND>"
-value_of opt.Color = codes "<WHEN>"
-value_of _ = codes ""
+value_of o = (entry_of o).value
 
 -- whether a row of the help has just this option's name
 abbrev pub has_usage : Opt → Bool
 has_usage opt.WorkspaceBehavior = false
-has_usage opt.NoDefaultFeatures = false
-has_usage opt.AllFeatures = false
-has_usage opt.IncludeDepsFeatures = false
-has_usage _ = true
+has_usage o = (entry_of o).in_help
 
 -- whether the help shows the option's letter
 abbrev pub shows_letter : Opt → Bool
-shows_letter opt.ManifestPath = false
-shows_letter _ = true
+shows_letter o = (entry_of o).letter_shown
 
 -- the name and the value of the option's row
 abbrev pub row_usage : Opt → List ℕ

@@ -2,8 +2,8 @@
 
 ghost use Rattle.std.specs.Prelude.{◌≡◌, true, false};
 
-use crate::ALL;
-use crate::help_rows::HelpRow;
+use crate::table::HelpText;
+use crate::{ALL, Opt};
 use std::fmt;
 
 const HEAD: &str = "cargo-hack
@@ -59,10 +59,10 @@ impl Help {
 impl fmt::Display for Help {
     fn fmt<W: fmt::Write>(&self, f: &mut fmt::Formatter<W>) -> fmt::Result {
         write!(f, "{HEAD}")?;
-        for option in &ALL {
-            match option.help() {
-                Some(row) if self.long => write!(f, "{}", LongRow { row })?,
-                Some(row) => write!(f, "{}", ShortRow { row })?,
+        for &option in &ALL {
+            match option.row().told {
+                Some(told) if self.long => write!(f, "{}", LongRow { option, told })?,
+                Some(told) => write!(f, "{}", ShortRow { option, told })?,
                 None => {}
             }
         }
@@ -76,17 +76,20 @@ impl fmt::Display for Help {
 /// A row in the short form.
 #[derive(Clone, Copy)]
 struct ShortRow {
-    row: HelpRow,
+    option: Opt,
+    told: HelpText,
 }
 
 impl fmt::Display for ShortRow {
     fn fmt<W: fmt::Write>(&self, f: &mut fmt::Formatter<W>) -> fmt::Result {
-        let name = Name { row: self.row };
+        let name = Name {
+            option: self.option,
+        };
         let pad = Spaces {
             count: name.places_left(),
         };
         let text = Wrapped {
-            text: self.row.text,
+            text: self.told.text,
             indent: SHORT_INDENT,
         };
         writeln!(f, "    {name}{pad} {text}")
@@ -96,19 +99,22 @@ impl fmt::Display for ShortRow {
 /// A row in the long form.
 #[derive(Clone, Copy)]
 struct LongRow {
-    row: HelpRow,
+    option: Opt,
+    told: HelpText,
 }
 
 impl fmt::Display for LongRow {
     fn fmt<W: fmt::Write>(&self, f: &mut fmt::Formatter<W>) -> fmt::Result {
-        let name = Name { row: self.row };
+        let name = Name {
+            option: self.option,
+        };
         let indent = Spaces { count: LONG_INDENT };
         let text = Wrapped {
-            text: self.row.text,
+            text: self.told.text,
             indent: LONG_INDENT,
         };
         write!(f, "    {name}\n{indent}{text}.\n\n")?;
-        for &paragraph in self.row.paragraphs {
+        for &paragraph in self.told.paragraphs {
             let text = Wrapped {
                 text: paragraph,
                 indent: LONG_INDENT,
@@ -122,14 +128,14 @@ impl fmt::Display for LongRow {
 /// How a row is headed: the letter or its empty places, the name, and the value behind it.
 #[derive(Clone, Copy)]
 struct Name {
-    row: HelpRow,
+    option: Opt,
 }
 
 impl Name {
     /// How many places of the short form the name and the value leave.
     fn places_left(&self) -> usize {
-        let left = NAME_PLACES.saturating_sub("--".len() + self.row.option.shown_name().len());
-        match self.row.value {
+        let left = NAME_PLACES.saturating_sub("--".len() + self.option.shown_name().len());
+        match self.option.row().value {
             "" => left,
             value => left.saturating_sub(" ".len() + value.len()),
         }
@@ -138,12 +144,13 @@ impl Name {
 
 impl fmt::Display for Name {
     fn fmt<W: fmt::Write>(&self, f: &mut fmt::Formatter<W>) -> fmt::Result {
-        match self.row.letter {
-            Some(letter) => write!(f, "-{letter}, ")?,
-            None => write!(f, "    ")?,
+        let row = self.option.row();
+        match row.letter {
+            Some(letter) if row.letter_shown => write!(f, "-{letter}, ")?,
+            _ => write!(f, "    ")?,
         }
-        write!(f, "{}", self.row.option)?;
-        match self.row.value {
+        write!(f, "{}", self.option)?;
+        match row.value {
             "" => Ok(()),
             value => write!(f, " {value}"),
         }

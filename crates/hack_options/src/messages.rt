@@ -1,6 +1,6 @@
 //! How messages name options.
 
-ghost use Rattle.std.specs.Prelude.{◌≡◌, Some};
+ghost use Rattle.std.specs.Prelude.{◌≡◌, ◌&&◌, Some};
 ghost use Rattle.hack_options.specs.Texts.{shown, shown_name as name_of, shown_with_alias, aliased, usage_text, has_usage as named_in_help, shows_letter as letter_in_help};
 
 use crate::{Opt, long, short};
@@ -52,11 +52,7 @@ impl fmt::Display for Usage<'_> {
                 _ => write!(f, "--{name}"),
             },
             Usage::Short(letter) => match short(*letter) {
-                Some(option) if option.has_usage() && option.shows_letter() => write!(
-                    f,
-                    "{}",
-                    RowUsage { option }
-                ),
+                Some(option) if option.has_letter_usage() => write!(f, "{}", RowUsage { option }),
                 _ => write!(f, "-{letter}"),
             },
         }
@@ -75,9 +71,8 @@ impl fmt::Display for RowUsage {
     ghost output = { λ row. Some (row_usage row.option) };
 
     fn fmt<W: fmt::Write>(&self, f: &mut fmt::Formatter<W>) -> fmt::Result {
-        let name = self.option.row().name;
-        let value = self.option.value();
-        write!(f, "--{name} {value}")
+        let row = self.option.row();
+        write!(f, "--{} {}", row.name, row.value)
     }
 }
 
@@ -99,24 +94,20 @@ impl Opt {
         WithAlias { option: self }
     }
 
-    /// Whether a row of the help has just this name: that of `--workspace-behavior` has its value too, and three
-    /// options have no row.
+    /// Whether a row of the help has just this name: that of `--workspace-behavior` has its value too.
     fn has_usage(self) -> bool
         ensures { result ≡ named_in_help self }
     {
-        !matches!(
-            self,
-            Opt::WorkspaceBehavior
-                | Opt::NoDefaultFeatures
-                | Opt::AllFeatures
-                | Opt::IncludeDepsFeatures
-        )
+        match self {
+            Opt::WorkspaceBehavior => false,
+            option => option.row().told.is_some(),
+        }
     }
 
-    /// Whether the help shows the option's letter.
-    pub(crate) fn shows_letter(self) -> bool
-        ensures { result ≡ letter_in_help self }
+    /// Whether a row of the help has just this name, and its letter too.
+    fn has_letter_usage(self) -> bool
+        ensures { result ≡ (named_in_help self && letter_in_help self) }
     {
-        !matches!(self, Opt::ManifestPath)
+        self.has_usage() && self.row().letter_shown
     }
 }

@@ -1,47 +1,423 @@
-//! Finds the option that a word names.
+//! The table of options. Each has a row: how it is written, how it is cut, and what the help tells of it.
 
-ghost use Rattle.std.specs.Prelude.{◌≡◌, ◌↔◌, Some};
-ghost use Rattle.hack_options.specs.Find.{long_option, short_option};
-ghost use Rattle.hack_options.specs.Table.{entry_of, named, lettered};
+ghost use Rattle.std.specs.Prelude.{◌≡◌, ◌↔◌, IsTrue, IsSome, is_some, false, Some};
+ghost use Rattle.hack_options.specs.Table.{entry, entry_of, out_of_help, meaning_of, same};
+ghost use Rattle.hack_options.specs.Table.{flag as flag_entry, once as once_entry, many as many_entry};
 
-use crate::{ALL, Opt};
+use crate::{Kind, Opt};
 
-/// The first option of this name.
-fn find_name(options: &[Opt], name: &str) -> Option<Opt>
-    ensures { result ≡ named name.now options.now }
-{
-    for option in options {
-        if option.row().name == name {
-            return Some(*option);
+const WITH_FEATURE_SETS: &str =
+    "This flag can only be used together with either --each-feature flag or --feature-powerset flag.";
+
+const WITH_POWERSET: &str = "This flag can only be used together with --feature-powerset flag.";
+
+const WITH_VERSION_RANGE: &str = "This flag can only be used together with --version-range flag.";
+
+const ALSO_WITHOUT_DEFAULT: &str =
+    "This also includes runs with just --no-default-features flag, and default features.";
+
+/// A row of the table: how an option is written and cut, and what the help shows of it.
+#[derive(Clone, Copy)]
+pub struct Row {
+    /// The letter behind one dash.
+    pub letter: Option<char>,
+    /// Whether the help shows the letter. `-m` is cut as `--manifest-path`, though the help doesn't show it.
+    pub letter_shown: bool,
+    /// The name behind two dashes.
+    pub name: &'static str,
+    pub kind: Kind,
+    /// Whether a second use is a fault.
+    pub once: bool,
+    /// What the help shows behind the name, as `<PATH>`; empty where the option takes no value, or has it in its name,
+    /// as `--workspace-behavior=cargo`.
+    pub value: &'static str,
+    /// What the help tells. It has no row for two options of Cargo and for `--include-deps-features`.
+    pub(crate) told: Option<HelpText>,
+}
+
+/// What the help tells of an option.
+#[derive(Clone, Copy)]
+pub(crate) struct HelpText {
+    /// What the option does, in a few words with no point at their end.
+    pub text: &'static str,
+    /// What the long help says beyond that.
+    pub paragraphs: &'static [&'static str],
+}
+
+/// All options, in the order of the help; those that the help doesn't show stand last.
+pub const ALL: [Opt; 45] = [
+    Opt::Package,
+    Opt::All,
+    Opt::Workspace,
+    Opt::Exclude,
+    Opt::ManifestPath,
+    Opt::Locked,
+    Opt::Features,
+    Opt::EachFeature,
+    Opt::FeaturePowerset,
+    Opt::OptionalDeps,
+    Opt::Skip,
+    Opt::ExcludeFeatures,
+    Opt::ExcludeNoDefaultFeatures,
+    Opt::ExcludeAllFeatures,
+    Opt::Depth,
+    Opt::GroupFeatures,
+    Opt::Target,
+    Opt::MutuallyExclusiveFeatures,
+    Opt::AllowTogether,
+    Opt::AtLeastOneOf,
+    Opt::IncludeFeatures,
+    Opt::NoDevDeps,
+    Opt::RemoveDevDeps,
+    Opt::NoPrivate,
+    Opt::IgnorePrivate,
+    Opt::IgnoreUnknownFeatures,
+    Opt::RustVersion,
+    Opt::VersionRange,
+    Opt::VersionStep,
+    Opt::CleanPerRun,
+    Opt::CleanPerVersion,
+    Opt::KeepGoing,
+    Opt::Partition,
+    Opt::PartitionKind,
+    Opt::LogGroup,
+    Opt::WorkspaceBehavior,
+    Opt::PrintCommandList,
+    Opt::NoManifestPath,
+    Opt::Verbose,
+    Opt::Color,
+    Opt::Help,
+    Opt::Version,
+    Opt::NoDefaultFeatures,
+    Opt::AllFeatures,
+    Opt::IncludeDepsFeatures,
+];
+
+impl Opt {
+    /// The option's row: one arm of `written`, and one of `told`.
+    pub fn row(self) -> Row
+        ensures { entry result ≡ entry_of self }
+    {
+        Row {
+            told: self.told(),
+            ..self.written()
         }
     }
-    None
-}
 
-/// The first option of this letter.
-fn find_letter(options: &[Opt], letter: char) -> Option<Opt>
-    ensures { result ≡ lettered letter options.now }
-{
-    for option in options {
-        if option.row().letter == Some(letter) {
-            return Some(*option);
+    /// How the option is written and cut, and the value that is shown for it.
+    fn written(self) -> Row
+        ensures { entry result ≡ out_of_help (entry_of self) }
+    {
+        match self {
+            Opt::Package => many("package", Kind::Value, "<SPEC>...").lettered('p'),
+            Opt::All => flag("all"),
+            Opt::Workspace => flag("workspace"),
+            Opt::Exclude => many("exclude", Kind::Value, "<SPEC>..."),
+            Opt::ManifestPath => once("manifest-path", Kind::Value, "<PATH>").hidden_letter('m'),
+            Opt::Locked => flag("locked"),
+            Opt::Features => many("features", Kind::Names, "<FEATURES>...").lettered('F'),
+            Opt::EachFeature => flag("each-feature"),
+            Opt::FeaturePowerset => flag("feature-powerset"),
+            Opt::OptionalDeps => once("optional-deps", Kind::OptionalNames, "[DEPS]..."),
+            Opt::Skip => many("skip", Kind::Names, "<FEATURES>..."),
+            Opt::ExcludeFeatures => many("exclude-features", Kind::Names, "<FEATURES>..."),
+            Opt::ExcludeNoDefaultFeatures => flag("exclude-no-default-features"),
+            Opt::ExcludeAllFeatures => flag("exclude-all-features"),
+            Opt::Depth => once("depth", Kind::Value, "<NUM>"),
+            Opt::GroupFeatures => many("group-features", Kind::Value, "<FEATURES>..."),
+            Opt::Target => many("target", Kind::Value, "<TRIPLE>"),
+            Opt::MutuallyExclusiveFeatures => many(
+                "mutually-exclusive-features",
+                Kind::Value,
+                "<FEATURES>...",
+            ),
+            Opt::AllowTogether => many("allow-together", Kind::Value, "<PKG=FEATURES>..."),
+            Opt::AtLeastOneOf => many("at-least-one-of", Kind::Value, "<FEATURES>..."),
+            Opt::IncludeFeatures => many("include-features", Kind::Names, "<FEATURES>..."),
+            Opt::NoDevDeps => flag("no-dev-deps"),
+            Opt::RemoveDevDeps => flag("remove-dev-deps"),
+            Opt::NoPrivate => flag("no-private"),
+            Opt::IgnorePrivate => flag("ignore-private"),
+            Opt::IgnoreUnknownFeatures => flag("ignore-unknown-features"),
+            Opt::RustVersion => flag("rust-version"),
+            Opt::VersionRange => once("version-range", Kind::Value, "[START]..[=END]"),
+            Opt::VersionStep => once("version-step", Kind::Value, "<NUM>"),
+            Opt::CleanPerRun => flag("clean-per-run"),
+            Opt::CleanPerVersion => flag("clean-per-version"),
+            Opt::KeepGoing => flag("keep-going"),
+            Opt::Partition => once("partition", Kind::Value, "<M/N>"),
+            Opt::PartitionKind => once("partition-kind", Kind::Value, "<KIND>"),
+            Opt::LogGroup => once("log-group", Kind::Value, "<KIND>"),
+            Opt::WorkspaceBehavior => many("workspace-behavior", Kind::Refused, ""),
+            Opt::PrintCommandList => flag("print-command-list"),
+            Opt::NoManifestPath => flag("no-manifest-path"),
+            Opt::Verbose => many("verbose", Kind::Flag, "").lettered('v'),
+            Opt::Color => once("color", Kind::Value, "<WHEN>"),
+            Opt::Help => many("help", Kind::Help, "").lettered('h'),
+            Opt::Version => many("version", Kind::Version, "").lettered('V'),
+            Opt::NoDefaultFeatures => many("no-default-features", Kind::Flag, ""),
+            Opt::AllFeatures => many("all-features", Kind::Flag, ""),
+            Opt::IncludeDepsFeatures => flag("include-deps-features"),
         }
     }
-    None
+
+    /// What the help tells of the option, where it has a row for it.
+    fn told(self) -> Option<HelpText>
+        ensures { is_some result ≡ (entry_of self).in_help }
+    {
+        match self {
+            Opt::Package => brief("Package(s) to check"),
+            Opt::All => brief("Alias for --workspace"),
+            Opt::Workspace => brief("Perform command for all packages in the workspace"),
+            Opt::Exclude => brief("Exclude packages from the check"),
+            Opt::ManifestPath => brief("Path to Cargo.toml"),
+            Opt::Locked => brief("Require Cargo.lock is up to date"),
+            Opt::Features => brief("Space or comma separated list of features to activate"),
+            Opt::EachFeature => explained(
+                "Perform for each feature of the package",
+                &[
+                    ALSO_WITHOUT_DEFAULT,
+                    "When this flag is not used together with --exclude-features (--skip) and --include-features and there are multiple features, this also includes runs with just --all-features flag.",
+                ],
+            ),
+            Opt::FeaturePowerset => explained(
+                "Perform for the feature powerset of the package",
+                &[
+                    ALSO_WITHOUT_DEFAULT,
+                    "When this flag is used together with --depth or namespaced features (-Z namespaced-features) and not used together with --exclude-features (--skip) and --include-features and there are multiple features, this also includes runs with just --all-features flag.",
+                ],
+            ),
+            Opt::OptionalDeps => explained(
+                "Use optional dependencies as features",
+                &[
+                    "If DEPS are not specified, all optional dependencies are considered as features.",
+                    WITH_FEATURE_SETS,
+                ],
+            ),
+            Opt::Skip => brief("Alias for --exclude-features"),
+            Opt::ExcludeFeatures => explained(
+                "Space or comma separated list of features to exclude",
+                &[
+                    "To exclude run of default feature, using value `--exclude-features default`.",
+                    "To exclude run of just --no-default-features flag, using --exclude-no-default-features flag.",
+                    "To exclude run of just --all-features flag, using --exclude-all-features flag.",
+                    WITH_FEATURE_SETS,
+                ],
+            ),
+            Opt::ExcludeNoDefaultFeatures => explained(
+                "Exclude run of just --no-default-features flag",
+                &[WITH_FEATURE_SETS],
+            ),
+            Opt::ExcludeAllFeatures => explained(
+                "Exclude run of just --all-features flag",
+                &[WITH_FEATURE_SETS],
+            ),
+            Opt::Depth => explained(
+                "Specify a max number of simultaneous feature flags of --feature-powerset",
+                &[
+                    "If NUM is set to 1, --feature-powerset is equivalent to --each-feature.",
+                    WITH_POWERSET,
+                ],
+            ),
+            Opt::GroupFeatures => explained(
+                "Space or comma separated list of features to group",
+                &[
+                    "This treats the specified features as if it were a single feature.",
+                    "To specify multiple groups, use this option multiple times: `--group-features a,b --group-features c,d`",
+                    WITH_POWERSET,
+                ],
+            ),
+            Opt::Target => explained(
+                "Build for specified target triple",
+                &[
+                    "Comma-separated lists of targets are not supported, but you can specify the whole --target option multiple times to do multiple targets.",
+                    "This is actually not a cargo-hack option, it is interpreted by Cargo itself.",
+                ],
+            ),
+            Opt::MutuallyExclusiveFeatures => explained(
+                "Space or comma separated list of features to not use together",
+                &[
+                    "To specify multiple groups, use this option multiple times: `--mutually-exclusive-features a,b --mutually-exclusive-features c,d`",
+                    WITH_POWERSET,
+                ],
+            ),
+            Opt::AllowTogether => explained(
+                "Lift one group of --mutually-exclusive-features for one package",
+                &["This flag can only be used together with --mutually-exclusive-features flag."],
+            ),
+            Opt::AtLeastOneOf => explained(
+                "Space or comma separated list of features. Skips sets of features that don't enable any of the features listed",
+                &[
+                    "To specify multiple groups, use this option multiple times: `--at-least-one-of a,b --at-least-one-of c,d`",
+                    WITH_POWERSET,
+                ],
+            ),
+            Opt::IncludeFeatures => explained(
+                "Include only the specified features in the feature combinations instead of package features",
+                &[WITH_FEATURE_SETS],
+            ),
+            Opt::NoDevDeps => explained(
+                "Perform without dev-dependencies",
+                &[
+                    "Note that this flag removes dev-dependencies from real `Cargo.toml` while cargo-hack is running and restores it when finished.",
+                ],
+            ),
+            Opt::RemoveDevDeps => brief(
+                "Equivalent to --no-dev-deps flag except for does not restore the original `Cargo.toml` after performed",
+            ),
+            Opt::NoPrivate => brief("Perform without `publish = false` crates"),
+            Opt::IgnorePrivate => brief("Skip to perform on `publish = false` packages"),
+            Opt::IgnoreUnknownFeatures => explained(
+                "Skip passing --features flag to `cargo` if that feature does not exist in the package",
+                &[
+                    "This flag can be used with --features, --include-features, or --group-features.",
+                ],
+            ),
+            Opt::RustVersion => explained(
+                "Perform commands on `package.rust-version`",
+                &["This cannot be used with --version-range."],
+            ),
+            Opt::VersionRange => explained(
+                "Perform commands on a specified (inclusive) range of Rust versions",
+                &[
+                    "If the upper bound of the range is omitted, the latest stable compiler is used as the upper bound.",
+                    "If the lower bound of the range is omitted, the value of the `rust-version` field in `Cargo.toml` is used as the lower bound.",
+                    "Note that ranges are always inclusive ranges.",
+                ],
+            ),
+            Opt::VersionStep => explained(
+                "Specify the version interval of --version-range (default to `1`)",
+                &[WITH_VERSION_RANGE],
+            ),
+            Opt::CleanPerRun => explained(
+                "Remove artifacts for that package before running the command",
+                &[
+                    "If used this flag with --workspace, --each-feature, or --feature-powerset, artifacts will be removed before each run.",
+                    "Note that dependencies artifacts will be preserved.",
+                ],
+            ),
+            Opt::CleanPerVersion => explained(
+                "Remove artifacts per Rust version",
+                &[
+                    "Note that dependencies artifacts will also be removed.",
+                    WITH_VERSION_RANGE,
+                ],
+            ),
+            Opt::KeepGoing => brief("Keep going on failure"),
+            Opt::Partition => brief("Partition runs and execute only its subset according to M/N"),
+            Opt::PartitionKind => explained(
+                "Partitioning: block, turn",
+                &["This flag can only be used together with --partition flag."],
+            ),
+            Opt::LogGroup => explained(
+                "Log grouping: none, github-actions",
+                &["If this option is not used, the environment will be automatically detected."],
+            ),
+            Opt::WorkspaceBehavior => explained(
+                "Use Cargo's workspace handling",
+                &[
+                    "This is for use cases where cargo-hack's workspace handling does not work.",
+                    "Note that this is incompatible with flags that require cargo-hack's workspace handling to work properly (e.g., `--each-feature`, `--feature-powerset`, etc.).",
+                ],
+            ),
+            Opt::PrintCommandList => brief("Print commands without run (Unstable)"),
+            Opt::NoManifestPath => brief("Do not pass --manifest-path option to cargo (Unstable)"),
+            Opt::Verbose => brief("Use verbose output"),
+            Opt::Color => explained(
+                "Coloring: auto, always, never",
+                &["This flag will be propagated to cargo."],
+            ),
+            Opt::Help => brief("Prints help information"),
+            Opt::Version => brief("Prints version information"),
+            Opt::NoDefaultFeatures | Opt::AllFeatures | Opt::IncludeDepsFeatures => None,
+        }
+    }
+
+    /// What an alias stands for; any other option stands for itself.
+    pub fn means(self) -> Opt
+        ensures { result ≡ meaning_of self }
+    {
+        match self {
+            Opt::All => Opt::Workspace,
+            Opt::Skip => Opt::ExcludeFeatures,
+            other => other,
+        }
+    }
+
+    /// Whether both are the same option.
+    pub fn is(self, other: Opt) -> bool
+        ensures value { result ≡ same self other }
+        ensures equal { IsTrue result ↔ (self ≡ other) }
+    {
+        self == other
+    }
 }
 
-/// The option of a long name, written without its two dashes.
-pub fn long(name: &str) -> Option<Opt>
-    ensures value { result ≡ long_option name.now }
-    ensures each { (option : Opt) → (result ≡ Some option) ↔ ((entry_of option).name ≡ name.now) }
+/// An option that stands once and takes nothing.
+fn flag(name: &'static str) -> Row
+    ensures { entry result ≡ out_of_help (flag_entry name.now) }
 {
-    find_name(&ALL, name)
+    once(name, Kind::Flag, "")
 }
 
-/// The option of a letter.
-pub fn short(letter: char) -> Option<Opt>
-    ensures value { result ≡ short_option letter }
-    ensures each { (option : Opt) → (result ≡ Some option) ↔ ((entry_of option).letter ≡ Some letter) }
+/// An option that stands once, with the value that the help shows behind its name.
+fn once(name: &'static str, kind: Kind, value: &'static str) -> Row
+    ensures { entry result ≡ out_of_help (once_entry name.now kind value.now) }
 {
-    find_letter(&ALL, letter)
+    Row {
+        letter: None,
+        letter_shown: true,
+        name,
+        kind,
+        once: true,
+        value,
+        told: None,
+    }
+}
+
+/// An option that may be repeated, with the value that the help shows behind its name.
+fn many(name: &'static str, kind: Kind, value: &'static str) -> Row
+    ensures { entry result ≡ out_of_help (many_entry name.now kind value.now) }
+{
+    Row {
+        once: false,
+        ..once(name, kind, value)
+    }
+}
+
+impl Row {
+    /// The same option, written as a letter too.
+    fn lettered(self, letter: char) -> Row
+        ensures { entry result ≡ record (entry self) { letter = Some letter } }
+    {
+        Row {
+            letter: Some(letter),
+            ..self
+        }
+    }
+
+    /// The same, where the help doesn't show the letter.
+    fn hidden_letter(self, letter: char) -> Row
+        ensures { entry result ≡ record (entry self) { letter = Some letter; letter_shown = false } }
+    {
+        Row {
+            letter: Some(letter),
+            letter_shown: false,
+            ..self
+        }
+    }
+}
+
+/// A few words.
+fn brief(text: &'static str) -> Option<HelpText>
+    ensures { IsSome result }
+{
+    explained(text, &[])
+}
+
+/// A few words, and paragraphs in the long help.
+fn explained(text: &'static str, paragraphs: &'static [&'static str]) -> Option<HelpText>
+    ensures { IsSome result }
+{
+    Some(HelpText { text, paragraphs })
 }

@@ -1,10 +1,10 @@
 use Rattle.std.specs.Prelude.{◌≡◌, Some, IfSome}
 use Rattle.std.proofs.Common.{subst, sym, ◌∙◌}
-use Rattle.hack_options.specs.declared.rows.TheConstants.{ALL}
+use Rattle.hack_options.specs.declared.table.TheConstants.{ALL}
 use Rattle.hack_options.specs.Table.{entry_of}
 use Rattle.hack_options.specs.Find.{short_option}
 use Rattle.hack_options.proofs.Law.{short_option-letter, lettered-letter}
-use Rattle.hack_options.proofs.table.short.Goals as goal
+use Rattle.hack_options.proofs.find.short.Goals as goal
 
 pub returns-clause-each : goal.returns-clause-each
 returns-clause-each c option = (

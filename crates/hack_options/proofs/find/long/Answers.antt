@@ -1,10 +1,10 @@
 use Rattle.std.specs.Prelude.{◌≡◌, IfSome}
 use Rattle.std.proofs.Common.{ap, subst, sym, ◌∙◌}
-use Rattle.hack_options.specs.declared.rows.TheConstants.{ALL}
+use Rattle.hack_options.specs.declared.table.TheConstants.{ALL}
 use Rattle.hack_options.specs.Table.{entry_of}
 use Rattle.hack_options.specs.Find.{long_option}
 use Rattle.hack_options.proofs.Law.{long_option-name, named-name}
-use Rattle.hack_options.proofs.table.long.Goals as goal
+use Rattle.hack_options.proofs.find.long.Goals as goal
 
 pub returns-clause-each : goal.returns-clause-each
 returns-clause-each c option = (

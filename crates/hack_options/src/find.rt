@@ -1,0 +1,47 @@
+//! Finds the option that a word names.
+
+ghost use Rattle.std.specs.Prelude.{◌≡◌, Some};
+ghost use Rattle.hack_options.specs.Find.{Finds, long_option, short_option};
+ghost use Rattle.hack_options.specs.Table.{entry_of, named, lettered};
+
+use crate::{ALL, Opt};
+
+/// The first option of this name.
+fn find_name(options: &[Opt], name: &str) -> Option<Opt>
+    ensures { result ≡ named name.now options.now }
+{
+    for option in options {
+        if option.row().name == name {
+            return Some(*option);
+        }
+    }
+    None
+}
+
+/// The first option of this letter.
+fn find_letter(options: &[Opt], letter: char) -> Option<Opt>
+    ensures { result ≡ lettered letter options.now }
+{
+    for option in options {
+        if option.row().letter == Some(letter) {
+            return Some(*option);
+        }
+    }
+    None
+}
+
+/// The option of a long name, written without its two dashes.
+pub fn long(name: &str) -> Option<Opt>
+    ensures value { result ≡ long_option name.now }
+    ensures each { Finds result (λ option. (entry_of option).name ≡ name.now) }
+{
+    find_name(&ALL, name)
+}
+
+/// The option of a letter.
+pub fn short(letter: char) -> Option<Opt>
+    ensures value { result ≡ short_option letter }
+    ensures each { Finds result (λ option. (entry_of option).letter ≡ Some letter) }
+{
+    find_letter(&ALL, letter)
+}
