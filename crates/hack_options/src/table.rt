@@ -94,7 +94,8 @@ pub const ALL: [Opt; 45] = [
 ];
 
 impl Opt {
-    /// The option's row: one arm of `written`, and one of `told`.
+    /// The option's row. It stands in two parts of one order, `written` and `told`: a match of both takes twice as long to
+    /// prove.
     pub fn row(self) -> Row
         ensures { entry result ≡ entry_of self }
     {
