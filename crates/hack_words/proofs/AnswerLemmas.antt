@@ -1,13 +1,15 @@
 -- What words come to once their uses are judged.
-use Rattle.std.proofs.Common.{◌≡◌, ℕ, Bool, List, Option, Some, None, MatchOption, ap, refl, sym, subst, ◌∙◌}
-use Rattle.hack_uses.specs.Faults.{Fault as CutFault}
+use Rattle.std.proofs.Common.{◌≡◌, ℕ, Bool, List, Option, Some, None, Err, IfSome, MatchOption, ap, refl, sym, subst, ◌∙◌}
+use Rattle.hack_uses.specs.Faults.{Fault as WrongCut, fault_of as cut_fault_of}
+use Rattle.hack_uses.specs.declared.fault.CutFault.{CutFault}
+use Rattle.hack_uses.specs.declared.fault.CutFault.TheVariants as cut
 use Rattle.hack_uses.specs.Reads.{Ends, Reading, Met, End, Prints, Fails, IsLast}
 use Rattle.hack_uses.specs.Uses.{Use}
 use Rattle.hack_uses.specs.declared.cut.Print.{Print as Question}
 use Rattle.hack_versions.specs.Notes.{Note}
-use Rattle.hack_words.specs.Answers.{Answers, Refuses, IsJudged, IsPrinted, BreakNoRule}
+use Rattle.hack_words.specs.Answers.{Answers, Refuses, IsJudged, IsPrinted, GivesCuts, BreakNoRule}
 use Rattle.hack_words.specs.Call.{Around, Outcome, IsEnd, ComesFrom, ComesTo, Faulty, outcome_of}
-use Rattle.hack_rules.specs.CliFaults.{Fault, Cut, fault_of}
+use Rattle.hack_rules.specs.CliFaults.{Fault, Cut, fault_of, told_of_cut}
 use Rattle.hack_rules.specs.declared.fault.CliFault.{CliFault}
 use Rattle.hack_rules.specs.declared.fault.CliFault.TheVariants as fault
 use Rattle.hack_words.specs.Start.{Start, Refuses as Begun, Cuts, start_of}
@@ -26,7 +28,18 @@ printed-answers around cargo cut trailing us print (code.Args args) notes ends h
 printed-answers around cargo cut trailing us print (code.Print text) notes ends h = (print, (us, Prints print, ends, refl), h.0, h.1)
 printed-answers around cargo cut trailing us print code.List notes ends h = absurd h
 
-pub cut-refuses : (around : Around) (cargo : Bool) (cut trailing : List (List ℕ)) (Q : Type 0) (o : Option Fault) → MatchOption o Q (λ fault. (us : List Use) × (f : CutFault) × (fault ≡ Cut f) × Ends cut us (Fails f)) → MatchOption o Q (λ fault. ComesFrom around (Cuts cargo cut trailing) (Faulty fault))
+-- a fault of a cut, as the call tells it
+pub cut-told : (words : List (List ℕ)) (e : CutFault) → IfSome (cut_fault_of e) (λ wrong. (us : List Use) × Ends words us (Fails wrong)) → GivesCuts (Err (told_of_cut e)) words
+cut-told words cut.Memory h = refl
+cut-told words (cut.Missing flag) h = (h.0, _, refl, h.1)
+cut-told words (cut.Unexpected flag value) h = (h.0, _, refl, h.1)
+cut-told words (cut.Repeat flag option subcommand) h = (h.0, _, refl, h.1)
+cut-told words (cut.LoneQuote flag) h = (h.0, _, refl, h.1)
+cut-told words cut.BehaviorForm h = (h.0, _, refl, h.1)
+cut-told words (cut.Removed name instead) h = (h.0, _, refl, h.1)
+cut-told words (cut.Similar name meant subcommand) h = (h.0, _, refl, h.1)
+
+pub cut-refuses : (around : Around) (cargo : Bool) (cut trailing : List (List ℕ)) (Q : Type 0) (o : Option Fault) → MatchOption o Q (λ fault. (us : List Use) × (f : WrongCut) × (fault ≡ Cut f) × Ends cut us (Fails f)) → MatchOption o Q (λ fault. ComesFrom around (Cuts cargo cut trailing) (Faulty fault))
 cut-refuses around cargo cut trailing Q (Some fault) h = (h.0, Fails h.1, h.3, ap Faulty h.2)
 cut-refuses around cargo cut trailing Q None h = h
 
