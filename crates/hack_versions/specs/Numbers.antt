@@ -22,5 +22,5 @@ is_digits text = nat_lt 0 (length text) && list_all is_digit text
 abbrev pub number_of : ℕ → List ℕ → Option ℕ
 number_of bits text =
     if is_digits (without_leading_plus text)
-        && nat_lt (digits_value 10 (without_leading_plus text)) (2 ^ bits)
+    && nat_lt (digits_value 10 (without_leading_plus text)) (2 ^ bits)
     then Some (digits_value 10 (without_leading_plus text)) else None
