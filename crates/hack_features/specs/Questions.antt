@@ -1,5 +1,6 @@
 -- The sets that an enumeration by questions finds, and how many questions it may ask.
-use Rattle.std.specs.Prelude.{◌≡◌, ◌≢◌, ℕ, ◌*◌, ◌≤◌, List, [], ◌∷◌, ◌++◌, map, filter, drop, length, Bool, IsTrue, ◌&&◌, ◌==◌, not}
+use Rattle.std.specs.Prelude.{◌≡◌, ◌≢◌, ℕ, ◌*◌, ◌≤◌, ◌<◌, All, List, [], ◌∷◌, ◌++◌, map, filter, drop, length, Bool, IsTrue, ◌&&◌, ◌==◌, not}
+use Rattle.std.specs.List.{slice_index_or}
 use Rattle.hack_features.specs.Sets.{IsListing}
 
 -- a nonempty set that passes both tests
@@ -29,3 +30,9 @@ AreComplete complete sets = filter (is_whole complete) sets ≡ drop 1 sets
 -- both tests pass each set
 abbrev pub IsFree : (List ℕ → Bool) → (List ℕ → Bool) → Type 0
 IsFree may complete = (s : List ℕ) → IsTrue (may s) × IsTrue (complete s)
+
+-- the places are open: the sets there are all of these that may have one more position
+pub record AreOpen (may : List ℕ → Bool) (sets : List (List ℕ)) (places : List ℕ) : Type 0 where
+  pub inside : All (λ p. p < length sets) places
+  pub few : length places ≤ length sets
+  pub same : (next : ℕ) → with_next may next (map (λ p. slice_index_or sets p []) places) ≡ with_next may next sets

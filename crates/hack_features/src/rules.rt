@@ -288,6 +288,10 @@ impl Questions for Rules<'_> {
         self.given.depth.is_none() && self.tables.are_bare()
     }
 
+    fn most(&self) -> Option<usize> {
+        self.given.depth
+    }
+
     fn asked(&self) -> u128 {
         self.asked
     }

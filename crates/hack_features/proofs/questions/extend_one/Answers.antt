@@ -12,9 +12,9 @@ complete-requires g c =
     let next : ℕ = c.args.next in
     let size : ℕ = g.Q.Questions.size c.args.questions.now in
     let is : c.as_slice-then-may_extend.result.now ≡ set ++ next ∷ [] =
-    c.as_slice-then-may_extend.ensures.value ∙ c.in_ok-push-2.ensures.items ∙ ap (λ l. l ++ next ∷ []) c.in_ok-read.ensures in
+    c.as_slice-then-may_extend.ensures.value ∙ c.in_ok-push-2.ensures.items ∙ ap (λ l. l ++ next ∷ []) c.requires.read in
     subst (λ n. IsSelection n c.as_slice-then-may_extend.result.now) (sym c.may_extend.ensures.same_size)
-    (subst (IsSelection size) (sym is) (selection_up (suc next) size (set ++ next ∷ []) (omega (arith, c.requires.next)) (selection_push next set c.requires.below)))
+    (subst (IsSelection size) (sym is) (selection_up (suc next) size (set ++ next ∷ []) (omega (arith, c.requires.next)) (selection_push next set (subst (IsSelection next) c.requires.read c.requires.below))))
 
 pub returns-then-may_extend-clause-complete : goal.returns-then-may_extend-clause-complete
 returns-then-may_extend-clause-complete g c = λ before yes'.
@@ -23,7 +23,7 @@ returns-then-may_extend-clause-complete g c = λ before yes'.
     let set : List ℕ = get_or all c.args.place [] in
     let next : ℕ = c.args.next in
     let is : c.as_slice-then-may_extend.result.now ≡ set ++ next ∷ [] =
-    c.as_slice-then-may_extend.ensures.value ∙ c.in_ok-push-2.ensures.items ∙ ap (λ l. l ++ next ∷ []) c.in_ok-read.ensures in
+    c.as_slice-then-may_extend.ensures.value ∙ c.in_ok-push-2.ensures.items ∙ ap (λ l. l ++ next ∷ []) c.requires.read in
     let answer : whole (set ++ next ∷ []) ≡ true =
     ap whole (sym is) ∙ ap (λ t. t c.as_slice-then-may_extend.result.now) (sym c.may_extend.ensures.same_whole) ∙ sym c.complete.ensures ∙ yes' in
     subst (AreComplete whole) (sym c.in_ok-push.ensures)
