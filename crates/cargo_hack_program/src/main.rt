@@ -31,8 +31,8 @@ fn main(rt: HostRuntime) -> ExitCode {
     }
 }
 
-/// Performs the call, with the streams of this process. What an interrupted call left edited comes back
-/// first, unless another call is at it.
+/// Performs the call, with the streams of this process. What an interrupted call left edited comes
+/// back first, unless another call is at it.
 fn call<E: Write>(
     rt: &HostRuntime,
     is_terminal: bool,
@@ -142,7 +142,8 @@ fn journaled<E: Write>(
     Ok(term.status(env.deny_warnings))
 }
 
-/// Brings back what an interrupted call left edited, and tells of it. Where it can't, a fault was told.
+/// Brings back what an interrupted call left edited, and tells of it. Where it can't, a fault was
+/// told.
 fn is_restored<F: Files, E: Write>(
     alloc: Global,
     folder: &str,

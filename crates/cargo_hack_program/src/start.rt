@@ -101,7 +101,8 @@ fn current_dir<R: rt::Env + AllocGlobal>(rt: &R) -> Result<String, StartFault> {
     }
 }
 
-/// What `--color auto` comes to: lines are coloured on a terminal that can, unless `NO_COLOR` is set.
+/// What `--color auto` comes to: lines are coloured on a terminal that can, unless `NO_COLOR` is
+/// set.
 pub fn coloring<R: rt::Env + AllocGlobal>(
     rt: &R,
     is_terminal: bool,

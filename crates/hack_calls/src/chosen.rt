@@ -75,8 +75,8 @@ fn chosen_package(
     Ok((planned, notices))
 }
 
-/// The chosen packages, in order, and what the user is told of their features. `single` says whether
-/// a single one is left after exclusions.
+/// The chosen packages, in order, and what the user is told of their features. `single` says
+/// whether a single one is left after exclusions.
 pub(crate) fn chosen_packages(
     alloc: Global,
     cx: &Context,

@@ -74,7 +74,8 @@ fn add_version(
     requires { All (λ id. Contains (context_view cx.now).metadata.workspace_members id.index)
         ids.now }
     ensures { OnOk result (map note_of notices.new.items ≡ map note_of notices.old.items
-        ++ version_notes (context_view cx.now) (map place_at ids.now) scene.now version places.now) }
+        ++ version_notes (context_view cx.now) (map place_at ids.now)
+        scene.now version places.now) }
 {
     for slot in 0..slots(scene, version) {
         let _ = slot;

@@ -1,7 +1,7 @@
 //! The plan of a call: what is run, in order, for what is loaded.
 
-ghost use Rattle.std.specs.Prelude.{◌≡◌, ◌⊎◌, All, Contains, IfOk, IfErr, IfSome, IsSome, map, List, ℕ};
-ghost use Rattle.std.specs.Prelude.{Option, Ok, true};
+ghost use Rattle.std.specs.Prelude.{◌≡◌, ◌⊎◌, All, Contains, IfOk, IfErr, IfSome, IsSome, map};
+ghost use Rattle.std.specs.Prelude.{List, ℕ, Option, Ok, true};
 ghost use Rattle.hack_metadata.specs.View.{place_at};
 ghost use Rattle.hack_load.specs.ContextView.{context_view};
 ghost use Rattle.hack_packages.specs.ContextMembers.{AreChosen, IsChoiceFault};
@@ -55,7 +55,8 @@ pub fn plan_of(
         → ¬ ((context_view cx.now).args.workspace_behavior ≡ Cargo)
         → IfOk result (λ answer. AreCovered (context_view cx.now) latest answer.0) }
 
-    // Under a powerset the sets of each chosen package's runs are exactly the listed ones, each once.
+    // Under a powerset the sets of each chosen package's runs are exactly the listed ones, each
+    // once.
     ensures powersets { IsSome (context_view cx.now).args.subcommand
         → (context_view cx.now).args.feature_powerset ≡ true
         → IfOk result (λ answer. HavePowersets (context_view cx.now) answer.0) }

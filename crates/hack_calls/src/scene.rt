@@ -20,11 +20,14 @@ use std::alloc::Global;
 /// The own version of a chosen package, which is read only where versions are asked for.
 fn own_version(alloc: Global, cx: &Context, id: PackageId) -> Result<Option<Version>, VersionFault>
     requires { Contains (context_view cx.now).metadata.workspace_members id.index }
-    ensures ok { IfOk result (IsOwn (context_view cx.now).args.version_range (rust_version_at (context_view cx.now) id.index)) }
+    ensures ok { IfOk result (IsOwn (context_view cx.now).args.version_range
+        (rust_version_at (context_view cx.now) id.index)) }
     ensures never { IfOk result (λ _. (e : VersionFault)
-        → ¬ IsBadOwn (context_view cx.now).args.version_range (rust_version_at (context_view cx.now) id.index) e) }
+        → ¬ IsBadOwn (context_view cx.now).args.version_range
+        (rust_version_at (context_view cx.now) id.index) e) }
     ensures err { IfErr result (λ e. (e ≡ VersionFault.Memory)
-        ⊎ IsBadOwn (context_view cx.now).args.version_range (rust_version_at (context_view cx.now) id.index) e) }
+        ⊎ IsBadOwn (context_view cx.now).args.version_range
+        (rust_version_at (context_view cx.now) id.index) e) }
 {
     if cx.args().version_range.is_none() {
         return Ok(None);
@@ -43,9 +46,11 @@ fn member(alloc: Global, cx: &Context, id: PackageId) -> Result<PackageVersion, 
     requires { Contains (context_view cx.now).metadata.workspace_members id.index }
     ensures ok { IfOk result (IsMember (context_view cx.now) id.index) }
     ensures never { IfOk result (λ _. (e : VersionFault)
-        → ¬ IsBadOwn (context_view cx.now).args.version_range (rust_version_at (context_view cx.now) id.index) e) }
+        → ¬ IsBadOwn (context_view cx.now).args.version_range
+        (rust_version_at (context_view cx.now) id.index) e) }
     ensures err { IfErr result (λ e. (e ≡ VersionFault.Memory)
-        ⊎ IsBadOwn (context_view cx.now).args.version_range (rust_version_at (context_view cx.now) id.index) e) }
+        ⊎ IsBadOwn (context_view cx.now).args.version_range
+        (rust_version_at (context_view cx.now) id.index) e) }
 {
     let rust_version = own_version(alloc, cx, id)?;
     let _ = cx.workspace_members();
@@ -57,8 +62,10 @@ fn member(alloc: Global, cx: &Context, id: PackageId) -> Result<PackageVersion, 
 
 /// The chosen packages, in order.
 fn members(alloc: Global, cx: &Context, ids: &[PackageId]) -> Result<Vec<PackageVersion>, PlanFault>
-    requires { All (λ id. Contains (context_view cx.now).metadata.workspace_members id.index) ids.now }
-    ensures ok { IfOk result (λ members. AreMembers (context_view cx.now) (map place_at ids.now) members.items) }
+    requires { All (λ id. Contains (context_view cx.now).metadata.workspace_members id.index)
+        ids.now }
+    ensures ok { IfOk result (λ members.
+        AreMembers (context_view cx.now) (map place_at ids.now) members.items) }
     ensures never { IfOk result (λ _. (e : VersionFault)
         → ¬ HasBadOwn (context_view cx.now) (map place_at ids.now) e) }
     ensures err { IfErr result (λ e. (e ≡ PlanFault.Memory)
@@ -76,7 +83,8 @@ fn members(alloc: Global, cx: &Context, ids: &[PackageId]) -> Result<Vec<Package
 
 /// What the versions and places of a plan depend on.
 pub(crate) fn scene(alloc: Global, cx: &Context, ids: &[PackageId]) -> Result<Scene, PlanFault>
-    requires { All (λ id. Contains (context_view cx.now).metadata.workspace_members id.index) ids.now }
+    requires { All (λ id. Contains (context_view cx.now).metadata.workspace_members id.index)
+        ids.now }
     ensures ok { IfOk result (IsSceneOf (context_view cx.now) (map place_at ids.now)) }
     ensures never { IfOk result (λ _. (e : VersionFault)
         → ¬ HasBadOwn (context_view cx.now) (map place_at ids.now) e) }

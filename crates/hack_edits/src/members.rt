@@ -12,8 +12,8 @@ ghost use Rattle.std.specs.Ordering.{nat_cmp};
 ghost use Rattle.toml.specs.View.{view, table_view, array_view};
 ghost use Rattle.hack_process.specs.PathTexts.{texts};
 ghost use Rattle.hack_edits.specs.KeyPaths.{members_key};
-ghost use Rattle.hack_edits.specs.Members.{in_order, leads, led_manifest, is_led, unled, item_led, unled_by};
-ghost use Rattle.hack_edits.specs.Members.{some_led, paths_left, items_at};
+ghost use Rattle.hack_edits.specs.Members.{in_order, leads, led_manifest, is_led, unled, item_led};
+ghost use Rattle.hack_edits.specs.Members.{unled_by, some_led, paths_left, items_at};
 
 use hack_manifest::lookup::value_at;
 use hack_process::paths::{join, normal};

@@ -1,11 +1,17 @@
-//! The cuts. What is borrowed from a word is cut by functions over texts, so that the parser's own steps only
-//! move its place.
+//! The cuts. What is borrowed from a word is cut by functions over texts, so that the parser's own
+//! steps only move its place.
 
-ghost use Rattle.std.specs.Prelude.{◌≡◌, ◌≢◌, ◌↔◌, ◌<◌, IsSome, OnOk, OnErr, IfOk, IfErr, length, map, drop, string_bytes, option_map};
+ghost use Rattle.std.specs.Prelude.{◌≡◌, ◌≢◌, ◌↔◌, ◌<◌, IsSome, OnOk, OnErr, IfOk, IfErr, length};
+ghost use Rattle.std.specs.Prelude.{map, drop, string_bytes, option_map};
 ghost use Rattle.std.specs.Borrow.{sem};
 ghost use Rattle.std.specs.Str.{IsCharBoundary};
-ghost use Rattle.hack_lexopt.specs.Cuts.{Left, Nothing, ShortCut, cut_of, untaken_of, first_letter, after_letter, next_cut, after_cut, attached, after_attached, value_of, after_value, optional_of, after_optional, unexpected_of, as_written, is_plain as plain};
-ghost use Rattle.hack_lexopt.specs.Parsers.{left, start, cut_in, cut_seen, letter_in, untaken_at, Leaves};
+ghost use Rattle.hack_lexopt.specs.Cuts.{Left, Nothing, ShortCut, cut_of, untaken_of, first_letter};
+ghost use Rattle.hack_lexopt.specs.Cuts.{after_letter, next_cut, after_cut, attached};
+ghost use Rattle.hack_lexopt.specs.Cuts.{after_attached, value_of, after_value, optional_of};
+ghost use Rattle.hack_lexopt.specs.Cuts.{after_optional, unexpected_of, as_written};
+ghost use Rattle.hack_lexopt.specs.Cuts.{is_plain as plain};
+ghost use Rattle.hack_lexopt.specs.Parsers.{left, start, cut_in, cut_seen, letter_in, untaken_at};
+ghost use Rattle.hack_lexopt.specs.Parsers.{Leaves};
 
 use crate::{Arg, LexFault, Parser, Place, Spot};
 use std::alloc::{AllocError, Global};
@@ -120,8 +126,8 @@ impl Parser {
         }
     }
 
-    /// The next cut, or none behind the last word. A value that nobody took is refused here, and then the
-    /// parser stands at the next word.
+    /// The next cut, or none behind the last word. A value that nobody took is refused here, and
+    /// then the parser stands at the next word.
     pub fn next(&mut self) -> Result<Option<Arg<'_>>, LexFault>
         ensures* leaves { sem 𝓛 (Leaves self.entry (after_cut (left self.old))) }
         ensures cut { cut_seen result ≡ next_cut (left self.old) }
@@ -175,8 +181,8 @@ impl Parser {
         }
     }
 
-    /// The value that is attached to the option that was cut last: what stands behind the `=` of a long one,
-    /// or the rest of a chain with one leading `=` dropped.
+    /// The value that is attached to the option that was cut last: what stands behind the `=` of a
+    /// long one, or the rest of a chain with one leading `=` dropped.
     pub fn optional_value(&mut self, alloc: Global) -> Result<Option<String>, AllocError>
         ensures value { IfOk result
             (λ value. option_map string_bytes value ≡ attached (left self.old).untaken) }
@@ -194,7 +200,8 @@ impl Parser {
         Ok(Some(value))
     }
 
-    /// The value of the option that was cut last: what is attached, else the next word whatever it is.
+    /// The value of the option that was cut last: what is attached, else the next word whatever it
+    /// is.
     pub fn value(&mut self, alloc: Global) -> Result<String, LexFault>
         ensures value { IfOk result
             (λ value. value_of (left self.old) ≡ Some (string_bytes value)) }
@@ -209,8 +216,8 @@ impl Parser {
         }
     }
 
-    /// The value of an option that may stand without one: what is attached, else the next word unless that is
-    /// an option.
+    /// The value of an option that may stand without one: what is attached, else the next word
+    /// unless that is an option.
     pub fn value_or_none(&mut self, alloc: Global) -> Result<Option<String>, AllocError>
         ensures value { IfOk result
             (λ value. option_map string_bytes value ≡ optional_of (left self.old)) }

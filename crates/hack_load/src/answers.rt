@@ -29,9 +29,9 @@ pub struct Answers {
 }
 
 impl Answers {
-    /// Asks cargo for its version, has it or stable's cargo tell the metadata, reads the manifest of
-    /// each member, and asks cargo where the call stands. A fault but that of the version ends the
-    /// questions, and so does want of memory.
+    /// Asks cargo for its version, has it or stable's cargo tell the metadata, reads the manifest
+    /// of each member, and asks cargo where the call stands. A fault but that of the version ends
+    /// the questions, and so does want of memory.
     pub fn ask<C: Caller, F: Files>(
         alloc: Global,
         args: &Args,

@@ -1,6 +1,7 @@
 //! The manifests of the members of a workspace, read from their files.
 
-ghost use Rattle.std.specs.Prelude.{◌≡◌, ◌<◌, ◌⊎◌, IfOk, IfErr, Some, Contains, length, map, slice_get};
+ghost use Rattle.std.specs.Prelude.{◌≡◌, ◌<◌, ◌⊎◌, IfOk, IfErr, Some, Contains, length, map};
+ghost use Rattle.std.specs.Prelude.{slice_get};
 ghost use Rattle.hack_files.specs.Files.{GrowsBy, KeepsAll};
 ghost use Rattle.hack_metadata.specs.View.{package_view, place_at};
 ghost use Rattle.hack_metadata.specs.Whole.{metadata_view};

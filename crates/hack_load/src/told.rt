@@ -1,6 +1,7 @@
 //! What cargo tells of itself: its minor version and its host, by `cargo -vV`.
 
-ghost use Rattle.std.specs.Prelude.{◌≡◌, IfOk, OnErr, option_map, option_copied, string_bytes, true};
+ghost use Rattle.std.specs.Prelude.{◌≡◌, IfOk, OnErr, option_map, option_copied, string_bytes};
+ghost use Rattle.std.specs.Prelude.{true};
 ghost use Rattle.hack_process.specs.Calls.{MayAdd};
 ghost use Rattle.hack_process.specs.CommandTexts.{text_of};
 ghost use Rattle.hack_process.specs.Commands.{asked_of, command_of};

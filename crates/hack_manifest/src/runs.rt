@@ -1,6 +1,7 @@
 //! Runs of whole lines that `toml` reads by themselves: where the first piece of a text ends.
 
-ghost use Rattle.std.specs.Prelude.{◌≡◌, ◌↔◌, ◌≤◌, false, IsTrue, IfOk, IfSome, IfNone, length, take};
+ghost use Rattle.std.specs.Prelude.{◌≡◌, ◌↔◌, ◌≤◌, false, IsTrue, IfOk, IfSome, IfNone, length};
+ghost use Rattle.std.specs.Prelude.{take};
 ghost use Rattle.hack_manifest.specs.Runs.{stands, IsLines, IsRun, IsFirstRun, HasNoRun};
 ghost use Rattle.hack_manifest.specs.Places.{behind};
 ghost use Rattle.hack_manifest.specs.declared.places.Place.TheVariants.{Start};

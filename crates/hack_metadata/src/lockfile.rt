@@ -1,6 +1,7 @@
 //! The lockfile, which is kept while stable's cargo runs.
 
-ghost use Rattle.std.specs.Prelude.{◌≡◌, ◌↔◌, ◌++◌, ◌∷◌, [], List, ℕ, Some, IfOk, IfErr, OnOk, OnErr, IsTrue, IsSome};
+ghost use Rattle.std.specs.Prelude.{◌≡◌, ◌↔◌, ◌++◌, ◌∷◌, [], List, ℕ, Some, IfOk, IfErr, OnOk};
+ghost use Rattle.std.specs.Prelude.{OnErr, IsTrue, IsSome};
 ghost use Rattle.hack_files.specs.Files.{KeepsAll};
 ghost use Rattle.hack_files.specs.Restore.{Kept, registered};
 ghost use Rattle.hack_metadata.specs.Left.{IsFileFault, Keeps, Leaves, Restores, IsOfFile};

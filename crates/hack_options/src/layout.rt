@@ -172,7 +172,8 @@ impl fmt::Display for Spaces {
     }
 }
 
-/// A text cut at its spaces into lines, each but the first with an indent before it. A word is as wide as it has bytes.
+/// A text cut at its spaces into lines, each but the first with an indent before it. A word is as
+/// wide as it has bytes.
 #[derive(Clone, Copy)]
 struct Wrapped<'a> {
     text: &'a str,

@@ -1,12 +1,15 @@
 //! How messages name options.
 
 ghost use Rattle.std.specs.Prelude.{◌≡◌, ◌&&◌, Some};
-ghost use Rattle.hack_options.specs.Texts.{shown, shown_name as name_of, shown_with_alias, aliased, usage_text, has_usage as named_in_help, shows_letter as letter_in_help};
+ghost use Rattle.hack_options.specs.Texts.{shown, shown_name as name_of, shown_with_alias, aliased};
+ghost use Rattle.hack_options.specs.Texts.{usage_text, has_usage as named_in_help};
+ghost use Rattle.hack_options.specs.Texts.{shows_letter as letter_in_help};
 
 use crate::{Opt, long, short};
 use std::fmt;
 
-/// The option as messages name it. `--workspace-behavior` is named with `cargo`, the only value that it takes.
+/// The option as messages name it. `--workspace-behavior` is named with `cargo`, the only value
+/// that it takes.
 impl fmt::Display for Opt {
     ghost output = { λ o. Some (shown o) };
 
@@ -33,8 +36,9 @@ impl fmt::Display for WithAlias {
     }
 }
 
-/// An option as it was written, shown as a message on its usage does: the name and the value of the help's row that is
-/// written so, else the option itself. At an option with no value a space ends the line.
+/// An option as it was written, shown as a message on its usage does: the name and the value of the
+/// help's row that is written so, else the option itself. At an option with no value a space ends
+/// the line.
 #[derive(Clone, Copy)]
 pub enum Usage<'a> {
     /// The name without its `--`.
@@ -94,7 +98,8 @@ impl Opt {
         WithAlias { option: self }
     }
 
-    /// Whether a row of the help has just this name: that of `--workspace-behavior` has its value too.
+    /// Whether a row of the help has just this name: that of `--workspace-behavior` has its value
+    /// too.
     fn has_usage(self) -> bool
         ensures { result ≡ named_in_help self }
     {

@@ -1,8 +1,10 @@
-//! The table of options. Each has a row: how it is written, how it is cut, and what the help tells of it.
+//! The table of options. Each has a row: how it is written, how it is cut, and what the help tells
+//! of it.
 
 ghost use Rattle.std.specs.Prelude.{◌≡◌, ◌↔◌, IsTrue, IsSome, is_some, false, Some};
 ghost use Rattle.hack_options.specs.Table.{entry, entry_of, out_of_help, meaning_of, same};
-ghost use Rattle.hack_options.specs.Table.{flag as flag_entry, once as once_entry, many as many_entry};
+ghost use Rattle.hack_options.specs.Table.{flag as flag_entry, once as once_entry};
+ghost use Rattle.hack_options.specs.Table.{many as many_entry};
 
 use crate::{Kind, Opt};
 
@@ -21,17 +23,19 @@ const ALSO_WITHOUT_DEFAULT: &str =
 pub struct Row {
     /// The letter behind one dash.
     pub letter: Option<char>,
-    /// Whether the help shows the letter. `-m` is cut as `--manifest-path`, though the help doesn't show it.
+    /// Whether the help shows the letter. `-m` is cut as `--manifest-path`, though the help doesn't
+    /// show it.
     pub letter_shown: bool,
     /// The name behind two dashes.
     pub name: &'static str,
     pub kind: Kind,
     /// Whether a second use is a fault.
     pub once: bool,
-    /// What the help shows behind the name, as `<PATH>`; empty where the option takes no value, or has it in its name,
-    /// as `--workspace-behavior=cargo`.
+    /// What the help shows behind the name, as `<PATH>`; empty where the option takes no value, or
+    /// has it in its name, as `--workspace-behavior=cargo`.
     pub value: &'static str,
-    /// What the help tells. It has no row for two options of Cargo and for `--include-deps-features`.
+    /// What the help tells. It has no row for two options of Cargo and for
+    /// `--include-deps-features`.
     pub(crate) told: Option<HelpText>,
 }
 
@@ -94,8 +98,8 @@ pub const ALL: [Opt; 45] = [
 ];
 
 impl Opt {
-    /// The option's row. It stands in two parts of one order, `written` and `told`: a match of both takes twice as long to
-    /// prove.
+    /// The option's row. It stands in two parts of one order, `written` and `told`: a match of both
+    /// takes twice as long to prove.
     pub fn row(self) -> Row
         ensures { entry result ≡ entry_of self }
     {
@@ -399,7 +403,8 @@ impl Row {
 
     /// The same, where the help doesn't show the letter.
     fn hidden_letter(self, letter: char) -> Row
-        ensures { entry result ≡ record (entry self) { letter = Some letter; letter_shown = false } }
+        ensures { entry result ≡ record (entry self)
+            { letter = Some letter; letter_shown = false } }
     {
         Row {
             letter: Some(letter),

@@ -1,6 +1,6 @@
-//! The plan of a call: which versions its packages use, which runs a package has, all runs in order,
-//! and the numbers of a status line. Nothing here knows a loaded workspace: a `Scene` has all that
-//! counts.
+//! The plan of a call: which versions its packages use, which runs a package has, all runs in
+//! order, and the numbers of a status line. Nothing here knows a loaded workspace: a `Scene` has
+//! all that counts.
 #![tactic(auto)]
 
 mod blocks;

@@ -211,7 +211,8 @@ impl Places {
         requires versions { GroupsBy (Some range) scene.now versions.now }
         requires counted { AreCounted scene.now counts.now }
         ensures ok { IfOk result (λ p. ArePlaces scene.now counts.now versions.now.stable p.quads) }
-        ensures spans { IfOk result (AreSpans (versions_of (Some range) versions.now.groups.items)) }
+        ensures spans { IfOk result (AreSpans
+            (versions_of (Some range) versions.now.groups.items)) }
         ensures err { IfErr result (λ e. (e ≡ PlacesFault.Memory)
             ⊎ ((e ≡ PlacesFault.TooManyRuns) × HasTooMany scene.now counts.now
             versions.now.stable)) }

@@ -73,8 +73,10 @@ pub fn features_of(
     alloc: Global,
     found: &BTreeMap<String, Vec<String>>,
 ) -> Result<Vec<Feature>, AllocError>
-    ensures names { IfOk result (λ features. map name_of features.items ≡ keys_of (feature_map found.now)) }
-    ensures groups { IfOk result (λ features. groups_of features.items ≡ map (λ name. name ∷ []) (keys_of (feature_map found.now))) }
+    ensures names { IfOk result (λ features. map name_of features.items
+        ≡ keys_of (feature_map found.now)) }
+    ensures groups { IfOk result (λ features. groups_of features.items
+        ≡ map (λ name. name ∷ []) (keys_of (feature_map found.now))) }
 {
     let mut features = Vec::new(alloc);
     for name in found.keys() {

@@ -1,7 +1,7 @@
 //! The lines of a command list.
 
-ghost use Rattle.std.specs.Prelude.{◌≡◌, ◌<◌, ◌++◌, [], ◌∷◌, List, ℕ, codes, length, map, string_bytes};
-ghost use Rattle.std.specs.Prelude.{IfOk, OnOk, OnErr};
+ghost use Rattle.std.specs.Prelude.{◌≡◌, ◌<◌, ◌++◌, [], ◌∷◌, List, ℕ, codes, length, map};
+ghost use Rattle.std.specs.Prelude.{string_bytes, IfOk, OnOk, OnErr};
 ghost use Rattle.std.specs.Io.KnownBytes.{Appends};
 ghost use Rattle.hack_features.specs.Names.{Name, shown, names_of};
 ghost use Rattle.hack_features.specs.Feature.{name_of};
@@ -86,8 +86,9 @@ impl Texts {
         })
     }
 
-    /// Puts names behind what stands on the page, with the option before them: first those of `front`, as they stand
-    /// in a line, then those at the positions. Nothing is put there where there is none.
+    /// Puts names behind what stands on the page, with the option before them: first those of
+    /// `front`, as they stand in a line, then those at the positions. Nothing is put there where
+    /// there is none.
     fn push_names(
         &self,
         front: &str,
@@ -115,8 +116,8 @@ impl Texts {
         Ok(())
     }
 
-    /// Puts the text of a run behind what stands on the page. Where it is one of a set, the names in `front` and those
-    /// at the positions are the set's.
+    /// Puts the text of a run behind what stands on the page. Where it is one of a set, the names
+    /// in `front` and those at the positions are the set's.
     fn push_run(
         &self,
         run: Run,
@@ -193,7 +194,8 @@ impl<'a> Lines<'a> {
         })
     }
 
-    /// Puts the line of the run of that rank behind what stands on the page. What stands in `positions` is replaced.
+    /// Puts the line of the run of that rank behind what stands on the page. What stands in
+    /// `positions` is replaced.
     fn push(
         &self,
         rank: usize,
@@ -255,8 +257,8 @@ pub fn write_lines<W: Write>(
     out.flush()
 }
 
-/// The command of a run of a package with these features, where `passed` are the words that the user
-/// wrote for cargo. For `check` it is listed as the text that the line of the run has.
+/// The command of a run of a package with these features, where `passed` are the words that the
+/// user wrote for cargo. For `check` it is listed as the text that the line of the run has.
 pub fn command<'a>(
     alloc: Global,
     passed: &'a [String],

@@ -26,7 +26,8 @@ fn listed_sets(
     features: &[Feature],
     found: &BTreeMap<String, Vec<String>>,
 ) -> Result<FeatureSets, AllocError>
-    ensures { IfOk result (λ sets. IsListing (length features.now) (IsListed (chosen_from wishes.now features.now (feature_map found.now))) (sets_in sets)) }
+    ensures { IfOk result (λ sets. IsListing (length features.now)
+        (IsListed (chosen_from wishes.now features.now (feature_map found.now))) (sets_in sets)) }
 {
     let candidates = all_of(alloc, features)?;
     let mut rules = Rules::new(
@@ -49,7 +50,8 @@ fn runs_of(
     features: &[Feature],
     found: &BTreeMap<String, Vec<String>>,
 ) -> Result<Runs, AllocError>
-    ensures { IfOk result (λ runs. AreListRuns wishes.now features.now (feature_map found.now) (runs_in runs)) }
+    ensures { IfOk result (λ runs. AreListRuns wishes.now features.now (feature_map found.now)
+        (runs_in runs)) }
 {
     let sets = listed_sets(alloc, wishes, features, found)?;
     let options = RunOptions {
@@ -65,11 +67,12 @@ fn runs_of(
     Runs::new(alloc, options, sets)
 }
 
-/// Reads a package's feature map from `input`, a JSON object of arrays of texts, and writes to `out` the commands of
-/// its feature powerset: what `cargo hack check --feature-powerset --no-manifest-path --print-command-list` prints for
-/// a package with these features and no dependencies. The words are `--depth N`, `--at-least-one-of LIST` and
-/// `--mutually-exclusive-features LIST`, each value a word of its own. Words are judged first and then the input, and
-/// where one is at fault nothing is written.
+/// Reads a package's feature map from `input`, a JSON object of arrays of texts, and writes to
+/// `out` the commands of its feature powerset: what `cargo hack check --feature-powerset
+/// --no-manifest-path --print-command-list` prints for a package with these features and no
+/// dependencies. The words are `--depth N`, `--at-least-one-of LIST` and
+/// `--mutually-exclusive-features LIST`, each value a word of its own. Words are judged first and
+/// then the input, and where one is at fault nothing is written.
 pub fn powerset_list<R: Read, W: Write>(
     alloc: Global,
     words: &[String],

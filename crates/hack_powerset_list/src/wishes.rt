@@ -4,8 +4,9 @@ ghost use Rattle.std.specs.Prelude.{◌≡◌, IfOk, IfErr, Some, None, option_m
 ghost use Rattle.std.specs.Prelude.{MatchBool, MatchOption};
 ghost use Rattle.hack_features.specs.Names.{names_of, shown};
 ghost use Rattle.hack_features.specs.Feature.{groups_of as names_in_groups};
-ghost use Rattle.hack_powerset_list.specs.Words.{none_written, with_value, with_words, Asks, RefusesWords};
-ghost use Rattle.hack_powerset_list.specs.Words.{IsDepth, IsNoDepth, AreGroups, LacksSeparator};
+ghost use Rattle.hack_powerset_list.specs.Words.{none_written, with_value, with_words, Asks};
+ghost use Rattle.hack_powerset_list.specs.Words.{RefusesWords, IsDepth, IsNoDepth, AreGroups};
+ghost use Rattle.hack_powerset_list.specs.Words.{LacksSeparator};
 ghost use Rattle.hack_powerset_list.specs.WishesView.{shown_text, written_in};
 
 use crate::fault::ListFault;

@@ -7,7 +7,8 @@ ghost use Rattle.hack_term.specs.Writes.{AppendsFront};
 use std::io;
 use std::io::{ErrorKind, Write};
 
-/// Writes a text, or a front of it where a write fails. A write that was interrupted is tried again.
+/// Writes a text, or a front of it where a write fails. A write that was interrupted is tried
+/// again.
 pub fn write_text<W: Write>(text: &str, out: &mut W) -> io::Result<()>
     ensures all { OnOk result (Appends (W.contents out.old) (W.contents out.new) text.now) }
     ensures front { AppendsFront (W.contents out.old) (W.contents out.new) text.now }

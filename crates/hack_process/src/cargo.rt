@@ -10,12 +10,14 @@ use hack_versions::rustup::{VersionTextFault, told_release};
 use hack_versions::version::Version;
 use std::alloc::Global;
 
-/// The version of cargo, from what `cargo -vV` answers: that of its release, since packagers add words of their own
-/// to the first line.
+/// The version of cargo, from what `cargo -vV` answers: that of its release, since packagers add
+/// words of their own to the first line.
 pub fn version(alloc: Global, answer: &str) -> Result<Version, VersionTextFault>
     ensures ok { IfOk result (TellsRelease (release_part answer.now)) }
-    ensures never { IfOk result (λ _. (e : VersionTextFault) → ¬ IsAnswerFault answer.now (release_part answer.now) e) }
-    ensures err { IfErr result (λ e. (e ≡ VersionTextFault.Memory) ⊎ IsAnswerFault answer.now (release_part answer.now) e) }
+    ensures never { IfOk result (λ _. (e : VersionTextFault)
+        → ¬ IsAnswerFault answer.now (release_part answer.now) e) }
+    ensures err { IfErr result (λ e. (e ≡ VersionTextFault.Memory)
+        ⊎ IsAnswerFault answer.now (release_part answer.now) e) }
 {
     told_release(alloc, answer, release(answer))
 }

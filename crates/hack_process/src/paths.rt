@@ -1,14 +1,16 @@
-//! Paths as texts. Nothing here asks the disk: parts stand between slashes, and a path is never anything but its
-//! bytes.
+//! Paths as texts. Nothing here asks the disk: parts stand between slashes, and a path is never
+//! anything but its bytes.
 
 ghost use Rattle.std.specs.Prelude.{◌≡◌, IfOk, OnOk, is_some, unwrap_or, string_bytes};
 ghost use Rattle.std.specs.List.{slice_split};
-ghost use Rattle.hack_process.specs.PathTexts.{join_of, parent_of, stem_of, under_of, last_part, without_ending, normal_of, kept_of, with_part, climbed, is_slash, texts};
+ghost use Rattle.hack_process.specs.PathTexts.{join_of, parent_of, stem_of, under_of, last_part};
+ghost use Rattle.hack_process.specs.PathTexts.{without_ending, normal_of, kept_of, with_part};
+ghost use Rattle.hack_process.specs.PathTexts.{climbed, is_slash, texts};
 
 use std::alloc::{AllocError, Global};
 
-/// The name that a program is called by: the last part of its path, without its ending. A path whose last part names
-/// nothing, as `..` or `/`, is its own name.
+/// The name that a program is called by: the last part of its path, without its ending. A path
+/// whose last part names nothing, as `..` or `/`, is its own name.
 pub fn stem(p: &str) -> &str
     ensures { result.now ≡ stem_of p.now }
 {
@@ -39,7 +41,8 @@ fn before_ending(part: &str) -> &str
     }
 }
 
-/// A path as it stands inside a folder: without the folder and the slash behind it, where it begins with these.
+/// A path as it stands inside a folder: without the folder and the slash behind it, where it begins
+/// with these.
 pub fn under<'a>(p: &'a str, dir: &str) -> &'a str
     ensures { result.now ≡ under_of p.now dir.now }
 {
@@ -52,7 +55,8 @@ pub fn under<'a>(p: &'a str, dir: &str) -> &'a str
     }
 }
 
-/// Where a path leads that is taken from inside a folder. A path that begins with a slash leads there from anywhere.
+/// Where a path leads that is taken from inside a folder. A path that begins with a slash leads
+/// there from anywhere.
 pub fn join(alloc: Global, dir: &str, p: &str) -> Result<String, AllocError>
     ensures { IfOk result (λ joined. string_bytes joined ≡ join_of dir.now p.now) }
 {
@@ -76,8 +80,9 @@ pub fn parent(p: &str) -> &str
     }
 }
 
-/// A path without detours: empty and `.` parts are dropped, and `..` takes the part before it away. At the root `..` is
-/// dropped, and at the front of a relative path it stays. Links on the disk are not followed.
+/// A path without detours: empty and `.` parts are dropped, and `..` takes the part before it away.
+/// At the root `..` is dropped, and at the front of a relative path it stays. Links on the disk are
+/// not followed.
 pub fn normal(alloc: Global, p: &str) -> Result<String, AllocError>
     ensures { IfOk result (λ path. string_bytes path ≡ normal_of p.now) }
 {
@@ -103,7 +108,8 @@ fn kept_parts<'a>(alloc: Global, p: &'a str, rooted: bool) -> Result<Vec<&'a str
 
 /// Adds a part to those that are kept, unless it only says where to go from there.
 fn keep<'a>(kept: &mut Vec<&'a str>, part: &'a str, rooted: bool) -> Result<(), AllocError>
-    ensures { OnOk result (texts kept.new.items ≡ with_part rooted (texts kept.old.items) part.now) }
+    ensures { OnOk result (texts kept.new.items
+        ≡ with_part rooted (texts kept.old.items) part.now) }
 {
     if part.is_empty() || part == "." {
         return Ok(());
@@ -118,7 +124,8 @@ fn keep<'a>(kept: &mut Vec<&'a str>, part: &'a str, rooted: bool) -> Result<(), 
 /// Takes the last part away, and says whether that was possible: not where a `..` has to be kept.
 fn climb(kept: &mut Vec<&str>, rooted: bool) -> bool
     ensures tells { result ≡ is_some (climbed rooted (texts kept.old.items)) }
-    ensures kept { texts kept.new.items ≡ unwrap_or (climbed rooted (texts kept.old.items)) (texts kept.old.items) }
+    ensures kept { texts kept.new.items
+        ≡ unwrap_or (climbed rooted (texts kept.old.items)) (texts kept.old.items) }
 {
     match kept.last() {
         None => rooted,

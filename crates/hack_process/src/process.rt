@@ -1,12 +1,15 @@
 //! A command of cargo: the words that it is made of, and how it is shown.
 
-ghost use Rattle.std.specs.Prelude.{◌≡◌, ◌≢◌, ◌++◌, ◌∷◌, [], ◌||◌, IfOk, IfErr, OnOk, OnErr, Some, None, map};
-ghost use Rattle.std.specs.Prelude.{true, false, string_bytes, option_map};
+ghost use Rattle.std.specs.Prelude.{◌≡◌, ◌≢◌, ◌++◌, ◌∷◌, [], ◌||◌, IfOk, IfErr, OnOk, OnErr, Some};
+ghost use Rattle.std.specs.Prelude.{None, map, true, false, string_bytes, option_map};
 ghost use Rattle.hack_process.specs.Calls.{Adds, IsSuccess, answer_of};
-ghost use Rattle.hack_process.specs.CommandTexts.{text_of, listed_of, line_of, each_spaced, shown_words, shown_features, shown_trailing, shown_program, appended, words_behind};
+ghost use Rattle.hack_process.specs.CommandTexts.{text_of, listed_of, line_of, each_spaced};
+ghost use Rattle.hack_process.specs.CommandTexts.{shown_words, shown_features, shown_trailing};
+ghost use Rattle.hack_process.specs.CommandTexts.{shown_program, appended, words_behind};
 ghost use Rattle.hack_process.specs.OwnWords.{awaits_path, shown_own};
 ghost use Rattle.hack_process.specs.Commands.{asked_of, command_of, line_text};
-ghost use Rattle.hack_process.specs.Faults.{Had, IsFault, IsReadFault, ShowsNothing, without_line_ends};
+ghost use Rattle.hack_process.specs.Faults.{Had, IsFault, IsReadFault, ShowsNothing};
+ghost use Rattle.hack_process.specs.Faults.{without_line_ends};
 
 pub use crate::caller::{Called, Caller, End};
 pub use crate::child::Child;
@@ -18,8 +21,9 @@ use std::alloc::{AllocError, Global};
 use std::convert::AsStr;
 use std::fmt;
 
-/// Collects the words of a command. They stand in this order: the program, the leading words, the passed words, the
-/// builder's own words, the features behind one `--features`, and behind `--` the trailing words.
+/// Collects the words of a command. They stand in this order: the program, the leading words, the
+/// passed words, the builder's own words, the features behind one `--features`, and behind `--` the
+/// trailing words.
 #[derive(Drop)]
 pub struct ProcessBuilder<'a> {
     program: String,
@@ -36,7 +40,9 @@ pub struct ProcessBuilder<'a> {
 impl<'a> ProcessBuilder<'a> {
     /// A command of one word.
     pub fn new(alloc: Global, program: &str) -> Result<ProcessBuilder<'a>, AllocError>
-        ensures { IfOk result (λ builder. command_of builder ≡ record { program = program.now; strip_program_path = false; leading = []; passed = []; own = []; features = None; trailing = [] }) }
+        ensures { IfOk result (λ builder. command_of builder ≡ record
+            { program = program.now; strip_program_path = false; leading = []; passed = [];
+            own = []; features = None; trailing = [] }) }
     {
         Ok(ProcessBuilder {
             program: String::from_str(alloc, program)?,
@@ -51,7 +57,8 @@ impl<'a> ProcessBuilder<'a> {
 
     /// Adds an own word.
     pub fn arg(&mut self, word: &str) -> Result<(), AllocError>
-        ensures ok { OnOk result (command_of self.new ≡ record (command_of self.old) { own = (command_of self.old).own ++ word.now ∷ [] }) }
+        ensures ok { OnOk result (command_of self.new ≡ record (command_of self.old)
+            { own = (command_of self.old).own ++ word.now ∷ [] }) }
         ensures err { OnErr result (command_of self.new ≡ command_of self.old) }
     {
         let word = String::from_str(*self.own.allocator(), word)?;
@@ -61,7 +68,8 @@ impl<'a> ProcessBuilder<'a> {
 
     /// Adds own words, or none of them where memory runs out.
     pub fn args<T: AsStr>(&mut self, words: &[T]) -> Result<(), AllocError>
-        ensures ok { OnOk result (command_of self.new ≡ record (command_of self.old) { own = (command_of self.old).own ++ map T.text words.now }) }
+        ensures ok { OnOk result (command_of self.new ≡ record (command_of self.old)
+            { own = (command_of self.old).own ++ map T.text words.now }) }
         ensures err { OnErr result (command_of self.new ≡ command_of self.old) }
     {
         let mut own = owned(*self.own.allocator(), words)?;
@@ -70,7 +78,8 @@ impl<'a> ProcessBuilder<'a> {
 
     /// Adds a leading word: one that stands before all but the program.
     pub fn leading_arg(&mut self, word: &str) -> Result<(), AllocError>
-        ensures ok { OnOk result (command_of self.new ≡ record (command_of self.old) { leading = (command_of self.old).leading ++ word.now ∷ [] }) }
+        ensures ok { OnOk result (command_of self.new ≡ record (command_of self.old)
+            { leading = (command_of self.old).leading ++ word.now ∷ [] }) }
         ensures err { OnErr result (command_of self.new ≡ command_of self.old) }
     {
         let word = String::from_str(*self.leading.allocator(), word)?;
@@ -78,18 +87,21 @@ impl<'a> ProcessBuilder<'a> {
         Ok(())
     }
 
-    /// Hands in the words that the user wrote for the command, in place of those handed in before: the passed ones,
-    /// and the trailing ones that stood behind `--`.
+    /// Hands in the words that the user wrote for the command, in place of those handed in before:
+    /// the passed ones, and the trailing ones that stood behind `--`.
     pub fn pass_words(&mut self, passed: &'a [String], trailing: &'a [String])
-        ensures { command_of self.new ≡ record (command_of self.old) { passed = map string_bytes passed.now; trailing = map string_bytes trailing.now } }
+        ensures { command_of self.new ≡ record (command_of self.old)
+            { passed = map string_bytes passed.now; trailing = map string_bytes trailing.now } }
     {
         self.passed = passed;
         self.trailing = trailing;
     }
 
-    /// Appends names to the features, or none of them where memory runs out. An empty name counts as one.
+    /// Appends names to the features, or none of them where memory runs out. An empty name counts
+    /// as one.
     pub fn append_features<T: AsStr>(&mut self, names: &[T]) -> Result<(), AllocError>
-        ensures ok { OnOk result (command_of self.new ≡ record (command_of self.old) { features = appended (command_of self.old).features (map T.text names.now) }) }
+        ensures ok { OnOk result (command_of self.new ≡ record (command_of self.old)
+            { features = appended (command_of self.old).features (map T.text names.now) }) }
         ensures err { OnErr result (command_of self.new ≡ command_of self.old) }
     {
         let alloc = *self.own.allocator();
@@ -117,7 +129,8 @@ impl<'a> ProcessBuilder<'a> {
 
     /// The words behind the program, each a word of its own, as they are handed to it.
     pub fn words(&self, alloc: Global) -> Result<Vec<&str>, AllocError>
-        ensures { IfOk result (λ words. map (λ word. word.now) words.items ≡ words_behind (command_of self.now)) }
+        ensures { IfOk result (λ words. map (λ word. word.now) words.items
+            ≡ words_behind (command_of self.now)) }
     {
         let mut words = Vec::new(alloc);
         push_words(&mut words, &self.leading)?;
@@ -128,8 +141,8 @@ impl<'a> ProcessBuilder<'a> {
         Ok(words)
     }
 
-    /// The command as a user reads it, in backquotes. A long or a verbose text shows the program's whole path, unless
-    /// this is stripped, and the own manifest path, as it stands inside `dir`.
+    /// The command as a user reads it, in backquotes. A long or a verbose text shows the program's
+    /// whole path, unless this is stripped, and the own manifest path, as it stands inside `dir`.
     pub fn text(
         &self,
         alloc: Global,
@@ -137,14 +150,15 @@ impl<'a> ProcessBuilder<'a> {
         verbose: bool,
         dir: &str,
     ) -> Result<String, AllocError>
-        ensures { IfOk result (λ text. string_bytes text ≡ text_of (long || verbose) dir.now (command_of self.now)) }
+        ensures { IfOk result (λ text. string_bytes text
+            ≡ text_of (long || verbose) dir.now (command_of self.now)) }
     {
         let line = self.line(long || verbose, dir);
         format!(in alloc; "`{line}`")
     }
 
-    /// The command as it stands in a list of commands: the verbose text, without the program's folder and without the
-    /// backquotes. Showing it takes no memory.
+    /// The command as it stands in a list of commands: the verbose text, without the program's
+    /// folder and without the backquotes. Showing it takes no memory.
     pub fn listed<'b>(&'b self, dir: &'b str) -> Line<'b>
         ensures { line_text result ≡ listed_of dir.now (command_of self.now) }
     {
@@ -168,7 +182,8 @@ impl<'a> ProcessBuilder<'a> {
             (asked_of false (command_of self.now)) (C.calls caller.old) (C.calls caller.new)) }
         ensures named { OnOk result ((command_of self.now).program ≢ []) }
         ensures err { IfErr result (IsFault C.tells (asked_of false (command_of self.now))
-            (text_of true dir.now (command_of self.now)) (C.calls caller.old) (C.calls caller.new)) }
+            (text_of true dir.now (command_of self.now))
+            (C.calls caller.old) (C.calls caller.new)) }
         ensures bare { IfErr result ShowsNothing }
     {
         let _called = self.called(alloc, caller, false, dir)?;
@@ -187,7 +202,8 @@ impl<'a> ProcessBuilder<'a> {
             (answer_of called) (C.calls caller.old) (C.calls caller.new)) }
         ensures named { OnOk result ((command_of self.now).program ≢ []) }
         ensures err { IfErr result (IsFault C.tells (asked_of true (command_of self.now))
-            (text_of true dir.now (command_of self.now)) (C.calls caller.old) (C.calls caller.new)) }
+            (text_of true dir.now (command_of self.now))
+            (C.calls caller.old) (C.calls caller.new)) }
     {
         self.called(alloc, caller, true, dir)
     }
@@ -205,7 +221,8 @@ impl<'a> ProcessBuilder<'a> {
             (asked_of true (command_of self.now)) (C.calls caller.old) (C.calls caller.new)) }
         ensures named { OnOk result ((command_of self.now).program ≢ []) }
         ensures err { IfErr result (IsReadFault C.tells (asked_of true (command_of self.now))
-            (text_of true dir.now (command_of self.now)) (C.calls caller.old) (C.calls caller.new)) }
+            (text_of true dir.now (command_of self.now))
+            (C.calls caller.old) (C.calls caller.new)) }
     {
         let called = self.called(alloc, caller, true, dir)?;
         match String::from_utf8(called.stdout) {
@@ -227,7 +244,8 @@ impl<'a> ProcessBuilder<'a> {
             (answer_of called) (C.calls caller.old) (C.calls caller.new)) }
         ensures named { OnOk result ((command_of self.now).program ≢ []) }
         ensures err { IfErr result (IsFault C.tells (asked_of capture (command_of self.now))
-            (text_of true dir.now (command_of self.now)) (C.calls caller.old) (C.calls caller.new)) }
+            (text_of true dir.now (command_of self.now))
+            (C.calls caller.old) (C.calls caller.new)) }
         ensures bare { capture ≡ false → IfErr result ShowsNothing }
     {
         let program = self.program();
@@ -321,7 +339,8 @@ impl fmt::Display for Spaced<'_> {
     }
 }
 
-/// The builder's own words, each after a space; an own manifest path and its value only where the text is full.
+/// The builder's own words, each after a space; an own manifest path and its value only where the
+/// text is full.
 #[derive(Drop)]
 struct OwnWords<'b> {
     words: &'b [String],
@@ -330,7 +349,8 @@ struct OwnWords<'b> {
 }
 
 impl fmt::Display for OwnWords<'_> {
-    ghost output = { λ own. Some (each_spaced (shown_words own.full own.dir.now (map string_bytes own.words.now))) };
+    ghost output = { λ own. Some (each_spaced
+        (shown_words own.full own.dir.now (map string_bytes own.words.now))) };
 
     fn fmt<W: fmt::Write>(&self, f: &mut fmt::Formatter<W>) -> fmt::Result {
         // Whether the word before was `--manifest-path`, whose value follows.

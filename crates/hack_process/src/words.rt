@@ -1,7 +1,7 @@
 //! Words of a command: gathered and copied, and the text of an answer without its last line ends.
 
-ghost use Rattle.std.specs.Prelude.{◌≡◌, ◌++◌, ◌∷◌, ◌<◌, ◌-◌, [], IfOk, OnOk, IsTrue, length, map, slice_index};
-ghost use Rattle.std.specs.Prelude.{string_bytes, option_map};
+ghost use Rattle.std.specs.Prelude.{◌≡◌, ◌++◌, ◌∷◌, ◌<◌, ◌-◌, [], IfOk, OnOk, IsTrue, length, map};
+ghost use Rattle.std.specs.Prelude.{slice_index, string_bytes, option_map};
 ghost use Rattle.std.specs.Bool.{OnTrue, OnFalse};
 ghost use Rattle.hack_process.specs.CommandTexts.{with_name, feature_words, marked};
 ghost use Rattle.hack_process.specs.Faults.{ends_line, without_line_ends};
@@ -10,7 +10,8 @@ use std::alloc::{AllocError, Global};
 use std::convert::AsStr;
 
 fn push_word<'b>(words: &mut Vec<&'b str>, word: &'b str) -> Result<(), AllocError>
-    ensures { OnOk result (map (λ word. word.now) words.new.items ≡ map (λ word. word.now) words.old.items ++ word.now ∷ []) }
+    ensures { OnOk result (map (λ word. word.now) words.new.items
+        ≡ map (λ word. word.now) words.old.items ++ word.now ∷ []) }
 {
     words.push(word)?;
     Ok(())
@@ -18,7 +19,8 @@ fn push_word<'b>(words: &mut Vec<&'b str>, word: &'b str) -> Result<(), AllocErr
 
 /// Adds words, in order.
 pub(crate) fn push_words<'b>(words: &mut Vec<&'b str>, more: &'b [String]) -> Result<(), AllocError>
-    ensures { OnOk result (map (λ word. word.now) words.new.items ≡ map (λ word. word.now) words.old.items ++ map string_bytes more.now) }
+    ensures { OnOk result (map (λ word. word.now) words.new.items
+        ≡ map (λ word. word.now) words.old.items ++ map string_bytes more.now) }
 {
     for word in more {
         push_word(words, word.as_str())?;
@@ -31,7 +33,9 @@ pub(crate) fn push_features<'b>(
     words: &mut Vec<&'b str>,
     features: &'b Option<String>,
 ) -> Result<(), AllocError>
-    ensures { OnOk result (map (λ word. word.now) words.new.items ≡ map (λ word. word.now) words.old.items ++ feature_words (option_map string_bytes features.now)) }
+    ensures { OnOk result (map (λ word. word.now) words.new.items
+        ≡ map (λ word. word.now) words.old.items
+        ++ feature_words (option_map string_bytes features.now)) }
 {
     match features {
         Some(names) => {
@@ -48,7 +52,8 @@ pub(crate) fn push_trailing<'b>(
     words: &mut Vec<&'b str>,
     trailing: &'b [String],
 ) -> Result<(), AllocError>
-    ensures { OnOk result (map (λ word. word.now) words.new.items ≡ map (λ word. word.now) words.old.items ++ marked (map string_bytes trailing.now)) }
+    ensures { OnOk result (map (λ word. word.now) words.new.items
+        ≡ map (λ word. word.now) words.old.items ++ marked (map string_bytes trailing.now)) }
 {
     if trailing.is_empty() {
         return Ok(());
@@ -70,7 +75,8 @@ pub(crate) fn owned<T: AsStr>(alloc: Global, words: &[T]) -> Result<Vec<String>,
 
 /// A copy of the features.
 pub(crate) fn copied(alloc: Global, features: &Option<String>) -> Result<Option<String>, AllocError>
-    ensures { IfOk result (λ copy. option_map string_bytes copy ≡ option_map string_bytes features.now) }
+    ensures { IfOk result (λ copy. option_map string_bytes copy
+        ≡ option_map string_bytes features.now) }
 {
     match features {
         Some(names) => Ok(Some(String::from_str(alloc, names.as_str())?)),
@@ -84,7 +90,8 @@ pub(crate) fn longer(
     features: Option<String>,
     name: &str,
 ) -> Result<String, AllocError>
-    ensures { IfOk result (λ names. string_bytes names ≡ with_name (option_map string_bytes features) name.now) }
+    ensures { IfOk result (λ names. string_bytes names
+        ≡ with_name (option_map string_bytes features) name.now) }
 {
     match features {
         Some(mut names) => {

@@ -1,4 +1,5 @@
-//! What rustup is asked before there is a plan: its own version, and that of the toolchain `stable`.
+//! What rustup is asked before there is a plan: its own version, and that of the toolchain
+//! `stable`.
 
 ghost use Rattle.std.specs.Prelude.{◌≡◌, IfOk, IfSome, IsSome, IsSomeAnd, None, Ok, OnErr, OnOk};
 ghost use Rattle.std.specs.Prelude.{false, string_bytes, true};

@@ -30,8 +30,8 @@ struct Listed {
     failed: u64,
 }
 
-/// Writes the commands of the chosen piece of a context's plan. Toolchains and lockfiles are made all
-/// the same.
+/// Writes the commands of the chosen piece of a context's plan. Toolchains and lockfiles are made
+/// all the same.
 pub(crate) fn list<C: Caller, O: Write, E: Write>(
     alloc: Global,
     cx: &Context,

@@ -1,5 +1,5 @@
-//! The stages of a call behind its words: what is loaded, manifests that are edited, the plan, and its
-//! runs or their list.
+//! The stages of a call behind its words: what is loaded, manifests that are edited, the plan, and
+//! its runs or their list.
 
 ghost use Rattle.std.specs.Prelude.{◌≡◌, IfOk, IsOk, OnOk, false, string_bytes, true};
 ghost use Rattle.hack_files.specs.Files.{GrowsBy};

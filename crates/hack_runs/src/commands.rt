@@ -1,7 +1,7 @@
 //! The commands of a plan.
 
-ghost use Rattle.std.specs.Prelude.{◌≡◌, ◌++◌, ◌∷◌, [], Some, None, map, option_map, IfOk, OnOk, List, ℕ, take, drop};
-ghost use Rattle.std.specs.Prelude.{string_bytes, codes};
+ghost use Rattle.std.specs.Prelude.{◌≡◌, ◌++◌, ◌∷◌, [], Some, None, map, option_map, IfOk, OnOk};
+ghost use Rattle.std.specs.Prelude.{List, ℕ, take, drop, string_bytes, codes};
 ghost use Rattle.std.specs.List.{flat_map, slice_index_or};
 ghost use Rattle.hack_features.specs.Feature.{groups_of};
 ghost use Rattle.hack_plan.specs.Runs.{run_of};
@@ -10,9 +10,9 @@ ghost use Rattle.hack_process.specs.CommandTexts.{appended};
 ghost use Rattle.hack_runs.specs.View.{call_view, package_view};
 ghost use Rattle.hack_runs.specs.Commands.{toolchain_of, program_of, leading_of, is_split};
 ghost use Rattle.hack_runs.specs.Commands.{targets_in, target_pair, manifest_words, run_words};
-ghost use Rattle.hack_runs.specs.Commands.{names_at, run_names, call_command, whole_command, run_command};
-ghost use Rattle.hack_runs.specs.Commands.{plain_command, locked_words, cleaned_words, cleaning};
-ghost use Rattle.hack_runs.specs.Commands.{lockfile_command};
+ghost use Rattle.hack_runs.specs.Commands.{names_at, run_names, call_command, whole_command};
+ghost use Rattle.hack_runs.specs.Commands.{run_command, plain_command, locked_words, cleaned_words};
+ghost use Rattle.hack_runs.specs.Commands.{cleaning, lockfile_command};
 
 use crate::parts::{CallWords, PlanPackage};
 use hack_features::Feature;

@@ -1,7 +1,8 @@
 //! What is done before the runs of each version.
 
-ghost use Rattle.std.specs.Prelude.{◌≡◌, ◌++◌, ◌∷◌, [], List, ℕ, IfOk, OnOk, length, map, filter_map};
-ghost use Rattle.std.specs.Prelude.{not, slice_get, Some, None, option_map, IsTrue, ◌↔◌, ◌&&◌, true};
+ghost use Rattle.std.specs.Prelude.{◌≡◌, ◌++◌, ◌∷◌, [], List, ℕ, IfOk, OnOk, length, map};
+ghost use Rattle.std.specs.Prelude.{filter_map, not, slice_get, Some, None, option_map, IsTrue};
+ghost use Rattle.std.specs.Prelude.{◌↔◌, ◌&&◌, true};
 ghost use Rattle.hack_plan.specs.Spans.{version_at};
 ghost use Rattle.hack_runs.specs.Prepared.{ArePrepared, IsPrepared, AreFlags, preparations_of};
 ghost use Rattle.hack_runs.specs.Prepared.{span_of};

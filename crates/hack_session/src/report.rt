@@ -1,6 +1,7 @@
 //! The report of the runs that failed.
 
-ghost use Rattle.std.specs.Prelude.{◌≡◌, ℕ, List, IfOk, Some, filter, option_map, map, slice_get, is_some};
+ghost use Rattle.std.specs.Prelude.{◌≡◌, ℕ, List, IfOk, Some, filter, option_map, map, slice_get};
+ghost use Rattle.std.specs.Prelude.{is_some};
 ghost use Rattle.std.specs.BTreeMap.{get_by_text};
 ghost use Rattle.std.specs.List.{filter_map, flat_map, list_any};
 ghost use Rattle.hack_session.specs.Reports.{IsReport, command_text, group_text, report_text};

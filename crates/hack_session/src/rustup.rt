@@ -3,8 +3,8 @@
 ghost use Rattle.std.specs.Prelude.{◌≡◌, ◌≢◌, ◌∷◌, [], List, ℕ, IfOk, MatchOption, true, not, map};
 ghost use Rattle.std.specs.Prelude.{string_bytes};
 ghost use Rattle.hack_process.specs.Commands.{asked_of, command_of};
-ghost use Rattle.hack_session.specs.Performs.{Breaks, BreaksInstall, Comes, Fails, Follows, Installs};
-ghost use Rattle.hack_session.specs.Performs.{Makes};
+ghost use Rattle.hack_session.specs.Performs.{Breaks, BreaksInstall, Comes, Fails, Follows};
+ghost use Rattle.hack_session.specs.Performs.{Installs, Makes};
 ghost use Rattle.hack_session.specs.Toolchains.{addition_of, toolchain_name, trial_of};
 
 use crate::calls::{call_in_group, call_quietly, is_memory};

@@ -1,10 +1,12 @@
-//! Lists of commands: from words and the bytes of a feature map to the bytes of the list, or the first fault.
+//! Lists of commands: from words and the bytes of a feature map to the bytes of the list, or the
+//! first fault.
 
 use crate::table::Group;
 use hack_powerset_list::powerset_list;
 use std::alloc::{AllocError, Global};
 
-/// `powerset-list`: the lines for the input, which is the first word, and the words behind it, or the fault.
+/// `powerset-list`: the lines for the input, which is the first word, and the words behind it, or
+/// the fault.
 pub(crate) fn answer(
     alloc: Global,
     group: &Group,

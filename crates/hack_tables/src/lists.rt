@@ -1,4 +1,5 @@
-//! Texts that stand for themselves: lists of names in one word, pieces of a plan, colours and log groups.
+//! Texts that stand for themselves: lists of names in one word, pieces of a plan, colours and log
+//! groups.
 
 use crate::answers::{joined, word, yes};
 use crate::table::Group;
@@ -7,9 +8,9 @@ use hack_term::partition::{Partition, PartitionKind};
 use hack_term::term::{Coloring, LogGroup};
 use std::alloc::{AllocError, Global};
 
-/// `group`, `list`: the names in one word. `has a separator`. `piece`, `kind of pieces`, `coloring`, `log group`: what the
-/// text is read as, or its fault. `places`: those that a piece has of a total, as a
-/// block or, with the setting `turn`, dealt in turn.
+/// `group`, `list`: the names in one word. `has a separator`. `piece`, `kind of pieces`,
+/// `coloring`, `log group`: what the text is read as, or its fault. `places`: those that a piece
+/// has of a total, as a block or, with the setting `turn`, dealt in turn.
 pub(crate) fn answer(
     alloc: Global,
     group: &Group,

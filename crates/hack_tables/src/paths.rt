@@ -5,7 +5,8 @@ use crate::table::Group;
 use hack_process::paths::{join, normal, parent, stem, under};
 use std::alloc::{AllocError, Global};
 
-/// `stem`, `parent`, `normal` of a path; `under` of a path and a folder; `join` of a folder and a path.
+/// `stem`, `parent`, `normal` of a path; `under` of a path and a folder; `join` of a folder and a
+/// path.
 pub(crate) fn answer(
     alloc: Global,
     group: &Group,

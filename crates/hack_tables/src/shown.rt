@@ -188,8 +188,8 @@ fn show_flags(fields: &mut Fields, args: &Args) -> Result<(), AllocError> {
     ])
 }
 
-/// The fields that aren't as words without options leave them: those with words and names, features, numbers, ways,
-/// and last what is asked.
+/// The fields that aren't as words without options leave them: those with words and names,
+/// features, numbers, ways, and last what is asked.
 pub(crate) fn args_text(alloc: Global, args: &Args) -> Result<String, AllocError> {
     let mut fields = Fields {
         text: String::new(alloc),

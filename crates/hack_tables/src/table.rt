@@ -1,10 +1,10 @@
 //! The form of a table, and the check of its rows.
 //!
-//! A line `[kind] A sentence.` begins a group of rows, of one kind of question, and says the rule that they show. A line
-//! `@ name value` says what the rows of the group are asked with. A row is a line `> question`, whose words stand
-//! between spaces, and the lines of its answer, each behind `| `. In both `\s` is a space, `\n` a line feed, `\r` a
-//! carriage return, `\t` a tab, `\0` nothing and `\\` a backslash. Empty lines and those that begin with `#` are left
-//! out.
+//! A line `[kind] A sentence.` begins a group of rows, of one kind of question, and says the rule
+//! that they show. A line `@ name value` says what the rows of the group are asked with. A row is a
+//! line `> question`, whose words stand between spaces, and the lines of its answer, each behind `|
+//! `. In both `\s` is a space, `\n` a line feed, `\r` a carriage return, `\t` a tab, `\0` nothing
+//! and `\\` a backslash. Empty lines and those that begin with `#` are left out.
 
 use crate::answers::answer;
 use std::alloc::{AllocError, AllocFailed, Global};
@@ -122,7 +122,8 @@ fn behind<'a>(line: &'a str, mark: &str) -> Option<&'a str> {
     Some(rest.strip_prefix(" ").unwrap_or(rest))
 }
 
-/// A table that is being checked: the group and the row whose lines are being read, and what was counted.
+/// A table that is being checked: the group and the row whose lines are being read, and what was
+/// counted.
 #[derive(Drop)]
 struct Reading {
     alloc: Global,
@@ -132,7 +133,8 @@ struct Reading {
 }
 
 impl Reading {
-    /// Asks the question of the row that was read last, and tells of it where its answer is another one.
+    /// Asks the question of the row that was read last, and tells of it where its answer is another
+    /// one.
     fn judge<W: Write>(&mut self, out: &mut W) -> Result<(), Fault> {
         let row = match self.row.take() {
             Some(row) => row,
@@ -219,8 +221,8 @@ fn tell<W: Write>(out: &mut W, group: &Group, row: &Row, found: &str) -> io::Res
     )
 }
 
-/// Checks the rows of a table, and tells of each wrong one to `out`: its line, its question, what was found and what was
-/// wanted.
+/// Checks the rows of a table, and tells of each wrong one to `out`: its line, its question, what
+/// was found and what was wanted.
 pub fn check<W: Write>(alloc: Global, text: &str, out: &mut W) -> Result<Counts, Fault> {
     let mut reading = Reading {
         alloc,

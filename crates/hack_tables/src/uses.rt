@@ -9,9 +9,10 @@ use hack_rules::named::{groups, lifts, names, optional_names, targets};
 use hack_uses::{Cuts, Print, Use, all_uses, count, given, leading, subcommand, value, values};
 use std::alloc::{AllocError, Global};
 
-/// `cuts`: the options and words that a parser cuts. `passed`: the words that are passed on, what is asked, or the
-/// fault. `subcommand`: of the uses of the words. `value`, `values`: of those behind the first word, which names an option. `usage`, `usage
-/// of a letter`, `named`: how an option is shown.
+/// `cuts`: the options and words that a parser cuts. `passed`: the words that are passed on, what
+/// is asked, or the fault. `subcommand`: of the uses of the words. `value`, `values`: of those
+/// behind the first word, which names an option. `usage`, `usage of a letter`, `named`: how an
+/// option is shown.
 pub(crate) fn answer(
     alloc: Global,
     group: &Group,
@@ -43,7 +44,8 @@ fn copied(alloc: Global, words: &[String]) -> Result<Vec<String>, AllocError> {
     Ok(copies)
 }
 
-/// The text of the next cut; none behind the last; where it is refused, the option and the value that nobody took.
+/// The text of the next cut; none behind the last; where it is refused, the option and the value
+/// that nobody took.
 fn cut(alloc: Global, parser: &mut Parser) -> Result<Option<String>, AllocError> {
     let value = match parser.unexpected() {
         Some(value) => String::from_str(alloc, value)?,
@@ -148,7 +150,8 @@ fn usage_of_a_letter(alloc: Global, text: &str) -> Result<String, AllocError> {
     }
 }
 
-/// How messages name the option of a name, alone and with its alias, and whether it stands for another one.
+/// How messages name the option of a name, alone and with its alias, and whether it stands for
+/// another one.
 fn named(alloc: Global, name: &str) -> Result<String, AllocError> {
     match long(name) {
         Some(option) => {
@@ -160,7 +163,8 @@ fn named(alloc: Global, name: &str) -> Result<String, AllocError> {
     }
 }
 
-/// The names, groups, targets or lifted groups that the uses of the words give, or the fault of the last.
+/// The names, groups, targets or lifted groups that the uses of the words give, or the fault of the
+/// last.
 fn given_text(
     alloc: Global,
     group: &Group,

@@ -1,4 +1,5 @@
-//! Versions and ranges of them, their steps, which package uses which, and what cargo and rustup answer.
+//! Versions and ranges of them, their steps, which package uses which, and what cargo and rustup
+//! answer.
 
 ghost use Rattle.std.specs.Prelude.{◌<◌};
 
@@ -12,9 +13,10 @@ use hack_versions::rustup::{
 use hack_versions::version::{Version, VersionRange};
 use std::alloc::{AllocError, Global};
 
-/// `version`, `range`, `minor of rustup`, `release of cargo`: what the text is read as, or its fault; `host of cargo`.
-/// `steps`, `groups`, `how many groups`: of a range, where stable is 1.70 and each package has its own version or none. `lockfiles`:
-/// before which versions the lockfile is made.
+/// `version`, `range`, `minor of rustup`, `release of cargo`: what the text is read as, or its
+/// fault; `host of cargo`. `steps`, `groups`, `how many groups`: of a range, where stable is 1.70
+/// and each package has its own version or none. `lockfiles`: before which versions the lockfile is
+/// made.
 pub(crate) fn answer(
     alloc: Global,
     group: &Group,
@@ -132,7 +134,8 @@ fn packages_of(alloc: Global, owns: &[Option<Version>]) -> Result<Vec<PackageVer
     Ok(packages)
 }
 
-/// Which version has which packages, then the notices, or just how many versions there are, or the fault.
+/// Which version has which packages, then the notices, or just how many versions there are, or the
+/// fault.
 fn groups_text(
     alloc: Global,
     group: &Group,

@@ -10,8 +10,9 @@ use std::alloc::{AllocError, Global};
 
 type Answer = Result<(Parsed, Vec<Notice>), CliFault>;
 
-/// `words`: what the words come to, with its notices, or the fault. `fields`: the fields that aren't as words without
-/// options leave them. `wants rustup`: whether rustup's version is wanted. `environment`: what is looked up of variables.
+/// `words`: what the words come to, with its notices, or the fault. `fields`: the fields that
+/// aren't as words without options leave them. `wants rustup`: whether rustup's version is wanted.
+/// `environment`: what is looked up of variables.
 pub(crate) fn answer(
     alloc: Global,
     group: &Group,
@@ -27,8 +28,8 @@ pub(crate) fn answer(
     Ok(Some(text))
 }
 
-/// An environment that says nothing but, where it does, how cargo colours its lines and that GitHub Actions runs the
-/// call.
+/// An environment that says nothing but, where it does, how cargo colours its lines and that GitHub
+/// Actions runs the call.
 fn env_of(alloc: Global, color: Option<&str>, github_actions: bool) -> Result<Env, AllocError> {
     let term_color = match color {
         Some(color) => Some(String::from_str(alloc, color)?),
@@ -100,7 +101,8 @@ fn answer_text(alloc: Global, answer: Answer) -> Result<String, AllocError> {
     Ok(text)
 }
 
-/// The fields that aren't as words without options leave them; of words that give no arguments, what they come to.
+/// The fields that aren't as words without options leave them; of words that give no arguments,
+/// what they come to.
 fn fields_text(alloc: Global, answer: Answer) -> Result<String, AllocError> {
     let (parsed, _) = match answer {
         Ok(answer) => answer,

@@ -1,4 +1,5 @@
-//! Texts that stand for themselves: lists of names in one word, pieces of a plan, and lines for the user.
+//! Texts that stand for themselves: lists of names in one word, pieces of a plan, and lines for the
+//! user.
 #![tactic(auto)]
 
 pub mod lists;

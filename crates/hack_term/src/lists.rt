@@ -61,7 +61,8 @@ pub fn unquoted(text: &str) -> &str
     }
 }
 
-/// The names of a list. One pair of equal quotes around the text is dropped, and so are empty names.
+/// The names of a list. One pair of equal quotes around the text is dropped, and so are empty
+/// names.
 pub fn split_names(alloc: Global, text: &str) -> Result<Vec<String>, AllocError>
     ensures { IfOk result (λ names. map string_bytes names.items ≡ list_names text.now) }
 {

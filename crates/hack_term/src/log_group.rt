@@ -74,8 +74,8 @@ impl LogGroup {
         }
     }
 
-    /// Opens a group with the text on `out`, or writes an info line with it on `err`. The group counts as open even
-    /// where the write of its line fails, so the fault comes beside the guard.
+    /// Opens a group with the text on `out`, or writes an info line with it on `err`. The group
+    /// counts as open even where the write of its line fails, so the fault comes beside the guard.
     pub fn print<O: Write, E: Write>(
         self,
         term: &Term,

@@ -126,8 +126,8 @@ impl Partition {
         ensures once { (kind : Kind) (p : ℕ) → p < total
             → InJustOnePiece kind self.now.count total p }
 
-        // The blocks of any plan, one behind the other, are the plan, the empty one too. Its places may be of any
-        // type: numbers stand for them.
+        // The blocks of any plan, one behind the other, are the plan, the empty one too. Its places
+        // may be of any type: numbers stand for them.
         ensures joined { (plan : List ℕ) → joined self.now.count plan ≡ plan }
     {
         match self.kind {

@@ -1,14 +1,16 @@
-//! Lines for the user, and what they leave behind for the exit status. A line goes to a writer that is handed in,
-//! and takes no memory. The answer is Ok where the whole line was written, and else the fault of the write, which a
-//! caller may ignore; a front of the line was written then.
+//! Lines for the user, and what they leave behind for the exit status. A line goes to a writer that
+//! is handed in, and takes no memory. The answer is Ok where the whole line was written, and else
+//! the fault of the write, which a caller may ignore; a front of the line was written then.
 
-ghost use Rattle.std.specs.Prelude.{◌≡◌, ◌↔◌, ◌≤◌, ◌⊎◌, IsTrue, IfSome, IfNone, OnOk, true, false, string_bytes};
+ghost use Rattle.std.specs.Prelude.{◌≡◌, ◌↔◌, ◌≤◌, ◌⊎◌, IsTrue, IfSome, IfNone, OnOk, true, false};
+ghost use Rattle.std.specs.Prelude.{string_bytes};
 ghost use Rattle.std.specs.Io.KnownBytes.{Appends};
 ghost use Rattle.hack_term.specs.Writes.{AppendsFront};
 ghost use Rattle.hack_term.specs.Lines.{coloring_name, IsNoColoring, coloring_of};
-ghost use Rattle.hack_term.specs.Lines.{info_label as label_of_info, warning_label as label_of_warnings};
-ghost use Rattle.hack_term.specs.Lines.{error_label as label_of_errors, info_line, warning_line, error_line};
-ghost use Rattle.hack_term.specs.Lines.{notice_line, after_notice};
+ghost use Rattle.hack_term.specs.Lines.{info_label as label_of_info};
+ghost use Rattle.hack_term.specs.Lines.{warning_label as label_of_warnings};
+ghost use Rattle.hack_term.specs.Lines.{error_label as label_of_errors, info_line, warning_line};
+ghost use Rattle.hack_term.specs.Lines.{error_line, notice_line, after_notice};
 
 pub use crate::log_group::{LogGroup, LogGroupFault, LogGroupGuard};
 use crate::writes::write_line;

@@ -7,8 +7,8 @@ ghost use Rattle.hack_term.specs.Writes.{AppendsFront, line};
 use std::io;
 use std::io::{ErrorKind, Write};
 
-/// Writes a text, or a front of it where a write fails. One that is interrupted is tried again; one that takes
-/// nothing is `WriteZero`.
+/// Writes a text, or a front of it where a write fails. One that is interrupted is tried again; one
+/// that takes nothing is `WriteZero`.
 pub fn write_front<W: Write>(text: &str, out: &mut W) -> io::Result<()>
     ensures all { OnOk result (Appends (W.contents out.old) (W.contents out.new) text.now) }
     ensures front { AppendsFront (W.contents out.old) (W.contents out.new) text.now }
