@@ -126,6 +126,16 @@ impl<'a> Rules<'a> {
         self.tables.is_lean(positions, next)
     }
 
+    /// Whether the set of `least` and the greater `positions` is permitted. No question is counted.
+    pub fn may_begin(&self, least: usize, positions: &[usize]) -> bool
+        requires { IsSelection (size_of self.now) (least ∷ positions.now) }
+        ensures answer { result ≡ may_of self.now (least ∷ positions.now) }
+        ensures permitted { IsTrue result
+            ↔ IsPermitted (choice_of self.now) (least ∷ positions.now) }
+    {
+        self.permits(positions, least)
+    }
+
     /// The first set, in the order of sets, that is listed, lies inside `positions` and enables the same names.
     /// None where `positions` is empty, or breaks the depth, an at-least-one group or an exclusion.
     pub fn covering(

@@ -1,37 +1,68 @@
--- Texts that are written one after the other, and fronts of them.
-use Rattle.std.proofs.Common.{◌≡◌, ℕ, ◌+◌, ◌<◌, List, [], ◌++◌, Option, Some, length, get_or, take, drop, ap, sym, subst, ◌∙◌, append_assoc, take-append-drop}
-use Rattle.std.specs.Prelude.{flat_map, slice_get}
+-- Texts that are printed one after the other, and fronts of them.
+use Rattle.std.proofs.Common.{◌≡◌, ℕ, List, [], ◌++◌, Option, ap, sym, subst, ◌∙◌, append_assoc, append-nil, Ok, Err}
+use Rattle.std.specs.Prelude.{Result, OnOk, OnErr}
 use Rattle.std.specs.Io.KnownBytes.{Appends}
-use Rattle.std.proofs.lemmas.Grind.{flat_map-append}
-use Rattle.std.proofs.lemmas.List.{take_more, flat_map_more}
-use Rattle.std.proofs.lemmas.Option.{slice_get_within, get_or_from_slice_get}
+use Rattle.std.proofs.KnownBytes.{Appends-nil, Appends-trans}
 use Rattle.hack_term.specs.Writes.{AppendsFront}
 use Rattle.hack_term.proofs.WriteLemmas.{AppendsFront-then, AppendsFront-append}
+use Rattle.hack_powerset_list.specs.LineWords.{Prints}
 
-module _ {X : Type 0} (f : X → List ℕ) (xs : List X) where
-  -- the texts up to a place, and those from there on
-  pub texts-split : (n : ℕ) → flat_map f (take n xs) ++ flat_map f (drop n xs) ≡ flat_map f xs
-  texts-split n = sym (flat_map-append f (take n xs) (drop n xs)) ∙ ap (flat_map f) (take-append-drop n xs)
+-- nothing is printed
+pub prints-none : (a : Option (List ℕ)) (page : List ℕ) → Prints a a page page []
+prints-none a page = record { written = []; whole = append-nil page; appended = Appends-nil a }
 
-  -- one text more
-  pub texts-more : (k : ℕ) (d : X) → k < length xs → flat_map f (take k xs) ++ f (get_or xs k d) ≡ flat_map f (take (k + 1) xs)
-  texts-more k d lt = flat_map_more f [] (take k xs) (get_or xs k d) ∙ ap (flat_map f) (sym (take_more xs k d lt))
+-- one text is printed behind another
+pub prints-then : (a b c : Option (List ℕ)) (p q r t u : List ℕ) → Prints a b p q t → Prints b c q r u → Prints a c p r (t ++ u)
+prints-then a b c p q r t u h k = record {
+  written = h.written ++ k.written;
+  whole = sym (append_assoc p t u)
+      ∙ ap (λ l. l ++ u) h.whole
+      ∙ append_assoc h.written q u
+      ∙ ap (λ l. h.written ++ l) k.whole
+      ∙ sym (append_assoc h.written k.written r);
+  appended = Appends-trans a b c h.written k.written h.appended k.appended;
+}
 
-  -- what was written and what stands on the page are the texts up to a place: what was written is a front of them all
-  pub front-of-texts : (n : ℕ) (a b : Option (List ℕ)) (done page : List ℕ) → done ++ page ≡ flat_map f (take n xs) → Appends a b done → AppendsFront a b (flat_map f xs)
-  front-of-texts n a b done page same written = (done, page ++ flat_map f (drop n xs), sym (texts-split n) ∙ ap (λ l. l ++ flat_map f (drop n xs)) (sym same) ∙ append_assoc done page (flat_map f (drop n xs)), written)
+-- what was written while a text was printed is a front of the page with all that was to be printed
+pub prints-front : (a b : Option (List ℕ)) (p q t rest all : List ℕ) → Prints a b p q t → all ≡ t ++ rest → AppendsFront a b (p ++ all)
+prints-front a b p q t rest all h is = (
+  h.written,
+  q ++ rest,
+  ap (λ l. p ++ l) is ∙ sym (append_assoc p t rest) ∙ ap (λ l. l ++ rest) h.whole ∙ append_assoc h.written q rest,
+  h.appended,
+)
 
-  -- and so it is with a front of the page behind it
-  pub front-with-page : (n : ℕ) (a b c : Option (List ℕ)) (done page : List ℕ) → done ++ page ≡ flat_map f (take n xs) → Appends a b done → AppendsFront b c page → AppendsFront a c (flat_map f xs)
-  front-with-page n a b c done page same written more = subst (AppendsFront a c) (ap (λ l. l ++ flat_map f (drop n xs)) same ∙ texts-split n) (AppendsFront-append a c (done ++ page) (flat_map f (drop n xs)) (AppendsFront-then a b c done page written more))
+-- and so it is where printing another text stopped
+pub prints-stopped : (a b c : Option (List ℕ)) (p q t u rest all : List ℕ) → Prints a b p q t → AppendsFront b c (q ++ u) → all ≡ t ++ (u ++ rest) → AppendsFront a c (p ++ all)
+prints-stopped a b c p q t u rest all h k is =
+    subst (AppendsFront a c)
+    (append_assoc h.written (q ++ u) rest
+    ∙ ap (λ l. h.written ++ l) (append_assoc q u rest)
+    ∙ sym (append_assoc h.written q (u ++ rest))
+    ∙ ap (λ l. l ++ (u ++ rest)) (sym h.whole)
+    ∙ append_assoc p t (u ++ rest)
+    ∙ ap (λ l. p ++ l) (sym is))
+    (AppendsFront-append a c (h.written ++ (q ++ u)) rest (AppendsFront-then a b c h.written (q ++ u) h.appended k))
 
-  -- one text more is put on the page
-  pub page-more : (n : ℕ) (x : X) (done page new : List ℕ) → slice_get xs n ≡ Some x → new ≡ page ++ f x → done ++ page ≡ flat_map f (take n xs) → done ++ new ≡ flat_map f (take (n + 1) xs)
-  page-more n x done page new found pushed same =
-      ap (λ l. done ++ l) pushed ∙ sym (append_assoc done page (f x)) ∙ ap (λ l. l ++ f x) same
-      ∙ ap (λ y. flat_map f (take n xs) ++ f y) (sym (get_or_from_slice_get xs n x x found))
-      ∙ texts-more n x (slice_get_within xs n x found)
+-- and so it is where writing the page stopped
+pub prints-written : (a b c : Option (List ℕ)) (p q t : List ℕ) → Prints a b p q t → AppendsFront b c q → AppendsFront a c (p ++ t)
+prints-written a b c p q t h k = subst (AppendsFront a c) (sym h.whole) (AppendsFront-then a b c h.written q h.appended k)
 
--- three parts of a text, and an end
-pub parts-end : (a b c all end : List ℕ) → a ++ b ++ c ≡ all → a ++ (b ++ (c ++ end)) ≡ all ++ end
-parts-end a b c all end same = sym (append_assoc a b (c ++ end)) ∙ sym (append_assoc (a ++ b) c end) ∙ ap (λ l. l ++ end) same
+-- what holds of a text holds of one that is the same
+pub on_ok-same : {T E : Type 0} (r : Result T E) (P : List ℕ → Type 0) (a b : List ℕ) → a ≡ b → OnOk r (P a) → OnOk r (P b)
+on_ok-same r P a b same h = subst (λ l. OnOk r (P l)) same h
+
+pub on_err-same : {T E : Type 0} (r : Result T E) (P : List ℕ → Type 0) (a b : List ℕ) → a ≡ b → OnErr r (P a) → OnErr r (P b)
+on_err-same r P a b same h = subst (λ l. OnErr r (P l)) same h
+
+pub on_err-any : {T E : Type 0} (r : Result T E) (X : Type 0) → X → OnErr r X
+on_err-any (Ok v) X h = tt
+on_err-any (Err e) X h = h
+
+pub on_ok-then : {T E : Type 0} (r : Result T E) (X Y : Type 0) → (X → Y) → OnOk r X → OnOk r Y
+on_ok-then (Ok v) X Y f h = f h
+on_ok-then (Err e) X Y f h = tt
+
+pub on_err-then : {T E : Type 0} (r : Result T E) (X Y : Type 0) → (X → Y) → OnErr r X → OnErr r Y
+on_err-then (Ok v) X Y f h = tt
+on_err-then (Err e) X Y f h = f h

@@ -3,14 +3,18 @@
 #![tactic(auto)]
 
 mod call;
+mod commands;
 mod fault;
 mod input;
 mod lines;
 mod list;
+mod room;
+mod runs;
+mod walk;
 mod wishes;
 mod writes;
 
 pub use call::{Ending, call_powerset_list};
 pub use fault::ListFault;
-pub use lines::command;
+pub use commands::command;
 pub use list::powerset_list;

@@ -1,70 +1,44 @@
 //! The list of commands of a package's feature powerset, from the bytes of its feature map.
 
-ghost use Rattle.std.specs.Prelude.{length, OnOk, IfOk, IfErr, map, string_bytes};
+ghost use Rattle.std.specs.Prelude.{◌≡◌, length, map, string_bytes, OnOk, IfOk, IfErr};
+ghost use Rattle.hack_features.specs.Feature.{candidates_of, groups_of};
 ghost use Rattle.hack_features.specs.FeatureMap.{feature_map};
-ghost use Rattle.hack_features.specs.Sets.{IsListing};
-ghost use Rattle.hack_features.specs.Forest.{sets_in};
-ghost use Rattle.hack_features.specs.Rules.{IsListed};
-ghost use Rattle.hack_plan.specs.RunsView.{runs_in};
+ghost use Rattle.hack_features.specs.View.{choice_of, size_of};
 ghost use Rattle.hack_powerset_list.specs.CommandList.{WritesList, RefusesList};
-ghost use Rattle.hack_powerset_list.specs.ListRuns.{chosen_from, AreListRuns};
+ghost use Rattle.hack_powerset_list.specs.ListRuns.{chosen_from};
 
 use crate::fault::ListFault;
 use crate::input::{all_of, bytes_of, features_of, map_of};
-use crate::lines::write_lines;
+use crate::runs::write_lines;
 use crate::wishes::Wishes;
-use hack_features::{Feature, FeatureSets, Rules};
-use hack_plan::runs::{RunOptions, Runs};
+use hack_features::{Feature, Rules};
 use std::alloc::{AllocError, Global};
 use std::collections::BTreeMap;
 use std::io::{Read, Write};
 
-/// The sets that are listed, as the positions of their features.
-fn listed_sets(
+/// The rules by which sets of the candidates are listed: references to all features.
+fn rules_for<'a>(
     alloc: Global,
-    wishes: &Wishes,
+    wishes: &'a Wishes,
     features: &[Feature],
-    found: &BTreeMap<String, Vec<String>>,
-) -> Result<FeatureSets, AllocError>
-    ensures { IfOk result (λ sets. IsListing (length features.now)
-        (IsListed (chosen_from wishes.now features.now (feature_map found.now))) (sets_in sets)) }
+    candidates: &'a [&'a Feature],
+    found: &'a BTreeMap<String, Vec<String>>,
+) -> Result<Rules<'a>, AllocError>
+    requires { candidates_of candidates.now ≡ groups_of features.now }
+    ensures choice { IfOk result (λ rules. choice_of rules
+        ≡ chosen_from wishes.now features.now (feature_map found.now)) }
+    ensures size { IfOk result (λ rules. size_of rules ≡ length features.now) }
 {
-    let candidates = all_of(alloc, features)?;
-    let mut rules = Rules::new(
+    let rules = Rules::new(
         alloc,
-        candidates.as_slice(),
+        candidates,
         wishes.depth,
         wishes.at_least_one_of.as_slice(),
         wishes.mutually_exclusive.as_slice(),
         found,
         &[],
     )?;
-    let pruned = rules.listed(alloc)?;
-    Ok(pruned.sets)
-}
-
-/// The runs of a package without dependencies, each of whose features is a candidate.
-fn runs_of(
-    alloc: Global,
-    wishes: &Wishes,
-    features: &[Feature],
-    found: &BTreeMap<String, Vec<String>>,
-) -> Result<Runs, AllocError>
-    ensures { IfOk result (λ runs. AreListRuns wishes.now features.now (feature_map found.now)
-        (runs_in runs)) }
-{
-    let sets = listed_sets(alloc, wishes, features, found)?;
-    let options = RunOptions {
-        powerset: true,
-        depth: wishes.depth,
-        normal: features.len(),
-        optional: 0,
-        all_optional_deps: false,
-        included: false,
-        exclude_all_features: !wishes.mutually_exclusive.is_empty(),
-        exclude_no_default_features: !wishes.at_least_one_of.is_empty(),
-    };
-    Runs::new(alloc, options, sets)
+    Ok(rules)
 }
 
 /// Reads a package's feature map from `input`, a JSON object of arrays of texts, and writes to
@@ -93,8 +67,9 @@ pub fn powerset_list<R: Read, W: Write>(
         return Err(ListFault::Input);
     };
     let features = features_of(alloc, &map)?;
-    let runs = runs_of(alloc, &wishes, features.as_slice(), &map)?;
-    match write_lines(alloc, features.as_slice(), &runs, out) {
+    let candidates = all_of(alloc, features.as_slice())?;
+    let rules = rules_for(alloc, &wishes, features.as_slice(), candidates.as_slice(), &map)?;
+    match write_lines(alloc, &wishes, features.as_slice(), &rules, out) {
         Ok(()) => Ok(()),
         Err(error) => Err(ListFault::of_error(&error, ListFault::Write)),
     }

@@ -8,7 +8,7 @@ use Rattle.hack_features.specs.Names.{Name, shown}
 use Rattle.hack_features.specs.Feature.{name_of}
 use Rattle.hack_features.specs.Sets.{chosen}
 use Rattle.hack_powerset_list.proofs.LineLemmas.{chosen-found, chosen-missed}
-use Rattle.hack_powerset_list.proofs.lines.names_at.Goals as goal
+use Rattle.hack_powerset_list.proofs.commands.names_at.Goals as goal
 
 pub loop-p-preserved-in_default : goal.loop-p-preserved-in_default
 loop-p-preserved-in_default c =

@@ -1,0 +1,148 @@
+-- The listed sets of a walk, one position more at a time.
+use Rattle.std.proofs.Common.{◌≡◌, ℕ, zero, suc, ◌+◌, ◌-◌, ◌<◌, ◌≤◌, List, [], ◌∷◌, ◌++◌, length, refl, sym, ◌∙◌, ap, subst, arith, Bool, true, false, cond, filter, append-nil, append_assoc, Option, Some, None, inl, inr, ◌⊎◌, ◌≢◌}
+use Rattle.std.specs.Prelude.{Vec, not, ◌&&◌, eqb, if◌then◌else◌, is_some, MatchOption, IsSomeAnd}
+use Rattle.std.proofs.lemmas.List.Elements.{filter-append}
+use Rattle.std.proofs.lemmas.Grind.{flat_map-append}
+use Rattle.std.proofs.lemmas.Bool.Decides.{eqb_tells}
+use Rattle.hack_features.specs.declared.rules.Rules.{Rules}
+use Rattle.hack_features.specs.Names.{Name}
+use Rattle.hack_features.specs.Questions.{is_whole}
+use Rattle.hack_features.specs.Sets.{IsWithin}
+use Rattle.hack_features.specs.View.{may_of, whole_of}
+use Rattle.hack_plan.specs.Runs.{Set}
+use Rattle.hack_powerset_list.specs.Lines.{run_line}
+use Rattle.hack_features.specs.Walk.{below}
+use Rattle.hack_powerset_list.specs.Walks.{EndsIn, IsFull, listed_below, set_lines}
+
+nonzero : (n : ℕ) → eqb (suc n) 0 ≡ false
+nonzero n = elim (eqb_tells (suc n) 0) [ inl e ↦ absurd (let z : suc n ≡ 0 = e.1 in omega arith) | inr w ↦ w.0 ]
+
+-- a set with a position isn't empty
+pub whole-front : (whole : List ℕ → Bool) (p : ℕ) (s : List ℕ) → is_whole whole (p ∷ s) ≡ whole (p ∷ s)
+whole-front whole p s = ap (λ b. not b && whole (p ∷ s)) (nonzero (length s))
+
+module _ (test : List ℕ → Bool) (may : List ℕ → Bool) (q : ℕ) (s : List ℕ) where
+  -- a position that is refused adds nothing
+  pub below-skip : may (q ∷ s) ≡ false → filter test (below may (suc q) s) ≡ filter test (below may q s)
+  below-skip refused =
+      ap (λ b. filter test (below may q s ++ (if b then (q ∷ s) ∷ below may q (q ∷ s) else []))) refused
+      ∙ ap (filter test) (append-nil (below may q s))
+
+  -- a position that is permitted adds the set with it and what is below that
+  pub below-step : may (q ∷ s) ≡ true
+      → filter test (below may (suc q) s) ≡ filter test (below may q s) ++ cond (test (q ∷ s)) ((q ∷ s) ∷ filter test (below may q (q ∷ s))) (filter test (below may q (q ∷ s)))
+  below-step permitted =
+      ap (λ b. filter test (below may q s ++ (if b then (q ∷ s) ∷ below may q (q ∷ s) else []))) permitted
+      ∙ filter-append test (below may q s) ((q ∷ s) ∷ below may q (q ∷ s))
+
+refused-front : (may : List ℕ → Bool) (most : Option ℕ) (s : List ℕ) (p : ℕ) → ((t : List ℕ) → may t ≡ true → IsWithin most t) → IsFull most (length s) → may (p ∷ s) ≡ false
+refused-front may None s p law full = absurd full
+refused-front may (Some most) s p law full = go (may (p ∷ s)) refl
+  where
+    go : (b : Bool) → may (p ∷ s) ≡ b → b ≡ false
+    go true e = absurd (let few : length (p ∷ s) ≤ most = law (p ∷ s) e in omega (arith, few, full))
+    go false e = refl
+
+-- nothing is below a set that is full
+pub below-full : (may : List ℕ → Bool) (most : Option ℕ) (s : List ℕ) (p : ℕ) → ((t : List ℕ) → may t ≡ true → IsWithin most t) → IsFull most (length s) → below may p s ≡ []
+below-full may most s zero law full = refl
+below-full may most s (suc p) law full =
+    ap (λ b. below may p s ++ (if b then (p ∷ s) ∷ below may p (p ∷ s) else [])) (refused-front may most s p law full)
+    ∙ append-nil (below may p s)
+    ∙ below-full may most s p law full
+
+-- the last of a list, where there is one
+abbrev pub Ends : {Z : Type 0} → List (List ℕ) → Option (Vec ℕ Z) → Type 0
+Ends xs last = MatchOption last (xs ≡ []) (λ set. EndsIn xs set.items)
+
+ends-behind : (xs ys : List (List ℕ)) (t : List ℕ) → EndsIn ys t → EndsIn (xs ++ ys) t
+ends-behind xs ys t h = record { front = xs ++ h.front; same = ap (λ l. xs ++ l) h.same ∙ sym (append_assoc xs h.front (t ∷ [])) }
+
+-- behind other lists
+pub ends-append : {Z : Type 0} (xs ys zs : List (List ℕ)) (last : Option (Vec ℕ Z)) → zs ≡ xs ++ ys → is_some last ≡ true → Ends ys last → Ends zs last
+ends-append xs ys zs None is some h = absurd (let e : false ≡ true = some in cc)
+ends-append xs ys zs (Some t) is some h = subst (λ l. EndsIn l t.items) (sym is) (ends-behind xs ys t.items h)
+
+pub ends-none : {Z : Type 0} (xs ys zs : List (List ℕ)) (last : Option (Vec ℕ Z)) → zs ≡ xs ++ ys → is_some last ≡ false → Ends ys last → zs ≡ xs
+ends-none xs ys zs None is none h = is ∙ ap (λ l. xs ++ l) h ∙ append-nil xs
+ends-none xs ys zs (Some t) is none h = absurd (let e : true ≡ false = none in cc)
+
+-- with one set more in front, or not
+pub ends-kept : {Z : Type 0} (b : Bool) (x : List ℕ) (ys : List (List ℕ)) (last : Option (Vec ℕ Z)) → is_some last ≡ true → Ends ys last → Ends (cond b (x ∷ ys) ys) last
+ends-kept b x ys None some h = absurd (let e : false ≡ true = some in cc)
+ends-kept true x ys (Some t) some h = record { front = x ∷ h.front; same = ap (λ l. x ∷ l) h.same }
+ends-kept false x ys (Some t) some h = h
+
+pub ends-left_out : {Z : Type 0} (b : Bool) (x : List ℕ) (ys : List (List ℕ)) (last : Option (Vec ℕ Z)) → b ≡ false → Ends ys last → Ends (cond b (x ∷ ys) ys) last
+ends-left_out b x ys last e h = subst (λ c. Ends (cond c (x ∷ ys) ys) last) (sym e) h
+
+pub ends-here : {Z : Type 0} (b : Bool) (x : List ℕ) (ys : List (List ℕ)) (last : Option (Vec ℕ Z)) (set : Vec ℕ Z) → b ≡ true → is_some last ≡ false → Ends ys last → set.items ≡ x → EndsIn (cond b (x ∷ ys) ys) set.items
+ends-here b x ys None set e none h is =
+    subst (λ c. EndsIn (cond c (x ∷ ys) ys) set.items) (sym e) (record { front = []; same = ap (λ l. x ∷ l) h ∙ ap (λ t. t ∷ []) (sym is) })
+ends-here b x ys (Some t) set e none h is = absurd (let f : true ≡ false = none in cc)
+
+-- a set that has fewer positions to go below it lists a front of what more do
+pub below-front : (test may : List ℕ → Bool) (s : List ℕ) (p limit : ℕ) → p ≤ limit → (rest : List (List ℕ)) × (filter test (below may limit s) ≡ filter test (below may p s) ++ rest)
+below-front test may s p zero le = ([], let same : zero ≡ p = omega arith in ap (λ n. filter test (below may n s)) same ∙ sym (append-nil (filter test (below may p s))))
+below-front test may s p (suc limit) le =
+    elim (lt_or_same p (suc limit) le) [
+      | inl w ↦
+          let more = below-front test may s p limit (omega (arith, w)) in
+          let added : List (List ℕ) = if may (limit ∷ s) then (limit ∷ s) ∷ below may limit (limit ∷ s) else [] in
+          (more.0 ++ filter test added,
+          filter-append test (below may limit s) added
+          ∙ ap (λ l. l ++ filter test added) more.1
+          ∙ append_assoc (filter test (below may p s)) more.0 (filter test added))
+      | inr e ↦ ([], ap (λ n. filter test (below may n s)) (sym e) ∙ sym (append-nil (filter test (below may p s))))
+    ]
+  where
+    lt_or_same : (p n : ℕ) → p ≤ n → (suc p ≤ n) ⊎ (p ≡ n)
+    lt_or_same p n h = elim (eqb_tells p n) [ inl e ↦ inr e.1 | inr w ↦ inl (let ne : p ≢ n = w.1 in omega arith) ]
+
+-- the line of one set that passes a test
+pub line-alone : (names : List Name) (test : List ℕ → Bool) (x : List ℕ) → test x ≡ true → set_lines names (filter test (x ∷ [])) ≡ run_line names (Set x)
+line-alone names test x e = ap (λ b. set_lines names (cond b (x ∷ []) [])) e ∙ append-nil (run_line names (Set x))
+
+-- the lines of listed sets, one position more at a time
+module _ (names : List Name) (test may : List ℕ → Bool) (s : List ℕ) where
+  -- the lines of the sets below a number
+  abbrev pub lines_below : ℕ → List ℕ
+  lines_below p = set_lines names (filter test (below may p s))
+
+  -- the line of the set with one position in front, and those below it
+  abbrev pub line_at : ℕ → List ℕ
+  line_at p = set_lines names (filter test ((p ∷ s) ∷ []))
+
+  abbrev pub lines_under : ℕ → List ℕ
+  lines_under p = set_lines names (filter test (below may p (p ∷ s)))
+
+  front-cond : (b : Bool) (x : List ℕ) (F : List (List ℕ)) → cond b (x ∷ F) F ≡ cond b (x ∷ []) [] ++ F
+  front-cond true x F = refl
+  front-cond false x F = refl
+
+  pub text-step : (p : ℕ) → may (p ∷ s) ≡ true → lines_below (p + 1) ≡ lines_below p ++ (line_at p ++ lines_under p)
+  text-step p permitted =
+      let under : List (List ℕ) = filter test (below may p (p ∷ s)) in
+      let here : List (List ℕ) = filter test ((p ∷ s) ∷ []) in
+      let at : p + 1 ≡ suc p = omega arith in
+      ap lines_below at
+      ∙ ap (set_lines names) (below-step test may p s permitted ∙ ap (λ l. filter test (below may p s) ++ l) (front-cond (test (p ∷ s)) (p ∷ s) under))
+      ∙ flat_map-append (λ t. run_line names (Set t)) (filter test (below may p s)) (here ++ under)
+      ∙ ap (λ l. lines_below p ++ l) (flat_map-append (λ t. run_line names (Set t)) here under)
+
+  pub text-skip : (p : ℕ) → may (p ∷ s) ≡ false → lines_below (p + 1) ≡ lines_below p
+  text-skip p refused = let at : p + 1 ≡ suc p = omega arith in ap lines_below at ∙ ap (set_lines names) (below-skip test may p s refused)
+
+  pub text-rest : (p limit : ℕ) → p ≤ limit → (rest : List ℕ) × (lines_below limit ≡ lines_below p ++ rest)
+  text-rest p limit le =
+      let more = below-front test may s p limit le in
+      (set_lines names more.0, ap (set_lines names) more.1 ∙ flat_map-append (λ t. run_line names (Set t)) (filter test (below may p s)) more.0)
+
+  -- all lines, where those of one position come next
+  pub text-all : (p limit : ℕ) → p < limit → may (p ∷ s) ≡ true → (rest : List ℕ) × (lines_below limit ≡ lines_below p ++ (line_at p ++ (lines_under p ++ rest)))
+  text-all p limit lt permitted =
+      let more = text-rest (p + 1) limit (omega (arith, lt)) in
+      (more.0,
+      more.1 ∙ ap (λ l. l ++ more.0) (text-step p permitted)
+      ∙ append_assoc (lines_below p) (line_at p ++ lines_under p) more.0
+      ∙ ap (λ l. lines_below p ++ l) (append_assoc (line_at p) (lines_under p) more.0))

@@ -1,0 +1,28 @@
+use Rattle.std.proofs.Common.{◌≡◌, ◌++◌, ◌∷◌, [], List, ℕ, map, filter, true, Bool, ap, ◌∙◌, sym, subst, string_bytes}
+use Rattle.std.specs.Prelude.{not, bytes_eq}
+use Rattle.std.proofs.lemmas.Bool.{and_from}
+use Rattle.hack_term.specs.Writes.{AppendsFront}
+use Rattle.hack_features.specs.Names.{Name}
+use Rattle.hack_features.specs.Feature.{name_of}
+use Rattle.hack_features.specs.Questions.{is_whole}
+use Rattle.hack_features.specs.View.{whole_of}
+use Rattle.hack_plan.specs.Runs.{Set}
+use Rattle.hack_powerset_list.specs.Lines.{run_line}
+use Rattle.hack_powerset_list.specs.Walks.{is_other, set_lines}
+use Rattle.hack_powerset_list.proofs.PageLemmas.{on_err-same}
+use Rattle.hack_powerset_list.proofs.ListedLemmas.{whole-front, line-alone}
+use Rattle.hack_powerset_list.proofs.walk.print_other.Goals as goal
+
+pub returns-then-ne-clause-err : goal.returns-then-ne-clause-err
+returns-then-ne-clause-err g c = λ s set others.
+    let r = c.args.lines.now.rules.now in
+    let x : List ℕ = c.args.set.now in
+    let last : List ℕ = c.args.lines.now.last.now in
+    let names : List Name = map name_of c.args.lines.now.features.now in
+    let whole : is_whole (whole_of r) x ≡ true =
+    subst (λ l. is_whole (whole_of r) l ≡ true) (sym set)
+    (whole-front (whole_of r) c.args.least s ∙ ap (whole_of r) (sym set) ∙ sym c.complete.ensures.answer ∙ c.if-complete.true) in
+    let passes : is_other r last x ≡ true = and_from (is_whole (whole_of r) x) (not (bytes_eq x last)) whole (sym c.ne.ensures ∙ c.if-ne.true) in
+    let line : run_line names (Set (c.args.least ∷ s)) ≡ set_lines names (filter (is_other r last) (x ∷ [])) =
+    ap (λ l. run_line names (Set l)) (sym set) ∙ sym (line-alone names (is_other r last) x passes) in
+    on_err-same c.print_set.result (λ l. AppendsFront (g.W.Write.contents c.args.out.now) (g.W.Write.contents c.print_set.new.out) (string_bytes c.args.page.now ++ l)) _ _ line (c.print_set.ensures.err s others)

@@ -1,0 +1,156 @@
+//! The lines of all runs of a command list.
+
+ghost use Rattle.std.specs.Prelude.{◌≡◌, ◌<◌, ◌≤◌, ◌++◌, [], ◌∷◌, ℕ, List, length, map, not, string_bytes};
+ghost use Rattle.std.specs.Prelude.{IsTrue, OnOk, OnErr, if◌then◌else◌, nat_lt};
+ghost use Rattle.std.specs.Io.KnownBytes.{Appends};
+ghost use Rattle.hack_features.specs.Feature.{name_of};
+ghost use Rattle.hack_features.specs.Sets.{IsSelection, IsWithin};
+ghost use Rattle.hack_features.specs.View.{may_of, size_of};
+ghost use Rattle.hack_term.specs.Writes.{AppendsFront};
+ghost use Rattle.hack_plan.specs.Runs.{Plain, NoDefaultFeatures, allows_two, kept, runs_from, turned};
+ghost use Rattle.hack_powerset_list.specs.Lines.{run_lines};
+ghost use Rattle.hack_powerset_list.specs.LineWords.{Prints};
+ghost use Rattle.hack_powerset_list.specs.LinesView.{AreTexts};
+ghost use Rattle.hack_powerset_list.specs.ListRuns.{options_from};
+ghost use Rattle.hack_powerset_list.specs.Room.{set_in, most_in};
+ghost use Rattle.hack_powerset_list.specs.Walks.{EndsIn, listed_in, set_lines};
+
+use crate::lines::{Texts, empty_page, print_line};
+use crate::room::SetRoom;
+use crate::walk::{SetLines, last_below, print_below, print_whole};
+use crate::wishes::Wishes;
+use crate::writes::write_text;
+use hack_features::{Feature, Questions, Rules};
+use std::alloc::Global;
+use std::io;
+use std::io::Write;
+
+/// Whether the last set runs before the others: where two features fit the depth.
+fn puts_last_first(depth: Option<usize>) -> bool
+    ensures { result ≡ allows_two depth }
+{
+    match depth {
+        None => true,
+        Some(depth) => depth > 1,
+    }
+}
+
+/// Prints the line of the run before those of sets: a plain one, or one without default features,
+/// unless these are wanted.
+fn print_front<W: Write>(
+    features: &[Feature],
+    texts: &Texts,
+    plain: bool,
+    bare: bool,
+    page: &mut String,
+    out: &mut W,
+) -> io::Result<()>
+    requires texts { AreTexts (map name_of features.now) texts.now }
+    ensures ok { OnOk result (Prints (W.contents out.old) (W.contents out.new)
+        (string_bytes page.old) (string_bytes page.new) (run_lines (map name_of features.now)
+        (if plain then Plain ∷ [] else kept bare NoDefaultFeatures))) }
+    ensures err { OnErr result (AppendsFront (W.contents out.old) (W.contents out.new)
+        (string_bytes page.old ++ run_lines (map name_of features.now)
+        (if plain then Plain ∷ [] else kept bare NoDefaultFeatures))) }
+{
+    if plain {
+        print_line(texts.plain.as_str(), "", "", page, out)
+    } else if bare {
+        print_line(texts.bare.as_str(), "", "", page, out)
+    } else {
+        Ok(())
+    }
+}
+
+/// Prints the lines of the listed sets, that of the last one before the others or behind them.
+fn print_sets<W: Write>(
+    alloc: Global,
+    lines: &SetLines<'_, '_>,
+    last_first: bool,
+    room: &mut SetRoom,
+    page: &mut String,
+    out: &mut W,
+) -> io::Result<()>
+    requires texts { AreTexts (map name_of lines.now.features.now) lines.now.texts.now }
+    requires size { size_of lines.now.rules.now ≡ length lines.now.features.now }
+    requires most { (s : List ℕ) → IsTrue (may_of lines.now.rules.now s) → IsWithin lines.now.most s }
+    requires room { most_in room.old ≡ size_of lines.now.rules.now }
+    requires none { set_in room.old ≡ [] }
+    requires last { EndsIn (listed_in lines.now.rules.now) lines.now.last.now }
+    ensures ok { OnOk result (Prints (W.contents out.old) (W.contents out.new)
+        (string_bytes page.old) (string_bytes page.new)
+        (set_lines (map name_of lines.now.features.now)
+        (turned last_first (listed_in lines.now.rules.now)))) }
+    ensures err { OnErr result (AppendsFront (W.contents out.old) (W.contents out.new)
+        (string_bytes page.old ++ set_lines (map name_of lines.now.features.now)
+        (turned last_first (listed_in lines.now.rules.now)))) }
+{
+    let n = lines.features.len();
+    if last_first {
+        print_whole(alloc, lines.features, lines.texts, lines.last, page, out)?;
+        print_below(alloc, lines, room, "", n, page, out)
+    } else {
+        print_below(alloc, lines, room, "", n, page, out)?;
+        print_whole(alloc, lines.features, lines.texts, lines.last, page, out)
+    }
+}
+
+/// Prints the lines of all runs.
+fn print_runs<W: Write>(
+    alloc: Global,
+    wishes: &Wishes,
+    features: &[Feature],
+    rules: &Rules,
+    page: &mut String,
+    out: &mut W,
+) -> io::Result<()>
+    requires { size_of rules.now ≡ length features.now }
+    ensures ok { OnOk result (Prints (W.contents out.old) (W.contents out.new)
+        (string_bytes page.old) (string_bytes page.new) (run_lines (map name_of features.now)
+        (runs_from (options_from wishes.now features.now) (listed_in rules.now)))) }
+    ensures err { OnErr result (AppendsFront (W.contents out.old) (W.contents out.new)
+        (string_bytes page.old ++ run_lines (map name_of features.now)
+        (runs_from (options_from wishes.now features.now) (listed_in rules.now)))) }
+{
+    let texts = Texts::of_check(alloc, features)?;
+    let most = rules.most();
+    let mut room = SetRoom::new(alloc, features.len())?;
+    let last = last_below(alloc, rules, most, &mut room, features.len())?;
+    let bare = wishes.at_least_one_of.is_empty();
+    let Some(last) = last else {
+        return print_front(features, &texts, features.is_empty(), bare, page, out);
+    };
+    print_front(features, &texts, false, bare, page, out)?;
+    let lines = SetLines {
+        features,
+        rules,
+        texts: &texts,
+        most,
+        last: last.as_slice(),
+    };
+    let last_first = puts_last_first(wishes.depth);
+    print_sets(alloc, &lines, last_first, &mut room, page, out)
+}
+
+/// Writes the lines of all runs, one after the other, or a front of them where memory runs out or a
+/// write fails. They are put on a page, which is written whenever it is full.
+pub fn write_lines<W: Write>(
+    alloc: Global,
+    wishes: &Wishes,
+    features: &[Feature],
+    rules: &Rules,
+    out: &mut W,
+) -> io::Result<()>
+    requires { size_of rules.now ≡ length features.now }
+    ensures all { OnOk result (Appends (W.contents out.old) (W.contents out.new)
+        (run_lines (map name_of features.now)
+        (runs_from (options_from wishes.now features.now) (listed_in rules.now)))) }
+    ensures front { AppendsFront (W.contents out.old) (W.contents out.new)
+        (run_lines (map name_of features.now)
+        (runs_from (options_from wishes.now features.now) (listed_in rules.now))) }
+{
+    let mut page = empty_page(alloc)?;
+    print_runs(alloc, wishes, features, rules, &mut page, out)?;
+    write_text(page.as_str(), out)?;
+    out.flush()
+}

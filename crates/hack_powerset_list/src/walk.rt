@@ -1,0 +1,258 @@
+//! The listed sets, one after the other, without keeping them.
+
+ghost use Rattle.std.specs.Prelude.{◌≡◌, ◌<◌, ◌≤◌, ◌++◌, ◌∷◌, [], ℕ, List, All, filter, map, length};
+ghost use Rattle.std.specs.Prelude.{IfOk, OnOk, OnErr, IsTrue, MatchOption, codes, string_bytes};
+ghost use Rattle.hack_features.specs.Feature.{name_of};
+ghost use Rattle.hack_features.specs.Sets.{IsSelection, IsWithin, chosen};
+ghost use Rattle.hack_features.specs.View.{may_of, size_of};
+ghost use Rattle.hack_term.specs.Writes.{AppendsFront};
+ghost use Rattle.hack_plan.specs.Runs.{Set};
+ghost use Rattle.hack_powerset_list.specs.Lines.{run_line};
+ghost use Rattle.hack_powerset_list.specs.LineWords.{Prints, others_text};
+ghost use Rattle.hack_powerset_list.specs.LinesView.{AreTexts};
+ghost use Rattle.hack_powerset_list.specs.Room.{set_in, most_in};
+ghost use Rattle.hack_features.specs.Walk.{below};
+ghost use Rattle.hack_powerset_list.specs.Walks.{EndsIn, IsFull, is_other, listed_below, set_lines};
+
+use crate::lines::{Texts, print_line};
+use crate::room::SetRoom;
+use hack_features::{Feature, Questions, Rules};
+use std::alloc::{AllocError, Global};
+use std::io;
+use std::io::Write;
+
+/// Whether no position may be put in front of a permitted set of so many.
+fn is_full(most: Option<usize>, positions: usize) -> bool
+    ensures { IsTrue result → IsFull most positions }
+{
+    match most {
+        None => false,
+        Some(most) => positions >= most,
+    }
+}
+
+/// The last listed set that is made of the set in the room and positions below `limit`.
+pub fn last_below(
+    alloc: Global,
+    rules: &Rules,
+    most: Option<usize>,
+    room: &mut SetRoom,
+    limit: usize,
+) -> Result<Option<Vec<usize>>, AllocError>
+    requires most { (s : List ℕ) → IsTrue (may_of rules.now s) → IsWithin most s }
+    requires room { most_in room.old ≡ size_of rules.now }
+    requires set { IsSelection (size_of rules.now) (set_in room.old) }
+    requires above { All (λ p. limit ≤ p) (set_in room.old) }
+    requires limit { limit ≤ size_of rules.now }
+    ensures last { IfOk result (λ last.
+        MatchOption last (listed_below rules.now limit (set_in room.old) ≡ [])
+        (λ set. EndsIn (listed_below rules.now limit (set_in room.old)) set.items)) }
+    ensures kept { OnOk result (set_in room.new ≡ set_in room.old) }
+    ensures room { most_in room.new ≡ most_in room.old }
+{
+    if is_full(most, room.set().len()) {
+        return Ok(None);
+    }
+    let mut p = limit;
+    while p > 0 {
+        p -= 1;
+        if !rules.may_begin(p, room.set()) {
+            continue;
+        }
+        room.put(p);
+        let mut last = last_below(alloc, rules, most, room, p)?;
+        if last.is_none() && rules.complete(room.set()) {
+            last = Some(Vec::from_slice(alloc, room.set())?);
+        }
+        room.take();
+        if last.is_some() {
+            return Ok(last);
+        }
+    }
+    Ok(None)
+}
+
+/// What the lines of sets are printed from.
+#[derive(Clone, Copy)]
+pub struct SetLines<'a, 'f> {
+    pub features: &'a [Feature],
+    pub rules: &'a Rules<'f>,
+    pub texts: &'a Texts,
+    /// How many positions a permitted set has at most, where the rules say so.
+    pub most: Option<usize>,
+    /// The set whose line stands elsewhere.
+    pub last: &'a [usize],
+}
+
+/// Prints the line of the set of `least` and others, whose names stand in `others`.
+fn print_set<W: Write>(
+    features: &[Feature],
+    texts: &Texts,
+    least: usize,
+    others: &str,
+    page: &mut String,
+    out: &mut W,
+) -> io::Result<()>
+    requires texts { AreTexts (map name_of features.now) texts.now }
+    requires least { least < length features.now }
+    ensures ok { (s : List ℕ) → others.now ≡ others_text (chosen (map name_of features.now) s)
+        → OnOk result (Prints (W.contents out.old) (W.contents out.new)
+        (string_bytes page.old) (string_bytes page.new)
+        (run_line (map name_of features.now) (Set (least ∷ s)))) }
+    ensures err { (s : List ℕ) → others.now ≡ others_text (chosen (map name_of features.now) s)
+        → OnErr result (AppendsFront (W.contents out.old) (W.contents out.new)
+        (string_bytes page.old ++ run_line (map name_of features.now) (Set (least ∷ s)))) }
+{
+    print_line(
+        texts.bare.as_str(),
+        texts.first[least].as_str(),
+        others,
+        page,
+        out,
+    )
+}
+
+/// Prints the line of the set of `least` and others, where it is listed and isn't the last one.
+fn print_other<W: Write>(
+    lines: &SetLines<'_, '_>,
+    set: &[usize],
+    least: usize,
+    others: &str,
+    page: &mut String,
+    out: &mut W,
+) -> io::Result<()>
+    requires texts { AreTexts (map name_of lines.now.features.now) lines.now.texts.now }
+    requires least { least < length lines.now.features.now }
+    requires set { IsSelection (size_of lines.now.rules.now) set.now }
+    ensures ok { (s : List ℕ) → set.now ≡ least ∷ s
+        → others.now ≡ others_text (chosen (map name_of lines.now.features.now) s)
+        → OnOk result (Prints (W.contents out.old) (W.contents out.new)
+        (string_bytes page.old) (string_bytes page.new) (set_lines (map name_of lines.now.features.now)
+        (filter (is_other lines.now.rules.now lines.now.last.now) (set.now ∷ [])))) }
+    ensures err { (s : List ℕ) → set.now ≡ least ∷ s
+        → others.now ≡ others_text (chosen (map name_of lines.now.features.now) s)
+        → OnErr result (AppendsFront (W.contents out.old) (W.contents out.new)
+        (string_bytes page.old ++ set_lines (map name_of lines.now.features.now)
+        (filter (is_other lines.now.rules.now lines.now.last.now) (set.now ∷ [])))) }
+{
+    if lines.rules.complete(set) && set != lines.last {
+        print_set(lines.features, lines.texts, least, others, page, out)
+    } else {
+        Ok(())
+    }
+}
+
+/// The names of one position more in front of others.
+fn longer(
+    alloc: Global,
+    features: &[Feature],
+    texts: &Texts,
+    least: usize,
+    others: &str,
+) -> Result<String, AllocError>
+    requires texts { AreTexts (map name_of features.now) texts.now }
+    requires least { least < length features.now }
+    ensures { (s : List ℕ) → others.now ≡ others_text (chosen (map name_of features.now) s)
+        → IfOk result (λ longer. string_bytes longer
+        ≡ others_text (chosen (map name_of features.now) (least ∷ s))) }
+{
+    let next = texts.next[least].as_str();
+    let mut longer = String::with_capacity(alloc, next.len().saturating_add(others.len()))?;
+    longer.push_str(next)?;
+    longer.push_str(others)?;
+    Ok(longer)
+}
+
+/// Prints the lines of the listed sets, but of the last one, that are made of the set in the room and
+/// positions below `limit`. The names of that set stand in `others`.
+pub fn print_below<W: Write>(
+    alloc: Global,
+    lines: &SetLines<'_, '_>,
+    room: &mut SetRoom,
+    others: &str,
+    limit: usize,
+    page: &mut String,
+    out: &mut W,
+) -> io::Result<()>
+    requires texts { AreTexts (map name_of lines.now.features.now) lines.now.texts.now }
+    requires size { size_of lines.now.rules.now ≡ length lines.now.features.now }
+    requires most { (s : List ℕ) → IsTrue (may_of lines.now.rules.now s) → IsWithin lines.now.most s }
+    requires room { most_in room.old ≡ size_of lines.now.rules.now }
+    requires set { IsSelection (size_of lines.now.rules.now) (set_in room.old) }
+    requires above { All (λ p. limit ≤ p) (set_in room.old) }
+    requires limit { limit ≤ size_of lines.now.rules.now }
+    requires others { others.now
+        ≡ others_text (chosen (map name_of lines.now.features.now) (set_in room.old)) }
+    ensures ok { OnOk result (Prints (W.contents out.old) (W.contents out.new)
+        (string_bytes page.old) (string_bytes page.new)
+        (set_lines (map name_of lines.now.features.now)
+        (filter (is_other lines.now.rules.now lines.now.last.now)
+        (below (may_of lines.now.rules.now) limit (set_in room.old))))) }
+    ensures err { OnErr result (AppendsFront (W.contents out.old) (W.contents out.new)
+        (string_bytes page.old ++ set_lines (map name_of lines.now.features.now)
+        (filter (is_other lines.now.rules.now lines.now.last.now)
+        (below (may_of lines.now.rules.now) limit (set_in room.old))))) }
+    ensures kept { OnOk result (set_in room.new ≡ set_in room.old) }
+    ensures room { most_in room.new ≡ most_in room.old }
+{
+    if is_full(lines.most, room.set().len()) {
+        return Ok(());
+    }
+    for p in 0..limit {
+        if !lines.rules.may_begin(p, room.set()) {
+            continue;
+        }
+        room.put(p);
+        print_other(lines, room.set(), p, others, page, out)?;
+        if p > 0 {
+            let longer = longer(alloc, lines.features, lines.texts, p, others)?;
+            print_below(alloc, lines, room, longer.as_str(), p, page, out)?;
+        }
+        room.take();
+    }
+    Ok(())
+}
+
+/// The names of positions, as they stand behind another one.
+fn names_behind_another(
+    alloc: Global,
+    features: &[Feature],
+    texts: &Texts,
+    positions: &[usize],
+) -> Result<String, AllocError>
+    requires texts { AreTexts (map name_of features.now) texts.now }
+    requires below { All (λ p. p < length features.now) positions.now }
+    ensures { IfOk result (λ others. string_bytes others
+        ≡ others_text (chosen (map name_of features.now) positions.now)) }
+{
+    let mut others = String::new(alloc);
+    for p in positions {
+        others.push_str(texts.next[*p].as_str())?;
+    }
+    Ok(others)
+}
+
+/// Prints the line of a set that isn't empty.
+pub fn print_whole<W: Write>(
+    alloc: Global,
+    features: &[Feature],
+    texts: &Texts,
+    set: &[usize],
+    page: &mut String,
+    out: &mut W,
+) -> io::Result<()>
+    requires texts { AreTexts (map name_of features.now) texts.now }
+    requires below { All (λ p. p < length features.now) set.now }
+    requires some { 0 < length set.now }
+    ensures ok { OnOk result (Prints (W.contents out.old) (W.contents out.new)
+        (string_bytes page.old) (string_bytes page.new)
+        (run_line (map name_of features.now) (Set set.now))) }
+    ensures err { OnErr result (AppendsFront (W.contents out.old) (W.contents out.new)
+        (string_bytes page.old ++ run_line (map name_of features.now) (Set set.now))) }
+{
+    let Some((least, rest)) = set.split_first() else {
+        return Ok(());
+    };
+    let others = names_behind_another(alloc, features, texts, rest)?;
+    print_set(features, texts, *least, others.as_str(), page, out)
+}
