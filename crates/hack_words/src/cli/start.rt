@@ -7,7 +7,7 @@ ghost use Rattle.hack_words.specs.StartView.{Begins, TakesOut};
 
 use hack_options::Opt;
 use hack_rules::fault::CliFault;
-use hack_uses::{CutFault, OwnedFlag};
+use hack_uses::{CutFault, OwnedFlag, WorkspaceBehavior};
 use std::alloc::{AllocError, Global};
 
 /// The words up to the first `--`.
@@ -70,7 +70,7 @@ fn is_behavior(word: &str) -> bool
 /// The words in front of `--`, without those that ask for Cargo's own handling of workspaces.
 #[derive(Drop)]
 struct Front {
-    cargo: bool,
+    behavior: WorkspaceBehavior,
     words: Vec<String>,
 }
 
@@ -79,11 +79,11 @@ fn taken_out(alloc: Global, front: &[String]) -> Result<Front, CliFault>
     ensures { TakesOut result (names_of front.now) }
 {
     let mut words = Vec::new(alloc);
-    let mut cargo = false;
+    let mut behavior = WorkspaceBehavior::Default;
     for word in front {
         if !is_behavior(word.as_str()) {
             words.push(word.clone()?)?;
-        } else if cargo {
+        } else if behavior == WorkspaceBehavior::Cargo {
             let flag = OwnedFlag::Long(String::from_str(alloc, "workspace-behavior")?);
             return Err(CliFault::Cut {
                 fault: CutFault::Repeat {
@@ -93,10 +93,10 @@ fn taken_out(alloc: Global, front: &[String]) -> Result<Front, CliFault>
                 },
             });
         } else {
-            cargo = true;
+            behavior = WorkspaceBehavior::Cargo;
         }
     }
-    Ok(Front { cargo, words })
+    Ok(Front { behavior, words })
 }
 
 fn copied(alloc: Global, words: &[String]) -> Result<Vec<String>, AllocError>
@@ -112,8 +112,7 @@ fn copied(alloc: Global, words: &[String]) -> Result<Vec<String>, AllocError>
 /// What words begin with.
 #[derive(Drop)]
 pub struct Start {
-    /// Cargo's own handling of workspaces is asked for.
-    pub cargo: bool,
+    pub behavior: WorkspaceBehavior,
     /// The words that are cut into options.
     pub words: Vec<String>,
     /// Those behind the first `--`.
@@ -133,10 +132,10 @@ impl Start {
                 found: first.clone()?,
             });
         }
-        let Front { cargo, words } = taken_out(alloc, before_dashes(rest))?;
+        let Front { behavior, words } = taken_out(alloc, before_dashes(rest))?;
         let trailing = copied(alloc, behind_dashes(rest))?;
         Ok(Start {
-            cargo,
+            behavior,
             words,
             trailing,
         })
