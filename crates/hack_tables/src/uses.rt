@@ -3,7 +3,7 @@
 use crate::answers::{joined, or_none, word, yes};
 use crate::table::Group;
 use hack_features::Feature;
-use hack_lexopt::{LexFault, Parser};
+use hack_lexopt::{Next, Parser};
 use hack_options::{Opt, Usage, long};
 use hack_rules::named::{groups, lifts, names, optional_names, targets};
 use hack_uses::{
@@ -47,21 +47,13 @@ fn copied(alloc: Global, words: &[String]) -> Result<Vec<String>, AllocError> {
 
 /// The text of the next cut; none behind the last; where it is refused, the option and the value that nobody took.
 fn cut(alloc: Global, parser: &mut Parser) -> Result<Option<String>, AllocError> {
-    let value = match parser.unexpected() {
-        Some(value) => String::from_str(alloc, value)?,
-        None => String::new(alloc),
-    };
-    match parser.next() {
-        Ok(Some(arg)) => return Ok(Some(format!(in alloc; "{arg}")?)),
-        Ok(None) => return Ok(None),
-        Err(LexFault::Memory) => return Err(AllocError),
-        Err(_) => {}
+    match parser.cut() {
+        Next::Cut(arg) => Ok(Some(format!(in alloc; "{arg}")?)),
+        Next::Refused { option, value } => {
+            Ok(Some(format!(in alloc; "{option} refuses {value}")?))
+        }
+        Next::End => Ok(None),
     }
-    let option = match parser.option() {
-        Some(option) => format!(in alloc; "{option}")?,
-        None => String::new(alloc),
-    };
-    Ok(Some(format!(in alloc; "{option} refuses {value}")?))
 }
 
 /// The first twenty cuts of the words.

@@ -10,30 +10,17 @@ use hack_rules::fault::CliFault;
 use hack_uses::{CutFault, OwnedFlag, WorkspaceBehavior};
 use std::alloc::{AllocError, Global};
 
-/// The words up to the first `--`.
-fn before_dashes(words: &[String]) -> &[String]
-    ensures { names_of result.now ≡ front_words (names_of words.now) }
+/// The words in front of the first `--`, and those behind it.
+fn split_at_dashes(words: &[String]) -> (&[String], &[String])
+    ensures front { names_of result.0.now ≡ front_words (names_of words.now) }
+    ensures trailing { names_of result.1.now ≡ trailing_words (names_of words.now) }
 {
     for (place, word) in words.iter().enumerate() {
         if word.as_str() == "--" {
-            return &words[..place];
+            return (&words[..place], &words[place + 1..]);
         }
     }
-    words
-}
-
-/// The words behind the first `--`.
-fn behind_dashes(words: &[String]) -> &[String]
-    ensures { names_of result.now ≡ trailing_words (names_of words.now) }
-{
-    let mut left = words;
-    while let [word, rest @ ..] = left {
-        if word.as_str() == "--" {
-            return rest;
-        }
-        left = rest;
-    }
-    left
+    (words, &[])
 }
 
 fn is_range_option(word: &str) -> bool
@@ -53,7 +40,8 @@ fn has_range(word: &str) -> bool
 pub fn wants_rustup(words: &[String]) -> bool
     ensures { result ≡ rustup_wanted (names_of words.now) }
 {
-    for word in before_dashes(words) {
+    let (front, _) = split_at_dashes(words);
+    for word in front {
         if is_range_option(word.as_str()) || has_range(word.as_str()) {
             return true;
         }
@@ -132,8 +120,9 @@ impl Start {
                 found: first.clone()?,
             });
         }
-        let Front { behavior, words } = taken_out(alloc, before_dashes(rest))?;
-        let trailing = copied(alloc, behind_dashes(rest))?;
+        let (front, trailing) = split_at_dashes(rest);
+        let Front { behavior, words } = taken_out(alloc, front)?;
+        let trailing = copied(alloc, trailing)?;
         Ok(Start {
             behavior,
             words,
