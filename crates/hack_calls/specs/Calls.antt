@@ -14,7 +14,7 @@ use Rattle.hack_versions.specs.declared.group.PackageVersion.{PackageVersion}
 use Rattle.hack_versions.specs.declared.group.VersionGroup.{VersionGroup}
 use Rattle.hack_versions.specs.Notes.{Note}
 use Rattle.hack_versions.specs.VersionTexts.{IsVersionText, IsVersionFault}
-use Rattle.hack_words.specs.declared.cli.args.WorkspaceBehavior.TheVariants.{Cargo}
+use Rattle.hack_uses.specs.declared.behavior.WorkspaceBehavior.TheVariants.{Cargo}
 use Rattle.hack_packages.specs.Candidates.{candidates, candidate_notes}
 use Rattle.hack_packages.specs.CandidatesView.{wishes}
 use Rattle.hack_packages.specs.ContextMembers.{known_as}

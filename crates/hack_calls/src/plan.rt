@@ -7,7 +7,7 @@ ghost use Rattle.hack_load.specs.ContextView.{context_view};
 ghost use Rattle.hack_packages.specs.ContextMembers.{AreChosen, IsChoiceFault};
 ghost use Rattle.hack_versions.specs.Notes.{note_of};
 ghost use Rattle.hack_versions.specs.RangeSteps.{NeedsStable};
-ghost use Rattle.hack_words.specs.declared.cli.args.WorkspaceBehavior.TheVariants.{Cargo};
+ghost use Rattle.hack_uses.specs.declared.behavior.WorkspaceBehavior.TheVariants.{Cargo};
 ghost use Rattle.hack_plan.specs.Scenes.{AreVersions, AreNotices, IsVersionsFault};
 ghost use Rattle.hack_runs.specs.View.{call_view};
 ghost use Rattle.hack_calls.specs.Calls.{IsSceneOf, HasBadOwn, call_of};

@@ -4,7 +4,7 @@ ghost use Rattle.std.specs.Prelude.{◌≡◌, ◌⊎◌, ◌↔◌, All, Contai
 ghost use Rattle.hack_metadata.specs.View.{place_at};
 ghost use Rattle.hack_load.specs.ContextView.{context_view};
 ghost use Rattle.hack_load.specs.Contexts.{rust_version_at};
-ghost use Rattle.hack_words.specs.declared.cli.args.WorkspaceBehavior.TheVariants.{Cargo};
+ghost use Rattle.hack_uses.specs.declared.behavior.WorkspaceBehavior.TheVariants.{Cargo};
 ghost use Rattle.hack_calls.specs.Calls.{IsOwn, IsBadOwn, IsMember, AreMembers, IsSceneOf};
 ghost use Rattle.hack_calls.specs.Calls.{HasBadOwn, IsOwnFault};
 

@@ -12,21 +12,32 @@ fn parser_of(alloc: Global, words: &[&str]) -> Result<Parser, AllocError> {
     Ok(Parser::from_args(alloc, list))
 }
 
-/// The text of the next cut; `end` behind the last; where it is refused the option and the value nobody took.
+/// The text of the next cut; `end` behind the last; where it is refused that of the fault.
 fn cut(alloc: Global, parser: &mut Parser) -> Result<String, AllocError> {
-    let value = match parser.unexpected() {
-        Some(value) => String::from_str(alloc, value)?,
-        None => String::new(alloc),
-    };
     match parser.next() {
-        Ok(Some(arg)) => return format!(in alloc; "{arg}"),
-        Ok(None) => return String::from_str(alloc, "end"),
-        Err(_) => {}
+        Ok(Some(arg)) => format!(in alloc; "{arg}"),
+        Ok(None) => String::from_str(alloc, "end"),
+        Err(fault) => format!(in alloc; "{fault}"),
     }
-    match parser.option() {
-        Some(option) => format!(in alloc; "{option} refuses {value}"),
-        None => String::from_str(alloc, "nothing"),
+}
+
+#[test]
+fn values_that_nobody_took(rt: HostRuntime) -> Result<(), Fail> {
+    for word in ["--foo=bar", "--foo=", "-j=4"] {
+        let mut parser = parser_of(rt.alloc(), &[word, "x"])?;
+        let _first = cut(rt.alloc(), &mut parser)?;
+        assert_eq!(rt;
+            cut(rt.alloc(), &mut parser)?.as_str(),
+            "unexpected argument",
+            "of {word}"
+        );
+        assert_eq!(rt;
+            cut(rt.alloc(), &mut parser)?.as_str(),
+            "x",
+            "behind {word}"
+        );
     }
+    Ok(())
 }
 
 #[test]

@@ -8,18 +8,24 @@ use Rattle.hack_lexopt.specs.declared.Place.TheVariants.{Closed, Value as Behind
 use Rattle.hack_lexopt.specs.declared.Parser.{Parser}
 use Rattle.hack_lexopt.specs.declared.Arg.{Arg}
 use Rattle.hack_lexopt.specs.declared.Arg.TheVariants.{Long, Short, Value}
+use Rattle.hack_lexopt.specs.declared.Flag.{Flag}
+use Rattle.hack_lexopt.specs.declared.Flag.TheVariants as flag
+use Rattle.hack_lexopt.specs.declared.Next.{Next}
+use Rattle.hack_lexopt.specs.declared.Next.TheVariants as next
 use Rattle.hack_lexopt.specs.declared.LexFault.{LexFault}
+use Rattle.hack_lexopt.specs.declared.LexFault.TheVariants.{UnexpectedValue}
 use Rattle.hack_lexopt.specs.contracts.Parser.{the_row}
-use Rattle.hack_lexopt.specs.Cuts.{Untaken, Nothing, Pending, Chain, Left, Cut, LongCut, ShortCut, ValueCut, cut_of, option_in}
+use Rattle.hack_lexopt.specs.Cuts.{Untaken, Nothing, Pending, Chain, Left, Cut, LongCut, ShortCut, ValueCut, cut_of, option_in, next_cut, unexpected_of}
+
+-- what the rest of a word leaves untaken
+abbrev pub untaken_rest : Place → List ℕ → Untaken
+untaken_rest Closed bytes = Nothing
+untaken_rest Behind bytes = Pending bytes
+untaken_rest Letters bytes = Chain bytes
 
 -- what a spot leaves untaken of its word
 abbrev pub untaken_at : Spot → List ℕ → Untaken
-untaken_at spot word = go spot.place (drop spot.at word)
-  where
-    go : Place → List ℕ → Untaken
-    go Closed bytes = Nothing
-    go Behind bytes = Pending bytes
-    go Letters bytes = Chain bytes
+untaken_at spot word = untaken_rest spot.place (drop spot.at word)
 
 -- the option that was cut last of a word: the letter of a chain, or the long name
 abbrev pub option_at : Option ℕ → List ℕ → Option Cut
@@ -45,6 +51,17 @@ abbrev pub cut_seen : Result (Option Arg) LexFault → Result (Option Cut) LexFa
 cut_seen (Ok (Some arg)) = Ok (Some (cut_in arg))
 cut_seen (Ok None) = Ok None
 cut_seen (Err fault) = Err fault
+
+-- the cut that an option is
+abbrev pub flag_cut : Flag → Cut
+flag_cut (flag.Long name) = LongCut name.now
+flag_cut (flag.Short letter) = ShortCut letter
+
+-- what is next: a cut, the end, or a value that nobody took of the option before it
+abbrev pub IsNext : Left → Next → Type 0
+IsNext left (next.Cut arg) = next_cut left ≡ Ok (Some (cut_in arg))
+IsNext left next.End = next_cut left ≡ Ok None
+IsNext left (next.Refused option value) = (next_cut left ≡ Err UnexpectedValue) × (left.option ≡ Some (flag_cut option)) × (unexpected_of left.untaken ≡ Some value.now)
 
 -- the letter of a cut, where it is one of a chain
 abbrev pub letter_in : Cut → Option ℕ

@@ -1,22 +1,30 @@
-//! The cuts. What is borrowed from a word is cut by functions over texts, so that the parser's own
-//! steps only move its place.
+//! The cuts. What is borrowed from a word is cut by functions over texts, so that the parser's own steps only
+//! move its place.
 
-ghost use Rattle.std.specs.Prelude.{◌≡◌, ◌≢◌, ◌↔◌, ◌<◌, IsSome, OnOk, OnErr, IfOk, IfErr, length};
-ghost use Rattle.std.specs.Prelude.{map, drop, string_bytes, option_map};
+ghost use Rattle.std.specs.Prelude.{◌≡◌, ◌≢◌, ◌↔◌, ◌<◌, None, Some, true, IsSome, IsTrue, OnOk, OnErr, IfOk, IfErr, length, map, drop, string_bytes, option_map};
 ghost use Rattle.std.specs.Borrow.{sem};
 ghost use Rattle.std.specs.Str.{IsCharBoundary};
-ghost use Rattle.hack_lexopt.specs.Cuts.{Left, Nothing, ShortCut, cut_of, untaken_of, first_letter};
-ghost use Rattle.hack_lexopt.specs.Cuts.{after_letter, next_cut, after_cut, attached};
-ghost use Rattle.hack_lexopt.specs.Cuts.{after_attached, value_of, after_value, optional_of};
-ghost use Rattle.hack_lexopt.specs.Cuts.{after_optional, unexpected_of, as_written};
-ghost use Rattle.hack_lexopt.specs.Cuts.{is_plain as plain};
-ghost use Rattle.hack_lexopt.specs.Parsers.{left, start, cut_in, cut_seen, letter_in, untaken_at};
-ghost use Rattle.hack_lexopt.specs.Parsers.{Leaves};
+ghost use Rattle.hack_lexopt.specs.Cuts.{Left, Nothing, ShortCut, cut_of, untaken_of, first_letter, after_letter, next_cut, after_cut, attached, after_attached, value_of, after_value, optional_of, after_optional, unexpected_of, as_written, is_plain as plain, is_long, is_equals};
+ghost use Rattle.hack_lexopt.specs.Parsers.{left, start, cut_in, cut_seen, letter_in, untaken_at, untaken_rest, option_at, flag_cut, IsNext, Leaves};
+ghost use Rattle.std.specs.List.{before_first};
 
-use crate::{Arg, LexFault, Parser, Place, Spot};
+use crate::{Arg, Flag, LexFault, Next, Parser, Place, Spot};
 use std::alloc::{AllocError, Global};
 use std::collections::VecDeque;
 use std::fmt;
+
+impl fmt::Display for Flag<'_> {
+    ghost use Rattle.std.specs.Prelude.{Some};
+
+    ghost output = { λ flag. Some (as_written (flag_cut flag)) };
+
+    fn fmt<W: fmt::Write>(&self, f: &mut fmt::Formatter<W>) -> fmt::Result {
+        match self {
+            Flag::Long(name) => write!(f, "--{name}"),
+            Flag::Short(letter) => write!(f, "-{letter}"),
+        }
+    }
+}
 
 impl fmt::Display for Arg<'_> {
     ghost use Rattle.std.specs.Prelude.{Some};
@@ -88,6 +96,7 @@ fn first_cut(word: &str) -> Head<'_>
     ensures untaken { untaken_at result.spot word.now ≡ untaken_of word.now }
     ensures boundary { IsCharBoundary word.now result.spot.at }
     ensures letters { result.spot.place ≡ Place.Letters → result.spot.at < length word.now }
+    ensures long { result.spot.place ≢ Place.Closed → result.spot.letter ≡ None → is_long word.now ≡ true }
 {
     if let Some(body) = word.strip_prefix("--") {
         return match body.split_once('=') {
@@ -101,6 +110,50 @@ fn first_cut(word: &str) -> Head<'_>
         return letter_cut(word, 1);
     }
     whole_cut(Arg::Value(word), 0, Place::Closed)
+}
+
+/// Whether the rest of a word is a value that nobody took.
+fn is_refused(place: Place, rest: &str) -> bool
+    ensures { IsTrue result ↔ IsSome (unexpected_of (untaken_rest place rest.now)) }
+{
+    match place {
+        Place::Closed => false,
+        Place::Value => true,
+        Place::Letters => rest.starts_with("="),
+    }
+}
+
+/// What of the rest of a word serves as a value.
+fn value_of(place: Place, rest: &str) -> &str
+    ensures { place ≢ Place.Closed → attached (untaken_rest place rest.now) ≡ Some result.now }
+{
+    match place {
+        Place::Letters => rest.strip_prefix("=").unwrap_or(rest),
+        _ => rest,
+    }
+}
+
+/// The name of a long option.
+fn long_name(word: &str) -> &str
+    requires { is_long word.now ≡ true }
+    ensures { result.now ≡ before_first is_equals (drop 2 word.now) }
+{
+    let body = word.strip_prefix("--").unwrap_or(word);
+    match body.split_once('=') {
+        Some((name, _)) => name,
+        None => body,
+    }
+}
+
+/// The option that was cut last of a word: a letter of a chain, else the long name.
+fn flag_of(letter: Option<char>, word: &str) -> Flag<'_>
+    requires { letter ≡ None → is_long word.now ≡ true }
+    ensures { option_at letter word.now ≡ Some (flag_cut result) }
+{
+    match letter {
+        Some(letter) => Flag::Short(letter),
+        None => Flag::Long(long_name(word)),
+    }
 }
 
 /// Whether the word is no option.
@@ -126,82 +179,68 @@ impl Parser {
         }
     }
 
-    /// The next cut, or none behind the last word. A value that nobody took is refused here, and
-    /// then the parser stands at the next word.
-    pub fn next(&mut self) -> Result<Option<Arg<'_>>, LexFault>
+    /// What is next: a cut, the end, or a value that nobody took, and then the parser stands at the next word.
+    pub fn cut(&mut self) -> Next<'_>
         ensures* leaves { sem 𝓛 (Leaves self.entry (after_cut (left self.old))) }
-        ensures cut { cut_seen result ≡ next_cut (left self.old) }
-        ensures refused { IfErr result (λ fault. fault ≡ LexFault.UnexpectedValue) }
+        ensures next { IsNext (left self.old) result }
     {
-        if self.unexpected().is_some() {
+        let Spot { letter, at, place } = self.spot;
+        if is_refused(place, &self.word.as_str()[at..]) {
             self.spot.place = Place::Closed;
-            return Err(LexFault::UnexpectedValue);
+            let word = self.word.as_str();
+            return Next::Refused {
+                option: flag_of(letter, word),
+                value: value_of(place, &word[at..]),
+            };
         }
-        if let Place::Letters = self.spot.place {
+        if let Place::Letters = place {
             // Cut twice: for the spot, and for the letter that is answered.
-            let at = self.spot.at;
             self.spot = letter_cut(self.word.as_str(), at).spot;
-            return Ok(Some(letter_cut(self.word.as_str(), at).arg));
+            return Next::Cut(letter_cut(self.word.as_str(), at).arg);
         }
         let Some(word) = self.words.pop_front() else {
-            return Ok(None);
+            return Next::End;
         };
         // Cut twice: the answer borrows the word from where the parser keeps it.
         let spot = first_cut(word.as_str()).spot;
         self.word = word;
         self.spot = spot;
-        Ok(Some(first_cut(self.word.as_str()).arg))
+        Next::Cut(first_cut(self.word.as_str()).arg)
     }
 
-    /// The option that was cut last; none where that was a value, or nothing was cut yet.
-    pub fn option(&self) -> Option<Arg<'_>>
-        ensures { option_map cut_in result ≡ (left self.now).option }
+    /// The next cut, or none behind the last word. A value that nobody took is refused here, and then the
+    /// parser stands at the next word.
+    pub fn next(&mut self) -> Result<Option<Arg<'_>>, LexFault>
+        ensures* leaves { sem 𝓛 (Leaves self.entry (after_cut (left self.old))) }
+        ensures cut { cut_seen result ≡ next_cut (left self.old) }
+        ensures refused { IfErr result (λ fault. fault ≡ LexFault.UnexpectedValue) }
     {
-        if let Some(letter) = self.spot.letter {
-            return Some(Arg::Short(letter));
-        }
-        match first_cut(self.word.as_str()).arg {
-            Arg::Value(_) => None,
-            option => Some(option),
+        match self.cut() {
+            Next::Cut(arg) => Ok(Some(arg)),
+            Next::Refused { .. } => Err(LexFault::UnexpectedValue),
+            Next::End => Ok(None),
         }
     }
 
-    /// The value that nobody took: where there is one, the next cut is refused.
-    pub fn unexpected(&self) -> Option<&str>
-        ensures value { option_map (λ text. text.now) result
-            ≡ unexpected_of (left self.now).untaken }
-        ensures refused { IsSome result
-            ↔ (next_cut (left self.now) ≡ Err LexFault.UnexpectedValue) }
-    {
-        let rest = &self.word.as_str()[self.spot.at..];
-        match self.spot.place {
-            Place::Closed => None,
-            Place::Value => Some(rest),
-            Place::Letters => rest.strip_prefix("="),
-        }
-    }
-
-    /// The value that is attached to the option that was cut last: what stands behind the `=` of a
-    /// long one, or the rest of a chain with one leading `=` dropped.
+    /// The value that is attached to the option that was cut last: what stands behind the `=` of a long one,
+    /// or the rest of a chain with one leading `=` dropped.
     pub fn optional_value(&mut self, alloc: Global) -> Result<Option<String>, AllocError>
         ensures value { IfOk result
             (λ value. option_map string_bytes value ≡ attached (left self.old).untaken) }
         ensures ok { OnOk result (left self.new ≡ after_attached (left self.old)) }
         ensures err { OnErr result (left self.new ≡ left self.old) }
     {
-        let rest = &self.word.as_str()[self.spot.at..];
-        let value = match self.spot.place {
-            Place::Closed => return Ok(None),
-            Place::Value => rest,
-            Place::Letters => rest.strip_prefix("=").unwrap_or(rest),
-        };
+        let Spot { at, place, .. } = self.spot;
+        if let Place::Closed = place {
+            return Ok(None);
+        }
+        let value = value_of(place, &self.word.as_str()[at..]);
         let value = String::from_str(alloc, value)?;
         self.spot.place = Place::Closed;
         Ok(Some(value))
     }
 
-    /// The value of the option that was cut last: what is attached, else the next word whatever it
-    /// is.
+    /// The value of the option that was cut last: what is attached, else the next word whatever it is.
     pub fn value(&mut self, alloc: Global) -> Result<String, LexFault>
         ensures value { IfOk result
             (λ value. value_of (left self.old) ≡ Some (string_bytes value)) }
@@ -216,8 +255,8 @@ impl Parser {
         }
     }
 
-    /// The value of an option that may stand without one: what is attached, else the next word
-    /// unless that is an option.
+    /// The value of an option that may stand without one: what is attached, else the next word unless that is
+    /// an option.
     pub fn value_or_none(&mut self, alloc: Global) -> Result<Option<String>, AllocError>
         ensures value { IfOk result
             (λ value. option_map string_bytes value ≡ optional_of (left self.old)) }

@@ -3,9 +3,10 @@
 //! more is a chain of letters; a lone `-` and any other word is a value.
 #![tactic(auto)]
 
-ghost use Rattle.std.specs.Prelude.{◌≡◌, ◌<◌, length, string_bytes};
+ghost use Rattle.std.specs.Prelude.{◌≡◌, ◌≢◌, ◌<◌, None, true, length, string_bytes};
 ghost use Rattle.std.specs.Str.{IsCharBoundary};
-ghost use Rattle.hack_lexopt.specs.declared.Place.TheVariants.{Letters};
+ghost use Rattle.hack_lexopt.specs.Cuts.{is_long};
+ghost use Rattle.hack_lexopt.specs.declared.Place.TheVariants.{Closed, Letters};
 
 use std::alloc::AllocError;
 use std::collections::VecDeque;
@@ -46,6 +47,25 @@ pub enum Arg<'a> {
     Value(&'a str),
 }
 
+/// An option as it was written. Its text is that, `--name` or `-c`.
+#[derive(Clone, Copy, Debug, PartialEq, Eq)]
+pub enum Flag<'a> {
+    /// The name without its `--`.
+    Long(&'a str),
+    Short(char),
+}
+
+/// What is next of the words.
+#[derive(Clone, Copy, Debug, PartialEq, Eq)]
+pub enum Next<'a> {
+    /// An option, or a word that is none.
+    Cut(Arg<'a>),
+    /// Nobody took the value that is attached to the option.
+    Refused { option: Flag<'a>, value: &'a str },
+    /// No word is left.
+    End,
+}
+
 /// What is left of a word.
 #[derive(Clone, Copy)]
 enum Place {
@@ -75,4 +95,5 @@ pub struct Parser {
     spot: Spot,
     ghost boundary: { IsCharBoundary (string_bytes word) spot.at },
     ghost letters: { spot.place ≡ Letters → spot.at < length (string_bytes word) },
+    ghost long: { spot.place ≢ Closed → spot.letter ≡ None → is_long (string_bytes word) ≡ true },
 }

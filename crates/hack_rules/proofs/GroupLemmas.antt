@@ -1,5 +1,5 @@
 -- One more text, and the feature of it.
-use Rattle.std.proofs.Common.{◌≡◌, ◌∙◌, ◌&&◌, refl, ap, sym, subst, append-nil, Option, Some, None, ℕ, List, [], ◌∷◌, ◌++◌, map, String, string_bytes, string_eq}
+use Rattle.std.proofs.Common.{◌≡◌, ◌∙◌, ◌&&◌, refl, ap, sym, subst, Some, ℕ, List, [], ◌∷◌, ◌++◌, map, String, string_bytes, string_eq}
 use Rattle.std.specs.Cmp.Lexicographic.{pointwise}
 use Rattle.std.specs.List.{filter_map}
 use Rattle.std.specs.Str.{bytes_eq}
@@ -10,8 +10,8 @@ use Rattle.hack_features.specs.declared.feature.Feature.TheVariants.{Normal, Gro
 use Rattle.hack_features.specs.Feature.{IsGroup, IsNormal, group_of}
 use Rattle.hack_features.specs.Names.{names_of}
 use Rattle.hack_term.specs.Lists.{group_names}
-use Rattle.hack_rules.specs.CliGroups.{AreGroupsOf, AreNormalsOf, AreLifts}
-use Rattle.hack_rules.specs.CliLists.{Lift, lift_of, same_names}
+use Rattle.hack_rules.specs.CliGroups.{AreGroupsOf, AreNormalsOf, AreLifts, AreReadAs, lift_in}
+use Rattle.hack_rules.specs.CliLists.{Lift, first_failing, is_lift, lift_of, same_names}
 
 pub AreGroupsOf-more : (texts : List (List ℕ)) (features : List Feature) (text : List ℕ) (feature : Feature) → AreGroupsOf texts features → IsGroup (group_names text) feature → AreGroupsOf (texts ++ text ∷ []) (features ++ feature ∷ [])
 AreGroupsOf-more [] [] text feature h k = (k, tt)
@@ -50,20 +50,27 @@ same-names [] (y ∷ ys) = refl
 same-names (x ∷ xs) [] = refl
 same-names (x ∷ xs) (y ∷ ys) = ap (λ b. bytes_eq (string_bytes x) (string_bytes y) && b) (same-names xs ys)
 
--- one more text, which lifts a group or none
+-- one more text, which lifts a group
 taken-lifts : {Y : Type 0} (texts : List (String Y)) (text : String Y) → filter_map lift_of (map string_bytes (texts ++ text ∷ [])) ≡ filter_map lift_of (map string_bytes texts) ++ filter_map lift_of (string_bytes text ∷ [])
 taken-lifts texts text = ap (filter_map lift_of) (map-append string_bytes texts (text ∷ [])) ∙ filter_map-append lift_of (map string_bytes texts) (string_bytes text ∷ [])
 
-abbrev only : Option Lift → List Lift
-only None = []
-only (Some lift) = lift ∷ []
-
-one-lift : (text : List ℕ) (o : Option Lift) → lift_of text ≡ o → filter_map lift_of (text ∷ []) ≡ only o
-one-lift text None e = rw e refl
-one-lift text (Some lift) e = rw e refl
-
-pub lift-none : {Y : Type 0} (texts : List (String Y)) (pairs : List (String Y × Feature)) (text : String Y) → AreLifts (filter_map lift_of (map string_bytes texts)) pairs → lift_of (string_bytes text) ≡ None → AreLifts (filter_map lift_of (map string_bytes (texts ++ text ∷ []))) pairs
-lift-none texts pairs text h e = subst (λ (ls : List Lift). AreLifts ls pairs) (sym (taken-lifts texts text ∙ ap (λ ls. filter_map lift_of (map string_bytes texts) ++ ls) (one-lift (string_bytes text) None e) ∙ append-nil (filter_map lift_of (map string_bytes texts)))) h
+one-lift : (text : List ℕ) (lift : Lift) → lift_of text ≡ Some lift → filter_map lift_of (text ∷ []) ≡ lift ∷ []
+one-lift text lift e = rw e refl
 
 pub lift-some : {Y : Type 0} (texts : List (String Y)) (pairs : List (String Y × Feature)) (text : String Y) (lift : Lift) (pair : String Y × Feature) → AreLifts (filter_map lift_of (map string_bytes texts)) pairs → lift_of (string_bytes text) ≡ Some lift → string_bytes pair.0 ≡ lift.owner → IsGroup lift.group pair.1 → AreLifts (filter_map lift_of (map string_bytes (texts ++ text ∷ []))) (pairs ++ pair ∷ [])
-lift-some texts pairs text lift pair h e k l = subst (λ (ls : List Lift). AreLifts ls (pairs ++ pair ∷ [])) (sym (taken-lifts texts text ∙ ap (λ ls. filter_map lift_of (map string_bytes texts) ++ ls) (one-lift (string_bytes text) (Some lift) e))) (AreLifts-more (filter_map lift_of (map string_bytes texts)) pairs lift pair h k l)
+lift-some texts pairs text lift pair h e k l = subst (λ (ls : List Lift). AreLifts ls (pairs ++ pair ∷ [])) (sym (taken-lifts texts text ∙ ap (λ ls. filter_map lift_of (map string_bytes texts) ++ ls) (one-lift (string_bytes text) lift e))) (AreLifts-more (filter_map lift_of (map string_bytes texts)) pairs lift pair h k l)
+
+-- what a text is read as, by the parts that were made of it
+pub lift-read : {Y : Type 0} (text owner : List ℕ) (group : List (List ℕ)) (pair : String Y × Feature) → lift_of text ≡ Some (record { owner = owner; group = group }) → string_bytes pair.0 ≡ owner → IsGroup group pair.1 → lift_of text ≡ Some (lift_in pair)
+lift-read text owner group pair h k l = h ∙ ap (λ o. Some (record { owner = o; group = group })) (sym k) ∙ ap (λ g. Some (record { owner = string_bytes pair.0; group = g })) (sym (IsGroup-names group pair.1 l))
+
+pub read-more : {Y Z : Type 0} (texts : List (String Y)) (pairs : List (String Z × Feature)) (text : String Y) (pair : String Z × Feature) → AreReadAs texts pairs → lift_of (string_bytes text) ≡ Some (lift_in pair) → AreReadAs (texts ++ text ∷ []) (pairs ++ pair ∷ [])
+read-more texts pairs text pair h e =
+    map-append (λ t. lift_of (string_bytes t)) texts (text ∷ [])
+    ∙ ap (λ xs. xs ++ lift_of (string_bytes text) ∷ []) h
+    ∙ ap (λ x. map (λ p. Some (lift_in p)) pairs ++ x ∷ []) e
+    ∙ sym (map-append (λ p. Some (lift_in p)) pairs (pair ∷ []))
+
+-- a text that lifts a group is not the first that fails
+pub lift-passes : {Y : Type 0} (text : String Y) (rest : List (String Y)) (lift : Lift) → lift_of (string_bytes text) ≡ Some lift → first_failing is_lift (map string_bytes (text ∷ rest)) ≡ first_failing is_lift (map string_bytes rest)
+lift-passes text rest lift e = rw e refl

@@ -4,6 +4,7 @@ use Rattle.std.specs.Prelude.{Option, Some, None, Result, Ok, Err, option_map, o
 use Rattle.std.specs.Prelude.{codes, nat_lt, bytes_eq}
 use Rattle.std.specs.List.{list_any, repeat}
 use Rattle.hack_options.specs.declared.Opt.TheVariants as opt
+use Rattle.hack_uses.specs.declared.behavior.WorkspaceBehavior.{WorkspaceBehavior}
 use Rattle.hack_uses.specs.Faults.{LongFlag, ShortFlag}
 use Rattle.hack_uses.specs.Passed.{leading_of, count_of}
 use Rattle.hack_uses.specs.Uses.{Use, Known, Unknown, Word, is_given}
@@ -95,8 +96,8 @@ abbrev pub verbose_words : ℕ → List (List ℕ)
 verbose_words count = if nat_lt 1 count then (codes "-" ++ repeat (count - 1) (codes "v")) ∷ [] else []
 
 -- the words that are passed on to cargo in front
-abbrev pub leading_asked : Bool → List Use → List (List ℕ)
-leading_asked cargo us = leading_of cargo us ++ verbose_words (count_of opt.Verbose us)
+abbrev pub leading_asked : WorkspaceBehavior → List Use → List (List ℕ)
+leading_asked behavior us = leading_of behavior us ++ verbose_words (count_of opt.Verbose us)
 
 -- the features that are excluded from the combinations: those of --features are always there
 abbrev pub excluded_asked : List Use → List (List ℕ)

@@ -75,9 +75,9 @@ lifts_one_of groups text = is_one (lift_of text)
 abbrev pub lift_form : List Use → Option Fault
 lift_form us = option_map LiftForm (first_failing is_lift (values_given opt.AllowTogether us))
 
--- the first value whose names are those of no exclusion group
-abbrev pub lift_group : List Use → Option Fault
-lift_group us = option_map LiftGroup (first_failing (lifts_one_of (groups_given opt.MutuallyExclusiveFeatures us)) (values_given opt.AllowTogether us))
+-- the first value whose names are those of none of these groups
+abbrev pub lift_group : List (List (List ℕ)) → List Use → Option Fault
+lift_group exclusive us = option_map LiftGroup (first_failing (lifts_one_of exclusive) (values_given opt.AllowTogether us))
 
 -- the first of two faults
 abbrev pub first_fault_of : Option Fault → Option Fault → Option Fault

@@ -3,6 +3,8 @@ use Rattle.std.specs.Prelude.{ℕ, ◌&&◌, ◌||◌, not, List, [], ◌∷◌,
 use Rattle.std.specs.List.{list_any, starts_with}
 use Rattle.hack_options.specs.declared.Opt.{Opt}
 use Rattle.hack_options.specs.declared.Opt.TheVariants as opt
+use Rattle.hack_uses.specs.declared.behavior.WorkspaceBehavior.{WorkspaceBehavior}
+use Rattle.hack_uses.specs.Behavior.{is_cargo}
 use Rattle.hack_uses.specs.Passed.{leading_of}
 use Rattle.hack_uses.specs.Uses.{Use, is_given, subcommand_of}
 use Rattle.hack_uses.specs.Values.{value_given, values_given}
@@ -101,8 +103,8 @@ subcommand_rule (Some word) us =
     else fault_if (bytes_eq word (codes "install")) Install
 
 -- no runs by features under Cargo's own handling of workspaces
-abbrev pub cargo_rule : Bool → Opt → List Use → Option Fault
-cargo_rule cargo option us = fault_if (cargo && is_given option us) (Clash opt.WorkspaceBehavior option)
+abbrev pub cargo_rule : WorkspaceBehavior → Opt → List Use → Option Fault
+cargo_rule behavior option us = fault_if (is_cargo behavior && is_given option us) (Clash opt.WorkspaceBehavior option)
 
 -- an option for cargo that picks targets of the package that need dev-dependencies
 abbrev pub is_target_flag : List ℕ → Bool
@@ -181,21 +183,21 @@ early_rules term_color l us =
     ∷ []
 
 -- the rules on groups, and on what doesn't stand together
-abbrev pub together_rules : Bool → Listed → List Use → List (Option Fault)
-together_rules cargo l us =
+abbrev pub together_rules : WorkspaceBehavior → Listed → List Use → List (Option Fault)
+together_rules behavior l us =
     first_of (single_rules us)
     ∷ subcommand_rule (subcommand_of us) us
-    ∷ cargo_rule cargo opt.EachFeature us
-    ∷ cargo_rule cargo opt.FeaturePowerset us
-    ∷ target_rule us (first_target_word (leading_of cargo us))
+    ∷ cargo_rule behavior opt.EachFeature us
+    ∷ cargo_rule behavior opt.FeaturePowerset us
+    ∷ target_rule us (first_target_word (leading_of behavior us))
     ∷ first_of (include_rules l us)
     ∷ first_of (pair_rules us)
     ∷ excluded_rule l l.excludes
     ∷ []
 
 -- the rules before that on a missing subcommand
-abbrev pub rules_before : Bool → Option (List ℕ) → Listed → List Use → List (Option Fault)
-rules_before cargo term_color l us = first_of (early_rules term_color l us) ∷ first_of (together_rules cargo l us) ∷ []
+abbrev pub rules_before : WorkspaceBehavior → Option (List ℕ) → Listed → List Use → List (Option Fault)
+rules_before behavior term_color l us = first_of (early_rules term_color l us) ∷ first_of (together_rules behavior l us) ∷ []
 
 -- an option that wants a newer rustup, where its minor version is known
 abbrev pub rustup_rule : Opt → Option ℕ → List Use → Option Fault
@@ -227,19 +229,19 @@ piece_rules us =
     ∷ []
 
 -- the rules on lifted groups
-abbrev pub lift_rules : List Use → List (Option Fault)
-lift_rules us =
+abbrev pub lift_rules : Listed → List Use → List (Option Fault)
+lift_rules l us =
     needs (is_given opt.AllowTogether us) opt.AllowTogether beside.MutuallyExclusive (is_given opt.MutuallyExclusiveFeatures us)
-    ∷ first_fault_of (lift_form us) (lift_group us)
+    ∷ first_fault_of (lift_form us) (lift_group l.exclusive us)
     ∷ []
 
 -- the rules behind that on a missing subcommand
-abbrev pub rules_after : Option ℕ → List Use → List (Option Fault)
-rules_after rustup us =
+abbrev pub rules_after : Option ℕ → Listed → List Use → List (Option Fault)
+rules_after rustup l us =
     first_of (range_rules rustup us)
     ∷ of_value log_group_fault (value_given opt.LogGroup us)
     ∷ first_of (piece_rules us)
-    ∷ first_of (lift_rules us)
+    ∷ first_of (lift_rules l us)
     ∷ []
 
 -- what uses come to
@@ -254,10 +256,10 @@ refused_by (Some fault) verdict = Refused fault
 refused_by None verdict = verdict
 
 -- with no subcommand cargo's list is asked, or manifests are edited alone
-abbrev pub bare_verdict : Bool → Option (List ℕ) → List Use → Option Verdict
-bare_verdict cargo (Some word) us = None
-bare_verdict cargo None us =
-    if is_among (leading_of cargo us) (codes "--list") then Some Lists
+abbrev pub bare_verdict : WorkspaceBehavior → Option (List ℕ) → List Use → Option Verdict
+bare_verdict behavior (Some word) us = None
+bare_verdict behavior None us =
+    if is_among (leading_of behavior us) (codes "--list") then Some Lists
     else if is_given opt.RemoveDevDeps us then None else Some (Refused NoSubcommand)
 
 -- that verdict, if there is one
@@ -266,7 +268,7 @@ verdict_or (Some verdict) other = verdict
 verdict_or None other = other
 
 -- the verdict on uses: the first rule that gives a fault refuses them
-abbrev pub verdict_of : Bool → Option (List ℕ) → Option ℕ → List Use → Verdict
-verdict_of cargo term_color rustup us =
-    refused_by (first_of (rules_before cargo term_color (listed us) us))
-    (verdict_or (bare_verdict cargo (subcommand_of us) us) (refused_by (first_of (rules_after rustup us)) Accepted))
+abbrev pub verdict_of : WorkspaceBehavior → Option (List ℕ) → Option ℕ → List Use → Verdict
+verdict_of behavior term_color rustup us =
+    refused_by (first_of (rules_before behavior term_color (listed us) us))
+    (verdict_or (bare_verdict behavior (subcommand_of us) us) (refused_by (first_of (rules_after rustup (listed us) us)) Accepted))

@@ -10,9 +10,11 @@ ghost use Rattle.hack_rules.specs.CliGroups.{AreLifts};
 ghost use Rattle.hack_rules.specs.CliLists.{lifts_given};
 ghost use Rattle.hack_rules.specs.CliValues.{range_fault, step_fault, log_group_fault};
 ghost use Rattle.hack_rules.specs.LateView.{IsLate};
+ghost use Rattle.hack_rules.specs.ListsView.{listed_in};
 ghost use Rattle.hack_rules.specs.Rules.{first_of, of_value, rustup_rule, is_ranged as ranged, range_rules, piece_rules, lift_rules, rules_after};
 
 use crate::fault::{Beside, CliFault};
+use crate::listed::Lists;
 use crate::rules::{clash, needs};
 use crate::{named, values};
 use hack_features::Feature;
@@ -174,8 +176,8 @@ fn partition(alloc: Global, uses: &[Use]) -> Result<Option<Partition>, CliFault>
 }
 
 /// The exclusion groups that are lifted for a package.
-fn lifts(alloc: Global, uses: &[Use]) -> Result<Vec<(String, Feature)>, CliFault>
-    ensures rules { Checks result (first_of (lift_rules (views uses.now))) }
+fn lifts(alloc: Global, lists: &Lists, uses: &[Use]) -> Result<Vec<(String, Feature)>, CliFault>
+    ensures rules { Checks result (first_of (lift_rules (listed_in lists.now) (views uses.now))) }
     ensures lifts { IfOk result (λ lifts. AreLifts (lifts_given (views uses.now)) lifts.items) }
 {
     let option = Opt::AllowTogether;
@@ -186,7 +188,7 @@ fn lifts(alloc: Global, uses: &[Use]) -> Result<Vec<(String, Feature)>, CliFault
         Beside::MutuallyExclusive,
         there,
     )?;
-    named::lifts(alloc, uses)
+    named::lifts(alloc, lists.mutually_exclusive_features.as_slice(), uses)
 }
 
 /// What these rules read while they check.
@@ -204,15 +206,16 @@ pub fn after(
     alloc: Global,
     rustup: Option<u32>,
     github_actions: bool,
+    lists: &Lists,
     uses: &[Use],
 ) -> Result<Late, CliFault>
-    ensures rules { Checks result (first_of (rules_after rustup (views uses.now))) }
+    ensures rules { Checks result (first_of (rules_after rustup (listed_in lists.now) (views uses.now))) }
     ensures late { IfOk result (IsLate github_actions (views uses.now)) }
 {
     let versions = versioned(alloc, rustup, uses)?;
     let log_group = log_group(alloc, github_actions, uses)?;
     let partition = partition(alloc, uses)?;
-    let lifts = lifts(alloc, uses)?;
+    let lifts = lifts(alloc, lists, uses)?;
     Ok(Late {
         versions,
         log_group,

@@ -11,7 +11,7 @@ ghost use Rattle.hack_rules.specs.CliLists.{names_given, names_or_none, optional
 ghost use Rattle.hack_rules.specs.CliTargets.{AreRising, AreSame, put_all};
 ghost use Rattle.hack_features.specs.Feature.{IsGroup, group_of};
 ghost use Rattle.hack_term.specs.Lists.{group_names};
-ghost use Rattle.hack_rules.specs.CliGroups.{AreGroupsOf, AreNormalsOf, AreLifts};
+ghost use Rattle.hack_rules.specs.CliGroups.{AreGroupsOf, AreNormalsOf, AreLifts, AreReadAs};
 
 use crate::fault::CliFault;
 use hack_features::Feature;
@@ -132,18 +132,24 @@ fn cut_lift(text: &str) -> Option<(&str, &str)>
     Some((owner, features))
 }
 
-/// Each value has the form of `--allow-together`.
-fn check_forms(texts: &[String]) -> Result<(), CliFault>
-    ensures { Checks result (option_map LiftForm (first_failing is_lift (map string_bytes texts.now))) }
+/// The packages with the groups that the values lift for them, where each value has the form of `--allow-together`.
+fn lifts_of(alloc: Global, texts: &[String]) -> Result<Vec<(String, Feature)>, CliFault>
+    ensures lifts { IfOk result (λ lifts. AreLifts (filter_map lift_of (map string_bytes texts.now)) lifts.items) }
+    ensures each { IfOk result (λ lifts. AreReadAs texts.now lifts.items) }
+    ensures checks { Checks result (option_map LiftForm (first_failing is_lift (map string_bytes texts.now))) }
 {
+    let mut lifts = Vec::new(alloc);
     for text in texts {
-        if cut_lift(text.as_str()).is_none() {
+        let Some((owner, features)) = cut_lift(text.as_str()) else {
             return Err(CliFault::LiftForm {
                 found: text.clone()?,
             });
-        }
+        };
+        let owner = String::from_str(alloc, owner)?;
+        let features = group(alloc, features)?;
+        lifts.push((owner, features))?;
     }
-    Ok(())
+    Ok(lifts)
 }
 
 /// Whether the names of the group are these, in this order.
@@ -165,23 +171,18 @@ fn has_names(groups: &[Feature], names: &[String]) -> bool
     false
 }
 
-/// Whether a value lifts one of the groups.
-fn lifts_one(alloc: Global, groups: &[Feature], text: &str) -> Result<bool, AllocError>
-    ensures { IfOk result (λ one. one ≡ lifts_one_of (map group_of groups.now) text.now) }
-{
-    match cut_lift(text) {
-        Some((_, features)) => Ok(has_names(groups, &split_group(alloc, features)?)),
-        None => Ok(false),
-    }
-}
-
-/// Each value lifts one of the groups.
-fn check_groups(alloc: Global, groups: &[Feature], texts: &[String]) -> Result<(), CliFault>
+/// Each value lifts one of the groups. `lifts` is what the values were read as.
+fn check_groups(
+    groups: &[Feature],
+    texts: &[String],
+    lifts: &[(String, Feature)],
+) -> Result<(), CliFault>
+    requires { AreReadAs texts.now lifts.now }
     ensures { Checks result (option_map LiftGroup
         (first_failing (lifts_one_of (map group_of groups.now)) (map string_bytes texts.now))) }
 {
-    for text in texts {
-        if !lifts_one(alloc, groups, text.as_str())? {
+    for (text, (_, group)) in texts.iter().zip(lifts) {
+        if !has_names(groups, group.as_group()) {
             return Err(CliFault::LiftGroup {
                 found: text.clone()?,
             });
@@ -190,30 +191,19 @@ fn check_groups(alloc: Global, groups: &[Feature], texts: &[String]) -> Result<(
     Ok(())
 }
 
-/// The packages with the groups that the values lift for them.
-fn lifts_of(alloc: Global, texts: &[String]) -> Result<Vec<(String, Feature)>, AllocError>
-    ensures { IfOk result (λ lifts. AreLifts (filter_map lift_of (map string_bytes texts.now)) lifts.items) }
-{
-    let mut lifts = Vec::new(alloc);
-    for text in texts {
-        if let Some((owner, features)) = cut_lift(text.as_str()) {
-            let owner = String::from_str(alloc, owner)?;
-            let features = group(alloc, features)?;
-            lifts.push((owner, features))?;
-        }
-    }
-    Ok(lifts)
-}
-
-/// The packages with the groups of `--mutually-exclusive-features` that are lifted for them. A value of another form
-/// is told before one whose names are those of no group.
-pub fn lifts(alloc: Global, uses: &[Use]) -> Result<Vec<(String, Feature)>, CliFault>
+/// The packages with the exclusion groups that are lifted for them. A value of another form is told before one whose
+/// names are those of no group.
+pub fn lifts(
+    alloc: Global,
+    exclusive: &[Feature],
+    uses: &[Use],
+) -> Result<Vec<(String, Feature)>, CliFault>
     ensures lifts { IfOk result (λ lifts. AreLifts (lifts_given (views uses.now)) lifts.items) }
-    ensures checks { Checks result (first_fault_of (lift_form (views uses.now)) (lift_group (views uses.now))) }
+    ensures checks { Checks result (first_fault_of (lift_form (views uses.now))
+        (lift_group (map group_of exclusive.now) (views uses.now))) }
 {
     let texts = values(alloc, Opt::AllowTogether, uses)?;
-    check_forms(&texts)?;
-    let groups = groups(alloc, Opt::MutuallyExclusiveFeatures, uses)?;
-    check_groups(alloc, &groups, &texts)?;
-    Ok(lifts_of(alloc, &texts)?)
+    let lifts = lifts_of(alloc, &texts)?;
+    check_groups(exclusive, &texts, &lifts)?;
+    Ok(lifts)
 }

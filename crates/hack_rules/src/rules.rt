@@ -20,7 +20,7 @@ use hack_features::Feature;
 use hack_options::Opt;
 use hack_term::lists::has_separator;
 use hack_term::term::Coloring;
-use hack_uses::{Use, given, subcommand, value};
+use hack_uses::{Use, WorkspaceBehavior, given, subcommand, value};
 use std::alloc::Global;
 
 /// Refused where an option is there, and nothing that it stands beside is.
@@ -221,10 +221,10 @@ fn beside_subcommand(uses: &[Use]) -> Result<(), CliFault>
 }
 
 /// Refused where the option stands beside Cargo's own handling of workspaces.
-fn beside_cargo(cargo: bool, option: Opt, uses: &[Use]) -> Result<(), CliFault>
-    ensures { Checks result (cargo_rule cargo option (views uses.now)) }
+fn beside_cargo(behavior: WorkspaceBehavior, option: Opt, uses: &[Use]) -> Result<(), CliFault>
+    ensures { Checks result (cargo_rule behavior option (views uses.now)) }
 {
-    if cargo && given(option, uses) {
+    if behavior == WorkspaceBehavior::Cargo && given(option, uses) {
         return Err(CliFault::Clash {
             option: Opt::WorkspaceBehavior,
             other: option,
@@ -365,14 +365,19 @@ fn excluded(lists: &Lists) -> Result<(), CliFault>
 }
 
 /// Groups, and what doesn't stand together. `leading` has the words that are passed on to cargo.
-fn together(cargo: bool, lists: &Lists, leading: &[String], uses: &[Use]) -> Result<(), CliFault>
-    requires { names_of leading.now ≡ leading_of cargo (views uses.now) }
-    ensures { Checks result (first_of (together_rules cargo (listed_in lists.now) (views uses.now))) }
+fn together(
+    behavior: WorkspaceBehavior,
+    lists: &Lists,
+    leading: &[String],
+    uses: &[Use],
+) -> Result<(), CliFault>
+    requires { names_of leading.now ≡ leading_of behavior (views uses.now) }
+    ensures { Checks result (first_of (together_rules behavior (listed_in lists.now) (views uses.now))) }
 {
     groups_list_two(uses)?;
     beside_subcommand(uses)?;
-    beside_cargo(cargo, Opt::EachFeature, uses)?;
-    beside_cargo(cargo, Opt::FeaturePowerset, uses)?;
+    beside_cargo(behavior, Opt::EachFeature, uses)?;
+    beside_cargo(behavior, Opt::FeaturePowerset, uses)?;
     beside_targets(leading, uses)?;
     beside_includes(lists, uses)?;
     pairs(uses)?;
@@ -408,18 +413,18 @@ fn listing(
 /// The rules before that on a missing subcommand, and what they read.
 pub fn before(
     alloc: Global,
-    cargo: bool,
+    behavior: WorkspaceBehavior,
     term_color: Option<&String>,
     lists: &Lists,
     leading: &[String],
     uses: &[Use],
 ) -> Result<Early, CliFault>
-    requires { names_of leading.now ≡ leading_of cargo (views uses.now) }
-    ensures rules { Checks result (first_of (rules_before cargo (option_map (λ text. string_bytes text.now) term_color.entry) (listed_in lists.now) (views uses.now))) }
+    requires { names_of leading.now ≡ leading_of behavior (views uses.now) }
+    ensures rules { Checks result (first_of (rules_before behavior (option_map (λ text. string_bytes text.now) term_color.entry) (listed_in lists.now) (views uses.now))) }
     ensures coloring { IfOk result (λ early. early.coloring ≡ coloring_asked (option_map (λ text. string_bytes text.now) term_color.entry) (views uses.now)) }
     ensures depth { IfOk result (λ early. early.depth ≡ depth_asked (views uses.now)) }
 {
     let early = listing(alloc, term_color, lists, uses)?;
-    together(cargo, lists, leading, uses)?;
+    together(behavior, lists, leading, uses)?;
     Ok(early)
 }

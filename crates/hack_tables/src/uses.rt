@@ -3,10 +3,12 @@
 use crate::answers::{joined, or_none, word, yes};
 use crate::table::Group;
 use hack_features::Feature;
-use hack_lexopt::{LexFault, Parser};
+use hack_lexopt::{Next, Parser};
 use hack_options::{Opt, Usage, long};
 use hack_rules::named::{groups, lifts, names, optional_names, targets};
-use hack_uses::{Cuts, Print, Use, all_uses, count, given, leading, subcommand, value, values};
+use hack_uses::{
+    Cuts, Print, Use, WorkspaceBehavior, all_uses, count, given, leading, subcommand, value, values,
+};
 use std::alloc::{AllocError, Global};
 
 /// `cuts`: the options and words that a parser cuts. `passed`: the words that are passed on, what
@@ -20,7 +22,7 @@ pub(crate) fn answer(
 ) -> Result<Option<String>, AllocError> {
     let text = match group.kind.as_str() {
         "cuts" => cuts(alloc, words)?,
-        "passed" => passed(alloc, group.has("cargo"), words)?,
+        "passed" => passed(alloc, WorkspaceBehavior::new(group.has("cargo")), words)?,
         "subcommand" => {
             let uses = uses_of(alloc, words)?;
             or_none(alloc, subcommand(&uses).map(|word| word.as_str()))?
@@ -47,21 +49,13 @@ fn copied(alloc: Global, words: &[String]) -> Result<Vec<String>, AllocError> {
 /// The text of the next cut; none behind the last; where it is refused, the option and the value
 /// that nobody took.
 fn cut(alloc: Global, parser: &mut Parser) -> Result<Option<String>, AllocError> {
-    let value = match parser.unexpected() {
-        Some(value) => String::from_str(alloc, value)?,
-        None => String::new(alloc),
-    };
-    match parser.next() {
-        Ok(Some(arg)) => return Ok(Some(format!(in alloc; "{arg}")?)),
-        Ok(None) => return Ok(None),
-        Err(LexFault::Memory) => return Err(AllocError),
-        Err(_) => {}
+    match parser.cut() {
+        Next::Cut(arg) => Ok(Some(format!(in alloc; "{arg}")?)),
+        Next::Refused { option, value } => {
+            Ok(Some(format!(in alloc; "{option} refuses {value}")?))
+        }
+        Next::End => Ok(None),
     }
-    let option = match parser.option() {
-        Some(option) => format!(in alloc; "{option}")?,
-        None => String::new(alloc),
-    };
-    Ok(Some(format!(in alloc; "{option} refuses {value}")?))
 }
 
 /// The first twenty cuts of the words.
@@ -86,13 +80,17 @@ fn uses_of(alloc: Global, words: &[String]) -> Result<Vec<Use>, AllocError> {
 }
 
 /// The text of the fault, what is asked, or the words that are passed on.
-fn passed(alloc: Global, cargo: bool, words: &[String]) -> Result<String, AllocError> {
+fn passed(
+    alloc: Global,
+    behavior: WorkspaceBehavior,
+    words: &[String],
+) -> Result<String, AllocError> {
     match all_uses(alloc, copied(alloc, words)?) {
         Err(fault) => format!(in alloc; "{fault}"),
         Ok(Cuts::Asks(Print::ShortHelp)) => String::from_str(alloc, "short help"),
         Ok(Cuts::Asks(Print::LongHelp)) => String::from_str(alloc, "long help"),
         Ok(Cuts::Asks(Print::Version)) => String::from_str(alloc, "version"),
-        Ok(Cuts::Uses(uses)) => joined(alloc, &leading(alloc, cargo, &uses)?),
+        Ok(Cuts::Uses(uses)) => joined(alloc, &leading(alloc, behavior, &uses)?),
     }
 }
 
@@ -180,10 +178,13 @@ fn given_text(
         },
         "groups of names" => joined(alloc, &names_of(alloc, &groups(alloc, option, &uses)?)?)?,
         "targets" => joined(alloc, &targets(alloc, &uses)?)?,
-        "lifts" => match lifts(alloc, &uses) {
-            Ok(lifts) => lifts_text(alloc, &lifts)?,
-            Err(fault) => format!(in alloc; "{fault}")?,
-        },
+        "lifts" => {
+            let exclusive = groups(alloc, Opt::MutuallyExclusiveFeatures, &uses)?;
+            match lifts(alloc, &exclusive, &uses) {
+                Ok(lifts) => lifts_text(alloc, &lifts)?,
+                Err(fault) => format!(in alloc; "{fault}")?,
+            }
+        }
         _ => return Ok(None),
     };
     Ok(Some(text))

@@ -1,10 +1,10 @@
--- What a use that is read leaves: less than before, and of a word only what is behind an option.
+-- What a use that is read leaves: less than before.
 use Rattle.std.proofs.Common.{◌≡◌, ◌+◌, ◌<◌, ◌≤◌, ℕ, List, [], ◌∷◌, ◌&&◌, ◌++◌, append-nil, append_assoc, Ok, Some, ◌∙◌, true, false, length, ap, sym, refl, Err, None, Option, Result, zero, suc, cond, codes, nat_lt, nat_eq, subst, drop, encode_utf8, length-drop, arith}
-use Rattle.std.specs.List.{starts_with, position_or_len, before_first, after_first}
+use Rattle.std.specs.List.{starts_with, position_or_len, after_first}
 use Rattle.std.proofs.lemmas.Str.{length-encode, len_utf8_bounds}
 use Rattle.hack_lexopt.specs.declared.LexFault.{LexFault}
 use Rattle.hack_lexopt.specs.declared.LexFault.TheVariants.{UnexpectedValue}
-use Rattle.hack_lexopt.specs.Cuts.{Left, Untaken, Nothing, Pending, Chain, Cut, LongCut, ShortCut, ValueCut, is_long, is_chain, is_equals, is_plain, pending_of, first_letter, after_letter, chain_of, untaken_of, cut_of, option_in, next_cut, after_cut, after_value, after_attached, after_optional, value_of, optional_of, attached, unexpected_of}
+use Rattle.hack_lexopt.specs.Cuts.{Left, Untaken, Nothing, Pending, Chain, Cut, LongCut, ShortCut, ValueCut, is_long, is_chain, is_equals, is_plain, pending_of, first_letter, after_letter, chain_of, untaken_of, next_cut, after_cut, after_value, after_attached, after_optional, value_of, optional_of, attached, unexpected_of}
 use Rattle.hack_options.specs.declared.Opt.{Opt}
 use Rattle.hack_options.specs.declared.Kind.{Kind}
 use Rattle.hack_options.specs.declared.Kind.TheVariants as kind
@@ -14,7 +14,7 @@ use Rattle.hack_uses.specs.declared.cut.Print.{Print}
 use Rattle.hack_uses.specs.declared.cut.Print.TheVariants as print
 use Rattle.hack_uses.specs.Faults.{Flag, LongFlag, ShortFlag, Repeat, LoneQuote}
 use Rattle.hack_uses.specs.Uses.{Use, Known, Unknown, is_given, subcommand_of}
-use Rattle.hack_uses.specs.Reads.{Reading, Met, End, Prints, Fails, is_quote, is_bare, unknown, with_value, with_names, with_names_or_none, question, help_of, by_kind, known, removed_of, similar_of, other, by_name, by_letter, of_cut, refused, of_next, read_of, Reads, flag_left, HasOption}
+use Rattle.hack_uses.specs.Reads.{Reading, Met, End, Prints, Fails, is_quote, is_bare, unknown, with_value, with_names, with_names_or_none, question, help_of, by_kind, known, removed_of, similar_of, other, by_name, by_letter, of_cut, refused, of_next, read_of, Reads, flag_left}
 
 -- how much is left of the words
 abbrev pub weight_of : Untaken → ℕ
@@ -153,39 +153,6 @@ kept-below n l p = (omega arith, omega (arith, after_value-le l.option l.untaken
 -- a use that is read leaves less
 pub read-smaller : (us : List Use) (l : Left) (u : Use) (new : Left) → read_of us l ≡ Met u new → weight new < weight l
 read-smaller us l u new h = read-leaves (Below (weight l)) (kept-below (weight l)) us l u new (λ cut e. after_cut-smaller l.option l.untaken l.words cut e) h
-
--- what is taken as a value leaves nothing of its word
-kept-option : Kept HasOption
-kept-option l p = (λ h. cc, value-has l.option l.untaken l.words, optional-has l.option l.untaken l.words)
-  where
-    value-has : (o : Option Cut) (t : Untaken) (ws : List (List ℕ)) → HasOption (after_value (record { option = o; untaken = t; words = ws }))
-    value-has o (Pending v) ws = λ h. cc
-    value-has o (Chain letters) ws = λ h. cc
-    value-has o Nothing [] = λ h. cc
-    value-has o Nothing (w ∷ ws) = λ h. cc
-
-    optional-has : (o : Option Cut) (t : Untaken) (ws : List (List ℕ)) → HasOption (after_optional (record { option = o; untaken = t; words = ws }))
-    optional-has o (Pending v) ws = λ h. cc
-    optional-has o (Chain letters) ws = λ h. cc
-    optional-has o Nothing [] = λ h. cc
-    optional-has o Nothing (w ∷ ws) = λ h. cc
-
--- what a cut leaves of its word is behind an option
-word-has_option : (w : List ℕ) (ws : List (List ℕ)) → HasOption (record { option = option_in (cut_of w); untaken = untaken_of w; words = ws })
-word-has_option w ws = elim (is_long w) as (λ b. HasOption (record { option = option_in (cond b (LongCut (before_first is_equals (drop 2 w))) (cond (is_chain w) (ShortCut (first_letter (drop 1 w))) (ValueCut w))); untaken = cond b (pending_of (drop 2 w)) (cond (is_chain w) (after_letter (drop 1 w)) Nothing); words = ws })) [
-  | true ↦ λ h. refl
-  | false ↦ elim (is_chain w) as (λ b. HasOption (record { option = option_in (cond b (ShortCut (first_letter (drop 1 w))) (ValueCut w)); untaken = cond b (after_letter (drop 1 w)) Nothing; words = ws })) [ true ↦ λ h. refl | false ↦ λ h. cc ]
-]
-
-cut-has_option : (o : Option Cut) (t : Untaken) (ws : List (List ℕ)) → HasOption (after_cut (record { option = o; untaken = t; words = ws }))
-cut-has_option o (Pending v) ws = λ h. cc
-cut-has_option o (Chain letters) ws = elim (starts_with nat_eq letters (codes "=")) as (λ b. HasOption (cond b (record { option = o; untaken = Nothing; words = ws }) (record { option = Some (ShortCut (first_letter letters)); untaken = after_letter letters; words = ws }))) [ true ↦ λ h. cc | false ↦ λ h. refl ]
-cut-has_option o Nothing [] = λ h. cc
-cut-has_option o Nothing (w ∷ ws) = word-has_option w ws
-
--- behind a use that is read, what is untaken of a word is behind an option
-pub read-has_option : (us : List Use) (l : Left) (u : Use) (new : Left) → read_of us l ≡ Met u new → HasOption new
-read-has_option us l u new h = read-leaves HasOption kept-option us l u new (λ cut e. cut-has_option l.option l.untaken l.words) h
 
 -- one more use is read
 pub Reads-more : (before us : List Use) (u : Use) (old mid new : Left) → Reads before old us mid → read_of (before ++ us) mid ≡ Met u new → Reads before old (us ++ u ∷ []) new

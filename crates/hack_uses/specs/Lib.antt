@@ -1,3 +1,4 @@
+pub mod Behavior
 pub mod Faults
 pub mod Uses
 pub mod Reads

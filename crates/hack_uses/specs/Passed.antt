@@ -3,6 +3,8 @@ use Rattle.std.specs.Prelude.{ℕ, ◌+◌, List, [], ◌∷◌, ◌++◌, Bool,
 use Rattle.std.specs.List.{flat_map}
 use Rattle.hack_options.specs.declared.Opt.{Opt}
 use Rattle.hack_options.specs.declared.Opt.TheVariants as opt
+use Rattle.hack_uses.specs.declared.behavior.WorkspaceBehavior.{WorkspaceBehavior}
+use Rattle.hack_uses.specs.Behavior.{is_cargo}
 use Rattle.hack_uses.specs.Faults.{Flag, LongFlag, ShortFlag, flag_text}
 use Rattle.hack_uses.specs.Uses.{Use, Known, Unknown, Word, is_use_of}
 
@@ -12,16 +14,16 @@ count_of o [] = 0
 count_of o (u ∷ us) = (if is_use_of o u then 1 else 0) + count_of o us
 
 -- an option of the table that is passed on too; some are only where cargo handles the workspace
-abbrev pub passes : Bool → Opt → Bool
-passes cargo opt.Locked = true
-passes cargo opt.NoDefaultFeatures = true
-passes cargo opt.AllFeatures = true
-passes cargo opt.Color = true
-passes cargo opt.ManifestPath = cargo
-passes cargo opt.Package = cargo
-passes cargo opt.Exclude = cargo
-passes cargo opt.Workspace = cargo
-passes cargo o = false
+abbrev pub passes : WorkspaceBehavior → Opt → Bool
+passes behavior opt.Locked = true
+passes behavior opt.NoDefaultFeatures = true
+passes behavior opt.AllFeatures = true
+passes behavior opt.Color = true
+passes behavior opt.ManifestPath = is_cargo behavior
+passes behavior opt.Package = is_cargo behavior
+passes behavior opt.Exclude = is_cargo behavior
+passes behavior opt.Workspace = is_cargo behavior
+passes behavior o = false
 
 -- an unknown option and the rest of its word, in one word
 abbrev pub word_of : Flag → Option (List ℕ) → List ℕ
@@ -35,11 +37,11 @@ with_value word None = word ∷ []
 with_value word (Some value) = word ∷ value ∷ []
 
 -- the words that a use passes on to cargo
-abbrev pub passed : Bool → Use → List (List ℕ)
-passed cargo (Word word) = word ∷ []
-passed cargo (Unknown flag value) = word_of flag value ∷ []
-passed cargo (Known o flag value) = if passes cargo o then with_value (flag_text flag) value else []
+abbrev pub passed : WorkspaceBehavior → Use → List (List ℕ)
+passed behavior (Word word) = word ∷ []
+passed behavior (Unknown flag value) = word_of flag value ∷ []
+passed behavior (Known o flag value) = if passes behavior o then with_value (flag_text flag) value else []
 
 -- the words that all uses pass on to cargo, in order
-abbrev pub leading_of : Bool → List Use → List (List ℕ)
-leading_of cargo us = flat_map (passed cargo) us
+abbrev pub leading_of : WorkspaceBehavior → List Use → List (List ℕ)
+leading_of behavior us = flat_map (passed behavior) us

@@ -1,5 +1,5 @@
 -- How words are read as uses of options, one cut after the other.
-use Rattle.std.specs.Prelude.{ℕ, ◌≡◌, List, [], ◌∷◌, ◌++◌, ◌==◌, ◌&&◌, ◌||◌, Bool, Option, Some, None, Result, Ok, Err, codes, if◌then◌else◌, IsSome, IfSome}
+use Rattle.std.specs.Prelude.{ℕ, ◌≡◌, List, [], ◌∷◌, ◌++◌, ◌==◌, ◌&&◌, ◌||◌, Bool, Option, Some, None, Result, Ok, Err, codes, if◌then◌else◌, IfSome}
 use Rattle.std.specs.Str.{bytes_eq}
 use Rattle.hack_lexopt.specs.Cuts.{Cut, LongCut, ShortCut, ValueCut, Left, next_cut, after_cut, attached, after_attached, value_of, after_value, optional_of, after_optional, unexpected_of}
 use Rattle.hack_lexopt.specs.Parsers.{start}
@@ -135,10 +135,6 @@ abbrev pub refused : Option Flag → Option (List ℕ) → Reading
 refused (Some flag) (Some value) = Fails (Unexpected flag value)
 refused (Some flag) None = End
 refused None value = End
-
--- a value that was not taken has an option before it, so that the fault can name it
-abbrev pub HasOption : Left → Type 0
-HasOption left = IsSome (unexpected_of left.untaken) → IsSome (flag_left left.option)
 
 -- what the next cut comes to, or its refusal
 abbrev pub of_next : Result (Option Cut) LexFault → List Use → Left → Reading

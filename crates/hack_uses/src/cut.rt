@@ -1,16 +1,15 @@
 //! Cuts the words into uses, one after the other.
 
-ghost use Rattle.std.specs.Prelude.{◌≡◌, IfOk, map, option_map, string_bytes};
+ghost use Rattle.std.specs.Prelude.{map, string_bytes};
 ghost use Rattle.hack_lexopt.specs.Parsers.{left};
-ghost use Rattle.hack_uses.specs.Faults.{flag_seen};
-ghost use Rattle.hack_uses.specs.Reads.{Gives, GivesUses, GivesNoOther, HasOption, flag_left, read_of};
+ghost use Rattle.hack_uses.specs.Reads.{Gives, GivesUses, GivesNoOther, read_of};
 ghost use Rattle.hack_uses.specs.Uses.{views};
 
 use crate::fault::{CutFault, OwnedFlag};
 use crate::known::{known, other_name, unknown};
-use hack_lexopt::{Arg, Parser};
+use hack_lexopt::{Arg, Next, Parser};
 use hack_options::{Opt, long, short};
-use std::alloc::{AllocError, Global};
+use std::alloc::Global;
 
 /// What the words ask to be printed.
 #[derive(Clone, Copy, Debug, PartialEq, Eq)]
@@ -46,46 +45,31 @@ pub(crate) enum Step {
     Asks(Print),
 }
 
-/// The option that was cut last, where one was.
-fn last_flag(alloc: Global, parser: &Parser) -> Result<Option<OwnedFlag>, AllocError>
-    ensures { IfOk result (λ flag. option_map flag_seen flag ≡ flag_left (left parser.now).option) }
-{
-    match parser.option() {
-        Some(option) => OwnedFlag::new(alloc, option),
-        None => Ok(None),
-    }
-}
-
-/// The next use behind the uses so far, or what else the next cut comes to.
+/// The next use behind the uses so far, or what else is next.
 fn read(alloc: Global, parser: &mut Parser, uses: &[Use]) -> Result<Step, CutFault>
-    requires { HasOption (left parser.old) }
     ensures { Gives result (left parser.new) (read_of (views uses.now) (left parser.old)) }
 {
-    if let Some(value) = parser.unexpected() {
-        let value = String::from_str(alloc, value)?;
-        let Some(flag) = last_flag(alloc, parser)? else {
-            unreachable!()
-        };
-        return Err(CutFault::Unexpected { flag, value });
-    }
-    let flag = match parser.next() {
-        Err(_) => unreachable!(),
-        Ok(None) => return Ok(Step::End),
-        Ok(Some(Arg::Value(word))) => {
-            return Ok(Step::Met(Use::Word(String::from_str(alloc, word)?)));
+    match parser.cut() {
+        Next::Cut(Arg::Long(name)) => {
+            let name = String::from_str(alloc, name)?;
+            match long(&name) {
+                Some(option) => known(alloc, parser, uses, option, OwnedFlag::Long(name)),
+                None => other_name(alloc, parser, uses, name),
+            }
         }
-        Ok(Some(Arg::Long(name))) => OwnedFlag::Long(String::from_str(alloc, name)?),
-        Ok(Some(Arg::Short(letter))) => OwnedFlag::Short(letter),
-    };
-    match flag {
-        OwnedFlag::Long(name) => match long(&name) {
-            Some(option) => known(alloc, parser, uses, option, OwnedFlag::Long(name)),
-            None => other_name(alloc, parser, uses, name),
-        },
-        OwnedFlag::Short(letter) => match short(letter) {
+        Next::Cut(Arg::Short(letter)) => match short(letter) {
             Some(option) => known(alloc, parser, uses, option, OwnedFlag::Short(letter)),
             None => unknown(alloc, parser, OwnedFlag::Short(letter)),
         },
+        Next::Cut(Arg::Value(word)) => {
+            let word = String::from_str(alloc, word)?;
+            Ok(Step::Met(Use::Word(word)))
+        }
+        Next::Refused { option, value } => Err(CutFault::Unexpected {
+            flag: OwnedFlag::of(alloc, option)?,
+            value: String::from_str(alloc, value)?,
+        }),
+        Next::End => Ok(Step::End),
     }
 }
 

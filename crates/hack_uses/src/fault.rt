@@ -1,10 +1,10 @@
 //! Options as they were written, and why words can't be cut into them.
 
-ghost use Rattle.std.specs.Prelude.{◌≡◌, IfOk, option_map};
-ghost use Rattle.hack_lexopt.specs.Parsers.{cut_in};
+ghost use Rattle.std.specs.Prelude.{◌≡◌, IfOk, Some, option_map};
+ghost use Rattle.hack_lexopt.specs.Parsers.{cut_in, flag_cut};
 ghost use Rattle.hack_uses.specs.Faults.{flag_seen, flag_in, cut_by, flag_text};
 
-use hack_lexopt::Arg;
+use hack_lexopt::{Arg, Flag};
 use hack_options::{Opt, Usage};
 use std::alloc::{AllocError, AllocFailed, Global};
 use std::fmt;
@@ -27,6 +27,16 @@ impl OwnedFlag {
             Arg::Long(name) => Ok(Some(OwnedFlag::Long(String::from_str(alloc, name)?))),
             Arg::Short(letter) => Ok(Some(OwnedFlag::Short(letter))),
             Arg::Value(_) => Ok(None),
+        }
+    }
+
+    /// The option of a refusal.
+    pub(crate) fn of(alloc: Global, option: Flag<'_>) -> Result<OwnedFlag, AllocError>
+        ensures { IfOk result (λ flag. Some (flag_seen flag) ≡ flag_in (flag_cut option.entry)) }
+    {
+        match option {
+            Flag::Long(name) => Ok(OwnedFlag::Long(String::from_str(alloc, name)?)),
+            Flag::Short(letter) => Ok(OwnedFlag::Short(letter)),
         }
     }
 

@@ -1,12 +1,14 @@
 //! The uses of options that words make, or the first fault of a cut; what uses give to options, and pass on.
 #![tactic(auto)]
 
+mod behavior;
 mod cut;
 mod fault;
 mod known;
 mod passed;
 mod seen;
 
+pub use behavior::WorkspaceBehavior;
 pub use cut::{Cuts, Print, Use, all_uses};
 pub use fault::{CutFault, OwnedFlag};
 pub use passed::leading;

@@ -5,18 +5,20 @@ ghost use Rattle.hack_uses.specs.Faults.{flag_seen};
 ghost use Rattle.hack_uses.specs.Passed.{passed, passes, word_of, leading_of};
 ghost use Rattle.hack_uses.specs.Uses.{view, views};
 
-use crate::Use;
 use crate::fault::OwnedFlag;
+use crate::{Use, WorkspaceBehavior};
 use hack_options::Opt;
 use std::alloc::{AllocError, Global};
 
 /// Whether an option of the table is passed on too.
-fn is_passed(cargo: bool, option: Opt) -> bool
-    ensures { result ≡ passes cargo option }
+fn is_passed(behavior: WorkspaceBehavior, option: Opt) -> bool
+    ensures { result ≡ passes behavior option }
 {
     match option {
         Opt::Locked | Opt::NoDefaultFeatures | Opt::AllFeatures | Opt::Color => true,
-        Opt::ManifestPath | Opt::Package | Opt::Exclude | Opt::Workspace => cargo,
+        Opt::ManifestPath | Opt::Package | Opt::Exclude | Opt::Workspace => {
+            behavior == WorkspaceBehavior::Cargo
+        }
         _ => false,
     }
 }
@@ -33,8 +35,13 @@ fn joined(alloc: Global, flag: &OwnedFlag, value: &Option<String>) -> Result<Str
 }
 
 /// The words that one use passes on to cargo.
-fn pass(alloc: Global, leading: &mut Vec<String>, cargo: bool, one: &Use) -> Result<(), AllocError>
-    ensures { OnOk result (map string_bytes leading.new.items ≡ map string_bytes leading.old.items ++ passed cargo (view one.now)) }
+fn pass(
+    alloc: Global,
+    leading: &mut Vec<String>,
+    behavior: WorkspaceBehavior,
+    one: &Use,
+) -> Result<(), AllocError>
+    ensures { OnOk result (map string_bytes leading.new.items ≡ map string_bytes leading.old.items ++ passed behavior (view one.now)) }
 {
     match one {
         Use::Word(word) => leading.push(word.clone()?)?,
@@ -44,7 +51,7 @@ fn pass(alloc: Global, leading: &mut Vec<String>, cargo: bool, one: &Use) -> Res
             flag,
             value,
         } => {
-            if is_passed(cargo, *option) {
+            if is_passed(behavior, *option) {
                 leading.push(format!(in alloc; "{flag}")?)?;
                 if let Some(value) = value {
                     leading.push(value.clone()?)?;
@@ -56,12 +63,16 @@ fn pass(alloc: Global, leading: &mut Vec<String>, cargo: bool, one: &Use) -> Res
 }
 
 /// The words that are passed on to cargo, but for the counted `-v`.
-pub fn leading(alloc: Global, cargo: bool, uses: &[Use]) -> Result<Vec<String>, AllocError>
-    ensures { IfOk result (λ words. map string_bytes words.items ≡ leading_of cargo (views uses.now)) }
+pub fn leading(
+    alloc: Global,
+    behavior: WorkspaceBehavior,
+    uses: &[Use],
+) -> Result<Vec<String>, AllocError>
+    ensures { IfOk result (λ words. map string_bytes words.items ≡ leading_of behavior (views uses.now)) }
 {
     let mut leading = Vec::new(alloc);
     for one in uses {
-        pass(alloc, &mut leading, cargo, one)?;
+        pass(alloc, &mut leading, behavior, one)?;
     }
     Ok(leading)
 }

@@ -1,5 +1,6 @@
 -- What words come to once their uses are judged.
-use Rattle.std.proofs.Common.{◌≡◌, ℕ, Bool, List, Option, Some, None, Err, IfSome, MatchOption, ap, refl, sym, subst, ◌∙◌}
+use Rattle.std.proofs.Common.{◌≡◌, ℕ, List, Option, Some, None, Err, IfSome, MatchOption, ap, refl, sym, subst, ◌∙◌}
+use Rattle.hack_uses.specs.declared.behavior.WorkspaceBehavior.{WorkspaceBehavior}
 use Rattle.hack_uses.specs.Faults.{Fault as WrongCut, fault_of as cut_fault_of}
 use Rattle.hack_uses.specs.declared.fault.CutFault.{CutFault}
 use Rattle.hack_uses.specs.declared.fault.CutFault.TheVariants as cut
@@ -18,15 +19,15 @@ use Rattle.hack_rules.specs.Rules.{Verdict, Refused, refused_by, verdict_or}
 use Rattle.hack_words.specs.declared.cli.parse.Parsed.{Parsed}
 use Rattle.hack_words.specs.declared.cli.parse.Parsed.TheVariants as code
 
-pub judged-answers : (around : Around) (cargo : Bool) (cut trailing : List (List ℕ)) (us : List Use) (parsed : Parsed) (notes : List Note) → Ends cut us End → IsJudged around cargo trailing us parsed notes → Answers around (ComesFrom around (Cuts cargo cut trailing)) parsed notes
-judged-answers around cargo cut trailing us (code.Args args) notes ends h = (cargo, trailing, us, (us, End, ends, sym h.0), h.1, h.2)
-judged-answers around cargo cut trailing us (code.Print text) notes ends h = absurd h
-judged-answers around cargo cut trailing us code.List notes ends h = (us, (us, End, ends, sym h.0), h.1)
+pub judged-answers : (around : Around) (behavior : WorkspaceBehavior) (cut trailing : List (List ℕ)) (us : List Use) (parsed : Parsed) (notes : List Note) → Ends cut us End → IsJudged around behavior trailing us parsed notes → Answers around (ComesFrom around (Cuts behavior cut trailing)) parsed notes
+judged-answers around behavior cut trailing us (code.Args args) notes ends h = (behavior, trailing, us, (us, End, ends, sym h.0), h.1, h.2)
+judged-answers around behavior cut trailing us (code.Print text) notes ends h = absurd h
+judged-answers around behavior cut trailing us code.List notes ends h = (us, (us, End, ends, sym h.0), h.1)
 
-pub printed-answers : (around : Around) (cargo : Bool) (cut trailing : List (List ℕ)) (us : List Use) (print : Question) (parsed : Parsed) (notes : List Note) → Ends cut us (Prints print) → IsPrinted print parsed notes → Answers around (ComesFrom around (Cuts cargo cut trailing)) parsed notes
-printed-answers around cargo cut trailing us print (code.Args args) notes ends h = absurd h
-printed-answers around cargo cut trailing us print (code.Print text) notes ends h = (print, (us, Prints print, ends, refl), h.0, h.1)
-printed-answers around cargo cut trailing us print code.List notes ends h = absurd h
+pub printed-answers : (around : Around) (behavior : WorkspaceBehavior) (cut trailing : List (List ℕ)) (us : List Use) (print : Question) (parsed : Parsed) (notes : List Note) → Ends cut us (Prints print) → IsPrinted print parsed notes → Answers around (ComesFrom around (Cuts behavior cut trailing)) parsed notes
+printed-answers around behavior cut trailing us print (code.Args args) notes ends h = absurd h
+printed-answers around behavior cut trailing us print (code.Print text) notes ends h = (print, (us, Prints print, ends, refl), h.0, h.1)
+printed-answers around behavior cut trailing us print code.List notes ends h = absurd h
 
 -- a fault of a cut, as the call tells it
 pub cut-told : (words : List (List ℕ)) (e : CutFault) → IfSome (cut_fault_of e) (λ wrong. (us : List Use) × Ends words us (Fails wrong)) → GivesCuts (Err (told_of_cut e)) words
@@ -39,16 +40,16 @@ cut-told words cut.BehaviorForm h = (h.0, _, refl, h.1)
 cut-told words (cut.Removed name instead) h = (h.0, _, refl, h.1)
 cut-told words (cut.Similar name meant subcommand) h = (h.0, _, refl, h.1)
 
-pub cut-refuses : (around : Around) (cargo : Bool) (cut trailing : List (List ℕ)) (Q : Type 0) (o : Option Fault) → MatchOption o Q (λ fault. (us : List Use) × (f : WrongCut) × (fault ≡ Cut f) × Ends cut us (Fails f)) → MatchOption o Q (λ fault. ComesFrom around (Cuts cargo cut trailing) (Faulty fault))
-cut-refuses around cargo cut trailing Q (Some fault) h = (h.0, Fails h.1, h.3, ap Faulty h.2)
-cut-refuses around cargo cut trailing Q None h = h
+pub cut-refuses : (around : Around) (behavior : WorkspaceBehavior) (cut trailing : List (List ℕ)) (Q : Type 0) (o : Option Fault) → MatchOption o Q (λ fault. (us : List Use) × (f : WrongCut) × (fault ≡ Cut f) × Ends cut us (Fails f)) → MatchOption o Q (λ fault. ComesFrom around (Cuts behavior cut trailing) (Faulty fault))
+cut-refuses around behavior cut trailing Q (Some fault) h = (h.0, Fails h.1, h.3, ap Faulty h.2)
+cut-refuses around behavior cut trailing Q None h = h
 
-judged-refuses : (around : Around) (cargo : Bool) (cut trailing : List (List ℕ)) (us : List Use) (Q : Type 0) (o : Option Fault) → Ends cut us End → MatchOption o Q (λ fault. outcome_of around cargo trailing us ≡ Faulty fault) → MatchOption o Q (λ fault. ComesFrom around (Cuts cargo cut trailing) (Faulty fault))
-judged-refuses around cargo cut trailing us Q (Some fault) ends h = (us, End, ends, sym h)
-judged-refuses around cargo cut trailing us Q None ends h = h
+judged-refuses : (around : Around) (behavior : WorkspaceBehavior) (cut trailing : List (List ℕ)) (us : List Use) (Q : Type 0) (o : Option Fault) → Ends cut us End → MatchOption o Q (λ fault. outcome_of around behavior trailing us ≡ Faulty fault) → MatchOption o Q (λ fault. ComesFrom around (Cuts behavior cut trailing) (Faulty fault))
+judged-refuses around behavior cut trailing us Q (Some fault) ends h = (us, End, ends, sym h)
+judged-refuses around behavior cut trailing us Q None ends h = h
 
-pub fault-refuses : (around : Around) (cargo : Bool) (cut trailing : List (List ℕ)) (us : List Use) (e : CliFault) → Ends cut us End → MatchOption (fault_of e) (e ≡ fault.Memory) (λ told. outcome_of around cargo trailing us ≡ Faulty told) → Refuses (ComesFrom around (Cuts cargo cut trailing)) e
-fault-refuses around cargo cut trailing us e ends h = judged-refuses around cargo cut trailing us (e ≡ fault.Memory) (fault_of e) ends h
+pub fault-refuses : (around : Around) (behavior : WorkspaceBehavior) (cut trailing : List (List ℕ)) (us : List Use) (e : CliFault) → Ends cut us End → MatchOption (fault_of e) (e ≡ fault.Memory) (λ told. outcome_of around behavior trailing us ≡ Faulty told) → Refuses (ComesFrom around (Cuts behavior cut trailing)) e
+fault-refuses around behavior cut trailing us e ends h = judged-refuses around behavior cut trailing us (e ≡ fault.Memory) (fault_of e) ends h
 
 -- where no rule before is broken, a refusal of bare uses is the verdict
 pub bare-refused : (o : Option Fault) (Q : Type 0) (early : Option Fault) (bare : Option Verdict) (after : Verdict) → early ≡ None → MatchOption o Q (λ told. bare ≡ Some (Refused told)) → MatchOption o Q (λ told. refused_by early (verdict_or bare after) ≡ Refused told)
@@ -57,25 +58,25 @@ bare-refused None Q early bare after e h = h
 
 -- what words come to is one thing
 
-end-last : (around : Around) (cargo : Bool) (trailing : List (List ℕ)) (us : List Use) (r : Reading) (o : Outcome) → IsEnd around cargo trailing us r o → IsLast r
-end-last around cargo trailing us (Met one left) o h = h
-end-last around cargo trailing us End o h = tt
-end-last around cargo trailing us (Prints print) o h = tt
-end-last around cargo trailing us (Fails cut) o h = tt
+end-last : (around : Around) (behavior : WorkspaceBehavior) (trailing : List (List ℕ)) (us : List Use) (r : Reading) (o : Outcome) → IsEnd around behavior trailing us r o → IsLast r
+end-last around behavior trailing us (Met one left) o h = h
+end-last around behavior trailing us End o h = tt
+end-last around behavior trailing us (Prints print) o h = tt
+end-last around behavior trailing us (Fails cut) o h = tt
 
-end-one : (around : Around) (cargo : Bool) (trailing : List (List ℕ)) (us : List Use) (r : Reading) (a b : Outcome) → IsEnd around cargo trailing us r a → IsEnd around cargo trailing us r b → a ≡ b
-end-one around cargo trailing us (Met one left) a b h k = absurd h
-end-one around cargo trailing us End a b h k = h ∙ sym k
-end-one around cargo trailing us (Prints print) a b h k = h ∙ sym k
-end-one around cargo trailing us (Fails cut) a b h k = h ∙ sym k
+end-one : (around : Around) (behavior : WorkspaceBehavior) (trailing : List (List ℕ)) (us : List Use) (r : Reading) (a b : Outcome) → IsEnd around behavior trailing us r a → IsEnd around behavior trailing us r b → a ≡ b
+end-one around behavior trailing us (Met one left) a b h k = absurd h
+end-one around behavior trailing us End a b h k = h ∙ sym k
+end-one around behavior trailing us (Prints print) a b h k = h ∙ sym k
+end-one around behavior trailing us (Fails cut) a b h k = h ∙ sym k
 
 from-one : (around : Around) (start : Start) (a b : Outcome) → ComesFrom around start a → ComesFrom around start b → a ≡ b
 from-one around (Begun told) a b h k = h ∙ sym k
-from-one around (Cuts cargo cut trailing) a b h k =
-    let one = ends-one cut h.0 k.0 h.1 k.1 h.2 (end-last around cargo trailing h.0 h.1 a h.3) k.2 (end-last around cargo trailing k.0 k.1 b k.3) in
-    let at_us = subst (λ us. IsEnd around cargo trailing us k.1 b) (sym one.0) k.3 in
-    let at_end = subst (λ r. IsEnd around cargo trailing h.0 r b) (sym one.1) at_us in
-    end-one around cargo trailing h.0 h.1 a b h.3 at_end
+from-one around (Cuts behavior cut trailing) a b h k =
+    let one = ends-one cut h.0 k.0 h.1 k.1 h.2 (end-last around behavior trailing h.0 h.1 a h.3) k.2 (end-last around behavior trailing k.0 k.1 b k.3) in
+    let at_us = subst (λ us. IsEnd around behavior trailing us k.1 b) (sym one.0) k.3 in
+    let at_end = subst (λ r. IsEnd around behavior trailing h.0 r b) (sym one.1) at_us in
+    end-one around behavior trailing h.0 h.1 a b h.3 at_end
 
 pub outcome-one : (around : Around) (words : List (List ℕ)) (a b : Outcome) → ComesTo around words a → ComesTo around words b → a ≡ b
 outcome-one around words a b = from-one around (start_of words) a b

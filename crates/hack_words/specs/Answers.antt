@@ -1,5 +1,6 @@
 -- What is answered to the words of a call.
 use Rattle.std.specs.Prelude.{◌≡◌, ℕ, List, [], Bool, true, false, Option, Some, None, Result, Ok, Err, MatchOption, option_map, string_bytes, codes}
+use Rattle.hack_uses.specs.declared.behavior.WorkspaceBehavior.{WorkspaceBehavior}
 use Rattle.hack_uses.specs.Faults.{Fault as CutFault}
 use Rattle.hack_uses.specs.Reads.{Ends, End, Prints, Fails}
 use Rattle.hack_uses.specs.Uses.{Use, views}
@@ -14,6 +15,7 @@ use Rattle.hack_rules.specs.declared.fault.CliFault.{CliFault}
 use Rattle.hack_rules.specs.declared.fault.CliFault.TheVariants as fault
 use Rattle.hack_words.specs.declared.cli.parse.Checked.{Checked}
 use Rattle.hack_words.specs.declared.cli.parse.Checked.TheVariants as checked
+use Rattle.hack_words.specs.declared.cli.parse.Surroundings.{Surroundings}
 use Rattle.hack_words.specs.declared.cli.parse.Parsed.{Parsed as CodeParsed}
 use Rattle.hack_words.specs.declared.cli.parse.Parsed.TheVariants as code
 use Rattle.hack_words.specs.ArgsView.{IsAsked}
@@ -28,23 +30,27 @@ use Rattle.hack_words.specs.RustupView.{known_of, unknown_of}
 abbrev pub around_of : Env → Rustup → Around
 around_of env rustup = record { term_color = option_map string_bytes env.term_color; github_actions = env.github_actions; rustup = known_of rustup; unknown = unknown_of rustup }
 
+-- the same, as the code hands it on
+abbrev pub around_in : Surroundings → Around
+around_in around = around_of around.env.now around.rustup.now
+
 -- the verdict on uses
-abbrev pub verdict_around : Bool → Around → List Use → Verdict
-verdict_around cargo around us = verdict_of cargo around.term_color around.rustup us
+abbrev pub verdict_around : WorkspaceBehavior → Around → List Use → Verdict
+verdict_around behavior around us = verdict_of behavior around.term_color around.rustup us
 
 -- what the rules leave is their verdict, and what they read
-abbrev pub Judges : Result Checked CliFault → Bool → Around → List Use → Type 0
-Judges (Ok checked.List) cargo around us = verdict_around cargo around us ≡ Lists
-Judges (Ok (checked.Accepted early late)) cargo around us =
-    (verdict_around cargo around us ≡ Accepted) × (early.coloring ≡ coloring_asked around.term_color us) × (early.depth ≡ depth_asked us) × IsLate around.github_actions us late
-Judges (Err e) cargo around us = MatchOption (fault_of e) (e ≡ fault.Memory) (λ told. verdict_around cargo around us ≡ Refused told)
+abbrev pub Judges : Result Checked CliFault → WorkspaceBehavior → Around → List Use → Type 0
+Judges (Ok checked.List) behavior around us = verdict_around behavior around us ≡ Lists
+Judges (Ok (checked.Accepted early late)) behavior around us =
+    (verdict_around behavior around us ≡ Accepted) × (early.coloring ≡ coloring_asked around.term_color us) × (early.depth ≡ depth_asked us) × IsLate around.github_actions us late
+Judges (Err e) behavior around us = MatchOption (fault_of e) (e ≡ fault.Memory) (λ told. verdict_around behavior around us ≡ Refused told)
 
 -- the answer to uses that are judged, with its notices
-abbrev pub IsJudged : Around → Bool → List (List ℕ) → List Use → CodeParsed → List Note → Type 0
-IsJudged around cargo trailing us (code.Args args) notes =
-    (outcome_of around cargo trailing us ≡ Parsed cargo trailing us) × IsAsked around.term_color around.github_actions cargo trailing us args × (notes ≡ notes_on around us)
-IsJudged around cargo trailing us code.List notes = (outcome_of around cargo trailing us ≡ Listing us) × (notes ≡ unknown_notes us)
-IsJudged around cargo trailing us (code.Print text) notes = ⊥
+abbrev pub IsJudged : Around → WorkspaceBehavior → List (List ℕ) → List Use → CodeParsed → List Note → Type 0
+IsJudged around behavior trailing us (code.Args args) notes =
+    (outcome_of around behavior trailing us ≡ Parsed behavior trailing us) × IsAsked around.term_color around.github_actions behavior trailing us args × (notes ≡ notes_on around us)
+IsJudged around behavior trailing us code.List notes = (outcome_of around behavior trailing us ≡ Listing us) × (notes ≡ unknown_notes us)
+IsJudged around behavior trailing us (code.Print text) notes = ⊥
 
 -- the text that is printed for the version; those of the help are shown by tests
 abbrev pub IsText : Print → List ℕ → Type 0
@@ -61,8 +67,8 @@ IsPrinted print code.List notes = ⊥
 -- the answer, with its notices, to words of which it is told what they come to
 abbrev pub Answers : Around → (Outcome → Type 0) → CodeParsed → List Note → Type 0
 Answers around Comes (code.Args args) notes =
-    (cargo : Bool) × (trailing : List (List ℕ)) × (us : List Use) × Comes (Parsed cargo trailing us)
-    × IsAsked around.term_color around.github_actions cargo trailing us args × (notes ≡ notes_on around us)
+    (behavior : WorkspaceBehavior) × (trailing : List (List ℕ)) × (us : List Use) × Comes (Parsed behavior trailing us)
+    × IsAsked around.term_color around.github_actions behavior trailing us args × (notes ≡ notes_on around us)
 Answers around Comes code.List notes = (us : List Use) × Comes (Listing us) × (notes ≡ unknown_notes us)
 Answers around Comes (code.Print text) notes = (print : Print) × Comes (Printed print) × IsText print (string_bytes text) × (notes ≡ [])
 

@@ -1,12 +1,12 @@
 -- What arguments say, field by field.
-use Rattle.std.specs.Prelude.{ℕ, ◌≡◌, List, Bool, Option, IfSome, option_map, string_bytes, if◌then◌else◌}
+use Rattle.std.specs.Prelude.{ℕ, ◌≡◌, List, Bool, Option, IfSome, option_map, string_bytes}
 use Rattle.hack_features.specs.Names.{names_of}
 use Rattle.hack_options.specs.declared.Opt.TheVariants as opt
+use Rattle.hack_uses.specs.declared.behavior.WorkspaceBehavior.{WorkspaceBehavior}
 use Rattle.hack_uses.specs.Uses.{Use, is_given, subcommand_of}
 use Rattle.hack_uses.specs.Values.{value_given, values_given}
 use Rattle.hack_words.specs.declared.cli.args.Args.{Args}
 use Rattle.hack_words.specs.declared.cli.args.Read.{Read}
-use Rattle.hack_words.specs.declared.cli.args.WorkspaceBehavior.TheVariants.{Cargo, Default}
 use Rattle.hack_rules.specs.Asked.{coloring_asked, depth_asked, range_asked, step_asked, log_group_asked, piece_asked, kind_asked, leading_asked, excluded_asked, excludes_no_default, excludes_all, ignores_private}
 use Rattle.hack_rules.specs.CliGroups.{AreGroupsOf, AreNormalsOf, AreLifts}
 use Rattle.hack_rules.specs.CliLists.{names_given, optional_given, lifts_given}
@@ -36,8 +36,8 @@ pub record HasFlags (us : List Use) (args : Args) : Type 0 where
   pub exclude_all_features : args.exclude_all_features ≡ excludes_all (listed us) us
 
 -- the words and lists of words
-pub record HasTexts (cargo : Bool) (us : List Use) (args : Args) : Type 0 where
-  pub leading_args : names_of args.leading_args.items ≡ leading_asked cargo us
+pub record HasTexts (behavior : WorkspaceBehavior) (us : List Use) (args : Args) : Type 0 where
+  pub leading_args : names_of args.leading_args.items ≡ leading_asked behavior us
   pub subcommand : option_map string_bytes args.subcommand ≡ subcommand_of us
   pub manifest_path : option_map string_bytes args.manifest_path ≡ value_given opt.ManifestPath us
   pub packages : names_of args.«package».items ≡ values_given opt.Package us
@@ -57,8 +57,8 @@ pub record HasFeatures (us : List Use) (args : Args) : Type 0 where
 
 -- what the rules read, as it was read
 pub record Carries (read : Read) (args : Args) : Type 0 where
-  pub trailing_args : args.trailing_args ≡ read.trailing
-  pub workspace_behavior : args.workspace_behavior ≡ (if read.cargo then Cargo else Default)
+  pub trailing_args : args.trailing_args ≡ read.call.trailing
+  pub workspace_behavior : args.workspace_behavior ≡ read.call.behavior
   pub coloring : args.coloring ≡ read.early.coloring
   pub depth : args.depth ≡ read.early.depth
   pub version_range : args.version_range ≡ read.late.versions.range
@@ -68,9 +68,9 @@ pub record Carries (read : Read) (args : Args) : Type 0 where
   pub allow_together : args.allow_together ≡ read.late.lifts
 
 -- the values that are read beside the environment
-pub record HasValues (term_color : Option (List ℕ)) (github_actions cargo : Bool) (trailing : List (List ℕ)) (us : List Use) (args : Args) : Type 0 where
+pub record HasValues (term_color : Option (List ℕ)) (github_actions : Bool) (behavior : WorkspaceBehavior) (trailing : List (List ℕ)) (us : List Use) (args : Args) : Type 0 where
   pub trailing_args : names_of args.trailing_args.items ≡ trailing
-  pub workspace_behavior : args.workspace_behavior ≡ (if cargo then Cargo else Default)
+  pub workspace_behavior : args.workspace_behavior ≡ behavior
   pub coloring : args.coloring ≡ coloring_asked term_color us
   pub depth : args.depth ≡ depth_asked us
   pub version_range : args.version_range ≡ range_asked us
@@ -81,8 +81,8 @@ pub record HasValues (term_color : Option (List ℕ)) (github_actions cargo : Bo
   pub allow_together : AreLifts (lifts_given us) args.allow_together.items
 
 -- all fields
-pub record IsAsked (term_color : Option (List ℕ)) (github_actions cargo : Bool) (trailing : List (List ℕ)) (us : List Use) (args : Args) : Type 0 where
+pub record IsAsked (term_color : Option (List ℕ)) (github_actions : Bool) (behavior : WorkspaceBehavior) (trailing : List (List ℕ)) (us : List Use) (args : Args) : Type 0 where
   pub flags : HasFlags us args
-  pub texts : HasTexts cargo us args
+  pub texts : HasTexts behavior us args
   pub features : HasFeatures us args
-  pub values : HasValues term_color github_actions cargo trailing us args
+  pub values : HasValues term_color github_actions behavior trailing us args

@@ -1,6 +1,7 @@
 -- What words come to beside their environment: a fault, a text to print, cargo's list, or arguments.
 use Rattle.std.specs.Prelude.{ℕ, ◌≡◌, ◌++◌, ◌&&◌, ◌||◌, List, [], ◌∷◌, Bool, true, false, Option, Some, None, codes, if◌then◌else◌}
 use Rattle.hack_options.specs.declared.Opt.TheVariants as opt
+use Rattle.hack_uses.specs.declared.behavior.WorkspaceBehavior.{WorkspaceBehavior}
 use Rattle.hack_uses.specs.declared.cut.Print.{Print}
 use Rattle.hack_uses.specs.Reads.{Reading, Met, End, Prints as Questions, Fails, Ends}
 use Rattle.hack_uses.specs.Uses.{Use, is_given}
@@ -27,28 +28,28 @@ pub data Outcome : Type 0 where
   Faulty : Fault → Outcome
   Printed : Print → Outcome
   Listing : List Use → Outcome
-  Parsed : Bool → List (List ℕ) → List Use → Outcome
+  Parsed : WorkspaceBehavior → List (List ℕ) → List Use → Outcome
 
--- what uses come to, with Cargo's own handling of workspaces and with the words behind --
-abbrev pub outcome_of : Around → Bool → List (List ℕ) → List Use → Outcome
-outcome_of around cargo trailing us = by_verdict (verdict_of cargo around.term_color around.rustup us)
+-- what uses come to, with who handles workspaces and the words behind --
+abbrev pub outcome_of : Around → WorkspaceBehavior → List (List ℕ) → List Use → Outcome
+outcome_of around behavior trailing us = by_verdict (verdict_of behavior around.term_color around.rustup us)
   where
     by_verdict : Verdict → Outcome
-    by_verdict Accepted = Parsed cargo trailing us
+    by_verdict Accepted = Parsed behavior trailing us
     by_verdict Lists = Listing us
     by_verdict (Refused fault) = Faulty fault
 
 -- what the end of cutting comes to
-abbrev pub IsEnd : Around → Bool → List (List ℕ) → List Use → Reading → Outcome → Type 0
-IsEnd around cargo trailing us End outcome = outcome ≡ outcome_of around cargo trailing us
-IsEnd around cargo trailing us (Questions print) outcome = outcome ≡ Printed print
-IsEnd around cargo trailing us (Fails fault) outcome = outcome ≡ Faulty (Cut fault)
-IsEnd around cargo trailing us (Met one left) outcome = ⊥
+abbrev pub IsEnd : Around → WorkspaceBehavior → List (List ℕ) → List Use → Reading → Outcome → Type 0
+IsEnd around behavior trailing us End outcome = outcome ≡ outcome_of around behavior trailing us
+IsEnd around behavior trailing us (Questions print) outcome = outcome ≡ Printed print
+IsEnd around behavior trailing us (Fails fault) outcome = outcome ≡ Faulty (Cut fault)
+IsEnd around behavior trailing us (Met one left) outcome = ⊥
 
 -- what words come to that begin so: they are cut up to the first fault or question, and then judged
 abbrev pub ComesFrom : Around → Start → Outcome → Type 0
 ComesFrom around (Refuses fault) outcome = outcome ≡ Faulty fault
-ComesFrom around (Cuts cargo cut trailing) outcome = (us : List Use) × (end : Reading) × Ends cut us end × IsEnd around cargo trailing us end outcome
+ComesFrom around (Cuts behavior cut trailing) outcome = (us : List Use) × (end : Reading) × Ends cut us end × IsEnd around behavior trailing us end outcome
 
 -- what words come to
 abbrev pub ComesTo : Around → List (List ℕ) → Outcome → Type 0

@@ -2,6 +2,8 @@
 use Rattle.std.specs.Prelude.{ℕ, List, [], ◌∷◌, not, ◌||◌, Bool, None, codes, length, nat_lt, nat_eq, bytes_eq, if◌then◌else◌}
 use Rattle.std.specs.List.{filter, list_any, starts_with}
 use Rattle.hack_options.specs.declared.Opt.TheVariants as opt
+use Rattle.hack_uses.specs.declared.behavior.WorkspaceBehavior.{WorkspaceBehavior}
+use Rattle.hack_uses.specs.declared.behavior.WorkspaceBehavior.TheVariants.{Cargo, Default}
 use Rattle.hack_uses.specs.Faults.{LongFlag, Repeat}
 use Rattle.hack_rules.specs.CliFaults.{Fault, NoWord, NotHack, Cut}
 
@@ -27,16 +29,20 @@ cut_words ws = filter (λ w. not (is_behavior w)) ws
 abbrev pub behaviors : List (List ℕ) → ℕ
 behaviors ws = length (filter is_behavior ws)
 
--- how words begin: a fault, or the handling of workspaces, the words that are cut, and those behind --
+-- who handles workspaces: Cargo where that word stands in front
+abbrev pub behavior_said : List (List ℕ) → WorkspaceBehavior
+behavior_said ws = if nat_lt 0 (behaviors ws) then Cargo else Default
+
+-- how words begin: a fault, or who handles workspaces, the words that are cut, and those behind --
 pub data Start : Type 0 where
   Refuses : Fault → Start
-  Cuts : Bool → List (List ℕ) → List (List ℕ) → Start
+  Cuts : WorkspaceBehavior → List (List ℕ) → List (List ℕ) → Start
 
 -- with the words in front and behind --
 abbrev pub start_with : List (List ℕ) → List (List ℕ) → Start
 start_with front trailing =
     if nat_lt 1 (behaviors front) then Refuses (Cut (Repeat (LongFlag (codes "workspace-behavior")) opt.WorkspaceBehavior None))
-    else Cuts (nat_lt 0 (behaviors front)) (cut_words front) trailing
+    else Cuts (behavior_said front) (cut_words front) trailing
 
 -- the first word is hack
 abbrev pub start_of : List (List ℕ) → Start

@@ -8,11 +8,11 @@ use Rattle.hack_rules.specs.declared.fault.CliFault.TheVariants as fault
 use Rattle.hack_words.specs.declared.cli.start.Front.{Front}
 use Rattle.hack_words.specs.declared.cli.start.Start.{Start as CodeStart}
 use Rattle.hack_rules.specs.CliFaults.{fault_of, Cut}
-use Rattle.hack_words.specs.Start.{Start, Refuses, Cuts, start_of, behaviors, cut_words}
+use Rattle.hack_words.specs.Start.{Start, Refuses, Cuts, start_of, behaviors, behavior_said, cut_words}
 
 -- how words begin that the code has looked at
 abbrev pub start_in : CodeStart → Start
-start_in start = Cuts start.cargo (names_of start.words.items) (names_of start.trailing.items)
+start_in start = Cuts start.behavior (names_of start.words.items) (names_of start.trailing.items)
 
 -- what the code answers is how the words begin
 abbrev pub Begins : Result CodeStart CliFault → List (List ℕ) → Type 0
@@ -21,5 +21,5 @@ Begins (Err e) words = MatchOption (fault_of e) (e ≡ fault.Memory) (λ told. s
 
 -- what the code takes out of the words in front, or the fault of a second one
 abbrev pub TakesOut : Result Front CliFault → List (List ℕ) → Type 0
-TakesOut (Ok taken) front = (nat_lt 1 (behaviors front) ≡ false) × (taken.cargo ≡ nat_lt 0 (behaviors front)) × (names_of taken.words.items ≡ cut_words front)
+TakesOut (Ok taken) front = (nat_lt 1 (behaviors front) ≡ false) × (taken.behavior ≡ behavior_said front) × (names_of taken.words.items ≡ cut_words front)
 TakesOut (Err e) front = MatchOption (fault_of e) (e ≡ fault.Memory) (λ told. (nat_lt 1 (behaviors front) ≡ true) × (told ≡ Cut (Repeat (LongFlag (codes "workspace-behavior")) opt.WorkspaceBehavior None)))

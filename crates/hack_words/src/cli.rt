@@ -6,11 +6,11 @@ mod notes;
 mod parse;
 mod start;
 
-pub use args::{Args, WorkspaceBehavior};
+pub use args::Args;
 pub use env::Env;
 pub use hack_features::Feature;
 pub use hack_options::{Help, Opt};
 pub use hack_rules::fault::{Beside, CliFault};
-pub use hack_uses::{CutFault, OwnedFlag};
+pub use hack_uses::{CutFault, OwnedFlag, WorkspaceBehavior};
 pub use parse::{Parsed, outcome_is_one};
 pub use start::wants_rustup;

@@ -1,6 +1,6 @@
 //! What a call asks for.
 
-ghost use Rattle.std.specs.Prelude.{◌≡◌, ◌++◌, IfOk, OnOk, codes, string_bytes, option_map, if◌then◌else◌};
+ghost use Rattle.std.specs.Prelude.{◌≡◌, ◌++◌, IfOk, OnOk, codes, string_bytes, option_map};
 ghost use Rattle.std.specs.List.{repeat};
 ghost use Rattle.hack_features.specs.Names.{names_of};
 ghost use Rattle.hack_uses.specs.Passed.{leading_of};
@@ -17,31 +17,9 @@ use hack_rules::named;
 use hack_rules::rules::{Early, has_some};
 use hack_term::partition::Partition;
 use hack_term::term::{Coloring, LogGroup};
-use hack_uses::{Use, count, given, subcommand, value, values};
+use hack_uses::{Use, WorkspaceBehavior, count, given, subcommand, value, values};
 use hack_versions::version::VersionRange;
 use std::alloc::{AllocError, Global};
-
-/// Who chooses the packages of a workspace that a command runs on.
-#[derive(Clone, Copy, Debug, PartialEq, Eq)]
-pub enum WorkspaceBehavior {
-    /// Cargo does.
-    Cargo,
-    /// This program does, and runs one command for each package.
-    Default,
-}
-
-impl WorkspaceBehavior {
-    /// The behaviour where Cargo's own is asked for, or not.
-    pub fn new(cargo: bool) -> WorkspaceBehavior
-        ensures { result ≡ (if cargo then WorkspaceBehavior.Cargo else WorkspaceBehavior.Default) }
-    {
-        if cargo {
-            WorkspaceBehavior::Cargo
-        } else {
-            WorkspaceBehavior::Default
-        }
-    }
-}
 
 /// What a call asks for.
 #[derive(Drop)]
@@ -170,14 +148,21 @@ fn ignores_private(uses: &[Use]) -> bool
     given(Opt::IgnorePrivate, uses) || given(Opt::NoPrivate, uses)
 }
 
-/// What is read of the words before the arguments are put together.
+/// A call that is cut, with what its uses of options give.
 #[derive(Drop)]
-pub struct Read {
-    pub cargo: bool,
-    /// The words for cargo, without `-v`.
-    pub leading: Vec<String>,
+pub struct Call {
+    pub behavior: WorkspaceBehavior,
+    /// The words that are passed on to cargo, but for the counted `-v`.
+    pub passed: Vec<String>,
+    /// The words behind the first `--`.
     pub trailing: Vec<String>,
     pub lists: Lists,
+}
+
+/// A call that keeps the rules, with what they read.
+#[derive(Drop)]
+pub struct Read {
+    pub call: Call,
     pub early: Early,
     pub late: Late,
 }
@@ -189,23 +174,22 @@ impl Args {
 
     /// The arguments that uses of options and what was read of them say.
     pub(crate) fn of(alloc: Global, read: Read, uses: &[Use]) -> Result<Args, AllocError>
-        requires leading { names_of read.leading.items ≡ leading_of read.cargo (views uses.now) }
-        requires listed { listed_in read.lists ≡ listed (views uses.now) }
-        requires groups { AreGroupsOf (values_given Opt.GroupFeatures (views uses.now)) read.lists.group_features.items }
-        requires exclusive { AreGroupsOf (values_given Opt.MutuallyExclusiveFeatures (views uses.now)) read.lists.mutually_exclusive_features.items }
+        requires passed { names_of read.call.passed.items ≡ leading_of read.call.behavior (views uses.now) }
+        requires listed { listed_in read.call.lists ≡ listed (views uses.now) }
+        requires groups { AreGroupsOf (values_given Opt.GroupFeatures (views uses.now)) read.call.lists.group_features.items }
+        requires exclusive { AreGroupsOf (values_given Opt.MutuallyExclusiveFeatures (views uses.now)) read.call.lists.mutually_exclusive_features.items }
         ensures flags { IfOk result (HasFlags (views uses.now)) }
-        ensures texts { IfOk result (HasTexts read.cargo (views uses.now)) }
+        ensures texts { IfOk result (HasTexts read.call.behavior (views uses.now)) }
         ensures features { IfOk result (HasFeatures (views uses.now)) }
         ensures carries { IfOk result (Carries read) }
     {
-        let Read {
-            cargo,
-            leading: mut leading_args,
+        let Read { call, early, late } = read;
+        let Call {
+            behavior: workspace_behavior,
+            passed: mut leading_args,
             trailing: trailing_args,
             lists,
-            early,
-            late,
-        } = read;
+        } = call;
         let said = count(Opt::Verbose, uses);
         pass_verbose(alloc, &mut leading_args, said)?;
         let exclude_no_default_features = leaves_no_default(&lists, uses);
@@ -244,7 +228,7 @@ impl Args {
             version_range: late.versions.range,
             version_step: late.versions.step,
             log_group: late.log_group,
-            workspace_behavior: WorkspaceBehavior::new(cargo),
+            workspace_behavior,
             coloring: early.coloring,
             optional_deps,
             include_features: named::normals(alloc, includes.as_slice())?,

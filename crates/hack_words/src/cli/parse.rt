@@ -1,11 +1,12 @@
 //! Words into arguments, or the first fault.
 
-ghost use Rattle.std.specs.Prelude.{Bool, ℕ, List, ◌≡◌, ◌++◌, IfOk, IfErr, MatchOption, OnOk, map, string_bytes};
+ghost use Rattle.std.specs.Prelude.{ℕ, List, ◌≡◌, ◌++◌, IfOk, IfErr, MatchOption, OnOk, map, string_bytes};
 ghost use Rattle.hack_features.specs.Names.{names_of};
+ghost use Rattle.hack_uses.specs.declared.behavior.WorkspaceBehavior.{WorkspaceBehavior};
 ghost use Rattle.hack_uses.specs.Passed.{leading_of};
 ghost use Rattle.hack_uses.specs.Uses.{views, subcommand_of};
 ghost use Rattle.hack_versions.specs.Notes.{note_of};
-ghost use Rattle.hack_words.specs.Answers.{Judges, GoesOn, IsJudged, IsText, IsPrinted, Answers, Refuses, GivesCuts, BreakNoRule, around_of};
+ghost use Rattle.hack_words.specs.Answers.{Judges, GoesOn, IsJudged, IsText, IsPrinted, Answers, Refuses, GivesCuts, BreakNoRule, around_of, around_in};
 ghost use Rattle.hack_rules.specs.Asked.{is_old_asked};
 ghost use Rattle.hack_words.specs.Call.{Around, Outcome, ComesFrom, ComesTo, Faulty, outcome_of, later_notes, in_vain};
 ghost use Rattle.hack_rules.specs.CliFaults.{fault_of};
@@ -15,7 +16,7 @@ ghost use Rattle.hack_rules.specs.Rules.{bare_verdict};
 ghost use Rattle.hack_words.specs.StartView.{start_in};
 ghost use Rattle.hack_words.specs.RustupView.{known_of, unknown_of};
 
-use crate::cli::args::{Args, Read};
+use crate::cli::args::{Args, Call, Read};
 use crate::cli::env::Env;
 use crate::cli::notes::{tell_edits, tell_old, tell_rustup, tell_unknown};
 use crate::cli::start::Start;
@@ -24,7 +25,7 @@ use hack_rules::fault::CliFault;
 use hack_rules::late_rules::{self, Late, is_ranged};
 use hack_rules::listed::Lists;
 use hack_rules::rules::{self, Early, has, has_some};
-use hack_uses::{Cuts, Print, Use, all_uses, given, leading, subcommand, value};
+use hack_uses::{Cuts, Print, Use, WorkspaceBehavior, all_uses, given, leading, subcommand, value};
 use hack_versions::notice::Notice;
 use hack_versions::rustup::Rustup;
 use std::alloc::{AllocError, Global};
@@ -37,6 +38,13 @@ pub enum Parsed {
     Print(String),
     /// The list of cargo's commands.
     List,
+}
+
+/// What a call looks up beside its words.
+#[derive(Clone, Copy)]
+struct Surroundings<'a> {
+    env: &'a Env,
+    rustup: &'a Rustup,
 }
 
 /// What the rules leave.
@@ -56,13 +64,13 @@ fn known(rustup: &Rustup) -> Option<u32>
 }
 
 /// Whether cargo's list is asked for, where there is no subcommand.
-fn lists_commands(leading: &[String], uses: &[Use]) -> Result<bool, CliFault>
-    ensures { (cargo : Bool) → names_of leading.now ≡ leading_of cargo (views uses.now) → GoesOn result (bare_verdict cargo (subcommand_of (views uses.now)) (views uses.now)) }
+fn lists_commands(passed: &[String], uses: &[Use]) -> Result<bool, CliFault>
+    ensures { (behavior : WorkspaceBehavior) → names_of passed.now ≡ leading_of behavior (views uses.now) → GoesOn result (bare_verdict behavior (subcommand_of (views uses.now)) (views uses.now)) }
 {
     if subcommand(uses).is_some() {
         return Ok(false);
     }
-    if has(leading, "--list") {
+    if has(passed, "--list") {
         return Ok(true);
     }
     if given(Opt::RemoveDevDeps, uses) {
@@ -74,22 +82,27 @@ fn lists_commands(leading: &[String], uses: &[Use]) -> Result<bool, CliFault>
 /// All rules, in order.
 fn keep_rules(
     alloc: Global,
-    cargo: bool,
-    leading: &[String],
-    lists: &Lists,
+    around: Surroundings<'_>,
+    call: &Call,
     uses: &[Use],
-    env: &Env,
-    rustup: &Rustup,
 ) -> Result<Checked, CliFault>
-    requires leading { names_of leading.now ≡ leading_of cargo (views uses.now) }
-    requires listed { listed_in lists.now ≡ listed (views uses.now) }
-    ensures { Judges result cargo (around_of env.now rustup.now) (views uses.now) }
+    requires passed { names_of call.now.passed.items ≡ leading_of call.now.behavior (views uses.now) }
+    requires listed { listed_in call.now.lists ≡ listed (views uses.now) }
+    ensures { Judges result call.now.behavior (around_in around.entry) (views uses.now) }
 {
-    let early = rules::before(alloc, cargo, env.term_color.as_ref(), lists, leading, uses)?;
-    if lists_commands(leading, uses)? {
+    let Surroundings { env, rustup } = around;
+    let Call {
+        behavior,
+        passed,
+        lists,
+        ..
+    } = call;
+    let term_color = env.term_color.as_ref();
+    let early = rules::before(alloc, *behavior, term_color, lists, passed, uses)?;
+    if lists_commands(passed, uses)? {
         return Ok(Checked::List);
     }
-    let late = late_rules::after(alloc, known(rustup), env.github_actions, uses)?;
+    let late = late_rules::after(alloc, known(rustup), env.github_actions, lists, uses)?;
     Ok(Checked::Accepted { early, late })
 }
 
@@ -120,33 +133,35 @@ fn ignores_in_vain(lists: &Lists, uses: &[Use]) -> bool
 /// What uses of options come to.
 fn judged(
     alloc: Global,
-    cargo: bool,
+    around: Surroundings<'_>,
+    behavior: WorkspaceBehavior,
     trailing: Vec<String>,
     uses: &[Use],
-    env: &Env,
-    rustup: &Rustup,
 ) -> Result<(Parsed, Vec<Notice>), CliFault>
-    ensures ok { IfOk result (λ answer. IsJudged (around_of env.now rustup.now) cargo (names_of trailing.items) (views uses.now) answer.0 (map note_of answer.1.items)) }
-    ensures err { IfErr result (λ e. MatchOption (fault_of e) (e ≡ CliFault.Memory) (λ fault. outcome_of (around_of env.now rustup.now) cargo (names_of trailing.items) (views uses.now) ≡ Faulty fault)) }
+    ensures ok { IfOk result (λ answer. IsJudged (around_in around.entry) behavior (names_of trailing.items) (views uses.now) answer.0 (map note_of answer.1.items)) }
+    ensures err { IfErr result (λ e. MatchOption (fault_of e) (e ≡ CliFault.Memory) (λ fault. outcome_of (around_in around.entry) behavior (names_of trailing.items) (views uses.now) ≡ Faulty fault)) }
 {
-    let lists = Lists::of(alloc, uses)?;
-    let leading = leading(alloc, cargo, uses)?;
-    let left = keep_rules(alloc, cargo, leading.as_slice(), &lists, uses, env, rustup)?;
+    let call = Call {
+        behavior,
+        passed: leading(alloc, behavior, uses)?,
+        trailing,
+        lists: Lists::of(alloc, uses)?,
+    };
+    let left = keep_rules(alloc, around, &call, uses)?;
     let mut notices = Vec::new(alloc);
-    tell_unknown(alloc, &mut notices, ignores_in_vain(&lists, uses))?;
+    tell_unknown(alloc, &mut notices, ignores_in_vain(&call.lists, uses))?;
     let (early, late) = match left {
         Checked::List => return Ok((Parsed::List, notices)),
         Checked::Accepted { early, late } => (early, late),
     };
-    tell(alloc, &mut notices, late.versions.is_old, uses, rustup)?;
-    let read = Read {
-        cargo,
-        leading,
-        trailing,
-        lists,
-        early,
-        late,
-    };
+    tell(
+        alloc,
+        &mut notices,
+        late.versions.is_old,
+        uses,
+        around.rustup,
+    )?;
+    let read = Read { call, early, late };
     Ok((Parsed::Args(Args::of(alloc, read, uses)?), notices))
 }
 
@@ -179,38 +194,34 @@ fn printed(alloc: Global, print: Print) -> Result<(Parsed, Vec<Notice>), AllocEr
 /// What words come to that begin so.
 fn begun(
     alloc: Global,
+    around: Surroundings<'_>,
     start: Start,
-    env: &Env,
-    rustup: &Rustup,
 ) -> Result<(Parsed, Vec<Notice>), CliFault>
-    ensures ok { IfOk result (λ answer. Answers (around_of env.now rustup.now) (ComesFrom (around_of env.now rustup.now) (start_in start)) answer.0 (map note_of answer.1.items)) }
-    ensures err { IfErr result (Refuses (ComesFrom (around_of env.now rustup.now) (start_in start))) }
+    ensures ok { IfOk result (λ answer. Answers (around_in around.entry) (ComesFrom (around_in around.entry) (start_in start)) answer.0 (map note_of answer.1.items)) }
+    ensures err { IfErr result (Refuses (ComesFrom (around_in around.entry) (start_in start))) }
 {
-    match cut(alloc, start.words)? {
+    let Start {
+        behavior,
+        words,
+        trailing,
+    } = start;
+    match cut(alloc, words)? {
         Cuts::Asks(print) => Ok(printed(alloc, print)?),
-        Cuts::Uses(uses) => judged(
-            alloc,
-            start.cargo,
-            start.trailing,
-            uses.as_slice(),
-            env,
-            rustup,
-        ),
+        Cuts::Uses(uses) => judged(alloc, around, behavior, trailing, uses.as_slice()),
     }
 }
 
 /// What words come to, or the fault of the first rule that they break.
 fn read_words(
     alloc: Global,
+    around: Surroundings<'_>,
     words: &[String],
-    env: &Env,
-    rustup: &Rustup,
 ) -> Result<(Parsed, Vec<Notice>), CliFault>
-    ensures ok { IfOk result (λ answer. Answers (around_of env.now rustup.now) (ComesTo (around_of env.now rustup.now) (names_of words.now)) answer.0 (map note_of answer.1.items)) }
-    ensures err { IfErr result (Refuses (ComesTo (around_of env.now rustup.now) (names_of words.now))) }
+    ensures ok { IfOk result (λ answer. Answers (around_in around.entry) (ComesTo (around_in around.entry) (names_of words.now)) answer.0 (map note_of answer.1.items)) }
+    ensures err { IfErr result (Refuses (ComesTo (around_in around.entry) (names_of words.now))) }
 {
     let start = Start::of(alloc, words)?;
-    begun(alloc, start, env, rustup)
+    begun(alloc, around, start)
 }
 
 /// The law that what words come to is one thing. It does nothing; its contract is the law.
@@ -231,6 +242,10 @@ impl Args {
         ensures never { IfOk result (λ _. BreakNoRule (around_of env.now rustup) (names_of words.now)) }
         ensures err { IfErr result (Refuses (ComesTo (around_of env.now rustup) (names_of words.now))) }
     {
-        read_words(alloc, words, env, &rustup)
+        let around = Surroundings {
+            env,
+            rustup: &rustup,
+        };
+        read_words(alloc, around, words)
     }
 }

@@ -7,33 +7,20 @@ ghost use Rattle.hack_words.specs.StartView.{Begins, TakesOut};
 
 use hack_options::Opt;
 use hack_rules::fault::CliFault;
-use hack_uses::{CutFault, OwnedFlag};
+use hack_uses::{CutFault, OwnedFlag, WorkspaceBehavior};
 use std::alloc::{AllocError, Global};
 
-/// The words up to the first `--`.
-fn before_dashes(words: &[String]) -> &[String]
-    ensures { names_of result.now ≡ front_words (names_of words.now) }
+/// The words in front of the first `--`, and those behind it.
+fn split_at_dashes(words: &[String]) -> (&[String], &[String])
+    ensures front { names_of result.0.now ≡ front_words (names_of words.now) }
+    ensures trailing { names_of result.1.now ≡ trailing_words (names_of words.now) }
 {
     for (place, word) in words.iter().enumerate() {
         if word.as_str() == "--" {
-            return &words[..place];
+            return (&words[..place], &words[place + 1..]);
         }
     }
-    words
-}
-
-/// The words behind the first `--`.
-fn behind_dashes(words: &[String]) -> &[String]
-    ensures { names_of result.now ≡ trailing_words (names_of words.now) }
-{
-    let mut left = words;
-    while let [word, rest @ ..] = left {
-        if word.as_str() == "--" {
-            return rest;
-        }
-        left = rest;
-    }
-    left
+    (words, &[])
 }
 
 fn is_range_option(word: &str) -> bool
@@ -53,7 +40,8 @@ fn has_range(word: &str) -> bool
 pub fn wants_rustup(words: &[String]) -> bool
     ensures { result ≡ rustup_wanted (names_of words.now) }
 {
-    for word in before_dashes(words) {
+    let (front, _) = split_at_dashes(words);
+    for word in front {
         if is_range_option(word.as_str()) || has_range(word.as_str()) {
             return true;
         }
@@ -70,7 +58,7 @@ fn is_behavior(word: &str) -> bool
 /// The words in front of `--`, without those that ask for Cargo's own handling of workspaces.
 #[derive(Drop)]
 struct Front {
-    cargo: bool,
+    behavior: WorkspaceBehavior,
     words: Vec<String>,
 }
 
@@ -79,11 +67,11 @@ fn taken_out(alloc: Global, front: &[String]) -> Result<Front, CliFault>
     ensures { TakesOut result (names_of front.now) }
 {
     let mut words = Vec::new(alloc);
-    let mut cargo = false;
+    let mut behavior = WorkspaceBehavior::Default;
     for word in front {
         if !is_behavior(word.as_str()) {
             words.push(word.clone()?)?;
-        } else if cargo {
+        } else if behavior == WorkspaceBehavior::Cargo {
             let flag = OwnedFlag::Long(String::from_str(alloc, "workspace-behavior")?);
             return Err(CliFault::Cut {
                 fault: CutFault::Repeat {
@@ -93,10 +81,10 @@ fn taken_out(alloc: Global, front: &[String]) -> Result<Front, CliFault>
                 },
             });
         } else {
-            cargo = true;
+            behavior = WorkspaceBehavior::Cargo;
         }
     }
-    Ok(Front { cargo, words })
+    Ok(Front { behavior, words })
 }
 
 fn copied(alloc: Global, words: &[String]) -> Result<Vec<String>, AllocError>
@@ -112,8 +100,7 @@ fn copied(alloc: Global, words: &[String]) -> Result<Vec<String>, AllocError>
 /// What words begin with.
 #[derive(Drop)]
 pub struct Start {
-    /// Cargo's own handling of workspaces is asked for.
-    pub cargo: bool,
+    pub behavior: WorkspaceBehavior,
     /// The words that are cut into options.
     pub words: Vec<String>,
     /// Those behind the first `--`.
@@ -133,10 +120,11 @@ impl Start {
                 found: first.clone()?,
             });
         }
-        let Front { cargo, words } = taken_out(alloc, before_dashes(rest))?;
-        let trailing = copied(alloc, behind_dashes(rest))?;
+        let (front, trailing) = split_at_dashes(rest);
+        let Front { behavior, words } = taken_out(alloc, front)?;
+        let trailing = copied(alloc, trailing)?;
         Ok(Start {
-            cargo,
+            behavior,
             words,
             trailing,
         })

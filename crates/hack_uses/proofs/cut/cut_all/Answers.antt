@@ -4,7 +4,7 @@ use Rattle.hack_lexopt.specs.Parsers.{left}
 use Rattle.hack_uses.specs.declared.cut.Use.{Use}
 use Rattle.hack_uses.specs.Uses.{views, view}
 use Rattle.hack_uses.specs.Reads.{read_of, Met}
-use Rattle.hack_uses.proofs.Shrinks.{Reads-more, read-smaller, read-has_option}
+use Rattle.hack_uses.proofs.Shrinks.{Reads-more, read-smaller}
 use Rattle.hack_uses.proofs.cut.cut_all.Goals as goal
 
 pub loop-uses-smaller : goal.loop-uses-smaller
@@ -19,4 +19,4 @@ loop-uses-preserved c =
     let read : read_of (views c.loop-uses.uses.items) (left c.loop-uses.parser) ≡ Met (view c.in-Met.one) (left c.read.new.parser) = subst (λ (us : List Use). read_of (views us) (left c.loop-uses.parser) ≡ Met (view c.in-Met.one) (left c.read.new.parser)) c.deref.ensures.value gives in
     let items : c.push.new.self.items ≡ c.loop-uses.uses.items ++ c.in-Met.one ∷ [] = search rules in
     let all : views c.push.new.self.items ≡ views c.loop-uses.uses.items ++ view c.in-Met.one ∷ [] = ap views items ∙ map-append view c.loop-uses.uses.items (c.in-Met.one ∷ []) in
-    (rw all (Reads-more [] (views c.loop-uses.uses.items) (view c.in-Met.one) _ (left c.loop-uses.parser) (left c.read.new.parser) c.loop-uses.invariant.0 read), read-has_option (views c.loop-uses.uses.items) (left c.loop-uses.parser) (view c.in-Met.one) (left c.read.new.parser) read)
+    rw all (Reads-more [] (views c.loop-uses.uses.items) (view c.in-Met.one) _ (left c.loop-uses.parser) (left c.read.new.parser) c.loop-uses.invariant read)

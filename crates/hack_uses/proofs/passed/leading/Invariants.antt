@@ -4,4 +4,4 @@ use Rattle.hack_uses.specs.Passed.{leading_of}
 use Rattle.hack_uses.proofs.passed.leading.Given as goal
 
 abbrev pub invariant-loop-one : goal.invariant-loop-one
-invariant-loop-one l = map string_bytes l.leading.items ++ leading_of l.cargo (views (drop l.one-index l.uses)) ≡ leading_of l.cargo (views l.uses)
+invariant-loop-one l = map string_bytes l.leading.items ++ leading_of l.behavior (views (drop l.one-index l.uses)) ≡ leading_of l.behavior (views l.uses)
