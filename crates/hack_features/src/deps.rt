@@ -2,7 +2,8 @@
 
 ghost use Rattle.std.specs.Prelude.{◌<◌, ◌↔◌, length, IsTrue, IfOk};
 ghost use Rattle.hack_features.specs.FeatureMap.{FeatureMap, feature_map};
-ghost use Rattle.hack_features.specs.Deps.{AreDepsOf, AreServers, IsDepsOf, IsServedBy, ServeGroups};
+ghost use Rattle.hack_features.specs.Deps.{AreDepsOf, AreServers, IsDepsOf, IsServedBy};
+ghost use Rattle.hack_features.specs.Deps.{ServeGroups};
 ghost use Rattle.hack_features.specs.Feature.{group_of, groups_of};
 ghost use Rattle.hack_features.specs.Places.{name_at};
 ghost use Rattle.hack_features.specs.Routed.{names_in, AreRoutesOf};
@@ -22,7 +23,8 @@ fn deps_at<'a>(
     from: usize,
 ) -> Result<BTreeSet<&'a str>, AllocError>
     requires { from < length (names_in routes.now) }
-    ensures { IfOk result (λ set. (m : FeatureMap) → AreRoutesOf Enabling m routes.now → IsDepsOf m (name_at (names_in routes.now) from) set) }
+    ensures { IfOk result (λ set. (m : FeatureMap) → AreRoutesOf Enabling m routes.now
+        → IsDepsOf m (name_at (names_in routes.now) from) set) }
 {
     let mut set = BTreeSet::new(alloc);
     for (to, name) in routes.names().iter().enumerate() {
@@ -38,7 +40,8 @@ fn deps_by_place<'a>(
     alloc: Global,
     routes: &Routes<'a>,
 ) -> Result<BTreeMap<&'a str, BTreeSet<&'a str>>, AllocError>
-    ensures { IfOk result (λ deps. (m : FeatureMap) → AreRoutesOf Enabling m routes.now → AreDepsOf m deps) }
+    ensures { IfOk result (λ deps. (m : FeatureMap) → AreRoutesOf Enabling m routes.now
+        → AreDepsOf m deps) }
 {
     let mut deps = BTreeMap::new(alloc);
     for (place, name) in routes.names().iter().enumerate() {
@@ -81,7 +84,8 @@ fn servers<'a>(
     group: &Feature,
     deps: &BTreeMap<&'a str, BTreeSet<&'a str>>,
 ) -> Result<BTreeSet<&'a str>, AllocError>
-    ensures { IfOk result (λ keys. (m : FeatureMap) → AreDepsOf m deps.now → AreServers m (group_of group.now) keys) }
+    ensures { IfOk result (λ keys. (m : FeatureMap) → AreDepsOf m deps.now
+        → AreServers m (group_of group.now) keys) }
 {
     let mut keys = BTreeSet::new(alloc);
     for (key, enabled) in deps.iter() {
@@ -92,14 +96,15 @@ fn servers<'a>(
     Ok(keys)
 }
 
-/// For each group that a key of the package enables a name of, the set of those keys; other groups are dropped.
-/// `deps` is what `feature_deps` answers for the package's map.
+/// For each group that a key of the package enables a name of, the set of those keys; other groups
+/// are dropped. `deps` is what `feature_deps` answers for the package's map.
 pub fn at_least_one_of_for_package<'a>(
     alloc: Global,
     at_least_one_of: &[Feature],
     deps: &BTreeMap<&'a str, BTreeSet<&'a str>>,
 ) -> Result<Vec<BTreeSet<&'a str>>, AllocError>
-    ensures { IfOk result (λ sets. (m : FeatureMap) → AreDepsOf m deps.now → ServeGroups m (groups_of at_least_one_of.now) sets.items) }
+    ensures { IfOk result (λ sets. (m : FeatureMap) → AreDepsOf m deps.now
+        → ServeGroups m (groups_of at_least_one_of.now) sets.items) }
 {
     let mut sets = Vec::new(alloc);
     for group in at_least_one_of {

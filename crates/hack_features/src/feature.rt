@@ -1,6 +1,7 @@
 //! A feature of a package: one name, several that go together, or one of a dependency.
 
-ghost use Rattle.std.specs.Prelude.{◌≡◌, ◌↔◌, ◌∷◌, [], ◌++◌, length, Some, IsTrue, IfOk, Any, Contains, string_bytes};
+ghost use Rattle.std.specs.Prelude.{◌≡◌, ◌↔◌, ◌∷◌, [], ◌++◌, length, Some, IsTrue, IfOk, Any};
+ghost use Rattle.std.specs.Prelude.{Contains, string_bytes};
 ghost use Rattle.std.specs.List.{join_with_byte};
 ghost use Rattle.hack_features.specs.Names.{names_of};
 ghost use Rattle.hack_features.specs.FeatureMap.{feature_map, Reaches};
@@ -15,16 +16,16 @@ use std::collections::BTreeMap;
 use std::fmt::Write;
 use std::{fmt, slice};
 
-/// What may stand as one element in a set of features. Features are ordered by variant, in the order below, and
-/// then by their fields.
+/// What may stand as one element in a set of features. Features are ordered by variant, in the
+/// order below, and then by their fields.
 #[derive(PartialEq, Eq, PartialOrd, Ord, Drop)]
 pub enum Feature {
     /// A feature of the package itself; its name is not divided any further.
     Normal { name: String },
     /// Features that go together; `name` is theirs, joined by commas.
     Group { name: String, list: Vec<String> },
-    /// A feature of a dependency, as `dependency/feature`; `_slash` is the place of the slash that joins them, in
-    /// bytes.
+    /// A feature of a dependency, as `dependency/feature`; `_slash` is the place of the slash that
+    /// joins them, in bytes.
     Path { name: String, _slash: usize },
 }
 
@@ -102,15 +103,16 @@ impl Feature {
         false
     }
 
-    /// Whether a chain of values leads from `s` to one of the names that the feature stands for. Values are cut
-    /// before their first `/`, and those that begin with `dep:` are kept.
+    /// Whether a chain of values leads from `s` to one of the names that the feature stands for.
+    /// Values are cut before their first `/`, and those that begin with `dep:` are kept.
     pub fn matches_recursive(
         &self,
         alloc: Global,
         s: &str,
         map: &BTreeMap<String, Vec<String>>,
     ) -> Result<bool, AllocError>
-        ensures { IfOk result (λ matches. IsTrue matches ↔ Reaches (feature_map map.now) (group_of self.now) s.now) }
+        ensures { IfOk result (λ matches. IsTrue matches
+            ↔ Reaches (feature_map map.now) (group_of self.now) s.now) }
     {
         let found = names_from(alloc, map, s, Edges::Reaching)?;
         Ok(self.matches_one_of(found.as_slice()))
@@ -124,13 +126,14 @@ impl Feature {
     }
 }
 
-/// Which of two features stands first in their order: by variant, `Normal` before `Group` before `Path`, and then by
-/// name, by the list of a group, and by the place of a slash. Texts are ordered by their bytes.
+/// Which of two features stands first in their order: by variant, `Normal` before `Group` before
+/// `Path`, and then by name, by the list of a group, and by the place of a slash. Texts are ordered
+/// by their bytes.
 pub fn compare_features(first: &Feature, second: &Feature) -> Ordering
     ensures order { result ≡ feature_order first.now second.now }
 
-    // Total and strict: two features stand one way or the other or are the same, and what is before a feature is
-    // before all that is behind it.
+    // Total and strict: two features stand one way or the other or are the same, and what is before
+    // a feature is before all that is behind it.
     ensures total { IsTotalOrder feature_order }
 
     // Neither stands first just where they have the same variant and fields.

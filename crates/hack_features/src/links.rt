@@ -35,7 +35,8 @@ impl<'a> Links<'a> {
         requires left { length self.old.rows.items < length (table_of self.old) }
         ensures links { OnOk result (IsLinking edges (feature_map map.now) self.new) }
         ensures more { OnOk result (length self.new.rows.items ≡ length self.old.rows.items + 1) }
-        ensures grown { OnOk result (IsGrown edges (feature_map map.now) (table_of self.old) (table_of self.new)) }
+        ensures grown { OnOk result (IsGrown edges (feature_map map.now) (table_of self.old)
+            (table_of self.new)) }
     {
         let name = self.names.texts[self.rows.len()];
         let row = self.names.row_of(alloc, map, name, edges)?;
@@ -53,7 +54,8 @@ impl<'a> Links<'a> {
     ) -> Result<Links<'a>, AllocError>
         requires { IsInStep names }
         ensures links { IfOk result (AreLinks edges (feature_map map.now)) }
-        ensures kept { IfOk result (λ links. (more : List Name) × (table_of links ≡ table names.entry ++ more)) }
+        ensures kept { IfOk result (λ links. (more : List Name)
+            × (table_of links ≡ table names.entry ++ more)) }
     {
         let mut links = Links {
             names,

@@ -1,6 +1,7 @@
 //! What chains of edges lead to from a place, marked in a row.
 
-ghost use Rattle.std.specs.Prelude.{◌≡◌, ◌<◌, ◌↔◌, ◌==◌, ◌||◌, ℕ, [], length, All, IfOk, OnOk, IsTrue, Contains};
+ghost use Rattle.std.specs.Prelude.{◌≡◌, ◌<◌, ◌↔◌, ◌==◌, ◌||◌, ℕ, [], length, All, IfOk, OnOk};
+ghost use Rattle.std.specs.Prelude.{IsTrue, Contains};
 ghost use Rattle.std.specs.List.{slice_index_or};
 ghost use Rattle.hack_features.specs.FeatureMap.{Chain};
 ghost use Rattle.hack_features.specs.Sets.{rows_of};
@@ -23,7 +24,8 @@ impl Marks {
         requires within { place < length self.old.marks.items }
         ensures marked { OnOk result (AreMarked self.new.marks.items self.new.order.items) }
         ensures size { length self.new.marks.items ≡ length self.old.marks.items }
-        ensures adds { OnOk result (AddsPlaces (λ j. place ≡ j) self.old.order.items self.new.order.items) }
+        ensures adds { OnOk result (AddsPlaces (λ j. place
+            ≡ j) self.old.order.items self.new.order.items) }
     {
         if !self.marks[place] {
             self.order.push(place)?;
@@ -38,7 +40,8 @@ impl Marks {
         requires within { All (λ place. place < length self.old.marks.items) places.now }
         ensures marked { OnOk result (AreMarked self.new.marks.items self.new.order.items) }
         ensures size { length self.new.marks.items ≡ length self.old.marks.items }
-        ensures adds { OnOk result (AddsPlaces (Contains places.now) self.old.order.items self.new.order.items) }
+        ensures adds { OnOk result (AddsPlaces
+            (Contains places.now) self.old.order.items self.new.order.items) }
     {
         for place in places {
             self.mark(*place)?;
@@ -57,8 +60,8 @@ pub(crate) fn row_at(rows: &[Vec<usize>], place: usize) -> &[usize]
     }
 }
 
-/// A mark at each place that a chain of edges leads to from `start`, itself too. `rows` has for each place those that
-/// an edge leads to.
+/// A mark at each place that a chain of edges leads to from `start`, itself too. `rows` has for
+/// each place those that an edge leads to.
 pub(crate) fn reached(
     alloc: Global,
     rows: &[Vec<usize>],
@@ -66,7 +69,8 @@ pub(crate) fn reached(
 ) -> Result<Vec<bool>, AllocError>
     requires start { start < length rows.now }
     requires within { All (All (λ place. place < length rows.now)) (rows_of rows.now) }
-    ensures { IfOk result (λ marks. (j : ℕ) → IsTrue (bit marks.items j) ↔ Chain (Leads (rows_of rows.now)) start j) }
+    ensures { IfOk result (λ marks. (j : ℕ)
+        → IsTrue (bit marks.items j) ↔ Chain (Leads (rows_of rows.now)) start j) }
 {
     let mut found = Marks {
         marks: vec![in alloc; false; rows.len()]?,
@@ -86,7 +90,8 @@ pub(crate) fn reached(
 fn marks_from(alloc: Global, rows: &[Vec<usize>], place: usize) -> Result<Vec<bool>, AllocError>
     requires start { place < length rows.now }
     requires within { All (All (λ place. place < length rows.now)) (rows_of rows.now) }
-    ensures { IfOk result (λ marks. (j : ℕ) → IsTrue (place == j || bit marks.items j) ↔ Chain (Leads (rows_of rows.now)) place j) }
+    ensures { IfOk result (λ marks. (j : ℕ)
+        → IsTrue (place == j || bit marks.items j) ↔ Chain (Leads (rows_of rows.now)) place j) }
 {
     if row_at(rows, place).is_empty() {
         return Ok(Vec::new(alloc));
@@ -97,7 +102,8 @@ fn marks_from(alloc: Global, rows: &[Vec<usize>], place: usize) -> Result<Vec<bo
 /// For each place the marks of what chains lead to from it.
 pub(crate) fn all_marks(alloc: Global, rows: &[Vec<usize>]) -> Result<Vec<Vec<bool>>, AllocError>
     requires within { All (All (λ place. place < length rows.now)) (rows_of rows.now) }
-    ensures { IfOk result (λ marks. (i j : ℕ) → i < length rows.now → IsTrue (leads (rows_of marks.items) i j) ↔ Chain (Leads (rows_of rows.now)) i j) }
+    ensures { IfOk result (λ marks. (i j : ℕ) → i < length rows.now
+        → IsTrue (leads (rows_of marks.items) i j) ↔ Chain (Leads (rows_of rows.now)) i j) }
 {
     let mut marks = Vec::new(alloc);
     for place in 0..rows.len() {

@@ -1,4 +1,5 @@
-//! The names of a feature map by their places in one table: texts are compared when it is made, and not again.
+//! The names of a feature map by their places in one table: texts are compared when it is made, and
+//! not again.
 
 ghost use Rattle.std.specs.Prelude.{◌≡◌, ◌<◌, length, IfOk, OnOk, MatchOption, Contains};
 ghost use Rattle.hack_features.specs.Names.{Name, names_of};
@@ -35,7 +36,9 @@ impl<'a> Names<'a> {
     /// The place of the name, if it is there.
     pub(crate) fn find(&self, name: &str) -> Option<usize>
         requires { IsInStep self.now }
-        ensures { MatchOption result (¬ Contains (table self.now) name.now) (λ place. (place < length (table self.now)) × (name_at (table self.now) place ≡ name.now)) }
+        ensures { MatchOption result (¬ Contains (table self.now) name.now)
+            (λ place. (place < length (table self.now))
+            × (name_at (table self.now) place ≡ name.now)) }
     {
         match self.places.get(name) {
             Some(place) => Some(*place),
@@ -61,7 +64,8 @@ impl<'a> Names<'a> {
     pub(crate) fn place_of(&mut self, name: &'a str) -> Result<usize, AllocError>
         requires { IsInStep self.old }
         ensures in_step { OnOk result (IsInStep self.new) }
-        ensures place { IfOk result (λ place. (place < length (table self.new)) × (name_at (table self.new) place ≡ name.now)) }
+        ensures place { IfOk result (λ place. (place < length (table self.new))
+            × (name_at (table self.new) place ≡ name.now)) }
         ensures adds { OnOk result (Adds (λ y. name.now ≡ y) (table self.old) (table self.new)) }
     {
         match self.find(name) {
@@ -79,8 +83,10 @@ impl<'a> Names<'a> {
     ) -> Result<Vec<usize>, AllocError>
         requires { IsInStep self.old }
         ensures in_step { OnOk result (IsInStep self.new) }
-        ensures row { IfOk result (λ row. AreAt (table self.new) row.items (targets_of edges (names_of values.now))) }
-        ensures adds { OnOk result (Adds (IsTarget edges (names_of values.now)) (table self.old) (table self.new)) }
+        ensures row { IfOk result (λ row.
+            AreAt (table self.new) row.items (targets_of edges (names_of values.now))) }
+        ensures adds { OnOk result (Adds (IsTarget edges (names_of values.now)) (table self.old)
+            (table self.new)) }
     {
         let mut row = Vec::new(alloc);
         for value in values {
@@ -101,8 +107,11 @@ impl<'a> Names<'a> {
     ) -> Result<Vec<usize>, AllocError>
         requires { IsInStep self.old }
         ensures in_step { OnOk result (IsInStep self.new) }
-        ensures row { IfOk result (λ row. AreAt (table self.new) row.items (targets_of edges (values_at (feature_map map.now) name.now))) }
-        ensures adds { OnOk result (Adds (IsTarget edges (values_at (feature_map map.now) name.now)) (table self.old) (table self.new)) }
+        ensures row { IfOk result (λ row.
+            AreAt (table self.new) row.items
+            (targets_of edges (values_at (feature_map map.now) name.now))) }
+        ensures adds { OnOk result (Adds (IsTarget edges (values_at (feature_map map.now) name.now))
+            (table self.old) (table self.new)) }
     {
         match map.get(name) {
             Some(values) => Ok(self.targets(alloc, values.as_slice(), edges)?),
@@ -135,7 +144,8 @@ impl<'a> Names<'a> {
     ) -> Result<(), AllocError>
         requires { IsInStep self.old }
         ensures in_step { OnOk result (IsInStep self.new) }
-        ensures known { OnOk result ((x : Name) → IsKey (feature_map map.now) x → Contains (table self.new) x) }
+        ensures known { OnOk result ((x : Name) → IsKey (feature_map map.now) x
+            → Contains (table self.new) x) }
     {
         for key in map.keys() {
             self.place_of(key.as_str())?;

@@ -22,7 +22,8 @@ fn candidate_places<'a>(
 ) -> Result<Vec<Vec<usize>>, AllocError>
     requires { IsInStep names.old }
     ensures in_step { OnOk result (IsInStep names.new) }
-    ensures rows { IfOk result (λ rows. AreAllAt (table names.new) (rows_of rows.items) (candidates_of candidates.now)) }
+    ensures rows { IfOk result (λ rows.
+        AreAllAt (table names.new) (rows_of rows.items) (candidates_of candidates.now)) }
     ensures kept { OnOk result (IsMore (table names.old) (table names.new)) }
 {
     let mut rows = Vec::new(alloc);
@@ -40,7 +41,8 @@ fn group_places<'a>(
 ) -> Result<Vec<Vec<usize>>, AllocError>
     requires { IsInStep names.old }
     ensures in_step { OnOk result (IsInStep names.new) }
-    ensures rows { IfOk result (λ rows. AreAllAt (table names.new) (rows_of rows.items) (groups_of groups.now)) }
+    ensures rows { IfOk result (λ rows.
+        AreAllAt (table names.new) (rows_of rows.items) (groups_of groups.now)) }
     ensures kept { OnOk result (IsMore (table names.old) (table names.new)) }
 {
     let mut rows = Vec::new(alloc);
@@ -70,7 +72,8 @@ impl<'a> Placed<'a> {
         candidates: &'a [&'a Feature],
         groups: &'a [Feature],
     ) -> Result<Placed<'a>, AllocError>
-        ensures { IfOk result (IsPlaced edges (feature_map map.now) (candidates_of candidates.now) (groups_of groups.now)) }
+        ensures { IfOk result (IsPlaced edges (feature_map map.now) (candidates_of candidates.now)
+            (groups_of groups.now)) }
     {
         let mut names = Names::new(alloc);
         names.add_keys(map)?;

@@ -50,7 +50,8 @@ impl<'a> Found<'a> {
     fn add(&mut self, name: &'a str) -> Result<(), AllocError>
         requires { IsInStep self.old }
         ensures in_step { OnOk result (IsInStep self.new) }
-        ensures adds { OnOk result (Adds (λ y. name.now ≡ y) (names_found self.old) (names_found self.new)) }
+        ensures adds { OnOk result (Adds (λ y. name.now
+            ≡ y) (names_found self.old) (names_found self.new)) }
     {
         if !self.seen.contains(name) {
             self.seen.insert(name)?;
@@ -63,7 +64,8 @@ impl<'a> Found<'a> {
     fn add_targets(&mut self, values: &'a [String], edges: Edges) -> Result<(), AllocError>
         requires { IsInStep self.old }
         ensures in_step { OnOk result (IsInStep self.new) }
-        ensures adds { OnOk result (Adds (IsTarget edges (names_of values.now)) (names_found self.old) (names_found self.new)) }
+        ensures adds { OnOk result (Adds (IsTarget edges (names_of values.now))
+            (names_found self.old) (names_found self.new)) }
     {
         for value in values {
             if let Some(name) = edges.target(value.as_str()) {
@@ -81,7 +83,8 @@ pub(crate) fn names_from<'a>(
     name: &'a str,
     edges: Edges,
 ) -> Result<Vec<&'a str>, AllocError>
-    ensures { IfOk result (λ found. IsReach (edge_of edges (feature_map map.now)) name.now (shown found.items)) }
+    ensures { IfOk result (λ found.
+        IsReach (edge_of edges (feature_map map.now)) name.now (shown found.items)) }
 {
     let mut found = Found {
         order: Vec::new(alloc),

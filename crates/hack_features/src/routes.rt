@@ -1,6 +1,8 @@
-//! What the names of a feature map lead to by chains of edges, for each kind of edges one table of places.
+//! What the names of a feature map lead to by chains of edges, for each kind of edges one table of
+//! places.
 
-ghost use Rattle.std.specs.Prelude.{◌≡◌, ◌==◌, ◌&&◌, ◌++◌, [], List, length, not, IfOk, IsTrue, Contains};
+ghost use Rattle.std.specs.Prelude.{◌≡◌, ◌==◌, ◌&&◌, ◌++◌, [], List, length, not, IfOk, IsTrue};
+ghost use Rattle.std.specs.Prelude.{Contains};
 ghost use Rattle.std.specs.List.{slice_index_or};
 ghost use Rattle.hack_features.specs.Names.{Name};
 ghost use Rattle.hack_features.specs.FeatureMap.{FeatureMap, feature_map};
@@ -25,7 +27,8 @@ pub(crate) fn bit(row: &[bool], place: usize) -> bool
     }
 }
 
-/// For each name of a table, by place, whether it is a key and what chains of edges lead to from it.
+/// For each name of a table, by place, whether it is a key and what chains of edges lead to from
+/// it.
 #[derive(Drop)]
 pub(crate) struct Routes<'a> {
     names: Vec<&'a str>,
@@ -40,7 +43,8 @@ impl<'a> Routes<'a> {
     ghost use Rattle.hack_features.specs.Table.{table, IsInStep};
     ghost use Rattle.hack_features.specs.Routed.{names_in, AreRoutesOf};
 
-    /// What names lead to, those of the table, which has the keys of the map, and those that they lead to.
+    /// What names lead to, those of the table, which has the keys of the map, and those that they
+    /// lead to.
     pub(crate) fn new(
         alloc: Global,
         map: &'a BTreeMap<String, Vec<String>>,
@@ -50,7 +54,8 @@ impl<'a> Routes<'a> {
         requires in_step { IsInStep names }
         requires known { (x : Name) → IsKey (feature_map map.now) x → Contains (table names) x }
         ensures routes { IfOk result (AreRoutesOf edges (feature_map map.now)) }
-        ensures kept { IfOk result (λ routes. (more : List Name) × (names_in routes ≡ table names.entry ++ more)) }
+        ensures kept { IfOk result (λ routes. (more : List Name)
+            × (names_in routes ≡ table names.entry ++ more)) }
     {
         let links = Links::new(alloc, map, edges, names)?;
         let marks = all_marks(alloc, links.rows.as_slice())?;
@@ -96,7 +101,8 @@ impl<'a> Routes<'a> {
 
     /// Whether no edge leads anywhere from the place.
     pub(crate) fn is_end(&self, place: usize) -> bool
-        ensures { IsTrue result ↔ (length (slice_index_or (rows_of self.now.marks.items) place []) ≡ 0) }
+        ensures { IsTrue result ↔ (length (slice_index_or (rows_of self.now.marks.items) place [])
+            ≡ 0) }
     {
         self.marks_at(place).is_empty()
     }

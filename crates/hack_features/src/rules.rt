@@ -1,10 +1,14 @@
-//! The rules by which sets of features are listed, which answer questions on them, and cover one by another.
+//! The rules by which sets of features are listed, which answer questions on them, and cover one by
+//! another.
 
-ghost use Rattle.std.specs.Prelude.{◌≡◌, ◌≤◌, ◌+◌, ◌-◌, ◌^◌, ◌<◌, ℕ, List, [], length, slice_index, vec_len, IsTrue, IfOk, MatchOption, if◌then◌else◌};
+ghost use Rattle.std.specs.Prelude.{◌≡◌, ◌≤◌, ◌+◌, ◌-◌, ◌^◌, ◌<◌, ℕ, List, [], length, slice_index};
+ghost use Rattle.std.specs.Prelude.{vec_len, IsTrue, IfOk, MatchOption, if◌then◌else◌};
 ghost use Rattle.std.specs.List.{list_any, slice_index_or, remove};
 ghost use Rattle.hack_features.specs.Sets.{IsSelection, rows_of};
-ghost use Rattle.hack_features.specs.Rules.{Choice, IsListed, IsPermitted, IsRequired, IsFirstCover, IsWanted, AreCovers};
-ghost use Rattle.hack_features.specs.Tables.{keeps_depth as depth_test, wanted_test, leads, AreTables};
+ghost use Rattle.hack_features.specs.Rules.{Choice, IsListed, IsPermitted, IsRequired};
+ghost use Rattle.hack_features.specs.Rules.{IsFirstCover, IsWanted, AreCovers};
+ghost use Rattle.hack_features.specs.Tables.{keeps_depth as depth_test, wanted_test, leads};
+ghost use Rattle.hack_features.specs.Tables.{AreTables};
 ghost use Rattle.hack_features.specs.Given.{choice, choice_in};
 ghost use Rattle.hack_features.specs.PlacedView.{IsPlaced};
 ghost use Rattle.hack_features.specs.Cover.{set_enables_test, covers_test};
@@ -30,8 +34,10 @@ pub struct Rules<'a> {
     tables: Tables,
     asked: u128,
     ghost capped: { asked ≤ 2 ^ 128 - 1 },
-    ghost placed_told: { ∥ IsPlaced Enabling (choice_in given).map (choice_in given).candidates (choice_in given).at_least_one_of enabled ∥₁ },
-    ghost tables_told: { ∥ AreTables (choice_in given) (rows_of tables.spares.items) (rows_of tables.hits.items) (rows_of tables.serves.items) ∥₁ },
+    ghost placed_told: { ∥ IsPlaced Enabling (choice_in given).map (choice_in given).candidates
+        (choice_in given).at_least_one_of enabled ∥₁ },
+    ghost tables_told: { ∥ AreTables (choice_in given) (rows_of tables.spares.items)
+        (rows_of tables.hits.items) (rows_of tables.serves.items) ∥₁ },
 }
 
 impl<'a> Rules<'a> {
@@ -41,10 +47,10 @@ impl<'a> Rules<'a> {
     ghost use Rattle.hack_features.specs.Questions.{IsCheap};
     ghost use Rattle.hack_features.specs.View.{choice_of, size_of, asked_of, may_of, whole_of};
 
-    /// The rules for the candidates `features` of a package with the feature map `map`: at most `depth` of them in
-    /// a set, for each group of `at_least_one_of` one that enables a name of it, and for each group of
-    /// `mutually_exclusive_features` that isn't lifted at most one name that reaches it. `lifted` has an entry for
-    /// each of these groups.
+    /// The rules for the candidates `features` of a package with the feature map `map`: at most
+    /// `depth` of them in a set, for each group of `at_least_one_of` one that enables a name of it,
+    /// and for each group of `mutually_exclusive_features` that isn't lifted at most one name that
+    /// reaches it. `lifted` has an entry for each of these groups.
     pub fn new(
         alloc: Global,
         features: &'a [&'a Feature],
@@ -54,13 +60,18 @@ impl<'a> Rules<'a> {
         map: &'a BTreeMap<String, Vec<String>>,
         lifted: &'a [bool],
     ) -> Result<Rules<'a>, AllocError>
-        ensures choice { IfOk result (λ rules. choice_of rules ≡ choice features.now depth at_least_one_of.now mutually_exclusive_features.now map.now lifted.now) }
+        ensures choice { IfOk result (λ rules. choice_of rules
+            ≡ choice features.now depth at_least_one_of.now mutually_exclusive_features.now map.now
+            lifted.now) }
         ensures size { IfOk result (λ rules. size_of rules ≡ length features.now) }
         ensures fresh { IfOk result (λ rules. asked_of rules ≡ 0) }
 
-        // What `may_extend` answers is whether a set is permitted, and `complete` whether it is required.
-        ensures permitted { IfOk result (λ rules. (s : List ℕ) → IsSelection (size_of rules) s → IsTrue (may_of rules s) ↔ IsPermitted (choice_of rules) s) }
-        ensures required { IfOk result (λ rules. (s : List ℕ) → IsSelection (size_of rules) s → IsTrue (whole_of rules s) ↔ IsRequired (choice_of rules) s) }
+        // What `may_extend` answers is whether a set is permitted, and `complete` whether it is
+        // required.
+        ensures permitted { IfOk result (λ rules. (s : List ℕ) → IsSelection (size_of rules) s
+            → IsTrue (may_of rules s) ↔ IsPermitted (choice_of rules) s) }
+        ensures required { IfOk result (λ rules. (s : List ℕ) → IsSelection (size_of rules) s
+            → IsTrue (whole_of rules s) ↔ IsRequired (choice_of rules) s) }
     {
         let given = Given {
             features,
@@ -97,14 +108,19 @@ impl<'a> Rules<'a> {
 
     /// The sets that are listed, in the order of sets, and by how much the count of questions rose.
     pub fn listed(&mut self, alloc: Global) -> Result<Pruned, AllocError>
-        ensures sets { IfOk result (λ pruned. IsListing (size_of self.old) (IsListed (choice_of self.old)) (sets_in pruned.sets)) }
+        ensures sets { IfOk result (λ pruned.
+            IsListing (size_of self.old) (IsListed (choice_of self.old)) (sets_in pruned.sets)) }
 
-        // For each set that has to be covered there is a listed one inside it that enables the same names.
-        ensures covered { IfOk result (λ pruned. AreCovers (choice_of self.old) (size_of self.old) (sets_in pruned.sets)) }
-        ensures asked { IfOk result (λ pruned. asked_of self.new ≡ asked_of self.old + pruned.asked) }
+        // For each set that has to be covered there is a listed one inside it that enables the same
+        // names.
+        ensures covered { IfOk result (λ pruned.
+            AreCovers (choice_of self.old) (size_of self.old) (sets_in pruned.sets)) }
+        ensures asked { IfOk result (λ pruned. asked_of self.new
+            ≡ asked_of self.old + pruned.asked) }
 
         // At most one question for each permitted set and each candidate.
-        ensures few { IfOk result (λ pruned. IsCheap (IsPermitted (choice_of self.old)) (size_of self.old) pruned.asked) }
+        ensures few { IfOk result (λ pruned.
+            IsCheap (IsPermitted (choice_of self.old)) (size_of self.old) pruned.asked) }
         ensures risen { asked_of self.old ≤ asked_of self.new }
         ensures same_choice { choice_of self.new ≡ choice_of self.old }
         ensures same_size { size_of self.new ≡ size_of self.old }
@@ -113,7 +129,8 @@ impl<'a> Rules<'a> {
         pruned(alloc, self, n)
     }
 
-    /// Whether the set of `positions` and `next` keeps the depth, and is exclusive and not redundant.
+    /// Whether the set of `positions` and `next` keeps the depth, and is exclusive and not
+    /// redundant.
     fn permits(&self, positions: &[usize], next: usize) -> bool
         ensures { result ≡ may_of self.now (positions.now ++ next ∷ []) }
     {
@@ -136,15 +153,19 @@ impl<'a> Rules<'a> {
         self.permits(positions, least)
     }
 
-    /// The first set, in the order of sets, that is listed, lies inside `positions` and enables the same names.
-    /// None where `positions` is empty, or breaks the depth, an at-least-one group or an exclusion.
+    /// The first set, in the order of sets, that is listed, lies inside `positions` and enables the
+    /// same names. None where `positions` is empty, or breaks the depth, an at-least-one group or
+    /// an exclusion.
     pub fn covering(
         &self,
         alloc: Global,
         positions: &[usize],
     ) -> Result<Option<Vec<usize>>, AllocError>
         requires { IsSelection (size_of self.now) positions.now }
-        ensures { IfOk result (λ cover. MatchOption cover (¬ IsWanted (choice_of self.now) positions.now) (λ t. IsWanted (choice_of self.now) positions.now × IsFirstCover (choice_of self.now) positions.now t.items)) }
+        ensures { IfOk result (λ cover.
+            MatchOption cover (¬ IsWanted (choice_of self.now) positions.now)
+            (λ t. IsWanted (choice_of self.now) positions.now
+            × IsFirstCover (choice_of self.now) positions.now t.items)) }
     {
         if !is_wanted(self.given.depth, &self.tables, positions) {
             return Ok(None);
@@ -165,7 +186,8 @@ fn keeps_depth(depth: Option<usize>, members: usize) -> bool
 
 /// Whether the set is not empty and keeps the depth, the exclusions and the at-least-one groups.
 fn is_wanted(depth: Option<usize>, tables: &Tables, positions: &[usize]) -> bool
-    ensures { result ≡ wanted_test depth (rows_of tables.now.hits.items) (rows_of tables.now.serves.items) positions.now }
+    ensures { result ≡ wanted_test depth (rows_of tables.now.hits.items)
+        (rows_of tables.now.serves.items) positions.now }
 {
     let Some((last, others)) = positions.split_last() else {
         return false;
@@ -193,7 +215,8 @@ fn some_leads(routes: &Routes, names: &[usize], y: usize) -> bool
 
 /// Whether a name of a member of the set enables `y`.
 fn set_enables(enabled: &Placed, positions: &[usize], y: usize) -> bool
-    ensures { result ≡ set_enables_test (rows_of enabled.now.routes.marks.items) (rows_of enabled.now.candidates.items) positions.now y }
+    ensures { result ≡ set_enables_test (rows_of enabled.now.routes.marks.items)
+        (rows_of enabled.now.candidates.items) positions.now y }
 {
     for p in positions {
         let names = row_at(enabled.candidates.as_slice(), *p);
@@ -206,7 +229,8 @@ fn set_enables(enabled: &Placed, positions: &[usize], y: usize) -> bool
 
 /// Whether the set is not empty and enables each of the names.
 fn covers(enabled: &Placed, positions: &[usize], names: &[usize]) -> bool
-    ensures { result ≡ covers_test (rows_of enabled.now.routes.marks.items) (rows_of enabled.now.candidates.items) positions.now names.now }
+    ensures { result ≡ covers_test (rows_of enabled.now.routes.marks.items)
+        (rows_of enabled.now.candidates.items) positions.now names.now }
 {
     if positions.is_empty() {
         return false;
@@ -227,7 +251,11 @@ fn without(
     place: usize,
 ) -> Result<Vec<usize>, AllocError>
     requires { place < vec_len kept }
-    ensures { IfOk result (λ next. next.items ≡ (if covers_test (rows_of enabled.now.routes.marks.items) (rows_of enabled.now.candidates.items) (remove kept.items place) (slice_index_or (rows_of enabled.now.candidates.items) (slice_index kept.items place) []) then remove kept.items place else kept.items)) }
+    ensures { IfOk result (λ next. next.items
+        ≡ (if covers_test (rows_of enabled.now.routes.marks.items)
+        (rows_of enabled.now.candidates.items) (remove kept.items place)
+        (slice_index_or (rows_of enabled.now.candidates.items)
+        (slice_index kept.items place) []) then remove kept.items place else kept.items)) }
 {
     let mut rest = Vec::from_slice(alloc, kept.as_slice())?;
     let p = rest.remove(place);
@@ -245,7 +273,10 @@ fn first_cover(
     enabled: &Placed,
     positions: &[usize],
 ) -> Result<Vec<usize>, AllocError>
-    ensures { IfOk result (λ kept. (c : Choice) → IsPlaced Enabling c.map c.candidates c.at_least_one_of enabled.now → IsSelection (length c.candidates) positions.now → IsWanted c positions.now → IsFirstCover c positions.now kept.items) }
+    ensures { IfOk result (λ kept. (c : Choice)
+        → IsPlaced Enabling c.map c.candidates c.at_least_one_of enabled.now
+        → IsSelection (length c.candidates) positions.now → IsWanted c positions.now
+        → IsFirstCover c positions.now kept.items) }
 {
     let mut kept = Vec::from_slice(alloc, positions)?;
     let mut place = positions.len();
@@ -275,7 +306,8 @@ impl Questions for Rules<'_> {
         requires below { IsSelection next positions.now }
         requires next { next < size_of self.old }
         ensures answer { result ≡ may_of self.old (positions.now ++ next ∷ []) }
-        ensures permitted { IsTrue result ↔ IsPermitted (choice_of self.old) (positions.now ++ next ∷ []) }
+        ensures permitted { IsTrue result
+            ↔ IsPermitted (choice_of self.old) (positions.now ++ next ∷ []) }
         ensures counted { asked_of self.new ≡ min (asked_of self.old + 1) (2 ^ 128 - 1) }
         ensures same_choice { choice_of self.new ≡ choice_of self.old }
         ensures same_size { size_of self.new ≡ size_of self.old }

@@ -2,23 +2,26 @@
 
 ghost use Rattle.std.specs.Prelude.{◌≡◌, IfOk, List, ℕ, ◌<◌, AllPairs};
 ghost use Rattle.std.specs.Ordering.{MatchOrdering};
-ghost use Rattle.hack_features.specs.Sets.{IsBefore, ListsSelections, IsWithin, rows_of, has_room, with_each};
+ghost use Rattle.hack_features.specs.Sets.{IsBefore, ListsSelections, IsWithin, rows_of, has_room};
+ghost use Rattle.hack_features.specs.Sets.{with_each};
 
 use std::alloc::{AllocError, Global};
 use std::cmp::Ordering;
 
-/// Which of two sets, as increasing lists of positions, stands first in the order of sets: the greatest position that
-/// is in just one of them is in the later set.
+/// Which of two sets, as increasing lists of positions, stands first in the order of sets: the
+/// greatest position that is in just one of them is in the later set.
 pub fn compare_sets(first: &[usize], second: &[usize]) -> Ordering
     requires first { AllPairs (λ p q. p < q) first.now }
     requires second { AllPairs (λ p q. p < q) second.now }
 
     // Total: of two sets one is before, or they are the same.
-    ensures order { MatchOrdering result (IsBefore first.now second.now) (first.now ≡ second.now) (IsBefore second.now first.now) }
+    ensures order { MatchOrdering result (IsBefore first.now second.now) (first.now
+        ≡ second.now) (IsBefore second.now first.now) }
 
     // Strict: no set is before itself, and what is before a set is before all that is behind it.
     ensures irreflexive { IsBefore first.now first.now → ⊥ }
-    ensures transitive { (third : List ℕ) → IsBefore first.now second.now → IsBefore second.now third → IsBefore first.now third }
+    ensures transitive { (third : List ℕ) → IsBefore first.now second.now
+        → IsBefore second.now third → IsBefore first.now third }
 {
     match (first.split_last(), second.split_last()) {
         (None, None) => Ordering::Equal,
@@ -66,7 +69,8 @@ pub fn powerset<T: Copy>(
     items: &[T],
     depth: Option<usize>,
 ) -> Result<Vec<Vec<T>>, AllocError>
-    ensures { IfOk result (λ lists. ListsSelections (IsWithin depth) items.now (rows_of lists.items)) }
+    ensures { IfOk result (λ lists.
+        ListsSelections (IsWithin depth) items.now (rows_of lists.items)) }
 {
     let mut lists = Vec::new(alloc);
     lists.push(Vec::new(alloc))?;

@@ -1,7 +1,8 @@
-//! The tables that answer questions on sets: who spares whom, how many names of a candidate reach an exclusion
-//! group, and which candidates serve an at-least-one group.
+//! The tables that answer questions on sets: who spares whom, how many names of a candidate reach
+//! an exclusion group, and which candidates serve an at-least-one group.
 
-ghost use Rattle.std.specs.Prelude.{◌≡◌, ◌<◌, ◌++◌, ◌∷◌, ◌&&◌, ◌==◌, [], ℕ, List, length, map, not, nat_le, sum_by, IfOk, IsTrue, false};
+ghost use Rattle.std.specs.Prelude.{◌≡◌, ◌<◌, ◌++◌, ◌∷◌, ◌&&◌, ◌==◌, [], ℕ, List, length, map, not};
+ghost use Rattle.std.specs.Prelude.{nat_le, sum_by, IfOk, IsTrue, false};
 ghost use Rattle.std.specs.List.{list_all, list_any, slice_index_or};
 ghost use Rattle.hack_features.specs.Names.{Name};
 ghost use Rattle.hack_features.specs.FeatureMap.{feature_map, FeatureMap};
@@ -10,7 +11,9 @@ ghost use Rattle.hack_features.specs.Sets.{rows_of};
 ghost use Rattle.hack_features.specs.Rules.{unlifted};
 ghost use Rattle.hack_features.specs.Places.{leads};
 ghost use Rattle.hack_features.specs.PlacedView.{IsPlaced};
-ghost use Rattle.hack_features.specs.Tables.{bit, count_at, cell, is_lean, is_exclusive, is_required, spares_test, serves_test, Counts, Matched, CountsHits, RowsServe};
+ghost use Rattle.hack_features.specs.Tables.{bit, count_at, cell, is_lean, is_exclusive};
+ghost use Rattle.hack_features.specs.Tables.{is_required, spares_test, serves_test, Counts};
+ghost use Rattle.hack_features.specs.Tables.{Matched, CountsHits, RowsServe};
 ghost use Rattle.hack_features.specs.declared.reach.Edges.TheVariants.{Enabling};
 
 use crate::feature::Feature;
@@ -37,15 +40,18 @@ pub(crate) struct Given<'a> {
 pub(crate) struct Tables {
     /// Whether the candidate of the row spares the one of the entry.
     pub spares: Vec<Vec<bool>>,
-    /// How many names of the entry's candidate reach the row's exclusion group. Lifted groups have no row.
+    /// How many names of the entry's candidate reach the row's exclusion group. Lifted groups have
+    /// no row.
     pub hits: Vec<Vec<usize>>,
-    /// Whether the entry's candidate serves the row's at-least-one group. Dropped groups have no row.
+    /// Whether the entry's candidate serves the row's at-least-one group. Dropped groups have no
+    /// row.
     pub serves: Vec<Vec<bool>>,
 }
 
 /// Whether the place leads to each of the others, and is none of them.
 fn leads_to_all(routes: &Routes, from: usize, others: &[usize]) -> bool
-    ensures { result ≡ list_all (λ y. not (from == y) && cell (rows_of routes.now.marks.items) from y) others.now }
+    ensures { result ≡ list_all (λ y.
+        not (from == y) && cell (rows_of routes.now.marks.items) from y) others.now }
 {
     for y in others {
         if from == *y || !routes.has_mark(from, *y) {
@@ -57,7 +63,8 @@ fn leads_to_all(routes: &Routes, from: usize, others: &[usize]) -> bool
 
 /// Whether one of the names is a key, differs from each of the others, and enables it.
 fn spares(routes: &Routes, names: &[usize], others: &[usize]) -> bool
-    ensures { result ≡ spares_test routes.now.keys.items (rows_of routes.now.marks.items) names.now others.now }
+    ensures { result ≡ spares_test routes.now.keys.items
+        (rows_of routes.now.marks.items) names.now others.now }
 {
     for x in names {
         if routes.is_key(*x) && leads_to_all(routes, *x, others) {
@@ -69,7 +76,8 @@ fn spares(routes: &Routes, names: &[usize], others: &[usize]) -> bool
 
 /// Whether no edge leads anywhere from the names.
 fn are_ends(routes: &Routes, names: &[usize]) -> bool
-    ensures { result ≡ list_all (λ x. length (slice_index_or (rows_of routes.now.marks.items) x []) == 0) names.now }
+    ensures { result ≡ list_all (λ x.
+        length (slice_index_or (rows_of routes.now.marks.items) x []) == 0) names.now }
 {
     for x in names {
         if !routes.is_end(*x) {
@@ -91,8 +99,8 @@ fn is_some_nameless(candidates: &[Vec<usize>]) -> bool
     false
 }
 
-/// The candidates that the one of these names spares; no entries where it spares none, so that most questions skip
-/// the row. `some_nameless` says whether a candidate has no names.
+/// The candidates that the one of these names spares; no entries where it spares none, so that most
+/// questions skip the row. `some_nameless` says whether a candidate has no names.
 fn spare_row(
     alloc: Global,
     routes: &Routes,
@@ -101,7 +109,9 @@ fn spare_row(
     some_nameless: bool,
 ) -> Result<Vec<bool>, AllocError>
     requires { some_nameless ≡ list_any (λ names. length names == 0) (rows_of candidates.now) }
-    ensures { IfOk result (λ row. (q : ℕ) → q < length candidates.now → bit row.items q ≡ spares_test routes.now.keys.items (rows_of routes.now.marks.items) names.now (slice_index_or (rows_of candidates.now) q [])) }
+    ensures { IfOk result (λ row. (q : ℕ) → q < length candidates.now
+        → bit row.items q ≡ spares_test routes.now.keys.items
+        (rows_of routes.now.marks.items) names.now (slice_index_or (rows_of candidates.now) q [])) }
 {
     if !some_nameless && are_ends(routes, names) {
         return Ok(Vec::new(alloc));
@@ -118,7 +128,12 @@ fn spare_row(
 
 /// For each candidate the candidates that it spares.
 fn spare_rows(alloc: Global, placed: &Placed) -> Result<Vec<Vec<bool>>, AllocError>
-    ensures { IfOk result (λ rows. (p q : ℕ) → p < length placed.now.candidates.items → q < length placed.now.candidates.items → cell (rows_of rows.items) p q ≡ spares_test placed.now.routes.keys.items (rows_of placed.now.routes.marks.items) (slice_index_or (rows_of placed.now.candidates.items) p []) (slice_index_or (rows_of placed.now.candidates.items) q [])) }
+    ensures { IfOk result (λ rows. (p q : ℕ) → p < length placed.now.candidates.items
+        → q < length placed.now.candidates.items
+        → cell (rows_of rows.items) p q
+        ≡ spares_test placed.now.routes.keys.items (rows_of placed.now.routes.marks.items)
+        (slice_index_or (rows_of placed.now.candidates.items) p [])
+        (slice_index_or (rows_of placed.now.candidates.items) q [])) }
 {
     let candidates = placed.candidates.as_slice();
     let some_nameless = is_some_nameless(candidates);
@@ -150,7 +165,8 @@ fn leads_to_one(routes: &Routes, from: usize, group: &[usize]) -> bool
 
 /// How many of the names lead to the group.
 fn reaching(routes: &Routes, names: &[usize], group: &[usize]) -> usize
-    ensures { Counts (λ x. IsTrue (list_any (leads (rows_of routes.now.marks.items) x) group.now)) names.now result }
+    ensures { Counts (λ x. IsTrue (list_any
+        (leads (rows_of routes.now.marks.items) x) group.now)) names.now result }
 {
     let mut count = 0;
     for x in names {
@@ -163,7 +179,10 @@ fn reaching(routes: &Routes, names: &[usize], group: &[usize]) -> usize
 
 /// For each candidate how many of its names lead to the group.
 fn hit_row(alloc: Global, placed: &Placed, group: &[usize]) -> Result<Vec<usize>, AllocError>
-    ensures { IfOk result (λ row. (q : ℕ) → q < length placed.now.candidates.items → Counts (λ x. IsTrue (list_any (leads (rows_of placed.now.routes.marks.items) x) group.now)) (slice_index_or (rows_of placed.now.candidates.items) q []) (count_at row.items q)) }
+    ensures { IfOk result (λ row. (q : ℕ) → q < length placed.now.candidates.items
+        → Counts (λ x. IsTrue (list_any
+        (leads (rows_of placed.now.routes.marks.items) x) group.now))
+        (slice_index_or (rows_of placed.now.candidates.items) q []) (count_at row.items q)) }
 {
     let mut row = Vec::new(alloc);
     for names in placed.candidates.as_slice() {
@@ -174,7 +193,10 @@ fn hit_row(alloc: Global, placed: &Placed, group: &[usize]) -> Result<Vec<usize>
 
 /// For each group that isn't lifted, how many names of each candidate reach it.
 fn hit_rows(alloc: Global, given: Given<'_>) -> Result<Vec<Vec<usize>>, AllocError>
-    ensures { IfOk result (λ rows. Matched (CountsHits (feature_map given.entry.map.now) (candidates_of given.entry.features.now)) (unlifted (groups_of given.entry.exclusive.now) given.entry.lifted.now) (rows_of rows.items)) }
+    ensures { IfOk result (λ rows. Matched
+        (CountsHits (feature_map given.entry.map.now) (candidates_of given.entry.features.now))
+        (unlifted (groups_of given.entry.exclusive.now) given.entry.lifted.now)
+        (rows_of rows.items)) }
 {
     let mut rows = Vec::new(alloc);
     if given.exclusive.is_empty() {
@@ -197,15 +219,18 @@ fn hit_rows(alloc: Global, given: Given<'_>) -> Result<Vec<Vec<usize>>, AllocErr
 
 /// Whether the name is a key that enables a name of the group.
 fn serves(routes: &Routes, x: usize, group: &[usize]) -> bool
-    ensures { result ≡ serves_test routes.now.keys.items (rows_of routes.now.marks.items) group.now x }
+    ensures { result ≡ serves_test routes.now.keys.items
+        (rows_of routes.now.marks.items) group.now x }
 {
     routes.is_key(x) && leads_to_one(routes, x, group)
 }
 
 /// Whether some name serves the group.
 fn is_served(routes: &Routes, group: &[usize]) -> bool
-    ensures some { IsTrue result → (x : ℕ) × (x < length routes.now.names.items) × IsTrue (serves_test routes.now.keys.items (rows_of routes.now.marks.items) group.now x) }
-    ensures none { result ≡ false → (x : ℕ) → x < length routes.now.names.items → serves_test routes.now.keys.items (rows_of routes.now.marks.items) group.now x ≡ false }
+    ensures some { IsTrue result → (x : ℕ) × (x < length routes.now.names.items)
+        × IsTrue (serves_test routes.now.keys.items (rows_of routes.now.marks.items) group.now x) }
+    ensures none { result ≡ false → (x : ℕ) → x < length routes.now.names.items
+        → serves_test routes.now.keys.items (rows_of routes.now.marks.items) group.now x ≡ false }
 {
     for x in 0..routes.len() {
         if serves(routes, x, group) {
@@ -217,7 +242,8 @@ fn is_served(routes: &Routes, group: &[usize]) -> bool
 
 /// Whether one of the names serves the group.
 fn some_serves(routes: &Routes, names: &[usize], group: &[usize]) -> bool
-    ensures { result ≡ list_any (serves_test routes.now.keys.items (rows_of routes.now.marks.items) group.now) names.now }
+    ensures { result ≡ list_any (serves_test routes.now.keys.items
+        (rows_of routes.now.marks.items) group.now) names.now }
 {
     for x in names {
         if serves(routes, *x, group) {
@@ -229,7 +255,10 @@ fn some_serves(routes: &Routes, names: &[usize], group: &[usize]) -> bool
 
 /// Which candidates serve the group.
 fn serve_row(alloc: Global, placed: &Placed, group: &[usize]) -> Result<Vec<bool>, AllocError>
-    ensures { IfOk result (λ row. (q : ℕ) → q < length placed.now.candidates.items → bit row.items q ≡ list_any (serves_test placed.now.routes.keys.items (rows_of placed.now.routes.marks.items) group.now) (slice_index_or (rows_of placed.now.candidates.items) q [])) }
+    ensures { IfOk result (λ row. (q : ℕ) → q < length placed.now.candidates.items
+        → bit row.items q ≡ list_any (serves_test placed.now.routes.keys.items
+        (rows_of placed.now.routes.marks.items) group.now)
+        (slice_index_or (rows_of placed.now.candidates.items) q [])) }
 {
     let mut row = Vec::new(alloc);
     for names in placed.candidates.as_slice() {
@@ -240,7 +269,9 @@ fn serve_row(alloc: Global, placed: &Placed, group: &[usize]) -> Result<Vec<bool
 
 /// For each group that some key serves, which candidates serve it.
 fn serve_rows(alloc: Global, placed: &Placed) -> Result<Vec<Vec<bool>>, AllocError>
-    ensures { IfOk result (λ rows. (m : FeatureMap) (candidates groups : List (List Name)) → IsPlaced Enabling m candidates groups placed.now → RowsServe m candidates groups (rows_of rows.items)) }
+    ensures { IfOk result (λ rows. (m : FeatureMap) (candidates groups : List (List Name))
+        → IsPlaced Enabling m candidates groups placed.now
+        → RowsServe m candidates groups (rows_of rows.items)) }
 {
     let mut rows = Vec::new(alloc);
     for group in placed.groups.as_slice() {
@@ -319,14 +350,17 @@ impl Tables {
     ghost use Rattle.hack_features.specs.Tables.{AreTables};
     ghost use Rattle.hack_features.specs.Given.{choice_in};
 
-    /// The tables of what is given, from what the names of candidates and at-least-one groups enable.
+    /// The tables of what is given, from what the names of candidates and at-least-one groups
+    /// enable.
     pub(crate) fn new(
         alloc: Global,
         given: Given<'_>,
         enabled: &Placed,
     ) -> Result<Tables, AllocError>
-        requires { IsPlaced Enabling (choice_in given).map (choice_in given).candidates (choice_in given).at_least_one_of enabled.now }
-        ensures { IfOk result (λ t. AreTables (choice_in given.entry) (rows_of t.spares.items) (rows_of t.hits.items) (rows_of t.serves.items)) }
+        requires { IsPlaced Enabling (choice_in given).map (choice_in given).candidates
+            (choice_in given).at_least_one_of enabled.now }
+        ensures { IfOk result (λ t. AreTables (choice_in given.entry) (rows_of t.spares.items)
+            (rows_of t.hits.items) (rows_of t.serves.items)) }
     {
         Ok(Tables {
             spares: spare_rows(alloc, enabled)?,
@@ -337,7 +371,8 @@ impl Tables {
 
     /// Whether the candidate spares none of those at the positions and at `last`.
     fn spares_none(&self, p: usize, positions: &[usize], last: usize) -> bool
-        ensures { result ≡ list_all (λ q. not (cell (rows_of self.now.spares.items) p q)) (positions.now ++ last ∷ []) }
+        ensures { result ≡ list_all (λ q. not (cell (rows_of self.now.spares.items) p q))
+            (positions.now ++ last ∷ []) }
     {
         match self.spares.get(p) {
             Some(row) => has_none(row.as_slice(), positions, last),
@@ -357,7 +392,8 @@ impl Tables {
         self.spares_none(last, positions, last)
     }
 
-    /// Whether of each exclusion group at most one name of those at the positions and at `last` reaches it.
+    /// Whether of each exclusion group at most one name of those at the positions and at `last`
+    /// reaches it.
     pub(crate) fn is_exclusive(&self, positions: &[usize], last: usize) -> bool
         ensures { result ≡ is_exclusive (rows_of self.now.hits.items) (positions.now ++ last ∷ []) }
     {

@@ -1,11 +1,18 @@
-//! The cuts. What is borrowed from a word is cut by functions over texts, so that the parser's own steps only
-//! move its place.
+//! The cuts. What is borrowed from a word is cut by functions over texts, so that the parser's own
+//! steps only move its place.
 
-ghost use Rattle.std.specs.Prelude.{◌≡◌, ◌≢◌, ◌↔◌, ◌<◌, None, Some, true, IsSome, IsTrue, OnOk, OnErr, IfOk, IfErr, length, map, drop, string_bytes, option_map};
+ghost use Rattle.std.specs.Prelude.{◌≡◌, ◌≢◌, ◌↔◌, ◌<◌, None, Some, true, IsSome, IsTrue, OnOk};
+ghost use Rattle.std.specs.Prelude.{OnErr, IfOk, IfErr, length, map, drop, string_bytes};
+ghost use Rattle.std.specs.Prelude.{option_map};
 ghost use Rattle.std.specs.Borrow.{sem};
 ghost use Rattle.std.specs.Str.{IsCharBoundary};
-ghost use Rattle.hack_lexopt.specs.Cuts.{Left, Nothing, ShortCut, cut_of, untaken_of, first_letter, after_letter, next_cut, after_cut, attached, after_attached, value_of, after_value, optional_of, after_optional, unexpected_of, as_written, is_plain as plain, is_long, is_equals};
-ghost use Rattle.hack_lexopt.specs.Parsers.{left, start, cut_in, cut_seen, letter_in, untaken_at, untaken_rest, option_at, flag_cut, IsNext, Leaves};
+ghost use Rattle.hack_lexopt.specs.Cuts.{Left, Nothing, ShortCut, cut_of, untaken_of, first_letter};
+ghost use Rattle.hack_lexopt.specs.Cuts.{after_letter, next_cut, after_cut, attached};
+ghost use Rattle.hack_lexopt.specs.Cuts.{after_attached, value_of, after_value, optional_of};
+ghost use Rattle.hack_lexopt.specs.Cuts.{after_optional, unexpected_of, as_written};
+ghost use Rattle.hack_lexopt.specs.Cuts.{is_plain as plain, is_long, is_equals};
+ghost use Rattle.hack_lexopt.specs.Parsers.{left, start, cut_in, cut_seen, letter_in, untaken_at};
+ghost use Rattle.hack_lexopt.specs.Parsers.{untaken_rest, option_at, flag_cut, IsNext, Leaves};
 ghost use Rattle.std.specs.List.{before_first};
 
 use crate::{Arg, Flag, LexFault, Next, Parser, Place, Spot};
@@ -96,7 +103,8 @@ fn first_cut(word: &str) -> Head<'_>
     ensures untaken { untaken_at result.spot word.now ≡ untaken_of word.now }
     ensures boundary { IsCharBoundary word.now result.spot.at }
     ensures letters { result.spot.place ≡ Place.Letters → result.spot.at < length word.now }
-    ensures long { result.spot.place ≢ Place.Closed → result.spot.letter ≡ None → is_long word.now ≡ true }
+    ensures long { result.spot.place ≢ Place.Closed → result.spot.letter ≡ None
+        → is_long word.now ≡ true }
 {
     if let Some(body) = word.strip_prefix("--") {
         return match body.split_once('=') {
@@ -179,7 +187,8 @@ impl Parser {
         }
     }
 
-    /// What is next: a cut, the end, or a value that nobody took, and then the parser stands at the next word.
+    /// What is next: a cut, the end, or a value that nobody took, and then the parser stands at the
+    /// next word.
     pub fn cut(&mut self) -> Next<'_>
         ensures* leaves { sem 𝓛 (Leaves self.entry (after_cut (left self.old))) }
         ensures next { IsNext (left self.old) result }
@@ -208,8 +217,8 @@ impl Parser {
         Next::Cut(first_cut(self.word.as_str()).arg)
     }
 
-    /// The next cut, or none behind the last word. A value that nobody took is refused here, and then the
-    /// parser stands at the next word.
+    /// The next cut, or none behind the last word. A value that nobody took is refused here, and
+    /// then the parser stands at the next word.
     pub fn next(&mut self) -> Result<Option<Arg<'_>>, LexFault>
         ensures* leaves { sem 𝓛 (Leaves self.entry (after_cut (left self.old))) }
         ensures cut { cut_seen result ≡ next_cut (left self.old) }
@@ -222,8 +231,8 @@ impl Parser {
         }
     }
 
-    /// The value that is attached to the option that was cut last: what stands behind the `=` of a long one,
-    /// or the rest of a chain with one leading `=` dropped.
+    /// The value that is attached to the option that was cut last: what stands behind the `=` of a
+    /// long one, or the rest of a chain with one leading `=` dropped.
     pub fn optional_value(&mut self, alloc: Global) -> Result<Option<String>, AllocError>
         ensures value { IfOk result
             (λ value. option_map string_bytes value ≡ attached (left self.old).untaken) }
@@ -240,7 +249,8 @@ impl Parser {
         Ok(Some(value))
     }
 
-    /// The value of the option that was cut last: what is attached, else the next word whatever it is.
+    /// The value of the option that was cut last: what is attached, else the next word whatever it
+    /// is.
     pub fn value(&mut self, alloc: Global) -> Result<String, LexFault>
         ensures value { IfOk result
             (λ value. value_of (left self.old) ≡ Some (string_bytes value)) }
@@ -255,8 +265,8 @@ impl Parser {
         }
     }
 
-    /// The value of an option that may stand without one: what is attached, else the next word unless that is
-    /// an option.
+    /// The value of an option that may stand without one: what is attached, else the next word
+    /// unless that is an option.
     pub fn value_or_none(&mut self, alloc: Global) -> Result<Option<String>, AllocError>
         ensures value { IfOk result
             (λ value. option_map string_bytes value ≡ optional_of (left self.old)) }

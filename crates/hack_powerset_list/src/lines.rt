@@ -103,7 +103,8 @@ fn turn_full_page<W: Write>(page: &mut String, out: &mut W) -> io::Result<()>
     Ok(())
 }
 
-/// Puts a line of three texts behind what stands on the page, or a front of it where memory runs out.
+/// Puts a line of three texts behind what stands on the page, or a front of it where memory runs
+/// out.
 fn push_line(command: &str, first: &str, others: &str, page: &mut String) -> Result<(), AllocError>
     ensures { OnOk result (string_bytes page.new ≡ string_bytes page.old
         ++ (command.now ++ first.now ++ others.now ++ codes "\n")) }

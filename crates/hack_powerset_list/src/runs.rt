@@ -1,13 +1,14 @@
 //! The lines of all runs of a command list.
 
-ghost use Rattle.std.specs.Prelude.{◌≡◌, ◌<◌, ◌≤◌, ◌++◌, [], ◌∷◌, ℕ, List, length, map, not, string_bytes};
-ghost use Rattle.std.specs.Prelude.{IsTrue, OnOk, OnErr, if◌then◌else◌, nat_lt};
+ghost use Rattle.std.specs.Prelude.{◌≡◌, ◌<◌, ◌≤◌, ◌++◌, [], ◌∷◌, ℕ, List, length, map, not};
+ghost use Rattle.std.specs.Prelude.{string_bytes, IsTrue, OnOk, OnErr, if◌then◌else◌, nat_lt};
 ghost use Rattle.std.specs.Io.KnownBytes.{Appends};
 ghost use Rattle.hack_features.specs.Feature.{name_of};
 ghost use Rattle.hack_features.specs.Sets.{IsSelection, IsWithin};
 ghost use Rattle.hack_features.specs.View.{may_of, size_of};
 ghost use Rattle.hack_term.specs.Writes.{AppendsFront};
-ghost use Rattle.hack_plan.specs.Runs.{Plain, NoDefaultFeatures, allows_two, kept, runs_from, turned};
+ghost use Rattle.hack_plan.specs.Runs.{Plain, NoDefaultFeatures, allows_two, kept, runs_from};
+ghost use Rattle.hack_plan.specs.Runs.{turned};
 ghost use Rattle.hack_powerset_list.specs.Lines.{run_lines};
 ghost use Rattle.hack_powerset_list.specs.LineWords.{Prints};
 ghost use Rattle.hack_powerset_list.specs.LinesView.{AreTexts};
@@ -73,7 +74,8 @@ fn print_sets<W: Write>(
 ) -> io::Result<()>
     requires texts { AreTexts (map name_of lines.now.features.now) lines.now.texts.now }
     requires size { size_of lines.now.rules.now ≡ length lines.now.features.now }
-    requires most { (s : List ℕ) → IsTrue (may_of lines.now.rules.now s) → IsWithin lines.now.most s }
+    requires most { (s : List ℕ) → IsTrue (may_of lines.now.rules.now s)
+        → IsWithin lines.now.most s }
     requires room { most_in room.old ≡ size_of lines.now.rules.now }
     requires none { set_in room.old ≡ [] }
     requires last { EndsIn (listed_in lines.now.rules.now) lines.now.last.now }

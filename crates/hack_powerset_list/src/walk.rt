@@ -1,7 +1,8 @@
 //! The listed sets, one after the other, without keeping them.
 
-ghost use Rattle.std.specs.Prelude.{◌≡◌, ◌<◌, ◌≤◌, ◌++◌, ◌∷◌, [], ℕ, List, All, filter, map, length};
-ghost use Rattle.std.specs.Prelude.{IfOk, OnOk, OnErr, IsTrue, MatchOption, codes, string_bytes};
+ghost use Rattle.std.specs.Prelude.{◌≡◌, ◌<◌, ◌≤◌, ◌++◌, ◌∷◌, [], ℕ, List, All, filter, map};
+ghost use Rattle.std.specs.Prelude.{length, IfOk, OnOk, OnErr, IsTrue, MatchOption, codes};
+ghost use Rattle.std.specs.Prelude.{string_bytes};
 ghost use Rattle.hack_features.specs.Feature.{name_of};
 ghost use Rattle.hack_features.specs.Sets.{IsSelection, IsWithin, chosen};
 ghost use Rattle.hack_features.specs.View.{may_of, size_of};
@@ -127,7 +128,8 @@ fn print_other<W: Write>(
     ensures ok { (s : List ℕ) → set.now ≡ least ∷ s
         → others.now ≡ others_text (chosen (map name_of lines.now.features.now) s)
         → OnOk result (Prints (W.contents out.old) (W.contents out.new)
-        (string_bytes page.old) (string_bytes page.new) (set_lines (map name_of lines.now.features.now)
+        (string_bytes page.old) (string_bytes page.new)
+        (set_lines (map name_of lines.now.features.now)
         (filter (is_other lines.now.rules.now lines.now.last.now) (set.now ∷ [])))) }
     ensures err { (s : List ℕ) → set.now ≡ least ∷ s
         → others.now ≡ others_text (chosen (map name_of lines.now.features.now) s)
@@ -163,8 +165,8 @@ fn longer(
     Ok(longer)
 }
 
-/// Prints the lines of the listed sets, but of the last one, that are made of the set in the room and
-/// positions below `limit`. The names of that set stand in `others`.
+/// Prints the lines of the listed sets, but of the last one, that are made of the set in the room
+/// and positions below `limit`. The names of that set stand in `others`.
 pub fn print_below<W: Write>(
     alloc: Global,
     lines: &SetLines<'_, '_>,
@@ -176,7 +178,8 @@ pub fn print_below<W: Write>(
 ) -> io::Result<()>
     requires texts { AreTexts (map name_of lines.now.features.now) lines.now.texts.now }
     requires size { size_of lines.now.rules.now ≡ length lines.now.features.now }
-    requires most { (s : List ℕ) → IsTrue (may_of lines.now.rules.now s) → IsWithin lines.now.most s }
+    requires most { (s : List ℕ) → IsTrue (may_of lines.now.rules.now s)
+        → IsWithin lines.now.most s }
     requires room { most_in room.old ≡ size_of lines.now.rules.now }
     requires set { IsSelection (size_of lines.now.rules.now) (set_in room.old) }
     requires above { All (λ p. limit ≤ p) (set_in room.old) }

@@ -1,7 +1,8 @@
 //! Why the words of a call are refused.
 
 ghost use Rattle.std.specs.Prelude.{◌≡◌};
-ghost use Rattle.hack_rules.specs.CliFaults.{told_of_cut, told_of_range, told_of_log_group, told_of_partition};
+ghost use Rattle.hack_rules.specs.CliFaults.{told_of_cut, told_of_range, told_of_log_group};
+ghost use Rattle.hack_rules.specs.CliFaults.{told_of_partition};
 ghost use Rattle.hack_rules.specs.declared.fault.CliFault.TheVariants.{Memory};
 
 use hack_options::Opt;

@@ -1,17 +1,21 @@
-//! The rules behind that on a missing subcommand: ranges of versions, log groups, pieces of a plan and lifted groups.
+//! The rules behind that on a missing subcommand: ranges of versions, log groups, pieces of a plan
+//! and lifted groups.
 
 ghost use Rattle.std.specs.Prelude.{◌≡◌, IfOk, IfSome, option_map, option_and_then};
 ghost use Rattle.std.specs.List.{list_any};
 ghost use Rattle.hack_uses.specs.Uses.{view, views};
 ghost use Rattle.hack_uses.specs.Values.{value_given};
-ghost use Rattle.hack_rules.specs.Asked.{read_range, range_asked, is_old_asked, step_asked, is_message_format as message_format, log_group_asked, piece_asked, kind_asked};
+ghost use Rattle.hack_rules.specs.Asked.{read_range, range_asked, is_old_asked, step_asked};
+ghost use Rattle.hack_rules.specs.Asked.{is_message_format as message_format, log_group_asked};
+ghost use Rattle.hack_rules.specs.Asked.{piece_asked, kind_asked};
 ghost use Rattle.hack_rules.specs.CliFaults.{Checks};
 ghost use Rattle.hack_rules.specs.CliGroups.{AreLifts};
 ghost use Rattle.hack_rules.specs.CliLists.{lifts_given};
 ghost use Rattle.hack_rules.specs.CliValues.{range_fault, step_fault, log_group_fault};
 ghost use Rattle.hack_rules.specs.LateView.{IsLate};
 ghost use Rattle.hack_rules.specs.ListsView.{listed_in};
-ghost use Rattle.hack_rules.specs.Rules.{first_of, of_value, rustup_rule, is_ranged as ranged, range_rules, piece_rules, lift_rules, rules_after};
+ghost use Rattle.hack_rules.specs.Rules.{first_of, of_value, rustup_rule, is_ranged as ranged};
+ghost use Rattle.hack_rules.specs.Rules.{range_rules, piece_rules, lift_rules, rules_after};
 
 use crate::fault::{Beside, CliFault};
 use crate::listed::Lists;
@@ -59,8 +63,10 @@ pub struct Versions {
 
 /// The range that is given, and whether it has the old form.
 fn said_range(alloc: Global, uses: &[Use]) -> Result<Option<(VersionRange, bool)>, CliFault>
-    ensures rule { Checks result (of_value range_fault (value_given Opt.VersionRange (views uses.now))) }
-    ensures value { IfOk result (λ said. option_map (λ read. record { range = read.0; old = read.1 }) said
+    ensures rule { Checks result (of_value range_fault
+        (value_given Opt.VersionRange (views uses.now))) }
+    ensures value { IfOk result (λ said.
+        option_map (λ read. record { range = read.0; old = read.1 }) said
         ≡ option_and_then read_range (value_given Opt.VersionRange (views uses.now))) }
 {
     match value(Opt::VersionRange, uses) {
@@ -71,7 +77,8 @@ fn said_range(alloc: Global, uses: &[Use]) -> Result<Option<(VersionRange, bool)
 
 /// The step between versions.
 fn step(alloc: Global, uses: &[Use]) -> Result<u16, CliFault>
-    ensures rule { Checks result (of_value step_fault (value_given Opt.VersionStep (views uses.now))) }
+    ensures rule { Checks result (of_value step_fault
+        (value_given Opt.VersionStep (views uses.now))) }
     ensures value { IfOk result (λ step. step ≡ step_asked (views uses.now)) }
 {
     match value(Opt::VersionStep, uses) {
@@ -139,7 +146,8 @@ fn formats_messages(uses: &[Use]) -> bool
 
 /// How the lines of a run are grouped.
 fn log_group(alloc: Global, github_actions: bool, uses: &[Use]) -> Result<LogGroup, CliFault>
-    ensures rule { Checks result (of_value log_group_fault (value_given Opt.LogGroup (views uses.now))) }
+    ensures rule { Checks result (of_value log_group_fault
+        (value_given Opt.LogGroup (views uses.now))) }
     ensures value { IfOk result (λ group. group ≡ log_group_asked github_actions (views uses.now)) }
 {
     let group = match value(Opt::LogGroup, uses) {
@@ -155,8 +163,11 @@ fn log_group(alloc: Global, github_actions: bool, uses: &[Use]) -> Result<LogGro
 /// The piece of the plan, with the way in which places are dealt to pieces.
 fn partition(alloc: Global, uses: &[Use]) -> Result<Option<Partition>, CliFault>
     ensures rules { Checks result (first_of (piece_rules (views uses.now))) }
-    ensures piece { IfOk result (λ partition. option_map (λ p. record { piece = p.piece; count = p.count }) partition ≡ piece_asked (views uses.now)) }
-    ensures kind { IfOk result (λ partition. IfSome partition (λ p. p.kind ≡ kind_asked (views uses.now))) }
+    ensures piece { IfOk result (λ partition.
+        option_map (λ p. record { piece = p.piece; count = p.count }) partition
+        ≡ piece_asked (views uses.now)) }
+    ensures kind { IfOk result (λ partition.
+        IfSome partition (λ p. p.kind ≡ kind_asked (views uses.now))) }
 {
     let piece = match value(Opt::Partition, uses) {
         Some(text) => Some(Partition::parse(alloc, text.as_str())?),
@@ -201,7 +212,8 @@ pub struct Late {
     pub lifts: Vec<(String, Feature)>,
 }
 
-/// The rules behind that on a missing subcommand, and what they read. `rustup` is its minor version, where known.
+/// The rules behind that on a missing subcommand, and what they read. `rustup` is its minor
+/// version, where known.
 pub fn after(
     alloc: Global,
     rustup: Option<u32>,
@@ -209,7 +221,8 @@ pub fn after(
     lists: &Lists,
     uses: &[Use],
 ) -> Result<Late, CliFault>
-    ensures rules { Checks result (first_of (rules_after rustup (listed_in lists.now) (views uses.now))) }
+    ensures rules { Checks result (first_of
+        (rules_after rustup (listed_in lists.now) (views uses.now))) }
     ensures late { IfOk result (IsLate github_actions (views uses.now)) }
 {
     let versions = versioned(alloc, rustup, uses)?;

@@ -31,9 +31,11 @@ impl Lists {
     pub fn of(alloc: Global, uses: &[Use]) -> Result<Lists, AllocError>
         ensures listed { IfOk result (λ lists. listed_in lists ≡ listed (views uses.now)) }
         ensures groups { IfOk result (λ lists.
-            AreGroupsOf (values_given Opt.GroupFeatures (views uses.now)) lists.group_features.items) }
+            AreGroupsOf (values_given Opt.GroupFeatures (views uses.now))
+            lists.group_features.items) }
         ensures exclusive { IfOk result (λ lists.
-            AreGroupsOf (values_given Opt.MutuallyExclusiveFeatures (views uses.now)) lists.mutually_exclusive_features.items) }
+            AreGroupsOf (values_given Opt.MutuallyExclusiveFeatures (views uses.now))
+            lists.mutually_exclusive_features.items) }
     {
         let features = named::names(alloc, Opt::Features, uses)?;
         let include_features = named::names(alloc, Opt::IncludeFeatures, uses)?;

@@ -7,7 +7,9 @@ ghost use Rattle.hack_features.specs.Names.{names_of};
 ghost use Rattle.hack_uses.specs.Uses.{views};
 ghost use Rattle.hack_uses.specs.Values.{values_given};
 ghost use Rattle.hack_rules.specs.CliFaults.{Checks, LiftForm, LiftGroup};
-ghost use Rattle.hack_rules.specs.CliLists.{names_given, names_or_none, optional_given, lift_of, lifts_given, is_lift, lifts_one_of, same_names, first_failing, first_fault_of, lift_form, lift_group};
+ghost use Rattle.hack_rules.specs.CliLists.{names_given, names_or_none, optional_given, lift_of};
+ghost use Rattle.hack_rules.specs.CliLists.{lifts_given, is_lift, lifts_one_of, same_names};
+ghost use Rattle.hack_rules.specs.CliLists.{first_failing, first_fault_of, lift_form, lift_group};
 ghost use Rattle.hack_rules.specs.CliTargets.{AreRising, AreSame, put_all};
 ghost use Rattle.hack_features.specs.Feature.{IsGroup, group_of};
 ghost use Rattle.hack_term.specs.Lists.{group_names};
@@ -23,7 +25,8 @@ use std::collections::BTreeSet;
 
 /// The names in all lists of an option, in order.
 pub fn names(alloc: Global, option: Opt, uses: &[Use]) -> Result<Vec<String>, AllocError>
-    ensures { IfOk result (λ names. map string_bytes names.items ≡ names_given option (views uses.now)) }
+    ensures { IfOk result (λ names. map string_bytes names.items
+        ≡ names_given option (views uses.now)) }
 {
     let mut names = Vec::new(alloc);
     let texts = values(alloc, option, uses)?;
@@ -44,7 +47,8 @@ fn names_or_empty(alloc: Global, text: Option<&String>) -> Result<Vec<String>, A
     }
 }
 
-/// The names of `--optional-deps`, where it is used. Empty names count, and without a value there are none.
+/// The names of `--optional-deps`, where it is used. Empty names count, and without a value there
+/// are none.
 pub fn optional_names(alloc: Global, uses: &[Use]) -> Result<Option<Vec<String>>, AllocError>
     ensures { IfOk result (λ names. option_map (λ list. map string_bytes list.items) names
         ≡ optional_given (views uses.now)) }
@@ -66,7 +70,8 @@ fn group(alloc: Global, text: &str) -> Result<Feature, AllocError>
 
 /// The groups of an option, one for each use.
 pub fn groups(alloc: Global, option: Opt, uses: &[Use]) -> Result<Vec<Feature>, AllocError>
-    ensures { IfOk result (λ groups. AreGroupsOf (values_given option (views uses.now)) groups.items) }
+    ensures { IfOk result (λ groups.
+        AreGroupsOf (values_given option (views uses.now)) groups.items) }
 {
     let mut groups = Vec::new(alloc);
     let texts = values(alloc, option, uses)?;
@@ -123,7 +128,8 @@ pub fn targets(alloc: Global, uses: &[Use]) -> Result<Vec<String>, AllocError>
 
 /// A value of `--allow-together`, cut into its package and its list of features.
 fn cut_lift(text: &str) -> Option<(&str, &str)>
-    ensures { option_map (λ parts. record { owner = parts.0.now; group = group_names parts.1.now }) result ≡ lift_of text.now }
+    ensures { option_map (λ parts. record
+        { owner = parts.0.now; group = group_names parts.1.now }) result ≡ lift_of text.now }
 {
     let (owner, features) = text.split_once('=')?;
     if owner.is_empty() || !has_separator(features) {
@@ -132,11 +138,14 @@ fn cut_lift(text: &str) -> Option<(&str, &str)>
     Some((owner, features))
 }
 
-/// The packages with the groups that the values lift for them, where each value has the form of `--allow-together`.
+/// The packages with the groups that the values lift for them, where each value has the form of
+/// `--allow-together`.
 fn lifts_of(alloc: Global, texts: &[String]) -> Result<Vec<(String, Feature)>, CliFault>
-    ensures lifts { IfOk result (λ lifts. AreLifts (filter_map lift_of (map string_bytes texts.now)) lifts.items) }
+    ensures lifts { IfOk result (λ lifts.
+        AreLifts (filter_map lift_of (map string_bytes texts.now)) lifts.items) }
     ensures each { IfOk result (λ lifts. AreReadAs texts.now lifts.items) }
-    ensures checks { Checks result (option_map LiftForm (first_failing is_lift (map string_bytes texts.now))) }
+    ensures checks { Checks result (option_map LiftForm
+        (first_failing is_lift (map string_bytes texts.now))) }
 {
     let mut lifts = Vec::new(alloc);
     for text in texts {
@@ -191,8 +200,8 @@ fn check_groups(
     Ok(())
 }
 
-/// The packages with the exclusion groups that are lifted for them. A value of another form is told before one whose
-/// names are those of no group.
+/// The packages with the exclusion groups that are lifted for them. A value of another form is told
+/// before one whose names are those of no group.
 pub fn lifts(
     alloc: Global,
     exclusive: &[Feature],

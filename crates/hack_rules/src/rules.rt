@@ -1,5 +1,5 @@
-//! The rules that the options of a call keep, up to that on a missing subcommand. Each is checked in its order, and
-//! the first that is broken gives the fault.
+//! The rules that the options of a call keep, up to that on a missing subcommand. Each is checked
+//! in its order, and the first that is broken gives the fault.
 
 ghost use Rattle.std.specs.Prelude.{◌≡◌, IfOk, string_bytes, option_map};
 ghost use Rattle.hack_features.specs.Feature.{groups_of};
@@ -11,7 +11,15 @@ ghost use Rattle.hack_rules.specs.Asked.{coloring_asked, depth_asked};
 ghost use Rattle.hack_rules.specs.CliFaults.{Checks};
 ghost use Rattle.hack_rules.specs.CliValues.{depth_fault};
 ghost use Rattle.hack_rules.specs.ListsView.{listed_in};
-ghost use Rattle.hack_rules.specs.Rules.{needs as needs_rule, clash as clash_rule, first_of, of_value, is_nonempty, is_among, is_in_group, is_optional, color_rule, unknown_rule, each_rules, powerset_rules, single_rule, single_rules, subcommand_rule, cargo_rule, is_target_flag as target_flag, is_target_name as target_name, first_target_word, target_rule, include_rules, pair_rules, naming as naming_option, excluded_rule, early_rules, together_rules, rules_before, is_each as each};
+ghost use Rattle.hack_rules.specs.Rules.{needs as needs_rule, clash as clash_rule, first_of};
+ghost use Rattle.hack_rules.specs.Rules.{of_value, is_nonempty, is_among, is_in_group, is_optional};
+ghost use Rattle.hack_rules.specs.Rules.{color_rule, unknown_rule, each_rules, powerset_rules};
+ghost use Rattle.hack_rules.specs.Rules.{single_rule, single_rules, subcommand_rule, cargo_rule};
+ghost use Rattle.hack_rules.specs.Rules.{is_target_flag as target_flag};
+ghost use Rattle.hack_rules.specs.Rules.{is_target_name as target_name, first_target_word};
+ghost use Rattle.hack_rules.specs.Rules.{target_rule, include_rules, pair_rules};
+ghost use Rattle.hack_rules.specs.Rules.{naming as naming_option, excluded_rule, early_rules};
+ghost use Rattle.hack_rules.specs.Rules.{together_rules, rules_before, is_each as each};
 
 use crate::fault::{Beside, CliFault};
 use crate::listed::Lists;
@@ -75,8 +83,11 @@ fn group_has(groups: &[Feature], name: &str) -> bool
 
 /// The colouring of the words, else that of the environment.
 fn coloring(term_color: Option<&String>, uses: &[Use]) -> Result<Coloring, CliFault>
-    ensures rule { Checks result (color_rule (value_given Opt.Color (views uses.now)) (option_map (λ text. string_bytes text.now) term_color.entry)) }
-    ensures value { IfOk result (λ coloring. coloring ≡ coloring_asked (option_map (λ text. string_bytes text.now) term_color.entry) (views uses.now)) }
+    ensures rule { Checks result (color_rule (value_given Opt.Color (views uses.now))
+        (option_map (λ text. string_bytes text.now) term_color.entry)) }
+    ensures value { IfOk result (λ coloring. coloring
+        ≡ coloring_asked (option_map (λ text. string_bytes text.now) term_color.entry)
+        (views uses.now)) }
 {
     if let Some(said) = value(Opt::Color, uses) {
         return match Coloring::parse(said.as_str()) {
@@ -116,7 +127,8 @@ fn is_each(uses: &[Use]) -> bool
 
 /// Refused where the option is there and `--each-feature` and `--feature-powerset` are not.
 fn needs_each(there: bool, option: Opt, uses: &[Use]) -> Result<(), CliFault>
-    ensures { Checks result (needs_rule there option Beside.EachOrPowerset (each (views uses.now))) }
+    ensures { Checks result (needs_rule there option Beside.EachOrPowerset
+        (each (views uses.now))) }
 {
     needs(there, option, Beside::EachOrPowerset, is_each(uses))
 }
@@ -140,7 +152,8 @@ fn beside_each(lists: &Lists, uses: &[Use]) -> Result<(), CliFault>
 
 /// Refused where the option is there and `--feature-powerset` is not.
 fn needs_powerset(option: Opt, uses: &[Use]) -> Result<(), CliFault>
-    ensures { Checks result (needs_rule (is_given option (views uses.now)) option Beside.Powerset (is_given Opt.FeaturePowerset (views uses.now))) }
+    ensures { Checks result (needs_rule (is_given option (views uses.now)) option Beside.Powerset
+        (is_given Opt.FeaturePowerset (views uses.now))) }
 {
     let there = given(Opt::FeaturePowerset, uses);
     needs(given(option, uses), option, Beside::Powerset, there)
@@ -253,7 +266,8 @@ fn is_target_name(word: &str) -> bool
 
 /// The first word for cargo that picks targets which need dev-dependencies.
 fn target_choice(leading: &[String]) -> Option<&String>
-    ensures { option_map (λ word. string_bytes word.now) result ≡ first_target_word (names_of leading.now) }
+    ensures { option_map (λ word. string_bytes word.now) result
+        ≡ first_target_word (names_of leading.now) }
 {
     for word in leading {
         if is_target_flag(word.as_str()) || is_target_name(word.as_str()) {
@@ -265,7 +279,8 @@ fn target_choice(leading: &[String]) -> Option<&String>
 
 /// No dev-dependencies are left out beside a word that picks targets which need them.
 fn beside_targets(leading: &[String], uses: &[Use]) -> Result<(), CliFault>
-    ensures { Checks result (target_rule (views uses.now) (first_target_word (names_of leading.now))) }
+    ensures { Checks result (target_rule (views uses.now)
+        (first_target_word (names_of leading.now))) }
 {
     let Some(word) = target_choice(leading) else {
         return Ok(());
@@ -322,7 +337,8 @@ fn pairs(uses: &[Use]) -> Result<(), CliFault>
 
 /// One of the optional dependencies, where they are named.
 fn optional_has(names: Option<&Vec<String>>, name: &str) -> bool
-    ensures { result ≡ is_optional (option_map (λ names. names_of names.now.items) names.entry) name.now }
+    ensures { result ≡ is_optional (option_map
+        (λ names. names_of names.now.items) names.entry) name.now }
 {
     match names {
         Some(names) => has(names.as_slice(), name),
@@ -372,7 +388,8 @@ fn together(
     uses: &[Use],
 ) -> Result<(), CliFault>
     requires { names_of leading.now ≡ leading_of behavior (views uses.now) }
-    ensures { Checks result (first_of (together_rules behavior (listed_in lists.now) (views uses.now))) }
+    ensures { Checks result (first_of
+        (together_rules behavior (listed_in lists.now) (views uses.now))) }
 {
     groups_list_two(uses)?;
     beside_subcommand(uses)?;
@@ -398,8 +415,12 @@ fn listing(
     lists: &Lists,
     uses: &[Use],
 ) -> Result<Early, CliFault>
-    ensures rules { Checks result (first_of (early_rules (option_map (λ text. string_bytes text.now) term_color.entry) (listed_in lists.now) (views uses.now))) }
-    ensures coloring { IfOk result (λ early. early.coloring ≡ coloring_asked (option_map (λ text. string_bytes text.now) term_color.entry) (views uses.now)) }
+    ensures rules { Checks result (first_of
+        (early_rules (option_map (λ text. string_bytes text.now) term_color.entry)
+        (listed_in lists.now) (views uses.now))) }
+    ensures coloring { IfOk result (λ early. early.coloring
+        ≡ coloring_asked (option_map (λ text. string_bytes text.now) term_color.entry)
+        (views uses.now)) }
     ensures depth { IfOk result (λ early. early.depth ≡ depth_asked (views uses.now)) }
 {
     let coloring = coloring(term_color, uses)?;
@@ -420,8 +441,12 @@ pub fn before(
     uses: &[Use],
 ) -> Result<Early, CliFault>
     requires { names_of leading.now ≡ leading_of behavior (views uses.now) }
-    ensures rules { Checks result (first_of (rules_before behavior (option_map (λ text. string_bytes text.now) term_color.entry) (listed_in lists.now) (views uses.now))) }
-    ensures coloring { IfOk result (λ early. early.coloring ≡ coloring_asked (option_map (λ text. string_bytes text.now) term_color.entry) (views uses.now)) }
+    ensures rules { Checks result (first_of
+        (rules_before behavior (option_map (λ text. string_bytes text.now) term_color.entry)
+        (listed_in lists.now) (views uses.now))) }
+    ensures coloring { IfOk result (λ early. early.coloring
+        ≡ coloring_asked (option_map (λ text. string_bytes text.now) term_color.entry)
+        (views uses.now)) }
     ensures depth { IfOk result (λ early. early.depth ≡ depth_asked (views uses.now)) }
 {
     let early = listing(alloc, term_color, lists, uses)?;

@@ -97,7 +97,8 @@ fn cut_all(alloc: Global, words: Vec<String>) -> Result<Cuts, CutFault>
     }
 }
 
-/// All uses of the words, a question for a text, or the first fault of a cut. Words behind a question aren't judged.
+/// All uses of the words, a question for a text, or the first fault of a cut. Words behind a
+/// question aren't judged.
 pub fn all_uses(alloc: Global, words: Vec<String>) -> Result<Cuts, CutFault>
     ensures uses { GivesUses result (map string_bytes words.items) }
     ensures one { GivesNoOther result (map string_bytes words.items) }

@@ -97,8 +97,8 @@ pub enum CutFault {
         flag: OwnedFlag,
         value: String,
     },
-    /// An option that stands once is there again; `option` is the one that `flag` names, `subcommand` the one that
-    /// was met so far.
+    /// An option that stands once is there again; `option` is the one that `flag` names,
+    /// `subcommand` the one that was met so far.
     #[error("The argument '{flag}' was provided more than once, but cannot be used multiple times\n\nUSAGE:\n    cargo hack{sub} {usage}\n\nFor more information try --help\n", sub = Behind(.subcommand), usage = .flag.usage())]
     Repeat {
         flag: OwnedFlag,

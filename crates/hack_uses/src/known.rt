@@ -5,9 +5,12 @@ ghost use Rattle.std.specs.Option.{option_map};
 ghost use Rattle.hack_lexopt.specs.Parsers.{left};
 ghost use Rattle.hack_uses.specs.Faults.{flag_seen};
 ghost use Rattle.hack_lexopt.specs.Cuts.{value_of, after_value, optional_of, after_optional};
-ghost use Rattle.hack_uses.specs.Reads.{Gives, known as known_reading, unknown as unknown_reading, other_name as other_reading};
-ghost use Rattle.hack_uses.specs.Reads.{with_value as value_reading, with_names as names_reading, with_names_or_none as optional_reading};
-ghost use Rattle.hack_uses.specs.Reads.{by_kind as kind_reading, question as question_reading, is_quote as quote, help_of, removed_of, similar_of};
+ghost use Rattle.hack_uses.specs.Reads.{Gives, known as known_reading, unknown as unknown_reading};
+ghost use Rattle.hack_uses.specs.Reads.{other_name as other_reading, with_value as value_reading};
+ghost use Rattle.hack_uses.specs.Reads.{with_names as names_reading};
+ghost use Rattle.hack_uses.specs.Reads.{with_names_or_none as optional_reading};
+ghost use Rattle.hack_uses.specs.Reads.{by_kind as kind_reading, question as question_reading};
+ghost use Rattle.hack_uses.specs.Reads.{is_quote as quote, help_of, removed_of, similar_of};
 ghost use Rattle.hack_options.specs.Table.{entry_of, meaning_of};
 ghost use Rattle.hack_uses.specs.Uses.{views, is_given, subcommand_of};
 
@@ -47,8 +50,8 @@ fn met(option: Opt, flag: OwnedFlag, value: Option<String>) -> Step
     })
 }
 
-/// An option that is not in the table, and the rest of its word. Cargo's `-n`, `-q` and `-r` take no value, so that
-/// what follows them in their word is cut on.
+/// An option that is not in the table, and the rest of its word. Cargo's `-n`, `-q` and `-r` take
+/// no value, so that what follows them in their word is cut on.
 pub(crate) fn unknown(alloc: Global, parser: &mut Parser, flag: OwnedFlag) -> Result<Step, CutFault>
     ensures { Gives result (left parser.new) (unknown_reading (flag_seen flag) (left parser.old)) }
 {
@@ -59,7 +62,8 @@ pub(crate) fn unknown(alloc: Global, parser: &mut Parser, flag: OwnedFlag) -> Re
     Ok(Step::Met(Use::Unknown { flag, value }))
 }
 
-/// A question for a text while no subcommand was met; behind one, the subcommand is asked in place of us.
+/// A question for a text while no subcommand was met; behind one, the subcommand is asked in place
+/// of us.
 fn question(
     alloc: Global,
     parser: &mut Parser,
@@ -67,7 +71,9 @@ fn question(
     flag: OwnedFlag,
     print: Print,
 ) -> Result<Step, CutFault>
-    ensures { Gives result (left parser.new) (question_reading print (subcommand_of (views uses.now)) (flag_seen flag) (left parser.old)) }
+    ensures { Gives result (left parser.new)
+        (question_reading print (subcommand_of (views uses.now)) (flag_seen flag)
+        (left parser.old)) }
 {
     match subcommand(uses) {
         Some(_) => unknown(alloc, parser, flag),
@@ -92,7 +98,9 @@ fn with_value(
     option: Opt,
     flag: OwnedFlag,
 ) -> Result<Step, CutFault>
-    ensures { Gives result (left parser.new) (value_reading option (flag_seen flag) (value_of (left parser.old)) (after_value (left parser.old))) }
+    ensures { Gives result (left parser.new)
+        (value_reading option (flag_seen flag) (value_of (left parser.old))
+        (after_value (left parser.old))) }
 {
     match parser.value(alloc) {
         Ok(value) => Ok(met(option.means(), flag, Some(value))),
@@ -108,7 +116,9 @@ fn with_names(
     option: Opt,
     flag: OwnedFlag,
 ) -> Result<Step, CutFault>
-    ensures { Gives result (left parser.new) (names_reading option (flag_seen flag) (value_of (left parser.old)) (after_value (left parser.old))) }
+    ensures { Gives result (left parser.new)
+        (names_reading option (flag_seen flag) (value_of (left parser.old))
+        (after_value (left parser.old))) }
 {
     match parser.value(alloc) {
         Ok(value) if is_quote(&value) => Err(CutFault::LoneQuote { flag }),
@@ -125,7 +135,9 @@ fn with_names_or_none(
     option: Opt,
     flag: OwnedFlag,
 ) -> Result<Step, CutFault>
-    ensures { Gives result (left parser.new) (optional_reading option (flag_seen flag) (optional_of (left parser.old)) (after_optional (left parser.old))) }
+    ensures { Gives result (left parser.new)
+        (optional_reading option (flag_seen flag) (optional_of (left parser.old))
+        (after_optional (left parser.old))) }
 {
     match parser.value_or_none(alloc)? {
         Some(value) if is_quote(&value) => Err(CutFault::LoneQuote { flag }),
@@ -141,7 +153,9 @@ fn by_kind(
     option: Opt,
     flag: OwnedFlag,
 ) -> Result<Step, CutFault>
-    ensures { Gives result (left parser.new) (kind_reading (entry_of option).kind (views uses.now) option (flag_seen flag) (left parser.old)) }
+    ensures { Gives result (left parser.new)
+        (kind_reading (entry_of option).kind (views uses.now) option (flag_seen flag)
+        (left parser.old)) }
 {
     match option.row().kind {
         Kind::Flag => Ok(met(option.means(), flag, None)),
@@ -172,7 +186,8 @@ pub(crate) fn known(
     option: Opt,
     flag: OwnedFlag,
 ) -> Result<Step, CutFault>
-    ensures { Gives result (left parser.new) (known_reading (views uses.now) option (flag_seen flag) (left parser.old)) }
+    ensures { Gives result (left parser.new)
+        (known_reading (views uses.now) option (flag_seen flag) (left parser.old)) }
 {
     if is_repeat(option, uses) {
         return Err(CutFault::Repeat {
@@ -223,7 +238,8 @@ pub(crate) fn other_name(
     uses: &[Use],
     name: String,
 ) -> Result<Step, CutFault>
-    ensures { Gives result (left parser.new) (other_reading (views uses.now) (string_bytes name) (left parser.old)) }
+    ensures { Gives result (left parser.new)
+        (other_reading (views uses.now) (string_bytes name) (left parser.old)) }
 {
     if let Some(option) = removed(&name) {
         return Err(CutFault::Removed {

@@ -1,4 +1,5 @@
-//! The uses of options that words make, or the first fault of a cut; what uses give to options, and pass on.
+//! The uses of options that words make, or the first fault of a cut; what uses give to options, and
+//! pass on.
 #![tactic(auto)]
 
 mod behavior;

@@ -25,7 +25,8 @@ fn is_passed(behavior: WorkspaceBehavior, option: Opt) -> bool
 
 /// An unknown option and the rest of its word, in one word.
 fn joined(alloc: Global, flag: &OwnedFlag, value: &Option<String>) -> Result<String, AllocError>
-    ensures { IfOk result (λ word. string_bytes word ≡ word_of (flag_seen flag.now) (option_map string_bytes value.now)) }
+    ensures { IfOk result (λ word. string_bytes word
+        ≡ word_of (flag_seen flag.now) (option_map string_bytes value.now)) }
 {
     match (flag, value) {
         (_, None) => format!(in alloc; "{flag}"),
@@ -41,7 +42,8 @@ fn pass(
     behavior: WorkspaceBehavior,
     one: &Use,
 ) -> Result<(), AllocError>
-    ensures { OnOk result (map string_bytes leading.new.items ≡ map string_bytes leading.old.items ++ passed behavior (view one.now)) }
+    ensures { OnOk result (map string_bytes leading.new.items
+        ≡ map string_bytes leading.old.items ++ passed behavior (view one.now)) }
 {
     match one {
         Use::Word(word) => leading.push(word.clone()?)?,
@@ -68,7 +70,8 @@ pub fn leading(
     behavior: WorkspaceBehavior,
     uses: &[Use],
 ) -> Result<Vec<String>, AllocError>
-    ensures { IfOk result (λ words. map string_bytes words.items ≡ leading_of behavior (views uses.now)) }
+    ensures { IfOk result (λ words. map string_bytes words.items
+        ≡ leading_of behavior (views uses.now)) }
 {
     let mut leading = Vec::new(alloc);
     for one in uses {

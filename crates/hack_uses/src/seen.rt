@@ -38,7 +38,8 @@ pub fn subcommand(uses: &[Use]) -> Option<&String>
 
 /// The value of the option's first use that has one, for an option that stands once.
 pub fn value(option: Opt, uses: &[Use]) -> Option<&String>
-    ensures { option_map (λ value. string_bytes value.now) result ≡ value_given option (views uses.now) }
+    ensures { option_map (λ value. string_bytes value.now) result
+        ≡ value_given option (views uses.now) }
 {
     for one in uses {
         if let Use::Known {
@@ -56,7 +57,8 @@ pub fn value(option: Opt, uses: &[Use]) -> Option<&String>
 
 /// The values of all the option's uses, in order.
 pub fn values(alloc: Global, option: Opt, uses: &[Use]) -> Result<Vec<String>, AllocError>
-    ensures { IfOk result (λ values. map string_bytes values.items ≡ values_given option (views uses.now)) }
+    ensures { IfOk result (λ values. map string_bytes values.items
+        ≡ values_given option (views uses.now)) }
 {
     let mut values = Vec::new(alloc);
     for one in uses {

@@ -6,7 +6,8 @@ ghost use Rattle.hack_features.specs.Names.{names_of};
 ghost use Rattle.hack_uses.specs.Passed.{leading_of};
 ghost use Rattle.hack_uses.specs.Uses.{views};
 ghost use Rattle.hack_uses.specs.Values.{values_given};
-ghost use Rattle.hack_rules.specs.Asked.{verbose_words, excludes_no_default, excludes_all, ignores_private as private_ignored};
+ghost use Rattle.hack_rules.specs.Asked.{verbose_words, excludes_no_default, excludes_all};
+ghost use Rattle.hack_rules.specs.Asked.{ignores_private as private_ignored};
 ghost use Rattle.hack_rules.specs.ListsView.{listed_in};
 
 use hack_features::Feature;
@@ -24,7 +25,8 @@ use std::alloc::{AllocError, Global};
 /// What a call asks for.
 #[derive(Drop)]
 pub struct Args {
-    /// Words for cargo, in order: the subcommand, options that are unknown here, and those that are for both.
+    /// Words for cargo, in order: the subcommand, options that are unknown here, and those that are
+    /// for both.
     pub leading_args: Vec<String>,
     /// The words behind the first `--`.
     pub trailing_args: Vec<String>,
@@ -61,8 +63,8 @@ pub struct Args {
     pub optional_deps: Option<Vec<String>>,
     pub include_features: Vec<Feature>,
     pub include_deps_features: bool,
-    /// The features that no combination has: those of `--exclude-features`, and those of `--features`, which are
-    /// always there.
+    /// The features that no combination has: those of `--exclude-features`, and those of
+    /// `--features`, which are always there.
     pub exclude_features: Vec<String>,
     /// The run without default features is left out; other options imply it too.
     pub exclude_no_default_features: bool,
@@ -96,7 +98,8 @@ fn verbose_word(alloc: Global, times: usize) -> Result<String, AllocError>
 
 /// Passes `-v` on to cargo, once less than it was said.
 fn pass_verbose(alloc: Global, leading: &mut Vec<String>, said: usize) -> Result<(), AllocError>
-    ensures { OnOk result (names_of leading.new.items ≡ names_of leading.old.items ++ verbose_words said) }
+    ensures { OnOk result (names_of leading.new.items
+        ≡ names_of leading.old.items ++ verbose_words said) }
 {
     if said > 1 {
         leading.push(verbose_word(alloc, said - 1)?)?;
@@ -106,7 +109,8 @@ fn pass_verbose(alloc: Global, leading: &mut Vec<String>, said: usize) -> Result
 
 /// The list behind another.
 fn with_features(excluded: &mut Vec<String>, features: &[String]) -> Result<(), AllocError>
-    ensures { OnOk result (names_of excluded.new.items ≡ names_of excluded.old.items ++ names_of features.now) }
+    ensures { OnOk result (names_of excluded.new.items
+        ≡ names_of excluded.old.items ++ names_of features.now) }
 {
     for feature in features {
         excluded.push(feature.clone()?)?;
@@ -115,7 +119,8 @@ fn with_features(excluded: &mut Vec<String>, features: &[String]) -> Result<(), 
 }
 
 fn owned(word: Option<&String>) -> Result<Option<String>, AllocError>
-    ensures { IfOk result (λ text. option_map string_bytes text ≡ option_map (λ word. string_bytes word.now) word.entry) }
+    ensures { IfOk result (λ text. option_map string_bytes text
+        ≡ option_map (λ word. string_bytes word.now) word.entry) }
 {
     match word {
         Some(word) => Ok(Some(word.clone()?)),
@@ -132,7 +137,8 @@ fn leaves_no_default(lists: &Lists, uses: &[Use]) -> bool
         || has_some(lists.include_features.as_slice())
 }
 
-/// Whether the run with all features is left out: it would have some that are excluded, or exclude each other.
+/// Whether the run with all features is left out: it would have some that are excluded, or exclude
+/// each other.
 fn leaves_all(lists: &Lists, uses: &[Use]) -> bool
     ensures { result ≡ excludes_all (listed_in lists.now) (views uses.now) }
 {
@@ -174,10 +180,14 @@ impl Args {
 
     /// The arguments that uses of options and what was read of them say.
     pub(crate) fn of(alloc: Global, read: Read, uses: &[Use]) -> Result<Args, AllocError>
-        requires passed { names_of read.call.passed.items ≡ leading_of read.call.behavior (views uses.now) }
+        requires passed { names_of read.call.passed.items
+            ≡ leading_of read.call.behavior (views uses.now) }
         requires listed { listed_in read.call.lists ≡ listed (views uses.now) }
-        requires groups { AreGroupsOf (values_given Opt.GroupFeatures (views uses.now)) read.call.lists.group_features.items }
-        requires exclusive { AreGroupsOf (values_given Opt.MutuallyExclusiveFeatures (views uses.now)) read.call.lists.mutually_exclusive_features.items }
+        requires groups { AreGroupsOf (values_given Opt.GroupFeatures
+            (views uses.now)) read.call.lists.group_features.items }
+        requires exclusive { AreGroupsOf
+            (values_given Opt.MutuallyExclusiveFeatures
+            (views uses.now)) read.call.lists.mutually_exclusive_features.items }
         ensures flags { IfOk result (HasFlags (views uses.now)) }
         ensures texts { IfOk result (HasTexts read.call.behavior (views uses.now)) }
         ensures features { IfOk result (HasFeatures (views uses.now)) }

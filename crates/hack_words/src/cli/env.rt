@@ -2,7 +2,8 @@
 
 ghost use Rattle.std.specs.Prelude.{◌≡◌, IfOk, string_bytes, option_map};
 ghost use Rattle.hack_rules.specs.Asked.{or_else};
-ghost use Rattle.hack_words.specs.EnvView.{IsEnv, variable as variable_named, is_set as set, vars_of};
+ghost use Rattle.hack_words.specs.EnvView.{IsEnv, variable as variable_named, is_set as set};
+ghost use Rattle.hack_words.specs.EnvView.{vars_of};
 
 use std::alloc::{AllocError, Global};
 
@@ -25,7 +26,8 @@ pub struct Env {
 
 /// The value of the first variable of this name.
 fn variable<'a>(vars: &'a [(String, String)], name: &str) -> Option<&'a String>
-    ensures { option_map (λ value. string_bytes value.now) result ≡ variable_named name.now (vars_of vars.now) }
+    ensures { option_map (λ value. string_bytes value.now) result
+        ≡ variable_named name.now (vars_of vars.now) }
 {
     for (key, value) in vars {
         if key.as_str() == name {
@@ -42,7 +44,8 @@ fn is_set(vars: &[(String, String)], name: &str) -> bool
 }
 
 fn owned(alloc: Global, value: Option<&String>, other: &str) -> Result<String, AllocError>
-    ensures { IfOk result (λ text. string_bytes text ≡ or_else other.now (option_map (λ value. string_bytes value.now) value.entry)) }
+    ensures { IfOk result (λ text. string_bytes text
+        ≡ or_else other.now (option_map (λ value. string_bytes value.now) value.entry)) }
 {
     match value {
         Some(value) => value.clone(),

@@ -1,8 +1,11 @@
 //! What the user is told of words that are accepted.
 
-ghost use Rattle.std.specs.Prelude.{◌≡◌, ◌++◌, IfOk, OnOk, true, codes, map, string_bytes, option_map};
+ghost use Rattle.std.specs.Prelude.{◌≡◌, ◌++◌, IfOk, OnOk, true, codes, map, string_bytes};
+ghost use Rattle.std.specs.Prelude.{option_map};
 ghost use Rattle.hack_versions.specs.Notes.{note_of};
-ghost use Rattle.hack_words.specs.Call.{note_if, unknown_words, rustup_words, rustup_notes, old_words, old_notes, editing_words, edits_words, edit_notes, new_form as newer_form};
+ghost use Rattle.hack_words.specs.Call.{note_if, unknown_words, rustup_words, rustup_notes};
+ghost use Rattle.hack_words.specs.Call.{old_words, old_notes, editing_words, edits_words};
+ghost use Rattle.hack_words.specs.Call.{edit_notes, new_form as newer_form};
 ghost use Rattle.hack_words.specs.RustupView.{unknown_of};
 
 use hack_versions::notice::{Notice, NoticeKind};
@@ -11,7 +14,8 @@ use std::alloc::{AllocError, Global};
 
 /// Adds a notice.
 fn note(notices: &mut Vec<Notice>, kind: NoticeKind, text: String) -> Result<(), AllocError>
-    ensures { OnOk result (map note_of notices.new.items ≡ map note_of notices.old.items ++ note_if true kind (string_bytes text)) }
+    ensures { OnOk result (map note_of notices.new.items
+        ≡ map note_of notices.old.items ++ note_if true kind (string_bytes text)) }
 {
     notices.push(Notice { kind, text })?;
     Ok(())
@@ -28,7 +32,8 @@ fn unknown_text(alloc: Global) -> Result<String, AllocError>
 
 /// Tells that unknown features are not ignored everywhere.
 pub fn tell_unknown(alloc: Global, notices: &mut Vec<Notice>, told: bool) -> Result<(), AllocError>
-    ensures { OnOk result (map note_of notices.new.items ≡ map note_of notices.old.items ++ note_if told NoticeKind.QuietWarn unknown_words) }
+    ensures { OnOk result (map note_of notices.new.items
+        ≡ map note_of notices.old.items ++ note_if told NoticeKind.QuietWarn unknown_words) }
 {
     if told {
         note(notices, NoticeKind::QuietWarn, unknown_text(alloc)?)?;
@@ -49,7 +54,8 @@ pub fn tell_rustup(
     ranged: bool,
     rustup: &Rustup,
 ) -> Result<(), AllocError>
-    ensures { OnOk result (map note_of notices.new.items ≡ map note_of notices.old.items ++ rustup_notes ranged (unknown_of rustup.now)) }
+    ensures { OnOk result (map note_of notices.new.items
+        ≡ map note_of notices.old.items ++ rustup_notes ranged (unknown_of rustup.now)) }
 {
     match rustup {
         Rustup::Unknown(why) if ranged => note(
@@ -91,7 +97,9 @@ pub fn tell_old(
     is_old: bool,
     range: Option<&String>,
 ) -> Result<(), AllocError>
-    ensures { OnOk result (map note_of notices.new.items ≡ map note_of notices.old.items ++ old_notes is_old (option_map (λ text. string_bytes text.now) range.entry)) }
+    ensures { OnOk result (map note_of notices.new.items
+        ≡ map note_of notices.old.items
+        ++ old_notes is_old (option_map (λ text. string_bytes text.now) range.entry)) }
 {
     match range {
         Some(range) if is_old => {
@@ -132,7 +140,8 @@ pub fn tell_edits(
     no_dev_deps: bool,
     no_private: bool,
 ) -> Result<(), AllocError>
-    ensures { OnOk result (map note_of notices.new.items ≡ map note_of notices.old.items ++ edit_notes no_dev_deps no_private) }
+    ensures { OnOk result (map note_of notices.new.items
+        ≡ map note_of notices.old.items ++ edit_notes no_dev_deps no_private) }
 {
     let edits = no_dev_deps || no_private;
     if edits {

@@ -1,14 +1,17 @@
 //! Words into arguments, or the first fault.
 
-ghost use Rattle.std.specs.Prelude.{ℕ, List, ◌≡◌, ◌++◌, IfOk, IfErr, MatchOption, OnOk, map, string_bytes};
+ghost use Rattle.std.specs.Prelude.{ℕ, List, ◌≡◌, ◌++◌, IfOk, IfErr, MatchOption, OnOk, map};
+ghost use Rattle.std.specs.Prelude.{string_bytes};
 ghost use Rattle.hack_features.specs.Names.{names_of};
 ghost use Rattle.hack_uses.specs.declared.behavior.WorkspaceBehavior.{WorkspaceBehavior};
 ghost use Rattle.hack_uses.specs.Passed.{leading_of};
 ghost use Rattle.hack_uses.specs.Uses.{views, subcommand_of};
 ghost use Rattle.hack_versions.specs.Notes.{note_of};
-ghost use Rattle.hack_words.specs.Answers.{Judges, GoesOn, IsJudged, IsText, IsPrinted, Answers, Refuses, GivesCuts, BreakNoRule, around_of, around_in};
+ghost use Rattle.hack_words.specs.Answers.{Judges, GoesOn, IsJudged, IsText, IsPrinted, Answers};
+ghost use Rattle.hack_words.specs.Answers.{Refuses, GivesCuts, BreakNoRule, around_of, around_in};
 ghost use Rattle.hack_rules.specs.Asked.{is_old_asked};
-ghost use Rattle.hack_words.specs.Call.{Around, Outcome, ComesFrom, ComesTo, Faulty, outcome_of, later_notes, in_vain};
+ghost use Rattle.hack_words.specs.Call.{Around, Outcome, ComesFrom, ComesTo, Faulty, outcome_of};
+ghost use Rattle.hack_words.specs.Call.{later_notes, in_vain};
 ghost use Rattle.hack_rules.specs.CliFaults.{fault_of};
 ghost use Rattle.hack_rules.specs.Listed.{listed};
 ghost use Rattle.hack_rules.specs.ListsView.{listed_in};
@@ -65,7 +68,9 @@ fn known(rustup: &Rustup) -> Option<u32>
 
 /// Whether cargo's list is asked for, where there is no subcommand.
 fn lists_commands(passed: &[String], uses: &[Use]) -> Result<bool, CliFault>
-    ensures { (behavior : WorkspaceBehavior) → names_of passed.now ≡ leading_of behavior (views uses.now) → GoesOn result (bare_verdict behavior (subcommand_of (views uses.now)) (views uses.now)) }
+    ensures { (behavior : WorkspaceBehavior)
+        → names_of passed.now ≡ leading_of behavior (views uses.now)
+        → GoesOn result (bare_verdict behavior (subcommand_of (views uses.now)) (views uses.now)) }
 {
     if subcommand(uses).is_some() {
         return Ok(false);
@@ -86,7 +91,8 @@ fn keep_rules(
     call: &Call,
     uses: &[Use],
 ) -> Result<Checked, CliFault>
-    requires passed { names_of call.now.passed.items ≡ leading_of call.now.behavior (views uses.now) }
+    requires passed { names_of call.now.passed.items
+        ≡ leading_of call.now.behavior (views uses.now) }
     requires listed { listed_in call.now.lists ≡ listed (views uses.now) }
     ensures { Judges result call.now.behavior (around_in around.entry) (views uses.now) }
 {
@@ -115,7 +121,8 @@ fn tell(
     rustup: &Rustup,
 ) -> Result<(), AllocError>
     requires { is_old ≡ is_old_asked (views uses.now) }
-    ensures { OnOk result (map note_of notices.new.items ≡ map note_of notices.old.items ++ later_notes (unknown_of rustup.now) (views uses.now)) }
+    ensures { OnOk result (map note_of notices.new.items
+        ≡ map note_of notices.old.items ++ later_notes (unknown_of rustup.now) (views uses.now)) }
 {
     tell_rustup(alloc, notices, is_ranged(uses), rustup)?;
     tell_old(alloc, notices, is_old, value(Opt::VersionRange, uses))?;
@@ -138,8 +145,13 @@ fn judged(
     trailing: Vec<String>,
     uses: &[Use],
 ) -> Result<(Parsed, Vec<Notice>), CliFault>
-    ensures ok { IfOk result (λ answer. IsJudged (around_in around.entry) behavior (names_of trailing.items) (views uses.now) answer.0 (map note_of answer.1.items)) }
-    ensures err { IfErr result (λ e. MatchOption (fault_of e) (e ≡ CliFault.Memory) (λ fault. outcome_of (around_in around.entry) behavior (names_of trailing.items) (views uses.now) ≡ Faulty fault)) }
+    ensures ok { IfOk result (λ answer.
+        IsJudged (around_in around.entry) behavior (names_of trailing.items)
+        (views uses.now) answer.0 (map note_of answer.1.items)) }
+    ensures err { IfErr result (λ e.
+        MatchOption (fault_of e) (e ≡ CliFault.Memory)
+        (λ fault. outcome_of (around_in around.entry) behavior (names_of trailing.items)
+        (views uses.now) ≡ Faulty fault)) }
 {
     let call = Call {
         behavior,
@@ -197,7 +209,10 @@ fn begun(
     around: Surroundings<'_>,
     start: Start,
 ) -> Result<(Parsed, Vec<Notice>), CliFault>
-    ensures ok { IfOk result (λ answer. Answers (around_in around.entry) (ComesFrom (around_in around.entry) (start_in start)) answer.0 (map note_of answer.1.items)) }
+    ensures ok { IfOk result (λ answer.
+        Answers (around_in around.entry)
+        (ComesFrom (around_in around.entry) (start_in start)) answer.0
+        (map note_of answer.1.items)) }
     ensures err { IfErr result (Refuses (ComesFrom (around_in around.entry) (start_in start))) }
 {
     let Start {
@@ -217,7 +232,10 @@ fn read_words(
     around: Surroundings<'_>,
     words: &[String],
 ) -> Result<(Parsed, Vec<Notice>), CliFault>
-    ensures ok { IfOk result (λ answer. Answers (around_in around.entry) (ComesTo (around_in around.entry) (names_of words.now)) answer.0 (map note_of answer.1.items)) }
+    ensures ok { IfOk result (λ answer.
+        Answers (around_in around.entry)
+        (ComesTo (around_in around.entry) (names_of words.now)) answer.0
+        (map note_of answer.1.items)) }
     ensures err { IfErr result (Refuses (ComesTo (around_in around.entry) (names_of words.now))) }
 {
     let start = Start::of(alloc, words)?;
@@ -226,21 +244,28 @@ fn read_words(
 
 /// The law that what words come to is one thing. It does nothing; its contract is the law.
 pub fn outcome_is_one()
-    ensures { (around : Around) (words : List (List ℕ)) (a b : Outcome) → ComesTo around words a → ComesTo around words b → a ≡ b }
+    ensures { (around : Around) (words : List (List ℕ)) (a b : Outcome) → ComesTo around words a
+        → ComesTo around words b → a ≡ b }
 {}
 
 impl Args {
-    /// What the words behind the program's name ask for, with what the user is to be told of them; or the fault of
-    /// the first rule that they break. `rustup` counts where a range of versions is asked.
+    /// What the words behind the program's name ask for, with what the user is to be told of them;
+    /// or the fault of the first rule that they break. `rustup` counts where a range of versions is
+    /// asked.
     pub fn parse(
         alloc: Global,
         words: &[String],
         env: &Env,
         rustup: Rustup,
     ) -> Result<(Parsed, Vec<Notice>), CliFault>
-        ensures ok { IfOk result (λ answer. Answers (around_of env.now rustup) (ComesTo (around_of env.now rustup) (names_of words.now)) answer.0 (map note_of answer.1.items)) }
-        ensures never { IfOk result (λ _. BreakNoRule (around_of env.now rustup) (names_of words.now)) }
-        ensures err { IfErr result (Refuses (ComesTo (around_of env.now rustup) (names_of words.now))) }
+        ensures ok { IfOk result (λ answer.
+            Answers (around_of env.now rustup)
+            (ComesTo (around_of env.now rustup) (names_of words.now)) answer.0
+            (map note_of answer.1.items)) }
+        ensures never { IfOk result (λ _.
+            BreakNoRule (around_of env.now rustup) (names_of words.now)) }
+        ensures err { IfErr result (Refuses
+            (ComesTo (around_of env.now rustup) (names_of words.now))) }
     {
         let around = Surroundings {
             env,

@@ -2,7 +2,10 @@
 
 ghost use Rattle.std.specs.Prelude.{◌≡◌, IfOk};
 ghost use Rattle.hack_features.specs.Names.{names_of};
-ghost use Rattle.hack_words.specs.Start.{front_words, trailing_words, is_behavior as behavior, is_range_option as range_option, has_range as range_with_value, wants_rustup as rustup_wanted};
+ghost use Rattle.hack_words.specs.Start.{front_words, trailing_words, is_behavior as behavior};
+ghost use Rattle.hack_words.specs.Start.{is_range_option as range_option};
+ghost use Rattle.hack_words.specs.Start.{has_range as range_with_value};
+ghost use Rattle.hack_words.specs.Start.{wants_rustup as rustup_wanted};
 ghost use Rattle.hack_words.specs.StartView.{Begins, TakesOut};
 
 use hack_options::Opt;
@@ -35,8 +38,8 @@ fn has_range(word: &str) -> bool
     word.starts_with("--version-range=")
 }
 
-/// Whether rustup's own version has to be asked for before these words are read: where a word before the first
-/// `--` asks for a range of versions.
+/// Whether rustup's own version has to be asked for before these words are read: where a word
+/// before the first `--` asks for a range of versions.
 pub fn wants_rustup(words: &[String]) -> bool
     ensures { result ≡ rustup_wanted (names_of words.now) }
 {
