@@ -1,15 +1,14 @@
 -- The last listed set, and the others.
-use Rattle.std.proofs.Common.{◌≡◌, ℕ, ◌+◌, ◌-◌, ◌<◌, List, [], ◌∷◌, ◌++◌, length, take, drop, refl, sym, ◌∙◌, ap, subst, arith, Bool, true, false, cond, filter, map, append-nil, append_assoc, length-append, All, Contains, inl, inr, Decides}
-use Rattle.std.specs.Prelude.{not, ◌&&◌, ◌==◌, bytes_eq, nat_lt, flat_map}
+use Rattle.std.proofs.Common.{◌≡◌, ℕ, ◌-◌, ◌<◌, List, [], ◌∷◌, ◌++◌, length, take, drop, refl, sym, ◌∙◌, ap, subst, arith, Bool, true, false, cond, filter, append-nil, length-append, Contains, inl, inr}
+use Rattle.std.specs.Prelude.{not, ◌&&◌, bytes_eq}
 use Rattle.std.proofs.lemmas.Slice.Eq.{bytes_eq-Decides}
-use Rattle.std.proofs.lemmas.List.Elements.{filter-append, All-head, All-tail, All-contains, All-append, Contains-push, Contains-append_left}
+use Rattle.std.proofs.lemmas.List.Elements.{filter-append, All-contains, Contains-push}
 use Rattle.std.proofs.Math.Seq.{drop-append_seam, take-append_seam}
 use Rattle.std.proofs.lemmas.Grind.{flat_map-append}
 use Rattle.hack_features.specs.declared.rules.Rules.{Rules}
-use Rattle.hack_features.specs.Sets.{IsSelection, IsBefore, IsListing, Pairwise}
-use Rattle.hack_features.specs.Questions.{is_whole, IsWhole}
-use Rattle.hack_features.specs.Rules.{IsListed}
-use Rattle.hack_features.specs.View.{may_of, size_of, whole_of, choice_of}
+use Rattle.hack_features.specs.Sets.{IsSelection, IsBefore, Pairwise}
+use Rattle.hack_features.specs.Questions.{is_whole}
+use Rattle.hack_features.specs.View.{may_of, size_of, whole_of}
 use Rattle.hack_features.proofs.Members.{Contains-head, Contains-tail, Contains-cons_cases}
 use Rattle.hack_features.specs.Walk.{below}
 use Rattle.hack_plan.specs.Runs.{Set, turned}

@@ -1,18 +1,16 @@
 -- The listed sets of a walk, one position more at a time.
-use Rattle.std.proofs.Common.{◌≡◌, ℕ, zero, suc, ◌+◌, ◌-◌, ◌<◌, ◌≤◌, List, [], ◌∷◌, ◌++◌, length, refl, sym, ◌∙◌, ap, subst, arith, Bool, true, false, cond, filter, append-nil, append_assoc, Option, Some, None, inl, inr, ◌⊎◌, ◌≢◌}
-use Rattle.std.specs.Prelude.{Vec, not, ◌&&◌, eqb, if◌then◌else◌, is_some, MatchOption, IsSomeAnd}
+use Rattle.std.proofs.Common.{◌≡◌, ℕ, zero, suc, ◌+◌, ◌<◌, ◌≤◌, List, [], ◌∷◌, ◌++◌, length, refl, sym, ◌∙◌, ap, subst, arith, Bool, true, false, cond, filter, append-nil, append_assoc, Option, Some, None, inl, inr, ◌⊎◌, ◌≢◌}
+use Rattle.std.specs.Prelude.{Vec, not, ◌&&◌, eqb, if◌then◌else◌, is_some, MatchOption}
 use Rattle.std.proofs.lemmas.List.Elements.{filter-append}
 use Rattle.std.proofs.lemmas.Grind.{flat_map-append}
 use Rattle.std.proofs.lemmas.Bool.Decides.{eqb_tells}
-use Rattle.hack_features.specs.declared.rules.Rules.{Rules}
 use Rattle.hack_features.specs.Names.{Name}
 use Rattle.hack_features.specs.Questions.{is_whole}
 use Rattle.hack_features.specs.Sets.{IsWithin}
-use Rattle.hack_features.specs.View.{may_of, whole_of}
 use Rattle.hack_plan.specs.Runs.{Set}
 use Rattle.hack_powerset_list.specs.Lines.{run_line}
 use Rattle.hack_features.specs.Walk.{below}
-use Rattle.hack_powerset_list.specs.Walks.{EndsIn, IsFull, listed_below, set_lines}
+use Rattle.hack_powerset_list.specs.Walks.{EndsIn, IsFull, set_lines}
 
 nonzero : (n : ℕ) → eqb (suc n) 0 ≡ false
 nonzero n = elim (eqb_tells (suc n) 0) [ inl e ↦ absurd (let z : suc n ≡ 0 = e.1 in omega arith) | inr w ↦ w.0 ]
@@ -88,11 +86,12 @@ below-front test may s p (suc limit) le =
     elim (lt_or_same p (suc limit) le) [
       | inl w ↦
           let more = below-front test may s p limit (omega (arith, w)) in
-          let added : List (List ℕ) = if may (limit ∷ s) then (limit ∷ s) ∷ below may limit (limit ∷ s) else [] in
-          (more.0 ++ filter test added,
-          filter-append test (below may limit s) added
-          ∙ ap (λ l. l ++ filter test added) more.1
-          ∙ append_assoc (filter test (below may p s)) more.0 (filter test added))
+          let added : List (List ℕ) = if may (limit ∷ s) then (limit ∷ s) ∷ below may limit (limit ∷ s) else [] in (
+            more.0 ++ filter test added,
+            filter-append test (below may limit s) added
+                ∙ ap (λ l. l ++ filter test added) more.1
+                ∙ append_assoc (filter test (below may p s)) more.0 (filter test added),
+          )
       | inr e ↦ ([], ap (λ n. filter test (below may n s)) (sym e) ∙ sym (append-nil (filter test (below may p s))))
     ]
   where
@@ -141,8 +140,9 @@ module _ (names : List Name) (test may : List ℕ → Bool) (s : List ℕ) where
   -- all lines, where those of one position come next
   pub text-all : (p limit : ℕ) → p < limit → may (p ∷ s) ≡ true → (rest : List ℕ) × (lines_below limit ≡ lines_below p ++ (line_at p ++ (lines_under p ++ rest)))
   text-all p limit lt permitted =
-      let more = text-rest (p + 1) limit (omega (arith, lt)) in
-      (more.0,
-      more.1 ∙ ap (λ l. l ++ more.0) (text-step p permitted)
-      ∙ append_assoc (lines_below p) (line_at p ++ lines_under p) more.0
-      ∙ ap (λ l. lines_below p ++ l) (append_assoc (line_at p) (lines_under p) more.0))
+      let more = text-rest (p + 1) limit (omega (arith, lt)) in (
+        more.0,
+        more.1 ∙ ap (λ l. l ++ more.0) (text-step p permitted)
+            ∙ append_assoc (lines_below p) (line_at p ++ lines_under p) more.0
+            ∙ ap (λ l. lines_below p ++ l) (append_assoc (line_at p) (lines_under p) more.0),
+      )

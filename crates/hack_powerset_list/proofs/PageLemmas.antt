@@ -1,8 +1,10 @@
 -- Texts that are printed one after the other, and fronts of them.
-use Rattle.std.proofs.Common.{◌≡◌, ℕ, List, [], ◌++◌, Option, ap, sym, subst, ◌∙◌, append_assoc, append-nil, Ok, Err}
-use Rattle.std.specs.Prelude.{Result, OnOk, OnErr}
+use Rattle.std.proofs.Common.{◌≡◌, ℕ, ◌+◌, ◌<◌, List, [], ◌++◌, Option, length, get_or, take, drop, take-append-drop, ap, sym, subst, ◌∙◌, append_assoc, append-nil, Ok, Err}
+use Rattle.std.specs.Prelude.{Result, OnOk, OnErr, flat_map}
 use Rattle.std.specs.Io.KnownBytes.{Appends}
 use Rattle.std.proofs.KnownBytes.{Appends-nil, Appends-trans}
+use Rattle.std.proofs.lemmas.Grind.{flat_map-append}
+use Rattle.std.proofs.lemmas.List.{take_more, flat_map_more}
 use Rattle.hack_term.specs.Writes.{AppendsFront}
 use Rattle.hack_term.proofs.WriteLemmas.{AppendsFront-then, AppendsFront-append}
 use Rattle.hack_powerset_list.specs.LineWords.{Prints}
@@ -66,3 +68,20 @@ on_ok-then (Err e) X Y f h = tt
 pub on_err-then : {T E : Type 0} (r : Result T E) (X Y : Type 0) → (X → Y) → OnErr r X → OnErr r Y
 on_err-then (Ok v) X Y f h = tt
 on_err-then (Err e) X Y f h = f h
+
+module _ {X : Type 0} (f : X → List ℕ) (xs : List X) where
+  -- the texts up to a place, and those from there on
+  texts-split : (n : ℕ) → flat_map f (take n xs) ++ flat_map f (drop n xs) ≡ flat_map f xs
+  texts-split n = sym (flat_map-append f (take n xs) (drop n xs)) ∙ ap (flat_map f) (take-append-drop n xs)
+
+  -- one text more
+  pub texts-more : (k : ℕ) (d : X) → k < length xs → flat_map f (take k xs) ++ f (get_or xs k d) ≡ flat_map f (take (k + 1) xs)
+  texts-more k d lt = flat_map_more f [] (take k xs) (get_or xs k d) ∙ ap (flat_map f) (sym (take_more xs k d lt))
+
+  -- what was written and a front of what comes next is a front of all texts
+  pub front-with-page : (n : ℕ) (a b c : Option (List ℕ)) (done page : List ℕ) → done ++ page ≡ flat_map f (take n xs) → Appends a b done → AppendsFront b c page → AppendsFront a c (flat_map f xs)
+  front-with-page n a b c done page same written more = subst (AppendsFront a c) (ap (λ l. l ++ flat_map f (drop n xs)) same ∙ texts-split n) (AppendsFront-append a c (done ++ page) (flat_map f (drop n xs)) (AppendsFront-then a b c done page written more))
+
+-- three parts of a text, and an end
+pub parts-end : (a b c all end : List ℕ) → a ++ b ++ c ≡ all → a ++ (b ++ (c ++ end)) ≡ all ++ end
+parts-end a b c all end same = sym (append_assoc a b (c ++ end)) ∙ sym (append_assoc (a ++ b) c end) ∙ ap (λ l. l ++ end) same

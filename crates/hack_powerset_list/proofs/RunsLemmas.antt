@@ -1,13 +1,13 @@
 -- The runs of a command list, from the listed sets.
-use Rattle.std.proofs.Common.{◌≡◌, ℕ, zero, suc, ◌+◌, ◌<◌, List, [], ◌∷◌, ◌++◌, length, map, refl, sym, ◌∙◌, ap, subst, arith, Bool, true, false, length-append, append-nil, inl, inr, take, drop, Option, nat_lt, if◌then◌else◌}
-use Rattle.std.specs.Prelude.{not, ◌&&◌, ◌||◌, ◌==◌, eqb, flat_map}
+use Rattle.std.proofs.Common.{◌≡◌, ℕ, zero, suc, List, [], ◌∷◌, ◌++◌, length, map, refl, sym, ◌∙◌, ap, arith, Bool, true, false, length-append, append-nil, inl, inr, nat_lt, if◌then◌else◌}
+use Rattle.std.specs.Prelude.{not, ◌&&◌, ◌||◌, ◌==◌}
 use Rattle.std.proofs.lemmas.Bool.{lt-ltb}
 use Rattle.std.proofs.lemmas.Bool.Decides.{eqb_tells}
 use Rattle.std.proofs.lemmas.Grind.{flat_map-append}
 use Rattle.hack_features.specs.Names.{Name}
 use Rattle.hack_features.specs.declared.feature.Feature.{Feature}
 use Rattle.hack_plan.specs.declared.runs.RunOptions.{RunOptions}
-use Rattle.hack_plan.specs.Runs.{PackageRun, Plain, AllFeatures, NoDefaultFeatures, Set, kept, keeps_all, is_plain, in_turn, turned, last_first, allows_two, runs_from}
+use Rattle.hack_plan.specs.Runs.{Plain, AllFeatures, NoDefaultFeatures, Set, kept, keeps_all, is_plain, in_turn, turned, last_first, allows_two, runs_from}
 use Rattle.hack_powerset_list.specs.declared.wishes.Wishes.{Wishes}
 use Rattle.hack_powerset_list.specs.ListRuns.{options_from}
 use Rattle.hack_powerset_list.specs.Lines.{run_line, run_lines}

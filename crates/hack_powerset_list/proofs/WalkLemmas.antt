@@ -1,6 +1,6 @@
 -- Sets of a walk, one more at a time, and their lines.
-use Rattle.std.proofs.Common.{◌≡◌, ℕ, zero, suc, ◌+◌, ◌<◌, ◌≤◌, List, [], ◌∷◌, ◌++◌, length, get_or, map, codes, refl, sym, ◌∙◌, ap, arith, append-nil, append_assoc, Option, Some, None, String, Global, string_bytes, All, take}
-use Rattle.std.specs.Prelude.{slice_get, flat_map}
+use Rattle.std.proofs.Common.{◌≡◌, ℕ, zero, suc, ◌+◌, ◌<◌, ◌≤◌, List, [], ◌∷◌, ◌++◌, length, get_or, map, codes, refl, sym, ◌∙◌, ap, arith, append-nil, append_assoc, Some, None, String, Global, string_bytes, All, take}
+use Rattle.std.specs.Prelude.{slice_get}
 use Rattle.std.specs.List.{join_with_byte, cons_option}
 use Rattle.std.proofs.lemmas.List.{get_or-map, length-map, take_more}
 use Rattle.std.proofs.lemmas.Grind.{flat_map-append}

@@ -15,6 +15,6 @@ mod wishes;
 mod writes;
 
 pub use call::{Ending, call_powerset_list};
-pub use fault::ListFault;
 pub use commands::command;
+pub use fault::ListFault;
 pub use list::powerset_list;

@@ -1,4 +1,4 @@
-use Rattle.std.proofs.Common.{◌≡◌, ◌∙◌, List, [], length, sym, ap}
+use Rattle.std.proofs.Common.{◌∙◌, List, [], length, sym, ap}
 use Rattle.std.proofs.lemmas.List.{length-map}
 use Rattle.hack_features.specs.Names.{Name}
 use Rattle.hack_features.specs.Feature.{group_of, groups_of}

@@ -1,4 +1,4 @@
-use Rattle.std.proofs.Common.{◌≡◌, ◌++◌, ◌∷◌, [], List, ℕ, map, true, false, Bool, ap, ◌∙◌, sym, codes, string_bytes, append-nil, refl}
+use Rattle.std.proofs.Common.{◌≡◌, ◌++◌, ◌∷◌, [], List, ℕ, map, ap, ◌∙◌, sym, codes, string_bytes, append-nil, refl}
 use Rattle.std.specs.Prelude.{if◌then◌else◌}
 use Rattle.hack_term.specs.Writes.{AppendsFront}
 use Rattle.hack_features.specs.Names.{Name}

@@ -1,8 +1,8 @@
-use Rattle.std.proofs.Common.{◌≡◌, ◌<◌, ◌++◌, [], List, ℕ, map, length, get_or, ap, ◌∙◌, sym, subst, arith, filter, string_bytes, append-nil}
+use Rattle.std.proofs.Common.{◌≡◌, ◌<◌, ◌++◌, [], List, ℕ, map, length, get_or, ap, ◌∙◌, sym, subst, filter, string_bytes, append-nil}
 use Rattle.hack_term.specs.Writes.{AppendsFront}
 use Rattle.hack_features.specs.Names.{Name}
 use Rattle.hack_features.specs.Feature.{name_of}
-use Rattle.hack_features.specs.View.{may_of, size_of}
+use Rattle.hack_features.specs.View.{may_of}
 use Rattle.hack_plan.specs.Runs.{Set, turned}
 use Rattle.hack_powerset_list.specs.Lines.{run_line}
 use Rattle.hack_powerset_list.specs.LineWords.{Prints}

@@ -1,15 +1,13 @@
-use Rattle.std.proofs.Common.{◌≡◌, ◌++◌, [], List, ℕ, map, sym, subst, string_bytes}
-use Rattle.std.specs.Io.KnownBytes.{Appends}
+use Rattle.std.proofs.Common.{[], List, ℕ, map, subst, string_bytes}
 use Rattle.hack_term.specs.Writes.{AppendsFront}
 use Rattle.hack_term.proofs.WriteLemmas.{Appends-kept}
-use Rattle.hack_features.specs.Names.{Name}
 use Rattle.hack_features.specs.Feature.{name_of}
 use Rattle.hack_plan.specs.Runs.{runs_from}
 use Rattle.hack_powerset_list.specs.Lines.{run_lines}
 use Rattle.hack_powerset_list.specs.LineWords.{Prints}
 use Rattle.hack_powerset_list.specs.ListRuns.{options_from}
 use Rattle.hack_powerset_list.specs.Walks.{listed_in}
-use Rattle.hack_powerset_list.proofs.PageLemmas.{prints-front, prints-written}
+use Rattle.hack_powerset_list.proofs.PageLemmas.{prints-written}
 use Rattle.hack_powerset_list.proofs.runs.write_lines.Goals as goal
 
 pub returns-in_err-write_text-clause-front : goal.returns-in_err-write_text-clause-front

@@ -1,4 +1,4 @@
-use Rattle.std.proofs.Common.{◌≡◌, ◌≢◌, ◌∙◌, ◌<◌, ◌≤◌, ◌+◌, ◌++◌, ◌∷◌, [], ℕ, zero, List, Bool, length, filter, map, true, false, ap, sym, subst, arith, drop, append_assoc, string_bytes, refl, All}
+use Rattle.std.proofs.Common.{◌≡◌, ◌∙◌, ◌<◌, ◌≤◌, ◌+◌, ◌++◌, ◌∷◌, [], ℕ, zero, List, Bool, length, filter, map, true, false, ap, sym, subst, arith, drop, append_assoc, string_bytes, All}
 use Rattle.hack_term.specs.Writes.{AppendsFront}
 use Rattle.hack_features.specs.Names.{Name}
 use Rattle.hack_features.specs.Feature.{name_of}
@@ -160,16 +160,33 @@ print_below-requires g t c κs within =
     selection-front n p s (omega (arith, lt, asked.1.1.1.1.1.1.0)) (above-front c.args.limit p s lt asked.1.1.1.1.1.0) asked.1.1.1.1.0 in
     let stood : set_in c.put.new.self ≡ p ∷ s = c.put.ensures.set ∙ ap (λ l. p ∷ l) c.loop-p.invariant.kept in
     let others : c.args.others.now ≡ others_text (chosen names s) = asked.1.1.1.1.1.1.1 in (
-      omega (arith, lt), (
-        within, (
-          asked.0, (
-            asked.1.0, (
-              asked.1.1.0, (
-                c.put.ensures.most ∙ c.loop-p.invariant.room ∙ asked.1.1.1.0, (
-                  subst (IsSelection n) (sym stood) selection, (
-                    subst (All (λ q. p ≤ q)) (sym stood) (above-cons p s (above-front c.args.limit p s lt asked.1.1.1.1.1.0)), (
+      omega (arith, lt),
+      (
+        within,
+        (
+          asked.0,
+          (
+            asked.1.0,
+            (
+              asked.1.1.0,
+              (
+                c.put.ensures.most ∙ c.loop-p.invariant.room ∙ asked.1.1.1.0,
+                (
+                  subst (IsSelection n) (sym stood) selection,
+                  (
+                    subst (All (λ q. p ≤ q)) (sym stood) (above-cons p s (above-front c.args.limit p s lt asked.1.1.1.1.1.0)),
+                    (
                       omega (arith, lt, asked.1.1.1.1.1.1.0),
-                      c.as_str.ensures.value ∙ c.in_ok-longer.ensures s others ∙ ap (λ l. others_text (chosen names l)) (sym stood))))))))))
+                      c.as_str.ensures.value ∙ c.in_ok-longer.ensures s others ∙ ap (λ l. others_text (chosen names l)) (sym stood),
+                    ),
+                  ),
+                ),
+              ),
+            ),
+          ),
+        ),
+      ),
+    )
 
 pub returns-in_err-print_below-clause-err : goal.returns-in_err-print_below-clause-err
 returns-in_err-print_below-clause-err g t c =

@@ -1,4 +1,4 @@
-use Rattle.std.proofs.Common.{◌≡◌, ◌<◌, ◌++◌, [], List, ℕ, map, length, ap, ◌∙◌, arith, codes, string_bytes}
+use Rattle.std.proofs.Common.{◌<◌, ◌++◌, List, map, length, ap, ◌∙◌, arith, codes, string_bytes}
 use Rattle.std.proofs.lemmas.List.{length-map}
 use Rattle.hack_features.specs.Names.{Name}
 use Rattle.hack_features.specs.Feature.{name_of}

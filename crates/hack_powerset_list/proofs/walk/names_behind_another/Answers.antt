@@ -1,4 +1,4 @@
-use Rattle.std.proofs.Common.{◌≡◌, ◌<◌, ◌++◌, List, ℕ, map, length, get_or, ap, ◌∙◌, arith, codes, string_bytes}
+use Rattle.std.proofs.Common.{◌<◌, ◌++◌, List, ℕ, map, length, get_or, ap, ◌∙◌, arith, codes, string_bytes}
 use Rattle.std.proofs.lemmas.List.{length-map, get_or_default}
 use Rattle.hack_features.specs.Names.{Name}
 use Rattle.hack_features.specs.Feature.{name_of}

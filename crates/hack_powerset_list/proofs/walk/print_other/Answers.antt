@@ -1,4 +1,4 @@
-use Rattle.std.proofs.Common.{◌≡◌, ◌++◌, ◌∷◌, [], List, ℕ, map, filter, true, Bool, ap, ◌∙◌, sym, subst, string_bytes}
+use Rattle.std.proofs.Common.{◌≡◌, ◌++◌, ◌∷◌, [], List, ℕ, map, filter, true, ap, ◌∙◌, sym, subst, string_bytes}
 use Rattle.std.specs.Prelude.{not, bytes_eq}
 use Rattle.std.proofs.lemmas.Bool.{and_from}
 use Rattle.hack_term.specs.Writes.{AppendsFront}

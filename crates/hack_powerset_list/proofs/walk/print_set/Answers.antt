@@ -1,12 +1,11 @@
-use Rattle.std.proofs.Common.{◌≡◌, ◌<◌, ◌++◌, ◌∷◌, List, ℕ, map, length, ap, ◌∙◌, sym, arith, codes, string_bytes}
+use Rattle.std.proofs.Common.{◌≡◌, ◌<◌, ◌++◌, ◌∷◌, List, map, length, ap, ◌∙◌, arith, codes, string_bytes}
 use Rattle.std.proofs.lemmas.List.{length-map}
 use Rattle.hack_term.specs.Writes.{AppendsFront}
 use Rattle.hack_features.specs.Names.{Name}
 use Rattle.hack_features.specs.Feature.{name_of}
-use Rattle.hack_features.specs.Sets.{chosen}
 use Rattle.hack_plan.specs.Runs.{Set}
 use Rattle.hack_powerset_list.specs.Lines.{run_line}
-use Rattle.hack_powerset_list.specs.LineWords.{Prints, others_text}
+use Rattle.hack_powerset_list.specs.LineWords.{Prints}
 use Rattle.hack_powerset_list.proofs.PageLemmas.{on_ok-same, on_err-same}
 use Rattle.hack_powerset_list.proofs.WalkLemmas.{text-at, line-of}
 use Rattle.hack_powerset_list.proofs.walk.print_set.Goals as goal

@@ -1,4 +1,3 @@
-use Rattle.std.proofs.Common.{ℕ, List, drop, ◌≡◌, ap, ◌∙◌, arith}
 use Rattle.hack_powerset_list.proofs.RoomLemmas.{drop-one}
 use Rattle.hack_powerset_list.proofs.room.SetRoom.take.Goals as goal
 
