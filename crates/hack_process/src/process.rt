@@ -40,9 +40,15 @@ pub struct ProcessBuilder<'a> {
 impl<'a> ProcessBuilder<'a> {
     /// A command of one word.
     pub fn new(alloc: Global, program: &str) -> Result<ProcessBuilder<'a>, AllocError>
-        ensures { IfOk result (λ builder. command_of builder ≡ record
-            { program = program.now; strip_program_path = false; leading = []; passed = [];
-            own = []; features = None; trailing = [] }) }
+        ensures { IfOk result (λ builder. command_of builder ≡ record {
+          program = program.now;
+          strip_program_path = false;
+          leading = [];
+          passed = [];
+          own = [];
+          features = None;
+          trailing = [];
+        }) }
     {
         Ok(ProcessBuilder {
             program: String::from_str(alloc, program)?,

@@ -40,9 +40,12 @@ impl Model for Plan {
 
     ghost Value = { PlanView };
 
-    ghost view = { λ p. record { call = call_view p.words;
-        packages = map package_view p.packages.items; versions = p.versions.items;
-        quads = p.places.quads } };
+    ghost view = { λ p. record {
+      call = call_view p.words;
+      packages = map package_view p.packages.items;
+      versions = p.versions.items;
+      quads = p.places.quads;
+    } };
 
     ghost invariant = { λ p. AreRuns (map package_view p.packages.items) p.places.quads
         × AreTiled 0 (map span_of p.versions.items) (length p.places.quads) };
