@@ -171,7 +171,7 @@ listing depth (suc n) = listing_step depth n (sets_below depth n) (listing depth
 
 -- the items of the selections grow as the selections do
 
-slice_get-at : {X : Type 0} (items : List X) (p : ℕ) (d : X) → p < length items → slice_get items p ≡ Some (get_or items p d)
+pub slice_get-at : {X : Type 0} (items : List X) (p : ℕ) (d : X) → p < length items → slice_get items p ≡ Some (get_or items p d)
 slice_get-at [] p d h = absurd (omega arith)
 slice_get-at (x ∷ items) zero d h = refl
 slice_get-at (x ∷ items) (suc p) d h = slice_get-at items p d (omega arith)

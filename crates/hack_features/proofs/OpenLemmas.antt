@@ -1,10 +1,11 @@
 -- Places of sets that may have one more position, while sets are added.
-use Rattle.std.proofs.Common.{◌≡◌, ℕ, ◌+◌, ◌<◌, ◌≤◌, List, [], ◌∷◌, ◌++◌, length, get_or, take, map, filter, refl, sym, ◌∙◌, ap, subst, arith, Bool, true, false, cond, All, ◌⊎◌, inl, inr, length-append, append-nil, append_assoc}
+use Rattle.std.proofs.Common.{◌≡◌, ℕ, ◌+◌, ◌<◌, ◌≤◌, List, [], ◌∷◌, ◌++◌, length, get_or, take, map, filter, refl, sym, ◌∙◌, ap, subst, arith, Bool, true, false, cond, All, Some, IsTrue, ◌⊎◌, inl, inr, length-append, append-nil, append_assoc}
 use Rattle.std.proofs.lemmas.List.{map-append}
 use Rattle.std.proofs.lemmas.List.Elements.{All-head, All-tail, All-push, All-weaker, filter-append}
 use Rattle.std.proofs.Math.ListN.{get_or-append}
 use Rattle.std.proofs.Math.Seq.{get_or-append_seam}
 use Rattle.hack_features.specs.Questions.{with_next, AreOpen}
+use Rattle.hack_features.specs.Sets.{IsWithin}
 use Rattle.hack_features.proofs.Steps.{seen-next}
 
 -- the set at a place
@@ -65,10 +66,13 @@ not_true : (b : Bool) → ((b ≡ true) → ⊥) → b ≡ false
 not_true true h = absurd (h refl)
 not_true false h = refl
 
+-- a set that has more positions than a permitted one may have is refused
+pub too-long : (may : List ℕ → Bool) (most : ℕ) (t : List ℕ) → ((s : List ℕ) → IsTrue (may s) → IsWithin (Some most) s) → most < length t → may t ≡ false
+too-long may most t law lt = not_true (may t) (λ e. let few : length t ≤ most = law t e in omega (arith, few, lt))
+
 -- a set that has all positions that a permitted one may have is full
 pub full-at : (may : List ℕ → Bool) (most : ℕ) (t : List ℕ) → ((s : List ℕ) → may s ≡ true → length s ≤ most) → most ≤ length t → (next : ℕ) → may (t ++ next ∷ []) ≡ false
-full-at may most t law le next =
-    not_true (may (t ++ next ∷ [])) (λ e. let few : length (t ++ next ∷ []) ≤ most = law (t ++ next ∷ []) e in omega (arith, length-append t (next ∷ [])))
+full-at may most t law le next = too-long may most (t ++ next ∷ []) law (omega (arith, le, length-append t (next ∷ [])))
 
 -- after one question: the set at hand may have the next position or not, and has room behind it or not
 pub open-asked : (may : List ℕ → Bool) (most : ℕ) (sets new : List (List ℕ)) (places : List ℕ) (s : List ℕ) (next : ℕ) → ((t : List ℕ) → may t ≡ true → length t ≤ most) → new ≡ sets ++ with_next may next (s ∷ [])
