@@ -1,23 +1,14 @@
 -- The listed sets of a walk, one position more at a time.
-use Rattle.std.proofs.Common.{◌≡◌, ℕ, zero, suc, ◌+◌, ◌<◌, ◌≤◌, List, [], ◌∷◌, ◌++◌, length, refl, sym, ◌∙◌, ap, subst, arith, Bool, true, false, cond, filter, append-nil, append_assoc, Option, Some, None, inl, inr, ◌⊎◌, ◌≢◌}
-use Rattle.std.specs.Prelude.{Vec, not, ◌&&◌, eqb, if◌then◌else◌, is_some, MatchOption}
+use Rattle.std.proofs.Common.{◌≡◌, ℕ, zero, suc, ◌+◌, ◌<◌, ◌≤◌, List, [], ◌∷◌, ◌++◌, refl, sym, ◌∙◌, ap, subst, arith, Bool, true, false, cond, filter, append-nil, append_assoc, Option, Some, None, inl, inr}
+use Rattle.std.specs.Prelude.{Vec, if◌then◌else◌, is_some, MatchOption}
 use Rattle.std.proofs.lemmas.List.Elements.{filter-append}
 use Rattle.std.proofs.lemmas.Grind.{flat_map-append}
-use Rattle.std.proofs.lemmas.Bool.Decides.{eqb_tells}
 use Rattle.hack_features.specs.Names.{Name}
-use Rattle.hack_features.specs.Questions.{is_whole}
-use Rattle.hack_features.specs.Sets.{IsWithin}
+use Rattle.hack_features.proofs.Listing.{below_or_same}
 use Rattle.hack_plan.specs.Runs.{Set}
 use Rattle.hack_powerset_list.specs.Lines.{run_line}
 use Rattle.hack_features.specs.Walk.{below}
-use Rattle.hack_powerset_list.specs.Walks.{EndsIn, IsFull, set_lines}
-
-nonzero : (n : ℕ) → eqb (suc n) 0 ≡ false
-nonzero n = elim (eqb_tells (suc n) 0) [ inl e ↦ absurd (let z : suc n ≡ 0 = e.1 in omega arith) | inr w ↦ w.0 ]
-
--- a set with a position isn't empty
-pub whole-front : (whole : List ℕ → Bool) (p : ℕ) (s : List ℕ) → is_whole whole (p ∷ s) ≡ whole (p ∷ s)
-whole-front whole p s = ap (λ b. not b && whole (p ∷ s)) (nonzero (length s))
+use Rattle.hack_powerset_list.specs.Walks.{EndsIn, set_lines}
 
 module _ (test : List ℕ → Bool) (may : List ℕ → Bool) (q : ℕ) (s : List ℕ) where
   -- a position that is refused adds nothing
@@ -33,21 +24,13 @@ module _ (test : List ℕ → Bool) (may : List ℕ → Bool) (q : ℕ) (s : Lis
       ap (λ b. filter test (below may q s ++ (if b then (q ∷ s) ∷ below may q (q ∷ s) else []))) permitted
       ∙ filter-append test (below may q s) ((q ∷ s) ∷ below may q (q ∷ s))
 
-refused-front : (may : List ℕ → Bool) (most : Option ℕ) (s : List ℕ) (p : ℕ) → ((t : List ℕ) → may t ≡ true → IsWithin most t) → IsFull most (length s) → may (p ∷ s) ≡ false
-refused-front may None s p law full = absurd full
-refused-front may (Some most) s p law full = go (may (p ∷ s)) refl
-  where
-    go : (b : Bool) → may (p ∷ s) ≡ b → b ≡ false
-    go true e = absurd (let few : length (p ∷ s) ≤ most = law (p ∷ s) e in omega (arith, few, full))
-    go false e = refl
-
--- nothing is below a set that is full
-pub below-full : (may : List ℕ → Bool) (most : Option ℕ) (s : List ℕ) (p : ℕ) → ((t : List ℕ) → may t ≡ true → IsWithin most t) → IsFull most (length s) → below may p s ≡ []
-below-full may most s zero law full = refl
-below-full may most s (suc p) law full =
-    ap (λ b. below may p s ++ (if b then (p ∷ s) ∷ below may p (p ∷ s) else [])) (refused-front may most s p law full)
+-- nothing is below a set that no position may be put in front of
+pub below-full : (may : List ℕ → Bool) (s : List ℕ) (p : ℕ) → ((q : ℕ) → may (q ∷ s) ≡ false) → below may p s ≡ []
+below-full may s zero full = refl
+below-full may s (suc p) full =
+    ap (λ b. below may p s ++ (if b then (p ∷ s) ∷ below may p (p ∷ s) else [])) (full p)
     ∙ append-nil (below may p s)
-    ∙ below-full may most s p law full
+    ∙ below-full may s p full
 
 -- the last of a list, where there is one
 abbrev pub Ends : {Z : Type 0} → List (List ℕ) → Option (Vec ℕ Z) → Type 0
@@ -83,7 +66,7 @@ ends-here b x ys (Some t) set e none h is = absurd (let f : true ≡ false = non
 pub below-front : (test may : List ℕ → Bool) (s : List ℕ) (p limit : ℕ) → p ≤ limit → (rest : List (List ℕ)) × (filter test (below may limit s) ≡ filter test (below may p s) ++ rest)
 below-front test may s p zero le = ([], let same : zero ≡ p = omega arith in ap (λ n. filter test (below may n s)) same ∙ sym (append-nil (filter test (below may p s))))
 below-front test may s p (suc limit) le =
-    elim (lt_or_same p (suc limit) le) [
+    elim (below_or_same p (suc limit) (omega (arith, le))) [
       | inl w ↦
           let more = below-front test may s p limit (omega (arith, w)) in
           let added : List (List ℕ) = if may (limit ∷ s) then (limit ∷ s) ∷ below may limit (limit ∷ s) else [] in (
@@ -94,9 +77,6 @@ below-front test may s p (suc limit) le =
           )
       | inr e ↦ ([], ap (λ n. filter test (below may n s)) (sym e) ∙ sym (append-nil (filter test (below may p s))))
     ]
-  where
-    lt_or_same : (p n : ℕ) → p ≤ n → (suc p ≤ n) ⊎ (p ≡ n)
-    lt_or_same p n h = elim (eqb_tells p n) [ inl e ↦ inr e.1 | inr w ↦ inl (let ne : p ≢ n = w.1 in omega arith) ]
 
 -- the line of one set that passes a test
 pub line-alone : (names : List Name) (test : List ℕ → Bool) (x : List ℕ) → test x ≡ true → set_lines names (filter test (x ∷ [])) ≡ run_line names (Set x)

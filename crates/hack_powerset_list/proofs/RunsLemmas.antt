@@ -1,20 +1,17 @@
 -- The runs of a command list, from the listed sets.
-use Rattle.std.proofs.Common.{◌≡◌, ℕ, zero, suc, List, [], ◌∷◌, ◌++◌, length, map, refl, sym, ◌∙◌, ap, arith, Bool, true, false, length-append, append-nil, inl, inr, nat_lt, if◌then◌else◌}
+use Rattle.std.proofs.Common.{◌≡◌, ℕ, zero, suc, List, [], ◌∷◌, ◌++◌, length, map, refl, sym, ◌∙◌, ap, arith, Bool, true, false, length-append, append-nil, nat_lt, if◌then◌else◌}
 use Rattle.std.specs.Prelude.{not, ◌&&◌, ◌||◌, ◌==◌}
 use Rattle.std.proofs.lemmas.Bool.{lt-ltb}
-use Rattle.std.proofs.lemmas.Bool.Decides.{eqb_tells}
 use Rattle.std.proofs.lemmas.Grind.{flat_map-append}
 use Rattle.hack_features.specs.Names.{Name}
 use Rattle.hack_features.specs.declared.feature.Feature.{Feature}
+use Rattle.hack_features.proofs.Permitted.{nonzero}
 use Rattle.hack_plan.specs.declared.runs.RunOptions.{RunOptions}
 use Rattle.hack_plan.specs.Runs.{Plain, AllFeatures, NoDefaultFeatures, Set, kept, keeps_all, is_plain, in_turn, turned, last_first, allows_two, runs_from}
 use Rattle.hack_powerset_list.specs.declared.wishes.Wishes.{Wishes}
 use Rattle.hack_powerset_list.specs.ListRuns.{options_from}
 use Rattle.hack_powerset_list.specs.Lines.{run_line, run_lines}
 use Rattle.hack_powerset_list.specs.Walks.{set_lines}
-
-nonzero : (n : ℕ) → (suc n == 0) ≡ false
-nonzero n = elim (eqb_tells (suc n) 0) [ inl e ↦ absurd (let z : suc n ≡ 0 = e.1 in omega arith) | inr w ↦ w.0 ]
 
 and-false : (b : Bool) → (b && false) ≡ false
 and-false true = refl

@@ -1,26 +1,20 @@
 -- Sets of a walk, one more at a time, and their lines.
-use Rattle.std.proofs.Common.{◌≡◌, ℕ, zero, suc, ◌+◌, ◌<◌, ◌≤◌, List, [], ◌∷◌, ◌++◌, length, get_or, map, codes, refl, sym, ◌∙◌, ap, arith, append-nil, append_assoc, Some, None, String, Global, string_bytes, All, take}
-use Rattle.std.specs.Prelude.{slice_get}
+use Rattle.std.proofs.Common.{◌≡◌, ℕ, zero, suc, ◌+◌, ◌<◌, ◌≤◌, List, [], ◌∷◌, ◌++◌, length, get_or, map, codes, sym, ◌∙◌, ap, arith, append-nil, append_assoc, None, String, Global, string_bytes, All, take}
 use Rattle.std.specs.List.{join_with_byte, cons_option}
 use Rattle.std.proofs.lemmas.List.{get_or-map, length-map, take_more}
 use Rattle.std.proofs.lemmas.Grind.{flat_map-append}
 use Rattle.std.proofs.lemmas.List.Elements.{All-cons}
 use Rattle.hack_features.specs.Names.{Name, names_of}
 use Rattle.hack_features.specs.Sets.{chosen, IsSelection}
-use Rattle.hack_features.proofs.Listing.{chosen-push}
+use Rattle.hack_features.proofs.Listing.{chosen-push, slice_get-at}
 use Rattle.hack_process.specs.CommandTexts.{appended, shown_features}
 use Rattle.hack_plan.specs.Runs.{Set}
 use Rattle.hack_powerset_list.specs.Lines.{run_line}
 use Rattle.hack_powerset_list.specs.LineWords.{others_text}
 
-get-at : {X : Type 0} (xs : List X) (p : ℕ) (d : X) → p < length xs → slice_get xs p ≡ Some (get_or xs p d)
-get-at [] p d lt = absurd (omega arith)
-get-at (x ∷ xs) zero d lt = refl
-get-at (x ∷ xs) (suc p) d lt = get-at xs p d (omega arith)
-
 -- the names of a set with one position in front
 pub chosen-front : (names : List Name) (p : ℕ) (s : List ℕ) → p < length names → chosen names (p ∷ s) ≡ get_or names p [] ∷ chosen names s
-chosen-front names p s lt = ap (λ o. cons_option o (chosen names s)) (get-at names p [] lt)
+chosen-front names p s lt = ap (λ o. cons_option o (chosen names s)) (slice_get-at names p [] lt)
 
 joined : (name : Name) (names : List Name) → join_with_byte 44 (name ∷ names) ≡ name ++ others_text names
 joined name [] = sym (append-nil name)

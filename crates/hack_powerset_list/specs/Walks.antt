@@ -1,5 +1,5 @@
 -- Which sets a walk lists, and their lines.
-use Rattle.std.specs.Prelude.{◌≡◌, ◌≤◌, ℕ, List, [], ◌∷◌, ◌++◌, Bool, ◌&&◌, not, filter, flat_map, Option, IsSomeAnd, bytes_eq}
+use Rattle.std.specs.Prelude.{◌≡◌, ℕ, List, [], ◌∷◌, ◌++◌, Bool, ◌&&◌, not, filter, flat_map, bytes_eq}
 use Rattle.hack_features.specs.declared.rules.Rules.{Rules}
 use Rattle.hack_features.specs.Names.{Name}
 use Rattle.hack_features.specs.Questions.{is_whole}
@@ -15,10 +15,6 @@ listed_below r p s = filter (is_whole (whole_of r)) (below (may_of r) p s)
 -- the sets that are listed
 abbrev pub listed_in : Rules → List (List ℕ)
 listed_in r = listed_below r (size_of r) []
-
--- no position is put in front of so many
-abbrev pub IsFull : Option ℕ → ℕ → Type 0
-IsFull most positions = IsSomeAnd most (λ m. m ≤ positions)
 
 -- the list ends in the element
 pub record EndsIn {X : Type 0} (xs : List X) (last : X) : Type 0 where

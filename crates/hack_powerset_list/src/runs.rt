@@ -1,14 +1,12 @@
 //! The lines of all runs of a command list.
 
-ghost use Rattle.std.specs.Prelude.{◌≡◌, ◌<◌, ◌≤◌, ◌++◌, [], ◌∷◌, ℕ, List, length, map, not};
-ghost use Rattle.std.specs.Prelude.{string_bytes, IsTrue, OnOk, OnErr, if◌then◌else◌, nat_lt};
+ghost use Rattle.std.specs.Prelude.{◌≡◌, ◌++◌, [], ◌∷◌, length, map, string_bytes, OnOk, OnErr};
+ghost use Rattle.std.specs.Prelude.{if◌then◌else◌};
 ghost use Rattle.std.specs.Io.KnownBytes.{Appends};
 ghost use Rattle.hack_features.specs.Feature.{name_of};
-ghost use Rattle.hack_features.specs.Sets.{IsSelection, IsWithin};
-ghost use Rattle.hack_features.specs.View.{may_of, size_of};
+ghost use Rattle.hack_features.specs.View.{size_of};
 ghost use Rattle.hack_term.specs.Writes.{AppendsFront};
-ghost use Rattle.hack_plan.specs.Runs.{Plain, NoDefaultFeatures, allows_two, kept, runs_from};
-ghost use Rattle.hack_plan.specs.Runs.{turned};
+ghost use Rattle.hack_plan.specs.Runs.{Plain, NoDefaultFeatures, kept, runs_from, turned};
 ghost use Rattle.hack_powerset_list.specs.Lines.{run_lines};
 ghost use Rattle.hack_powerset_list.specs.LineWords.{Prints};
 ghost use Rattle.hack_powerset_list.specs.LinesView.{AreTexts};
@@ -21,20 +19,11 @@ use crate::room::SetRoom;
 use crate::walk::{SetLines, last_below, print_below, print_whole};
 use crate::wishes::Wishes;
 use crate::writes::write_text;
-use hack_features::{Feature, Questions, Rules};
+use hack_features::{Feature, Rules};
+use hack_plan::runs::fits_two;
 use std::alloc::Global;
 use std::io;
 use std::io::Write;
-
-/// Whether the last set runs before the others: where two features fit the depth.
-fn puts_last_first(depth: Option<usize>) -> bool
-    ensures { result ≡ allows_two depth }
-{
-    match depth {
-        None => true,
-        Some(depth) => depth > 1,
-    }
-}
 
 /// Prints the line of the run before those of sets: a plain one, or one without default features,
 /// unless these are wanted.
@@ -74,8 +63,6 @@ fn print_sets<W: Write>(
 ) -> io::Result<()>
     requires texts { AreTexts (map name_of lines.now.features.now) lines.now.texts.now }
     requires size { size_of lines.now.rules.now ≡ length lines.now.features.now }
-    requires most { (s : List ℕ) → IsTrue (may_of lines.now.rules.now s)
-        → IsWithin lines.now.most s }
     requires room { most_in room.old ≡ size_of lines.now.rules.now }
     requires none { set_in room.old ≡ [] }
     requires last { EndsIn (listed_in lines.now.rules.now) lines.now.last.now }
@@ -115,9 +102,8 @@ fn print_runs<W: Write>(
         (runs_from (options_from wishes.now features.now) (listed_in rules.now)))) }
 {
     let texts = Texts::of_check(alloc, features)?;
-    let most = rules.most();
     let mut room = SetRoom::new(alloc, features.len())?;
-    let last = last_below(alloc, rules, most, &mut room, features.len())?;
+    let last = last_below(alloc, rules, &mut room, features.len())?;
     let bare = wishes.at_least_one_of.is_empty();
     let Some(last) = last else {
         return print_front(features, &texts, features.is_empty(), bare, page, out);
@@ -127,10 +113,9 @@ fn print_runs<W: Write>(
         features,
         rules,
         texts: &texts,
-        most,
         last: last.as_slice(),
     };
-    let last_first = puts_last_first(wishes.depth);
+    let last_first = fits_two(wishes.depth);
     print_sets(alloc, &lines, last_first, &mut room, page, out)
 }
 

@@ -1,10 +1,10 @@
 //! The listed sets, one after the other, without keeping them.
 
 ghost use Rattle.std.specs.Prelude.{◌≡◌, ◌<◌, ◌≤◌, ◌++◌, ◌∷◌, [], ℕ, List, All, filter, map};
-ghost use Rattle.std.specs.Prelude.{length, IfOk, OnOk, OnErr, IsTrue, MatchOption, codes};
+ghost use Rattle.std.specs.Prelude.{length, IfOk, OnOk, OnErr, IsTrue, MatchOption, false};
 ghost use Rattle.std.specs.Prelude.{string_bytes};
 ghost use Rattle.hack_features.specs.Feature.{name_of};
-ghost use Rattle.hack_features.specs.Sets.{IsSelection, IsWithin, chosen};
+ghost use Rattle.hack_features.specs.Sets.{IsSelection, chosen};
 ghost use Rattle.hack_features.specs.View.{may_of, size_of};
 ghost use Rattle.hack_term.specs.Writes.{AppendsFront};
 ghost use Rattle.hack_plan.specs.Runs.{Set};
@@ -13,7 +13,7 @@ ghost use Rattle.hack_powerset_list.specs.LineWords.{Prints, others_text};
 ghost use Rattle.hack_powerset_list.specs.LinesView.{AreTexts};
 ghost use Rattle.hack_powerset_list.specs.Room.{set_in, most_in};
 ghost use Rattle.hack_features.specs.Walk.{below};
-ghost use Rattle.hack_powerset_list.specs.Walks.{EndsIn, IsFull, is_other, listed_below, set_lines};
+ghost use Rattle.hack_powerset_list.specs.Walks.{EndsIn, is_other, listed_below, set_lines};
 
 use crate::lines::{Texts, print_line};
 use crate::room::SetRoom;
@@ -23,10 +23,11 @@ use std::io;
 use std::io::Write;
 
 /// Whether no position may be put in front of a permitted set of so many.
-fn is_full(most: Option<usize>, positions: usize) -> bool
-    ensures { IsTrue result → IsFull most positions }
+fn is_full(rules: &Rules, positions: usize) -> bool
+    ensures { IsTrue result → (s : List ℕ) → length s ≡ positions
+        → (p : ℕ) → may_of rules.now (p ∷ s) ≡ false }
 {
-    match most {
+    match rules.most() {
         None => false,
         Some(most) => positions >= most,
     }
@@ -36,11 +37,9 @@ fn is_full(most: Option<usize>, positions: usize) -> bool
 pub fn last_below(
     alloc: Global,
     rules: &Rules,
-    most: Option<usize>,
     room: &mut SetRoom,
     limit: usize,
 ) -> Result<Option<Vec<usize>>, AllocError>
-    requires most { (s : List ℕ) → IsTrue (may_of rules.now s) → IsWithin most s }
     requires room { most_in room.old ≡ size_of rules.now }
     requires set { IsSelection (size_of rules.now) (set_in room.old) }
     requires above { All (λ p. limit ≤ p) (set_in room.old) }
@@ -51,7 +50,7 @@ pub fn last_below(
     ensures kept { OnOk result (set_in room.new ≡ set_in room.old) }
     ensures room { most_in room.new ≡ most_in room.old }
 {
-    if is_full(most, room.set().len()) {
+    if is_full(rules, room.set().len()) {
         return Ok(None);
     }
     let mut p = limit;
@@ -61,7 +60,7 @@ pub fn last_below(
             continue;
         }
         room.put(p);
-        let mut last = last_below(alloc, rules, most, room, p)?;
+        let mut last = last_below(alloc, rules, room, p)?;
         if last.is_none() && rules.complete(room.set()) {
             last = Some(Vec::from_slice(alloc, room.set())?);
         }
@@ -74,13 +73,11 @@ pub fn last_below(
 }
 
 /// What the lines of sets are printed from.
-#[derive(Clone, Copy)]
+#[derive(Drop)]
 pub struct SetLines<'a, 'f> {
     pub features: &'a [Feature],
     pub rules: &'a Rules<'f>,
     pub texts: &'a Texts,
-    /// How many positions a permitted set has at most, where the rules say so.
-    pub most: Option<usize>,
     /// The set whose line stands elsewhere.
     pub last: &'a [usize],
 }
@@ -178,8 +175,6 @@ pub fn print_below<W: Write>(
 ) -> io::Result<()>
     requires texts { AreTexts (map name_of lines.now.features.now) lines.now.texts.now }
     requires size { size_of lines.now.rules.now ≡ length lines.now.features.now }
-    requires most { (s : List ℕ) → IsTrue (may_of lines.now.rules.now s)
-        → IsWithin lines.now.most s }
     requires room { most_in room.old ≡ size_of lines.now.rules.now }
     requires set { IsSelection (size_of lines.now.rules.now) (set_in room.old) }
     requires above { All (λ p. limit ≤ p) (set_in room.old) }
@@ -198,16 +193,13 @@ pub fn print_below<W: Write>(
     ensures kept { OnOk result (set_in room.new ≡ set_in room.old) }
     ensures room { most_in room.new ≡ most_in room.old }
 {
-    if is_full(lines.most, room.set().len()) {
-        return Ok(());
-    }
     for p in 0..limit {
         if !lines.rules.may_begin(p, room.set()) {
             continue;
         }
         room.put(p);
         print_other(lines, room.set(), p, others, page, out)?;
-        if p > 0 {
+        if p > 0 && !is_full(lines.rules, room.set().len()) {
             let longer = longer(alloc, lines.features, lines.texts, p, others)?;
             print_below(alloc, lines, room, longer.as_str(), p, page, out)?;
         }

@@ -127,8 +127,8 @@ returns-clause-ok g c =
     let is : all ≡ front ++ lines =
     runs-some w fs sets ends.front last ends.same names
     ∙ ap (λ b. run_lines names (kept b NoDefaultFeatures) ++ lines) (sym bare) in
-    let shown : set_lines (map name_of c.args.features.now) (turned c.puts_last_first-last_first.result sets) ≡ lines =
-    ap (λ b. set_lines names (turned b sets)) c.puts_last_first-last_first.ensures in
+    let shown : set_lines (map name_of c.args.features.now) (turned c.fits_two-last_first.result sets) ≡ lines =
+    ap (λ b. set_lines names (turned b sets)) c.fits_two-last_first.ensures in
     on_ok-then c.print_sets.result _ _
     (λ h. subst (Prints (g.W.Write.contents c.args.out.now) (g.W.Write.contents c.print_sets.new.out) page (string_bytes c.print_sets.new.page)) (sym is)
     (prints-then _ _ _ page (string_bytes c.print_front-2.new.page) (string_bytes c.print_sets.new.page) front lines c.in_ok-print_front.ensures.ok
@@ -156,8 +156,8 @@ returns-clause-err g c =
     let is : all ≡ front ++ lines =
     runs-some w fs sets ends.front last ends.same names
     ∙ ap (λ b. run_lines names (kept b NoDefaultFeatures) ++ lines) (sym bare) in
-    let shown : set_lines (map name_of c.args.features.now) (turned c.puts_last_first-last_first.result sets) ≡ lines =
-    ap (λ b. set_lines names (turned b sets)) c.puts_last_first-last_first.ensures in
+    let shown : set_lines (map name_of c.args.features.now) (turned c.fits_two-last_first.result sets) ≡ lines =
+    ap (λ b. set_lines names (turned b sets)) c.fits_two-last_first.ensures in
     on_err-then c.print_sets.result _ _
     (λ h. prints-stopped _ _ _ page (string_bytes c.print_front-2.new.page) front lines [] all c.in_ok-print_front.ensures.ok
     (subst (λ l. AppendsFront (g.W.Write.contents c.print_front-2.new.out) (g.W.Write.contents c.print_sets.new.out) (string_bytes c.print_front-2.new.page ++ l)) shown h)

@@ -2,18 +2,19 @@ use Rattle.std.proofs.Common.{◌≡◌, ◌∙◌, ◌<◌, ◌≤◌, ◌-◌,
 use Rattle.std.specs.Prelude.{not}
 use Rattle.hack_features.specs.Questions.{is_whole}
 use Rattle.hack_features.specs.View.{may_of, size_of, whole_of}
-use Rattle.hack_powerset_list.specs.Walks.{IsFull, listed_below}
+use Rattle.hack_features.proofs.Permitted.{whole-cons}
+use Rattle.hack_powerset_list.specs.Walks.{listed_below}
 use Rattle.hack_powerset_list.specs.Room.{set_in}
 use Rattle.hack_powerset_list.proofs.WalkLemmas.{selection-front, selection-short, above-front}
-use Rattle.hack_powerset_list.proofs.ListedLemmas.{Ends, whole-front, below-skip, below-step, below-full, ends-append, ends-none, ends-kept, ends-left_out, ends-here}
+use Rattle.hack_powerset_list.proofs.ListedLemmas.{Ends, below-skip, below-step, below-full, ends-append, ends-none, ends-kept, ends-left_out, ends-here}
 use Rattle.hack_powerset_list.proofs.walk.+last_below.Goals as goal
 use Rattle.hack_powerset_list.proofs.walk.+last_below.Goals.{then-is_none+then-complete+in_ok-from_slice, else-is_none, else-is_none-via-then-is_none+else-complete, else-is_none-via-else-is_none}
 
 pub returns-then-is_full-clause-last : goal.returns-then-is_full-clause-last
 returns-then-is_full-clause-last t c =
     let r = c.args.rules.now in
-    let full : IsFull c.args.most (length (set_in c.args.room.now)) = subst (λ l. IsFull c.args.most (length l)) c.set.ensures (c.is_full.ensures c.if-is_full.true) in
-    ap (filter (is_whole (whole_of r))) (below-full (may_of r) c.args.most (set_in c.args.room.now) c.args.limit c.requires.most full)
+    let s : List ℕ = set_in c.args.room.now in
+    ap (filter (is_whole (whole_of r))) (below-full (may_of r) s c.args.limit (c.is_full.ensures c.if-is_full.true s (ap length (sym c.set.ensures))))
 
 pub loop-p-preserved-then-not-may_begin : goal.loop-p-preserved-then-not-may_begin
 loop-p-preserved-then-not-may_begin t c =
@@ -60,7 +61,7 @@ returns-then-is_some-clause-last t c =
       | then-is_none+then-complete+in_ok-from_slice w ↦
           let set : set_in c.last_below.new.room ≡ q ∷ s = c.in_ok-last.ensures.kept ∙ stood in
           let complete : is_whole whole (q ∷ s) ≡ true =
-          whole-front whole q s ∙ ap whole (sym (w.set-then-is_none.ensures ∙ set)) ∙ sym w.complete.ensures.answer ∙ w.if-complete.true in
+          whole-cons whole q s ∙ ap whole (sym (w.set-then-is_none.ensures ∙ set)) ∙ sym w.complete.ensures.answer ∙ w.if-complete.true in
           subst (Ends H) (sym w.last-is)
           (ends-here (is_whole whole (q ∷ s)) (q ∷ s) L c.in_ok-last.last w.in_ok-from_slice.field-0 complete (c.is_none.ensures ∙ ap not w.if-is_none.true) rec
           (w.in_ok-from_slice.ensures.items ∙ w.set-then-complete.ensures ∙ set))
@@ -70,7 +71,7 @@ returns-then-is_some-clause-last t c =
             | else-is_none-via-then-is_none+else-complete w' ↦
                 let set : set_in c.last_below.new.room ≡ q ∷ s = c.in_ok-last.ensures.kept ∙ stood in
                 ends-left_out (is_whole whole (q ∷ s)) (q ∷ s) L c.in_ok-last.last
-                (whole-front whole q s ∙ ap whole (sym (w'.set-then-is_none.ensures ∙ set)) ∙ sym w'.complete.ensures.answer ∙ w'.if-complete.false) rec
+                (whole-cons whole q s ∙ ap whole (sym (w'.set-then-is_none.ensures ∙ set)) ∙ sym w'.complete.ensures.answer ∙ w'.if-complete.false) rec
             | else-is_none-via-else-is_none w' ↦ ends-kept (is_whole whole (q ∷ s)) (q ∷ s) L c.in_ok-last.last (c.is_none.ensures ∙ ap not w'.if-is_none.false) rec
           ])
     ] in
@@ -96,7 +97,7 @@ loop-p-preserved t c =
       | then-is_none+then-complete+in_ok-from_slice w ↦
           let set : set_in c.last_below.new.room ≡ q ∷ s = c.in_ok-last.ensures.kept ∙ stood in
           let complete : is_whole whole (q ∷ s) ≡ true =
-          whole-front whole q s ∙ ap whole (sym (w.set-then-is_none.ensures ∙ set)) ∙ sym w.complete.ensures.answer ∙ w.if-complete.true in
+          whole-cons whole q s ∙ ap whole (sym (w.set-then-is_none.ensures ∙ set)) ∙ sym w.complete.ensures.answer ∙ w.if-complete.true in
           subst (Ends H) (sym w.last-is)
           (ends-here (is_whole whole (q ∷ s)) (q ∷ s) L c.in_ok-last.last w.in_ok-from_slice.field-0 complete (c.is_none.ensures ∙ ap not w.if-is_none.true) rec
           (w.in_ok-from_slice.ensures.items ∙ w.set-then-complete.ensures ∙ set))
@@ -106,7 +107,7 @@ loop-p-preserved t c =
             | else-is_none-via-then-is_none+else-complete w' ↦
                 let set : set_in c.last_below.new.room ≡ q ∷ s = c.in_ok-last.ensures.kept ∙ stood in
                 ends-left_out (is_whole whole (q ∷ s)) (q ∷ s) L c.in_ok-last.last
-                (whole-front whole q s ∙ ap whole (sym (w'.set-then-is_none.ensures ∙ set)) ∙ sym w'.complete.ensures.answer ∙ w'.if-complete.false) rec
+                (whole-cons whole q s ∙ ap whole (sym (w'.set-then-is_none.ensures ∙ set)) ∙ sym w'.complete.ensures.answer ∙ w'.if-complete.false) rec
             | else-is_none-via-else-is_none w' ↦ ends-kept (is_whole whole (q ∷ s)) (q ∷ s) L c.in_ok-last.last (c.is_none.ensures ∙ ap not w'.if-is_none.false) rec
           ])
     ] in

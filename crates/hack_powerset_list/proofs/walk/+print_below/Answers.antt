@@ -7,25 +7,12 @@ use Rattle.hack_features.specs.View.{may_of, size_of}
 use Rattle.hack_powerset_list.specs.LineWords.{Prints, others_text}
 use Rattle.hack_powerset_list.specs.Room.{set_in, most_in}
 use Rattle.hack_features.specs.Walk.{below}
-use Rattle.hack_powerset_list.specs.Walks.{IsFull, is_other, set_lines}
+use Rattle.hack_powerset_list.specs.Walks.{is_other, set_lines}
 use Rattle.hack_powerset_list.proofs.PageLemmas.{prints-none, prints-then, prints-front, prints-stopped, on_err-any}
 use Rattle.hack_powerset_list.proofs.WalkLemmas.{selection-front, selection-short, above-front, above-cons}
 use Rattle.hack_powerset_list.proofs.ListedLemmas.{below-full, lines_below, line_at, lines_under, text-step, text-skip, text-all}
 use Rattle.hack_powerset_list.proofs.walk.+print_below.Goals as goal
-use Rattle.hack_powerset_list.proofs.walk.+print_below.Goals.{then-p-gt0+in_ok-longer+in_ok-print_below, else-p-gt0}
-
-pub returns-then-is_full-clause-ok : goal.returns-then-is_full-clause-ok
-returns-then-is_full-clause-ok g t c =
-    let asked = c.requires.1.1.1 in
-    let r = c.args.lines.now.rules.now in
-    let n : ℕ = size_of r in
-    let may : List ℕ → Bool = may_of r in
-    let test : List ℕ → Bool = is_other r c.args.lines.now.last.now in
-    let names : List Name = map name_of c.args.lines.now.features.now in
-    let s : List ℕ = set_in c.args.room.now in
-    let full : IsFull c.args.lines.now.most (length s) = subst (λ l. IsFull c.args.lines.now.most (length l)) c.set.ensures (c.is_full.ensures c.if-is_full.true) in
-    subst (λ l. Prints (g.W.Write.contents c.args.out.now) (g.W.Write.contents c.args.out.now) (string_bytes c.args.page.now) (string_bytes c.args.page.now) (set_lines names (filter test l)))
-    (sym (below-full may c.args.lines.now.most s c.args.limit asked.1.1.0 full)) (prints-none (g.W.Write.contents c.args.out.now) (string_bytes c.args.page.now))
+use Rattle.hack_powerset_list.proofs.walk.+print_below.Goals.{then-p-gt0+then-not-is_full+in_ok-longer+in_ok-print_below, else-p-gt0, else-p-gt0-via-then-p-gt0+else-not-is_full, else-p-gt0-via-else-p-gt0}
 
 pub may_begin-requires : goal.may_begin-requires
 may_begin-requires g t c =
@@ -39,8 +26,8 @@ may_begin-requires g t c =
     let p : ℕ = c.loop-p.p in
     let lt : p < c.args.limit = c.loop-p-test.true in
     let selection : IsSelection n (p ∷ s) =
-    selection-front n p s (omega (arith, lt, asked.1.1.1.1.1.1.0)) (above-front c.args.limit p s lt asked.1.1.1.1.1.0) asked.1.1.1.1.0 in
-    subst (λ l. IsSelection n (p ∷ l)) (sym (c.set-in-loop-p.ensures ∙ c.loop-p.invariant.kept)) selection
+    selection-front n p s (omega (arith, lt, asked.1.1.1.1.1.0)) (above-front c.args.limit p s lt asked.1.1.1.1.0) asked.1.1.1.0 in
+    subst (λ l. IsSelection n (p ∷ l)) (sym (c.set.ensures ∙ c.loop-p.invariant.kept)) selection
 
 pub loop-p-preserved-then-not-may_begin : goal.loop-p-preserved-then-not-may_begin
 loop-p-preserved-then-not-may_begin g t c =
@@ -53,7 +40,7 @@ loop-p-preserved-then-not-may_begin g t c =
     let s : List ℕ = set_in c.args.room.now in
     let p : ℕ = c.loop-p.p in
     let refused : may (p ∷ s) ≡ false =
-    ap (λ l. may (p ∷ l)) (sym (c.set-in-loop-p.ensures ∙ c.loop-p.invariant.kept)) ∙ sym c.may_begin.ensures.answer ∙ c.if-not-may_begin.true in
+    ap (λ l. may (p ∷ l)) (sym (c.set.ensures ∙ c.loop-p.invariant.kept)) ∙ sym c.may_begin.ensures.answer ∙ c.if-not-may_begin.true in
     record {
       printed = subst (Prints (g.W.Write.contents c.args.out.now) (g.W.Write.contents c.loop-p.out) (string_bytes c.args.page.now) (string_bytes c.loop-p.page))
           (sym (text-skip names test may s p refused)) c.loop-p.invariant.printed;
@@ -73,8 +60,8 @@ put-requires g t c =
     let p : ℕ = c.loop-p.p in
     let lt : p < c.args.limit = c.loop-p-test.true in
     let selection : IsSelection n (p ∷ s) =
-    selection-front n p s (omega (arith, lt, asked.1.1.1.1.1.1.0)) (above-front c.args.limit p s lt asked.1.1.1.1.1.0) asked.1.1.1.1.0 in
-    omega (arith, selection-short n (p ∷ s) selection, ap length c.loop-p.invariant.kept, c.loop-p.invariant.room, asked.1.1.1.0)
+    selection-front n p s (omega (arith, lt, asked.1.1.1.1.1.0)) (above-front c.args.limit p s lt asked.1.1.1.1.0) asked.1.1.1.0 in
+    omega (arith, selection-short n (p ∷ s) selection, ap length c.loop-p.invariant.kept, c.loop-p.invariant.room, asked.1.1.0)
 
 pub print_other-requires-clause-set : goal.print_other-requires-clause-set
 print_other-requires-clause-set g t c =
@@ -88,8 +75,8 @@ print_other-requires-clause-set g t c =
     let p : ℕ = c.loop-p.p in
     let lt : p < c.args.limit = c.loop-p-test.true in
     let selection : IsSelection n (p ∷ s) =
-    selection-front n p s (omega (arith, lt, asked.1.1.1.1.1.1.0)) (above-front c.args.limit p s lt asked.1.1.1.1.1.0) asked.1.1.1.1.0 in
-    subst (IsSelection n) (sym (c.set-in-loop-p-2.ensures ∙ c.put.ensures.set ∙ ap (λ l. p ∷ l) c.loop-p.invariant.kept)) selection
+    selection-front n p s (omega (arith, lt, asked.1.1.1.1.1.0)) (above-front c.args.limit p s lt asked.1.1.1.1.0) asked.1.1.1.0 in
+    subst (IsSelection n) (sym (c.set-in-loop-p.ensures ∙ c.put.ensures.set ∙ ap (λ l. p ∷ l) c.loop-p.invariant.kept)) selection
 
 pub returns-in_err-print_other-clause-err : goal.returns-in_err-print_other-clause-err
 returns-in_err-print_other-clause-err g t c =
@@ -103,12 +90,12 @@ returns-in_err-print_other-clause-err g t c =
     let p : ℕ = c.loop-p.p in
     let lt : p < c.args.limit = c.loop-p-test.true in
     let selection : IsSelection n (p ∷ s) =
-    selection-front n p s (omega (arith, lt, asked.1.1.1.1.1.1.0)) (above-front c.args.limit p s lt asked.1.1.1.1.1.0) asked.1.1.1.1.0 in
+    selection-front n p s (omega (arith, lt, asked.1.1.1.1.1.0)) (above-front c.args.limit p s lt asked.1.1.1.1.0) asked.1.1.1.0 in
     let permitted : may (p ∷ s) ≡ true =
-    ap (λ l. may (p ∷ l)) (sym (c.set-in-loop-p.ensures ∙ c.loop-p.invariant.kept)) ∙ sym c.may_begin.ensures.answer ∙ c.if-not-may_begin.false in
+    ap (λ l. may (p ∷ l)) (sym (c.set.ensures ∙ c.loop-p.invariant.kept)) ∙ sym c.may_begin.ensures.answer ∙ c.if-not-may_begin.false in
     let stood : set_in c.put.new.self ≡ p ∷ s = c.put.ensures.set ∙ ap (λ l. p ∷ l) c.loop-p.invariant.kept in
-    let set : c.set-in-loop-p-2.result.now ≡ p ∷ s = c.set-in-loop-p-2.ensures ∙ stood in
-    let others : c.args.others.now ≡ others_text (chosen names s) = asked.1.1.1.1.1.1.1 in
+    let set : c.set-in-loop-p.result.now ≡ p ∷ s = c.set-in-loop-p.ensures ∙ stood in
+    let others : c.args.others.now ≡ others_text (chosen names s) = asked.1.1.1.1.1.1 in
     let all = text-all names test may s p c.args.limit lt permitted in
     let stopped : AppendsFront (g.W.Write.contents c.loop-p.out) (g.W.Write.contents c.print_other.new.out) (string_bytes c.loop-p.page ++ line_at names test may s p) =
     subst (λ x. AppendsFront (g.W.Write.contents c.loop-p.out) (g.W.Write.contents c.print_other.new.out) (string_bytes c.loop-p.page ++ set_lines names (filter test (x ∷ []))))
@@ -129,12 +116,12 @@ returns-in_err-longer-clause-err g t c =
     let p : ℕ = c.loop-p.p in
     let lt : p < c.args.limit = c.loop-p-test.true in
     let selection : IsSelection n (p ∷ s) =
-    selection-front n p s (omega (arith, lt, asked.1.1.1.1.1.1.0)) (above-front c.args.limit p s lt asked.1.1.1.1.1.0) asked.1.1.1.1.0 in
+    selection-front n p s (omega (arith, lt, asked.1.1.1.1.1.0)) (above-front c.args.limit p s lt asked.1.1.1.1.0) asked.1.1.1.0 in
     let permitted : may (p ∷ s) ≡ true =
-    ap (λ l. may (p ∷ l)) (sym (c.set-in-loop-p.ensures ∙ c.loop-p.invariant.kept)) ∙ sym c.may_begin.ensures.answer ∙ c.if-not-may_begin.false in
+    ap (λ l. may (p ∷ l)) (sym (c.set.ensures ∙ c.loop-p.invariant.kept)) ∙ sym c.may_begin.ensures.answer ∙ c.if-not-may_begin.false in
     let stood : set_in c.put.new.self ≡ p ∷ s = c.put.ensures.set ∙ ap (λ l. p ∷ l) c.loop-p.invariant.kept in
-    let set : c.set-in-loop-p-2.result.now ≡ p ∷ s = c.set-in-loop-p-2.ensures ∙ stood in
-    let others : c.args.others.now ≡ others_text (chosen names s) = asked.1.1.1.1.1.1.1 in
+    let set : c.set-in-loop-p.result.now ≡ p ∷ s = c.set-in-loop-p.ensures ∙ stood in
+    let others : c.args.others.now ≡ others_text (chosen names s) = asked.1.1.1.1.1.1 in
     let all = text-all names test may s p c.args.limit lt permitted in
     let line : Prints (g.W.Write.contents c.loop-p.out) (g.W.Write.contents c.print_other.new.out) (string_bytes c.loop-p.page) (string_bytes c.print_other.new.page) (line_at names test may s p) =
     subst (λ x. Prints (g.W.Write.contents c.loop-p.out) (g.W.Write.contents c.print_other.new.out) (string_bytes c.loop-p.page) (string_bytes c.print_other.new.page) (set_lines names (filter test (x ∷ []))))
@@ -157,9 +144,9 @@ print_below-requires g t c κs within =
     let p : ℕ = c.loop-p.p in
     let lt : p < c.args.limit = c.loop-p-test.true in
     let selection : IsSelection n (p ∷ s) =
-    selection-front n p s (omega (arith, lt, asked.1.1.1.1.1.1.0)) (above-front c.args.limit p s lt asked.1.1.1.1.1.0) asked.1.1.1.1.0 in
+    selection-front n p s (omega (arith, lt, asked.1.1.1.1.1.0)) (above-front c.args.limit p s lt asked.1.1.1.1.0) asked.1.1.1.0 in
     let stood : set_in c.put.new.self ≡ p ∷ s = c.put.ensures.set ∙ ap (λ l. p ∷ l) c.loop-p.invariant.kept in
-    let others : c.args.others.now ≡ others_text (chosen names s) = asked.1.1.1.1.1.1.1 in (
+    let others : c.args.others.now ≡ others_text (chosen names s) = asked.1.1.1.1.1.1 in (
       omega (arith, lt),
       (
         within,
@@ -168,17 +155,14 @@ print_below-requires g t c κs within =
           (
             asked.1.0,
             (
-              asked.1.1.0,
+              c.put.ensures.most ∙ c.loop-p.invariant.room ∙ asked.1.1.0,
               (
-                c.put.ensures.most ∙ c.loop-p.invariant.room ∙ asked.1.1.1.0,
+                subst (IsSelection n) (sym stood) selection,
                 (
-                  subst (IsSelection n) (sym stood) selection,
+                  subst (All (λ q. p ≤ q)) (sym stood) (above-cons p s (above-front c.args.limit p s lt asked.1.1.1.1.0)),
                   (
-                    subst (All (λ q. p ≤ q)) (sym stood) (above-cons p s (above-front c.args.limit p s lt asked.1.1.1.1.1.0)),
-                    (
-                      omega (arith, lt, asked.1.1.1.1.1.1.0),
-                      c.as_str.ensures.value ∙ c.in_ok-longer.ensures s others ∙ ap (λ l. others_text (chosen names l)) (sym stood),
-                    ),
+                    omega (arith, lt, asked.1.1.1.1.1.0),
+                    c.as_str.ensures.value ∙ c.in_ok-longer.ensures s others ∙ ap (λ l. others_text (chosen names l)) (sym stood),
                   ),
                 ),
               ),
@@ -200,12 +184,12 @@ returns-in_err-print_below-clause-err g t c =
     let p : ℕ = c.loop-p.p in
     let lt : p < c.args.limit = c.loop-p-test.true in
     let selection : IsSelection n (p ∷ s) =
-    selection-front n p s (omega (arith, lt, asked.1.1.1.1.1.1.0)) (above-front c.args.limit p s lt asked.1.1.1.1.1.0) asked.1.1.1.1.0 in
+    selection-front n p s (omega (arith, lt, asked.1.1.1.1.1.0)) (above-front c.args.limit p s lt asked.1.1.1.1.0) asked.1.1.1.0 in
     let permitted : may (p ∷ s) ≡ true =
-    ap (λ l. may (p ∷ l)) (sym (c.set-in-loop-p.ensures ∙ c.loop-p.invariant.kept)) ∙ sym c.may_begin.ensures.answer ∙ c.if-not-may_begin.false in
+    ap (λ l. may (p ∷ l)) (sym (c.set.ensures ∙ c.loop-p.invariant.kept)) ∙ sym c.may_begin.ensures.answer ∙ c.if-not-may_begin.false in
     let stood : set_in c.put.new.self ≡ p ∷ s = c.put.ensures.set ∙ ap (λ l. p ∷ l) c.loop-p.invariant.kept in
-    let set : c.set-in-loop-p-2.result.now ≡ p ∷ s = c.set-in-loop-p-2.ensures ∙ stood in
-    let others : c.args.others.now ≡ others_text (chosen names s) = asked.1.1.1.1.1.1.1 in
+    let set : c.set-in-loop-p.result.now ≡ p ∷ s = c.set-in-loop-p.ensures ∙ stood in
+    let others : c.args.others.now ≡ others_text (chosen names s) = asked.1.1.1.1.1.1 in
     let all = text-all names test may s p c.args.limit lt permitted in
     let line : Prints (g.W.Write.contents c.loop-p.out) (g.W.Write.contents c.print_other.new.out) (string_bytes c.loop-p.page) (string_bytes c.print_other.new.page) (line_at names test may s p) =
     subst (λ x. Prints (g.W.Write.contents c.loop-p.out) (g.W.Write.contents c.print_other.new.out) (string_bytes c.loop-p.page) (string_bytes c.print_other.new.page) (set_lines names (filter test (x ∷ []))))
@@ -231,12 +215,12 @@ loop-p-preserved g t c =
     let p : ℕ = c.loop-p.p in
     let lt : p < c.args.limit = c.loop-p-test.true in
     let selection : IsSelection n (p ∷ s) =
-    selection-front n p s (omega (arith, lt, asked.1.1.1.1.1.1.0)) (above-front c.args.limit p s lt asked.1.1.1.1.1.0) asked.1.1.1.1.0 in
+    selection-front n p s (omega (arith, lt, asked.1.1.1.1.1.0)) (above-front c.args.limit p s lt asked.1.1.1.1.0) asked.1.1.1.0 in
     let permitted : may (p ∷ s) ≡ true =
-    ap (λ l. may (p ∷ l)) (sym (c.set-in-loop-p.ensures ∙ c.loop-p.invariant.kept)) ∙ sym c.may_begin.ensures.answer ∙ c.if-not-may_begin.false in
+    ap (λ l. may (p ∷ l)) (sym (c.set.ensures ∙ c.loop-p.invariant.kept)) ∙ sym c.may_begin.ensures.answer ∙ c.if-not-may_begin.false in
     let stood : set_in c.put.new.self ≡ p ∷ s = c.put.ensures.set ∙ ap (λ l. p ∷ l) c.loop-p.invariant.kept in
-    let set : c.set-in-loop-p-2.result.now ≡ p ∷ s = c.set-in-loop-p-2.ensures ∙ stood in
-    let others : c.args.others.now ≡ others_text (chosen names s) = asked.1.1.1.1.1.1.1 in
+    let set : c.set-in-loop-p.result.now ≡ p ∷ s = c.set-in-loop-p.ensures ∙ stood in
+    let others : c.args.others.now ≡ others_text (chosen names s) = asked.1.1.1.1.1.1 in
     let all = text-all names test may s p c.args.limit lt permitted in
     let line : Prints (g.W.Write.contents c.loop-p.out) (g.W.Write.contents c.print_other.new.out) (string_bytes c.loop-p.page) (string_bytes c.print_other.new.page) (line_at names test may s p) =
     subst (λ x. Prints (g.W.Write.contents c.loop-p.out) (g.W.Write.contents c.print_other.new.out) (string_bytes c.loop-p.page) (string_bytes c.print_other.new.page) (set_lines names (filter test (x ∷ []))))
@@ -250,26 +234,32 @@ loop-p-preserved g t c =
     let page_new : List ℕ = string_bytes c.if-p-gt0.page in
     let kept : set_in c.if-p-gt0.room ≡ p ∷ s =
     elim c.if-p-gt0.branch [
-      | then-p-gt0+in_ok-longer+in_ok-print_below w ↦ ap set_in w.room-is ∙ w.in_ok-print_below.ensures.kept ∙ stood
+      | then-p-gt0+then-not-is_full+in_ok-longer+in_ok-print_below w ↦ ap set_in w.room-is ∙ w.in_ok-print_below.ensures.kept ∙ stood
       | else-p-gt0 w ↦ ap set_in w.room-is ∙ stood
     ] in
     let room : most_in c.if-p-gt0.room ≡ most_in c.args.room.now =
     elim c.if-p-gt0.branch [
-      | then-p-gt0+in_ok-longer+in_ok-print_below w ↦ ap most_in w.room-is ∙ w.in_ok-print_below.ensures.room ∙ c.put.ensures.most ∙ c.loop-p.invariant.room
+      | then-p-gt0+then-not-is_full+in_ok-longer+in_ok-print_below w ↦ ap most_in w.room-is ∙ w.in_ok-print_below.ensures.room ∙ c.put.ensures.most ∙ c.loop-p.invariant.room
       | else-p-gt0 w ↦ ap most_in w.room-is ∙ c.put.ensures.most ∙ c.loop-p.invariant.room
     ] in
     let behind : Prints (g.W.Write.contents c.print_other.new.out) out_new (string_bytes c.print_other.new.page) page_new (lines_under names test may s p) =
     elim c.if-p-gt0.branch [
-      | then-p-gt0+in_ok-longer+in_ok-print_below w ↦
+      | then-p-gt0+then-not-is_full+in_ok-longer+in_ok-print_below w ↦
           subst (λ o. Prints (g.W.Write.contents c.print_other.new.out) (g.W.Write.contents o) (string_bytes c.print_other.new.page) page_new (lines_under names test may s p)) (sym w.out-is)
           (subst (λ b. Prints (g.W.Write.contents c.print_other.new.out) (g.W.Write.contents w.print_below.new.out) (string_bytes c.print_other.new.page) (string_bytes b) (lines_under names test may s p)) (sym w.page-is)
           (subst (Prints (g.W.Write.contents c.print_other.new.out) (g.W.Write.contents w.print_below.new.out) (string_bytes c.print_other.new.page) (string_bytes w.print_below.new.page)) (sym under)
           w.in_ok-print_below.ensures.ok))
       | else-p-gt0 w ↦
-          let none : zero ≡ p = omega (arith, w.if-p-gt0.false) in
+          let none : lines_under names test may s p ≡ [] =
+          elim w.else-p-gt0.branch [
+            | else-p-gt0-via-then-p-gt0+else-not-is_full w' ↦
+                let full : (q : ℕ) → may (q ∷ p ∷ s) ≡ false = w'.is_full.ensures w'.if-not-is_full.false (p ∷ s) (ap length (sym (w'.set-then-p-gt0.ensures ∙ stood))) in
+                ap (λ l. set_lines names (filter test l)) (below-full may (p ∷ s) p full)
+            | else-p-gt0-via-else-p-gt0 w' ↦ let least : p ≡ zero = omega (arith, w'.if-p-gt0.false) in ap (lines_under names test may s) least
+          ] in
           subst (λ o. Prints (g.W.Write.contents c.print_other.new.out) (g.W.Write.contents o) (string_bytes c.print_other.new.page) page_new (lines_under names test may s p)) (sym w.out-is)
           (subst (λ b. Prints (g.W.Write.contents c.print_other.new.out) (g.W.Write.contents c.print_other.new.out) (string_bytes c.print_other.new.page) (string_bytes b) (lines_under names test may s p)) (sym w.page-is)
-          (subst (λ k. Prints (g.W.Write.contents c.print_other.new.out) (g.W.Write.contents c.print_other.new.out) (string_bytes c.print_other.new.page) (string_bytes c.print_other.new.page) (lines_under names test may s k)) none
+          (subst (Prints (g.W.Write.contents c.print_other.new.out) (g.W.Write.contents c.print_other.new.out) (string_bytes c.print_other.new.page) (string_bytes c.print_other.new.page)) (sym none)
           (prints-none (g.W.Write.contents c.print_other.new.out) (string_bytes c.print_other.new.page))))
     ] in
     record {

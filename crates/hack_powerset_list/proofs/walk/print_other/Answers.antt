@@ -6,11 +6,12 @@ use Rattle.hack_features.specs.Names.{Name}
 use Rattle.hack_features.specs.Feature.{name_of}
 use Rattle.hack_features.specs.Questions.{is_whole}
 use Rattle.hack_features.specs.View.{whole_of}
+use Rattle.hack_features.proofs.Permitted.{whole-cons}
 use Rattle.hack_plan.specs.Runs.{Set}
 use Rattle.hack_powerset_list.specs.Lines.{run_line}
 use Rattle.hack_powerset_list.specs.Walks.{is_other, set_lines}
 use Rattle.hack_powerset_list.proofs.PageLemmas.{on_err-same}
-use Rattle.hack_powerset_list.proofs.ListedLemmas.{whole-front, line-alone}
+use Rattle.hack_powerset_list.proofs.ListedLemmas.{line-alone}
 use Rattle.hack_powerset_list.proofs.walk.print_other.Goals as goal
 
 pub returns-then-ne-clause-err : goal.returns-then-ne-clause-err
@@ -21,7 +22,7 @@ returns-then-ne-clause-err g c = λ s set others.
     let names : List Name = map name_of c.args.lines.now.features.now in
     let whole : is_whole (whole_of r) x ≡ true =
     subst (λ l. is_whole (whole_of r) l ≡ true) (sym set)
-    (whole-front (whole_of r) c.args.least s ∙ ap (whole_of r) (sym set) ∙ sym c.complete.ensures.answer ∙ c.if-complete.true) in
+    (whole-cons (whole_of r) c.args.least s ∙ ap (whole_of r) (sym set) ∙ sym c.complete.ensures.answer ∙ c.if-complete.true) in
     let passes : is_other r last x ≡ true = and_from (is_whole (whole_of r) x) (not (bytes_eq x last)) whole (sym c.ne.ensures ∙ c.if-ne.true) in
     let line : run_line names (Set (c.args.least ∷ s)) ≡ set_lines names (filter (is_other r last) (x ∷ [])) =
     ap (λ l. run_line names (Set l)) (sym set) ∙ sym (line-alone names (is_other r last) x passes) in
