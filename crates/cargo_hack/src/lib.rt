@@ -11,7 +11,7 @@ pub mod run;
 pub mod rustup;
 
 pub use hack_load::{cargo, context, metadata, process};
-pub use hack_process::paths;
+pub use hack_base::paths;
 pub use hack_session::session;
-pub use hack_versions::notice;
+pub use hack_base::notice;
 pub use hack_words::{cli, fs, lexopt, lists, partition, restore, term, version};

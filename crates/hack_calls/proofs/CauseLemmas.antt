@@ -10,8 +10,8 @@ use Rattle.hack_plan.specs.declared.versions.Scene.{Scene}
 use Rattle.hack_runs.specs.Plans.{counts_in, count_in}
 use Rattle.hack_runs.specs.View.{package_view}
 use Rattle.hack_runs.specs.declared.parts.PlanPackage.{PlanPackage}
-use Rattle.hack_versions.specs.Notes.{Note, note_of}
-use Rattle.hack_versions.specs.declared.notice.Notice.{Notice}
+use Rattle.hack_base.specs.Notes.{Note, note_of}
+use Rattle.hack_base.specs.declared.notice.Notice.{Notice}
 use Rattle.hack_versions.specs.declared.version.Version.{Version}
 use Rattle.hack_calls.specs.Calls.{ArePlanned, IsSceneOf}
 use Rattle.hack_calls.specs.Made.{IsCause, IsRangeFault, run_counts}

@@ -5,15 +5,15 @@ use Rattle.std.specs.Str.{bytes_eq}
 use Rattle.std.proofs.lemmas.Bool.{cases_Bool}
 use Rattle.std.proofs.lemmas.List.{take_more, map-append, get_or_default}
 use Rattle.std.proofs.lemmas.List.Elements.{Contains-push_cases, All-contains_itself}
-use Rattle.hack_features.specs.Names.{Name}
-use Rattle.hack_features.proofs.Members.{Contains-cons_cases, Contains-head, Contains-tail, Contains-nil, Contains-map, Contains-map_from, Contains-filter_from}
+use Rattle.hack_base.specs.Names.{Name}
+use Rattle.hack_base.proofs.Members.{Contains-cons_cases, Contains-head, Contains-tail, Contains-nil, Contains-map, Contains-map_from, Contains-filter_from}
 use Rattle.hack_load.specs.Contexts.{ContextRecord, package_at, is_private_at, rust_version_at}
 use Rattle.hack_metadata.specs.Records.{PackageRecord}
 use Rattle.hack_metadata.specs.View.{place_at}
 use Rattle.hack_metadata.specs.declared.resolve.PackageId.{PackageId}
 use Rattle.hack_packages.specs.ContextMembers.{member_at, AreChosen}
-use Rattle.hack_packages.specs.Members.{Member, Choosing, taken, left, ends, Keeps, IsMatched, IsAbout, unnamed, first_called}
-use Rattle.hack_versions.specs.Notes.{Note}
+use Rattle.hack_packages.specs.Members.{Member, Choosing, taken, left, ends, Keeps, IsMatched, IsAbout, members_without_names, first_called}
+use Rattle.hack_base.specs.Notes.{Note}
 use Rattle.hack_versions.specs.declared.version.VersionFault.{VersionFault}
 use Rattle.hack_versions.specs.declared.group.PackageVersion.{PackageVersion}
 use Rattle.hack_calls.specs.Calls.{IsMember, AreMembers, grows, IsPlanned, ArePlanned, adds, IsBadOwn, HasBadOwn}
@@ -71,7 +71,7 @@ about-in : (named : Bool) (c : Choosing) (members about : List Member) (m : Memb
 about-in true c members about m is h = kept-in (IsMatched c.named) members about m is h
 about-in false c members about m is h = unnamed-in c.everyone c.current (subst (λ l. Contains l m) is h)
   where
-    unnamed-in : (everyone : Bool) (current : Option Name) → Contains (unnamed everyone current members) m → Contains members m
+    unnamed-in : (everyone : Bool) (current : Option Name) → Contains (members_without_names everyone current members) m → Contains members m
     unnamed-in true current h = h
     unnamed-in false None h = h
     unnamed-in false (Some name) h = first-in members name m h

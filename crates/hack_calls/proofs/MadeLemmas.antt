@@ -2,7 +2,7 @@
 use Rattle.std.proofs.Common.{◌≡◌, sym, subst, List, Option, Some, None, Result, Ok, Global, String, is_some, true, ℕ}
 use Rattle.hack_load.specs.Contexts.{ContextRecord}
 use Rattle.hack_runs.specs.View.{PlanView}
-use Rattle.hack_versions.specs.Notes.{Note}
+use Rattle.hack_base.specs.Notes.{Note}
 use Rattle.hack_versions.specs.declared.version.Version.{Version}
 use Rattle.hack_calls.specs.Made.{IsPlan, IsPlanBy, IsPlanOf}
 

@@ -7,7 +7,7 @@ use Rattle.hack_plan.specs.Quads.{HasTooMany}
 use Rattle.hack_plan.specs.Scenes.{IsVersionsFault}
 use Rattle.hack_plan.specs.declared.versions.Scene.{Scene}
 use Rattle.hack_runs.specs.View.{PackageView}
-use Rattle.hack_versions.specs.Notes.{Note}
+use Rattle.hack_base.specs.Notes.{Note}
 use Rattle.hack_versions.specs.declared.rustup.RangeFault.{RangeFault}
 use Rattle.hack_versions.specs.declared.version.Version.{Version}
 use Rattle.hack_versions.specs.declared.version.VersionFault.{VersionFault}

@@ -3,10 +3,10 @@ use Rattle.std.proofs.Common.{◌≡◌, ◌↔◌, refl, sym, ap, subst, ◌∙
 use Rattle.std.specs.List.{AllZip}
 use Rattle.std.proofs.lemmas.List.Elements.{All-contains}
 use Rattle.std.proofs.lemmas.Option.{same_Some}
-use Rattle.hack_features.specs.Names.{Name}
+use Rattle.hack_base.specs.Names.{Name}
 use Rattle.hack_features.specs.Sets.{IsBefore, IsListing, Pairwise}
 use Rattle.hack_features.proofs.CoverLemmas.{before_trans}
-use Rattle.hack_features.proofs.Members.{Contains-cons_cases, Contains-head, Contains-tail, Contains-nil}
+use Rattle.hack_base.proofs.Members.{Contains-cons_cases, Contains-head, Contains-tail, Contains-nil}
 use Rattle.hack_load.specs.Contexts.{ContextRecord, rust_version_at}
 use Rattle.hack_load.proofs.FeatureLemmas.{each-join}
 use Rattle.hack_metadata.specs.Records.{PackageRecord}
@@ -15,11 +15,11 @@ use Rattle.hack_packages.specs.CandidatesView.{wishes}
 use Rattle.hack_packages.specs.ContextMembers.{AreChosen, current_name, known_as, members_in}
 use Rattle.hack_packages.specs.Kinds.{AreRuns, AreSets, RunsBy, asks, options_of}
 use Rattle.hack_packages.specs.Members.{Choosing, Collects, ends, taken, left, IsAbout, IsMatched, IsPackageList, Keeps, Member, is_skipped, names_some}
-use Rattle.hack_packages.specs.MembersView.{choosing}
+use Rattle.hack_packages.specs.MembersView.{choosing_of}
 use Rattle.hack_plan.specs.Runs.{PackageRun, runs_from}
 use Rattle.hack_plan.specs.declared.versions.Scene.{Scene}
 use Rattle.hack_runs.specs.View.{PackageView}
-use Rattle.hack_versions.specs.Notes.{Note}
+use Rattle.hack_base.specs.Notes.{Note}
 use Rattle.hack_versions.specs.declared.group.PackageVersion.{PackageVersion}
 use Rattle.hack_versions.specs.declared.version.Version.{Version}
 use Rattle.hack_versions.specs.declared.version.VersionRange.{VersionRange}
@@ -51,7 +51,7 @@ listed-once c root members places others single one notes more h k =
 
 -- two choices of one call have the same places
 pub chosen-once : (cx : ContextRecord) (ids others : List ℕ) (single one : Bool) (notes more : List Note) → AreChosen cx ids single notes → AreChosen cx others one more → ids ≡ others
-chosen-once cx ids others single one notes more h k = listed-once (choosing cx.args (current_name cx)) cx.metadata.workspace_root (members_in cx) ids others single one notes more h k
+chosen-once cx ids others single one notes more h k = listed-once (choosing_of cx.args (current_name cx)) cx.metadata.workspace_root (members_in cx) ids others single one notes more h k
 
 -- ---- their own versions
 

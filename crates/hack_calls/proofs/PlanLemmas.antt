@@ -22,7 +22,7 @@ use Rattle.hack_plan.specs.declared.places.Quad.{Quad}
 use Rattle.hack_runs.specs.View.{PackageView, PlanView}
 use Rattle.hack_versions.specs.declared.group.PackageVersion.{PackageVersion}
 use Rattle.hack_versions.specs.declared.version.Version.{Version}
-use Rattle.hack_versions.specs.Notes.{Note}
+use Rattle.hack_base.specs.Notes.{Note}
 use Rattle.hack_uses.specs.declared.behavior.WorkspaceBehavior.TheVariants.{Cargo}
 use Rattle.hack_calls.specs.Calls.{AreMembers, starts, grows, ArePlanned, begins, adds, IsPlanned}
 use Rattle.hack_calls.specs.Made.{IsPlan, run_counts}

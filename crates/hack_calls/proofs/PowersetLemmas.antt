@@ -13,10 +13,10 @@ use Rattle.hack_packages.specs.Candidates.{Wishes, Known, candidates}
 use Rattle.hack_packages.specs.CandidatesView.{wishes}
 use Rattle.hack_packages.specs.ContextMembers.{known_as}
 use Rattle.hack_packages.specs.Kinds.{AreSets, AreSetRuns, AreRuns, RunsBy, choice_of, options_of}
-use Rattle.hack_plan.specs.Runs.{PackageRun, Plain, AllFeatures, NoDefaultFeatures, Set, allows_two, is_plain, in_turn, keeps_all, kept, last_first, runs_from, turned}
+use Rattle.hack_plan.specs.Runs.{PackageRun, Plain, AllFeatures, NoDefaultFeatures, Set, allows_two, is_plain, in_turn, keeps_all, run_if, last_first, runs_from, with_last_first}
 use Rattle.hack_plan.specs.declared.runs.RunOptions.{RunOptions}
 use Rattle.hack_runs.specs.View.{PackageView, PlanView}
-use Rattle.hack_versions.specs.Notes.{Note}
+use Rattle.hack_base.specs.Notes.{Note}
 use Rattle.hack_versions.specs.declared.version.Version.{Version}
 use Rattle.hack_calls.specs.Covered.{choice_at}
 use Rattle.hack_calls.specs.Made.{IsPlan}
@@ -65,15 +65,15 @@ from-last_first n xs t c = subst (λ ys. Contains ys t) (take-append-drop n xs)
       | inr w ↦ Contains-append_left (take n xs) (drop n xs) t w
     ])
 
-in-turned : {X : Type 0} (b : Bool) (xs : List X) (t : X) → Contains xs t → Contains (turned b xs) t
+in-turned : {X : Type 0} (b : Bool) (xs : List X) (t : X) → Contains xs t → Contains (with_last_first b xs) t
 in-turned false xs t c = c
 in-turned true xs t c = in-last_first (length xs - 1) xs t c
 
-from-turned : {X : Type 0} (b : Bool) (xs : List X) (t : X) → Contains (turned b xs) t → Contains xs t
+from-turned : {X : Type 0} (b : Bool) (xs : List X) (t : X) → Contains (with_last_first b xs) t → Contains xs t
 from-turned false xs t c = c
 from-turned true xs t c = from-last_first (length xs - 1) xs t c
 
-apart-turned : (b : Bool) (sets : List (List ℕ)) → Pairwise (λ s t. s ≢ t) sets → Pairwise (λ s t. s ≢ t) (turned b sets)
+apart-turned : (b : Bool) (sets : List (List ℕ)) → Pairwise (λ s t. s ≢ t) sets → Pairwise (λ s t. s ≢ t) (with_last_first b sets)
 apart-turned false sets p = p
 apart-turned true sets p =
     pairwise-turned (λ s t. s ≢ t) (λ s t differ same. differ (sym same)) (take (length sets - 1) sets) (drop (length sets - 1) sets)
@@ -84,7 +84,7 @@ sets_of-map : (sets : List (List ℕ)) → sets_of (map Set sets) ≡ sets
 sets_of-map [] = refl
 sets_of-map (s ∷ sets) = ap (λ (l : List (List ℕ)). s ∷ l) (sets_of-map sets)
 
-sets_of-fronts : (a b : Bool) → sets_of (kept a AllFeatures ++ kept b NoDefaultFeatures) ≡ []
+sets_of-fronts : (a b : Bool) → sets_of (run_if a AllFeatures ++ run_if b NoDefaultFeatures) ≡ []
 sets_of-fronts true true = refl
 sets_of-fronts true false = refl
 sets_of-fronts false true = refl
@@ -98,14 +98,14 @@ no-sets : (sets : List (List ℕ)) → (length sets == 0) ≡ true → sets ≡ 
 no-sets [] e = refl
 no-sets (s ∷ ss) e = absurd (omega (arith, eqb-true (length (s ∷ ss)) 0 e))
 
-sets_of-runs : (o : RunOptions) (sets : List (List ℕ)) (plain : Bool) → is_plain o sets ≡ plain → (b : Bool) × (sets_of (runs_from o sets) ≡ turned b sets)
+sets_of-runs : (o : RunOptions) (sets : List (List ℕ)) (plain : Bool) → is_plain o sets ≡ plain → (b : Bool) × (sets_of (runs_from o sets) ≡ with_last_first b sets)
 sets_of-runs o sets true is = (
   false,
-  subst (λ p. sets_of (if p then Plain ∷ [] else (kept (keeps_all o) AllFeatures ++ kept (not o.exclude_no_default_features) NoDefaultFeatures) ++ map Set (in_turn o sets)) ≡ sets) (sym is)
+  subst (λ p. sets_of (if p then Plain ∷ [] else (run_if (keeps_all o) AllFeatures ++ run_if (not o.exclude_no_default_features) NoDefaultFeatures) ++ map Set (in_turn o sets)) ≡ sets) (sym is)
       (sym (no-sets sets (first-true (length sets == 0) ((o.normal == 0) && (o.optional == 0) || o.included) is))),
 )
 sets_of-runs o sets false is =
-    let fronts = kept (keeps_all o) AllFeatures ++ kept (not o.exclude_no_default_features) NoDefaultFeatures in (
+    let fronts = run_if (keeps_all o) AllFeatures ++ run_if (not o.exclude_no_default_features) NoDefaultFeatures in (
       o.powerset && not (keeps_all o) && nat_lt 1 (length sets) && allows_two o.depth,
       subst (λ p. sets_of (if p then Plain ∷ [] else fronts ++ map Set (in_turn o sets)) ≡ in_turn o sets) (sym is)
           (filter_map-append set_of fronts (map Set (in_turn o sets))

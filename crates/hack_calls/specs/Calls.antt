@@ -1,8 +1,8 @@
 -- What a plan is made of, from what is loaded.
 use Rattle.std.specs.Prelude.{ℕ, ◌≡◌, ◌++◌, ◌↔◌, ◌⊎◌, List, [], ◌∷◌, Bool, true, false, Option, Some, None, length, Contains, IsTrue, option_and_then, slice_get, string_bytes, if◌then◌else◌}
 use Rattle.std.specs.List.{flat_map, range_with_len}
-use Rattle.hack_features.specs.Names.{Name, names_of}
-use Rattle.hack_process.specs.PathTexts.{under_of}
+use Rattle.hack_base.specs.Names.{Name, names_of}
+use Rattle.hack_base.specs.PathTexts.{under_of}
 use Rattle.hack_metadata.specs.Records.{PackageRecord}
 use Rattle.hack_load.specs.Contexts.{ContextRecord, package_at, features_at, rust_version_at}
 use Rattle.hack_load.specs.GivenFeatures.{passed_for, left_out_for}
@@ -12,7 +12,7 @@ use Rattle.hack_versions.specs.declared.version.VersionFault.{VersionFault}
 use Rattle.hack_versions.specs.declared.version.VersionRange.{VersionRange}
 use Rattle.hack_versions.specs.declared.group.PackageVersion.{PackageVersion}
 use Rattle.hack_versions.specs.declared.group.VersionGroup.{VersionGroup}
-use Rattle.hack_versions.specs.Notes.{Note}
+use Rattle.hack_base.specs.Notes.{Note}
 use Rattle.hack_versions.specs.VersionTexts.{IsVersionText, IsVersionFault}
 use Rattle.hack_uses.specs.declared.behavior.WorkspaceBehavior.TheVariants.{Cargo}
 use Rattle.hack_packages.specs.Candidates.{candidates, candidate_notes}

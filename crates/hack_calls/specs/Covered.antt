@@ -14,7 +14,7 @@ use Rattle.hack_plan.specs.Scenes.{IsStepList, UsesVersion, slots_of}
 use Rattle.hack_plan.specs.declared.versions.Scene.{Scene}
 use Rattle.hack_runs.specs.View.{PlanView}
 use Rattle.hack_versions.specs.declared.version.Version.{Version}
-use Rattle.hack_versions.specs.Notes.{Note}
+use Rattle.hack_base.specs.Notes.{Note}
 use Rattle.hack_calls.specs.Calls.{IsSceneOf}
 
 -- what the sets of a package are chosen from

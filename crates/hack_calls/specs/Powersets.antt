@@ -9,7 +9,7 @@ use Rattle.hack_metadata.specs.Records.{PackageRecord}
 use Rattle.hack_packages.specs.ContextMembers.{AreChosen}
 use Rattle.hack_plan.specs.Runs.{PackageRun, Plain, AllFeatures, NoDefaultFeatures, Set}
 use Rattle.hack_runs.specs.View.{PlanView}
-use Rattle.hack_versions.specs.Notes.{Note}
+use Rattle.hack_base.specs.Notes.{Note}
 use Rattle.hack_calls.specs.Covered.{choice_at}
 
 -- the set of a run, where it is one of a set

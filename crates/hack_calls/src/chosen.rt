@@ -2,16 +2,18 @@
 
 ghost use Rattle.std.specs.Prelude.{◌≡◌, All, Contains, IfOk, map};
 ghost use Rattle.hack_features.specs.Feature.{groups_of};
-ghost use Rattle.hack_features.specs.Names.{names_of, shown};
+ghost use Rattle.hack_base.specs.Names.{names_of, names_behind};
 ghost use Rattle.hack_packages.specs.KindsView.{candidates_in, runs_of};
 ghost use Rattle.hack_plan.specs.RunsView.{runs_in};
 ghost use Rattle.hack_metadata.specs.View.{place_at};
 ghost use Rattle.hack_load.specs.ContextView.{context_view};
-ghost use Rattle.hack_versions.specs.Notes.{note_of};
+ghost use Rattle.hack_base.specs.Notes.{note_of};
 ghost use Rattle.hack_runs.specs.View.{package_view};
 ghost use Rattle.hack_calls.specs.Calls.{IsPlanned, ArePlanned};
 
 use crate::words::given_path;
+use hack_base::copies::copies;
+use hack_base::notice::Notice;
 use hack_features::Feature;
 use hack_load::context::Context;
 use hack_load::process::features_for;
@@ -20,19 +22,7 @@ use hack_packages::determine::determine_kind;
 use hack_packages::kind::Kind;
 use hack_plan::runs::Runs;
 use hack_runs::parts::PlanPackage;
-use hack_versions::notice::Notice;
 use std::alloc::{AllocError, Global};
-
-/// Copies of texts.
-fn copies_of(alloc: Global, texts: &[&str]) -> Result<Vec<String>, AllocError>
-    ensures { IfOk result (λ copies. names_of copies.items ≡ shown texts.now) }
-{
-    let mut copies = Vec::with_capacity(alloc, texts.len())?;
-    for text in texts {
-        copies.push(String::from_str(alloc, text)?)?;
-    }
-    Ok(copies)
-}
 
 /// The candidates and the runs of a kind.
 fn parts_of(alloc: Global, kind: Kind) -> Result<(Vec<Feature>, Runs), AllocError>
@@ -62,7 +52,7 @@ fn chosen_package(
     let (found, notices) = determine_kind(alloc, cx, id, single)?;
     let (candidates, runs) = parts_of(alloc, found.kind)?;
     let (given, _) = features_for(alloc, cx, id)?;
-    let features = copies_of(alloc, given.as_slice())?;
+    let features = copies(alloc, given.as_slice())?;
     let pkg = cx.packages(id);
     let bare = cx.args().no_manifest_path;
     let planned = PlanPackage {

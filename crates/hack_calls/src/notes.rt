@@ -1,19 +1,19 @@
 //! What the user is told of features that packages don't get.
 
-ghost use Rattle.std.specs.Prelude.{◌≡◌, ◌++◌, All, Contains, IfOk, OnOk, Some, map, slice_get};
+ghost use Rattle.std.specs.Prelude.{◌≡◌, All, Contains, IfOk, OnOk, Some, map, slice_get};
 ghost use Rattle.std.specs.List.{flat_map, range_with_len};
 ghost use Rattle.hack_metadata.specs.View.{place_at};
 ghost use Rattle.hack_load.specs.ContextView.{context_view};
 ghost use Rattle.hack_load.specs.GivenFeatures.{left_out_for};
-ghost use Rattle.hack_versions.specs.Notes.{note_of};
+ghost use Rattle.hack_base.specs.Notes.{note_of, AddsNotes};
 ghost use Rattle.hack_calls.specs.Calls.{version_notes, ranged_notes, left_out_notes};
 
+use hack_base::notice::Notice;
 use hack_load::context::Context;
 use hack_load::process::features_for;
 use hack_metadata::metadata::PackageId;
 use hack_plan::places::slots;
 use hack_plan::versions::{Scene, Versions};
-use hack_versions::notice::Notice;
 use hack_versions::rustup::VersionGroup;
 use hack_versions::version::Version;
 use std::alloc::{AllocError, Global};
@@ -28,8 +28,8 @@ fn add_package(
 ) -> Result<(), AllocError>
     requires { All (λ id. Contains (context_view cx.now).metadata.workspace_members id.index)
         ids.now }
-    ensures { OnOk result (map note_of notices.new.items ≡ map note_of notices.old.items
-        ++ left_out_for (context_view cx.now) (slice_get (map place_at ids.now) place)) }
+    ensures { OnOk result (AddsNotes notices.old notices.new
+        (left_out_for (context_view cx.now) (slice_get (map place_at ids.now) place))) }
 {
     match ids.get(place) {
         Some(id) => {
@@ -51,9 +51,9 @@ fn add_slot(
 ) -> Result<(), AllocError>
     requires { All (λ id. Contains (context_view cx.now).metadata.workspace_members id.index)
         ids.now }
-    ensures { OnOk result (map note_of notices.new.items ≡ map note_of notices.old.items
-        ++ flat_map (λ p. left_out_for (context_view cx.now) (slice_get (map place_at ids.now) p))
-        places.now) }
+    ensures { OnOk result (AddsNotes notices.old notices.new
+        (flat_map (λ p. left_out_for (context_view cx.now)
+        (slice_get (map place_at ids.now) p)) places.now)) }
 {
     for place in places {
         add_package(alloc, cx, ids, *place, notices)?;
@@ -73,9 +73,8 @@ fn add_version(
 ) -> Result<(), AllocError>
     requires { All (λ id. Contains (context_view cx.now).metadata.workspace_members id.index)
         ids.now }
-    ensures { OnOk result (map note_of notices.new.items ≡ map note_of notices.old.items
-        ++ version_notes (context_view cx.now) (map place_at ids.now)
-        scene.now version places.now) }
+    ensures { OnOk result (AddsNotes notices.old notices.new
+        (version_notes (context_view cx.now) (map place_at ids.now) scene.now version places.now)) }
 {
     for slot in 0..slots(scene, version) {
         let _ = slot;
@@ -106,9 +105,9 @@ fn add_groups(
 ) -> Result<(), AllocError>
     requires { All (λ id. Contains (context_view cx.now).metadata.workspace_members id.index)
         ids.now }
-    ensures { OnOk result (map note_of notices.new.items ≡ map note_of notices.old.items
-        ++ flat_map (λ group. version_notes (context_view cx.now) (map place_at ids.now) scene.now
-        (Some group.version) group.packages.items) groups.now) }
+    ensures { OnOk result (AddsNotes notices.old notices.new
+        (flat_map (λ group. version_notes (context_view cx.now) (map place_at ids.now) scene.now
+        (Some group.version) group.packages.items) groups.now)) }
 {
     for group in groups {
         let version = Some(group.version);
@@ -128,9 +127,9 @@ fn add_versions(
 ) -> Result<(), AllocError>
     requires { All (λ id. Contains (context_view cx.now).metadata.workspace_members id.index)
         ids.now }
-    ensures { OnOk result (map note_of notices.new.items ≡ map note_of notices.old.items
-        ++ ranged_notes (context_view cx.now) (map place_at ids.now) scene.now groups.now
-        scene.now.range) }
+    ensures { OnOk result (AddsNotes notices.old notices.new
+        (ranged_notes (context_view cx.now) (map place_at ids.now) scene.now groups.now
+        scene.now.range)) }
 {
     match scene.range {
         Some(_) => add_groups(alloc, cx, ids, scene, groups, notices),

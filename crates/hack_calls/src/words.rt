@@ -1,28 +1,18 @@
 //! What all commands of a call share, as it is read off what is loaded.
 
-ghost use Rattle.std.specs.Prelude.{◌≡◌, IfOk, option_map, string_bytes};
-ghost use Rattle.hack_features.specs.Names.{names_of};
+ghost use Rattle.std.specs.Prelude.{◌≡◌, IfOk, option_map};
+ghost use Rattle.hack_base.specs.Names.{names_of, optional_text};
 ghost use Rattle.hack_metadata.specs.View.{package_view as package_record};
 ghost use Rattle.hack_load.specs.ContextView.{context_view};
 ghost use Rattle.hack_runs.specs.View.{call_view};
 ghost use Rattle.hack_calls.specs.Calls.{given_path, call_of, current_of};
 
+use hack_base::copies::copies;
+use hack_base::paths::under;
 use hack_load::context::Context;
 use hack_metadata::metadata::Package;
-use hack_process::paths::under;
 use hack_runs::parts::CallWords;
 use std::alloc::{AllocError, Global};
-
-/// Copies of texts.
-pub(crate) fn copies(alloc: Global, texts: &[String]) -> Result<Vec<String>, AllocError>
-    ensures { IfOk result (λ copies. names_of copies.items ≡ names_of texts.now) }
-{
-    let mut copies = Vec::with_capacity(alloc, texts.len())?;
-    for text in texts {
-        copies.push(String::from_str(alloc, text.as_str())?)?;
-    }
-    Ok(copies)
-}
 
 /// The path of a package's manifest as a command is given it, as it stands inside the folder; none
 /// where commands are given none.
@@ -32,7 +22,7 @@ pub(crate) fn given_path(
     dir: &str,
     member: Option<&Package>,
 ) -> Result<Option<String>, AllocError>
-    ensures { IfOk result (λ path. option_map string_bytes path
+    ensures { IfOk result (λ path. optional_text path
         ≡ given_path bare dir.now (option_map (λ p. package_record p.now) member.entry)) }
 {
     if bare {

@@ -4,12 +4,12 @@
 //! name (with `!` behind it where it is private), its own version or `-`, and its features, each
 //! with what it enables behind a colon; behind a `/` come its optional dependencies.
 
+use hack_base::notice::{Notice, NoticeKind};
 use hack_calls::fault::PlanFault;
 use hack_calls::plan::{Plan, plan_of};
 use hack_load::context::{Answers, Context, Loaded, Located};
 use hack_manifest::manifest::Manifest;
 use hack_metadata::metadata::{Metadata, object_of};
-use hack_versions::notice::{Notice, NoticeKind};
 use hack_versions::rustup::Rustup;
 use hack_versions::version::Version;
 use hack_words::cli::{Args, CliFault, Env, Parsed};

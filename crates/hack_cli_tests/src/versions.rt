@@ -1,6 +1,6 @@
 //! Versions in order, the range of `--rust-version`, and notices on patches.
 
-use hack_versions::notice::NoticeKind;
+use hack_base::notice::NoticeKind;
 use hack_versions::rustup::{needs_stable, version_range};
 use hack_versions::version::{MaybeVersion, Version, VersionRange};
 use std::cmp::Ordering;

@@ -8,12 +8,12 @@ use Rattle.std.specs.Ordering.{match_ordering}
 use Rattle.std.specs.Prelude.{◌==◌, length, option_and_then}
 use Rattle.std.specs.List.{before_first, position_or_len}
 use Rattle.toml.specs.Data.{Data, string, integer, float, boolean, datetime, array, table, Items, no_items, item, Members, no_members, member, get_member, as_table, same_key}
-use Rattle.hack_features.specs.Names.{Name}
+use Rattle.hack_base.specs.Names.{Name}
 use Rattle.hack_manifest.specs.Manifest.{table_at, features_key}
 use Rattle.hack_edits.specs.KeyPaths.{dev_key, target_key}
 use Rattle.hack_edits.specs.Lookup.{normal_key, build_key, has_key, passes, some_table, lists, depends, is_dev_only, is_slash, item_goes}
 use Rattle.hack_edits.specs.DevTree.{items_left, array_left, arrays_left, features_left, with_features}
-use Rattle.hack_edits.specs.Tables.{remove_member, put}
+use Rattle.hack_edits.specs.Tables.{remove_member, with_member}
 
 -- a key that is another one's beside
 passed : {X : Type 0} (o : Ordering) (x y : X) → is_eq o ≡ false → x ≡ match_ordering o x y x
@@ -74,7 +74,7 @@ array-aside old (table ts) = refl
 arrays-aside : (old kept ms : Members) → arrays_left (remove_member features_key old) kept ms ≡ arrays_left old kept ms
 arrays-aside old kept no_members = refl
 arrays-aside old kept (member x d ms) =
-    ap (λ a. arrays_left (remove_member features_key old) (put x a kept) ms) (array-aside old d) ∙ arrays-aside old (put x (array_left old d) kept) ms
+    ap (λ a. arrays_left (remove_member features_key old) (with_member x a kept) ms) (array-aside old d) ∙ arrays-aside old (with_member x (array_left old d) kept) ms
 
 features-aside : (old : Members) (d : Data) → features_left (remove_member features_key old) d ≡ features_left old d
 features-aside old (table ms) = ap table (arrays-aside old no_members ms)
@@ -88,4 +88,4 @@ features-aside old (array ds) = refl
 -- what stays of the features, by the tree without them
 pub with_features-aside : (old : Members) (o : Option Data) (ms : Members) → with_features (remove_member features_key old) o ms ≡ with_features old o ms
 with_features-aside old None ms = refl
-with_features-aside old (Some d) ms = ap (λ f. put features_key f ms) (features-aside old d)
+with_features-aside old (Some d) ms = ap (λ f. with_member features_key f ms) (features-aside old d)

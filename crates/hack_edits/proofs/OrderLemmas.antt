@@ -8,21 +8,21 @@ use Rattle.std.proofs.lemmas.List.Elements.{All-from_recursion, recursion_from_A
 use Rattle.std.proofs.lemmas.Cmp.{nat_list_cmp_total}
 use Rattle.std.proofs.lemmas.Map.Views.{All-insert_key}
 use Rattle.std.proofs.lemmas.Map.Lookups.{exact_bytes}
-use Rattle.hack_features.specs.Names.{Name}
+use Rattle.hack_base.specs.Names.{Name}
 use Rattle.hack_edits.specs.Members.{in_order}
 use Rattle.std.specs.Borrow.{Bor}
 use Rattle.std.specs.BTreeSet.{insert_key}
 use Rattle.std.specs.Cmp.Lexicographic.{slice_cmp}
 use Rattle.std.specs.Ordering.{match_ordering, ordering_reverse}
-use Rattle.hack_process.specs.PathTexts.{texts}
+use Rattle.hack_base.specs.Names.{names_behind}
 
-texts-match : (o : Ordering) (a b c : List (Bor (List ℕ))) → texts (match_ordering o a b c) ≡ match_ordering o (texts a) (texts b) (texts c)
+texts-match : (o : Ordering) (a b c : List (Bor (List ℕ))) → names_behind (match_ordering o a b c) ≡ match_ordering o (names_behind a) (names_behind b) (names_behind c)
 texts-match Less a b c = refl
 texts-match Equal a b c = refl
 texts-match Greater a b c = refl
 
 -- a path put among references is its text put among texts
-pub insert_key-texts : (xs : List (Bor (List ℕ))) (x : Bor (List ℕ)) → texts (insert_key (λ a b. slice_cmp nat_cmp a.now b.now) xs x) ≡ insert_key (slice_cmp nat_cmp) (texts xs) x.now
+pub insert_key-texts : (xs : List (Bor (List ℕ))) (x : Bor (List ℕ)) → names_behind (insert_key (λ a b. slice_cmp nat_cmp a.now b.now) xs x) ≡ insert_key (slice_cmp nat_cmp) (names_behind xs) x.now
 insert_key-texts [] x = refl
 insert_key-texts (y ∷ ys) x = texts-match (slice_cmp nat_cmp x.now y.now) _ _ _ ∙ rw (insert_key-texts ys x)
 

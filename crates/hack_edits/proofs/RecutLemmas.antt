@@ -1,7 +1,7 @@
 -- What is left of pieces is cut again into pieces with their paths.
 use Rattle.std.proofs.Common.{◌≡◌, ◌⊎◌, ℕ, ◌+◌, ◌-◌, ◌<◌, ◌≤◌, List, [], ◌∷◌, ◌++◌, length, map, Bool, true, false, refl, sym, ap, subst, ◌∙◌, inl, inr, arith, length-append, String, string_bytes, string_eq}
 use Rattle.std.proofs.lemmas.List.{take-append-le, get_or_append_left, append-nil}
-use Rattle.hack_features.specs.Names.{Name, names_of}
+use Rattle.hack_base.specs.Names.{Name, names_of}
 use Rattle.hack_manifest.specs.Paths.{View, is_header, IsPath, HavePaths, next_header, AreCut}
 use Rattle.hack_manifest.specs.Runs.{IsLines, IsRun, IsFirstRun, HasNoRun, IsCutInto, stands}
 use Rattle.hack_manifest.proofs.OnceLemmas.{own-once}

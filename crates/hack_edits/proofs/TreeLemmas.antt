@@ -9,7 +9,7 @@ use Rattle.std.specs.Ordering.{match_ordering}
 use Rattle.std.specs.BTreeMap.{is_at, insert_entry}
 use Rattle.toml.specs.Data.{table, member}
 use Rattle.toml.proofs.Views.{Entry}
-use Rattle.hack_edits.specs.Tables.{remove_member, put}
+use Rattle.hack_edits.specs.Tables.{remove_member, with_member}
 use Rattle.hack_edits.specs.DevTree.{is_empty_table}
 use Rattle.hack_edits.specs.Same.{same, same_items}
 use Rattle.toml.specs.View.{view, items_view, members_view, table_view}
@@ -33,7 +33,7 @@ members_view-match Less a b c = refl
 members_view-match Equal a b c = refl
 members_view-match Greater a b c = refl
 
-pub members_view-insert_entry : (es : List Entry) (k : String Global) (v : Value) → members_view (insert_entry string_cmp es k v) ≡ put (string_bytes k) (view v) (members_view es)
+pub members_view-insert_entry : (es : List Entry) (k : String Global) (v : Value) → members_view (insert_entry string_cmp es k v) ≡ with_member (string_bytes k) (view v) (members_view es)
 members_view-insert_entry [] k v = refl
 members_view-insert_entry (e ∷ es) k v = members_view-match (string_cmp k e.0) _ _ _ ∙ rw (members_view-insert_entry es k v)
 

@@ -1,12 +1,12 @@
 -- What stays of a manifest's tree without its development dependencies.
 use Rattle.std.specs.Prelude.{◌&&◌, Bool, true, false, not, if◌then◌else◌, Option, Some, None}
 use Rattle.toml.specs.Data.{Data, array, table, Items, no_items, item, Members, no_members, member, get_member}
-use Rattle.hack_features.specs.Names.{Name}
+use Rattle.hack_base.specs.Names.{Name}
 use Rattle.hack_manifest.specs.Manifest.{features_key}
 use Rattle.hack_edits.specs.KeyPaths.{dev_key, target_key}
 use Rattle.hack_edits.specs.Lookup.{has_dev, item_goes}
 use Rattle.hack_edits.specs.Same.{same_members}
-use Rattle.hack_edits.specs.Tables.{remove_member, put}
+use Rattle.hack_edits.specs.Tables.{remove_member, with_member}
 
 -- ---- the features
 
@@ -23,7 +23,7 @@ array_left old d = d
 -- what stays of each feature, behind what stayed already
 abbrev pub arrays_left : Members → Members → Members → Members
 arrays_left old kept no_members = kept
-arrays_left old kept (member x d ms) = arrays_left old (put x (array_left old d) kept) ms
+arrays_left old kept (member x d ms) = arrays_left old (with_member x (array_left old d) kept) ms
 
 -- what stays of the value at `features`
 abbrev pub features_left : Members → Data → Data
@@ -33,7 +33,7 @@ features_left old d = d
 -- with what stays of the features, where there are any
 abbrev pub with_features : Members → Option Data → Members → Members
 with_features old None ms = ms
-with_features old (Some d) ms = put features_key (features_left old d) ms
+with_features old (Some d) ms = with_member features_key (features_left old d) ms
 
 -- a tree without the features' texts that go
 abbrev pub without_texts : Members → Members → Members
@@ -47,17 +47,17 @@ is_empty_table _ = false
 
 -- the members with d at k, but for an empty table
 abbrev pub put_kept : Name → Data → Members → Members
-put_kept k d ms = if is_empty_table d then ms else put k d ms
+put_kept k d ms = if is_empty_table d then ms else with_member k d ms
 
 -- what stays of `target.X`
-abbrev pub stripped : Bool → Data → Data
-stripped true (table ms) = table (remove_member dev_key ms)
-stripped drops d = d
+abbrev pub stripped_target : Bool → Data → Data
+stripped_target true (table ms) = table (remove_member dev_key ms)
+stripped_target drops d = d
 
 -- what stays of `target`, behind what stayed already
 abbrev pub targets_kept : Bool → Members → Members → Members
 targets_kept drops kept no_members = kept
-targets_kept drops kept (member x d ms) = targets_kept drops (put_kept x (stripped drops d) kept) ms
+targets_kept drops kept (member x d ms) = targets_kept drops (put_kept x (stripped_target drops d) kept) ms
 
 -- what stays of the value at `target`
 abbrev pub target_kept : Bool → Data → Data
@@ -70,8 +70,8 @@ with_target drops None ms = ms
 with_target drops (Some d) ms = put_kept target_key (target_kept drops d) ms
 
 -- a tree without emptied tables at and under `target`, and without development dependencies where they are to go
-abbrev pub tidied : Bool → Members → Members
-tidied drops ms =
+abbrev pub tidied_tree : Bool → Members → Members
+tidied_tree drops ms =
     let top = if drops then remove_member dev_key ms else ms in
     with_target drops (get_member target_key top) (remove_member target_key top)
 
@@ -79,7 +79,7 @@ tidied drops ms =
 
 -- a tree is what stays of the old one
 abbrev pub stays : Members → Members → Bool
-stays old new = same_members (tidied true (without_texts old old)) (tidied false new)
+stays old new = same_members (tidied_tree true (without_texts old old)) (tidied_tree false new)
 
 -- a text is read as what stays of a tree, and has no development dependencies
 abbrev pub reads_as_left : Members → Option Members → Bool

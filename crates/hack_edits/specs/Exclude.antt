@@ -1,16 +1,16 @@
 -- The folders that are put into `workspace.exclude`.
 use Rattle.std.specs.Prelude.{◌≡◌, ◌==◌, ℕ, ◌-◌, ◌≤◌, ◌<◌, ◌&&◌, ◌||◌, Bool, false, not, if◌then◌else◌, List, [], ◌∷◌, ◌++◌, length, take, drop, slice_index, codes}
-use Rattle.hack_features.specs.Names.{Name}
+use Rattle.hack_base.specs.Names.{Name}
 use Rattle.hack_edits.specs.Arrays.{IsArray}
 
 -- a text with `\` before each `"` and `\`
-abbrev pub escaped : List ℕ → List ℕ
-escaped [] = []
-escaped (c ∷ cs) = if c == 34 || c == 92 then 92 ∷ c ∷ escaped cs else c ∷ escaped cs
+abbrev pub escaped_text : List ℕ → List ℕ
+escaped_text [] = []
+escaped_text (c ∷ cs) = if c == 34 || c == 92 then 92 ∷ c ∷ escaped_text cs else c ∷ escaped_text cs
 
 -- a text in `"`
 abbrev pub quoted_text : List ℕ → List ℕ
-quoted_text t = 34 ∷ escaped t ++ 34 ∷ []
+quoted_text t = 34 ∷ escaped_text t ++ 34 ∷ []
 
 -- the texts, each behind `, `
 abbrev pub each_behind : List Name → List ℕ
@@ -18,9 +18,9 @@ each_behind [] = []
 each_behind (t ∷ ts) = 44 ∷ 32 ∷ quoted_text t ++ each_behind ts
 
 -- the texts with `, ` between them
-abbrev pub listed : List Name → List ℕ
-listed [] = []
-listed (t ∷ ts) = quoted_text t ++ each_behind ts
+abbrev pub list_text : List Name → List ℕ
+list_text [] = []
+list_text (t ∷ ts) = quoted_text t ++ each_behind ts
 
 -- a text ends in a line feed
 abbrev pub ends_in_feed : List ℕ → Bool
@@ -28,7 +28,7 @@ ends_in_feed text = not (length text == 0) && slice_index text (length text - 1)
 
 -- the header with a line that excludes the folders directly behind it
 abbrev pub with_line : List Name → List ℕ → List ℕ
-with_line ts piece = (if ends_in_feed piece then piece else piece ++ 10 ∷ []) ++ (codes "exclude = [" ++ listed ts ++ codes "]\n")
+with_line ts piece = (if ends_in_feed piece then piece else piece ++ 10 ∷ []) ++ (codes "exclude = [" ++ list_text ts ++ codes "]\n")
 
 -- new is the piece with texts added between the brackets of its array, directly behind the first where it is empty
 pub record IsAddedInside (filled : Bool) (ts : List Name) (piece new : List ℕ) : Type 0 where
@@ -39,7 +39,7 @@ pub record IsAddedInside (filled : Bool) (ts : List Name) (piece new : List ℕ)
   pub above : n ≤ k
   pub below : k < m
   pub place : filled ≡ false → k ≡ n
-  pub result : new ≡ take k piece ++ (if filled then each_behind ts else listed ts) ++ drop k piece
+  pub result : new ≡ take k piece ++ (if filled then each_behind ts else list_text ts) ++ drop k piece
 
 -- there are texts to add
 abbrev pub adds : List Name → Bool

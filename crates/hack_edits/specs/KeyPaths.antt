@@ -1,7 +1,7 @@
 -- The key paths of the pieces that edits change.
 use Rattle.std.specs.Prelude.{ℕ, ◌==◌, ◌&&◌, ◌||◌, Bool, List, [], length, slice_get, unwrap_or, codes}
 use Rattle.std.specs.Str.{bytes_eq}
-use Rattle.hack_features.specs.Names.{Name}
+use Rattle.hack_base.specs.Names.{Name}
 use Rattle.hack_manifest.specs.Manifest.{is_just}
 use Rattle.hack_manifest.specs.Paths.{View, is_header}
 

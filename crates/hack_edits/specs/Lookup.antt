@@ -2,7 +2,7 @@
 use Rattle.std.specs.Prelude.{ℕ, ◌==◌, Bool, false, not, ◌&&◌, ◌||◌, length, codes, Option, Some, None, is_some, option_and_then}
 use Rattle.std.specs.List.{before_first, position_or_len}
 use Rattle.toml.specs.Data.{Data, string, array, Items, no_items, item, Members, no_members, member, get_member, as_table}
-use Rattle.hack_features.specs.Names.{Name}
+use Rattle.hack_base.specs.Names.{Name}
 use Rattle.hack_manifest.specs.Manifest.{table_at, features_key}
 use Rattle.hack_edits.specs.KeyPaths.{dev_key, target_key}
 

@@ -5,8 +5,8 @@ use Rattle.std.specs.Cmp.Lexicographic.{slice_cmp}
 use Rattle.std.specs.Ordering.{nat_cmp}
 use Rattle.std.specs.Str.{bytes_eq}
 use Rattle.toml.specs.Data.{Data, string, array, Items, no_items, item, Members, get_member}
-use Rattle.hack_features.specs.Names.{Name}
-use Rattle.hack_process.specs.PathTexts.{join_of, parent_of, normal_of}
+use Rattle.hack_base.specs.Names.{Name}
+use Rattle.hack_base.specs.PathTexts.{join_of, parent_of, normal_of}
 use Rattle.hack_edits.specs.KeyPaths.{members_key}
 
 -- the paths in byte order, each once
@@ -27,9 +27,9 @@ is_led root m [] = false
 is_led root m (p ∷ ps) = leads root m p || is_led root m ps
 
 -- the paths to which the text doesn't lead
-abbrev pub unled : Name → Name → List Name → List Name
-unled root m [] = []
-unled root m (p ∷ ps) = if leads root m p then unled root m ps else p ∷ unled root m ps
+abbrev pub paths_not_led_to : Name → Name → List Name → List Name
+paths_not_led_to root m [] = []
+paths_not_led_to root m (p ∷ ps) = if leads root m p then paths_not_led_to root m ps else p ∷ paths_not_led_to root m ps
 
 -- the item is a text that leads to some path
 abbrev pub item_led : Name → List Name → Data → Bool
@@ -38,7 +38,7 @@ item_led root ps _ = false
 
 -- the paths to which the item doesn't lead
 abbrev pub unled_by : Name → List Name → Data → List Name
-unled_by root ps (string m) = unled root m ps
+unled_by root ps (string m) = paths_not_led_to root m ps
 unled_by root ps _ = ps
 
 -- the items that stay: to each path the first text goes that leads there

@@ -4,7 +4,7 @@ use Rattle.std.specs.List.{list_any}
 use Rattle.toml.specs.Data.{Data, array, Members, get_member}
 use Rattle.toml.specs.Parse.{parse_document}
 use Rattle.toml.specs.Text.{has_items}
-use Rattle.hack_features.specs.Names.{Name}
+use Rattle.hack_base.specs.Names.{Name}
 use Rattle.hack_manifest.specs.Manifest.{table_at, is_inline}
 use Rattle.hack_manifest.specs.Paths.{View, AreCut}
 use Rattle.hack_edits.specs.Arrays.{IsCutInside}

@@ -1,7 +1,7 @@
 -- What is left of a manifest's pieces, as pieces again.
 use Rattle.std.specs.Prelude.{◌≡◌, ◌⊎◌, ℕ, ◌-◌, Bool, true, false, MatchBool, List, [], ◌++◌, length, slice_index}
 use Rattle.toml.specs.Data.{Members}
-use Rattle.hack_features.specs.Names.{Name}
+use Rattle.hack_base.specs.Names.{Name}
 use Rattle.hack_manifest.specs.Paths.{View, IsOwnKey, is_header}
 use Rattle.hack_manifest.specs.Runs.{IsFirstRun}
 use Rattle.hack_edits.specs.DevDeps.{IsLeft, is_cut}

@@ -1,12 +1,12 @@
 -- The tree of a manifest whose workspace is without private crates.
 use Rattle.std.specs.Prelude.{◌||◌, Bool, false, if◌then◌else◌, List, [], ◌∷◌, Option, Some, None}
 use Rattle.toml.specs.Data.{Data, string, array, table, Items, Members, get_member, push_item}
-use Rattle.hack_features.specs.Names.{Name}
+use Rattle.hack_base.specs.Names.{Name}
 use Rattle.hack_edits.specs.Exclude.{adds}
 use Rattle.hack_edits.specs.KeyPaths.{workspace_key, members_key, exclude_key}
 use Rattle.hack_edits.specs.Members.{members_left, some_led, items_at, folders}
 use Rattle.hack_edits.specs.Same.{same_members}
-use Rattle.hack_edits.specs.Tables.{remove_member, put}
+use Rattle.hack_edits.specs.Tables.{remove_member, with_member}
 
 -- members go
 abbrev pub takes : Name → List Name → Members → Bool
@@ -24,7 +24,7 @@ array_of_members root ps d = d
 -- with the members that stay, where there are any
 abbrev pub members_put : Name → List Name → Option Data → Members → Members
 members_put root ps None ms = ms
-members_put root ps (Some d) ms = put members_key (array_of_members root ps d) ms
+members_put root ps (Some d) ms = with_member members_key (array_of_members root ps d) ms
 
 -- with the members that stay
 abbrev pub with_members : Name → List Name → Members → Members
@@ -37,7 +37,7 @@ with_texts (t ∷ ts) ds = with_texts ts (push_item ds (string t))
 
 -- with folders to exclude, where there are any
 abbrev pub with_exclude : List Name → Members → Members
-with_exclude ts ms = if adds ts then put exclude_key (array (with_texts ts (items_at exclude_key ms))) (remove_member exclude_key ms) else ms
+with_exclude ts ms = if adds ts then with_member exclude_key (array (with_texts ts (items_at exclude_key ms))) (remove_member exclude_key ms) else ms
 
 -- the workspace that is expected
 abbrev pub workspace_left : Name → List Name → Members → Members
@@ -51,7 +51,7 @@ workspace_value root ps d = d
 -- with the value that is expected at `workspace`, where there is one
 abbrev pub with_workspace : Name → List Name → Option Data → Members → Members
 with_workspace root ps None ms = ms
-with_workspace root ps (Some d) ms = put workspace_key (workspace_value root ps d) ms
+with_workspace root ps (Some d) ms = with_member workspace_key (workspace_value root ps d) ms
 
 -- the tree that is expected: the old one with the workspace that is expected
 abbrev pub tree_left : Name → List Name → Members → Members

@@ -4,7 +4,7 @@ ghost use Rattle.std.specs.Prelude.{◌≡◌, ◌≢◌, ◌⊎◌, true, false
 ghost use Rattle.std.specs.Prelude.{IfOk, IfSome, IfNone, string_bytes};
 ghost use Rattle.toml.specs.Parse.{parse_document};
 ghost use Rattle.toml.specs.View.{table_view};
-ghost use Rattle.hack_features.specs.Names.{names_of};
+ghost use Rattle.hack_base.specs.Names.{names_of};
 ghost use Rattle.hack_manifest.specs.Paths.{AreCut};
 ghost use Rattle.hack_manifest.specs.View.{piece_view, slice_view, pieces_view};
 ghost use Rattle.hack_edits.specs.Arrays.{IsCutInside};
@@ -79,7 +79,7 @@ fn without_dev_pieces(alloc: Global, old: Table, cut: &Pieces<'_>) -> Result<Str
     if any_inline(&old, &cut.pieces) {
         return Err(ManifestFault::InlineTarget);
     }
-    let Some(Left { text, known }) = joined(alloc, &old, &cut.pieces, cut.tail)? else {
+    let Some(Left { text, known }) = join_pieces(alloc, &old, &cut.pieces, cut.tail)? else {
         return Err(ManifestFault::ReadBack);
     };
     if !reads_as(alloc, old, text.as_str())? {
@@ -130,7 +130,7 @@ struct Left {
 }
 
 /// What is left of the pieces, if the brackets of each array that loses texts are found.
-fn joined(
+fn join_pieces(
     alloc: Global,
     old: &Table,
     pieces: &[Piece<'_>],
@@ -209,7 +209,7 @@ fn thinned_feature(
 {
     match feature_value(old, name(&piece.path, 1)) {
         Some(value) => {
-            let goes = going(alloc, old, value)?;
+            let goes = which_go(alloc, old, value)?;
             without_elements(alloc, piece.text, goes.as_slice())
         }
         None => Ok(None),
@@ -217,7 +217,7 @@ fn thinned_feature(
 }
 
 /// Which items of an array are texts that go.
-fn going(alloc: Global, old: &Table, value: &Value) -> Result<Vec<bool>, AllocError> {
+fn which_go(alloc: Global, old: &Table, value: &Value) -> Result<Vec<bool>, AllocError> {
     let mut goes = Vec::new(alloc);
     if let Value::Array(array) = value {
         for item in array {

@@ -7,8 +7,8 @@ ghost use Rattle.toml.specs.Parse.{parse_document};
 ghost use Rattle.toml.specs.View.{view, table_view, array_view};
 ghost use Rattle.hack_edits.specs.DevTree.{items_left, array_left, arrays_left, features_left};
 ghost use Rattle.hack_edits.specs.DevTree.{with_features, without_texts, is_empty_table, put_kept};
-ghost use Rattle.hack_edits.specs.DevTree.{stripped, targets_kept, target_kept, with_target};
-ghost use Rattle.hack_edits.specs.DevTree.{tidied, reads_as_left};
+ghost use Rattle.hack_edits.specs.DevTree.{stripped_target, targets_kept, target_kept, with_target};
+ghost use Rattle.hack_edits.specs.DevTree.{tidied_tree, reads_as_left};
 ghost use Rattle.hack_edits.specs.KeyPaths.{dev_key};
 ghost use Rattle.hack_edits.specs.Tables.{remove_member};
 
@@ -121,7 +121,7 @@ fn kept_items(alloc: Global, old: &Table, items: Array) -> Result<Array, AllocEr
 /// A tree without emptied tables at and under `target`, and without development dependencies where
 /// they are to go.
 fn tidy(alloc: Global, table: Table, drops: bool) -> Result<Table, AllocError>
-    ensures { IfOk result (λ t. table_view t ≡ tidied drops (table_view table)) }
+    ensures { IfOk result (λ t. table_view t ≡ tidied_tree drops (table_view table)) }
 {
     let mut top = without_dev(table, drops);
     let target = top.remove(TARGET);
@@ -183,7 +183,7 @@ fn strip_targets(alloc: Global, targets: Table, drops: bool) -> Result<Table, Al
 
 /// What stays of `target.X`.
 fn strip(value: Value, drops: bool) -> Value
-    ensures { view result ≡ stripped drops (view value) }
+    ensures { view result ≡ stripped_target drops (view value) }
 {
     match value {
         Value::Table(table) => {

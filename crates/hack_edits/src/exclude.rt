@@ -2,12 +2,14 @@
 //! line of their own.
 
 ghost use Rattle.std.specs.Prelude.{◌≡◌, ◌≤◌, ◌++◌, map, length, IfOk, IfSome, OnOk};
-ghost use Rattle.hack_process.specs.PathTexts.{parent_of, texts};
-ghost use Rattle.hack_edits.specs.Exclude.{escaped, quoted_text, each_behind, listed, with_line};
+ghost use Rattle.hack_base.specs.PathTexts.{parent_of};
+ghost use Rattle.hack_base.specs.Names.{names_behind};
+ghost use Rattle.hack_edits.specs.Exclude.{escaped_text, quoted_text, each_behind, list_text};
+ghost use Rattle.hack_edits.specs.Exclude.{with_line};
 ghost use Rattle.hack_edits.specs.Exclude.{ends_in_feed, IsAddedInside, adds};
 
 use crate::arrays::{comma_behind, first_front, text_len};
-use hack_process::paths::parent;
+use hack_base::paths::parent;
 use std::alloc::{AllocError, Global};
 
 /// A piece with the folders of paths added to its array, if its place is found.
@@ -18,7 +20,7 @@ pub fn added_inside(
     filled: bool,
 ) -> Result<Option<Vec<u8>>, AllocError>
     ensures { IfOk result (λ o. IfSome o (λ v.
-        IsAddedInside filled (map parent_of (texts paths.now)) piece.now v.items)) }
+        IsAddedInside filled (map parent_of (names_behind paths.now)) piece.now v.items)) }
 {
     let Some(n) = first_front(alloc, piece, b'[', "]")? else {
         return Ok(None);
@@ -51,7 +53,8 @@ pub fn added_inside(
 
 /// A header with a line behind it that excludes the folders of paths.
 pub fn with_exclude_line(alloc: Global, piece: &str, paths: &[&str]) -> Result<Vec<u8>, AllocError>
-    ensures { IfOk result (λ v. v.items ≡ with_line (map parent_of (texts paths.now)) piece.now) }
+    ensures { IfOk result (λ v. v.items ≡ with_line
+        (map parent_of (names_behind paths.now)) piece.now) }
 {
     let mut new = Vec::new(alloc);
     new.extend_from_slice(piece.as_bytes())?;
@@ -108,7 +111,7 @@ fn element_end(alloc: Global, inside: &[u8], from: usize) -> Result<usize, Alloc
 /// Puts the folders of paths in quotes behind others, with `, ` between them.
 fn push_listed(out: &mut Vec<u8>, paths: &[&str]) -> Result<(), AllocError>
     ensures { OnOk result (out.new.items
-        ≡ out.old.items ++ listed (map parent_of (texts paths.now))) }
+        ≡ out.old.items ++ list_text (map parent_of (names_behind paths.now))) }
 {
     match paths {
         [first, rest @ ..] => {
@@ -122,7 +125,7 @@ fn push_listed(out: &mut Vec<u8>, paths: &[&str]) -> Result<(), AllocError>
 /// Puts the folders of paths in quotes behind others, each behind `, `.
 fn push_behind(out: &mut Vec<u8>, paths: &[&str]) -> Result<(), AllocError>
     ensures { OnOk result (out.new.items
-        ≡ out.old.items ++ each_behind (map parent_of (texts paths.now))) }
+        ≡ out.old.items ++ each_behind (map parent_of (names_behind paths.now))) }
 {
     for path in paths {
         out.extend_from_slice(b", ")?;
@@ -143,7 +146,7 @@ fn push_quoted(out: &mut Vec<u8>, text: &str) -> Result<(), AllocError>
 
 /// Puts a text behind others, with `\` before `"` and `\`.
 fn push_escaped(out: &mut Vec<u8>, text: &[u8]) -> Result<(), AllocError>
-    ensures { OnOk result (out.new.items ≡ out.old.items ++ escaped text.now) }
+    ensures { OnOk result (out.new.items ≡ out.old.items ++ escaped_text text.now) }
 {
     for byte in text {
         if *byte == b'"' || *byte == b'\\' {
@@ -156,7 +159,7 @@ fn push_escaped(out: &mut Vec<u8>, text: &[u8]) -> Result<(), AllocError>
 
 /// Whether there are paths.
 pub fn has_paths(paths: &[&str]) -> bool
-    ensures { result ≡ adds (map parent_of (texts paths.now)) }
+    ensures { result ≡ adds (map parent_of (names_behind paths.now)) }
 {
     !paths.is_empty()
 }

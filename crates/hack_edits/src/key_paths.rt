@@ -1,7 +1,7 @@
 //! The key paths of the pieces that edits change.
 
 ghost use Rattle.std.specs.Prelude.{◌≡◌};
-ghost use Rattle.hack_features.specs.Names.{names_of};
+ghost use Rattle.hack_base.specs.Names.{names_of};
 ghost use Rattle.hack_manifest.specs.View.{piece_view};
 ghost use Rattle.hack_edits.specs.KeyPaths.{name_at, is_dev, is_pair, is_header_of};
 

@@ -5,18 +5,19 @@ ghost use Rattle.std.specs.Prelude.{◌≡◌, false, List, IfOk, OnOk, string_b
 ghost use Rattle.std.specs.List.{list_any};
 ghost use Rattle.std.specs.List.Sorted.{IsStrictlySortedBy};
 ghost use Rattle.std.specs.Str.{bytes_eq};
-ghost use Rattle.hack_features.specs.Names.{Name};
+ghost use Rattle.hack_base.specs.Names.{Name};
 ghost use Rattle.std.specs.BTreeSet.{insert_key};
 ghost use Rattle.std.specs.Cmp.Lexicographic.{slice_cmp};
 ghost use Rattle.std.specs.Ordering.{nat_cmp};
 ghost use Rattle.toml.specs.View.{view, table_view, array_view};
-ghost use Rattle.hack_process.specs.PathTexts.{texts};
+ghost use Rattle.hack_base.specs.Names.{names_behind};
 ghost use Rattle.hack_edits.specs.KeyPaths.{members_key};
-ghost use Rattle.hack_edits.specs.Members.{in_order, leads, led_manifest, is_led, unled, item_led};
+ghost use Rattle.hack_edits.specs.Members.{in_order, leads, led_manifest, is_led, paths_not_led_to};
+ghost use Rattle.hack_edits.specs.Members.{item_led};
 ghost use Rattle.hack_edits.specs.Members.{unled_by, some_led, paths_left, items_at};
 
+use hack_base::paths::{join, normal};
 use hack_manifest::lookup::value_at;
-use hack_process::paths::{join, normal};
 use std::alloc::{AllocError, Global};
 use std::collections::BTreeSet;
 use toml::value::Array;
@@ -26,10 +27,10 @@ pub const MEMBERS: &str = "members";
 
 /// The paths in byte order, each once.
 pub fn in_order<'a>(alloc: Global, paths: &[&'a str]) -> Result<Vec<&'a str>, AllocError>
-    ensures { IfOk result (λ all. texts all.items ≡ in_order (texts paths.now)) }
+    ensures { IfOk result (λ all. names_behind all.items ≡ in_order (names_behind paths.now)) }
 {
     let mut all = Vec::new(alloc);
-    for path in sorted(alloc, paths)? {
+    for path in sorted_set(alloc, paths)? {
         all.push(path)?;
     }
     Ok(all)
@@ -43,8 +44,8 @@ pub fn paths_in_order()
 {}
 
 /// The paths as a set.
-fn sorted<'a>(alloc: Global, paths: &[&'a str]) -> Result<BTreeSet<&'a str>, AllocError>
-    ensures { IfOk result (λ set. texts set.keys ≡ in_order (texts paths.now)) }
+fn sorted_set<'a>(alloc: Global, paths: &[&'a str]) -> Result<BTreeSet<&'a str>, AllocError>
+    ensures { IfOk result (λ set. names_behind set.keys ≡ in_order (names_behind paths.now)) }
 {
     let mut set = BTreeSet::new(alloc);
     for path in paths {
@@ -56,7 +57,8 @@ fn sorted<'a>(alloc: Global, paths: &[&'a str]) -> Result<BTreeSet<&'a str>, All
 /// Puts a path into a set.
 fn put_sorted<'a>(set: &mut BTreeSet<&'a str>, path: &'a str) -> Result<(), AllocError>
     ensures { OnOk result
-        (texts set.new.keys ≡ insert_key (slice_cmp nat_cmp) (texts set.old.keys) path.now) }
+        (names_behind set.new.keys ≡ insert_key (slice_cmp nat_cmp)
+        (names_behind set.old.keys) path.now) }
 {
     set.insert(path)?;
     Ok(())
@@ -81,9 +83,11 @@ pub fn chosen<'a>(
     workspace: &Table,
 ) -> Result<Choice<'a>, AllocError>
     ensures some { IfOk result (λ c. c.some
-        ≡ some_led root.now (texts paths.now) (items_at members_key (table_view workspace.now))) }
-    ensures paths { IfOk result (λ c. texts c.paths.items
-        ≡ paths_left root.now (texts paths.now) (items_at members_key (table_view workspace.now))) }
+        ≡ some_led root.now (names_behind paths.now)
+        (items_at members_key (table_view workspace.now))) }
+    ensures paths { IfOk result (λ c. names_behind c.paths.items
+        ≡ paths_left root.now (names_behind paths.now)
+        (items_at members_key (table_view workspace.now))) }
 {
     match value_at(workspace, MEMBERS) {
         Some(value) => match value {
@@ -102,13 +106,13 @@ fn choose<'a>(
     items: &Array,
 ) -> Result<Choice<'a>, AllocError>
     ensures some { IfOk result (λ c. c.some
-        ≡ some_led root.now (texts paths.now) (array_view items.now)) }
-    ensures paths { IfOk result (λ c. texts c.paths.items
-        ≡ paths_left root.now (texts paths.now) (array_view items.now)) }
+        ≡ some_led root.now (names_behind paths.now) (array_view items.now)) }
+    ensures paths { IfOk result (λ c. names_behind c.paths.items
+        ≡ paths_left root.now (names_behind paths.now) (array_view items.now)) }
 {
     let mut goes = Vec::new(alloc);
     let mut some = false;
-    let mut left = copied(alloc, paths)?;
+    let mut left = copy_paths(alloc, paths)?;
     'items: for item in items {
         let led = value_led(alloc, root, item, left.as_slice())?;
         goes.push(led)?;
@@ -125,9 +129,9 @@ fn choose<'a>(
 /// Where there are no members, none goes, and no path is led to.
 fn no_choice<'a>(alloc: Global, paths: &[&'a str]) -> Result<Choice<'a>, AllocError>
     ensures some { IfOk result (λ c. c.some ≡ false) }
-    ensures paths { IfOk result (λ c. texts c.paths.items ≡ texts paths.now) }
+    ensures paths { IfOk result (λ c. names_behind c.paths.items ≡ names_behind paths.now) }
 {
-    let left = copied(alloc, paths)?;
+    let left = copy_paths(alloc, paths)?;
     Ok(Choice {
         goes: Vec::new(alloc),
         some: false,
@@ -142,7 +146,7 @@ pub fn value_led(
     item: &Value,
     paths: &[&str],
 ) -> Result<bool, AllocError>
-    ensures { IfOk result (λ b. b ≡ item_led root.now (texts paths.now) (view item.now)) }
+    ensures { IfOk result (λ b. b ≡ item_led root.now (names_behind paths.now) (view item.now)) }
 {
     match item {
         Value::String(member) => leads_to_any(alloc, root, member.as_str(), paths),
@@ -157,18 +161,18 @@ pub fn value_unled<'a>(
     item: &Value,
     paths: &[&'a str],
 ) -> Result<Vec<&'a str>, AllocError>
-    ensures { IfOk result (λ left. texts left.items
-        ≡ unled_by root.now (texts paths.now) (view item.now)) }
+    ensures { IfOk result (λ left. names_behind left.items
+        ≡ unled_by root.now (names_behind paths.now) (view item.now)) }
 {
     match item {
         Value::String(member) => not_led(alloc, root, member.as_str(), paths),
-        _ => copied(alloc, paths),
+        _ => copy_paths(alloc, paths),
     }
 }
 
 /// Whether a member's text leads to some path.
 fn leads_to_any(alloc: Global, root: &str, member: &str, paths: &[&str]) -> Result<bool, AllocError>
-    ensures { IfOk result (λ b. b ≡ is_led root.now member.now (texts paths.now)) }
+    ensures { IfOk result (λ b. b ≡ is_led root.now member.now (names_behind paths.now)) }
 {
     if paths.is_empty() {
         return Ok(false);
@@ -189,7 +193,8 @@ fn not_led<'a>(
     member: &str,
     paths: &[&'a str],
 ) -> Result<Vec<&'a str>, AllocError>
-    ensures { IfOk result (λ left. texts left.items ≡ unled root.now member.now (texts paths.now)) }
+    ensures { IfOk result (λ left. names_behind left.items ≡ paths_not_led_to root.now member.now
+        (names_behind paths.now)) }
 {
     let mut left = Vec::new(alloc);
     if paths.is_empty() {
@@ -224,8 +229,8 @@ fn leads_to(alloc: Global, manifest: &str, path: &str) -> Result<bool, AllocErro
 }
 
 /// Copies of paths.
-pub fn copied<'a>(alloc: Global, paths: &[&'a str]) -> Result<Vec<&'a str>, AllocError>
-    ensures { IfOk result (λ left. texts left.items ≡ texts paths.now) }
+pub fn copy_paths<'a>(alloc: Global, paths: &[&'a str]) -> Result<Vec<&'a str>, AllocError>
+    ensures { IfOk result (λ left. names_behind left.items ≡ names_behind paths.now) }
 {
     let mut all = Vec::new(alloc);
     for path in paths {

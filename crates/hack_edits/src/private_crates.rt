@@ -5,7 +5,8 @@ ghost use Rattle.std.specs.Prelude.{IfOk, IfSome, string_bytes};
 ghost use Rattle.toml.specs.Parse.{parse_document};
 ghost use Rattle.toml.specs.Text.{has_items};
 ghost use Rattle.toml.specs.View.{view, table_view};
-ghost use Rattle.hack_process.specs.PathTexts.{parent_of, texts};
+ghost use Rattle.hack_base.specs.PathTexts.{parent_of};
+ghost use Rattle.hack_base.specs.Names.{names_behind};
 ghost use Rattle.hack_manifest.specs.Manifest.{table_at};
 ghost use Rattle.hack_manifest.specs.View.{piece_view, slice_view};
 ghost use Rattle.hack_edits.specs.KeyPaths.{workspace_key, exclude_key};
@@ -40,17 +41,17 @@ pub fn remove_private_crates(
     private: &[&str],
 ) -> Result<String, ManifestFault>
     ensures ok { IfOk result (λ s.
-        IsWithoutPrivate root.now (in_order (texts private.now)) text.now (string_bytes s)) }
-    ensures unchanged { HasNoWork root.now (in_order (texts private.now)) text.now
+        IsWithoutPrivate root.now (in_order (names_behind private.now)) text.now (string_bytes s)) }
+    ensures unchanged { HasNoWork root.now (in_order (names_behind private.now)) text.now
         → MatchResult result (λ s. string_bytes s ≡ text.now) (λ e. e ≡ ManifestFault.Memory) }
     ensures toml { result ≡ Err ManifestFault.Toml → parse_document text.now ≡ None }
     ensures form { result ≡ Err ManifestFault.WorkspaceForm
-        → HasBadForm root.now (in_order (texts private.now)) text.now }
+        → HasBadForm root.now (in_order (names_behind private.now)) text.now }
     ensures path { result ≡ Err ManifestFault.PathText
-        → HasWork root.now (in_order (texts private.now)) text.now
-        × (some_path_control (in_order (texts private.now)) ≡ true) }
+        → HasWork root.now (in_order (names_behind private.now)) text.now
+        × (some_path_control (in_order (names_behind private.now)) ≡ true) }
     ensures read_back { result ≡ Err ManifestFault.ReadBack
-        → HasWork root.now (in_order (texts private.now)) text.now }
+        → HasWork root.now (in_order (names_behind private.now)) text.now }
     ensures inline { result ≢ Err ManifestFault.InlineTarget }
 {
     let ordered = in_order(alloc, private)?;
@@ -64,18 +65,18 @@ fn without_ordered(
     root: &str,
     private: &[&str],
 ) -> Result<String, ManifestFault>
-    ensures ok { IfOk result (λ s. IsWithoutPrivate root.now (texts private.now) text.now
+    ensures ok { IfOk result (λ s. IsWithoutPrivate root.now (names_behind private.now) text.now
         (string_bytes s)) }
-    ensures unchanged { HasNoWork root.now (texts private.now) text.now
+    ensures unchanged { HasNoWork root.now (names_behind private.now) text.now
         → MatchResult result (λ s. string_bytes s ≡ text.now) (λ e. e ≡ ManifestFault.Memory) }
     ensures toml { result ≡ Err ManifestFault.Toml → parse_document text.now ≡ None }
     ensures form { result ≡ Err ManifestFault.WorkspaceForm
-        → HasBadForm root.now (texts private.now) text.now }
+        → HasBadForm root.now (names_behind private.now) text.now }
     ensures path { result ≡ Err ManifestFault.PathText
-        → (HasWork root.now (texts private.now) text.now)
-        × (some_path_control (texts private.now) ≡ true) }
+        → (HasWork root.now (names_behind private.now) text.now)
+        × (some_path_control (names_behind private.now) ≡ true) }
     ensures read_back { result ≡ Err ManifestFault.ReadBack
-        → HasWork root.now (texts private.now) text.now }
+        → HasWork root.now (names_behind private.now) text.now }
     ensures inline { result ≢ Err ManifestFault.InlineTarget }
 {
     let Some(old) = tree_of(alloc, text)? else {
@@ -110,16 +111,16 @@ fn without_private(
     requires read { parse_document text.now ≡ Some (table_view old) }
     requires workspace { table_at workspace_key (table_view old) ≡ Some (table_view workspace.now) }
     requires takes { choice.now.some
-        ≡ takes root.now (texts private.now) (table_view workspace.now) }
-    requires adds { map parent_of (texts choice.now.paths.items)
-        ≡ folders root.now (texts private.now) (table_view workspace.now) }
-    requires work { has_work root.now (texts private.now) (table_view workspace.now) ≡ true }
-    ensures ok { IfOk result (λ s. IsWorkspaceEdit root.now (texts private.now) text.now
+        ≡ takes root.now (names_behind private.now) (table_view workspace.now) }
+    requires adds { map parent_of (names_behind choice.now.paths.items)
+        ≡ folders root.now (names_behind private.now) (table_view workspace.now) }
+    requires work { has_work root.now (names_behind private.now) (table_view workspace.now) ≡ true }
+    ensures ok { IfOk result (λ s. IsWorkspaceEdit root.now (names_behind private.now) text.now
         (table_view old) (table_view workspace.now) (string_bytes s)) }
     ensures form { result ≡ Err ManifestFault.WorkspaceForm
-        → HasBadForm root.now (texts private.now) text.now }
+        → HasBadForm root.now (names_behind private.now) text.now }
     ensures read_back { result ≡ Err ManifestFault.ReadBack
-        → HasWork root.now (texts private.now) text.now }
+        → HasWork root.now (names_behind private.now) text.now }
     ensures toml { result ≢ Err ManifestFault.Toml }
     ensures inline { result ≢ Err ManifestFault.InlineTarget }
     ensures path { result ≢ Err ManifestFault.PathText }
@@ -151,7 +152,7 @@ fn joined_parts(
     tail: &str,
 ) -> Result<Option<Vec<u8>>, AllocError>
     ensures { IfOk result (λ o. IfSome o (λ v.
-        AreMade choice.now.some (map parent_of (texts choice.now.paths.items))
+        AreMade choice.now.some (map parent_of (names_behind choice.now.paths.items))
         (table_view workspace.now) (slice_view pieces.now) tail.now v.items)) }
 {
     let mut new = Vec::new(alloc);
@@ -173,7 +174,7 @@ fn made_of(
     piece: &Piece<'_>,
 ) -> Result<Option<Vec<u8>>, AllocError>
     ensures { IfOk result (λ o. IfSome o (λ v.
-        IsMade choice.now.some (map parent_of (texts choice.now.paths.items))
+        IsMade choice.now.some (map parent_of (names_behind choice.now.paths.items))
         (table_view workspace.now) (piece_view piece.now) v.items)) }
 {
     if is_pair(&piece.path, WORKSPACE, MEMBERS) && choice.some {
@@ -247,7 +248,7 @@ fn any_header(pieces: &[Piece<'_>]) -> bool
 
 /// Whether some path has control characters.
 fn any_control(paths: &[&str]) -> bool
-    ensures { result ≡ some_path_control (texts paths.now) }
+    ensures { result ≡ some_path_control (names_behind paths.now) }
 {
     for path in paths {
         if has_control(path) {

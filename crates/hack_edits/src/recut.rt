@@ -1,7 +1,7 @@
 //! Whether what is left of a key's piece is cut again as one piece with that key.
 
 ghost use Rattle.std.specs.Prelude.{◌≡◌, true, false, length, IfOk, IsTrue, IsFalse};
-ghost use Rattle.hack_features.specs.Names.{names_of};
+ghost use Rattle.hack_base.specs.Names.{names_of};
 ghost use Rattle.hack_edits.specs.Recut.{EndsInFeed, KeepsKey};
 
 use hack_manifest::path::{path_of, starts_table};

@@ -3,7 +3,7 @@
 ghost use Rattle.std.specs.Prelude.{◌≡◌, IfOk, OnOk, option_map, string_bytes};
 ghost use Rattle.toml.specs.Parse.{parse_document};
 ghost use Rattle.toml.specs.View.{view, table_view};
-ghost use Rattle.hack_edits.specs.Tables.{put, remove_member};
+ghost use Rattle.hack_edits.specs.Tables.{with_member, remove_member};
 
 use std::alloc::{AllocError, Global};
 use toml::{Table, Value};
@@ -43,7 +43,7 @@ pub fn without(table: Table, key: &str) -> Table
 /// Puts a value at a key.
 pub fn put_at(kept: &mut Table, key: String, value: Value) -> Result<(), AllocError>
     ensures { OnOk result (table_view kept.new
-        ≡ put (string_bytes key) (view value) (table_view kept.old)) }
+        ≡ with_member (string_bytes key) (view value) (table_view kept.old)) }
 {
     kept.insert(key, value)?;
     Ok(())

@@ -4,7 +4,8 @@
 ghost use Rattle.std.specs.Prelude.{◌≡◌, map, IfOk, OnOk, option_map};
 ghost use Rattle.toml.specs.Parse.{parse_document};
 ghost use Rattle.toml.specs.View.{view, table_view, array_view};
-ghost use Rattle.hack_process.specs.PathTexts.{parent_of, texts};
+ghost use Rattle.hack_base.specs.PathTexts.{parent_of};
+ghost use Rattle.hack_base.specs.Names.{names_behind};
 ghost use Rattle.hack_edits.specs.Members.{members_left, items_of_array};
 ghost use Rattle.hack_edits.specs.WorkspaceTree.{array_of_members, members_put, with_members};
 ghost use Rattle.hack_edits.specs.WorkspaceTree.{with_texts, with_exclude, workspace_left};
@@ -12,10 +13,10 @@ ghost use Rattle.hack_edits.specs.WorkspaceTree.{workspace_value, with_workspace
 ghost use Rattle.hack_edits.specs.WorkspaceTree.{reads_without};
 
 use crate::exclude::has_paths;
-use crate::members::{MEMBERS, chosen, copied, value_led, value_unled};
+use crate::members::{MEMBERS, chosen, copy_paths, value_led, value_unled};
 use crate::same::same_table;
 use crate::tables::{put_at, tree_of};
-use hack_process::paths::parent;
+use hack_base::paths::parent;
 use std::alloc::{AllocError, Global};
 use toml::value::Array;
 use toml::{Table, Value};
@@ -32,7 +33,8 @@ pub fn reads_as_expected(
     old: Table,
     new: &str,
 ) -> Result<bool, AllocError>
-    ensures { IfOk result (λ b. b ≡ reads_without root.now (texts private.now) (table_view old)
+    ensures { IfOk result (λ b. b ≡ reads_without root.now (names_behind private.now)
+        (table_view old)
         (parse_document new.now)) }
 {
     match tree_of(alloc, new)? {
@@ -52,7 +54,7 @@ fn expected_tree(
     table: Table,
 ) -> Result<Table, AllocError>
     ensures { IfOk result (λ t. table_view t
-        ≡ tree_left root.now (texts private.now) (table_view table)) }
+        ≡ tree_left root.now (names_behind private.now) (table_view table)) }
 {
     let mut top = table;
     let workspace = top.remove(WORKSPACE);
@@ -69,7 +71,7 @@ fn put_workspace(
     workspace: Option<Value>,
 ) -> Result<(), AllocError>
     ensures { OnOk result (table_view top.new
-        ≡ with_workspace root.now (texts private.now) (option_map view workspace)
+        ≡ with_workspace root.now (names_behind private.now) (option_map view workspace)
         (table_view top.old)) }
 {
     match workspace {
@@ -90,7 +92,7 @@ fn expected_value(
     value: Value,
 ) -> Result<Value, AllocError>
     ensures { IfOk result (λ v. view v
-        ≡ workspace_value root.now (texts private.now) (view value)) }
+        ≡ workspace_value root.now (names_behind private.now) (view value)) }
 {
     match value {
         Value::Table(workspace) => {
@@ -109,7 +111,7 @@ fn expected_workspace(
     workspace: Table,
 ) -> Result<Table, AllocError>
     ensures { IfOk result (λ t. table_view t
-        ≡ workspace_left root.now (texts private.now) (table_view workspace)) }
+        ≡ workspace_left root.now (names_behind private.now) (table_view workspace)) }
 {
     let choice = chosen(alloc, root, private, &workspace)?;
     let kept = keep_members(alloc, root, private, workspace)?;
@@ -124,7 +126,7 @@ fn keep_members(
     workspace: Table,
 ) -> Result<Table, AllocError>
     ensures { IfOk result (λ t. table_view t
-        ≡ with_members root.now (texts paths.now) (table_view workspace)) }
+        ≡ with_members root.now (names_behind paths.now) (table_view workspace)) }
 {
     let mut all = workspace;
     let members = all.remove(MEMBERS);
@@ -141,7 +143,8 @@ fn put_members(
     members: Option<Value>,
 ) -> Result<(), AllocError>
     ensures { OnOk result (table_view top.new
-        ≡ members_put root.now (texts paths.now) (option_map view members) (table_view top.old)) }
+        ≡ members_put root.now (names_behind paths.now) (option_map view members)
+        (table_view top.old)) }
 {
     match members {
         Some(value) => {
@@ -154,7 +157,8 @@ fn put_members(
 }
 
 fn members_of(alloc: Global, root: &str, paths: &[&str], value: Value) -> Result<Value, AllocError>
-    ensures { IfOk result (λ v. view v ≡ array_of_members root.now (texts paths.now) (view value)) }
+    ensures { IfOk result (λ v. view v ≡ array_of_members root.now (names_behind paths.now)
+        (view value)) }
 {
     match value {
         Value::Array(items) => {
@@ -173,9 +177,9 @@ fn kept_members(
     items: Array,
 ) -> Result<Array, AllocError>
     ensures { IfOk result (λ v. array_view v
-        ≡ members_left root.now (texts paths.now) (array_view items)) }
+        ≡ members_left root.now (names_behind paths.now) (array_view items)) }
 {
-    let mut left = copied(alloc, paths)?;
+    let mut left = copy_paths(alloc, paths)?;
     let mut kept = Array::new(alloc);
     for item in items {
         let led = value_led(alloc, root, &item, left.as_slice())?;
@@ -190,7 +194,7 @@ fn kept_members(
 /// A workspace with the folders of paths to exclude.
 fn put_exclude(alloc: Global, paths: &[&str], workspace: Table) -> Result<Table, AllocError>
     ensures { IfOk result (λ t. table_view t
-        ≡ with_exclude (map parent_of (texts paths.now)) (table_view workspace)) }
+        ≡ with_exclude (map parent_of (names_behind paths.now)) (table_view workspace)) }
 {
     if !has_paths(paths) {
         return Ok(workspace);
@@ -219,7 +223,7 @@ fn into_items(alloc: Global, value: Option<Value>) -> Array
 /// Puts the folders of paths behind items.
 fn push_folders(alloc: Global, items: Array, paths: &[&str]) -> Result<Array, AllocError>
     ensures { IfOk result (λ a. array_view a
-        ≡ with_texts (map parent_of (texts paths.now)) (array_view items)) }
+        ≡ with_texts (map parent_of (names_behind paths.now)) (array_view items)) }
 {
     let mut all = items;
     for path in paths {

@@ -9,12 +9,12 @@ use Rattle.std.proofs.lemmas.Bool.Decides.{eqb_tells}
 use Rattle.std.proofs.lemmas.List.Elements.{All-contains, All-contains_itself, All-nil, Contains-get_or}
 use Rattle.std.proofs.lemmas.List.Edits.{length-remove, get_or-remove_below, get_or-remove_above}
 use Rattle.std.proofs.lemmas.List.{get_or_default}
-use Rattle.hack_features.proofs.Members.{Contains-nil, Contains-cons_cases, Contains-head, Contains-tail, last_of}
-use Rattle.hack_features.proofs.Passes.{all_pass, each_passes, some_passes, any_passes, removed_member}
+use Rattle.hack_base.proofs.Members.{Contains-nil, Contains-cons_cases, Contains-head, Contains-tail, last_of}
+use Rattle.hack_base.proofs.Passes.{all_pass, each_passes, some_passes, any_passes, removed_member}
 use Rattle.hack_features.proofs.Coverage.{Chain-append, named_in, within_left, exclusive_left, selection_left, enables_left, nonempty_left, name_left, name_kept}
 use Rattle.hack_features.proofs.Single.{member_of, key_from}
 use Rattle.hack_features.proofs.Listing.{selection_pop, selection_push, selection_up, before_new, before_push}
-use Rattle.hack_features.specs.Names.{Name}
+use Rattle.hack_base.specs.Names.{Name}
 use Rattle.hack_features.specs.FeatureMap.{IsKey, here, Enables}
 use Rattle.hack_features.specs.Tables.{leads}
 use Rattle.hack_features.specs.Places.{name_at, ArePlaced}

@@ -9,10 +9,10 @@ use Rattle.std.proofs.lemmas.Bool.{cases_lt, cases_eq}
 use Rattle.std.proofs.lemmas.List.{get_or_default}
 use Rattle.std.proofs.lemmas.List.Elements.{All-head, All-tail, All-nil, All-cons}
 use Rattle.std.proofs.lemmas.Map.Views.{list_any-from_Contains, Contains-from_any}
-use Rattle.hack_features.proofs.Members.{Contains-nil, Contains-cons_cases, Contains-head, Contains-tail}
-use Rattle.hack_features.proofs.NameLemmas.{same_text, differ}
+use Rattle.hack_base.proofs.Members.{Contains-nil, Contains-cons_cases, Contains-head, Contains-tail}
+use Rattle.hack_base.proofs.NameLemmas.{same_text, differ}
 use Rattle.hack_features.proofs.ReachLemmas.{all_targets, adds-one, adds-there, adds-target, adds-no_target, adds-no_targets, adds-edges, Searching, searching-start, searching-next, searching-bound, searching-end}
-use Rattle.hack_features.specs.Names.{Name}
+use Rattle.hack_base.specs.Names.{Name}
 use Rattle.hack_features.specs.FeatureMap.{FeatureMap, values_at, IsKey, Chain, Enables, EnablesOneOf}
 use Rattle.hack_features.specs.Search.{edge_of, target_of, IsTarget, Adds, IsReach}
 use Rattle.hack_features.specs.Places.{name_at, AreAt, AreAllAt, AreRoutes, ArePlaced}

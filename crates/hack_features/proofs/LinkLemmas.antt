@@ -8,12 +8,12 @@ use Rattle.std.specs.Borrow.{Bor}
 use Rattle.std.proofs.Math.ListN.{get_or-append}
 use Rattle.std.proofs.lemmas.List.Elements.{Contains-append_left, Contains-append_right, Contains-get_or, All-contains}
 use Rattle.std.proofs.lemmas.List.{get_or_default}
-use Rattle.hack_features.proofs.Members.{lt_or_same, Contains-map, Contains-map_from}
+use Rattle.hack_base.proofs.Members.{lt_or_same, Contains-map, Contains-map_from}
 use Rattle.hack_features.proofs.TableLemmas.{filter_map_from, filter_map_has}
-use Rattle.hack_features.proofs.NameLemmas.{length-le_from_distinct}
+use Rattle.hack_base.proofs.NameLemmas.{length-le_from_distinct}
 use Rattle.hack_features.proofs.ReachLemmas.{all_targets, target_listed, lookup-feature_map, edge-from_target, target-from_edge}
 use Rattle.hack_features.proofs.PlaceLemmas.{name_at-front, at-front, one_place}
-use Rattle.hack_features.specs.Names.{Name, names_of}
+use Rattle.hack_base.specs.Names.{Name, names_of}
 use Rattle.hack_features.specs.FeatureMap.{FeatureMap, feature_map, values_at, IsKey, Chain, here, step}
 use Rattle.hack_features.specs.Search.{edge_of, target_of, IsTarget, Adds}
 use Rattle.hack_features.specs.Tables.{bit}

@@ -8,8 +8,8 @@ use Rattle.std.proofs.lemmas.List.Elements.{All-append, All-push, All-weaker, Al
 use Rattle.std.proofs.lemmas.Bool.Decides.{eqb_tells}
 use Rattle.std.proofs.lemmas.List.Quantifiers.{all_pairs_push}
 use Rattle.std.specs.Prelude.{Vec}
-use Rattle.hack_features.proofs.Members.{last_of, Contains-head, Contains-nil, Contains-cons_cases, Contains-map, Contains-map_from, Contains-filter, Contains-filter_from}
-use Rattle.hack_features.specs.Sets.{rows_of, IsSelection, IsBefore, Pairwise, IsListing, IsWithin, chosen, has_room, with_each}
+use Rattle.hack_base.proofs.Members.{last_of, Contains-head, Contains-nil, Contains-cons_cases, Contains-map, Contains-map_from, Contains-filter, Contains-filter_from}
+use Rattle.hack_features.specs.Sets.{rows_of, IsSelection, IsBefore, Pairwise, IsListing, IsWithin, items_at, has_room, with_each}
 
 -- the sets of positions below n, by the greatest
 abbrev pub sets_below : Option ℕ → ℕ → List (List ℕ)
@@ -180,14 +180,14 @@ slice_get-some : {X : Type 0} (items : List X) (p : ℕ) → p < length items �
 slice_get-some [] p h = absurd (omega arith)
 slice_get-some (x ∷ items) p h = (get_or (x ∷ items) p x, slice_get-at (x ∷ items) p x h)
 
-pub length-chosen : {X : Type 0} (items : List X) (s : List ℕ) → All (λ p. p < length items) s → length (chosen items s) ≡ length s
+pub length-chosen : {X : Type 0} (items : List X) (s : List ℕ) → All (λ p. p < length items) s → length (items_at items s) ≡ length s
 length-chosen items [] h = refl
 length-chosen items (p ∷ s) h =
-    ap (λ o. length (cons_option o (chosen items s))) (slice_get-some items p (All-head (λ p. p < length items) p s h)).1
+    ap (λ o. length (cons_option o (items_at items s))) (slice_get-some items p (All-head (λ p. p < length items) p s h)).1
     ∙ ap suc (length-chosen items s (All-tail (λ p. p < length items) p s h))
 
-pub chosen-push : {X : Type 0} (items : List X) (s : List ℕ) (n : ℕ) (d : X) → n < length items → chosen items (s ++ n ∷ []) ≡ chosen items s ++ get_or items n d ∷ []
-chosen-push items s n d h = filter_map-append (slice_get items) s (n ∷ []) ∙ ap (λ o. chosen items s ++ cons_option o []) (slice_get-at items n d h)
+pub chosen-push : {X : Type 0} (items : List X) (s : List ℕ) (n : ℕ) (d : X) → n < length items → items_at items (s ++ n ∷ []) ≡ items_at items s ++ get_or items n d ∷ []
+chosen-push items s n d h = filter_map-append (slice_get items) s (n ∷ []) ∙ ap (λ o. items_at items s ++ cons_option o []) (slice_get-at items n d h)
 
 -- the step of `longer`
 with_each-one : {X : Type 0} (x : X) (l : List X) (b : Bool) → map (λ list. list ++ x ∷ []) (cond b (l ∷ []) []) ≡ cond b ((l ++ x ∷ []) ∷ []) []
@@ -201,7 +201,7 @@ with_each-more depth x lists k d h =
     ∙ ap (λ more. with_each depth x (take k lists) ++ more) (with_each-one x (get_or lists k d) (has_room depth (get_or lists k d)))
 
 -- the step of `powerset`
-has_room-chosen : {X : Type 0} (items : List X) (depth : Option ℕ) (s : List ℕ) → All (λ p. p < length items) s → has_room depth (chosen items s) ≡ has_room depth s
+has_room-chosen : {X : Type 0} (items : List X) (depth : Option ℕ) (s : List ℕ) → All (λ p. p < length items) s → has_room depth (items_at items s) ≡ has_room depth s
 has_room-chosen items None s h = refl
 has_room-chosen items (Some most) s h = ap (λ n. nat_lt n most) (length-chosen items s h)
 
@@ -211,22 +211,22 @@ kept_pair : {X : Type 0} (f : List ℕ → List X) (x : X) (n : ℕ) (s : List �
 kept_pair f x n s true F G e h = cc
 kept_pair f x n s false F G e h = h
 
-pub with_each-chosen : {X : Type 0} (items : List X) (depth : Option ℕ) (n : ℕ) (d : X) → n < length items → (sets : List (List ℕ)) → All (λ s. All (λ p. p < n) s) sets → with_each depth (get_or items n d) (map (chosen items) sets) ≡ map (chosen items) (with_each depth n sets)
+pub with_each-chosen : {X : Type 0} (items : List X) (depth : Option ℕ) (n : ℕ) (d : X) → n < length items → (sets : List (List ℕ)) → All (λ s. All (λ p. p < n) s) sets → with_each depth (get_or items n d) (map (items_at items) sets) ≡ map (items_at items) (with_each depth n sets)
 with_each-chosen items depth n d h [] low = refl
 with_each-chosen items depth n d h (s ∷ sets) low =
-    ap (λ b. map (λ list. list ++ get_or items n d ∷ []) (cond b (chosen items s ∷ filter (has_room depth) (map (chosen items) sets)) (filter (has_room depth) (map (chosen items) sets))))
+    ap (λ b. map (λ list. list ++ get_or items n d ∷ []) (cond b (items_at items s ∷ filter (has_room depth) (map (items_at items) sets)) (filter (has_room depth) (map (items_at items) sets))))
     (has_room-chosen items depth s (All-weaker (λ p. p < n) (λ p. p < length items) (λ p lt. omega arith) s (All-head (λ s. All (λ p. p < n) s) s sets low)))
-    ∙ kept_pair (chosen items) (get_or items n d) n s (has_room depth s) (filter (has_room depth) (map (chosen items) sets)) (filter (has_room depth) sets)
+    ∙ kept_pair (items_at items) (get_or items n d) n s (has_room depth s) (filter (has_room depth) (map (items_at items) sets)) (filter (has_room depth) sets)
     (chosen-push items s n d h) (with_each-chosen items depth n d h sets (All-tail (λ s. All (λ p. p < n) s) s sets low))
 
 -- one turn of `powerset`: the lists so far and each with the next item
-pub next_lists : {X : Type 0} (items : List X) (depth : Option ℕ) (n : ℕ) (x : X) (lists : List (List X)) → n < length items → x ≡ get_or items n x → lists ≡ map (chosen items) (sets_below depth n) → lists ++ with_each depth x lists ≡ map (chosen items) (sets_below depth (n + 1))
+pub next_lists : {X : Type 0} (items : List X) (depth : Option ℕ) (n : ℕ) (x : X) (lists : List (List X)) → n < length items → x ≡ get_or items n x → lists ≡ map (items_at items) (sets_below depth n) → lists ++ with_each depth x lists ≡ map (items_at items) (sets_below depth (n + 1))
 next_lists items depth n x lists h e same =
     ap (λ ls. ls ++ with_each depth x ls) same
-    ∙ ap (λ y. map (chosen items) (sets_below depth n) ++ with_each depth y (map (chosen items) (sets_below depth n))) e
-    ∙ ap (λ more. map (chosen items) (sets_below depth n) ++ more) (with_each-chosen items depth n x h (sets_below depth n) (all_low depth n (sets_below depth n) (listing depth n)))
-    ∙ sym (map-append (chosen items) (sets_below depth n) (with_each depth n (sets_below depth n)))
-    ∙ ap (λ m. map (chosen items) (sets_below depth m)) (sym (add-one n))
+    ∙ ap (λ y. map (items_at items) (sets_below depth n) ++ with_each depth y (map (items_at items) (sets_below depth n))) e
+    ∙ ap (λ more. map (items_at items) (sets_below depth n) ++ more) (with_each-chosen items depth n x h (sets_below depth n) (all_low depth n (sets_below depth n) (listing depth n)))
+    ∙ sym (map-append (items_at items) (sets_below depth n) (with_each depth n (sets_below depth n)))
+    ∙ ap (λ m. map (items_at items) (sets_below depth m)) (sym (add-one n))
 
 pub rows-more : {X Z : Type 0} (depth : Option ℕ) (x : X) (lists : List (Vec X Z)) (k : ℕ) (list : Vec X Z) → k < length lists → list ≡ get_or lists k list
     → with_each depth x (take (k + 1) (rows_of lists)) ≡ with_each depth x (take k (rows_of lists)) ++ cond (has_room depth list.items) ((list.items ++ x ∷ []) ∷ []) []

@@ -6,7 +6,7 @@ use Rattle.std.proofs.lemmas.List.Elements.{Contains-append_left, Contains-push,
 use Rattle.std.specs.Prelude.{◌==◌, ◌||◌}
 use Rattle.std.proofs.lemmas.Bool.{cases_eq}
 use Rattle.std.proofs.lemmas.Bool.Decides.{eqb_tells}
-use Rattle.hack_features.proofs.Members.{lt_or_same, Contains-nil}
+use Rattle.hack_base.proofs.Members.{lt_or_same, Contains-nil}
 use Rattle.hack_features.proofs.ReachLemmas.{Chain-snoc, Chain-kept}
 use Rattle.hack_features.specs.FeatureMap.{Chain, here, step}
 use Rattle.hack_features.specs.Sets.{rows_of}

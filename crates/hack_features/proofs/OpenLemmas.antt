@@ -6,7 +6,7 @@ use Rattle.std.proofs.Math.ListN.{get_or-append}
 use Rattle.std.proofs.Math.Seq.{get_or-append_seam}
 use Rattle.hack_features.specs.Questions.{with_next, AreOpen}
 use Rattle.hack_features.specs.Sets.{IsWithin}
-use Rattle.hack_features.proofs.Steps.{seen-next}
+use Rattle.hack_base.proofs.Steps.{seen-next}
 
 -- the set at a place
 abbrev pub at : List (List ℕ) → ℕ → List ℕ

@@ -11,12 +11,12 @@ use Rattle.std.proofs.Math.ListN.{get_or-append}
 use Rattle.std.proofs.lemmas.List.{get_or_default, map-append}
 use Rattle.std.proofs.lemmas.List.Elements.{All-append, All-cons, All-nil, All-weaker, Contains-get_or}
 use Rattle.std.proofs.lemmas.Map.Keys.{IsDistinct-push}
-use Rattle.hack_features.proofs.Members.{lt_or_same}
-use Rattle.hack_features.proofs.Steps.{filter_map-found, filter_map-missed}
+use Rattle.hack_base.proofs.Members.{lt_or_same}
+use Rattle.hack_base.proofs.Steps.{filter_map-found, filter_map-missed}
 use Rattle.hack_features.specs.Search.{target_of}
 use Rattle.hack_features.specs.declared.reach.Edges.{Edges}
-use Rattle.hack_features.proofs.NameLemmas.{none_from, same_text, differ}
-use Rattle.hack_features.specs.Names.{Name}
+use Rattle.hack_base.proofs.NameLemmas.{none_from, same_text, differ}
+use Rattle.hack_base.specs.Names.{Name}
 use Rattle.hack_features.specs.Deps.{get_at}
 use Rattle.hack_features.specs.Places.{name_at, AreAt, AreAllAt, HasPlaces, targets_of, IsMore}
 

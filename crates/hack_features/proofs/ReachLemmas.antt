@@ -12,9 +12,9 @@ use Rattle.std.specs.Str.{bytes_eq}
 use Rattle.std.proofs.lemmas.Map.Text.{is_eq-slice_cmp}
 use Rattle.std.proofs.lemmas.Map.Keys.{IsDistinct-push}
 use Rattle.std.proofs.lemmas.List.Elements.{Contains-append_left, Contains-append_right, Contains-push, Contains-push_cases}
-use Rattle.hack_features.proofs.Members.{Contains-head, Contains-tail, Contains-nil, Contains-map, lt_or_same}
-use Rattle.hack_features.proofs.NameLemmas.{none_from, length-le_from_distinct}
-use Rattle.hack_features.specs.Names.{Name, names_of}
+use Rattle.hack_base.proofs.Members.{Contains-head, Contains-tail, Contains-nil, Contains-map, lt_or_same}
+use Rattle.hack_base.proofs.NameLemmas.{none_from, length-le_from_distinct}
+use Rattle.hack_base.specs.Names.{Name, names_of}
 use Rattle.hack_features.specs.FeatureMap.{FeatureMap, feature_map, values_at, IsDependency, Chain, here, step}
 use Rattle.hack_features.specs.Search.{edge_of, target_of, IsTarget, Adds, IsReach}
 use Rattle.hack_features.specs.declared.reach.Edges.{Edges}

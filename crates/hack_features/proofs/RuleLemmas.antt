@@ -3,7 +3,7 @@ use Rattle.std.proofs.Common.{◌≡◌, ℕ, List, length, refl, sym, ◌∙◌
 use Rattle.std.specs.Prelude.{◌==◌, not}
 use Rattle.std.proofs.lemmas.Bool.{and_parts, and_from, leb-true, le-leb}
 use Rattle.hack_features.specs.declared.rules.Rules.{Rules}
-use Rattle.hack_features.specs.Sets.{IsSelection, IsWithin, IsListing, rows_of, chosen}
+use Rattle.hack_features.specs.Sets.{IsSelection, IsWithin, IsListing, rows_of, items_at}
 use Rattle.hack_features.specs.Rules.{Choice, IsRequired, IsPermitted, IsListed, IsWanted, Covers, AreSingle, EnableTheSame, AreCovers}
 use Rattle.hack_features.specs.Tables.{keeps_depth, is_lean, is_exclusive, is_required, AreTables, wanted_test}
 use Rattle.hack_features.specs.View.{choice_of, size_of, may_of, whole_of, AreTablesOf}
@@ -12,8 +12,8 @@ use Rattle.hack_features.specs.Routed.{names_in}
 use Rattle.hack_features.specs.PlacedView.{IsPlaced}
 use Rattle.hack_features.specs.declared.reach.Edges.TheVariants.{Enabling}
 use Rattle.hack_features.proofs.Decided.{are_tables, are_placed}
-use Rattle.hack_features.proofs.Members.{Contains-map}
-use Rattle.hack_features.proofs.Steps.{length-candidates_of}
+use Rattle.hack_base.proofs.Members.{Contains-map}
+use Rattle.hack_features.proofs.CandidateLemmas.{length-candidates_of}
 use Rattle.hack_features.proofs.TableLemmas.{lean_iff, tell}
 use Rattle.hack_features.proofs.Coverage.{covered}
 use Rattle.hack_features.proofs.CoverLemmas.{ordered, not_empty, is_not_empty}
@@ -88,14 +88,14 @@ module _ (r : Rules) (h : AreTablesOf (choice_of r) r) where
   }
 
   -- each wanted set is covered by one of them
-  pub covering_of : {X : Type 0} (items : List X) (lists : List (List X)) (sets : List (List ℕ)) → IsListing (size_of r) (IsListed (choice_of r)) sets → lists ≡ map (chosen items) sets
-      → (s : List ℕ) → IsSelection (size_of r) s → IsWanted (choice_of r) s → (t : List ℕ) × Covers (choice_of r) s t × Contains lists (chosen items t)
+  pub covering_of : {X : Type 0} (items : List X) (lists : List (List X)) (sets : List (List ℕ)) → IsListing (size_of r) (IsListed (choice_of r)) sets → lists ≡ map (items_at items) sets
+      → (s : List ℕ) → IsSelection (size_of r) s → IsWanted (choice_of r) s → (t : List ℕ) × Covers (choice_of r) s t × Contains lists (items_at items t)
   covering_of items lists sets l e s sel w =
       let t = covered (choice_of r) (λ s sel. tell (choice_of r) (rows_of r.tables.spares.items) h.spared s sel) s (up s sel) w in (
         t.0,
         t.1,
-        subst (λ ls. Contains ls (chosen items t.0)) (sym e)
-            (Contains-map (chosen items) sets t.0 ((l.exact t.0).1 (down t.0 t.1.selection, t.1.listed))),
+        subst (λ ls. Contains ls (items_at items t.0)) (sym e)
+            (Contains-map (items_at items) sets t.0 ((l.exact t.0).1 (down t.0 t.1.selection, t.1.listed))),
       )
 
   -- each wanted set is covered by one of the listed sets

@@ -3,9 +3,9 @@ use Rattle.std.specs.Map.{lookup}
 use Rattle.std.specs.Str.{bytes_eq}
 use Rattle.std.proofs.lemmas.Bool.Decides.{eqb_tells}
 use Rattle.std.proofs.lemmas.List.Elements.{All-contains, All-cons, All-nil, Contains-append_cases}
-use Rattle.hack_features.proofs.Members.{Contains-nil, Contains-cons_cases, Contains-head, Contains-tail}
+use Rattle.hack_base.proofs.Members.{Contains-nil, Contains-cons_cases, Contains-head, Contains-tail}
 use Rattle.hack_features.proofs.Coverage.{Chain-append, named_in}
-use Rattle.hack_features.specs.Names.{Name}
+use Rattle.hack_base.specs.Names.{Name}
 use Rattle.hack_features.specs.FeatureMap.{FeatureMap, IsKey, here, step, Enables}
 use Rattle.hack_features.specs.Sets.{IsSelection}
 use Rattle.hack_features.specs.Rules.{Choice, names_at, names_in, IsEnabledBy, IsRedundant, AreSingle}

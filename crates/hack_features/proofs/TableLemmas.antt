@@ -8,11 +8,11 @@ use Rattle.std.proofs.lemmas.Bool.{leb-true, le-leb, and_cases, and_parts, and_f
 use Rattle.std.proofs.lemmas.Bool.Decides.{eqb_tells}
 use Rattle.std.proofs.lemmas.List.Sums.{sum_by-cons}
 use Rattle.std.proofs.lemmas.List.Elements.{All-contains, All-head, All-tail, All-nil, All-cons, All-append, Contains-get_or, Contains-push, Contains-push_cases, Contains-append_left}
-use Rattle.hack_features.proofs.Members.{Contains-nil, Contains-cons_cases, Contains-head, Contains-tail, Contains-map, Contains-map_from}
-use Rattle.hack_features.proofs.Passes.{all_pass, each_passes, some_passes, any_passes}
+use Rattle.hack_base.proofs.Members.{Contains-nil, Contains-cons_cases, Contains-head, Contains-tail, Contains-map, Contains-map_from}
+use Rattle.hack_base.proofs.Passes.{all_pass, each_passes, some_passes, any_passes}
 use Rattle.hack_features.proofs.Coverage.{named_in}
 use Rattle.hack_features.proofs.Single.{member_of}
-use Rattle.hack_features.specs.Names.{Name}
+use Rattle.hack_base.specs.Names.{Name}
 use Rattle.hack_features.specs.FeatureMap.{FeatureMap, IsKey, Chain, Enables, Reaches, EnablesOneOf}
 use Rattle.hack_features.specs.Search.{edge_of}
 use Rattle.hack_features.specs.Deps.{IsDropped}
@@ -20,7 +20,7 @@ use Rattle.hack_features.specs.Places.{name_at, AreAt, AreRoutes, ArePlaced}
 use Rattle.hack_features.specs.declared.reach.Edges.{Edges}
 use Rattle.hack_features.specs.declared.reach.Edges.TheVariants.{Enabling, Reaching}
 use Rattle.hack_features.specs.Sets.{IsSelection, Pairwise}
-use Rattle.hack_features.specs.Rules.{Choice, unlifted, names_at, names_in, SparesNames, Spares, IsRedundant, NotBothReach, IsExclusive, Serves, IsRequired}
+use Rattle.hack_features.specs.Rules.{Choice, unlifted_groups, names_at, names_in, SparesNames, Spares, IsRedundant, NotBothReach, IsExclusive, Serves, IsRequired}
 use Rattle.hack_features.specs.Tables.{bit, count_at, cell, leads, is_lean, is_exclusive, is_required, spares_test, serves_test, Counts, Matched, CountsHits, SaysServers, RowsServe}
 use Rattle.hack_features.specs.Tables as table
 
@@ -386,7 +386,7 @@ required_iff c rows serve s sel = (
 bit_none : (k : ℕ) → bit [] k ≡ false
 bit_none k = refl
 
-unlifted-push : (groups : List (List Name)) (group : List Name) (lifted : List Bool) → unlifted (groups ++ group ∷ []) lifted ≡ unlifted groups lifted ++ cond (bit lifted (length groups)) [] (group ∷ [])
+unlifted-push : (groups : List (List Name)) (group : List Name) (lifted : List Bool) → unlifted_groups (groups ++ group ∷ []) lifted ≡ unlifted_groups groups lifted ++ cond (bit lifted (length groups)) [] (group ∷ [])
 unlifted-push [] group [] = refl
 unlifted-push [] group (true ∷ lifted) = refl
 unlifted-push [] group (false ∷ lifted) = refl
@@ -394,10 +394,10 @@ unlifted-push (g ∷ groups) group [] = ap (λ l. g ∷ l) (unlifted-push groups
 unlifted-push (g ∷ groups) group (true ∷ lifted) = unlifted-push groups group lifted
 unlifted-push (g ∷ groups) group (false ∷ lifted) = ap (λ l. g ∷ l) (unlifted-push groups group lifted)
 
-pub unlifted-more : (groups : List (List Name)) (k : ℕ) (group : List Name) (lifted : List Bool) → k < length groups → take (k + 1) groups ≡ take k groups ++ group ∷ [] → unlifted (take (k + 1) groups) lifted ≡ unlifted (take k groups) lifted ++ cond (bit lifted k) [] (group ∷ [])
+pub unlifted-more : (groups : List (List Name)) (k : ℕ) (group : List Name) (lifted : List Bool) → k < length groups → take (k + 1) groups ≡ take k groups ++ group ∷ [] → unlifted_groups (take (k + 1) groups) lifted ≡ unlifted_groups (take k groups) lifted ++ cond (bit lifted k) [] (group ∷ [])
 unlifted-more groups k group lifted lt more =
-    ap (λ gs. unlifted gs lifted) more ∙ unlifted-push (take k groups) group lifted
-    ∙ ap (λ n. unlifted (take k groups) lifted ++ cond (bit lifted n) [] (group ∷ [])) (let e : length (take k groups) ≡ k = omega (arith, length-take k groups) in e)
+    ap (λ gs. unlifted_groups gs lifted) more ∙ unlifted-push (take k groups) group lifted
+    ∙ ap (λ n. unlifted_groups (take k groups) lifted ++ cond (bit lifted n) [] (group ∷ [])) (let e : length (take k groups) ≡ k = omega (arith, length-take k groups) in e)
 
 -- redundancy
 

@@ -2,7 +2,7 @@
 use Rattle.std.specs.Prelude.{◌≡◌, ℕ, List, [], ◌∷◌, ◌++◌, length, string_bytes, map}
 use Rattle.std.specs.List.{join_with_byte}
 use Rattle.std.specs.Borrow.{Bor}
-use Rattle.hack_features.specs.Names.{Name, names_of}
+use Rattle.hack_base.specs.Names.{Name, names_of}
 use Rattle.hack_features.specs.declared.feature.Feature.{Feature}
 use Rattle.hack_features.specs.declared.feature.Feature.TheVariants.{Normal, Group, Path}
 

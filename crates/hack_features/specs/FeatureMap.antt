@@ -4,7 +4,7 @@ use Rattle.std.specs.List.{starts_with, before_first}
 use Rattle.std.specs.BTreeMap.{BTreeMap}
 use Rattle.std.specs.Map.{lookup}
 use Rattle.std.specs.Str.{bytes_eq}
-use Rattle.hack_features.specs.Names.{Name, names_of}
+use Rattle.hack_base.specs.Names.{Name, names_of}
 
 -- a feature map: names, each with its values
 abbrev pub FeatureMap : Type 0

@@ -6,7 +6,7 @@ use Rattle.hack_features.specs.declared.feature.Feature.{Feature}
 use Rattle.hack_features.specs.declared.tables.Given.{Given}
 use Rattle.hack_features.specs.FeatureMap.{feature_map}
 use Rattle.hack_features.specs.Feature.{groups_of, candidates_of}
-use Rattle.hack_features.specs.Rules.{Choice, unlifted}
+use Rattle.hack_features.specs.Rules.{Choice, unlifted_groups}
 
 -- the choice that the arguments of `Rules::new` make
 abbrev pub choice : {Y Z : Type 0} → List (Bor Feature) → Option ℕ → List Feature → List Feature → BTreeMap (String Y) (Vec (String Y) Z) → List Bool → Choice
@@ -15,7 +15,7 @@ choice features depth at_least_one_of exclusive m lifted = record {
   candidates = candidates_of features;
   depth = depth;
   at_least_one_of = groups_of at_least_one_of;
-  exclusive = unlifted (groups_of exclusive) lifted;
+  exclusive = unlifted_groups (groups_of exclusive) lifted;
 }
 
 -- the choice that is given

@@ -1,6 +1,6 @@
 -- What links show.
 use Rattle.std.specs.Prelude.{◌≡◌, ◌≤◌, List, length}
-use Rattle.hack_features.specs.Names.{Name}
+use Rattle.hack_base.specs.Names.{Name}
 use Rattle.hack_features.specs.FeatureMap.{FeatureMap}
 use Rattle.hack_features.specs.Sets.{rows_of}
 use Rattle.hack_features.specs.Places.{HasPlaces, AreRows}

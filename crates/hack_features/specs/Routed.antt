@@ -1,6 +1,6 @@
 -- What routes show.
 use Rattle.std.specs.Prelude.{List}
-use Rattle.hack_features.specs.Names.{Name, shown}
+use Rattle.hack_base.specs.Names.{Name, names_behind}
 use Rattle.hack_features.specs.FeatureMap.{FeatureMap}
 use Rattle.hack_features.specs.Sets.{rows_of}
 use Rattle.hack_features.specs.Places.{AreRoutes}
@@ -9,7 +9,7 @@ use Rattle.hack_features.specs.declared.reach.Edges.{Edges}
 
 -- the names of routes, by place
 abbrev pub names_in : Routes → List Name
-names_in routes = shown routes.names.items
+names_in routes = names_behind routes.names.items
 
 -- the routes tell what the map says
 abbrev pub AreRoutesOf : Edges → FeatureMap → Routes → Type 0

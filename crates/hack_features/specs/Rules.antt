@@ -1,7 +1,7 @@
 -- Which sets of features a package's powerset lists. A set is an increasing list of positions in the list of candidates.
 use Rattle.std.specs.Prelude.{◌≡◌, ◌≢◌, ◌<◌, ℕ, List, [], ◌∷◌, flat_map, length, Option, All, Contains, ◌↔◌, ◌⊎◌, Bool, cond}
 use Rattle.std.specs.List.{slice_index_or}
-use Rattle.hack_features.specs.Names.{Name}
+use Rattle.hack_base.specs.Names.{Name}
 use Rattle.hack_features.specs.FeatureMap.{FeatureMap, IsKey, Enables, Reaches, EnablesOneOf}
 use Rattle.hack_features.specs.Sets.{IsSelection, IsBefore, IsWithin, Pairwise}
 
@@ -14,10 +14,10 @@ pub record Choice : Type 0 where
   pub exclusive : List (List Name)
 
 -- the groups that are not lifted
-abbrev pub unlifted : List (List Name) → List Bool → List (List Name)
-unlifted [] lifted = []
-unlifted (group ∷ groups) [] = group ∷ unlifted groups []
-unlifted (group ∷ groups) (lift ∷ lifted) = cond lift (unlifted groups lifted) (group ∷ unlifted groups lifted)
+abbrev pub unlifted_groups : List (List Name) → List Bool → List (List Name)
+unlifted_groups [] lifted = []
+unlifted_groups (group ∷ groups) [] = group ∷ unlifted_groups groups []
+unlifted_groups (group ∷ groups) (lift ∷ lifted) = cond lift (unlifted_groups groups lifted) (group ∷ unlifted_groups groups lifted)
 
 -- the names of the candidate at a position
 abbrev pub names_at : Choice → ℕ → List Name

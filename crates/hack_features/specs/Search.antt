@@ -2,7 +2,7 @@
 use Rattle.std.specs.Prelude.{◌≡◌, ◌==◌, List, ◌++◌, Option, None, Some, cond, codes, nat_eq, IsTrue, Contains, ◌↔◌, ◌⊎◌}
 use Rattle.std.specs.List.{IsDistinct, starts_with, before_first}
 use Rattle.std.specs.Str.{bytes_eq}
-use Rattle.hack_features.specs.Names.{Name, shown}
+use Rattle.hack_base.specs.Names.{Name, names_behind}
 use Rattle.hack_features.specs.FeatureMap.{FeatureMap, HasEdge, HasCutEdge, Chain}
 use Rattle.hack_features.specs.Deps.{NameSet, has_name}
 use Rattle.hack_features.specs.declared.reach.Found.{Found}
@@ -31,7 +31,7 @@ HasJust s names = (y : Name) → IsTrue (has_name s y) ↔ Contains names y
 
 -- the names that a search has found, in the order in which it found them
 abbrev pub names_found : Found → List Name
-names_found found = shown found.order.items
+names_found found = names_behind found.order.items
 
 -- the set that a search keeps beside its list has just the names in it
 abbrev pub IsInStep : Found → Type 0

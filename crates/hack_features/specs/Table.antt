@@ -1,12 +1,12 @@
 -- What a table of names shows.
 use Rattle.std.specs.Prelude.{List}
-use Rattle.hack_features.specs.Names.{Name, shown}
+use Rattle.hack_base.specs.Names.{Name, names_behind}
 use Rattle.hack_features.specs.Places.{HasPlaces}
 use Rattle.hack_features.specs.declared.names.Names.{Names}
 
 -- the names of a table, by place
 abbrev pub table : Names → List Name
-table names = shown names.texts.items
+table names = names_behind names.texts.items
 
 -- the table and its map agree
 abbrev pub IsInStep : Names → Type 0

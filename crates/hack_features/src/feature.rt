@@ -3,7 +3,7 @@
 ghost use Rattle.std.specs.Prelude.{◌≡◌, ◌↔◌, ◌∷◌, [], ◌++◌, length, Some, IsTrue, IfOk, Any};
 ghost use Rattle.std.specs.Prelude.{Contains, string_bytes};
 ghost use Rattle.std.specs.List.{join_with_byte};
-ghost use Rattle.hack_features.specs.Names.{names_of};
+ghost use Rattle.hack_base.specs.Names.{names_of};
 ghost use Rattle.hack_features.specs.FeatureMap.{feature_map, Reaches};
 ghost use Rattle.std.specs.Cmp.{IsTotalOrder};
 ghost use Rattle.std.specs.Ordering.{is_eq};

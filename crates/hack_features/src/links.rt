@@ -1,7 +1,7 @@
 //! Which names of a feature map lead to which by one edge, as rows of places in a table of names.
 
 ghost use Rattle.std.specs.Prelude.{◌≡◌, ◌<◌, ◌++◌, ◌+◌, List, length, IfOk, OnOk};
-ghost use Rattle.hack_features.specs.Names.{Name};
+ghost use Rattle.hack_base.specs.Names.{Name};
 ghost use Rattle.hack_features.specs.FeatureMap.{feature_map};
 
 use crate::names::Names;

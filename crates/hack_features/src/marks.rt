@@ -62,7 +62,7 @@ pub(crate) fn row_at(rows: &[Vec<usize>], place: usize) -> &[usize]
 
 /// A mark at each place that a chain of edges leads to from `start`, itself too. `rows` has for
 /// each place those that an edge leads to.
-pub(crate) fn reached(
+pub(crate) fn mark_reached(
     alloc: Global,
     rows: &[Vec<usize>],
     start: usize,
@@ -96,7 +96,7 @@ fn marks_from(alloc: Global, rows: &[Vec<usize>], place: usize) -> Result<Vec<bo
     if row_at(rows, place).is_empty() {
         return Ok(Vec::new(alloc));
     }
-    Ok(reached(alloc, rows, place)?)
+    Ok(mark_reached(alloc, rows, place)?)
 }
 
 /// For each place the marks of what chains lead to from it.

@@ -2,7 +2,7 @@
 //! not again.
 
 ghost use Rattle.std.specs.Prelude.{◌≡◌, ◌<◌, length, IfOk, OnOk, MatchOption, Contains};
-ghost use Rattle.hack_features.specs.Names.{Name, names_of};
+ghost use Rattle.hack_base.specs.Names.{Name, names_of};
 ghost use Rattle.hack_features.specs.FeatureMap.{feature_map, values_at, IsKey};
 ghost use Rattle.hack_features.specs.Search.{Adds, IsTarget};
 ghost use Rattle.hack_features.specs.Places.{name_at, targets_of, AreAt, IsMore};

@@ -2,7 +2,7 @@
 
 ghost use Rattle.std.specs.Prelude.{◌≡◌, IfOk, OnOk};
 ghost use Rattle.std.specs.Option.{option_map};
-ghost use Rattle.hack_features.specs.Names.{names_of, shown};
+ghost use Rattle.hack_base.specs.Names.{names_of, names_behind};
 ghost use Rattle.hack_features.specs.FeatureMap.{feature_map};
 ghost use Rattle.hack_features.specs.Search.{edge_of, IsReach};
 
@@ -84,7 +84,7 @@ pub(crate) fn names_from<'a>(
     edges: Edges,
 ) -> Result<Vec<&'a str>, AllocError>
     ensures { IfOk result (λ found.
-        IsReach (edge_of edges (feature_map map.now)) name.now (shown found.items)) }
+        IsReach (edge_of edges (feature_map map.now)) name.now (names_behind found.items)) }
 {
     let mut found = Found {
         order: Vec::new(alloc),

@@ -4,7 +4,7 @@
 ghost use Rattle.std.specs.Prelude.{◌≡◌, ◌==◌, ◌&&◌, ◌++◌, [], List, length, not, IfOk, IsTrue};
 ghost use Rattle.std.specs.Prelude.{Contains};
 ghost use Rattle.std.specs.List.{slice_index_or};
-ghost use Rattle.hack_features.specs.Names.{Name};
+ghost use Rattle.hack_base.specs.Names.{Name};
 ghost use Rattle.hack_features.specs.FeatureMap.{FeatureMap, feature_map};
 ghost use Rattle.hack_features.specs.Sets.{rows_of};
 ghost use Rattle.hack_features.specs.Tables.{bit, cell};

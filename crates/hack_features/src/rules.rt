@@ -1,26 +1,22 @@
-//! The rules by which sets of features are listed, which answer questions on them, and cover one by
-//! another.
+//! The rules by which sets of features are listed, which answer questions on them.
 
-ghost use Rattle.std.specs.Prelude.{◌≡◌, ◌≤◌, ◌+◌, ◌-◌, ◌^◌, ◌<◌, ℕ, List, [], length, slice_index};
-ghost use Rattle.std.specs.Prelude.{vec_len, IsTrue, IfOk, MatchOption, if◌then◌else◌};
-ghost use Rattle.std.specs.List.{list_any, slice_index_or, remove};
+ghost use Rattle.std.specs.Prelude.{◌≡◌, ◌≤◌, ◌+◌, ◌-◌, ◌^◌, ℕ, List, [], length};
+ghost use Rattle.std.specs.Prelude.{IsTrue, IfOk, MatchOption};
 ghost use Rattle.hack_features.specs.Sets.{IsSelection, rows_of};
 ghost use Rattle.hack_features.specs.Rules.{Choice, IsListed, IsPermitted, IsRequired};
 ghost use Rattle.hack_features.specs.Rules.{IsFirstCover, IsWanted, AreCovers};
-ghost use Rattle.hack_features.specs.Tables.{keeps_depth as depth_test, wanted_test, leads};
+ghost use Rattle.hack_features.specs.Tables.{keeps_depth as depth_test, wanted_test};
 ghost use Rattle.hack_features.specs.Tables.{AreTables};
 ghost use Rattle.hack_features.specs.Given.{choice, choice_in};
 ghost use Rattle.hack_features.specs.PlacedView.{IsPlaced};
-ghost use Rattle.hack_features.specs.Cover.{set_enables_test, covers_test};
 ghost use Rattle.hack_features.specs.declared.reach.Edges.TheVariants.{Enabling};
 
+use crate::cover::first_cover;
 use crate::feature::Feature;
 use crate::forest::Pruned;
-use crate::marks::row_at;
 use crate::placed::Placed;
 use crate::questions::{Questions, pruned};
 use crate::reach::Edges;
-use crate::routes::Routes;
 use crate::tables::{Given, Tables};
 use std::alloc::{AllocError, Global};
 use std::collections::BTreeMap;
@@ -81,12 +77,12 @@ impl<'a> Rules<'a> {
             map,
             lifted,
         };
-        let rules = Rules::made(alloc, given)?;
+        let rules = Rules::from_given(alloc, given)?;
         Ok(rules)
     }
 
     /// The rules for what is given.
-    pub(crate) fn made(alloc: Global, given: Given<'a>) -> Result<Rules<'a>, AllocError>
+    fn from_given(alloc: Global, given: Given<'a>) -> Result<Rules<'a>, AllocError>
         ensures given { IfOk result (λ rules. rules.given ≡ given.entry) }
         ensures fresh { IfOk result (λ rules. asked_of rules ≡ 0) }
     {
@@ -201,94 +197,9 @@ fn is_wanted(depth: Option<usize>, tables: &Tables, positions: &[usize]) -> bool
     tables.is_required(positions)
 }
 
-/// Whether one of the names leads to `y`.
-fn some_leads(routes: &Routes, names: &[usize], y: usize) -> bool
-    ensures { result ≡ list_any (λ x. leads (rows_of routes.now.marks.items) x y) names.now }
-{
-    for x in names {
-        if routes.leads(*x, y) {
-            return true;
-        }
-    }
-    false
-}
-
-/// Whether a name of a member of the set enables `y`.
-fn set_enables(enabled: &Placed, positions: &[usize], y: usize) -> bool
-    ensures { result ≡ set_enables_test (rows_of enabled.now.routes.marks.items)
-        (rows_of enabled.now.candidates.items) positions.now y }
-{
-    for p in positions {
-        let names = row_at(enabled.candidates.as_slice(), *p);
-        if some_leads(&enabled.routes, names, y) {
-            return true;
-        }
-    }
-    false
-}
-
-/// Whether the set is not empty and enables each of the names.
-fn covers(enabled: &Placed, positions: &[usize], names: &[usize]) -> bool
-    ensures { result ≡ covers_test (rows_of enabled.now.routes.marks.items)
-        (rows_of enabled.now.candidates.items) positions.now names.now }
-{
-    if positions.is_empty() {
-        return false;
-    }
-    for y in names {
-        if !set_enables(enabled, positions, *y) {
-            return false;
-        }
-    }
-    true
-}
-
-/// The set without the place, where what is left covers what stands there, else the set as it is.
-fn without(
-    alloc: Global,
-    enabled: &Placed,
-    kept: Vec<usize>,
-    place: usize,
-) -> Result<Vec<usize>, AllocError>
-    requires { place < vec_len kept }
-    ensures { IfOk result (λ next. next.items
-        ≡ (if covers_test (rows_of enabled.now.routes.marks.items)
-        (rows_of enabled.now.candidates.items) (remove kept.items place)
-        (slice_index_or (rows_of enabled.now.candidates.items)
-        (slice_index kept.items place) []) then remove kept.items place else kept.items)) }
-{
-    let mut rest = Vec::from_slice(alloc, kept.as_slice())?;
-    let p = rest.remove(place);
-    let names = row_at(enabled.candidates.as_slice(), p);
-    if covers(enabled, rest.as_slice(), names) {
-        Ok(rest)
-    } else {
-        Ok(kept)
-    }
-}
-
-/// The set without each member, from the greatest on, that those left then cover.
-fn first_cover(
-    alloc: Global,
-    enabled: &Placed,
-    positions: &[usize],
-) -> Result<Vec<usize>, AllocError>
-    ensures { IfOk result (λ kept. (c : Choice)
-        → IsPlaced Enabling c.map c.candidates c.at_least_one_of enabled.now
-        → IsSelection (length c.candidates) positions.now → IsWanted c positions.now
-        → IsFirstCover c positions.now kept.items) }
-{
-    let mut kept = Vec::from_slice(alloc, positions)?;
-    let mut place = positions.len();
-    while place > 0 {
-        place -= 1;
-        kept = without(alloc, enabled, kept, place)?;
-    }
-    Ok(kept)
-}
-
 impl Questions for Rules<'_> {
-    ghost use Rattle.std.specs.Prelude.{◌≡◌, ◌≤◌, ◌+◌, ◌-◌, ◌^◌, ◌++◌, ◌∷◌, ◌↔◌, min, ℕ, List};
+    ghost use Rattle.std.specs.Prelude.{◌≡◌, ◌<◌, ◌≤◌, ◌+◌, ◌-◌, ◌^◌, ◌++◌, ◌∷◌, ◌↔◌, min, ℕ};
+    ghost use Rattle.std.specs.Prelude.{List};
     ghost use Rattle.hack_features.specs.View.{choice_of, size_of, asked_of, may_of, whole_of};
     ghost use Rattle.hack_features.specs.Closed.{may_of-empty, may_of-remove};
 

@@ -4,11 +4,11 @@
 ghost use Rattle.std.specs.Prelude.{◌≡◌, ◌<◌, ◌++◌, ◌∷◌, ◌&&◌, ◌==◌, [], ℕ, List, length, map, not};
 ghost use Rattle.std.specs.Prelude.{nat_le, sum_by, IfOk, IsTrue, false};
 ghost use Rattle.std.specs.List.{list_all, list_any, slice_index_or};
-ghost use Rattle.hack_features.specs.Names.{Name};
+ghost use Rattle.hack_base.specs.Names.{Name};
 ghost use Rattle.hack_features.specs.FeatureMap.{feature_map, FeatureMap};
 ghost use Rattle.hack_features.specs.Feature.{groups_of, candidates_of};
 ghost use Rattle.hack_features.specs.Sets.{rows_of};
-ghost use Rattle.hack_features.specs.Rules.{unlifted};
+ghost use Rattle.hack_features.specs.Rules.{unlifted_groups};
 ghost use Rattle.hack_features.specs.Places.{leads};
 ghost use Rattle.hack_features.specs.PlacedView.{IsPlaced};
 ghost use Rattle.hack_features.specs.Tables.{bit, count_at, cell, is_lean, is_exclusive};
@@ -164,7 +164,7 @@ fn leads_to_one(routes: &Routes, from: usize, group: &[usize]) -> bool
 }
 
 /// How many of the names lead to the group.
-fn reaching(routes: &Routes, names: &[usize], group: &[usize]) -> usize
+fn count_reaching(routes: &Routes, names: &[usize], group: &[usize]) -> usize
     ensures { Counts (λ x. IsTrue (list_any
         (leads (rows_of routes.now.marks.items) x) group.now)) names.now result }
 {
@@ -186,7 +186,7 @@ fn hit_row(alloc: Global, placed: &Placed, group: &[usize]) -> Result<Vec<usize>
 {
     let mut row = Vec::new(alloc);
     for names in placed.candidates.as_slice() {
-        row.push(reaching(&placed.routes, names.as_slice(), group))?;
+        row.push(count_reaching(&placed.routes, names.as_slice(), group))?;
     }
     Ok(row)
 }
@@ -195,7 +195,7 @@ fn hit_row(alloc: Global, placed: &Placed, group: &[usize]) -> Result<Vec<usize>
 fn hit_rows(alloc: Global, given: Given<'_>) -> Result<Vec<Vec<usize>>, AllocError>
     ensures { IfOk result (λ rows. Matched
         (CountsHits (feature_map given.entry.map.now) (candidates_of given.entry.features.now))
-        (unlifted (groups_of given.entry.exclusive.now) given.entry.lifted.now)
+        (unlifted_groups (groups_of given.entry.exclusive.now) given.entry.lifted.now)
         (rows_of rows.items)) }
 {
     let mut rows = Vec::new(alloc);

@@ -5,23 +5,23 @@ use Rattle.std.specs.Str.{bytes_eq}
 use Rattle.std.proofs.lemmas.Slice.Eq.{bytes_eq-Decides}
 use Rattle.std.proofs.lemmas.Bool.{cases_Bool}
 use Rattle.std.proofs.lemmas.List.{take_more, map-append}
-use Rattle.hack_files.specs.Files.{Change, Contents, changed, after, KeepsOthers, Makes}
-use Rattle.hack_files.specs.Memory.{change_of, held_after, nothing}
+use Rattle.hack_files.specs.Files.{Change, Contents, after_change, after, KeepsOthers, Makes}
+use Rattle.hack_files.specs.Memory.{change_of, held_after, no_contents}
 use Rattle.hack_files.specs.declared.memory.Step.{Step}
 
 -- changes after others
 after_append : (xs ys : List Change) (m : Contents) → after (xs ++ ys) m ≡ after ys (after xs m)
 after_append [] ys m = refl
-after_append (x ∷ xs) ys m = after_append xs ys (changed x m)
+after_append (x ∷ xs) ys m = after_append xs ys (after_change x m)
 
 -- what a path holds after a change at it
-pub changed_here : (c : Change) (m : Contents) → changed c m c.path ≡ c.bytes
+pub changed_here : (c : Change) (m : Contents) → after_change c m c.path ≡ c.bytes
 changed_here c m = ap (λ b. cond b c.bytes (m c.path)) ((bytes_eq-Decides c.path c.path).1 refl)
 
 pub bytes_differ : (p q : List ℕ) → p ≢ q → bytes_eq p q ≡ false
 bytes_differ p q ne = elim (cases_Bool (bytes_eq p q)) [ inl e ↦ absurd (ne ((bytes_eq-Decides p q).0 e)) | inr e ↦ e ]
 
-pub changed_other : (c : Change) (m : Contents) (q : List ℕ) → q ≢ c.path → changed c m q ≡ m q
+pub changed_other : (c : Change) (m : Contents) (q : List ℕ) → q ≢ c.path → after_change c m q ≡ m q
 changed_other c m q ne = ap (λ b. cond b c.bytes (m q)) (bytes_differ c.path q (λ e. ne (sym e)))
 
 -- one more change
@@ -38,8 +38,8 @@ pub held_more : (steps : List Step) (i : ℕ) (step : Step) (q : List ℕ) → i
     → held_after (take (i + 1) steps) q ≡ cond (bytes_eq (string_bytes step.path) q) (change_of step).bytes (held_after (take i steps) q)
 held_more steps i step q lt is =
     ap (λ l. held_after l q) (take_more steps i step lt ∙ ap (λ s. take i steps ++ s ∷ []) (sym is))
-    ∙ ap (λ l. after l nothing q) (map-append change_of (take i steps) (step ∷ []))
-    ∙ ap (λ m. m q) (after_append (map change_of (take i steps)) (change_of step ∷ []) nothing)
+    ∙ ap (λ l. after l no_contents q) (map-append change_of (take i steps) (step ∷ []))
+    ∙ ap (λ m. m q) (after_append (map change_of (take i steps)) (change_of step ∷ []) no_contents)
 
 -- changes, and then others
 pub makes_more : (xs ys t u v : List Change) (m n w : Contents) → Makes xs t u m n → Makes ys u v n w → Makes (xs ++ ys) t v m w

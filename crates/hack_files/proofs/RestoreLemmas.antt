@@ -4,7 +4,7 @@ use Rattle.std.specs.Prelude.{Contains, slice_index_or}
 use Rattle.std.proofs.lemmas.List.{get_or-map, take_more, take_all, length-map}
 use Rattle.hack_files.specs.declared.restore.Saved.{Saved}
 use Rattle.hack_files.specs.Files.{Change, Contents, KeepsOthers, GrowsBy, Makes, MakesOrNot}
-use Rattle.hack_files.specs.Restore.{Kept, kept, paths, Brings, AreDistinct, Tried, none, written, failed, made_and_failed, write_of}
+use Rattle.hack_files.specs.Restore.{Kept, kept_file, paths, Brings, AreDistinct, Tried, none, written, failed, made_and_failed, write_of}
 use Rattle.hack_files.proofs.FilesLemmas.{makes_more}
 
 -- counts one after another
@@ -32,8 +32,8 @@ SoFar files i failures old new = AreDistinct files → (spoilt : List (List ℕ)
 abbrev pub IsAt : List Kept → ℕ → Kept → Type 0
 IsAt files i file = (d : Kept) → slice_index_or files i d ≡ file
 
-pub is_at : (saved : List Saved) (i : ℕ) (file : Saved) → i < length saved → file ≡ slice_index_or saved i file → IsAt (map kept saved) i (kept file)
-is_at saved i file lt is d = get_or-map kept saved i file d lt ∙ ap kept (sym is)
+pub is_at : (saved : List Saved) (i : ℕ) (file : Saved) → i < length saved → file ≡ slice_index_or saved i file → IsAt (map kept_file saved) i (kept_file file)
+is_at saved i file lt is d = get_or-map kept_file saved i file d lt ∙ ap kept_file (sym is)
 
 contains_more : (xs : List (List ℕ)) (x y : List ℕ) → Contains xs y → Contains (x ∷ xs) y
 contains_more xs x y h = (suc h.0, omega (arith, h.1), h.2)
@@ -141,11 +141,11 @@ tried_all files i k s t old new end b = let P : List Kept → Type 0 = λ l. Tri
 pub noted_none : (error : Bool) → IsTrue error ↔ (IsTrue error ⊎ (0 < 0))
 noted_none error = (λ h. inl h, λ h. elim h [ inl e ↦ e | inr lt ↦ absurd (omega (arith, lt)) ])
 
-pub below_kept : (saved : List Saved) (i : ℕ) → i < length saved → i < length (map kept saved)
-below_kept saved i lt = let P : ℕ → Type 0 = λ n. i < n in subst P (sym (length-map saved kept)) lt
+pub below_kept : (saved : List Saved) (i : ℕ) → i < length saved → i < length (map kept_file saved)
+below_kept saved i lt = let P : ℕ → Type 0 = λ n. i < n in subst P (sym (length-map saved kept_file)) lt
 
-pub end_kept : (saved : List Saved) (i : ℕ) → length saved ≤ i → length (map kept saved) ≤ i
-end_kept saved i le = let P : ℕ → Type 0 = λ n. n ≤ i in subst P (sym (length-map saved kept)) le
+pub end_kept : (saved : List Saved) (i : ℕ) → length saved ≤ i → length (map kept_file saved) ≤ i
+end_kept saved i le = let P : ℕ → Type 0 = λ n. n ≤ i in subst P (sym (length-map saved kept_file)) le
 
 pub noted_failed : (was now : Bool) (k : ℕ) → now ≡ true → IsTrue now ↔ (IsTrue was ⊎ (0 < k + 1))
 noted_failed was now k e = (λ _. inr (omega arith), λ _. e)

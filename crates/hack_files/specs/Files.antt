@@ -20,13 +20,13 @@ abbrev pub removes : List ℕ → Change
 removes path = record { path = path; bytes = None }
 
 -- what the paths hold after a change
-abbrev pub changed : Change → Contents → Contents
-changed c m q = cond (bytes_eq c.path q) c.bytes (m q)
+abbrev pub after_change : Change → Contents → Contents
+after_change c m q = cond (bytes_eq c.path q) c.bytes (m q)
 
 -- what the paths hold after changes in order
 abbrev pub after : List Change → Contents → Contents
 after [] m = m
-after (c ∷ cs) m = after cs (changed c m)
+after (c ∷ cs) m = after cs (after_change c m)
 
 -- these changes were made, and no others
 pub record Makes (cs old_trace new_trace : List Change) (old new : Contents) : Type 0 where

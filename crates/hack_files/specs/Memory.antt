@@ -9,9 +9,9 @@ abbrev pub change_of : Step → Change
 change_of s = record { path = string_bytes s.path; bytes = option_map (λ bytes. bytes.items) s.bytes }
 
 -- no path holds anything
-abbrev pub nothing : Contents
-nothing q = None
+abbrev pub no_contents : Contents
+no_contents q = None
 
 -- what the paths hold after these steps
 abbrev pub held_after : List Step → Contents
-held_after steps = after (map change_of steps) nothing
+held_after steps = after (map change_of steps) no_contents

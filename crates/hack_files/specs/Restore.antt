@@ -12,12 +12,12 @@ pub record Kept : Type 0 where
   pub bytes : List ℕ
 
 -- the same of a file that a manager keeps
-abbrev pub kept : Saved → Kept
-kept file = record { path = string_bytes file.path; bytes = file.bytes.items }
+abbrev pub kept_file : Saved → Kept
+kept_file file = record { path = string_bytes file.path; bytes = file.bytes.items }
 
 -- the files that a manager keeps, in the order of their registration
-abbrev pub registered : Manager → List Kept
-registered manager = map kept manager.saved.items
+abbrev pub registered_files : Manager → List Kept
+registered_files manager = map kept_file manager.saved.items
 
 abbrev pub paths : List Kept → List (List ℕ)
 paths files = map (λ file. file.path) files

@@ -128,7 +128,7 @@ fn remove_file<R: rt::Files>(rt: &R, path: &str) -> io::Result<()> {
 }
 
 // Counts a failure, and says whose it is.
-fn counted<T: Drop>(outcome: io::Result<T>, failures: &mut u64) -> Result<T, FileFault>
+fn count_outcome<T: Drop>(outcome: io::Result<T>, failures: &mut u64) -> Result<T, FileFault>
     ensures { Counts failures.old failures.new result }
 {
     match outcome {
@@ -170,19 +170,19 @@ impl<R: rt::Files + AllocGlobal + Drop> Files for Disk<R> {
     ghost failed = { λ files. files.failures };
 
     fn read(&mut self, alloc: Global, path: &str) -> Result<Vec<u8>, FileFault> {
-        counted(read_file(&self.rt, alloc, path), &mut self.failures)
+        count_outcome(read_file(&self.rt, alloc, path), &mut self.failures)
     }
 
     fn write(&mut self, path: &str, bytes: &[u8]) -> Result<(), FileFault> {
-        counted(write_file(&self.rt, path, bytes), &mut self.failures)
+        count_outcome(write_file(&self.rt, path, bytes), &mut self.failures)
     }
 
     fn exists(&mut self, path: &str) -> Result<bool, FileFault> {
-        counted(fs::exists(&self.rt, path), &mut self.failures)
+        count_outcome(fs::exists(&self.rt, path), &mut self.failures)
     }
 
     fn remove(&mut self, path: &str) -> Result<(), FileFault> {
-        counted(remove_file(&self.rt, path), &mut self.failures)
+        count_outcome(remove_file(&self.rt, path), &mut self.failures)
     }
 
     fn failures(&self) -> u64 {

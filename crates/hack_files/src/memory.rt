@@ -31,7 +31,7 @@ pub(crate) fn count_failure(failures: &mut u64)
 }
 
 // What the path holds after these steps.
-fn held<'a>(steps: &'a [Step], path: &str) -> Option<&'a [u8]>
+fn held_at<'a>(steps: &'a [Step], path: &str) -> Option<&'a [u8]>
     ensures { option_map (λ bytes. bytes.now) result ≡ held_after steps.now path.now }
 {
     let mut found = None;
@@ -102,7 +102,7 @@ impl Files for MemoryFiles {
     ghost failed = { λ files. files.failures };
 
     fn read(&mut self, alloc: Global, path: &str) -> Result<Vec<u8>, FileFault> {
-        let Some(bytes) = held(&self.steps, path) else {
+        let Some(bytes) = held_at(&self.steps, path) else {
             count_failure(&mut self.failures);
             return Err(FileFault::Device);
         };
@@ -126,7 +126,7 @@ impl Files for MemoryFiles {
     }
 
     fn exists(&mut self, path: &str) -> Result<bool, FileFault> {
-        Ok(held(&self.steps, path).is_some())
+        Ok(held_at(&self.steps, path).is_some())
     }
 
     fn remove(&mut self, path: &str) -> Result<(), FileFault> {

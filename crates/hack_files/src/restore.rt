@@ -7,7 +7,7 @@ ghost use Rattle.std.specs.Bool.{OnTrue, OnFalse};
 ghost use Rattle.hack_files.specs.Files.{GrowsBy, Counts, KeepsAll, KeepsOthers};
 ghost use Rattle.hack_files.specs.Files.{Makes, MakesOrNot, Change};
 ghost use Rattle.hack_files.specs.Faults.{IsOfWrite};
-ghost use Rattle.hack_files.specs.Restore.{Kept, kept, registered, is_kept, kept_too};
+ghost use Rattle.hack_files.specs.Restore.{Kept, kept_file, registered_files, is_kept, kept_too};
 ghost use Rattle.hack_files.specs.Restore.{Brings, Tried, write_of};
 
 use crate::fs::{FileFault, Files, FsFault};
@@ -35,7 +35,7 @@ pub struct Manager {
 impl Manager {
     /// Keeps no file yet. Where `needs_restore` is false, `register` will keep none.
     pub fn new(alloc: Global, needs_restore: bool) -> Self
-        ensures nothing { registered result ≡ [] }
+        ensures nothing { registered_files result ≡ [] }
         ensures needs { result.needs_restore ≡ needs_restore }
     {
         Manager {
@@ -46,10 +46,10 @@ impl Manager {
 
     /// Keeps the bytes of a file, where files have to be restored.
     pub fn register(&mut self, alloc: Global, path: &str, bytes: &[u8]) -> Result<(), AllocError>
-        ensures ok { OnOk result (registered self.new ≡ cond self.old.needs_restore
-            (registered self.old ++ record { path = path.now; bytes = bytes.now } ∷ [])
-            (registered self.old)) }
-        ensures err { OnErr result (registered self.new ≡ registered self.old) }
+        ensures ok { OnOk result (registered_files self.new ≡ cond self.old.needs_restore
+            (registered_files self.old ++ record { path = path.now; bytes = bytes.now } ∷ [])
+            (registered_files self.old)) }
+        ensures err { OnErr result (registered_files self.new ≡ registered_files self.old) }
         ensures needs { self.new.needs_restore ≡ self.old.needs_restore }
     {
         if self.needs_restore {
@@ -65,9 +65,9 @@ impl Manager {
         path: &str,
         bytes: &[u8],
     ) -> Result<(), AllocError>
-        ensures ok { OnOk result (registered self.new ≡
-            registered self.old ++ record { path = path.now; bytes = bytes.now } ∷ []) }
-        ensures err { OnErr result (registered self.new ≡ registered self.old) }
+        ensures ok { OnOk result (registered_files self.new ≡
+            registered_files self.old ++ record { path = path.now; bytes = bytes.now } ∷ []) }
+        ensures err { OnErr result (registered_files self.new ≡ registered_files self.old) }
         ensures needs { self.new.needs_restore ≡ self.old.needs_restore }
     {
         let saved = Saved {
@@ -82,7 +82,7 @@ impl Manager {
 
     /// Whether the bytes of this path are kept already.
     pub fn keeps(&self, path: &str) -> bool
-        ensures { result ≡ is_kept (registered self.now) path.now }
+        ensures { result ≡ is_kept (registered_files self.now) path.now }
     {
         for file in &self.saved {
             if file.path.as_str() == path {
@@ -99,10 +99,10 @@ impl Manager {
         path: &str,
         bytes: &[u8],
     ) -> Result<(), AllocError>
-        ensures ok { OnOk result (registered self.new ≡ cond self.old.needs_restore
-            (kept_too (registered self.old) (record { path = path.now; bytes = bytes.now }))
-            (registered self.old)) }
-        ensures err { OnErr result (registered self.new ≡ registered self.old) }
+        ensures ok { OnOk result (registered_files self.new ≡ cond self.old.needs_restore
+            (kept_too (registered_files self.old) (record { path = path.now; bytes = bytes.now }))
+            (registered_files self.old)) }
+        ensures err { OnErr result (registered_files self.new ≡ registered_files self.old) }
         ensures needs { self.new.needs_restore ≡ self.old.needs_restore }
     {
         if self.keeps(path) {
@@ -116,12 +116,13 @@ impl Manager {
     pub fn restore_last<F: Files>(&mut self, files: &mut F) -> Result<(), FsFault>
         ensures stays { F.stays files.old files.new }
         ensures counted { Counts (F.failed files.old) (F.failed files.new) result }
-        ensures none { registered self.old ≡ [] → (result ≡ Ok tt) × (registered self.new ≡ [])
+        ensures none { registered_files self.old ≡ [] → (result ≡ Ok tt) ×
+            (registered_files self.new ≡ [])
             × (F.tells → KeepsAll (F.bytes_at files.old) (F.bytes_at files.new)) }
         ensures left { (file : Kept) (earlier : List Kept) →
-            registered self.old ≡ earlier ++ file ∷ [] → registered self.new ≡ earlier }
+            registered_files self.old ≡ earlier ++ file ∷ [] → registered_files self.new ≡ earlier }
         ensures back { (file : Kept) (earlier : List Kept) →
-            registered self.old ≡ earlier ++ file ∷ [] → IfErr result (IsOfWrite file.path)
+            registered_files self.old ≡ earlier ++ file ∷ [] → IfErr result (IsOfWrite file.path)
             × (F.tells → KeepsOthers file.path (F.bytes_at files.old) (F.bytes_at files.new)
             × OnOk result (F.bytes_at files.new file.path ≡ Some file.bytes)) }
         ensures needs { self.new.needs_restore ≡ self.old.needs_restore }
@@ -143,9 +144,9 @@ impl Manager {
     pub fn restore_all<F: Files, W: Write>(self, files: &mut F, term: &mut Term, err: &mut W) -> u64
         ensures stays { F.stays files.old files.new }
         ensures counted { GrowsBy result (F.failed files.old) (F.failed files.new) }
-        ensures restored { F.tells → Brings (registered self)
+        ensures restored { F.tells → Brings (registered_files self)
             (F.bytes_at files.old) (F.bytes_at files.new) result }
-        ensures tried { F.whole → (made : List Change) × Tried (registered self) made result
+        ensures tried { F.whole → (made : List Change) × Tried (registered_files self) made result
             × Makes made (F.trace files.old) (F.trace files.new)
             (F.bytes_at files.old) (F.bytes_at files.new) }
         ensures noted { IsTrue term.new.error ↔ (IsTrue term.old.error ⊎ (0 < result)) }
@@ -171,12 +172,12 @@ impl Saved {
         ensures stays { F.stays files.old files.new }
         ensures counted { GrowsBy (cond result 0 1) (F.failed files.old) (F.failed files.new) }
         ensures written { OnTrue result (F.tells →
-            F.bytes_at files.new (kept self.now).path ≡ Some (kept self.now).bytes) }
+            F.bytes_at files.new (kept_file self.now).path ≡ Some (kept_file self.now).bytes) }
         ensures others { F.tells →
-            KeepsOthers (kept self.now).path (F.bytes_at files.old) (F.bytes_at files.new) }
-        ensures traced { OnTrue result (F.whole → Makes (write_of (kept self.now) ∷ [])
+            KeepsOthers (kept_file self.now).path (F.bytes_at files.old) (F.bytes_at files.new) }
+        ensures traced { OnTrue result (F.whole → Makes (write_of (kept_file self.now) ∷ [])
             (F.trace files.old) (F.trace files.new) (F.bytes_at files.old) (F.bytes_at files.new)) }
-        ensures refused { OnFalse result (F.whole → MakesOrNot (write_of (kept self.now))
+        ensures refused { OnFalse result (F.whole → MakesOrNot (write_of (kept_file self.now))
             (F.trace files.old) (F.trace files.new) (F.bytes_at files.old) (F.bytes_at files.new)) }
         ensures noted { term.new ≡
             record term.old { error = cond result term.old.error true } }

@@ -3,7 +3,7 @@ use Rattle.std.proofs.Common.{◌≡◌, ◌≢◌, ◌⊎◌, inl, inr, ℕ, Li
 use Rattle.std.specs.Prelude.{IsTrue, IsSome, ◌↔◌}
 use Rattle.std.proofs.Math.Path.{fun_ext}
 use Rattle.hack_files.specs.Files.{Change, Contents, Makes, MakesOrNot, removes, KeepsAll}
-use Rattle.hack_journal.specs.Journal.{Edit, spelling}
+use Rattle.hack_journal.specs.Journal.{Edit, journal_text}
 use Rattle.hack_journal.specs.Safe.{Tells, KeepFirst, IsJournalOf, HoldFirstOrTold, IsSafe, IsJournaled, StaysSafe, Stays, AreBack}
 use Rattle.hack_journal.specs.SafeLaws.{safe_of, stay_none, holds_left}
 use Rattle.hack_journal.proofs.ChangeLemmas.{makes_here, makes_others}
@@ -52,7 +52,7 @@ finish_stays j es t u m n all makes o k =
 -- no journal is there
 pub absent_first : (j : List ℕ) (o : Contents) (es : List Edit) (m : Contents) → IsJournalOf j m es → HoldFirstOrTold j o es m → m j ≡ None → (q : List ℕ) → q ≢ j → m q ≡ o q
 absent_first j o es m is_in holds none q ne = elim is_in [
-  | inl some ↦ let y : Some (spelling es) ≡ None = sym some ∙ none in cc
+  | inl some ↦ let y : Some (journal_text es) ≡ None = sym some ∙ none in cc
   | inr both ↦ elim (holds q ne) [ inl same ↦ same | inr told ↦ absurd (subst (λ (l : List Edit). Tells l q (m q)) both.1 told) ]
 ]
 

@@ -6,8 +6,8 @@ use Rattle.std.specs.Int.{from_bool}
 use Rattle.std.proofs.Math.Path.{fun_ext}
 use Rattle.std.proofs.lemmas.Slice.Eq.{bytes_eq-Decides}
 use Rattle.std.proofs.lemmas.Bool.{cases_Bool}
-use Rattle.hack_files.specs.Files.{Change, Contents, changed, after, Makes, MakesOrNot, KeepsAll, KeepsOthers}
-use Rattle.hack_journal.specs.Journal.{Edit, spelling, HaveTextPaths}
+use Rattle.hack_files.specs.Files.{Change, Contents, after_change, after, Makes, MakesOrNot, KeepsAll, KeepsOthers}
+use Rattle.hack_journal.specs.Journal.{Edit, journal_text, HaveTextPaths}
 use Rattle.hack_journal.specs.Safe.{gives, Tells, KeepFirst, IsSafe, IsSafeBy, StaysSafe, AreBack, first_of, without}
 use Rattle.hack_journal.specs.Recover.{HasEntry, Agrees, AreOfCall, AreTold, backs, Differ, Restored, IsNoJournal, IsWhy, IsWhyUnread, IsWhyNotTold, NamesNoJournal, IsRefusal}
 use Rattle.hack_journal.specs.Recover.Differ.{in_none, in_one}
@@ -56,7 +56,7 @@ has_of (e ∷ es) q x h = elim h [ inl fit ↦ inl fit.0 | inr told ↦ inr (has
 
 backs_at : (j : List ℕ) (o : Contents) (es : List Edit) (m : Contents) (q : List ℕ) → KeepFirst j o es → (m q ≡ o q) ⊎ HasEntry es q → after (backs es) m q ≡ o q
 backs_at j o [] m q k h = elim h [ inl same ↦ same | inr has ↦ absurd has ]
-backs_at j o (e ∷ es) m q k h = backs_at j o es (changed (gives e.path e.held) m) q k.3 (elim (cases_Bool (bytes_eq e.path q)) [
+backs_at j o (e ∷ es) m q k h = backs_at j o es (after_change (gives e.path e.held) m) q k.3 (elim (cases_Bool (bytes_eq e.path q)) [
   | inl t ↦ inl (ap (λ b. cond b e.held (m q)) t ∙ sym k.0 ∙ ap o ((bytes_eq-Decides e.path q).0 t))
   | inr f ↦ elim h [
     | inl same ↦ inl (ap (λ b. cond b e.held (m q)) f ∙ same)
@@ -74,16 +74,16 @@ text_of j o [] k = tt
 text_of j o (e ∷ es) k = (k.2, text_of j o es k.3)
 
 -- the entries that were read are those that the journal has
-pub safe_at : (j : List ℕ) (o : Contents) (es : List Edit) (m : Contents) → IsSafe j o m → m j ≡ Some (spelling es) → ((fs : List Edit) → HaveTextPaths fs → m j ≡ Some (spelling fs) → es ≡ fs) → IsSafeBy j o es m
+pub safe_at : (j : List ℕ) (o : Contents) (es : List Edit) (m : Contents) → IsSafe j o m → m j ≡ Some (journal_text es) → ((fs : List Edit) → HaveTextPaths fs → m j ≡ Some (journal_text fs) → es ≡ fs) → IsSafeBy j o es m
 safe_at j o es m s text only = elim s.by.is_in [
   | inl some ↦ subst (λ (l : List Edit). IsSafeBy j o l m) (sym (only s.entries (text_of j o s.entries s.by.keeps) some)) s.by
-  | inr absent ↦ let y : Some (spelling es) ≡ None = sym text ∙ absent.0 in cc
+  | inr absent ↦ let y : Some (journal_text es) ≡ None = sym text ∙ absent.0 in cc
 ]
 
 -- what is at no entry's path stays
 pub backs_other : (es : List Edit) (m : Contents) (q : List ℕ) → ¬ HasEntry es q → after (backs es) m q ≡ m q
 backs_other [] m q h = refl
-backs_other (e ∷ es) m q h = backs_other es (changed (gives e.path e.held) m) q (λ has. h (inr has)) ∙ changed_other (gives e.path e.held) m q (λ is. h (inl (sym is)))
+backs_other (e ∷ es) m q h = backs_other es (after_change (gives e.path e.held) m) q (λ has. h (inr has)) ∙ changed_other (gives e.path e.held) m q (λ is. h (inl (sym is)))
 
 -- what the entries of a call say that their paths held at first
 pub origin_of : Option Edit → Option (List ℕ) → Option (List ℕ)
@@ -147,7 +147,7 @@ texts_of_call j all [] h = tt
 texts_of_call j all (e ∷ es) h = (h.0.1, texts_of_call j all es h.1)
 
 -- a text that was not read is no journal
-pub no_journal_of : (j text : List ℕ) (m : Contents) → m j ≡ Some text → ((es : List Edit) → HaveTextPaths es → AreOfCall j es es → text ≡ spelling es → ⊥) → IsNoJournal j m
+pub no_journal_of : (j text : List ℕ) (m : Contents) → m j ≡ Some text → ((es : List Edit) → HaveTextPaths es → AreOfCall j es es → text ≡ journal_text es → ⊥) → IsNoJournal j m
 no_journal_of j text m is never = (text, is, λ es call same. never es (texts_of_call j es es call) call same)
 
 pub why_no_journal : (j : List ℕ) (tells : Type 0) (m : Contents) (fault : RecoverFault) → NamesNoJournal j fault → (tells → IsNoJournal j m) → IsWhyUnread j tells m fault
@@ -163,7 +163,7 @@ why_unread j tells m (Changed p q) why = absurd why
 why_unread j tells m (Files f) why = tt
 
 -- a path that holds what no entry tells has changed
-pub why_not_told : (j : List ℕ) (tells : Type 0) (es : List Edit) (m n : Contents) (fault : RecoverFault) → (tells → m j ≡ Some (spelling es)) → (tells → KeepsAll m n) → IsWhyNotTold j tells es es n fault → IsWhy j tells m fault
+pub why_not_told : (j : List ℕ) (tells : Type 0) (es : List Edit) (m n : Contents) (fault : RecoverFault) → (tells → m j ≡ Some (journal_text es)) → (tells → KeepsAll m n) → IsWhyNotTold j tells es es n fault → IsWhy j tells m fault
 why_not_told j tells es m n Memory text same why = tt
 why_not_told j tells es m n (NotJournal p) text same why = absurd why
 why_not_told j tells es m n (Changed p q) text same why = (why.0, λ t. (es, text t, why.1, subst (λ (x : Option (List ℕ)). ¬ Tells es (string_bytes p) x) (same t (string_bytes p)) (why.2 t)))
@@ -179,7 +179,7 @@ never_not_told j tells es m n (Files f) t same told why refusal = refusal
 -- a journal that keeps files safe is one
 pub safe_journal : (j : List ℕ) (o m : Contents) → IsSafe j o m → IsNoJournal j m → ⊥
 safe_journal j o m s unread = elim s.by.is_in [
-  | inl some ↦ unread.2 s.entries (call_of j o s.entries s.by.keeps s.entries s.by.keeps) (let e : Some unread.0 ≡ Some (spelling s.entries) = sym unread.1 ∙ some in cc)
+  | inl some ↦ unread.2 s.entries (call_of j o s.entries s.by.keeps s.entries s.by.keeps) (let e : Some unread.0 ≡ Some (journal_text s.entries) = sym unread.1 ∙ some in cc)
   | inr absent ↦ let y : Some unread.0 ≡ None = sym unread.1 ∙ absent.0 in cc
 ]
 
@@ -209,7 +209,7 @@ without_others : (j p : List ℕ) (m n : Contents) → KeepsOthers p m n → Kee
 without_others j p m n keeps q ne = ap (λ x. cond (bytes_eq j q) None x) (keeps q ne)
 
 -- one path of those that are put back held something else, and so many others
-pub differ_more : (j : List ℕ) (o : Contents) (e : Edit) (es : List Edit) (k : ℕ) (m n w : Contents) → KeepFirst j o (e ∷ es) → KeepsAll (changed (gives e.path e.held) m) n → KeepsAll (after (backs es) n) w → m e.path ≢ e.held
+pub differ_more : (j : List ℕ) (o : Contents) (e : Edit) (es : List Edit) (k : ℕ) (m n w : Contents) → KeepFirst j o (e ∷ es) → KeepsAll (after_change (gives e.path e.held) m) n → KeepsAll (after (backs es) n) w → m e.path ≢ e.held
     → Differ k (without j n) (without j w) → Differ (k + 1) (without j m) (without j w)
 differ_more j o e es k m n w keeps back rest other differ =
     let here : n e.path ≡ e.held = back e.path ∙ ap (λ b. cond b e.held (m e.path)) ((bytes_eq-Decides e.path e.path).1 refl) in
@@ -221,7 +221,7 @@ differ_more j o e es k m n w keeps back rest other differ =
     differ
 
 -- a path that holds what is put back makes no difference
-pub same_back : (e : Edit) (m n : Contents) → KeepsAll (changed (gives e.path e.held) m) n → m e.path ≡ e.held → n ≡ m
+pub same_back : (e : Edit) (m n : Contents) → KeepsAll (after_change (gives e.path e.held) m) n → m e.path ≡ e.held → n ≡ m
 same_back e m n back same = fun_ext λ q. back q ∙ elim (cases_Bool (bytes_eq e.path q)) [
   | inl t ↦ ap (λ b. cond b e.held (m q)) t ∙ sym same ∙ ap m ((bytes_eq-Decides e.path q).0 t)
   | inr f ↦ ap (λ b. cond b e.held (m q)) f
@@ -231,7 +231,7 @@ pub differ_none : (m : Contents) → Differ 0 m m
 differ_none m = in_none (λ q. refl)
 
 -- the same, whatever the path held
-pub differ_step : (j : List ℕ) (o : Contents) (e : Edit) (es : List Edit) (was : Bool) (k : ℕ) (m n w : Contents) → KeepFirst j o (e ∷ es) → KeepsAll (changed (gives e.path e.held) m) n → KeepsAll (after (backs es) n) w
+pub differ_step : (j : List ℕ) (o : Contents) (e : Edit) (es : List Edit) (was : Bool) (k : ℕ) (m n w : Contents) → KeepFirst j o (e ∷ es) → KeepsAll (after_change (gives e.path e.held) m) n → KeepsAll (after (backs es) n) w
     → ((was ≡ false) ↔ (m e.path ≡ e.held)) → Differ k (without j n) (without j w) → Differ (k + from_bool was) (without j m) (without j w)
 differ_step j o e es true k m n w keeps back rest is differ = differ_more j o e es k m n w keeps back rest (λ same. let y : true ≡ false = is.1 same in cc) differ
 differ_step j o e es false k m n w keeps back rest is differ = subst (λ (x : Contents). Differ (k + 0) (without j x) (without j w)) (same_back e m n back (is.0 refl)) (subst (λ (i : ℕ). Differ i (without j n) (without j w)) (omega arith) differ)
@@ -250,7 +250,7 @@ back_at j ds es m n w is same back =
     subst (λ (x : Contents). KeepsOthers j (after (backs es) x) w) same (subst (λ (l : List Edit). KeepsOthers j (after (backs l) n) w) is back)
 
 -- what was read, looked at and put back is restored
-pub restored_of : (j : List ℕ) (ds es : List Edit) (k : ℕ) (m n w : Contents) → ds ≡ es → n ≡ m → m j ≡ Some (spelling es) → AreOfCall j es es → AreTold es es m
+pub restored_of : (j : List ℕ) (ds es : List Edit) (k : ℕ) (m n w : Contents) → ds ≡ es → n ≡ m → m j ≡ Some (journal_text es) → AreOfCall j es es → AreTold es es m
     → KeepsOthers j (after (backs ds) n) w → w j ≡ None → ((o : Contents) → KeepFirst j o ds → Differ k (without j n) (without j w)) → Restored j es k m w
 restored_of j ds es k m n w is same text call told back gone counted =
     let all = back_at j ds es m n w is same back in

@@ -4,8 +4,8 @@ use Rattle.std.specs.Str.{bytes_eq, IsUtf8}
 use Rattle.std.proofs.Math.Path.{fun_ext}
 use Rattle.std.proofs.lemmas.Slice.Eq.{bytes_eq-Decides}
 use Rattle.std.proofs.lemmas.Bool.{cases_Bool}
-use Rattle.hack_files.specs.Files.{Change, Contents, changed, after, Makes, MakesOrNot, puts}
-use Rattle.hack_journal.specs.Journal.{Edit, spelling}
+use Rattle.hack_files.specs.Files.{Change, Contents, after_change, after, Makes, MakesOrNot, puts}
+use Rattle.hack_journal.specs.Journal.{Edit, journal_text}
 use Rattle.hack_journal.specs.Safe.{gives, Tells, first_of, KeepFirst, IsJournalOf, HoldFirstOrTold, IsSafe, IsJournaled, StaysSafe, Stays, Hidden, IsHeld, but, without}
 use Rattle.hack_journal.specs.SafeLaws.{makes_append, holds_left, safe_of, fronts_one, stays_none, stays_more}
 use Rattle.hack_journal.proofs.ChangeLemmas.{makes_here, makes_others, bytes_differ, changed_other}
@@ -44,12 +44,12 @@ stay_one j o c t u m n h a b = record { added = c ∷ []; makes = h; fronts = fr
 
 -- what is kept once the journal has one more entry
 with_entry : (j : List ℕ) (o : Contents) (es more : List Edit) (e : Edit) (t u : List Change) (m n : Contents) → KeepFirst j o (es ++ more) → HoldFirstOrTold j o es m → e.path ≢ j → IsUtf8 e.path → IsHeld (first_of es e.path) (m e.path) e.held
-    → Makes (puts j (spelling (es ++ e ∷ [])) ∷ []) t u m n → IsJournaled j o es n
+    → Makes (puts j (journal_text (es ++ e ∷ [])) ∷ []) t u m n → IsJournaled j o es n
 with_entry j o es more e t u m n keeps holds ne text held makes = record {
   more = e ∷ [];
-  is_in = inl (makes_here t u (puts j (spelling (es ++ e ∷ []))) m n makes);
+  is_in = inl (makes_here t u (puts j (journal_text (es ++ e ∷ []))) m n makes);
   keeps = keeps_more j o es more e keeps (held_keeps j o es e.path (first_of es e.path) m e.held ne (first_keeps j o es more e.path keeps) holds held) ne text;
-  holds = λ q other. let same = makes_others t u (puts j (spelling (es ++ e ∷ []))) m n makes q other in
+  holds = λ q other. let same = makes_others t u (puts j (journal_text (es ++ e ∷ []))) m n makes q other in
       elim (holds q other) [ inl is ↦ inl (same ∙ is) | inr told ↦ inr (subst (Tells es q) (sym same) told) ];
 }
 
@@ -63,17 +63,17 @@ move j o es e n k is = record {
 }
 
 noted_here : (j : List ℕ) (es : List Edit) (e : Edit) (t u : List Change) (m n : Contents) → e.path ≢ j → IsUtf8 e.path → IsHeld (first_of es e.path) (m e.path) e.held
-    → Makes (puts j (spelling (es ++ e ∷ [])) ∷ []) t u m n → Stays j es (es ++ e ∷ []) t u m n
+    → Makes (puts j (journal_text (es ++ e ∷ [])) ∷ []) t u m n → Stays j es (es ++ e ∷ []) t u m n
 unfolding with_entry
 noted_here j es e t u m n ne text held makes o k =
     let now = with_entry j o es k.more e t u m n k.keeps k.holds ne text held makes in
-    (stay_one j o (puts j (spelling (es ++ e ∷ []))) t u m n makes (safe_of j o es m k) (safe_of j o es n now), move j o es e n now refl)
+    (stay_one j o (puts j (journal_text (es ++ e ∷ []))) t u m n makes (safe_of j o es m k) (safe_of j o es n now), move j o es e n now refl)
 
 made_here : (j : List ℕ) (es : List Edit) (e : Edit) (t u : List Change) (m n : Contents) → e.path ≢ j → IsUtf8 e.path → IsHeld (first_of es e.path) (m e.path) e.held
-    → Makes (puts j (spelling (es ++ e ∷ [])) ∷ []) t u m n → Stays j es es t u m n
+    → Makes (puts j (journal_text (es ++ e ∷ [])) ∷ []) t u m n → Stays j es es t u m n
 made_here j es e t u m n ne text held makes o k =
     let now = with_entry j o es k.more e t u m n k.keeps k.holds ne text held makes in
-    (stay_one j o (puts j (spelling (es ++ e ∷ []))) t u m n makes (safe_of j o es m k) (safe_of j o es n now), now)
+    (stay_one j o (puts j (journal_text (es ++ e ∷ []))) t u m n makes (safe_of j o es m k) (safe_of j o es n now), now)
 
 told_end : (es fs : List Edit) (e : Edit) (p : List ℕ) (x : Option (List ℕ)) → fs ≡ es ++ e ∷ [] → e.path ≡ p → e.wrote ≡ x → Tells fs p x
 told_end es fs e p x is path wrote = subst (λ (l : List Edit). Tells l p x) (sym is) (subst (λ (q : List ℕ). Tells (es ++ e ∷ []) q x) path (subst (λ (y : Option (List ℕ)). Tells (es ++ e ∷ []) e.path y) wrote (tells_last es e)))
@@ -84,7 +84,7 @@ told_ok (Err a) es fs e p x is path wrote = tt
 
 -- after a look, an entry is written, or perhaps not
 pub note_stays : {A E W : Type 0} (r : Result A E) (j p : List ℕ) (es fs : List Edit) (e : Edit) (s t u : List Change) (l m n : Contents) → e.path ≡ p → Makes [] s t l m → p ≢ j → IsUtf8 p → IsHeld (first_of es p) (l p) e.held
-    → OnOk r (fs ≡ es ++ e ∷ []) → OnErr r (fs ≡ es) → OnOk r (W → Makes (puts j (spelling (es ++ e ∷ [])) ∷ []) t u m n) → OnErr r (W → MakesOrNot (puts j (spelling (es ++ e ∷ []))) t u m n) → W → Stays j es fs s u l n
+    → OnOk r (fs ≡ es ++ e ∷ []) → OnErr r (fs ≡ es) → OnOk r (W → Makes (puts j (journal_text (es ++ e ∷ [])) ∷ []) t u m n) → OnErr r (W → MakesOrNot (puts j (journal_text (es ++ e ∷ []))) t u m n) → W → Stays j es fs s u l n
 note_stays (Ok a) j p es fs e s t u l m n path look ne text held added kept ok err w =
     let ne2 : e.path ≢ j = λ same. ne (sym path ∙ same) in
     let text2 : IsUtf8 e.path = subst IsUtf8 (sym path) text in
@@ -101,7 +101,7 @@ note_stays (Err a) j p es fs e s t u l m n path look ne text held added kept ok 
 
 -- the same, where the journal's name and the entries are equal, and not the same
 pub note_stays_by : {A E W : Type 0} (r : Result A E) (i j p : List ℕ) (gs es fs : List Edit) (e : Edit) (s t u : List Change) (l m n : Contents) → i ≡ j → gs ≡ es → e.path ≡ p → Makes [] s t l m → p ≢ j → IsUtf8 p → IsHeld (first_of es p) (l p) e.held
-    → OnOk r (fs ≡ gs ++ e ∷ []) → OnErr r (fs ≡ gs) → OnOk r (W → Makes (puts i (spelling (gs ++ e ∷ [])) ∷ []) t u m n) → OnErr r (W → MakesOrNot (puts i (spelling (gs ++ e ∷ []))) t u m n) → W → Stays j es fs s u l n
+    → OnOk r (fs ≡ gs ++ e ∷ []) → OnErr r (fs ≡ gs) → OnOk r (W → Makes (puts i (journal_text (gs ++ e ∷ [])) ∷ []) t u m n) → OnErr r (W → MakesOrNot (puts i (journal_text (gs ++ e ∷ []))) t u m n) → W → Stays j es fs s u l n
 note_stays_by r i j p gs es fs e s t u l m n name same path look ne text held added kept ok err w =
     subst (λ (x : List ℕ). Stays x es fs s u l n) name (subst (λ (x : List Edit). Stays i x fs s u l n) same
     (note_stays r i p gs fs e s t u l m n path look (λ h. ne (h ∙ name)) text (subst (λ (x : List Edit). IsHeld (first_of x p) (l p) e.held) (sym same) held) added kept ok err w))
@@ -132,25 +132,25 @@ but_append : (j : List ℕ) (xs ys : List Change) → but j (xs ++ ys) ≡ but j
 but_append j [] ys = refl
 but_append j (c ∷ xs) ys = elim (cases_Bool (bytes_eq c.path j)) [ inl t ↦ rw t (but_append j xs ys) | inr f ↦ rw f (ap (λ l. c ∷ l) (but_append j xs ys)) ]
 
-without_in : (j : List ℕ) (c : Change) (m : Contents) → bytes_eq c.path j ≡ true → without j (changed c m) ≡ without j m
+without_in : (j : List ℕ) (c : Change) (m : Contents) → bytes_eq c.path j ≡ true → without j (after_change c m) ≡ without j m
 without_in j c m t = fun_ext λ q. elim (cases_Bool (bytes_eq j q)) [
   | inl is ↦ rw is refl
   | inr f ↦ rw f (changed_other c m q (λ e. let y : true ≡ false = sym ((bytes_eq-Decides j q).1 (sym ((bytes_eq-Decides c.path j).0 t) ∙ sym e)) ∙ f in cc))
 ]
 
-without_out : (j : List ℕ) (c : Change) (m : Contents) → bytes_eq c.path j ≡ false → without j (changed c m) ≡ changed c (without j m)
+without_out : (j : List ℕ) (c : Change) (m : Contents) → bytes_eq c.path j ≡ false → without j (after_change c m) ≡ after_change c (without j m)
 without_out j c m out = fun_ext λ q. elim (cases_Bool (bytes_eq j q)) [
   | inl is ↦ let differ : q ≢ c.path = λ e. let y : true ≡ false = sym ((bytes_eq-Decides c.path j).1 (sym e ∙ sym ((bytes_eq-Decides j q).0 is))) ∙ out in cc in
       let none : without j m q ≡ None = ap (λ b. cond b None (m q)) is in
-      ap (λ b. cond b None (changed c m q)) is ∙ sym none ∙ sym (changed_other c (without j m) q differ)
+      ap (λ b. cond b None (after_change c m q)) is ∙ sym none ∙ sym (changed_other c (without j m) q differ)
   | inr f ↦ rw f refl
 ]
 
 without_after : (j : List ℕ) (cs : List Change) (m : Contents) → without j (after cs m) ≡ after (but j cs) (without j m)
 without_after j [] m = refl
 without_after j (c ∷ cs) m = elim (cases_Bool (bytes_eq c.path j)) [
-  | inl t ↦ without_after j cs (changed c m) ∙ ap (after (but j cs)) (without_in j c m t) ∙ sym (ap (λ b. after (cond b (but j cs) (c ∷ but j cs)) (without j m)) t)
-  | inr f ↦ without_after j cs (changed c m) ∙ ap (after (but j cs)) (without_out j c m f) ∙ sym (ap (λ b. after (cond b (but j cs) (c ∷ but j cs)) (without j m)) f)
+  | inl t ↦ without_after j cs (after_change c m) ∙ ap (after (but j cs)) (without_in j c m t) ∙ sym (ap (λ b. after (cond b (but j cs) (c ∷ but j cs)) (without j m)) t)
+  | inr f ↦ without_after j cs (after_change c m) ∙ ap (after (but j cs)) (without_out j c m f) ∙ sym (ap (λ b. after (cond b (but j cs) (c ∷ but j cs)) (without j m)) f)
 ]
 
 pub hides : (j : List ℕ) (cs t u : List Change) (m n : Contents) → Makes cs t u m n → Makes (but j cs) (but j t) (but j u) (without j m) (without j n)

@@ -46,8 +46,8 @@ edits_text [] = codes "end\n"
 edits_text (e ∷ es) = edit_text e ++ edits_text es
 
 -- the text of a journal
-abbrev pub spelling : List Edit → List ℕ
-spelling es = codes "edited files\n" ++ edits_text es
+abbrev pub journal_text : List Edit → List ℕ
+journal_text es = codes "edited files\n" ++ edits_text es
 
 -- the text does not go on with a space
 abbrev pub IsNext : List ℕ → Type 0

@@ -2,7 +2,7 @@
 use Rattle.std.specs.Prelude.{◌≡◌, ◌≢◌, ◌⊎◌, ◌+◌, [], ◌∷◌, ℕ, List, Option, Some, None, Result, Ok, Err, string_bytes}
 use Rattle.std.specs.Str.{IsUtf8}
 use Rattle.hack_files.specs.Files.{Change, Contents, GrowsBy, KeepsAll, KeepsOthers}
-use Rattle.hack_journal.specs.Journal.{Edit, spelling}
+use Rattle.hack_journal.specs.Journal.{Edit, journal_text}
 use Rattle.hack_journal.specs.Safe.{Tells, AreBack, first_of, gives, without}
 use Rattle.hack_journal.specs.declared.recover.RecoverFault.{RecoverFault}
 use Rattle.hack_journal.specs.declared.recover.RecoverFault.TheVariants.{Memory, NotJournal, Changed, Files}
@@ -43,7 +43,7 @@ pub data Differ : ℕ → Contents → Contents → Type 0 where
 -- what these entries keep was put back: no path had been changed by others, each holds what it held at first, so many held
 -- something else, no path but theirs was changed, and the journal is gone
 pub record Restored (journal : List ℕ) (edits : List Edit) (count : ℕ) (old new : Contents) : Type 0 where
-  pub text : old journal ≡ Some (spelling edits)
+  pub text : old journal ≡ Some (journal_text edits)
   pub told : AreTold edits edits old
   pub back : AreBack edits new
   pub others : (path : List ℕ) → path ≢ journal → ¬ HasEntry edits path → new path ≡ old path
@@ -58,12 +58,12 @@ IsRestored journal count old new =
 -- the journal's path holds a text that no call writes
 abbrev pub IsNoJournal : List ℕ → Contents → Type 0
 IsNoJournal journal old =
-    (text : List ℕ) × (old journal ≡ Some text) × ((edits : List Edit) → AreOfCall journal edits edits → text ≢ spelling edits)
+    (text : List ℕ) × (old journal ≡ Some text) × ((edits : List Edit) → AreOfCall journal edits edits → text ≢ journal_text edits)
 
 -- the journal has an entry of the path, and the path holds neither what it held at first nor what was written there
 abbrev pub HasChanged : List ℕ → List ℕ → Contents → Type 0
 HasChanged journal path old =
-    (edits : List Edit) × (old journal ≡ Some (spelling edits)) × HasEntry edits path × (¬ Tells edits path (old path))
+    (edits : List Edit) × (old journal ≡ Some (journal_text edits)) × HasEntry edits path × (¬ Tells edits path (old path))
 
 -- why nothing is put back, or not all
 abbrev pub IsWhy : List ℕ → Type 0 → Contents → RecoverFault → Type 0

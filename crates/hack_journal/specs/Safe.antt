@@ -2,7 +2,7 @@
 use Rattle.std.specs.Prelude.{◌≡◌, ◌≢◌, ◌⊎◌, ◌++◌, [], ◌∷◌, ℕ, List, Option, Some, None, take, cond}
 use Rattle.std.specs.Str.{bytes_eq, IsUtf8}
 use Rattle.hack_files.specs.Files.{Change, Contents, after, Makes}
-use Rattle.hack_journal.specs.Journal.{Edit, spelling}
+use Rattle.hack_journal.specs.Journal.{Edit, journal_text}
 
 -- a path is given these bytes, or removed
 abbrev pub gives : List ℕ → Option (List ℕ) → Change
@@ -44,7 +44,7 @@ KeepFirst journal first (e ∷ es) = (first e.path ≡ e.held) × (e.path ≢ jo
 
 -- the text of these entries is in the journal; of no entry there need be no journal
 abbrev pub IsJournalOf : List ℕ → Contents → List Edit → Type 0
-IsJournalOf journal now es = (now journal ≡ Some (spelling es)) ⊎ ((now journal ≡ None) × (es ≡ []))
+IsJournalOf journal now es = (now journal ≡ Some (journal_text es)) ⊎ ((now journal ≡ None) × (es ≡ []))
 
 -- each path but the journal's holds what it held at first, or bytes that an entry of its path tells
 abbrev pub HoldFirstOrTold : List ℕ → Contents → List Edit → Contents → Type 0

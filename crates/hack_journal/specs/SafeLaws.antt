@@ -1,12 +1,12 @@
 -- What the laws of files with a journal stand on.
 use Rattle.std.proofs.Common.{◌≡◌, inl, inr, ℕ, suc, zero, List, [], ◌∷◌, ◌++◌, Option, refl, sym, ◌∙◌, subst, ap, append_assoc, append-nil, take}
-use Rattle.hack_files.specs.Files.{Change, Contents, changed, after, Makes}
+use Rattle.hack_files.specs.Files.{Change, Contents, after_change, after, Makes}
 use Rattle.hack_journal.specs.Journal.{Edit}
 use Rattle.hack_journal.specs.Safe.{Tells, HoldFirstOrTold, IsSafe, IsJournaled, StaysSafe, Stays}
 
 pub after_append : (xs ys : List Change) (m : Contents) → after (xs ++ ys) m ≡ after ys (after xs m)
 after_append [] ys m = refl
-after_append (x ∷ xs) ys m = after_append xs ys (changed x m)
+after_append (x ∷ xs) ys m = after_append xs ys (after_change x m)
 
 pub makes_none : (t : List Change) (m : Contents) → Makes [] t t m m
 makes_none t m = record { traced = sym (append-nil t); holds = refl }
@@ -31,15 +31,15 @@ safe_of j o es m k = record { entries = es ++ k.more; by = record { is_in = k.is
 pub fronts_append : (xs ys : List Change) (P : Contents → Type 0) (m : Contents) → ((k : ℕ) → P (after (take k xs) m)) → ((k : ℕ) → P (after (take k ys) (after xs m))) → (k : ℕ) → P (after (take k (xs ++ ys)) m)
 fronts_append [] ys P m f g k = g k
 fronts_append (x ∷ xs) ys P m f g zero = f zero
-fronts_append (x ∷ xs) ys P m f g (suc k) = fronts_append xs ys P (changed x m) (λ j. f (suc j)) g k
+fronts_append (x ∷ xs) ys P m f g (suc k) = fronts_append xs ys P (after_change x m) (λ j. f (suc j)) g k
 
 pub fronts_none : (P : Contents → Type 0) (m : Contents) → P m → (k : ℕ) → P (after (take k []) m)
 fronts_none P m h zero = h
 fronts_none P m h (suc k) = h
 
-pub fronts_one : (P : Contents → Type 0) (c : Change) (m : Contents) → P m → P (changed c m) → (k : ℕ) → P (after (take k (c ∷ [])) m)
+pub fronts_one : (P : Contents → Type 0) (c : Change) (m : Contents) → P m → P (after_change c m) → (k : ℕ) → P (after (take k (c ∷ [])) m)
 fronts_one P c m h g zero = h
-fronts_one P c m h g (suc k) = fronts_none P (changed c m) g k
+fronts_one P c m h g (suc k) = fronts_none P (after_change c m) g k
 
 pub stay_append : (j : List ℕ) (o : Contents) (t u v : List Change) (m n w : Contents) → StaysSafe j o t u m n → StaysSafe j o u v n w → StaysSafe j o t v m w
 stay_append j o t u v m n w f g = record {

@@ -8,7 +8,8 @@ ghost use Rattle.std.specs.Prelude.{string_bytes};
 ghost use Rattle.std.specs.Option.{option_map};
 ghost use Rattle.std.specs.Str.{IsUtf8};
 ghost use Rattle.hack_journal.specs.Journal.{Edit, edit_of, edits_of, HaveTextPaths};
-ghost use Rattle.hack_journal.specs.Journal.{lines, content_text, edit_text, edits_text, spelling};
+ghost use Rattle.hack_journal.specs.Journal.{lines, content_text, edit_text, edits_text};
+ghost use Rattle.hack_journal.specs.Journal.{journal_text};
 ghost use Rattle.hack_journal.specs.Journal.{IsNext, Reads};
 
 use std::alloc::{AllocError, AllocFailed, Global};
@@ -103,7 +104,7 @@ fn put_entries(text: &mut Vec<u8>, entries: &[Entry]) -> Result<(), AllocError>
 
 /// The text of a journal of these entries.
 pub fn spell(alloc: Global, entries: &[Entry]) -> Result<Vec<u8>, AllocError>
-    ensures { IfOk result (λ text. text.items ≡ spelling (edits_of entries.now)) }
+    ensures { IfOk result (λ text. text.items ≡ journal_text (edits_of entries.now)) }
 {
     let mut text = Vec::new(alloc);
     text.extend_from_slice(b"edited files\n")?;
@@ -210,10 +211,10 @@ fn entries_of(alloc: Global, text: &[u8]) -> Result<Vec<Entry>, JournalFault>
 /// The entries of a journal's text. Reading the text of any entries gives those entries. A text
 /// that isn't whole is `NotJournal`, as any that `spell` does not write.
 pub fn read_back(alloc: Global, text: &[u8]) -> Result<Vec<Entry>, JournalFault>
-    ensures found { IfOk result (λ entries. text.now ≡ spelling (edits_of entries.items)) }
-    ensures back { (entries : List Entry) → text.now ≡ spelling (edits_of entries) →
+    ensures found { IfOk result (λ entries. text.now ≡ journal_text (edits_of entries.items)) }
+    ensures back { (entries : List Entry) → text.now ≡ journal_text (edits_of entries) →
         Reads (λ x. edits_of x.items) result (edits_of entries) }
-    ensures only { (edits : List Edit) → HaveTextPaths edits → text.now ≡ spelling edits →
+    ensures only { (edits : List Edit) → HaveTextPaths edits → text.now ≡ journal_text edits →
         Reads (λ x. edits_of x.items) result edits }
 {
     let rest = behind(text, b"edited files\n")?;

@@ -8,7 +8,7 @@ ghost use Rattle.std.specs.Prelude.{IfOk, OnOk, OnErr, IsTrue, IsSome, ◌↔◌
 ghost use Rattle.std.specs.Option.{option_map};
 ghost use Rattle.hack_files.specs.Files.{Contents, Counts, GrowsBy, KeepsOthers, KeepsAll};
 ghost use Rattle.hack_files.specs.Files.{Makes, MakesOrNot, puts};
-ghost use Rattle.hack_journal.specs.Journal.{edit_of, edits_of, spelling};
+ghost use Rattle.hack_journal.specs.Journal.{edit_of, edits_of, journal_text};
 ghost use Rattle.hack_journal.specs.Safe.{Tells, first_of, IsHeld, AreBack, gives};
 ghost use Rattle.hack_journal.specs.Safe.{IsJournaled, Stays, Hidden, but, without};
 
@@ -114,11 +114,12 @@ impl<F: Files> Journaled<F> {
         ensures others { F.tells → KeepsOthers (string_bytes self.old.journal)
             (F.bytes_at self.old.files) (F.bytes_at self.new.files) }
         ensures traced { OnOk result (F.whole → Makes
-            (puts (string_bytes self.old.journal) (spelling (edits_of self.old.entries.items)) ∷ [])
+            (puts (string_bytes self.old.journal) (journal_text (edits_of self.old.entries.items))
+            ∷ [])
             (F.trace self.old.files) (F.trace self.new.files)
             (F.bytes_at self.old.files) (F.bytes_at self.new.files)) }
         ensures refused { OnErr result (F.whole → MakesOrNot
-            (puts (string_bytes self.old.journal) (spelling (edits_of self.old.entries.items)))
+            (puts (string_bytes self.old.journal) (journal_text (edits_of self.old.entries.items)))
             (F.trace self.old.files) (F.trace self.new.files)
             (F.bytes_at self.old.files) (F.bytes_at self.new.files)) }
     {
@@ -139,11 +140,11 @@ impl<F: Files> Journaled<F> {
         ensures others { F.tells → KeepsOthers (string_bytes self.old.journal)
             (F.bytes_at self.old.files) (F.bytes_at self.new.files) }
         ensures traced { OnOk result (F.whole → Makes (puts (string_bytes self.old.journal)
-            (spelling (edits_of self.old.entries.items ++ edit_of entry ∷ [])) ∷ [])
+            (journal_text (edits_of self.old.entries.items ++ edit_of entry ∷ [])) ∷ [])
             (F.trace self.old.files) (F.trace self.new.files)
             (F.bytes_at self.old.files) (F.bytes_at self.new.files)) }
         ensures refused { OnErr result (F.whole → MakesOrNot (puts (string_bytes self.old.journal)
-            (spelling (edits_of self.old.entries.items ++ edit_of entry ∷ [])))
+            (journal_text (edits_of self.old.entries.items ++ edit_of entry ∷ [])))
             (F.trace self.old.files) (F.trace self.new.files)
             (F.bytes_at self.old.files) (F.bytes_at self.new.files)) }
     {

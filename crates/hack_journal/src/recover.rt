@@ -3,8 +3,8 @@
 ghost use Rattle.std.specs.Prelude.{◌≡◌, ◌≢◌, ◌↔◌, ◌≤◌, [], ◌∷◌, List, ℕ, Some, None, Vec};
 ghost use Rattle.std.specs.Prelude.{IfOk, IfErr, OnOk, false, length};
 ghost use Rattle.hack_files.specs.Files.{Contents, KeepsOthers, KeepsAll, Makes, MakesOrNot};
-ghost use Rattle.hack_files.specs.Files.{GrowsBy, after, changed};
-ghost use Rattle.hack_journal.specs.Journal.{Edit, edit_of, edits_of, spelling, HaveTextPaths};
+ghost use Rattle.hack_files.specs.Files.{GrowsBy, after, after_change};
+ghost use Rattle.hack_journal.specs.Journal.{Edit, edit_of, edits_of, journal_text, HaveTextPaths};
 ghost use Rattle.hack_journal.specs.Safe.{IsSafe, IsSafeBy, StaysSafe, KeepFirst, Tells};
 ghost use Rattle.hack_journal.specs.Safe.{gives, without};
 ghost use Rattle.hack_journal.specs.Recover.{AreOfCall, AreTold, backs, Differ, IsRestored};
@@ -97,12 +97,12 @@ fn entries_in<F: Files>(
     ensures none { IfOk result (λ found. found ≡ None → F.tells →
         F.bytes_at files.old journal.now ≡ None) }
     ensures some { IfOk result (λ found. (entries : Vec Entry Global) → found ≡ Some entries →
-        F.tells → F.bytes_at files.old journal.now ≡ Some (spelling (edits_of entries.items))) }
+        F.tells → F.bytes_at files.old journal.now ≡ Some (journal_text (edits_of entries.items))) }
     ensures of_call { IfOk result (λ found. (entries : Vec Entry Global) → found ≡ Some entries →
         AreOfCall journal.now (edits_of entries.items) (edits_of entries.items)) }
     ensures only { IfOk result (λ found. (entries : Vec Entry Global) → found ≡ Some entries →
         F.tells → (edits : List Edit) → HaveTextPaths edits →
-        F.bytes_at files.old journal.now ≡ Some (spelling edits) →
+        F.bytes_at files.old journal.now ≡ Some (journal_text edits) →
         edits_of entries.items ≡ edits) }
     ensures why { IfErr result (IsWhyUnread journal.now F.tells (F.bytes_at files.old)) }
     ensures same { F.tells → KeepsAll (F.bytes_at files.old) (F.bytes_at files.new) }
@@ -188,7 +188,8 @@ fn check_all<F: Files>(
 fn put_back<F: Files>(alloc: Global, files: &mut F, entry: &Entry) -> Result<bool, RecoverFault>
     ensures failures { IsCounted (F.failed files.old) (F.failed files.new) result }
     ensures back { OnOk result (F.tells → KeepsAll
-        (changed (gives (edit_of entry.now).path (edit_of entry.now).held) (F.bytes_at files.old))
+        (after_change (gives (edit_of entry.now).path (edit_of entry.now).held)
+        (F.bytes_at files.old))
         (F.bytes_at files.new)) }
     ensures other { IfOk result (λ was. F.tells → (was ≡ false) ↔
         (F.bytes_at files.old (edit_of entry.now).path ≡ (edit_of entry.now).held)) }

@@ -110,14 +110,14 @@ after_cut left = go left.option left.untaken left.words
     go option Nothing (word ∷ words) = record { option = option_in (cut_of word); untaken = untaken_of word; words = words }
 
 -- what of the word serves as a value: what stands behind an =, or the rest of a chain with one leading = dropped
-abbrev pub attached : Untaken → Option (List ℕ)
-attached (Pending value) = Some value
-attached (Chain letters) = Some (if begins_with_equals letters then drop 1 letters else letters)
-attached Nothing = None
+abbrev pub attached_value : Untaken → Option (List ℕ)
+attached_value (Pending value) = Some value
+attached_value (Chain letters) = Some (if begins_with_equals letters then drop 1 letters else letters)
+attached_value Nothing = None
 
 -- the value of an option: what is attached, else the next word whatever it is
 abbrev pub value_of : Left → Option (List ℕ)
-value_of left = go (attached left.untaken) left.words
+value_of left = go (attached_value left.untaken) left.words
   where
     go : Option (List ℕ) → List (List ℕ) → Option (List ℕ)
     go (Some value) words = Some value
@@ -135,7 +135,7 @@ after_value left = go left.untaken left.words
 
 -- a value that may be left out: what is attached, else the next word unless that is an option
 abbrev pub optional_of : Left → Option (List ℕ)
-optional_of left = go (attached left.untaken) left.words
+optional_of left = go (attached_value left.untaken) left.words
   where
     go : Option (List ℕ) → List (List ℕ) → Option (List ℕ)
     go (Some value) words = Some value

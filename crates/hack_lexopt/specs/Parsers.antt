@@ -33,8 +33,8 @@ option_at (Some letter) word = Some (ShortCut letter)
 option_at None word = option_in (cut_of word)
 
 -- what a parser has left
-abbrev pub left : Parser → Left
-left p = record { option = option_at p.spot.letter (string_bytes p.word); untaken = untaken_at p.spot (string_bytes p.word); words = map string_bytes p.words.items }
+abbrev pub left_in : Parser → Left
+left_in p = record { option = option_at p.spot.letter (string_bytes p.word); untaken = untaken_at p.spot (string_bytes p.word); words = map string_bytes p.words.items }
 
 -- a parser that has cut nothing
 abbrev pub start : List (List ℕ) → Left
@@ -59,9 +59,9 @@ flag_cut (flag.Short letter) = ShortCut letter
 
 -- what is next: a cut, the end, or a value that nobody took of the option before it
 abbrev pub IsNext : Left → Next → Type 0
-IsNext left (next.Cut arg) = next_cut left ≡ Ok (Some (cut_in arg))
-IsNext left next.End = next_cut left ≡ Ok None
-IsNext left (next.Refused option value) = (next_cut left ≡ Err UnexpectedValue) × (left.option ≡ Some (flag_cut option)) × (unexpected_of left.untaken ≡ Some value.now)
+IsNext left_in (next.Cut arg) = next_cut left_in ≡ Ok (Some (cut_in arg))
+IsNext left_in next.End = next_cut left_in ≡ Ok None
+IsNext left_in (next.Refused option value) = (next_cut left_in ≡ Err UnexpectedValue) × (left_in.option ≡ Some (flag_cut option)) × (unexpected_of left_in.untaken ≡ Some value.now)
 
 -- the letter of a cut, where it is one of a chain
 abbrev pub letter_in : Cut → Option ℕ
@@ -71,4 +71,4 @@ letter_in (ValueCut word) = None
 
 -- what is left once the result is no longer used
 abbrev pub Leaves : MutBor Parser → Left → Fml
-Leaves p l = Rests the_row p (λ new. left new ≡ l)
+Leaves p l = Rests the_row p (λ new. left_in new ≡ l)

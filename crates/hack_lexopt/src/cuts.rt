@@ -3,15 +3,16 @@
 
 ghost use Rattle.std.specs.Prelude.{◌≡◌, ◌≢◌, ◌↔◌, ◌<◌, None, Some, true, IsSome, IsTrue, OnOk};
 ghost use Rattle.std.specs.Prelude.{OnErr, IfOk, IfErr, length, map, drop, string_bytes};
-ghost use Rattle.std.specs.Prelude.{option_map};
 ghost use Rattle.std.specs.Borrow.{sem};
 ghost use Rattle.std.specs.Str.{IsCharBoundary};
+ghost use Rattle.hack_base.specs.Names.{optional_text};
 ghost use Rattle.hack_lexopt.specs.Cuts.{Left, Nothing, ShortCut, cut_of, untaken_of, first_letter};
-ghost use Rattle.hack_lexopt.specs.Cuts.{after_letter, next_cut, after_cut, attached};
+ghost use Rattle.hack_lexopt.specs.Cuts.{after_letter, next_cut, after_cut, attached_value};
 ghost use Rattle.hack_lexopt.specs.Cuts.{after_attached, value_of, after_value, optional_of};
 ghost use Rattle.hack_lexopt.specs.Cuts.{after_optional, unexpected_of, as_written};
 ghost use Rattle.hack_lexopt.specs.Cuts.{is_plain as plain, is_long, is_equals};
-ghost use Rattle.hack_lexopt.specs.Parsers.{left, start, cut_in, cut_seen, letter_in, untaken_at};
+ghost use Rattle.hack_lexopt.specs.Parsers.{left_in, start, cut_in, cut_seen, letter_in};
+ghost use Rattle.hack_lexopt.specs.Parsers.{untaken_at};
 ghost use Rattle.hack_lexopt.specs.Parsers.{untaken_rest, option_at, flag_cut, IsNext, Leaves};
 ghost use Rattle.std.specs.List.{before_first};
 
@@ -133,7 +134,8 @@ fn is_refused(place: Place, rest: &str) -> bool
 
 /// What of the rest of a word serves as a value.
 fn value_of(place: Place, rest: &str) -> &str
-    ensures { place ≢ Place.Closed → attached (untaken_rest place rest.now) ≡ Some result.now }
+    ensures { place ≢ Place.Closed → attached_value (untaken_rest place rest.now)
+        ≡ Some result.now }
 {
     match place {
         Place::Letters => rest.strip_prefix("=").unwrap_or(rest),
@@ -174,7 +176,7 @@ fn is_plain(word: &str) -> bool
 impl Parser {
     /// A parser that stands at the first word.
     pub fn from_args(alloc: Global, words: Vec<String>) -> Parser
-        ensures { left result ≡ start (map string_bytes words.items) }
+        ensures { left_in result ≡ start (map string_bytes words.items) }
     {
         Parser {
             words: VecDeque::from_vec(words),
@@ -190,8 +192,8 @@ impl Parser {
     /// What is next: a cut, the end, or a value that nobody took, and then the parser stands at the
     /// next word.
     pub fn cut(&mut self) -> Next<'_>
-        ensures* leaves { sem 𝓛 (Leaves self.entry (after_cut (left self.old))) }
-        ensures next { IsNext (left self.old) result }
+        ensures* leaves { sem 𝓛 (Leaves self.entry (after_cut (left_in self.old))) }
+        ensures next { IsNext (left_in self.old) result }
     {
         let Spot { letter, at, place } = self.spot;
         if is_refused(place, &self.word.as_str()[at..]) {
@@ -220,8 +222,8 @@ impl Parser {
     /// The next cut, or none behind the last word. A value that nobody took is refused here, and
     /// then the parser stands at the next word.
     pub fn next(&mut self) -> Result<Option<Arg<'_>>, LexFault>
-        ensures* leaves { sem 𝓛 (Leaves self.entry (after_cut (left self.old))) }
-        ensures cut { cut_seen result ≡ next_cut (left self.old) }
+        ensures* leaves { sem 𝓛 (Leaves self.entry (after_cut (left_in self.old))) }
+        ensures cut { cut_seen result ≡ next_cut (left_in self.old) }
         ensures refused { IfErr result (λ fault. fault ≡ LexFault.UnexpectedValue) }
     {
         match self.cut() {
@@ -235,9 +237,9 @@ impl Parser {
     /// long one, or the rest of a chain with one leading `=` dropped.
     pub fn optional_value(&mut self, alloc: Global) -> Result<Option<String>, AllocError>
         ensures value { IfOk result
-            (λ value. option_map string_bytes value ≡ attached (left self.old).untaken) }
-        ensures ok { OnOk result (left self.new ≡ after_attached (left self.old)) }
-        ensures err { OnErr result (left self.new ≡ left self.old) }
+            (λ value. optional_text value ≡ attached_value (left_in self.old).untaken) }
+        ensures ok { OnOk result (left_in self.new ≡ after_attached (left_in self.old)) }
+        ensures err { OnErr result (left_in self.new ≡ left_in self.old) }
     {
         let Spot { at, place, .. } = self.spot;
         if let Place::Closed = place {
@@ -253,11 +255,11 @@ impl Parser {
     /// is.
     pub fn value(&mut self, alloc: Global) -> Result<String, LexFault>
         ensures value { IfOk result
-            (λ value. value_of (left self.old) ≡ Some (string_bytes value)) }
-        ensures missing { result ≡ Err LexFault.MissingValue → value_of (left self.old) ≡ None }
+            (λ value. value_of (left_in self.old) ≡ Some (string_bytes value)) }
+        ensures missing { result ≡ Err LexFault.MissingValue → value_of (left_in self.old) ≡ None }
         ensures expected { result ≢ Err LexFault.UnexpectedValue }
-        ensures ok { OnOk result (left self.new ≡ after_value (left self.old)) }
-        ensures err { OnErr result (left self.new ≡ left self.old) }
+        ensures ok { OnOk result (left_in self.new ≡ after_value (left_in self.old)) }
+        ensures err { OnErr result (left_in self.new ≡ left_in self.old) }
     {
         match self.optional_value(alloc)? {
             Some(value) => Ok(value),
@@ -269,9 +271,9 @@ impl Parser {
     /// unless that is an option.
     pub fn value_or_none(&mut self, alloc: Global) -> Result<Option<String>, AllocError>
         ensures value { IfOk result
-            (λ value. option_map string_bytes value ≡ optional_of (left self.old)) }
-        ensures ok { OnOk result (left self.new ≡ after_optional (left self.old)) }
-        ensures err { OnErr result (left self.new ≡ left self.old) }
+            (λ value. optional_text value ≡ optional_of (left_in self.old)) }
+        ensures ok { OnOk result (left_in self.new ≡ after_optional (left_in self.old)) }
+        ensures err { OnErr result (left_in self.new ≡ left_in self.old) }
     {
         if let Some(value) = self.optional_value(alloc)? {
             return Ok(Some(value));

@@ -1,6 +1,6 @@
 -- Questions to cargo that fail.
 use Rattle.std.proofs.Common.{◌≡◌, ◌⊎◌, inl, inr, ℕ, List, Option, Result, sym, subst, true, string_bytes}
-use Rattle.hack_features.specs.Names.{Name}
+use Rattle.hack_base.specs.Names.{Name}
 use Rattle.hack_process.specs.Calls.{Asked, Call, MayAdd}
 use Rattle.hack_process.specs.CommandTexts.{Command, text_of}
 use Rattle.hack_process.specs.Commands.{asked_of}

@@ -1,7 +1,7 @@
 -- What came of all that is asked for a call.
 use Rattle.std.specs.Prelude.{◌≡◌, ◌⊎◌, ℕ, true, List, Option, Result, Ok, Err, string_bytes}
 use Rattle.std.proofs.Common.{Global, String}
-use Rattle.hack_features.specs.Names.{Name}
+use Rattle.hack_base.specs.Names.{Name}
 use Rattle.hack_files.specs.Files.{Contents}
 use Rattle.hack_process.specs.Calls.{Call, MayAdd}
 use Rattle.hack_process.specs.Commands.{asked_of}

@@ -1,9 +1,9 @@
 -- All that is loaded for one call, as callers see it.
-use Rattle.std.specs.Prelude.{ℕ, ◌≡◌, ◌<◌, ◌==◌, ◌++◌, Bool, true, false, not, List, Option, Some, None, codes, length, Contains, IfSome, nat_lt, option_map, option_and_then, slice_get, string_bytes, if◌then◌else◌}
+use Rattle.std.specs.Prelude.{ℕ, ◌≡◌, ◌<◌, ◌==◌, ◌++◌, Bool, true, false, not, List, Option, Some, None, codes, length, Contains, IfSome, nat_lt, option_map, option_and_then, slice_get, if◌then◌else◌}
 use Rattle.std.specs.List.{position_or_len}
-use Rattle.hack_features.specs.Names.{Name}
+use Rattle.hack_base.specs.Names.{Name, optional_text}
 use Rattle.hack_words.specs.declared.cli.args.Args.{Args}
-use Rattle.hack_process.specs.PathTexts.{parent_of}
+use Rattle.hack_base.specs.PathTexts.{parent_of}
 use Rattle.hack_metadata.specs.Records.{PackageRecord, MetadataRecord}
 use Rattle.hack_manifest.specs.declared.manifest.Manifest.{Manifest}
 use Rattle.hack_load.specs.declared.features.Features.{Features}
@@ -57,7 +57,7 @@ publish_in m = m.package.publish
 
 -- the `rust-version` in a manifest
 abbrev pub version_in : Manifest → Option Name
-version_in m = option_and_then (λ v. option_map string_bytes v) m.package.rust_version
+version_in m = option_and_then (λ v. optional_text v) m.package.rust_version
 
 -- publishing is told, and denied
 abbrev pub denies : Option Bool → Bool

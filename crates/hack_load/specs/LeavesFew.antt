@@ -1,6 +1,6 @@
 -- What the questions of a call leave of the files.
 use Rattle.std.specs.Prelude.{◌≡◌, ◌⊎◌, ℕ, List, Contains, Result, Ok, Err, length}
-use Rattle.hack_features.specs.Names.{Name}
+use Rattle.hack_base.specs.Names.{Name}
 use Rattle.hack_files.specs.Files.{Contents, GrowsBy, KeepsAll}
 use Rattle.hack_metadata.specs.Left.{Whole}
 

@@ -1,8 +1,8 @@
 -- What cargo is asked for a call, and what counts as its answers.
-use Rattle.std.specs.Prelude.{◌≡◌, ◌≢◌, ◌⊎◌, ◌++◌, ◌∷◌, [], ℕ, true, List, Option, Some, None, Result, Ok, Err, Contains, codes, option_map, slice_get, string_bytes}
+use Rattle.std.specs.Prelude.{◌≡◌, ◌≢◌, ◌⊎◌, ◌++◌, ◌∷◌, [], ℕ, true, List, Option, Some, None, Result, Ok, Err, Contains, codes, slice_get, string_bytes}
 use Rattle.std.specs.List.{AllZip}
 use Rattle.std.proofs.Common.{Global, String}
-use Rattle.hack_features.specs.Names.{Name}
+use Rattle.hack_base.specs.Names.{Name, optional_text}
 use Rattle.hack_files.specs.Files.{Contents}
 use Rattle.hack_files.specs.Faults.{IsOfText}
 use Rattle.hack_files.specs.declared.fs.FsFault.{FsFault}
@@ -146,7 +146,7 @@ locate_command cargo path = command_line cargo (codes "locate-project" ∷ path_
 
 -- the same for these arguments
 abbrev pub locate : Args → Env → Command
-locate args env = locate_command (string_bytes env.cargo) (option_map string_bytes args.manifest_path)
+locate args env = locate_command (string_bytes env.cargo) (optional_text args.manifest_path)
 
 -- cargo can't be had to tell where the call stands; or memory ran out
 abbrev pub FailsLocate : Type 0 → Command → Name → List Call → List Call → ContextFault → Type 0

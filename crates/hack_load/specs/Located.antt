@@ -4,7 +4,7 @@ use Rattle.std.specs.List.{find}
 use Rattle.std.specs.Str.{bytes_eq}
 use Rattle.serde_json.specs.Data.{Members}
 use Rattle.serde_json.specs.Find.{as_str, get_member}
-use Rattle.hack_features.specs.Names.{Name}
+use Rattle.hack_base.specs.Names.{Name}
 use Rattle.hack_metadata.specs.Fields.{object_in_text}
 use Rattle.hack_metadata.specs.Records.{PackageRecord, MetadataRecord}
 

@@ -1,6 +1,6 @@
 -- Names of packages as they are shown.
 use Rattle.std.specs.Prelude.{option_copied}
-use Rattle.hack_features.specs.Names.{Name}
+use Rattle.hack_base.specs.Names.{Name}
 use Rattle.hack_load.specs.Contexts.{shown_name}
 use Rattle.hack_load.specs.declared.name.VerboseName.{VerboseName}
 

@@ -1,7 +1,7 @@
 -- Why no manifest's path is told.
 use Rattle.std.specs.Prelude.{◌≡◌, ℕ, List, Some, None, string_bytes}
 use Rattle.serde_json.specs.Data.{Members}
-use Rattle.hack_features.specs.Names.{Name}
+use Rattle.hack_base.specs.Names.{Name}
 use Rattle.hack_metadata.specs.Fields.{object_in_text}
 use Rattle.hack_load.specs.Located.{root_at}
 use Rattle.hack_load.specs.declared.fault.ContextFault.{ContextFault}

@@ -2,7 +2,7 @@
 //! the workspace, the manifests of its members, and where the call stands.
 
 ghost use Rattle.std.specs.Prelude.{◌≡◌, Err, IfOk, OnOk, option_copied};
-ghost use Rattle.hack_files.specs.Restore.{registered};
+ghost use Rattle.hack_files.specs.Restore.{registered_files};
 ghost use Rattle.hack_load.specs.Answers.{AreAnswers, Follows, IsAskFault, IsLoaded, LoadsTo};
 ghost use Rattle.hack_load.specs.LeavesFew.{LeavesFew, ReadsOnly};
 ghost use Rattle.hack_metadata.specs.Left.{Whole};
@@ -45,7 +45,7 @@ impl Answers {
             (F.failed files.old) (F.failed files.new) }
         ensures whole { OnOk result.loaded (Whole F.tells (F.bytes_at files.old)
             (F.bytes_at files.new) (F.failed files.old) (F.failed files.new)) }
-        ensures kept { registered manager.new ≡ registered manager.old }
+        ensures kept { registered_files manager.new ≡ registered_files manager.old }
         ensures needs { manager.new.needs_restore ≡ manager.old.needs_restore }
         ensures read { IfOk result.loaded (IsLoaded F.tells (F.bytes_at files.new) env.now) }
         ensures asked { C.tells → F.tells → AreAnswers args.now env.now (F.bytes_at files.old)
@@ -92,7 +92,7 @@ fn load<C: Caller, F: Files>(
         (F.failed files.old) (F.failed files.new) }
     ensures whole { OnOk result (Whole F.tells (F.bytes_at files.old)
         (F.bytes_at files.new) (F.failed files.old) (F.failed files.new)) }
-    ensures kept { registered manager.new ≡ registered manager.old }
+    ensures kept { registered_files manager.new ≡ registered_files manager.old }
     ensures needs { manager.new.needs_restore ≡ manager.old.needs_restore }
     ensures read { IfOk result (IsLoaded F.tells (F.bytes_at files.new) env.now) }
     ensures asked { C.tells → F.tells → LoadsTo args.now env.now (F.bytes_at files.old)

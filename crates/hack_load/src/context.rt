@@ -3,7 +3,8 @@
 
 ghost use Rattle.std.specs.Prelude.{◌≡◌, ◌<◌, ◌⊎◌, ◌↔◌, [], ℕ, true};
 ghost use Rattle.std.specs.Prelude.{Contains, Some, IfOk, IfErr, IsTrue, OnOk};
-ghost use Rattle.std.specs.Prelude.{length, map, option_copied, option_map, string_bytes};
+ghost use Rattle.std.specs.Prelude.{length, map, option_copied, option_map};
+ghost use Rattle.hack_base.specs.Names.{optional_text};
 ghost use Rattle.hack_process.specs.Commands.{command_of};
 ghost use Rattle.hack_metadata.specs.Requests.{command_line};
 ghost use Rattle.hack_metadata.specs.View.{package_view, place_at};
@@ -18,7 +19,7 @@ ghost use Rattle.hack_load.specs.Candidates.{MissesNode};
 ghost use Rattle.hack_load.specs.Features.{IsRefusal};
 ghost use Rattle.hack_load.specs.Loads.{told_version};
 ghost use Rattle.hack_load.specs.Names.{name_text};
-ghost use Rattle.hack_versions.specs.Notes.{note_of};
+ghost use Rattle.hack_base.specs.Notes.{note_of};
 
 pub use crate::answers::{Answers, Loaded};
 pub use crate::fault::ContextFault;
@@ -26,11 +27,11 @@ use crate::features::Features;
 pub use crate::located::{Located, current_package};
 pub use crate::name::VerboseName;
 use crate::told::minor_of;
+use hack_base::notice::{Notice, NoticeKind};
+use hack_base::paths::parent;
 use hack_manifest::manifest::Manifest;
 use hack_metadata::metadata::{Metadata, MetadataFault, Package, PackageId};
-use hack_process::paths::parent;
 use hack_process::process::ProcessBuilder;
-use hack_versions::notice::{Notice, NoticeKind};
 use hack_words::cli::Args;
 use std::alloc::{AllocError, Global};
 
@@ -339,7 +340,7 @@ fn own_version(manifest: &Manifest) -> Option<&str>
 
 /// A text, where there is one.
 fn text_of(text: &Option<String>) -> Option<&str>
-    ensures { option_copied result ≡ option_map string_bytes text.now }
+    ensures { option_copied result ≡ optional_text text.now }
 {
     match text {
         Some(text) => Some(text.as_str()),

@@ -2,21 +2,21 @@
 
 ghost use Rattle.std.specs.Prelude.{◌≡◌, ◌++◌, ◌∷◌, [], Contains, IfOk, OnOk, OnErr, IfSome, Some};
 ghost use Rattle.std.specs.Prelude.{cond, filter, map, not, option_map, string_bytes};
-ghost use Rattle.hack_features.specs.Names.{names_of};
+ghost use Rattle.hack_base.specs.Names.{names_of};
 ghost use Rattle.hack_metadata.specs.View.{place_at};
-ghost use Rattle.hack_process.specs.CommandTexts.{appended};
+ghost use Rattle.hack_process.specs.CommandTexts.{with_names};
 ghost use Rattle.hack_process.specs.Commands.{command_of};
-ghost use Rattle.hack_versions.specs.Notes.{note_of};
+ghost use Rattle.hack_base.specs.Notes.{note_of, AddsNotes};
 ghost use Rattle.hack_load.specs.ContextView.{context_view};
-ghost use Rattle.hack_load.specs.GivenFeatures.{given, knows, left_out, left_out_for};
+ghost use Rattle.hack_load.specs.GivenFeatures.{given_features, knows, left_out, left_out_for};
 ghost use Rattle.hack_load.specs.GivenFeatures.{name_at, passed_for};
 
 use crate::context::Context;
+use hack_base::notice::{Notice, NoticeKind};
 use hack_metadata::metadata::PackageId;
 pub use hack_process::process::{
     Called, Caller, Child, End, Failure, FakeCaller, Line, Made, ProcessBuilder, ProcessFault,
 };
-use hack_versions::notice::{Notice, NoticeKind};
 use std::alloc::{AllocError, Global};
 
 /// Hands a command the words of the call for cargo: those in front of its `--`, and those behind.
@@ -41,7 +41,7 @@ pub fn append_features_from_args(
     requires { IfSome id (λ id.
         Contains (context_view cx.now).metadata.workspace_members id.index) }
     ensures ok { OnOk result (command_of command.new ≡ record (command_of command.old) {
-      features = appended (command_of command.old).features
+      features = with_names (command_of command.old).features
           (passed_for (context_view cx.now) (option_map place_at id));
     }) }
     ensures notices { IfOk result (λ notices. map note_of notices.items
@@ -66,7 +66,7 @@ fn append_features_for(
 ) -> Result<Vec<Notice>, AllocError>
     requires { Contains (context_view cx.now).metadata.workspace_members id.index }
     ensures ok { OnOk result (command_of command.new ≡ record (command_of command.old) {
-      features = appended (command_of command.old).features
+      features = with_names (command_of command.old).features
           (passed_for (context_view cx.now) (Some id.index));
     }) }
     ensures notices { IfOk result (λ notices. map note_of notices.items
@@ -100,7 +100,7 @@ pub fn features_for<'a>(
 /// The features of the call.
 fn all_features<'a>(alloc: Global, cx: &'a Context) -> Result<Vec<&'a str>, AllocError>
     ensures { IfOk result (λ names. map (λ word. word.now) names.items
-        ≡ given (context_view cx.now)) }
+        ≡ given_features (context_view cx.now)) }
 {
     let mut names = Vec::new(alloc);
     for name in &cx.args().features {
@@ -117,11 +117,11 @@ fn known_features<'a>(
 ) -> Result<(Vec<&'a str>, Vec<Notice>), AllocError>
     requires { Contains (context_view cx.now).metadata.workspace_members id.index }
     ensures names { IfOk result (λ answer. map (λ word. word.now) answer.0.items
-        ≡ filter (knows (context_view cx.now) id.index) (given (context_view cx.now))) }
+        ≡ filter (knows (context_view cx.now) id.index) (given_features (context_view cx.now))) }
     ensures notices { IfOk result (λ answer. map note_of answer.1.items
         ≡ map (left_out (name_at (context_view cx.now) id.index))
         (filter (λ f. not (knows (context_view cx.now) id.index f))
-        (given (context_view cx.now)))) }
+        (given_features (context_view cx.now)))) }
 {
     let mut names = Vec::new(alloc);
     let mut notices = Vec::new(alloc);
@@ -144,9 +144,9 @@ fn sort<'a>(
     ensures known { OnOk result (map (λ word. word.now) names.new.items
         ≡ map (λ word. word.now) names.old.items
         ++ cond (knows (context_view cx.now) id.index name.now) (name.now ∷ []) []) }
-    ensures unknown { OnOk result (map note_of notices.new.items
-        ≡ map note_of notices.old.items ++ cond (knows (context_view cx.now) id.index name.now) []
-        (left_out (name_at (context_view cx.now) id.index) name.now ∷ [])) }
+    ensures unknown { OnOk result (AddsNotes notices.old notices.new
+        (cond (knows (context_view cx.now) id.index name.now) []
+        (left_out (name_at (context_view cx.now) id.index) name.now ∷ []))) }
 {
     if knows(cx, id, name) {
         names.push(name)?;

@@ -1,7 +1,8 @@
 //! What cargo tells of itself: its minor version and its host, by `cargo -vV`.
 
-ghost use Rattle.std.specs.Prelude.{◌≡◌, IfOk, OnErr, option_map, option_copied, string_bytes};
+ghost use Rattle.std.specs.Prelude.{◌≡◌, IfOk, OnErr, option_copied, string_bytes};
 ghost use Rattle.std.specs.Prelude.{true};
+ghost use Rattle.hack_base.specs.Names.{optional_text};
 ghost use Rattle.hack_process.specs.Calls.{MayAdd};
 ghost use Rattle.hack_process.specs.CommandTexts.{text_of};
 ghost use Rattle.hack_process.specs.Commands.{asked_of, command_of};
@@ -33,7 +34,7 @@ impl Told {
         caller: &mut C,
     ) -> Result<Told, AllocError>
         ensures ok { IfOk result (λ t. C.tells → IsSelf args.now env.now (told_version t.version)
-            (option_map string_bytes t.host) (C.calls caller.old) (C.calls caller.new)) }
+            (optional_text t.host) (C.calls caller.old) (C.calls caller.new)) }
         ensures err { OnErr result (C.tells → MayAdd
             (asked_of true (self_command (string_bytes env.now.cargo)))
             (C.calls caller.old) (C.calls caller.new)) }
@@ -41,7 +42,7 @@ impl Told {
         let asked = self_command(alloc, env)?;
         match asked.read(alloc, caller, env.current_dir.as_str()) {
             Ok(text) => Told::of(alloc, text.as_str(), &asked, args, env),
-            Err(fault) => Told::failed(alloc, fault),
+            Err(fault) => Told::of_failure(alloc, fault),
         }
     }
 
@@ -55,17 +56,17 @@ impl Told {
     ) -> Result<Told, AllocError>
         ensures { IfOk result (λ t. TellsSelf (text_of args.now.verbose
             (string_bytes env.now.current_dir) (command_of asked.now)) answer.now
-            (told_version t.version) (option_map string_bytes t.host)) }
+            (told_version t.version) (optional_text t.host)) }
     {
         let version = version_in(alloc, answer, asked, args, env)?;
-        let host = owned(alloc, host(answer))?;
+        let host = owned_text(alloc, host(answer))?;
         Ok(Told { version, host })
     }
 
     /// What is known where the command failed.
-    fn failed(alloc: Global, fault: ProcessFault) -> Result<Told, AllocError>
+    fn of_failure(alloc: Global, fault: ProcessFault) -> Result<Told, AllocError>
         ensures { IfOk result (λ t.
-            FailsSelf fault (told_version t.version) (option_map string_bytes t.host)) }
+            FailsSelf fault (told_version t.version) (optional_text t.host)) }
     {
         match fault {
             ProcessFault::Memory => Err(AllocError),
@@ -99,8 +100,8 @@ fn self_command<'a>(alloc: Global, env: &Env) -> Result<ProcessBuilder<'a>, Allo
     Ok(asked)
 }
 
-fn owned(alloc: Global, text: Option<&str>) -> Result<Option<String>, AllocError>
-    ensures { IfOk result (λ copy. option_map string_bytes copy ≡ option_copied text.entry) }
+fn owned_text(alloc: Global, text: Option<&str>) -> Result<Option<String>, AllocError>
+    ensures { IfOk result (λ copy. optional_text copy ≡ option_copied text.entry) }
 {
     match text {
         Some(text) => Ok(Some(String::from_str(alloc, text)?)),
@@ -139,10 +140,10 @@ fn warning_of(
         fault.now)) }
 {
     let command = asked.text(alloc, false, args.verbose, env.current_dir.as_str())?;
-    unknown(alloc, fault.of(command.as_str()))
+    unknown_version_text(alloc, fault.of(command.as_str()))
 }
 
-fn unknown(alloc: Global, fault: AnswerFault<'_>) -> Result<String, AllocError>
+fn unknown_version_text(alloc: Global, fault: AnswerFault<'_>) -> Result<String, AllocError>
     ensures { IfOk result (λ text. string_bytes text ≡ unknown_version
         (answer_fault_text fault.entry.command.now fault.entry.fault.now)) }
 {

@@ -3,19 +3,19 @@ use Rattle.std.proofs.Common.{◌≡◌, ◌⊎◌, ℕ, ◌<◌, List, [], ◌�
 use Rattle.std.proofs.lemmas.Bool.{cases_Bool}
 use Rattle.std.proofs.lemmas.List.{take_at, drop_at}
 use Rattle.std.proofs.lemmas.Option.{same_Some}
-use Rattle.hack_features.specs.Names.{Name}
+use Rattle.hack_base.specs.Names.{Name}
 use Rattle.hack_manifest.specs.Runs.{IsFirstRun, IsCutInto}
 use Rattle.hack_manifest.specs.Fronts.{IsFirstFrontTo}
-use Rattle.hack_manifest.specs.Paths.{View, AreCut, IsOwnKey, at_front, no_front, IsPath, HavePaths, next_header, is_header, chain_at, joined}
+use Rattle.hack_manifest.specs.Paths.{View, AreCut, IsOwnKey, at_front, no_front, IsPath, HavePaths, next_header, is_header, chain_at, joined_pieces}
 use Rattle.hack_manifest.specs.Manifest.{Reading, Facts, IsReadAs, read_manifest}
 
-joined-text : (ps : List View) (tail text : List ℕ) → IsCutInto (map (λ p. p.text) ps) tail text → text ≡ joined ps ++ tail
+joined-text : (ps : List View) (tail text : List ℕ) → IsCutInto (map (λ p. p.text) ps) tail text → text ≡ joined_pieces ps ++ tail
 joined-text [] tail text h = sym h.0
 joined-text (p ∷ ps) tail text (rest, whole, first, more) =
-    whole ∙ ap (λ t. p.text ++ t) (joined-text ps tail rest more) ∙ sym (append_assoc p.text (joined ps) tail)
+    whole ∙ ap (λ t. p.text ++ t) (joined-text ps tail rest more) ∙ sym (append_assoc p.text (joined_pieces ps) tail)
 
 -- the pieces and the tail joined are the text
-pub joined-cut : (text tail : List ℕ) (ps : List View) → AreCut text ps tail → text ≡ joined ps ++ tail
+pub joined-cut : (text tail : List ℕ) (ps : List View) → AreCut text ps tail → text ≡ joined_pieces ps ++ tail
 joined-cut text tail ps cut = joined-text ps tail text cut.texts
 
 compare_cases : (m n : ℕ) → (m < n) ⊎ ((m ≡ n) ⊎ (n < m))

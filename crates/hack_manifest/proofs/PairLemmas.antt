@@ -14,7 +14,7 @@ use Rattle.toml.specs.Parse.{atom, val, items, after_element, key_equals, expres
 use Rattle.toml.proofs.OnLiterals.{toml_on_literals}
 use Rattle.toml.proofs.Blanks.{skip_within}
 use Rattle.toml.proofs.Turns.{keyval_ok, lines_end, lines_more, document_some, items_end, items_more, val_atom, val_array}
-use Rattle.hack_features.specs.Names.{Name}
+use Rattle.hack_base.specs.Names.{Name}
 use Rattle.hack_manifest.specs.Runs.{has_keys, stands}
 use Rattle.hack_manifest.specs.Paths.{chain, chain_of, chain_at}
 use Rattle.hack_manifest.specs.Keys.{rest_of, IsBehindItems, is_over}

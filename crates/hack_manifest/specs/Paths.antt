@@ -3,7 +3,7 @@ use Rattle.std.specs.Prelude.{◌≡◌, ◌==◌, ℕ, Bool, true, false, if◌
 use Rattle.toml.specs.Data.{Data, table, Members, no_members, member}
 use Rattle.toml.specs.Parse.{parse_document, skip_bom}
 use Rattle.toml_parser.specs.Lexical.{skip_blank}
-use Rattle.hack_features.specs.Names.{Name}
+use Rattle.hack_base.specs.Names.{Name}
 use Rattle.hack_manifest.specs.Runs.{IsCutInto}
 use Rattle.hack_manifest.specs.Fronts.{IsFirstFrontTo, HasNoFrontTo}
 
@@ -60,6 +60,6 @@ pub record AreCut (text : List ℕ) (pieces : List View) (tail : List ℕ) : Typ
   pub paths : HavePaths [] pieces
 
 -- the pieces, one behind the other
-abbrev pub joined : List View → List ℕ
-joined [] = []
-joined (p ∷ ps) = p.text ++ joined ps
+abbrev pub joined_pieces : List View → List ℕ
+joined_pieces [] = []
+joined_pieces (p ∷ ps) = p.text ++ joined_pieces ps

@@ -3,7 +3,7 @@ use Rattle.std.specs.Prelude.{◌≡◌, ℕ, List, Option, None, option_map, Ve
 use Rattle.std.specs.BTreeMap.{BTreeMap}
 use Rattle.std.specs.declared.alloc.Global.{Global}
 use Rattle.toml.specs.Parse.{parse_document}
-use Rattle.hack_features.specs.Names.{Name}
+use Rattle.hack_base.specs.Names.{Name, optional_text}
 use Rattle.hack_features.specs.FeatureMap.{feature_map}
 use Rattle.hack_manifest.specs.Manifest.{Reading, PackageFacts, Facts, IsReadAs}
 use Rattle.hack_manifest.specs.declared.fault.ReadFault.{ReadFault}
@@ -15,7 +15,7 @@ use Rattle.hack_manifest.specs.declared.manifest.ManifestFault.TheVariants as fa
 
 -- a version, as its bytes
 abbrev pub version_view : Option (Option (String Global)) → Option (Option Name)
-version_view v = option_map (option_map string_bytes) v
+version_view v = option_map optional_text v
 
 -- what a `Package` says
 abbrev pub package_view : Package → PackageFacts

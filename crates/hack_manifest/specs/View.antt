@@ -1,6 +1,6 @@
 -- Pieces as clauses see them.
 use Rattle.std.specs.Prelude.{List, map}
-use Rattle.hack_features.specs.Names.{names_of}
+use Rattle.hack_base.specs.Names.{names_of}
 use Rattle.hack_manifest.specs.declared.pieces.Piece.{Piece}
 use Rattle.hack_manifest.specs.declared.pieces.Pieces.{Pieces}
 use Rattle.hack_manifest.specs.Paths.{View}

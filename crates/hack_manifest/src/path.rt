@@ -4,13 +4,14 @@ ghost use Rattle.std.specs.Prelude.{◌≡◌, ◌≤◌, ◌++◌, [], ◌∷�
 ghost use Rattle.std.specs.Prelude.{true, IfOk, OnOk, IfSome, IfNone};
 ghost use Rattle.toml.specs.Parse.{skip_bom};
 ghost use Rattle.toml.specs.View.{view, table_view};
-ghost use Rattle.hack_features.specs.Names.{names_of};
+ghost use Rattle.hack_base.specs.Names.{names_of};
 ghost use Rattle.hack_manifest.specs.Runs.{stands};
 ghost use Rattle.hack_manifest.specs.Fronts.{IsFrontTo};
 ghost use Rattle.hack_manifest.specs.Paths.{chain, chain_of, chain_at, is_header};
 ghost use Rattle.hack_manifest.specs.Paths.{IsOwnKey, IsPath};
 
 use crate::plain::bare_name;
+use hack_base::copies::push_copies;
 use std::alloc::{AllocError, Global};
 use toml::{Table, Value};
 use toml_parser::text::{byte_at, first, skip_blank};
@@ -141,17 +142,6 @@ fn own_key(alloc: Global, piece: &str) -> Result<Vec<String>, AllocError>
     Ok(Vec::new(alloc))
 }
 
-/// Puts copies of names behind those before them.
-pub fn push_all(out: &mut Vec<String>, names: &[String]) -> Result<(), AllocError>
-    ensures { OnOk result
-        (names_of out.new.items ≡ names_of out.old.items ++ names_of names.now) }
-{
-    for name in names {
-        out.push(name.clone()?)?;
-    }
-    Ok(())
-}
-
 /// The path of a piece behind a header.
 pub fn path_of(alloc: Global, header: &[String], piece: &str) -> Result<Vec<String>, AllocError>
     ensures { IfOk result (λ path.
@@ -164,7 +154,7 @@ pub fn path_of(alloc: Global, header: &[String], piece: &str) -> Result<Vec<Stri
         };
     }
     let mut path = Vec::new(alloc);
-    push_all(&mut path, header)?;
+    push_copies(&mut path, header)?;
     let mut own = own_key(alloc, piece)?;
     path.append(&mut own)?;
     Ok(path)

@@ -3,14 +3,15 @@
 
 ghost use Rattle.std.specs.Prelude.{◌≡◌, ◌++◌, ℕ, List, None, IsSome, IfOk};
 ghost use Rattle.toml.specs.Parse.{parse_document};
-ghost use Rattle.hack_features.specs.Names.{names_of};
-ghost use Rattle.hack_manifest.specs.Paths.{View, AreCut, joined, next_header};
+ghost use Rattle.hack_base.specs.Names.{names_of};
+ghost use Rattle.hack_manifest.specs.Paths.{View, AreCut, joined_pieces, next_header};
 ghost use Rattle.hack_manifest.specs.View.{pieces_view, slice_view, piece_view};
 ghost use Rattle.hack_manifest.specs.Manifest.{is_value_of, is_inline};
 ghost use Rattle.hack_manifest.specs.declared.pieces.PiecesFault.TheVariants.{Memory, Toml};
 
-use crate::path::{path_of, push_all, starts_table};
+use crate::path::{path_of, starts_table};
 use crate::runs::first_run;
+use hack_base::copies::push_copies;
 use std::alloc::{AllocError, Global};
 use thiserror::Error;
 
@@ -83,7 +84,7 @@ fn header_behind(
 {
     if starts_table(piece) {
         let mut own = Vec::new(alloc);
-        push_all(&mut own, path)?;
+        push_copies(&mut own, path)?;
         Ok(own)
     } else {
         Ok(header)
@@ -113,7 +114,7 @@ pub fn cut(alloc: Global, text: &str) -> Result<Pieces<'_>, AllocError>
 /// Carries a law: the pieces and the tail joined are the text.
 pub fn pieces_join()
     ensures { (text tail : List ℕ) (pieces : List View) → AreCut text pieces tail
-        → text ≡ joined pieces ++ tail }
+        → text ≡ joined_pieces pieces ++ tail }
 {}
 
 /// Carries a law: a text is cut in one way.

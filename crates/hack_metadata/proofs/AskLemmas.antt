@@ -1,6 +1,6 @@
 -- Faults of commands, and what they end.
 use Rattle.std.proofs.Common.{◌≡◌, inl, inr, ℕ, List, [], ◌∷◌, ◌++◌, Some, None, refl, sym, ◌∙◌, ap, subst, true, string_bytes, codes, map}
-use Rattle.hack_features.specs.Names.{Name}
+use Rattle.hack_base.specs.Names.{Name}
 use Rattle.hack_process.specs.Calls.{Asked, Call, MayAdd}
 use Rattle.hack_process.specs.CommandTexts.{Command}
 use Rattle.hack_process.specs.Commands.{asked_of}

@@ -2,7 +2,7 @@
 use Rattle.std.specs.Prelude.{IfOk, IfErr, Result}
 use Rattle.std.proofs.Common.{◌≡◌, ◌⊎◌, inl, inr, ℕ, List, Some, None, Ok, Err, refl, sym, true}
 use Rattle.serde_json.specs.Data.{Members}
-use Rattle.hack_features.specs.Names.{Name}
+use Rattle.hack_base.specs.Names.{Name}
 use Rattle.hack_files.specs.Files.{Contents, GrowsBy, KeepsOthers}
 use Rattle.hack_files.specs.Restore.{Kept}
 use Rattle.std.proofs.Common.{◌++◌, ◌∷◌, [], ◌∙◌, ap, subst, arith}

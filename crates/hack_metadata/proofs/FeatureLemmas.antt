@@ -11,7 +11,7 @@ use Rattle.std.proofs.lemmas.Bool.Decides.{nat_tests}
 use Rattle.serde_json.specs.Find.{as_array}
 use Rattle.serde_json.specs.View.{view, items_view, members_view}
 use Rattle.serde_json.specs.declared.value.Value.{Value}
-use Rattle.hack_features.specs.Names.{names_of}
+use Rattle.hack_base.specs.Names.{names_of}
 use Rattle.hack_features.specs.FeatureMap.{FeatureMap, feature_map}
 use Rattle.hack_metadata.specs.Read.{has_items, texts_of, features_of}
 

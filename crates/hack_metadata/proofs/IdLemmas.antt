@@ -12,8 +12,8 @@ use Rattle.std.proofs.lemmas.List.{length-take, length-map, take_all, drop_all}
 use Rattle.std.proofs.lemmas.List.Folds.{list_any-append}
 use Rattle.std.proofs.Math.Path.{fun_ext}
 use Rattle.std.proofs.Math.Seq.{drop-cons}
-use Rattle.hack_features.specs.Names.{Name}
-use Rattle.hack_features.proofs.Steps.{seen-next}
+use Rattle.hack_base.specs.Names.{Name}
+use Rattle.hack_base.proofs.Steps.{seen-next}
 use Rattle.hack_metadata.specs.Read.{later, place_from, place_of, ids_of, distinct}
 use Rattle.hack_metadata.specs.View.{package_view, place_at, place_in}
 use Rattle.hack_metadata.specs.declared.package.Package.{Package}

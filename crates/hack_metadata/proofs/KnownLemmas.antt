@@ -9,7 +9,7 @@ use Rattle.std.proofs.lemmas.List.{length-map}
 use Rattle.std.proofs.lemmas.Bool.Decides.{nat_tests}
 use Rattle.serde_json.specs.Data.{Data, Items, no_items, item, Members}
 use Rattle.serde_json.specs.Find.{as_str}
-use Rattle.hack_features.specs.Names.{Name}
+use Rattle.hack_base.specs.Names.{Name}
 use Rattle.hack_metadata.specs.Fields.{Field, ◌>>=◌, or_name, string_in, array_in, nullable_in, element_of, read_all}
 use Rattle.hack_metadata.specs.Known.{Bounds, is_known_node, are_known}
 use Rattle.hack_metadata.specs.Read.{later, place_from, place_of, distinct, read_member, members_in, kinds_in, read_node_dep, deps_in, read_node, with_nodes, read_resolve, resolve_in}

@@ -5,9 +5,9 @@ use Rattle.std.specs.Str.{bytes_eq}
 use Rattle.std.specs.Cmp.Lexicographic.{bytes_decides}
 use Rattle.std.proofs.lemmas.Bool.{cases_Bool}
 use Rattle.std.proofs.lemmas.List.{append_cancel_left}
-use Rattle.hack_features.specs.Names.{Name}
-use Rattle.hack_metadata.specs.PackageSpecs.{BeginsWith, is_byte, unless_empty, Url, IsUrl, Identity, AreUrls, IsPlace, AsksVersion, of_name, of_fragment, alone, Matches, named, placed, name_at, versioned, HasBadId, HasBadVersion, has_byte, behind, separates, begins_with_digit, trimmed}
-use Rattle.hack_metadata.specs.SpecAnswers.{Answer, fits, parted, behind_name, with_version, alone_in, in_fragment, of_fragments, is_place, of_urls, IsReadAs, IsBehind}
+use Rattle.hack_base.specs.Names.{Name}
+use Rattle.hack_metadata.specs.PackageSpecs.{BeginsWith, is_byte, unless_empty, Url, IsUrl, Identity, AreUrls, IsPlace, AsksVersion, of_name, of_fragment, alone, Matches, named, placed, name_at, versioned, HasBadId, HasBadVersion, has_byte, behind, separates, begins_with_digit, trimmed_end}
+use Rattle.hack_metadata.specs.SpecAnswers.{Answer, fits, parts_at_separator, behind_name, with_version, alone_in, in_fragment, of_fragments, is_place, of_urls, IsReadAs, IsBehind}
 use Rattle.hack_metadata.specs.declared.cargo.SpecFault.TheVariants.{BadId, BadVersion}
 use Rattle.hack_metadata.proofs.TextLemmas.{scheme-same}
 use Rattle.hack_metadata.proofs.MatchLemmas.{Comes, by_version, yes, no, no_id, comes-true, comes-bad_id, comes-bad_version, fits-tested, short-tested, place-holds, place-tested}
@@ -52,14 +52,14 @@ read-same text None u h k = absurd (h u k)
 read-same text (Some v) u h k = ap Some (url-same text v u h k)
 
 -- what stands round a separator, where it is known what stands behind it
-cut-at : (text given : Name) (b : Bool) → has_byte separates text ≡ b → cond b (Some (after_first separates text)) None ≡ Some given → parted text ≡ Some (before_first separates text, given)
+cut-at : (text given : Name) (b : Bool) → has_byte separates text ≡ b → cond b (Some (after_first separates text)) None ≡ Some given → parts_at_separator text ≡ Some (before_first separates text, given)
 cut-at text given true e h = ap (λ c. cond c (Some (before_first separates text, after_first separates text)) None) e ∙ ap (λ g. Some (before_first separates text, g)) (let q : after_first separates text ≡ given = cc in q)
 cut-at text given false e h = absurd (cc)
 
-cut-behind : (text given : Name) → behind separates text ≡ Some given → parted text ≡ Some (before_first separates text, given)
+cut-behind : (text given : Name) → behind separates text ≡ Some given → parts_at_separator text ≡ Some (before_first separates text, given)
 cut-behind text given h = cut-at text given (has_byte separates text) refl h
 
-cut-none : (text : Name) → has_byte separates text ≡ false → parted text ≡ None
+cut-none : (text : Name) → has_byte separates text ≡ false → parts_at_separator text ≡ None
 cut-none text e = ap (λ c. cond c (Some (before_first separates text, after_first separates text)) None) e
 
 other-name : (a b : Name) → a ≢ b → bytes_eq a b ≡ false
@@ -95,7 +95,7 @@ module _ (p : Identity) (spec : Name) where
         yes (name_at g o place (is ∙ ap Some same) (ap is_some own_is) (subst (λ t. has_byte separates t ≡ false) same e1)) refl
     alone-go false e1 e2 = digit-go (begins_with_digit text) e1 e2 refl
 
-    fragment-go : (b : Bool) → has_byte separates text ≡ b → Comes p spec (in_fragment p text (cond b (Some (before_first separates text, after_first separates text)) None) (parted own))
+    fragment-go : (b : Bool) → has_byte separates text ≡ b → Comes p spec (in_fragment p text (cond b (Some (before_first separates text, after_first separates text)) None) (parts_at_separator own))
     fragment-go true e = parted-go (has_byte separates own) e refl
     fragment-go false e = alone-go (bytes_eq text p.name) e refl
 
@@ -111,21 +111,21 @@ module _ (p : Identity) (spec : Name) where
   place-go g o urls false e = no refl
 
   module _ (unnamed : ¬ BeginsWith spec p.name) where
-    url-comes : (g o : Option Url) → IsReadAs (trimmed spec) g → IsReadAs p.id o → Comes p spec (of_urls p g o)
+    url-comes : (g o : Option Url) → IsReadAs (trimmed_end spec) g → IsReadAs p.id o → Comes p spec (of_urls p g o)
     url-comes None o hg ho = no refl
     url-comes (Some g) None hg ho = no_id (record { unnamed = unnamed; url = g; spec_is = hg; id_is = ho }) refl
     url-comes (Some g) (Some o) hg ho = place-go g o (record { unnamed = unnamed; spec_is = hg; id_is = ho }) (is_place g o) refl
 
-    module _ (g o : Option Url) (hg : IsReadAs (trimmed spec) g) (ho : IsReadAs p.id o) where
+    module _ (g o : Option Url) (hg : IsReadAs (trimmed_end spec) g) (ho : IsReadAs p.id o) where
       place-answer : (url own : Url) → IsPlace p spec url own → of_urls p g o ≡ of_fragments p url.fragment own.fragment
       place-answer url own place =
-          ap (λ x. of_urls p x o) (read-same (trimmed spec) g url hg place.urls.spec_is)
+          ap (λ x. of_urls p x o) (read-same (trimmed_end spec) g url hg place.urls.spec_is)
           ∙ ap (of_urls p (Some url)) (read-same p.id o own ho place.urls.id_is)
           ∙ ap (λ b. cond b (of_fragments p url.fragment own.fragment) (Ok false)) (place-tested url own place.protocol place.path place.query)
 
       alone-answer : (text : Name) (own : Option Name) → is_some own ≡ true → has_byte separates text ≡ false → of_fragments p (Some text) own ≡ alone_in p text
       alone-answer text None some none = absurd (cc)
-      alone-answer text (Some own) some none = ap (λ c. in_fragment p text c (parted own)) (cut-none text none)
+      alone-answer text (Some own) some none = ap (λ c. in_fragment p text c (parts_at_separator own)) (cut-none text none)
 
       url-asks : (given full : Name) → AsksVersion p spec given full → of_urls p g o ≡ fits given full
       url-asks given full (of_name by sep eq v) = absurd (unnamed (by ∷ given, eq))
@@ -133,7 +133,7 @@ module _ (p : Identity) (spec : Name) where
           place-answer url own place
           ∙ ap (λ f. of_fragments p f own.fragment) e1
           ∙ ap (of_fragments p (Some text)) e2
-          ∙ ap (λ c. in_fragment p text c (parted id_text)) (cut-behind text given b1)
+          ∙ ap (λ c. in_fragment p text c (parts_at_separator id_text)) (cut-behind text given b1)
           ∙ ap (λ c. in_fragment p text (Some (before_first separates text, given)) c) (cut-behind id_text full b2)
           ∙ ap (λ b. cond b (fits given full) (Ok false)) ((bytes_decides (before_first separates text) (before_first separates id_text)).1 names)
       url-asks given full (alone url own place e1 some none differs digit v) =
@@ -159,7 +159,7 @@ module _ (p : Identity) (spec : Name) where
       no_url (Some u) h none = absurd (none u h)
 
       url-bad_id : HasBadId p spec → of_urls p g o ≡ Err BadId
-      url-bad_id h = ap (λ x. of_urls p x o) (read-same (trimmed spec) g h.url hg h.spec_is) ∙ ap (of_urls p (Some h.url)) (no_url o ho h.id_is)
+      url-bad_id h = ap (λ x. of_urls p x o) (read-same (trimmed_end spec) g h.url hg h.spec_is) ∙ ap (of_urls p (Some h.url)) (no_url o ho h.id_is)
 
 -- ---- both
 
@@ -180,10 +180,10 @@ name-settles p spec name version rest answer ns vs begins is =
       bad_version = (comes-bad_version p spec answer comes, λ h. same ∙ name-asks p spec rest h.given h.full e h.asks ∙ short-tested h.given h.full h.short);
     }
 
-pub url-settles : (p : Identity) (spec name text id : Name) (g o : Option Url) (answer : Answer) → name ≡ p.name → IsBehind name spec None → text ≡ trimmed spec → id ≡ p.id → IsReadAs text g → IsReadAs id o → answer ≡ of_urls p g o → Settles p spec answer
+pub url-settles : (p : Identity) (spec name text id : Name) (g o : Option Url) (answer : Answer) → name ≡ p.name → IsBehind name spec None → text ≡ trimmed_end spec → id ≡ p.id → IsReadAs text g → IsReadAs id o → answer ≡ of_urls p g o → Settles p spec answer
 url-settles p spec name text id g o answer ns begins ts ids hg ho is =
     let unnamed : ¬ BeginsWith spec p.name = subst (λ n. ¬ BeginsWith spec n) ns begins in
-    let hg' : IsReadAs (trimmed spec) g = subst (λ t. IsReadAs t g) ts hg in
+    let hg' : IsReadAs (trimmed_end spec) g = subst (λ t. IsReadAs t g) ts hg in
     let ho' : IsReadAs p.id o = subst (λ t. IsReadAs t o) ids ho in
     let comes : Comes p spec answer = subst (λ a. Comes p spec a) (sym is) (url-comes p spec unnamed g o hg' ho') in
     record {

@@ -2,7 +2,7 @@
 use Rattle.std.proofs.Common.{◌≡◌, ◌&&◌, Bool, true, false, cond, Option, Some, None, Ok, Err, is_some, refl, sym, ap, ◌∙◌}
 use Rattle.std.specs.Str.{bytes_eq}
 use Rattle.std.specs.Cmp.Lexicographic.{bytes_decides}
-use Rattle.hack_features.specs.Names.{Name}
+use Rattle.hack_base.specs.Names.{Name}
 use Rattle.hack_metadata.specs.PackageSpecs.{AgreesIfGiven, VersionText, version_of, IsFull, Agrees, Fits, Url, Identity, AsksVersion, Matches, versioned, HasBadId, HasBadVersion}
 use Rattle.hack_metadata.specs.SpecAnswers.{Answer, agrees_if_given, agrees, fits, is_place}
 use Rattle.hack_metadata.specs.declared.cargo.SpecFault.TheVariants.{BadId, BadVersion}

@@ -7,9 +7,9 @@ use Rattle.std.proofs.lemmas.Bool.{cases_Bool}
 use Rattle.std.proofs.lemmas.Bool.Decides.{nat_tests}
 use Rattle.std.proofs.lemmas.Str.Pattern.{split_text_parts, strip_prefix_char}
 use Rattle.std.proofs.lemmas.List.{append_cancel_left, take_at, drop_at, length-take-le}
-use Rattle.hack_features.specs.Names.{Name}
+use Rattle.hack_base.specs.Names.{Name}
 use Rattle.hack_metadata.specs.PackageSpecs.{is_byte}
-use Rattle.hack_metadata.specs.SpecAnswers.{IsNoUrl, IsSchemeCut, IsBehind, behind_byte, cut_by, parted, earlier}
+use Rattle.hack_metadata.specs.SpecAnswers.{IsNoUrl, IsSchemeCut, IsBehind, behind_byte, cut_by, parts_at_separator, earlier}
 
 le_or_lt : (m n : ℕ) → (m ≤ n) ⊎ (n < m)
 le_or_lt m n = grind arith
@@ -118,7 +118,7 @@ earlier-at p q text true false c ea eb ec = sym (at-least p text ea) ∙ ap (λ 
 earlier-at p q text false true c ea eb ec = sym (at-least q text eb) ∙ ap (λ n. at_place n text) (past-within p q (length text) ea eb)
 earlier-at p q text false false c ea eb ec = sym (past-end (min p q) text (both-past p q (length text) ea eb))
 
-pub parted-earlier : (text : Name) → earlier (cut_by (is_byte 64) text) (cut_by (is_byte 58) text) ≡ parted text
+pub parted-earlier : (text : Name) → earlier (cut_by (is_byte 64) text) (cut_by (is_byte 58) text) ≡ parts_at_separator text
 parted-earlier text =
     earlier-at (position_or_len (is_byte 64) text) (position_or_len (is_byte 58) text) text _ _ _ refl refl refl
     ∙ ap (λ n. at_place n text) (sym (either (is_byte 64) (is_byte 58) text))

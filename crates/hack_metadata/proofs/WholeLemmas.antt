@@ -1,7 +1,7 @@
 -- The metadata behind the packages.
 use Rattle.std.proofs.Common.{◌≡◌, ℕ, List, Option, Result, Ok, codes, refl, sym, ap, subst, ◌∙◌}
 use Rattle.serde_json.specs.Data.{Items, Members}
-use Rattle.hack_features.specs.Names.{Name}
+use Rattle.hack_base.specs.Names.{Name}
 use Rattle.hack_metadata.specs.Fields.{◌>>=◌, array_in, read_all, KeepsOthers}
 use Rattle.hack_metadata.specs.Gives.{Gives}
 use Rattle.hack_metadata.specs.Read.{read_package, read_behind, read_metadata, place_of, ids_of}

@@ -1,5 +1,6 @@
 -- A question in the code as plain data.
-use Rattle.std.specs.Prelude.{Some, map, option_map, string_bytes}
+use Rattle.std.specs.Prelude.{Some, map, string_bytes}
+use Rattle.hack_base.specs.Names.{optional_text}
 use Rattle.hack_metadata.specs.Requests.{Question}
 use Rattle.hack_metadata.specs.declared.ask.Question.{Question as Asking}
 
@@ -12,6 +13,6 @@ asks q = record {
   deps = q.args.now.include_deps_features;
   dir = string_bytes q.env.now.current_dir;
   verbose = q.args.now.verbose;
-  path = option_map string_bytes q.args.now.manifest_path;
+  path = optional_text q.args.now.manifest_path;
   full = Some (map string_bytes q.full.items);
 }

@@ -2,7 +2,7 @@
 use Rattle.std.specs.Prelude.{◌≡◌, ◌⊎◌, ◌<◌, ◌≤◌, ℕ, true, false, List, [], Some, None, Result, Ok, Err, codes, string_bytes, IsSome}
 use Rattle.std.specs.Str.{IsUtf8}
 use Rattle.serde_json.specs.Data.{Members}
-use Rattle.hack_features.specs.Names.{Name}
+use Rattle.hack_base.specs.Names.{Name}
 use Rattle.hack_files.specs.Files.{Contents}
 use Rattle.hack_versions.specs.declared.version.Version.{Version}
 use Rattle.hack_versions.specs.declared.rustup.VersionTextFault.{VersionTextFault}
@@ -12,7 +12,7 @@ use Rattle.hack_process.specs.CargoTexts.{release_part}
 use Rattle.hack_process.specs.CommandTexts.{Command, text_of}
 use Rattle.hack_process.specs.Commands.{asked_of}
 use Rattle.hack_process.specs.Faults.{Had, IsReadFault, without_line_ends}
-use Rattle.hack_process.specs.PathTexts.{join_of}
+use Rattle.hack_base.specs.PathTexts.{join_of}
 use Rattle.hack_process.specs.declared.fault.ProcessFault.{ProcessFault}
 use Rattle.hack_metadata.specs.Fields.{Field, object_in_text, string_in}
 use Rattle.hack_metadata.specs.Read.{read_metadata}

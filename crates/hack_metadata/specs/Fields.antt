@@ -4,7 +4,7 @@ use Rattle.std.specs.Str.{bytes_eq}
 use Rattle.serde_json.specs.Data.{Data, null, boolean, number, string, array, object, Items, no_items, item, Members}
 use Rattle.serde_json.specs.Find.{get_member, as_str, as_bool, as_array, as_object}
 use Rattle.serde_json.specs.Read.{read as read_text}
-use Rattle.hack_features.specs.Names.{Name}
+use Rattle.hack_base.specs.Names.{Name}
 
 -- what was read, or the name of the first field that is at fault
 abbrev pub Field : Type 0 → Type 0

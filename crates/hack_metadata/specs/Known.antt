@@ -1,7 +1,7 @@
 -- Ids are those of packages.
 use Rattle.std.specs.Prelude.{◌≡◌, ℕ, Bool, true, ◌&&◌, List, Option, Some, nat_lt}
 use Rattle.std.specs.List.{list_all}
-use Rattle.hack_features.specs.Names.{Name}
+use Rattle.hack_base.specs.Names.{Name}
 use Rattle.hack_metadata.specs.Records.{NodeRecord, Nodes}
 
 -- the packages that a node depends on are among the first n

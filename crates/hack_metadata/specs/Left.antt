@@ -1,6 +1,6 @@
 -- What a question to cargo leaves of the files.
 use Rattle.std.specs.Prelude.{◌≡◌, ◌⊎◌, ◌++◌, ◌∷◌, [], ℕ, List, Some, Result, Ok, Err}
-use Rattle.hack_features.specs.Names.{Name}
+use Rattle.hack_base.specs.Names.{Name}
 use Rattle.hack_files.specs.Files.{Contents, GrowsBy, KeepsAll, KeepsOthers}
 use Rattle.hack_files.specs.Restore.{Kept}
 use Rattle.hack_files.specs.declared.fs.FsFault.{FsFault}

@@ -2,7 +2,7 @@
 use Rattle.std.specs.Prelude.{◌≡◌, List, [], ◌∷◌, map, Option, Some, None, MatchOption, unwrap_or, if◌then◌else◌}
 use Rattle.std.specs.List.{filter_map}
 use Rattle.std.specs.Borrow.{Bor}
-use Rattle.hack_features.specs.Names.{Name}
+use Rattle.hack_base.specs.Names.{Name}
 use Rattle.hack_metadata.specs.Records.{DependencyRecord}
 use Rattle.hack_metadata.specs.View.{dependency_view}
 use Rattle.hack_metadata.specs.declared.package.Dependency.{Dependency}

@@ -1,6 +1,6 @@
 -- What an iterator over optional dependencies has left.
 use Rattle.std.specs.Prelude.{List, map}
-use Rattle.hack_features.specs.Names.{Name}
+use Rattle.hack_base.specs.Names.{Name}
 use Rattle.hack_metadata.specs.Optional.{optional_in}
 use Rattle.hack_metadata.specs.View.{dependency_view}
 use Rattle.hack_metadata.specs.declared.package.OptionalDeps.{OptionalDeps}

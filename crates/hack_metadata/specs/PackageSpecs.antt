@@ -3,7 +3,7 @@
 use Rattle.std.specs.Prelude.{◌≡◌, ◌≢◌, ℕ, ◌-◌, ◌≤◌, ◌==◌, ◌||◌, ◌&&◌, Bool, true, false, nat_lt, nat_le, if◌then◌else◌, [], ◌∷◌, ◌++◌, length, take, codes, Option, Some, None, IsSome, IfSome, option_map, option_and_then, unwrap_or}
 use Rattle.std.specs.List.{before_first, after_first, position_or_len, suffix_len}
 use Rattle.std.specs.Char.{is_ascii_whitespace}
-use Rattle.hack_features.specs.Names.{Name}
+use Rattle.hack_base.specs.Names.{Name}
 
 -- ---- parts of a text
 
@@ -33,8 +33,8 @@ abbrev pub BeginsWith : Name → Name → Type 0
 BeginsWith text front = (rest : Name) × (text ≡ front ++ rest)
 
 -- the text without the ASCII white space at its end
-abbrev pub trimmed : Name → Name
-trimmed text = take (length text - suffix_len is_ascii_whitespace text) text
+abbrev pub trimmed_end : Name → Name
+trimmed_end text = take (length text - suffix_len is_ascii_whitespace text) text
 
 -- a part that is given is the other's
 abbrev pub AgreesIfGiven : Option Name → Option Name → Type 0
@@ -117,7 +117,7 @@ module _ (p : Identity) (spec : Name) where
   -- the specification is a URL, white space at its end aside, and the id is one
   pub record AreUrls (given own : Url) : Type 0 where
     pub unnamed : ¬ BeginsWith spec p.name
-    pub spec_is : IsUrl (trimmed spec) given
+    pub spec_is : IsUrl (trimmed_end spec) given
     pub id_is : IsUrl p.id own
 
   -- the same place: protocol and path, and the query where it is given
@@ -148,7 +148,7 @@ module _ (p : Identity) (spec : Name) where
   pub record HasBadId : Type 0 where
     pub unnamed : ¬ BeginsWith spec p.name
     pub url : Url
-    pub spec_is : IsUrl (trimmed spec) url
+    pub spec_is : IsUrl (trimmed_end spec) url
     pub id_is : (own : Url) → ¬ IsUrl p.id own
 
   -- the version to be compared with has no three parts

@@ -1,7 +1,7 @@
 -- The records of `cargo metadata` as plain data: a package is known by its place in the list of packages.
 use Rattle.std.specs.Prelude.{ℕ, ◌==◌, Bool, List, Option}
 use Rattle.std.specs.Map.{lookup}
-use Rattle.hack_features.specs.Names.{Name}
+use Rattle.hack_base.specs.Names.{Name}
 use Rattle.hack_features.specs.FeatureMap.{FeatureMap}
 
 -- a dependency as a manifest names it

@@ -1,7 +1,7 @@
 -- The commands that ask cargo for the metadata of a workspace, word by word.
 use Rattle.std.specs.Prelude.{ℕ, Bool, true, false, List, [], ◌∷◌, ◌++◌, Option, Some, None, codes, map, option_map, string_bytes}
 use Rattle.std.specs.List.{flat_map}
-use Rattle.hack_features.specs.Names.{Name}
+use Rattle.hack_base.specs.Names.{Name, optional_text}
 use Rattle.hack_process.specs.CommandTexts.{Command}
 use Rattle.hack_words.specs.declared.cli.args.Args.{Args}
 use Rattle.hack_words.specs.declared.cli.env.Env.{Env}
@@ -36,7 +36,7 @@ full_with path scope = codes "metadata" ∷ codes "--format-version=1" ∷ (path
 
 -- the words of the full request; none where the host is wanted, and not known
 abbrev pub full_of : Args → Option Name → Option (List Name)
-full_of args host = option_map (full_with (option_map string_bytes args.manifest_path)) (scope_words args.include_deps_features (map string_bytes args.target.items) host)
+full_of args host = option_map (full_with (optional_text args.manifest_path)) (scope_words args.include_deps_features (map string_bytes args.target.items) host)
 
 -- what is asked, and of whom
 pub record Question : Type 0 where
@@ -60,7 +60,7 @@ question args env minor host = record {
   deps = args.include_deps_features;
   dir = string_bytes env.current_dir;
   verbose = args.verbose;
-  path = option_map string_bytes args.manifest_path;
+  path = optional_text args.manifest_path;
   full = full_of args host;
 }
 

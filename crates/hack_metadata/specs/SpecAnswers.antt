@@ -1,7 +1,7 @@
 -- What the steps of matching a specification answer.
 use Rattle.std.specs.Prelude.{◌≡◌, ◌≢◌, ℕ, ◌≤◌, ◌++◌, length, codes, nat_lt, ◌==◌, ◌&&◌, Bool, true, false, if◌then◌else◌, [], ◌∷◌, Option, Some, None, Result, Ok, Err, is_some, bytes_eq}
 use Rattle.std.specs.List.{before_first, after_first}
-use Rattle.hack_features.specs.Names.{Name}
+use Rattle.hack_base.specs.Names.{Name}
 use Rattle.hack_metadata.specs.PackageSpecs.{BeginsWith, has_byte, separates, VersionText, version_of, Url, IsUrl, Identity, begins_with_digit}
 use Rattle.hack_metadata.specs.declared.cargo.SpecFault.{SpecFault}
 use Rattle.hack_metadata.specs.declared.cargo.SpecFault.TheVariants.{BadId, BadVersion}
@@ -29,8 +29,8 @@ abbrev pub cut_by : (ℕ → Bool) → Name → Option (Name × Name)
 cut_by p text = if has_byte p text then Some (before_first p text, after_first p text) else None
 
 -- what stands round the first separator
-abbrev pub parted : Name → Option (Name × Name)
-parted text = cut_by separates text
+abbrev pub parts_at_separator : Name → Option (Name × Name)
+parts_at_separator text = cut_by separates text
 
 -- the one of two cuts that has the shorter front
 abbrev pub earlier : Option (Name × Name) → Option (Name × Name) → Option (Name × Name)
@@ -71,7 +71,7 @@ in_fragment p text (Some given) own = with_version given own
 abbrev pub of_fragments : Identity → Option Name → Option Name → Answer
 of_fragments p None own = Ok true
 of_fragments p (Some text) None = Ok false
-of_fragments p (Some text) (Some own) = in_fragment p text (parted text) (parted own)
+of_fragments p (Some text) (Some own) = in_fragment p text (parts_at_separator text) (parts_at_separator own)
 
 -- the same place
 abbrev pub is_place : Url → Url → Bool

@@ -1,7 +1,7 @@
 -- Specifications in the code as plain data.
 use Rattle.std.specs.Prelude.{option_copied, string_bytes}
 use Rattle.std.specs.Borrow.{Bor}
-use Rattle.hack_features.specs.Names.{Name}
+use Rattle.hack_base.specs.Names.{Name}
 use Rattle.hack_metadata.specs.PackageSpecs.{VersionText, Url, Identity}
 use Rattle.hack_metadata.specs.declared.cargo.VersionParts.{VersionParts}
 use Rattle.hack_metadata.specs.declared.cargo.UrlParts.{UrlParts}

@@ -4,7 +4,7 @@ use Rattle.std.specs.BTreeMap.{BTreeMap, get_by_text}
 use Rattle.std.specs.declared.string.String.{String}
 use Rattle.std.specs.declared.alloc.Global.{Global}
 use Rattle.std.specs.Hash.{HashWrites, usize}
-use Rattle.hack_features.specs.Names.{Name}
+use Rattle.hack_base.specs.Names.{Name, optional_text}
 use Rattle.hack_features.specs.FeatureMap.{feature_map}
 use Rattle.hack_metadata.specs.Records.{DependencyRecord, PackageRecord, KindRecord, NodeDepRecord, NodeRecord, Nodes}
 use Rattle.hack_metadata.specs.declared.package.Dependency.{Dependency}
@@ -16,11 +16,11 @@ use Rattle.hack_metadata.specs.declared.resolve.Node.{Node}
 
 -- a dependency
 abbrev pub dependency_view : Dependency → DependencyRecord
-dependency_view d = record { name = string_bytes d.name; optional = d.optional; rename = option_map string_bytes d.rename }
+dependency_view d = record { name = string_bytes d.name; optional = d.optional; rename = optional_text d.rename }
 
 -- a package
 abbrev pub package_view : Package → PackageRecord
-package_view p = record { id = string_bytes p.id; name = string_bytes p.name; version = string_bytes p.version; dependencies = map dependency_view p.dependencies.items; features = feature_map p.features; manifest_path = string_bytes p.manifest_path; publish = p.publish; rust_version = option_map string_bytes p.rust_version }
+package_view p = record { id = string_bytes p.id; name = string_bytes p.name; version = string_bytes p.version; dependencies = map dependency_view p.dependencies.items; features = feature_map p.features; manifest_path = string_bytes p.manifest_path; publish = p.publish; rust_version = optional_text p.rust_version }
 
 -- the place of a package that an id means
 abbrev pub place_at : PackageId → ℕ
@@ -32,7 +32,7 @@ place_in ids id = option_map place_at (get_by_text ids id)
 
 -- a kind of dependency
 abbrev pub kind_view : DepKindInfo → KindRecord
-kind_view k = record { kind = option_map string_bytes k.kind; target = option_map string_bytes k.target }
+kind_view k = record { kind = optional_text k.kind; target = optional_text k.target }
 
 -- a dependency of a node
 abbrev pub node_dep_view : NodeDep → NodeDepRecord

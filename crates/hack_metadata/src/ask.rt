@@ -4,7 +4,7 @@
 ghost use Rattle.std.specs.Prelude.{◌≡◌, ◌⊎◌, ℕ, List, Some, None, IfOk, IfErr, OnOk, MatchOption};
 ghost use Rattle.std.specs.Prelude.{option_copied, string_bytes, true};
 ghost use Rattle.hack_files.specs.Files.{Contents};
-ghost use Rattle.hack_files.specs.Restore.{registered};
+ghost use Rattle.hack_files.specs.Restore.{registered_files};
 ghost use Rattle.hack_process.specs.Calls.{Call, MayAdd, texts_of};
 ghost use Rattle.hack_process.specs.Commands.{asked_of, command_of};
 ghost use Rattle.hack_metadata.specs.AskView.{asks};
@@ -18,9 +18,9 @@ use crate::ask_fault::AskFault;
 use crate::commands::{command, full_words, manifest_words, stable_minor};
 use crate::lockfile::{is_there, keep, put_back};
 use crate::metadata::Metadata;
+use hack_base::paths::join;
 use hack_files::fs::Files;
 use hack_files::restore::Manager;
-use hack_process::paths::join;
 use hack_process::process::{Caller, ProcessBuilder};
 use hack_words::cli::{Args, Env};
 use std::alloc::{AllocError, Global};
@@ -42,7 +42,7 @@ impl Metadata {
         ensures stays { F.stays files.old files.new }
         ensures left { (path : List ℕ) × Spares path F.tells (F.bytes_at files.old)
             (F.bytes_at files.new) (F.failed files.old) (F.failed files.new) result }
-        ensures kept { registered manager.new ≡ registered manager.old }
+        ensures kept { registered_files manager.new ≡ registered_files manager.old }
         ensures needs { manager.new.needs_restore ≡ manager.old.needs_restore }
         ensures ends { C.tells → F.tells →
             Ends (question args.now env.now cargo_version (option_copied host.entry))
@@ -128,7 +128,7 @@ impl<'a> Question<'a> {
         ensures stays { F.stays files.old files.new }
         ensures left { (path : List ℕ) × Spares path F.tells (F.bytes_at files.old)
             (F.bytes_at files.new) (F.failed files.old) (F.failed files.new) result }
-        ensures kept { registered manager.new ≡ registered manager.old }
+        ensures kept { registered_files manager.new ≡ registered_files manager.old }
         ensures needs { manager.new.needs_restore ≡ manager.old.needs_restore }
         ensures ends { C.tells → F.tells → (start : List Call) → Way (asks self.now)
             (F.bytes_at files.old) start (newer minor) (C.calls caller.old)
@@ -218,7 +218,7 @@ impl<'a> Question<'a> {
         ensures stays { F.stays files.old files.new }
         ensures left { Leaves lockfile.now F.tells (F.bytes_at files.old) (F.bytes_at files.new)
             (F.failed files.old) (F.failed files.new) result }
-        ensures kept { registered manager.new ≡ registered manager.old }
+        ensures kept { registered_files manager.new ≡ registered_files manager.old }
         ensures needs { manager.new.needs_restore ≡ manager.old.needs_restore }
         ensures ok { IfOk result (λ told. C.tells → MatchOption told
             (Fails (command_of asked.now) (C.calls caller.old) (C.calls caller.new))

@@ -7,7 +7,8 @@ ghost use Rattle.std.specs.List.{before_first, after_first};
 ghost use Rattle.hack_metadata.specs.PackageSpecs.{behind, is_byte, unless_empty};
 ghost use Rattle.hack_metadata.specs.PackageSpecs.{version_of, begins_with_digit};
 ghost use Rattle.hack_metadata.specs.PackageSpecs.{Matches, HasBadId, HasBadVersion};
-ghost use Rattle.hack_metadata.specs.SpecAnswers.{agrees_if_given, agrees, fits, parted};
+ghost use Rattle.hack_metadata.specs.SpecAnswers.{agrees_if_given, agrees, fits};
+ghost use Rattle.hack_metadata.specs.SpecAnswers.{parts_at_separator};
 ghost use Rattle.hack_metadata.specs.SpecAnswers.{behind_name, in_fragment, of_fragments};
 ghost use Rattle.hack_metadata.specs.SpecAnswers.{is_place, alone_in};
 ghost use Rattle.hack_metadata.specs.SpecAnswers.{IsReadAs, IsNoUrl, IsSchemeCut, IsBehind};
@@ -121,8 +122,8 @@ fn match_fragments(pkg: &Package, given: Option<&str>, own: Option<&str>) -> Res
 
 /// The same for a fragment that is there, as is that of the id.
 fn match_fragment(pkg: &Package, given: &str, own: &str) -> Result<bool, SpecFault>
-    ensures { result ≡ in_fragment (identity_of pkg.now) given.now (parted given.now)
-        (parted own.now) }
+    ensures { result ≡ in_fragment (identity_of pkg.now) given.now (parts_at_separator given.now)
+        (parts_at_separator own.now) }
 {
     let Some((name, version)) = cut_at_separator(given) else {
         return match_alone(pkg, given);
@@ -317,7 +318,7 @@ fn unless_empty(text: &str) -> Option<&str>
 
 /// A text cut at its first `@` or `:`.
 fn cut_at_separator(text: &str) -> Option<(&str, &str)>
-    ensures { option_map pair_view result ≡ parted text.now }
+    ensures { option_map pair_view result ≡ parts_at_separator text.now }
 {
     earlier(cut_at(text, '@'), cut_at(text, ':'))
 }

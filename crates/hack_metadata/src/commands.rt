@@ -1,7 +1,8 @@
 //! The commands that ask cargo for the metadata of a workspace, their words, and how they are run.
 
 ghost use Rattle.std.specs.Prelude.{◌≡◌, ◌⊎◌, ◌++◌, ◌∷◌, [], Some, None, IfOk, IfErr, OnOk, OnErr};
-ghost use Rattle.std.specs.Prelude.{codes, map, option_copied, option_map, string_bytes, true};
+ghost use Rattle.std.specs.Prelude.{codes, map, option_copied, string_bytes, true};
+ghost use Rattle.hack_base.specs.Names.{optional_text};
 ghost use Rattle.hack_process.specs.Calls.{MayAdd};
 ghost use Rattle.hack_process.specs.Commands.{asked_of, command_of};
 ghost use Rattle.hack_metadata.specs.Asks.{MinorOf, TellsStable};
@@ -19,7 +20,7 @@ use std::alloc::{AllocError, Global};
 /// The manifest path as words of a command.
 pub(crate) fn manifest_words(alloc: Global, args: &Args) -> Result<Vec<String>, AllocError>
     ensures { IfOk result (λ words. map string_bytes words.items
-        ≡ path_words (option_map string_bytes args.now.manifest_path)) }
+        ≡ path_words (optional_text args.now.manifest_path)) }
 {
     let mut words = Vec::new(alloc);
     match &args.manifest_path {

@@ -3,7 +3,7 @@
 ghost use Rattle.std.specs.Prelude.{◌≡◌, ◌↔◌, ◌++◌, ◌∷◌, [], List, ℕ, Some, IfOk, IfErr, OnOk};
 ghost use Rattle.std.specs.Prelude.{OnErr, IsTrue, IsSome};
 ghost use Rattle.hack_files.specs.Files.{KeepsAll};
-ghost use Rattle.hack_files.specs.Restore.{Kept, registered};
+ghost use Rattle.hack_files.specs.Restore.{Kept, registered_files};
 ghost use Rattle.hack_metadata.specs.Left.{IsFileFault, Keeps, Leaves, Restores, IsOfFile};
 
 use crate::ask_fault::AskFault;
@@ -42,8 +42,8 @@ pub(crate) fn keep<F: Files>(
     ensures left { Leaves path.now F.tells (F.bytes_at files.old) (F.bytes_at files.new)
         (F.failed files.old) (F.failed files.new) result }
     ensures ok { OnOk result (Keeps path.now F.tells (F.bytes_at files.old)
-        (registered manager.old) (registered manager.new)) }
-    ensures err { OnErr result (registered manager.new ≡ registered manager.old) }
+        (registered_files manager.old) (registered_files manager.new)) }
+    ensures err { OnErr result (registered_files manager.new ≡ registered_files manager.old) }
     ensures fault { IfErr result IsFileFault }
     ensures needs { manager.new.needs_restore ≡ manager.old.needs_restore }
 {
@@ -59,12 +59,13 @@ pub(crate) fn keep<F: Files>(
 pub(crate) fn put_back<F: Files>(files: &mut F, manager: &mut Manager) -> Result<(), AskFault>
     ensures stays { F.stays files.old files.new }
     ensures back { (file : Kept) (earlier : List Kept)
-        → registered manager.old ≡ earlier ++ file ∷ [] → Restores file F.tells
+        → registered_files manager.old ≡ earlier ++ file ∷ [] → Restores file F.tells
         (F.bytes_at files.old) (F.bytes_at files.new)
         (F.failed files.old) (F.failed files.new) result }
     ensures fault { IfErr result IsFileFault }
     ensures kept { (file : Kept) (earlier : List Kept)
-        → registered manager.old ≡ earlier ++ file ∷ [] → registered manager.new ≡ earlier }
+        → registered_files manager.old ≡ earlier ++ file ∷ [] → registered_files manager.new
+        ≡ earlier }
     ensures needs { manager.new.needs_restore ≡ manager.old.needs_restore }
 {
     match manager.restore_last(files) {

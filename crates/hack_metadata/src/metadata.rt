@@ -18,7 +18,7 @@ pub use crate::ask_fault::AskFault;
 pub use crate::fault::MetadataFault;
 pub use crate::object::{Object, ObjectExt, object_of};
 pub use crate::package::{Dependency, OptionalDeps, Package};
-use crate::resolve::known;
+use crate::resolve::known_package;
 pub use crate::resolve::{DepKindInfo, Node, NodeDep, PackageId, Resolve};
 use serde_json::Value;
 use std::alloc::{AllocError, Global};
@@ -175,7 +175,7 @@ fn member_of(value: Value, ids: &BTreeMap<String, PackageId>) -> Result<PackageI
     ensures { Gives place_at result (read_member (place_in ids.now) (view value)) }
 {
     match value {
-        Value::String(id) => known(ids, id.as_str(), "workspace_members"),
+        Value::String(id) => known_package(ids, id.as_str(), "workspace_members"),
         _ => Err(MetadataFault::Field("workspace_members")),
     }
 }

@@ -6,6 +6,7 @@ ghost use Rattle.std.specs.Prelude.{IfOk, IfErr, option_map, string_bytes};
 ghost use Rattle.serde_json.specs.Data.{Members};
 ghost use Rattle.serde_json.specs.Find.{get_member, as_object};
 ghost use Rattle.serde_json.specs.View.{view, items_view, members_view};
+ghost use Rattle.hack_base.specs.Names.{optional_text};
 ghost use Rattle.hack_metadata.specs.Fields.{string_in, bool_in, array_in, object_in};
 ghost use Rattle.hack_metadata.specs.Fields.{nullable_in, text_in, element_of};
 ghost use Rattle.hack_metadata.specs.Fields.{object_in_text, KeepsOthers};
@@ -123,7 +124,7 @@ pub(crate) fn remove_text(
     object: &mut Object,
     key: &'static str,
 ) -> Result<Option<String>, MetadataFault>
-    ensures value { Gives (option_map string_bytes) result
+    ensures value { Gives optional_text result
         (text_in key.now (members_view object.old.entries)) }
     ensures others { KeepsOthers key.now (members_view object.old.entries)
         (members_view object.new.entries) }

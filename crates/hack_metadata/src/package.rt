@@ -1,10 +1,10 @@
 //! Packages and the dependencies that their manifests name.
 
 ghost use Rattle.std.specs.Prelude.{◌≡◌, map, codes, IfOk, option_map, option_and_then};
-ghost use Rattle.std.specs.Prelude.{option_copied, string_bytes};
+ghost use Rattle.std.specs.Prelude.{option_copied};
 ghost use Rattle.serde_json.specs.Find.{as_array};
 ghost use Rattle.serde_json.specs.View.{view, items_view, members_view};
-ghost use Rattle.hack_features.specs.Names.{names_of};
+ghost use Rattle.hack_base.specs.Names.{names_of, optional_text};
 ghost use Rattle.hack_features.specs.FeatureMap.{feature_map};
 ghost use Rattle.hack_metadata.specs.Fields.{read_all, KeepsOthers};
 ghost use Rattle.hack_metadata.specs.Gives.{Gives};
@@ -273,7 +273,7 @@ fn remove_rust_version(
     object: &mut Object,
     cargo_version: u32,
 ) -> Result<Option<String>, MetadataFault>
-    ensures value { Gives (option_map string_bytes) result
+    ensures value { Gives optional_text result
         (rust_version_in cargo_version (members_view object.old.entries)) }
     ensures others { KeepsOthers (codes "rust_version") (members_view object.old.entries)
         (members_view object.new.entries) }

@@ -45,7 +45,7 @@ impl PackageId {
 }
 
 /// The package that a text means. The field is at fault where there is none.
-pub(crate) fn known(
+pub(crate) fn known_package(
     ids: &BTreeMap<String, PackageId>,
     id: &str,
     field: &'static str,
@@ -125,7 +125,7 @@ impl NodeDep {
     {
         let mut map = element(value, "deps")?;
         let id = map.remove_string("pkg")?;
-        let pkg = known(ids, id.as_str(), "pkg")?;
+        let pkg = known_package(ids, id.as_str(), "pkg")?;
         let dep_kinds = remove_kinds(alloc, &mut map, cargo_version)?;
         Ok(NodeDep { pkg, dep_kinds })
     }
@@ -184,7 +184,7 @@ impl Node {
         let mut map = element(value, "nodes")?;
         let id = map.remove_string("id")?;
         let deps = remove_deps(alloc, &mut map, ids, cargo_version)?;
-        let package = known(ids, id.as_str(), "id")?;
+        let package = known_package(ids, id.as_str(), "id")?;
         Ok((package, Node { deps }))
     }
 }

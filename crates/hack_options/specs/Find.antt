@@ -2,15 +2,15 @@
 use Rattle.std.specs.Prelude.{ℕ, ◌≡◌, ◌↔◌, List, Option, Some}
 use Rattle.hack_options.specs.declared.Opt.{Opt}
 use Rattle.hack_options.specs.declared.table.TheConstants.{ALL}
-use Rattle.hack_options.specs.Table.{named, lettered}
+use Rattle.hack_options.specs.Table.{option_named, option_lettered}
 
 -- the option of a long name
 abbrev pub long_option : List ℕ → Option Opt
-long_option name = named name ALL
+long_option name = option_named name ALL
 
 -- the option of a letter
 abbrev pub short_option : ℕ → Option Opt
-short_option letter = lettered letter ALL
+short_option letter = option_lettered letter ALL
 
 -- the answer is the one option of which this holds; none where it holds of none
 abbrev pub Finds : Option Opt → (Opt → Type 0) → Type 0

@@ -106,9 +106,9 @@ abbrev pub same : Opt → Opt → Bool
 same = sameb the_type
 
 -- the first option of this name
-abbrev pub named : List ℕ → List Opt → Option Opt
-named name [] = None
-named name (o ∷ os) = if bytes_eq (entry_of o).name name then Some o else named name os
+abbrev pub option_named : List ℕ → List Opt → Option Opt
+option_named name [] = None
+option_named name (o ∷ os) = if bytes_eq (entry_of o).name name then Some o else option_named name os
 
 -- whether this is the letter
 abbrev pub is_letter : ℕ → Option ℕ → Bool
@@ -116,6 +116,6 @@ is_letter c (Some l) = l == c
 is_letter c None = false
 
 -- the first option of this letter
-abbrev pub lettered : ℕ → List Opt → Option Opt
-lettered c [] = None
-lettered c (o ∷ os) = if is_letter c (entry_of o).letter then Some o else lettered c os
+abbrev pub option_lettered : ℕ → List Opt → Option Opt
+option_lettered c [] = None
+option_lettered c (o ∷ os) = if is_letter c (entry_of o).letter then Some o else option_lettered c os

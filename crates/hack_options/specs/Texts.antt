@@ -14,13 +14,13 @@ shown_name opt.WorkspaceBehavior = codes "workspace-behavior=cargo"
 shown_name o = (entry_of o).name
 
 -- an option as messages name it
-abbrev pub shown : Opt → List ℕ
-shown o = codes "--" ++ shown_name o
+abbrev pub shown_option : Opt → List ℕ
+shown_option o = codes "--" ++ shown_name o
 
 -- the same, with its alias where messages tell it
 abbrev pub shown_with_alias : Opt → List ℕ
 shown_with_alias opt.ExcludeFeatures = codes "--exclude-features (--skip)"
-shown_with_alias o = shown o
+shown_with_alias o = shown_option o
 
 -- the value that the help shows behind the name; nothing where the option takes none, or has it in its name
 abbrev pub value_of : Opt → List ℕ
@@ -50,5 +50,5 @@ usage_text (Long name) = usage_or (codes "--" ++ name.now) has_usage (long_optio
 usage_text (Short letter) = usage_or (codes "-" ++ encode_utf8 letter) (λ o. has_usage o && shows_letter o) (short_option letter)
 
 -- the option whose alias is told
-abbrev pub aliased : WithAlias → Opt
-aliased told = told.option
+abbrev pub aliased_option : WithAlias → Opt
+aliased_option told = told.option

@@ -2,13 +2,13 @@
 
 ghost use Rattle.std.specs.Prelude.{◌≡◌, Some};
 ghost use Rattle.hack_options.specs.Find.{Finds, long_option, short_option};
-ghost use Rattle.hack_options.specs.Table.{entry_of, named, lettered};
+ghost use Rattle.hack_options.specs.Table.{entry_of, option_named, option_lettered};
 
 use crate::{ALL, Opt};
 
 /// The first option of this name.
 fn find_name(options: &[Opt], name: &str) -> Option<Opt>
-    ensures { result ≡ named name.now options.now }
+    ensures { result ≡ option_named name.now options.now }
 {
     for option in options {
         if option.row().name == name {
@@ -20,7 +20,7 @@ fn find_name(options: &[Opt], name: &str) -> Option<Opt>
 
 /// The first option of this letter.
 fn find_letter(options: &[Opt], letter: char) -> Option<Opt>
-    ensures { result ≡ lettered letter options.now }
+    ensures { result ≡ option_lettered letter options.now }
 {
     for option in options {
         if option.row().letter == Some(letter) {

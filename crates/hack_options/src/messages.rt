@@ -1,7 +1,8 @@
 //! How messages name options.
 
 ghost use Rattle.std.specs.Prelude.{◌≡◌, ◌&&◌, Some};
-ghost use Rattle.hack_options.specs.Texts.{shown, shown_name as name_of, shown_with_alias, aliased};
+ghost use Rattle.hack_options.specs.Texts.{shown_option, shown_name as name_of, shown_with_alias};
+ghost use Rattle.hack_options.specs.Texts.{aliased_option};
 ghost use Rattle.hack_options.specs.Texts.{usage_text, has_usage as named_in_help};
 ghost use Rattle.hack_options.specs.Texts.{shows_letter as letter_in_help};
 
@@ -11,7 +12,7 @@ use std::fmt;
 /// The option as messages name it. `--workspace-behavior` is named with `cargo`, the only value
 /// that it takes.
 impl fmt::Display for Opt {
-    ghost output = { λ o. Some (shown o) };
+    ghost output = { λ o. Some (shown_option o) };
 
     fn fmt<W: fmt::Write>(&self, f: &mut fmt::Formatter<W>) -> fmt::Result {
         let name = self.shown_name();
@@ -26,7 +27,7 @@ pub struct WithAlias {
 }
 
 impl fmt::Display for WithAlias {
-    ghost output = { λ told. Some (shown_with_alias (aliased told)) };
+    ghost output = { λ told. Some (shown_with_alias (aliased_option told)) };
 
     fn fmt<W: fmt::Write>(&self, f: &mut fmt::Formatter<W>) -> fmt::Result {
         match self.option {
@@ -93,7 +94,7 @@ impl Opt {
 
     /// The option for a message that tells its alias too.
     pub fn with_alias(self) -> WithAlias
-        ensures { aliased result ≡ self }
+        ensures { aliased_option result ≡ self }
     {
         WithAlias { option: self }
     }

@@ -104,23 +104,23 @@ impl Opt {
         ensures { entry result ≡ entry_of self }
     {
         Row {
-            told: self.told(),
-            ..self.written()
+            told: self.help_text(),
+            ..self.syntax()
         }
     }
 
     /// How the option is written and cut, and the value that is shown for it.
-    fn written(self) -> Row
+    fn syntax(self) -> Row
         ensures { entry result ≡ out_of_help (entry_of self) }
     {
         match self {
-            Opt::Package => many("package", Kind::Value, "<SPEC>...").lettered('p'),
+            Opt::Package => many("package", Kind::Value, "<SPEC>...").with_letter('p'),
             Opt::All => flag("all"),
             Opt::Workspace => flag("workspace"),
             Opt::Exclude => many("exclude", Kind::Value, "<SPEC>..."),
             Opt::ManifestPath => once("manifest-path", Kind::Value, "<PATH>").hidden_letter('m'),
             Opt::Locked => flag("locked"),
-            Opt::Features => many("features", Kind::Names, "<FEATURES>...").lettered('F'),
+            Opt::Features => many("features", Kind::Names, "<FEATURES>...").with_letter('F'),
             Opt::EachFeature => flag("each-feature"),
             Opt::FeaturePowerset => flag("feature-powerset"),
             Opt::OptionalDeps => once("optional-deps", Kind::OptionalNames, "[DEPS]..."),
@@ -156,10 +156,10 @@ impl Opt {
             Opt::WorkspaceBehavior => many("workspace-behavior", Kind::Refused, ""),
             Opt::PrintCommandList => flag("print-command-list"),
             Opt::NoManifestPath => flag("no-manifest-path"),
-            Opt::Verbose => many("verbose", Kind::Flag, "").lettered('v'),
+            Opt::Verbose => many("verbose", Kind::Flag, "").with_letter('v'),
             Opt::Color => once("color", Kind::Value, "<WHEN>"),
-            Opt::Help => many("help", Kind::Help, "").lettered('h'),
-            Opt::Version => many("version", Kind::Version, "").lettered('V'),
+            Opt::Help => many("help", Kind::Help, "").with_letter('h'),
+            Opt::Version => many("version", Kind::Version, "").with_letter('V'),
             Opt::NoDefaultFeatures => many("no-default-features", Kind::Flag, ""),
             Opt::AllFeatures => many("all-features", Kind::Flag, ""),
             Opt::IncludeDepsFeatures => flag("include-deps-features"),
@@ -167,7 +167,7 @@ impl Opt {
     }
 
     /// What the help tells of the option, where it has a row for it.
-    fn told(self) -> Option<HelpText>
+    fn help_text(self) -> Option<HelpText>
         ensures { is_some result ≡ (entry_of self).in_help }
     {
         match self {
@@ -178,21 +178,21 @@ impl Opt {
             Opt::ManifestPath => brief("Path to Cargo.toml"),
             Opt::Locked => brief("Require Cargo.lock is up to date"),
             Opt::Features => brief("Space or comma separated list of features to activate"),
-            Opt::EachFeature => explained(
+            Opt::EachFeature => help_row(
                 "Perform for each feature of the package",
                 &[
                     ALSO_WITHOUT_DEFAULT,
                     "When this flag is not used together with --exclude-features (--skip) and --include-features and there are multiple features, this also includes runs with just --all-features flag.",
                 ],
             ),
-            Opt::FeaturePowerset => explained(
+            Opt::FeaturePowerset => help_row(
                 "Perform for the feature powerset of the package",
                 &[
                     ALSO_WITHOUT_DEFAULT,
                     "When this flag is used together with --depth or namespaced features (-Z namespaced-features) and not used together with --exclude-features (--skip) and --include-features and there are multiple features, this also includes runs with just --all-features flag.",
                 ],
             ),
-            Opt::OptionalDeps => explained(
+            Opt::OptionalDeps => help_row(
                 "Use optional dependencies as features",
                 &[
                     "If DEPS are not specified, all optional dependencies are considered as features.",
@@ -200,7 +200,7 @@ impl Opt {
                 ],
             ),
             Opt::Skip => brief("Alias for --exclude-features"),
-            Opt::ExcludeFeatures => explained(
+            Opt::ExcludeFeatures => help_row(
                 "Space or comma separated list of features to exclude",
                 &[
                     "To exclude run of default feature, using value `--exclude-features default`.",
@@ -209,22 +209,22 @@ impl Opt {
                     WITH_FEATURE_SETS,
                 ],
             ),
-            Opt::ExcludeNoDefaultFeatures => explained(
+            Opt::ExcludeNoDefaultFeatures => help_row(
                 "Exclude run of just --no-default-features flag",
                 &[WITH_FEATURE_SETS],
             ),
-            Opt::ExcludeAllFeatures => explained(
+            Opt::ExcludeAllFeatures => help_row(
                 "Exclude run of just --all-features flag",
                 &[WITH_FEATURE_SETS],
             ),
-            Opt::Depth => explained(
+            Opt::Depth => help_row(
                 "Specify a max number of simultaneous feature flags of --feature-powerset",
                 &[
                     "If NUM is set to 1, --feature-powerset is equivalent to --each-feature.",
                     WITH_POWERSET,
                 ],
             ),
-            Opt::GroupFeatures => explained(
+            Opt::GroupFeatures => help_row(
                 "Space or comma separated list of features to group",
                 &[
                     "This treats the specified features as if it were a single feature.",
@@ -232,36 +232,36 @@ impl Opt {
                     WITH_POWERSET,
                 ],
             ),
-            Opt::Target => explained(
+            Opt::Target => help_row(
                 "Build for specified target triple",
                 &[
                     "Comma-separated lists of targets are not supported, but you can specify the whole --target option multiple times to do multiple targets.",
                     "This is actually not a cargo-hack option, it is interpreted by Cargo itself.",
                 ],
             ),
-            Opt::MutuallyExclusiveFeatures => explained(
+            Opt::MutuallyExclusiveFeatures => help_row(
                 "Space or comma separated list of features to not use together",
                 &[
                     "To specify multiple groups, use this option multiple times: `--mutually-exclusive-features a,b --mutually-exclusive-features c,d`",
                     WITH_POWERSET,
                 ],
             ),
-            Opt::AllowTogether => explained(
+            Opt::AllowTogether => help_row(
                 "Lift one group of --mutually-exclusive-features for one package",
                 &["This flag can only be used together with --mutually-exclusive-features flag."],
             ),
-            Opt::AtLeastOneOf => explained(
+            Opt::AtLeastOneOf => help_row(
                 "Space or comma separated list of features. Skips sets of features that don't enable any of the features listed",
                 &[
                     "To specify multiple groups, use this option multiple times: `--at-least-one-of a,b --at-least-one-of c,d`",
                     WITH_POWERSET,
                 ],
             ),
-            Opt::IncludeFeatures => explained(
+            Opt::IncludeFeatures => help_row(
                 "Include only the specified features in the feature combinations instead of package features",
                 &[WITH_FEATURE_SETS],
             ),
-            Opt::NoDevDeps => explained(
+            Opt::NoDevDeps => help_row(
                 "Perform without dev-dependencies",
                 &[
                     "Note that this flag removes dev-dependencies from real `Cargo.toml` while cargo-hack is running and restores it when finished.",
@@ -272,17 +272,17 @@ impl Opt {
             ),
             Opt::NoPrivate => brief("Perform without `publish = false` crates"),
             Opt::IgnorePrivate => brief("Skip to perform on `publish = false` packages"),
-            Opt::IgnoreUnknownFeatures => explained(
+            Opt::IgnoreUnknownFeatures => help_row(
                 "Skip passing --features flag to `cargo` if that feature does not exist in the package",
                 &[
                     "This flag can be used with --features, --include-features, or --group-features.",
                 ],
             ),
-            Opt::RustVersion => explained(
+            Opt::RustVersion => help_row(
                 "Perform commands on `package.rust-version`",
                 &["This cannot be used with --version-range."],
             ),
-            Opt::VersionRange => explained(
+            Opt::VersionRange => help_row(
                 "Perform commands on a specified (inclusive) range of Rust versions",
                 &[
                     "If the upper bound of the range is omitted, the latest stable compiler is used as the upper bound.",
@@ -290,18 +290,18 @@ impl Opt {
                     "Note that ranges are always inclusive ranges.",
                 ],
             ),
-            Opt::VersionStep => explained(
+            Opt::VersionStep => help_row(
                 "Specify the version interval of --version-range (default to `1`)",
                 &[WITH_VERSION_RANGE],
             ),
-            Opt::CleanPerRun => explained(
+            Opt::CleanPerRun => help_row(
                 "Remove artifacts for that package before running the command",
                 &[
                     "If used this flag with --workspace, --each-feature, or --feature-powerset, artifacts will be removed before each run.",
                     "Note that dependencies artifacts will be preserved.",
                 ],
             ),
-            Opt::CleanPerVersion => explained(
+            Opt::CleanPerVersion => help_row(
                 "Remove artifacts per Rust version",
                 &[
                     "Note that dependencies artifacts will also be removed.",
@@ -310,15 +310,15 @@ impl Opt {
             ),
             Opt::KeepGoing => brief("Keep going on failure"),
             Opt::Partition => brief("Partition runs and execute only its subset according to M/N"),
-            Opt::PartitionKind => explained(
+            Opt::PartitionKind => help_row(
                 "Partitioning: block, turn",
                 &["This flag can only be used together with --partition flag."],
             ),
-            Opt::LogGroup => explained(
+            Opt::LogGroup => help_row(
                 "Log grouping: none, github-actions",
                 &["If this option is not used, the environment will be automatically detected."],
             ),
-            Opt::WorkspaceBehavior => explained(
+            Opt::WorkspaceBehavior => help_row(
                 "Use Cargo's workspace handling",
                 &[
                     "This is for use cases where cargo-hack's workspace handling does not work.",
@@ -328,7 +328,7 @@ impl Opt {
             Opt::PrintCommandList => brief("Print commands without run (Unstable)"),
             Opt::NoManifestPath => brief("Do not pass --manifest-path option to cargo (Unstable)"),
             Opt::Verbose => brief("Use verbose output"),
-            Opt::Color => explained(
+            Opt::Color => help_row(
                 "Coloring: auto, always, never",
                 &["This flag will be propagated to cargo."],
             ),
@@ -392,7 +392,7 @@ fn many(name: &'static str, kind: Kind, value: &'static str) -> Row
 
 impl Row {
     /// The same option, written as a letter too.
-    fn lettered(self, letter: char) -> Row
+    fn with_letter(self, letter: char) -> Row
         ensures { entry result ≡ record (entry self) { letter = Some letter } }
     {
         Row {
@@ -418,11 +418,11 @@ impl Row {
 fn brief(text: &'static str) -> Option<HelpText>
     ensures { IsSome result }
 {
-    explained(text, &[])
+    help_row(text, &[])
 }
 
 /// A few words, and paragraphs in the long help.
-fn explained(text: &'static str, paragraphs: &'static [&'static str]) -> Option<HelpText>
+fn help_row(text: &'static str, paragraphs: &'static [&'static str]) -> Option<HelpText>
     ensures { IsSome result }
 {
     Some(HelpText { text, paragraphs })

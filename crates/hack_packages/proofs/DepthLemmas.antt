@@ -4,15 +4,15 @@ use Rattle.std.specs.Prelude.{nat_lt, ◌&&◌, ◌||◌, if◌then◌else◌}
 use Rattle.std.specs.List.{range_with_len}
 use Rattle.std.proofs.lemmas.Bool.{lt-ltb}
 use Rattle.std.proofs.lemmas.List.FromFn.{get_or-map-range_with_len, length-map-range_with_len}
-use Rattle.hack_features.specs.Names.{Name}
+use Rattle.hack_base.specs.Names.{Name}
 use Rattle.hack_features.specs.Sets.{IsSelection, IsBefore, IsListing, IsWithin, Pairwise, singles}
-use Rattle.hack_features.specs.Rules.{Choice, IsListed, IsRedundant, NotBothReach, Serves, names_at, names_in, unlifted}
+use Rattle.hack_features.specs.Rules.{Choice, IsListed, IsRedundant, NotBothReach, Serves, names_at, names_in, unlifted_groups}
 use Rattle.hack_features.specs.FeatureMap.{EnablesOneOf}
-use Rattle.hack_features.proofs.Members.{Contains-cons_cases}
+use Rattle.hack_base.proofs.Members.{Contains-cons_cases}
 use Rattle.hack_features.proofs.Listing.{selection_none, selection_push, selection_up}
 use Rattle.hack_features.proofs.CoverLemmas.{before_trans}
 use Rattle.hack_plan.specs.declared.runs.RunOptions.{RunOptions}
-use Rattle.hack_plan.specs.Runs.{PackageRun, Plain, AllFeatures, NoDefaultFeatures, Set, is_plain, keeps_all, kept, turned, in_turn, allows_two, is_unlimited, runs_from}
+use Rattle.hack_plan.specs.Runs.{PackageRun, Plain, AllFeatures, NoDefaultFeatures, Set, is_plain, keeps_all, run_if, with_last_first, in_turn, allows_two, is_unlimited, runs_from}
 use Rattle.hack_packages.specs.Candidates.{Wishes, Known, candidates, lifted_for}
 use Rattle.hack_packages.specs.Kinds.{AreSetRuns, AreRuns, AreSets, RunsBy, IsDepthOne, as_each, asks, choice_of, options_of}
 
@@ -159,18 +159,18 @@ depth-one w p runs h some are =
     let r : AreSetRuns w p runs = subst (λ b. RunsBy b w p runs) asked are in
     let n = length (candidates w p) in
     let listing : IsListing n (IsListed (choice_of w p)) r.sets = subst (λ b. AreSets b w p r.sets) h.powerset r.are_sets in
-    let none : unlifted w.exclusive (lifted_for w p.name) ≡ [] = ap (λ l. unlifted l (lifted_for w p.name)) h.exclusive in
+    let none : unlifted_groups w.exclusive (lifted_for w p.name) ≡ [] = ap (λ l. unlifted_groups l (lifted_for w p.name)) h.exclusive in
     let same : r.sets ≡ singles n = all-single n (choice_of w p) r.sets h.depth none h.at_least_one_of listing in
     let o = options_of w p in
     let e = options_of (as_each w) p in
     let keeps : keeps_all o ≡ keeps_all e = same-keeps w.exclude_all_features o.all_optional_deps w.powerset (length p.optional) (length p.normal) w.depth h.powerset h.depth (lt-ltb 0 (length p.optional) some) in
     let turn : in_turn o r.sets ≡ in_turn e r.sets =
-    ap (λ d. turned (w.powerset && not (keeps_all o) && nat_lt 1 (length r.sets) && allows_two d) r.sets) h.depth
-    ∙ ap (λ b. turned b r.sets) (and-false (w.powerset && not (keeps_all o) && nat_lt 1 (length r.sets))) in
+    ap (λ d. with_last_first (w.powerset && not (keeps_all o) && nat_lt 1 (length r.sets) && allows_two d) r.sets) h.depth
+    ∙ ap (λ b. with_last_first b r.sets) (and-false (w.powerset && not (keeps_all o) && nat_lt 1 (length r.sets))) in
     record {
       sets = r.sets;
       are_sets = same;
       made = r.made
-          ∙ ap (λ k. if is_plain o r.sets then Plain ∷ [] else kept k AllFeatures ++ kept (not w.exclude_no_default_features) NoDefaultFeatures ++ map Set (in_turn o r.sets)) keeps
-          ∙ ap (λ t. if is_plain o r.sets then Plain ∷ [] else kept (keeps_all e) AllFeatures ++ kept (not w.exclude_no_default_features) NoDefaultFeatures ++ map Set t) turn;
+          ∙ ap (λ k. if is_plain o r.sets then Plain ∷ [] else run_if k AllFeatures ++ run_if (not w.exclude_no_default_features) NoDefaultFeatures ++ map Set (in_turn o r.sets)) keeps
+          ∙ ap (λ t. if is_plain o r.sets then Plain ∷ [] else run_if (keeps_all e) AllFeatures ++ run_if (not w.exclude_no_default_features) NoDefaultFeatures ++ map Set t) turn;
     }

@@ -7,9 +7,9 @@ use Rattle.std.proofs.lemmas.List.Elements.{Contains-append_left, Contains-appen
 use Rattle.hack_features.specs.declared.feature.Feature.{Feature}
 use Rattle.hack_features.specs.Feature.{group_of, groups_of, candidates_of}
 use Rattle.hack_features.specs.Rules.{AreCovers}
-use Rattle.hack_features.proofs.Steps.{seen-next}
+use Rattle.hack_base.proofs.Steps.{seen-next}
 use Rattle.hack_plan.specs.declared.runs.RunOptions.{RunOptions}
-use Rattle.hack_plan.specs.Runs.{PackageRun, Plain, AllFeatures, NoDefaultFeatures, Set, is_plain, keeps_all, kept, last_first, in_turn, allows_two, runs_from}
+use Rattle.hack_plan.specs.Runs.{PackageRun, Plain, AllFeatures, NoDefaultFeatures, Set, is_plain, keeps_all, run_if, last_first, in_turn, allows_two, runs_from}
 use Rattle.hack_packages.specs.declared.kind.Kind.{Kind}
 use Rattle.hack_packages.specs.declared.kind.Kind.TheVariants.{Normal, Each, Powerset}
 use Rattle.hack_packages.specs.Candidates.{Wishes, Known, candidates}
@@ -40,8 +40,8 @@ in-map xs t c = (c.0, omega (arith, c.1, length-map xs Set), get_or-map Set xs c
 runs-has : (o : RunOptions) (sets : List (List ℕ)) (t : List ℕ) → is_plain o sets ≡ false → Contains sets t → Contains (runs_from o sets) (Set t)
 runs-has o sets t some c =
     let turned : Contains (in_turn o sets) t = pick (o.powerset && not (keeps_all o) && nat_lt 1 (length sets) && allows_two o.depth) (last_first sets) sets t (in-last_first sets t c) c in
-    subst (λ b. Contains (if b then Plain ∷ [] else (kept (keeps_all o) AllFeatures ++ kept (not o.exclude_no_default_features) NoDefaultFeatures) ++ map Set (in_turn o sets)) (Set t)) (sym some)
-    (Contains-append_right (kept (keeps_all o) AllFeatures ++ kept (not o.exclude_no_default_features) NoDefaultFeatures) (map Set (in_turn o sets)) (Set t) (in-map (in_turn o sets) t turned))
+    subst (λ b. Contains (if b then Plain ∷ [] else (run_if (keeps_all o) AllFeatures ++ run_if (not o.exclude_no_default_features) NoDefaultFeatures) ++ map Set (in_turn o sets)) (Set t)) (sym some)
+    (Contains-append_right (run_if (keeps_all o) AllFeatures ++ run_if (not o.exclude_no_default_features) NoDefaultFeatures) (map Set (in_turn o sets)) (Set t) (in-map (in_turn o sets) t turned))
 
 first-true : (a b : Bool) → (a && b) ≡ true → a ≡ true
 first-true true b h = refl
@@ -77,7 +77,7 @@ plain-by w p false is h = refl
 plain-by w p true is h = record {
   sets = h.sets;
   are_sets = h.are_sets is;
-  made = ap (λ (b : Bool). if b then Plain ∷ [] else (kept (keeps_all (options_of w p)) AllFeatures ++ kept (not w.exclude_no_default_features) NoDefaultFeatures) ++ map Set (in_turn (options_of w p) h.sets)) (sym (h.plain is));
+  made = ap (λ (b : Bool). if b then Plain ∷ [] else (run_if (keeps_all (options_of w p)) AllFeatures ++ run_if (not w.exclude_no_default_features) NoDefaultFeatures) ++ map Set (in_turn (options_of w p) h.sets)) (sym (h.plain is));
 }
 
 -- the runs of a kind are the package's

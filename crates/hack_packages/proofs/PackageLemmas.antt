@@ -2,9 +2,9 @@
 use Rattle.std.proofs.Common.{◌≡◌, ◌∙◌, ℕ, List, ◌++◌, ◌∷◌, Contains, true, false, refl, sym, ap, subst, arith, string_bytes, append_assoc, map}
 use Rattle.std.proofs.lemmas.List.{map-append}
 use Rattle.std.proofs.lemmas.List.Elements.{Contains-append_right}
-use Rattle.hack_features.specs.Names.{Name}
-use Rattle.hack_versions.specs.declared.notice.Notice.{Notice}
-use Rattle.hack_versions.specs.Notes.{Note, note_of}
+use Rattle.hack_base.specs.Names.{Name}
+use Rattle.hack_base.specs.declared.notice.Notice.{Notice}
+use Rattle.hack_base.specs.Notes.{Note, note_of}
 use Rattle.hack_packages.specs.declared.fault.PackagesFault.{PackagesFault}
 use Rattle.hack_packages.specs.declared.fault.PackagesFault.TheVariants.{Memory, Unmatched}
 use Rattle.hack_packages.specs.Members.{Member, Choosing, AllMatch, IsAbout, names_some}

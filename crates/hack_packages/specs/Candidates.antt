@@ -2,12 +2,12 @@
 use Rattle.std.specs.Prelude.{◌==◌, ◌++◌, ℕ, List, [], ◌∷◌, Bool, true, false, not, ◌&&◌, ◌||◌, Option, None, Some, filter, map, length, if◌then◌else◌}
 use Rattle.std.specs.List.{list_any, list_all}
 use Rattle.std.specs.Str.{bytes_eq}
-use Rattle.hack_features.specs.Names.{Name}
+use Rattle.hack_base.specs.Names.{Name}
 use Rattle.hack_features.specs.FeatureMap.{FeatureMap}
-use Rattle.hack_versions.specs.Notes.{Note}
+use Rattle.hack_base.specs.Notes.{Note}
 use Rattle.hack_rules.specs.CliLists.{same_names}
 use Rattle.hack_packages.specs.Texts.{feature_text, dependency_text, group_text}
-use Rattle.hack_packages.specs.Members.{warning, info}
+use Rattle.hack_packages.specs.Members.{warning_note, info_note}
 
 -- what a feature stands for: its name, or the names of a group
 abbrev pub Names : Type 0
@@ -100,15 +100,15 @@ names_asked (Some (x ∷ xs)) = x ∷ xs
 
 -- a warning for each excluded name that the package doesn't have
 abbrev pub feature_notes : Wishes → Known → List Note
-feature_notes w p = map (λ x. warning (feature_text p.name x)) (filter (λ x. not (is_found p x)) w.excluded)
+feature_notes w p = map (λ x. warning_note (feature_text p.name x)) (filter (λ x. not (is_found p x)) w.excluded)
 
 -- a warning for each optional dependency that is asked for and that the package doesn't have
 abbrev pub dependency_notes : Wishes → Known → List Note
-dependency_notes w p = map (λ x. warning (dependency_text p.name x)) (filter (λ x. not (one_has p.optional x)) (names_asked w.optional_deps))
+dependency_notes w p = map (λ x. warning_note (dependency_text p.name x)) (filter (λ x. not (one_has p.optional x)) (names_asked w.optional_deps))
 
 -- a notice for each group that isn't applied to the package
 abbrev pub group_notes : Wishes → Known → List Note
-group_notes w p = map (λ names. info (group_text p.name names)) (filter (λ names. not (applies w p names)) w.groups)
+group_notes w p = map (λ names. info_note (group_text p.name names)) (filter (λ names. not (applies w p names)) w.groups)
 
 -- what the user is told of a package's features, where combinations of them are asked for and those to include aren't
 -- named: names that a single package doesn't have, and groups that aren't applied

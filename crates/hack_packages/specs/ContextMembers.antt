@@ -1,15 +1,15 @@
 -- What a loaded call says of packages, and of their features.
 use Rattle.std.specs.Prelude.{ℕ, List, Bool, Option, option_map, option_and_then}
 use Rattle.std.specs.List.{filter_map}
-use Rattle.hack_features.specs.Names.{Name}
+use Rattle.hack_base.specs.Names.{Name}
 use Rattle.hack_features.specs.Feature.{groups_of}
 use Rattle.hack_load.specs.Contexts.{ContextRecord, package_at, is_private_at}
 use Rattle.hack_load.specs.declared.features.Features.{Features}
 use Rattle.hack_metadata.specs.Records.{PackageRecord}
-use Rattle.hack_versions.specs.Notes.{Note}
+use Rattle.hack_base.specs.Notes.{Note}
 use Rattle.hack_packages.specs.declared.fault.PackagesFault.{PackagesFault}
 use Rattle.hack_packages.specs.Members.{Member, Choosing, IsPackageList}
-use Rattle.hack_packages.specs.MembersView.{choosing}
+use Rattle.hack_packages.specs.MembersView.{choosing_of}
 use Rattle.hack_packages.specs.PackagesView.{IsListFault}
 use Rattle.hack_packages.specs.Candidates.{Known}
 
@@ -31,11 +31,11 @@ current_name cx = option_and_then (name_at cx) cx.current_package
 
 -- the packages that the call runs on, and what the user is told
 abbrev pub AreChosen : ContextRecord → List ℕ → Bool → List Note → Type 0
-AreChosen cx places is_single notes = IsPackageList (choosing cx.args (current_name cx)) cx.metadata.workspace_root (members_in cx) places is_single notes
+AreChosen cx places is_single notes = IsPackageList (choosing_of cx.args (current_name cx)) cx.metadata.workspace_root (members_in cx) places is_single notes
 
 -- why these packages aren't known
 abbrev pub IsChoiceFault : ContextRecord → PackagesFault → Type 0
-IsChoiceFault cx e = IsListFault (choosing cx.args (current_name cx)) (members_in cx) e
+IsChoiceFault cx e = IsListFault (choosing_of cx.args (current_name cx)) (members_in cx) e
 
 -- what is known of a package of the metadata that has these features
 abbrev pub known_as : PackageRecord → Features → Known

@@ -1,16 +1,16 @@
 -- Which runs a package has.
 use Rattle.std.specs.Prelude.{◌≡◌, ◌==◌, ◌⊎◌, ℕ, List, [], ◌∷◌, Bool, true, false, not, ◌||◌, Option, None, Some, length, Contains}
 use Rattle.std.specs.List.{flat_map, slice_index_or}
-use Rattle.hack_features.specs.Names.{Name}
+use Rattle.hack_base.specs.Names.{Name}
 use Rattle.hack_features.specs.Sets.{IsListing, IsSelection, singles}
-use Rattle.hack_features.specs.Rules.{Choice, IsListed, IsWanted, Covers, unlifted}
+use Rattle.hack_features.specs.Rules.{Choice, IsListed, IsWanted, Covers, unlifted_groups}
 use Rattle.hack_plan.specs.declared.runs.RunOptions.{RunOptions}
 use Rattle.hack_plan.specs.Runs.{PackageRun, Plain, Set, is_plain, runs_from}
 use Rattle.hack_packages.specs.Candidates.{Names, Wishes, Known, candidates, is_bare, lifted_for}
 
 -- what the sets of a package are chosen from
 abbrev pub choice_of : Wishes → Known → Choice
-choice_of w p = record { map = p.map; candidates = candidates w p; depth = w.depth; at_least_one_of = w.at_least_one_of; exclusive = unlifted w.exclusive (lifted_for w p.name) }
+choice_of w p = record { map = p.map; candidates = candidates w p; depth = w.depth; at_least_one_of = w.at_least_one_of; exclusive = unlifted_groups w.exclusive (lifted_for w p.name) }
 
 -- `--optional-deps` is given without names
 abbrev pub takes_all : Option (List Name) → Bool

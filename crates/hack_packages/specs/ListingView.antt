@@ -1,6 +1,6 @@
 -- What the steps by which packages are chosen answer.
 use Rattle.std.specs.Prelude.{ℕ, List, [], ◌∷◌, Bool, true, false, not, ◌&&◌, if◌then◌else◌, string_bytes}
-use Rattle.hack_features.specs.Names.{Name}
+use Rattle.hack_base.specs.Names.{Name}
 use Rattle.hack_packages.specs.declared.fault.PackagesFault.{PackagesFault}
 use Rattle.hack_packages.specs.declared.fault.PackagesFault.TheVariants.{Memory, Unmatched}
 use Rattle.hack_packages.specs.Members.{Member, IsMatched, IsFirstUnmatched}

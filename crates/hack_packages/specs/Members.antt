@@ -2,11 +2,11 @@
 use Rattle.std.specs.Prelude.{◌≡◌, ◌==◌, ◌++◌, ℕ, List, [], ◌∷◌, Bool, true, false, not, ◌&&◌, Option, None, Some, Contains, map, filter, length}
 use Rattle.std.specs.List.{find, list_any}
 use Rattle.std.specs.Str.{bytes_eq}
-use Rattle.hack_features.specs.Names.{Name}
+use Rattle.hack_base.specs.Names.{Name}
 use Rattle.hack_metadata.specs.Records.{PackageRecord}
 use Rattle.hack_metadata.specs.PackageSpecs.{Identity, Matches}
-use Rattle.hack_versions.specs.Notes.{Note}
-use Rattle.hack_versions.specs.declared.notice.NoticeKind.TheVariants.{Info, Warn}
+use Rattle.hack_base.specs.Notes.{Note}
+use Rattle.hack_base.specs.declared.notice.NoticeKind.TheVariants.{Info, Warn}
 use Rattle.hack_packages.specs.Texts.{exclusion_text, lift_text, private_text}
 
 -- a member of a workspace: its place in the metadata, what is told of it, and whether it may not be published
@@ -84,26 +84,26 @@ first_called members name = alone (find (λ m. bytes_eq m.pkg.name name) members
     alone (Some m) = m ∷ []
 
 -- the members that a call without names is about: all of the workspace, or the first with the name of the current one
-abbrev pub unnamed : Bool → Option Name → List Member → List Member
-unnamed true current members = members
-unnamed false None members = members
-unnamed false (Some name) members = first_called members name
+abbrev pub members_without_names : Bool → Option Name → List Member → List Member
+members_without_names true current members = members
+members_without_names false None members = members
+members_without_names false (Some name) members = first_called members name
 
 -- the members that a call is about, before some are left out: those that it names, where it names some
 abbrev pub IsAbout : Bool → Choosing → List Member → List Member → Type 0
 IsAbout true c members asked = Keeps (IsMatched c.named) members asked
-IsAbout false c members asked = asked ≡ unnamed c.everyone c.current members
+IsAbout false c members asked = asked ≡ members_without_names c.everyone c.current members
 
 -- the member is private, and private ones are ignored
 abbrev pub is_skipped : Choosing → Member → Bool
 is_skipped c m = c.ignore_private && m.is_private
 
 -- a warning, and an information
-abbrev pub warning : List ℕ → Note
-warning text = record { kind = Warn; text = text }
+abbrev pub warning_note : List ℕ → Note
+warning_note text = record { kind = Warn; text = text }
 
-abbrev pub info : List ℕ → Note
-info text = record { kind = Info; text = text }
+abbrev pub info_note : List ℕ → Note
+info_note text = record { kind = Info; text = text }
 
 -- the packages that a call runs on, by their places: those that it is about, less the excluded, less private ones where
 -- these are ignored; whether one is left but for private ones; and what the user is told: of exclusions that match no
@@ -116,7 +116,7 @@ pub record IsPackageList (c : Choosing) (root : Name) (members : List Member) (p
   pub remain : Keeps (λ m. ¬ IsMatched c.excluded m) about remaining
   pub single : is_single ≡ (length remaining == 1)
   pub chosen : places ≡ map (λ m. m.place) (filter (λ m. not (is_skipped c m)) remaining)
-  pub unmatched : Collects (λ spec. ¬ MatchesSome members spec) (λ spec. warning (exclusion_text root spec)) c.excluded on_exclusions
+  pub unmatched : Collects (λ spec. ¬ MatchesSome members spec) (λ spec. warning_note (exclusion_text root spec)) c.excluded on_exclusions
   pub told : notes ≡ on_exclusions
-      ++ (map (λ owner. warning (lift_text root owner)) (filter (λ owner. not (is_called members owner)) c.lifted_for)
-      ++ map (λ m. info (private_text c.verbose m.pkg)) (filter (is_skipped c) remaining))
+      ++ (map (λ owner. warning_note (lift_text root owner)) (filter (λ owner. not (is_called members owner)) c.lifted_for)
+      ++ map (λ m. info_note (private_text c.verbose m.pkg)) (filter (is_skipped c) remaining))

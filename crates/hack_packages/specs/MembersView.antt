@@ -1,6 +1,6 @@
 -- Members and arguments of the code as plain data.
 use Rattle.std.specs.Prelude.{List, Option, map, string_bytes}
-use Rattle.hack_features.specs.Names.{Name, names_of}
+use Rattle.hack_base.specs.Names.{Name, names_of}
 use Rattle.hack_metadata.specs.View.{package_view}
 use Rattle.hack_words.specs.declared.cli.args.Args.{Args}
 use Rattle.hack_packages.specs.declared.member.Member.{Member}
@@ -12,5 +12,5 @@ abbrev pub member_view : Member → plain.Member
 member_view m = record { place = m.id.index; pkg = package_view m.pkg.now; is_private = m.is_private }
 
 -- what arguments say of packages
-abbrev pub choosing : Args → Option Name → Choosing
-choosing args current = record { everyone = args.workspace; named = names_of args.«package».items; excluded = names_of args.exclude.items; current = current; ignore_private = args.ignore_private; lifted_for = map (λ lift. string_bytes lift.0) args.allow_together.items; verbose = args.verbose }
+abbrev pub choosing_of : Args → Option Name → Choosing
+choosing_of args current = record { everyone = args.workspace; named = names_of args.«package».items; excluded = names_of args.exclude.items; current = current; ignore_private = args.ignore_private; lifted_for = map (λ lift. string_bytes lift.0) args.allow_together.items; verbose = args.verbose }

@@ -1,8 +1,8 @@
 -- What the user is told of packages and of their features.
 use Rattle.std.specs.Prelude.{ℕ, List, ◌++◌, codes, Bool, if◌then◌else◌}
 use Rattle.std.specs.List.{join_with_byte}
-use Rattle.hack_features.specs.Names.{Name}
-use Rattle.hack_process.specs.PathTexts.{parent_of}
+use Rattle.hack_base.specs.Names.{Name}
+use Rattle.hack_base.specs.PathTexts.{parent_of}
 use Rattle.hack_metadata.specs.Records.{PackageRecord}
 
 -- an excluded package that no member is

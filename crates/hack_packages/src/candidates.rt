@@ -3,13 +3,13 @@
 ghost use Rattle.std.specs.Prelude.{◌≡◌, ◌==◌, ◌++◌, ◌∷◌, [], ◌&&◌, ◌||◌, IfOk, OnOk, true, false};
 ghost use Rattle.std.specs.Prelude.{filter, map, not, option_map, length, if◌then◌else◌};
 ghost use Rattle.std.specs.List.{list_all, list_any};
-ghost use Rattle.hack_features.specs.Names.{names_of};
+ghost use Rattle.hack_base.specs.Names.{names_of};
 ghost use Rattle.hack_features.specs.Feature.{group_of, groups_of};
-ghost use Rattle.hack_versions.specs.Notes.{note_of};
+ghost use Rattle.hack_base.specs.Notes.{note_of};
 ghost use Rattle.hack_packages.specs.Texts.{feature_text as missing_feature};
 ghost use Rattle.hack_packages.specs.Texts.{dependency_text as missing_dependency};
 ghost use Rattle.hack_packages.specs.Texts.{group_text as skipped_group};
-ghost use Rattle.hack_packages.specs.Members.{warning, info};
+ghost use Rattle.hack_packages.specs.Members.{warning_note, info_note};
 ghost use Rattle.hack_packages.specs.Candidates.{has_name as name_in, one_has as one_names};
 ghost use Rattle.hack_packages.specs.Candidates.{is_taken as taken_by, stays as stays_for};
 ghost use Rattle.hack_packages.specs.Candidates.{is_asked as asked_by, is_bare as has_none};
@@ -19,13 +19,14 @@ ghost use Rattle.hack_packages.specs.Candidates.{candidates as candidates_of, ca
 ghost use Rattle.hack_packages.specs.Candidates.{feature_notes as notes_on_features};
 ghost use Rattle.hack_packages.specs.Candidates.{dependency_notes as notes_on_dependencies};
 ghost use Rattle.hack_packages.specs.Candidates.{group_notes as notes_on_groups};
-ghost use Rattle.hack_packages.specs.CandidatesView.{wishes, known};
+ghost use Rattle.hack_packages.specs.CandidatesView.{wishes, known_of_package};
 
-use crate::notes::{dependency_text, feature_text, group_text, note};
+use crate::notes::{dependency_text, feature_text, group_text};
+use hack_base::copies::copies;
+use hack_base::notice::{Notice, NoticeKind, tell};
 use hack_features::Feature;
 use hack_load::features::Features;
 use hack_metadata::metadata::Package;
-use hack_versions::notice::{Notice, NoticeKind};
 use hack_words::cli::Args;
 use std::alloc::{AllocError, Global};
 
@@ -96,7 +97,7 @@ fn is_asked(args: &Args, feature: &Feature) -> bool
 
 /// Whether a feature or an optional dependency of the package has the name.
 fn is_known(pkg: &Package, features: &Features, name: &str) -> bool
-    ensures { result ≡ known_to (known pkg.now features.now) name.now }
+    ensures { result ≡ known_to (known_of_package pkg.now features.now) name.now }
 {
     let _ = pkg;
     one_has(features.normal(), name) || one_has(features.optional_deps(), name)
@@ -104,7 +105,8 @@ fn is_known(pkg: &Package, features: &Features, name: &str) -> bool
 
 /// Whether the package has all of the names.
 fn are_known(pkg: &Package, features: &Features, names: &[String]) -> bool
-    ensures { result ≡ list_all (known_to (known pkg.now features.now)) (names_of names.now) }
+    ensures { result ≡ list_all (known_to (known_of_package pkg.now features.now))
+        (names_of names.now) }
 {
     for name in names {
         if !is_known(pkg, features, name.as_str()) {
@@ -116,25 +118,15 @@ fn are_known(pkg: &Package, features: &Features, names: &[String]) -> bool
 
 /// Whether the group is applied to the package.
 fn applies(args: &Args, pkg: &Package, features: &Features, group: &Feature) -> bool
-    ensures { result ≡ applied_to (wishes args.now) (known pkg.now features.now) (group_of
+    ensures { result ≡ applied_to (wishes args.now) (known_of_package pkg.now features.now)
+        (group_of
         group.now) }
 {
     !args.ignore_unknown_features || are_known(pkg, features, group.as_group())
 }
 
-/// Copies of the names.
-fn copied_names(alloc: Global, names: &[String]) -> Result<Vec<String>, AllocError>
-    ensures { IfOk result (λ copies. names_of copies.items ≡ names_of names.now) }
-{
-    let mut copies = Vec::with_capacity(alloc, names.len())?;
-    for name in names {
-        copies.push(name.clone()?)?;
-    }
-    Ok(copies)
-}
-
 /// A copy of the feature.
-fn copied(alloc: Global, feature: &Feature) -> Result<Feature, AllocError>
+fn copy_feature(alloc: Global, feature: &Feature) -> Result<Feature, AllocError>
     ensures { IfOk result (λ copy. group_of copy ≡ group_of feature.now) }
 {
     match feature {
@@ -143,7 +135,7 @@ fn copied(alloc: Global, feature: &Feature) -> Result<Feature, AllocError>
         }),
         Feature::Group { name, list } => Ok(Feature::Group {
             name: name.clone()?,
-            list: copied_names(alloc, list)?,
+            list: copies(alloc, list)?,
         }),
         Feature::Path { name, _slash } => Ok(Feature::Path {
             name: name.clone()?,
@@ -163,7 +155,7 @@ fn add_if(
         ≡ groups_of found.old.items ++ (if taken then group_of feature.now ∷ [] else [])) }
 {
     if taken {
-        found.push(copied(alloc, feature)?)?;
+        found.push(copy_feature(alloc, feature)?)?;
     }
     Ok(())
 }
@@ -184,7 +176,7 @@ fn is_offered(args: &Args, feature: &Feature) -> bool
 }
 
 /// The features that stay candidates by themselves, where they are wanted.
-fn staying(
+fn staying_features(
     alloc: Global,
     args: &Args,
     features: &[Feature],
@@ -202,7 +194,11 @@ fn staying(
 }
 
 /// The optional dependencies that are asked for and stay candidates by themselves.
-fn asked(alloc: Global, args: &Args, features: &[Feature]) -> Result<Vec<Feature>, AllocError>
+fn asked_dependencies(
+    alloc: Global,
+    args: &Args,
+    features: &[Feature],
+) -> Result<Vec<Feature>, AllocError>
     ensures { IfOk result (λ found. groups_of found.items
         ≡ filter (λ names. asked_by (wishes args.now).optional_deps names
         && stays_for (wishes args.now) names) (groups_of features.now)) }
@@ -216,14 +212,14 @@ fn asked(alloc: Global, args: &Args, features: &[Feature]) -> Result<Vec<Feature
 }
 
 /// The groups that are applied to the package.
-fn applied(
+fn applied_groups(
     alloc: Global,
     args: &Args,
     pkg: &Package,
     features: &Features,
 ) -> Result<Vec<Feature>, AllocError>
     ensures { IfOk result (λ found. groups_of found.items
-        ≡ filter (applied_to (wishes args.now) (known pkg.now features.now))
+        ≡ filter (applied_to (wishes args.now) (known_of_package pkg.now features.now))
         (wishes args.now).groups) }
 {
     let mut found = Vec::new(alloc);
@@ -249,16 +245,16 @@ pub(crate) fn candidates(
     features: &Features,
 ) -> Result<Vec<Feature>, AllocError>
     ensures { IfOk result (λ found. groups_of found.items
-        ≡ candidates_of (wishes args.now) (known pkg.now features.now)) }
+        ≡ candidates_of (wishes args.now) (known_of_package pkg.now features.now)) }
 {
     if !is_bare(&args.include_features) {
-        return staying(alloc, args, &args.include_features, true);
+        return staying_features(alloc, args, &args.include_features, true);
     }
-    let mut found = staying(alloc, args, features.normal(), true)?;
-    let mut optional = asked(alloc, args, features.optional_deps())?;
+    let mut found = staying_features(alloc, args, features.normal(), true)?;
+    let mut optional = asked_dependencies(alloc, args, features.optional_deps())?;
     let wanted = args.include_deps_features;
-    let mut of_deps = staying(alloc, args, features.deps_features(), wanted)?;
-    let mut groups = applied(alloc, args, pkg, features)?;
+    let mut of_deps = staying_features(alloc, args, features.deps_features(), wanted)?;
+    let mut groups = applied_groups(alloc, args, pkg, features)?;
     found.append(&mut optional)?;
     found.append(&mut of_deps)?;
     found.append(&mut groups)?;
@@ -267,7 +263,7 @@ pub(crate) fn candidates(
 
 /// Whether the package has the name in one of its lists of features.
 fn is_found(pkg: &Package, features: &Features, name: &str) -> bool
-    ensures { result ≡ found_in (known pkg.now features.now) name.now }
+    ensures { result ≡ found_in (known_of_package pkg.now features.now) name.now }
 {
     is_known(pkg, features, name) || one_has(features.deps_features(), name)
 }
@@ -280,13 +276,13 @@ fn feature_notes(
     features: &Features,
 ) -> Result<Vec<Notice>, AllocError>
     ensures { IfOk result (λ notices. map note_of notices.items
-        ≡ notes_on_features (wishes args.now) (known pkg.now features.now)) }
+        ≡ notes_on_features (wishes args.now) (known_of_package pkg.now features.now)) }
 {
     let mut notices = Vec::new(alloc);
     for name in &args.exclude_features {
         let text = feature_text(alloc, name.as_str(), pkg.name.as_str())?;
         let told = !is_found(pkg, features, name.as_str());
-        note(&mut notices, told, NoticeKind::Warn, text)?;
+        tell(&mut notices, told, NoticeKind::Warn, text)?;
     }
     Ok(notices)
 }
@@ -319,13 +315,13 @@ fn dependency_notes(
     features: &Features,
 ) -> Result<Vec<Notice>, AllocError>
     ensures { IfOk result (λ notices. map note_of notices.items
-        ≡ notes_on_dependencies (wishes args.now) (known pkg.now features.now)) }
+        ≡ notes_on_dependencies (wishes args.now) (known_of_package pkg.now features.now)) }
 {
     let mut notices = Vec::new(alloc);
     for name in names_asked(args) {
         let text = dependency_text(alloc, name.as_str(), pkg.name.as_str())?;
         let told = !one_has(features.optional_deps(), name.as_str());
-        note(&mut notices, told, NoticeKind::Warn, text)?;
+        tell(&mut notices, told, NoticeKind::Warn, text)?;
     }
     Ok(notices)
 }
@@ -338,13 +334,13 @@ fn group_notes(
     features: &Features,
 ) -> Result<Vec<Notice>, AllocError>
     ensures { IfOk result (λ notices. map note_of notices.items
-        ≡ notes_on_groups (wishes args.now) (known pkg.now features.now)) }
+        ≡ notes_on_groups (wishes args.now) (known_of_package pkg.now features.now)) }
 {
     let mut notices = Vec::new(alloc);
     for group in &args.group_features {
         let text = group_text(alloc, group.as_group(), pkg.name.as_str())?;
         let told = !applies(args, pkg, features, group);
-        note(&mut notices, told, NoticeKind::Info, text)?;
+        tell(&mut notices, told, NoticeKind::Info, text)?;
     }
     Ok(notices)
 }
@@ -359,7 +355,7 @@ pub(crate) fn notes_on(
     single: bool,
 ) -> Result<Vec<Notice>, AllocError>
     ensures { IfOk result (λ notices. map note_of notices.items
-        ≡ candidate_notes single (wishes args.now) (known pkg.now features.now)) }
+        ≡ candidate_notes single (wishes args.now) (known_of_package pkg.now features.now)) }
 {
     if !args.each_feature && !args.feature_powerset {
         return Ok(Vec::new(alloc));

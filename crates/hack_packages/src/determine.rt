@@ -6,7 +6,7 @@ ghost use Rattle.hack_load.specs.Contexts.{IsWhole, package_at, features_at};
 ghost use Rattle.hack_load.specs.ContextView.{context_view};
 ghost use Rattle.hack_load.specs.declared.features.Features.{Features as Loaded};
 ghost use Rattle.hack_metadata.specs.Records.{PackageRecord};
-ghost use Rattle.hack_versions.specs.Notes.{note_of};
+ghost use Rattle.hack_base.specs.Notes.{note_of};
 ghost use Rattle.hack_packages.specs.MembersView.{member_view};
 ghost use Rattle.hack_packages.specs.Candidates.{candidate_notes};
 ghost use Rattle.hack_packages.specs.CandidatesView.{wishes};
@@ -20,9 +20,9 @@ use crate::fault::PackagesFault;
 use crate::kind::{PackageRuns, determine_runs};
 use crate::member::Member;
 use crate::packages::{PackageList, choose_packages};
+use hack_base::notice::Notice;
 use hack_load::context::Context;
 use hack_metadata::metadata::PackageId;
-use hack_versions::notice::Notice;
 use std::alloc::{AllocError, Global};
 
 /// A member of the workspace.

@@ -6,24 +6,24 @@ ghost use Rattle.std.specs.List.{slice_index_or};
 ghost use Rattle.hack_features.specs.Feature.{groups_of, candidates_of};
 ghost use Rattle.hack_features.specs.Forest.{sets_in};
 ghost use Rattle.hack_features.specs.Rules.{AreCovers};
-ghost use Rattle.hack_features.specs.Names.{names_of, shown};
+ghost use Rattle.hack_base.specs.Names.{names_of, names_behind};
 ghost use Rattle.hack_load.specs.declared.features.Features.{Features as Loaded};
 ghost use Rattle.hack_plan.specs.Runs.{run_of};
-ghost use Rattle.hack_versions.specs.Notes.{note_of};
+ghost use Rattle.hack_base.specs.Notes.{note_of};
 ghost use Rattle.hack_packages.specs.Candidates.{candidates as are_candidates, candidate_notes};
-ghost use Rattle.hack_packages.specs.CandidatesView.{wishes, known};
+ghost use Rattle.hack_packages.specs.CandidatesView.{wishes, known_of_package};
 ghost use Rattle.hack_packages.specs.Kinds.{AreSets, AreRuns, options_of};
 ghost use Rattle.hack_packages.specs.Kinds.{takes_all as all_taken, names_at};
 ghost use Rattle.hack_packages.specs.Kinds.{AreCovering, choice_of, IsDepthOne, as_each};
 ghost use Rattle.hack_packages.specs.KindsView.{IsKind, runs_of, candidates_in};
 
 use crate::candidates::{candidates, is_bare, notes_on};
-use crate::lifts::lifted;
+use crate::lifts::lifted_groups;
+use hack_base::notice::Notice;
 use hack_features::{Feature, FeatureSets, Rules};
 use hack_load::features::Features;
 use hack_metadata::metadata::{Package, PackageId};
 use hack_plan::runs::{Run, RunOptions, Runs};
-use hack_versions::notice::Notice;
 use hack_words::cli::Args;
 use std::alloc::{AllocError, Global};
 
@@ -87,7 +87,7 @@ impl Kind {
         alloc: Global,
         positions: &[usize],
     ) -> Result<Vec<&'a str>, AllocError>
-        ensures { IfOk result (λ names. shown names.items
+        ensures { IfOk result (λ names. names_behind names.items
             ≡ names_at (candidates_in self.now) positions.now) }
     {
         let candidates = self.candidates();
@@ -105,8 +105,8 @@ fn push_names<'a>(
     candidates: &'a [Feature],
     p: usize,
 ) -> Result<(), AllocError>
-    ensures { OnOk result (shown names.new.items
-        ≡ shown names.old.items ++ slice_index_or (groups_of candidates.now) p []) }
+    ensures { OnOk result (names_behind names.new.items
+        ≡ names_behind names.old.items ++ slice_index_or (groups_of candidates.now) p []) }
 {
     match candidates.get(p) {
         Some(feature) => push_all(names, feature.as_group()),
@@ -116,7 +116,8 @@ fn push_names<'a>(
 
 /// Puts the names behind others.
 fn push_all<'a>(names: &mut Vec<&'a str>, more: &'a [String]) -> Result<(), AllocError>
-    ensures { OnOk result (shown names.new.items ≡ shown names.old.items ++ names_of more.now) }
+    ensures { OnOk result (names_behind names.new.items ≡ names_behind names.old.items
+        ++ names_of more.now) }
 {
     for name in more {
         names.push(name.as_str())?;
@@ -162,15 +163,20 @@ fn listed_sets(
     candidates: &[Feature],
 ) -> Result<FeatureSets, AllocError>
     ensures sets { (features : Loaded)
-        → groups_of candidates.now ≡ are_candidates (wishes args.now) (known pkg.now features)
-        → IfOk result (λ sets. AreSets true (wishes args.now) (known pkg.now features) (sets_in
+        → groups_of candidates.now ≡ are_candidates (wishes args.now)
+        (known_of_package pkg.now features)
+        → IfOk result (λ sets. AreSets true (wishes args.now) (known_of_package pkg.now features)
+        (sets_in
         sets)) }
     ensures covers { (features : Loaded)
-        → groups_of candidates.now ≡ are_candidates (wishes args.now) (known pkg.now features)
-        → IfOk result (λ sets. AreCovers (choice_of (wishes args.now) (known pkg.now features))
-        (length (are_candidates (wishes args.now) (known pkg.now features))) (sets_in sets)) }
+        → groups_of candidates.now ≡ are_candidates (wishes args.now)
+        (known_of_package pkg.now features)
+        → IfOk result (λ sets. AreCovers (choice_of (wishes args.now)
+        (known_of_package pkg.now features))
+        (length (are_candidates (wishes args.now) (known_of_package pkg.now features)))
+        (sets_in sets)) }
 {
-    let lifted = lifted(alloc, args, pkg.name.as_str())?;
+    let lifted = lifted_groups(alloc, args, pkg.name.as_str())?;
     let all = all_of(alloc, candidates)?;
     let mut rules = Rules::new(
         alloc,
@@ -193,14 +199,18 @@ fn sets_of(
     candidates: &[Feature],
 ) -> Result<FeatureSets, AllocError>
     ensures sets { (features : Loaded)
-        → groups_of candidates.now ≡ are_candidates (wishes args.now) (known pkg.now features)
+        → groups_of candidates.now ≡ are_candidates (wishes args.now)
+        (known_of_package pkg.now features)
         → IfOk result (λ sets. AreSets args.now.feature_powerset (wishes args.now)
-        (known pkg.now features) (sets_in sets)) }
+        (known_of_package pkg.now features) (sets_in sets)) }
     ensures covers { (features : Loaded)
-        → groups_of candidates.now ≡ are_candidates (wishes args.now) (known pkg.now features)
+        → groups_of candidates.now ≡ are_candidates (wishes args.now)
+        (known_of_package pkg.now features)
         → args.now.feature_powerset ≡ true
-        → IfOk result (λ sets. AreCovers (choice_of (wishes args.now) (known pkg.now features))
-        (length (are_candidates (wishes args.now) (known pkg.now features))) (sets_in sets)) }
+        → IfOk result (λ sets. AreCovers (choice_of (wishes args.now)
+        (known_of_package pkg.now features))
+        (length (are_candidates (wishes args.now) (known_of_package pkg.now features)))
+        (sets_in sets)) }
 {
     if args.feature_powerset {
         listed_sets(alloc, args, pkg, candidates)
@@ -221,7 +231,7 @@ fn takes_all(args: &Args) -> bool
 
 /// What decides, beside its sets, which runs a package has.
 fn options(args: &Args, pkg: &Package, features: &Features) -> RunOptions
-    ensures { result ≡ options_of (wishes args.now) (known pkg.now features.now) }
+    ensures { result ≡ options_of (wishes args.now) (known_of_package pkg.now features.now) }
 {
     let _ = pkg;
     RunOptions {
@@ -243,9 +253,9 @@ fn kind_of(
     pkg: &Package,
     features: &Features,
 ) -> Result<Kind, AllocError>
-    ensures kind { IfOk result (IsKind (wishes args.now) (known pkg.now features.now)) }
+    ensures kind { IfOk result (IsKind (wishes args.now) (known_of_package pkg.now features.now)) }
     ensures covered { IfOk result (λ kind. args.now.feature_powerset ≡ true
-        → AreCovering (wishes args.now) (known pkg.now features.now) (runs_of kind)) }
+        → AreCovering (wishes args.now) (known_of_package pkg.now features.now) (runs_of kind)) }
 {
     if !args.each_feature && !args.feature_powerset {
         return Ok(Kind::Normal);
@@ -276,21 +286,22 @@ pub fn determine_runs(
 ) -> Result<(PackageRuns, Vec<Notice>), AllocError>
     ensures id { IfOk result (λ answer. answer.0.id ≡ id) }
     ensures kind { IfOk result (λ answer.
-        IsKind (wishes args.now) (known pkg.now features.now) answer.0.kind) }
+        IsKind (wishes args.now) (known_of_package pkg.now features.now) answer.0.kind) }
     ensures runs { IfOk result (λ answer.
-        AreRuns (wishes args.now) (known pkg.now features.now) (runs_of answer.0.kind)) }
+        AreRuns (wishes args.now) (known_of_package pkg.now features.now) (runs_of answer.0.kind)) }
 
     // Under a powerset each set of candidates that has to be covered has a run that covers it.
     ensures covered { IfOk result (λ answer. args.now.feature_powerset ≡ true
-        → AreCovering (wishes args.now) (known pkg.now features.now) (runs_of answer.0.kind)) }
+        → AreCovering (wishes args.now) (known_of_package pkg.now features.now)
+        (runs_of answer.0.kind)) }
 
     // For a package with optional dependencies sets of one candidate give the runs of each feature.
     ensures depth_one { IfOk result (λ answer. IsDepthOne (wishes args.now)
-        → 0 < length (known pkg.now features.now).optional
-        → AreRuns (as_each (wishes args.now)) (known pkg.now features.now) (runs_of
+        → 0 < length (known_of_package pkg.now features.now).optional
+        → AreRuns (as_each (wishes args.now)) (known_of_package pkg.now features.now) (runs_of
         answer.0.kind)) }
     ensures notices { IfOk result (λ answer. map note_of answer.1.items
-        ≡ candidate_notes single (wishes args.now) (known pkg.now features.now)) }
+        ≡ candidate_notes single (wishes args.now) (known_of_package pkg.now features.now)) }
 {
     let notices = notes_on(alloc, args, pkg, features, single)?;
     let kind = kind_of(alloc, args, pkg, features)?;

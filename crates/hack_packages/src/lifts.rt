@@ -41,7 +41,7 @@ fn is_lifted(args: &Args, name: &str, group: &Feature) -> bool
 }
 
 /// Whether each exclusion group is lifted for the package of that name.
-pub(crate) fn lifted(alloc: Global, args: &Args, name: &str) -> Result<Vec<bool>, AllocError>
+pub(crate) fn lifted_groups(alloc: Global, args: &Args, name: &str) -> Result<Vec<bool>, AllocError>
     ensures { IfOk result (λ lifted. lifted.items ≡ lifted_for (wishes args.now) name.now) }
 {
     let mut lifted = Vec::new(alloc);

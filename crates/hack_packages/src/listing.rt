@@ -2,21 +2,21 @@
 
 ghost use Rattle.std.specs.Prelude.{◌≡◌, ◌⊎◌, ◌↔◌, ◌++◌, ◌&&◌, IfOk};
 ghost use Rattle.std.specs.Prelude.{IfErr, OnOk, IsTrue, map, filter, not, string_bytes};
-ghost use Rattle.hack_features.specs.Names.{names_of};
-ghost use Rattle.hack_versions.specs.Notes.{note_of};
+ghost use Rattle.hack_base.specs.Names.{names_of};
+ghost use Rattle.hack_base.specs.Notes.{note_of};
 ghost use Rattle.hack_packages.specs.Texts.{exclusion_text, lift_text as lift_words, private_text};
 ghost use Rattle.hack_packages.specs.Members.{MatchesSome, AllMatch, Keeps, Collects};
-ghost use Rattle.hack_packages.specs.Members.{is_called as has_called, warning, info};
+ghost use Rattle.hack_packages.specs.Members.{is_called as has_called, warning_note, info_note};
 ghost use Rattle.hack_packages.specs.Members.{first_called as first_of};
 ghost use Rattle.hack_packages.specs.MembersView.{member_view};
 ghost use Rattle.hack_packages.specs.ListingView.{IsMatchedAs, IsNamedFault, kept_place};
 
 use crate::fault::PackagesFault;
 use crate::member::{Member, is_called, is_matched, matches_some};
-use crate::notes::{exclusion_text, lift_text, note, private_text};
+use crate::notes::{exclusion_text, lift_text, private_text};
+use hack_base::notice::{Notice, NoticeKind, tell};
 use hack_features::Feature;
 use hack_metadata::metadata::PackageId;
-use hack_versions::notice::{Notice, NoticeKind};
 use std::alloc::{AllocError, Global};
 
 /// Each specification matches a member.
@@ -45,7 +45,7 @@ fn is_picked(member: &Member<'_>, specs: &[String], matched: bool) -> bool
 }
 
 /// The members that one of the specifications matches, or those that none matches.
-pub(crate) fn picked<'a>(
+pub(crate) fn matched_members<'a>(
     alloc: Global,
     members: &[Member<'a>],
     specs: &[String],
@@ -92,7 +92,7 @@ pub(crate) fn exclusion_notes(
 ) -> Result<Vec<Notice>, AllocError>
     ensures { IfOk result (λ notices. Collects (λ spec. ¬ MatchesSome (map member_view
         members.now) spec)
-        (λ spec. warning (exclusion_text root.now spec))
+        (λ spec. warning_note (exclusion_text root.now spec))
         (names_of exclude.now) (map note_of notices.items)) }
 {
     let mut notices = Vec::new(alloc);
@@ -117,7 +117,7 @@ pub(crate) fn lift_notes(
     root: &str,
 ) -> Result<Vec<Notice>, AllocError>
     ensures { IfOk result (λ notices. map note_of notices.items
-        ≡ map (λ owner. warning (lift_words root.now owner))
+        ≡ map (λ owner. warning_note (lift_words root.now owner))
         (filter (λ owner. not (has_called (map member_view members.now) owner))
         (map (λ lift. string_bytes lift.0) lifts.now))) }
 {
@@ -126,7 +126,7 @@ pub(crate) fn lift_notes(
         let owner = lift.0.as_str();
         let text = lift_text(alloc, owner, root)?;
         let told = !is_called(members, owner);
-        note(&mut notices, told, NoticeKind::Warn, text)?;
+        tell(&mut notices, told, NoticeKind::Warn, text)?;
     }
     Ok(notices)
 }
@@ -146,14 +146,14 @@ pub(crate) fn skip_notes(
     verbose: bool,
 ) -> Result<Vec<Notice>, AllocError>
     ensures { IfOk result (λ notices. map note_of notices.items
-        ≡ map (λ m. info (private_text verbose m.pkg))
+        ≡ map (λ m. info_note (private_text verbose m.pkg))
         (filter (λ m. ignored && m.is_private) (map member_view members.now))) }
 {
     let mut notices = Vec::new(alloc);
     for member in members {
         let text = private_text(alloc, member.pkg, verbose)?;
         let told = is_skipped(member, ignored);
-        note(&mut notices, told, NoticeKind::Info, text)?;
+        tell(&mut notices, told, NoticeKind::Info, text)?;
     }
     Ok(notices)
 }

@@ -1,35 +1,16 @@
 //! What the user is told of packages and of their features.
 
-ghost use Rattle.std.specs.Prelude.{◌≡◌, ◌++◌, IfOk, OnOk, map, string_bytes, if◌then◌else◌, []};
+ghost use Rattle.std.specs.Prelude.{◌≡◌, IfOk, string_bytes, if◌then◌else◌, []};
 ghost use Rattle.std.specs.List.{join_with_byte};
-ghost use Rattle.hack_features.specs.Names.{names_of};
-ghost use Rattle.hack_versions.specs.Notes.{note_of};
-ghost use Rattle.hack_words.specs.Call.{note_if};
+ghost use Rattle.hack_base.specs.Names.{names_of};
 ghost use Rattle.hack_packages.specs.Texts.{exclusion_text, lift_text};
 ghost use Rattle.hack_packages.specs.Texts.{feature_text, dependency_text};
 ghost use Rattle.hack_packages.specs.Texts.{group_text, private_text, verbose_text, name_verbose};
 ghost use Rattle.hack_metadata.specs.View.{package_view};
 
+use hack_base::paths::parent;
 use hack_metadata::metadata::Package;
-use hack_process::paths::parent;
-use hack_versions::notice::{Notice, NoticeKind};
 use std::alloc::{AllocError, Global};
-
-/// Puts a notice behind the others, where it is to be told.
-pub(crate) fn note(
-    notices: &mut Vec<Notice>,
-    told: bool,
-    kind: NoticeKind,
-    text: String,
-) -> Result<(), AllocError>
-    ensures { OnOk result (map note_of notices.new.items
-        ≡ map note_of notices.old.items ++ note_if told kind (string_bytes text)) }
-{
-    if told {
-        notices.push(Notice { kind, text })?;
-    }
-    Ok(())
-}
 
 /// An excluded package that no member is.
 pub(crate) fn exclusion_text(alloc: Global, spec: &str, root: &str) -> Result<String, AllocError>
@@ -60,7 +41,7 @@ pub(crate) fn dependency_text(alloc: Global, name: &str, pkg: &str) -> Result<St
 }
 
 /// The names, joined by commas.
-fn joined(alloc: Global, names: &[String]) -> Result<String, AllocError>
+fn join_names(alloc: Global, names: &[String]) -> Result<String, AllocError>
     ensures { IfOk result (λ text. string_bytes text ≡ join_with_byte 44 (names_of names.now)) }
 {
     let mut text = String::new(alloc);
@@ -77,7 +58,7 @@ fn joined(alloc: Global, names: &[String]) -> Result<String, AllocError>
 pub(crate) fn group_text(alloc: Global, names: &[String], pkg: &str) -> Result<String, AllocError>
     ensures { IfOk result (λ text. string_bytes text ≡ group_text pkg.now (names_of names.now)) }
 {
-    let joined = joined(alloc, names)?;
+    let joined = join_names(alloc, names)?;
     format!(in alloc; "skipped applying group `{joined}` to {pkg}")
 }
 

@@ -2,20 +2,21 @@
 
 ghost use Rattle.std.specs.Prelude.{◌≡◌, ◌==◌, ◌⊎◌, IfOk, IfErr, Option, length, map};
 ghost use Rattle.std.specs.Prelude.{option_copied};
-ghost use Rattle.hack_features.specs.Names.{Name, names_of};
-ghost use Rattle.hack_versions.specs.Notes.{note_of};
+ghost use Rattle.hack_base.specs.Names.{Name, names_of};
+ghost use Rattle.hack_base.specs.Notes.{note_of};
 ghost use Rattle.hack_packages.specs.Members.{IsPackageList, IsAbout};
-ghost use Rattle.hack_packages.specs.Members.{names_some as some_named, unnamed as all_unnamed};
-ghost use Rattle.hack_packages.specs.MembersView.{member_view, choosing};
+ghost use Rattle.hack_packages.specs.Members.{names_some as some_named};
+ghost use Rattle.hack_packages.specs.Members.{members_without_names as all_unnamed};
+ghost use Rattle.hack_packages.specs.MembersView.{member_view, choosing_of};
 ghost use Rattle.hack_packages.specs.PackagesView.{IsListFault};
 
 use crate::fault::PackagesFault;
 use crate::listing::{
-    check_named, exclusion_notes, first_called, kept_ids, lift_notes, picked, skip_notes,
+    check_named, exclusion_notes, first_called, kept_ids, lift_notes, matched_members, skip_notes,
 };
 use crate::member::Member;
+use hack_base::notice::Notice;
 use hack_metadata::metadata::PackageId;
-use hack_versions::notice::Notice;
 use hack_words::cli::Args;
 use std::alloc::{AllocError, Global};
 
@@ -37,13 +38,13 @@ fn is_bare(specs: &[String]) -> bool
 
 /// Whether the call names packages, and not the whole workspace.
 fn names_some(args: &Args) -> bool
-    ensures { (current : Option Name) → result ≡ some_named (choosing args.now current) }
+    ensures { (current : Option Name) → result ≡ some_named (choosing_of args.now current) }
 {
     !args.workspace && !is_bare(&args.package)
 }
 
 /// The members that a call without names of packages is about.
-fn unnamed<'a>(
+fn members_without_names<'a>(
     alloc: Global,
     everyone: bool,
     members: &[Member<'a>],
@@ -66,24 +67,24 @@ fn about<'a>(
     members: &[Member<'a>],
     current: Option<&str>,
 ) -> Result<Vec<Member<'a>>, PackagesFault>
-    ensures ok { IfOk result (λ about. IsAbout (some_named (choosing args.now (option_copied
+    ensures ok { IfOk result (λ about. IsAbout (some_named (choosing_of args.now (option_copied
         current.entry)))
-        (choosing args.now (option_copied current.entry)) (map member_view members.now)
+        (choosing_of args.now (option_copied current.entry)) (map member_view members.now)
         (map member_view about.items)) }
     ensures never { IfOk result (λ _. (e : PackagesFault)
-        → ¬ IsListFault (choosing args.now (option_copied current.entry)) (map member_view
+        → ¬ IsListFault (choosing_of args.now (option_copied current.entry)) (map member_view
         members.now) e) }
     ensures err { IfErr result (λ e. (e ≡ PackagesFault.Memory)
-        ⊎ IsListFault (choosing args.now (option_copied current.entry))
+        ⊎ IsListFault (choosing_of args.now (option_copied current.entry))
         (map member_view members.now) e) }
 {
     if !names_some(args) {
-        return Ok(unnamed(alloc, args.workspace, members, current)?);
+        return Ok(members_without_names(alloc, args.workspace, members, current)?);
     }
     if let Err(fault) = check_named(members, &args.package) {
         return Err(fault);
     }
-    Ok(picked(alloc, members, &args.package, true)?)
+    Ok(matched_members(alloc, members, &args.package, true)?)
 }
 
 /// Whether there is one member.
@@ -103,22 +104,22 @@ pub fn choose_packages(
     current: Option<&str>,
     root: &str,
 ) -> Result<(PackageList, Vec<Notice>), PackagesFault>
-    ensures ok { IfOk result (λ answer. IsPackageList (choosing args.now (option_copied
+    ensures ok { IfOk result (λ answer. IsPackageList (choosing_of args.now (option_copied
         current.entry)) root.now
         (map member_view members.now) (map (λ id. id.index) answer.0.ids.items) answer.0.is_single
         (map note_of answer.1.items)) }
     ensures never { IfOk result (λ _. (e : PackagesFault)
-        → ¬ IsListFault (choosing args.now (option_copied current.entry)) (map member_view
+        → ¬ IsListFault (choosing_of args.now (option_copied current.entry)) (map member_view
         members.now) e) }
     ensures err { IfErr result (λ e. (e ≡ PackagesFault.Memory)
-        ⊎ IsListFault (choosing args.now (option_copied current.entry))
+        ⊎ IsListFault (choosing_of args.now (option_copied current.entry))
         (map member_view members.now) e) }
 {
     let about = match about(alloc, args, members, current) {
         Ok(about) => about,
         Err(fault) => return Err(fault),
     };
-    let left = picked(alloc, &about, &args.exclude, false)?;
+    let left = matched_members(alloc, &about, &args.exclude, false)?;
     let mut notices = exclusion_notes(alloc, members, &args.exclude, root)?;
     let mut lifts = lift_notes(alloc, members, &args.allow_together, root)?;
     let mut skips = skip_notes(alloc, &left, args.ignore_private, args.verbose)?;

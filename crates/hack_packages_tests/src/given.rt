@@ -1,11 +1,11 @@
 //! Workspaces and calls from short texts.
 
+use hack_base::notice::{Notice, NoticeKind};
 use hack_load::context::{Answers, Context, Loaded, Located};
 use hack_load::features::Features;
 use hack_manifest::manifest::Manifest;
 use hack_metadata::metadata::{Metadata, object_of};
 use hack_packages::member::Member;
-use hack_versions::notice::{Notice, NoticeKind};
 use hack_versions::rustup::Rustup;
 use hack_words::cli::{Args, CliFault, Env, Parsed};
 use std::alloc::{AllocError, Global};

@@ -7,7 +7,7 @@ use Rattle.hack_versions.specs.declared.rustup.RangeFault.{RangeFault}
 use Rattle.hack_versions.specs.declared.rustup.RangeFault.TheVariants.{SingleMsrv}
 use Rattle.hack_versions.specs.RangeSteps.{AreStepsOf, IsRangeFault, range_notes}
 use Rattle.hack_versions.specs.Uses.{own_of, UsesAt, AreGroups, IsGroupFault, AreSkipNotes}
-use Rattle.hack_versions.specs.Notes.{Note}
+use Rattle.hack_base.specs.Notes.{Note}
 use Rattle.hack_plan.specs.declared.versions.Scene.{Scene}
 use Rattle.hack_plan.specs.declared.versions.Versions.{Versions}
 

@@ -5,12 +5,12 @@ ghost use Rattle.std.specs.Prelude.{◌≡◌, ◌≢◌, ◌⊎◌, ◌↔◌, 
 ghost use Rattle.std.specs.Prelude.{Contains, map};
 ghost use Rattle.hack_versions.specs.RangeSteps.{NeedsStable};
 ghost use Rattle.hack_versions.specs.Uses.{own_of};
-ghost use Rattle.hack_versions.specs.Notes.{note_of};
+ghost use Rattle.hack_base.specs.Notes.{note_of};
 ghost use Rattle.hack_plan.specs.Scenes.{given_of, HaveTwo, AreVersions, AreNotices};
 ghost use Rattle.hack_plan.specs.Scenes.{IsVersionsFault};
 ghost use Rattle.hack_versions.specs.declared.group.PackageVersion.{PackageVersion as Member};
 
-use hack_versions::notice::Notice;
+use hack_base::notice::Notice;
 use hack_versions::rustup::{
     PackageVersion, RangeFault, VersionGroup, group_by_version, version_range,
 };

@@ -9,10 +9,10 @@ use Rattle.hack_features.specs.declared.rules.Rules.{Rules}
 use Rattle.hack_features.specs.Sets.{IsSelection, IsBefore, Pairwise}
 use Rattle.hack_features.specs.Questions.{is_whole}
 use Rattle.hack_features.specs.View.{may_of, size_of, whole_of}
-use Rattle.hack_features.proofs.Members.{Contains-head, Contains-tail, Contains-cons_cases}
+use Rattle.hack_base.proofs.Members.{Contains-head, Contains-tail, Contains-cons_cases}
 use Rattle.hack_features.specs.Walk.{below}
-use Rattle.hack_plan.specs.Runs.{Set, turned}
-use Rattle.hack_features.specs.Names.{Name}
+use Rattle.hack_plan.specs.Runs.{Set, with_last_first}
+use Rattle.hack_base.specs.Names.{Name}
 use Rattle.hack_powerset_list.specs.Lines.{run_line}
 use Rattle.hack_powerset_list.specs.Walks.{EndsIn, is_other, listed_in, set_lines}
 use Rattle.hack_powerset_list.proofs.WalkListing.{walk_sets}
@@ -74,15 +74,15 @@ last_first-are front last =
     ∙ ap (λ l. last ∷ l) (take-append_seam front (last ∷ []))
 
 module _ (names : List Name) (sets front : List (List ℕ)) (last : List ℕ) (is : sets ≡ front ++ last ∷ []) where
-  pub first-text : (b : Bool) → b ≡ true → set_lines names (turned b sets) ≡ run_line names (Set last) ++ set_lines names front
+  pub first-text : (b : Bool) → b ≡ true → set_lines names (with_last_first b sets) ≡ run_line names (Set last) ++ set_lines names front
   first-text b e =
-      ap (λ t. set_lines names (turned t sets)) e
+      ap (λ t. set_lines names (with_last_first t sets)) e
       ∙ ap (λ l. set_lines names (drop (length l - 1) l ++ take (length l - 1) l)) is
       ∙ ap (set_lines names) (last_first-are front last)
 
-  pub behind-text : (b : Bool) → b ≡ false → set_lines names (turned b sets) ≡ set_lines names front ++ run_line names (Set last)
+  pub behind-text : (b : Bool) → b ≡ false → set_lines names (with_last_first b sets) ≡ set_lines names front ++ run_line names (Set last)
   behind-text b e =
-      ap (λ t. set_lines names (turned t sets)) e
+      ap (λ t. set_lines names (with_last_first t sets)) e
       ∙ ap (set_lines names) is
       ∙ flat_map-append (λ s. run_line names (Set s)) front (last ∷ [])
       ∙ ap (λ l. set_lines names front ++ l) (append-nil (run_line names (Set last)))

@@ -4,28 +4,28 @@ use Rattle.std.specs.Prelude.{slice_get}
 use Rattle.std.specs.List.{filter_map}
 use Rattle.std.proofs.lemmas.List.{take_more, map-append, length-map, get_or-map}
 use Rattle.std.proofs.lemmas.List.Elements.{filter_map-append}
-use Rattle.hack_features.specs.Names.{Name, names_of}
+use Rattle.hack_base.specs.Names.{Name, names_of}
 use Rattle.hack_features.specs.declared.feature.Feature.{Feature}
 use Rattle.hack_features.specs.Feature.{name_of}
-use Rattle.hack_features.specs.Sets.{chosen}
-use Rattle.hack_features.proofs.Steps.{filter_map-found, filter_map-missed, seen-next}
+use Rattle.hack_features.specs.Sets.{items_at}
+use Rattle.hack_base.proofs.Steps.{filter_map-found, filter_map-missed, seen-next}
 
 module _ (names : List Name) (before xs : List ℕ) (i : ℕ) (lt : i < length xs) where
-  more : chosen names (before ++ take (i + 1) xs) ≡ chosen names (before ++ take i xs) ++ filter_map (slice_get names) (get_or xs i 0 ∷ [])
+  more : items_at names (before ++ take (i + 1) xs) ≡ items_at names (before ++ take i xs) ++ filter_map (slice_get names) (get_or xs i 0 ∷ [])
   more =
-      ap (λ l. chosen names (before ++ l)) (take_more xs i 0 lt)
-      ∙ ap (chosen names) (sym (append_assoc before (take i xs) (get_or xs i 0 ∷ [])))
+      ap (λ l. items_at names (before ++ l)) (take_more xs i 0 lt)
+      ∙ ap (items_at names) (sym (append_assoc before (take i xs) (get_or xs i 0 ∷ [])))
       ∙ filter_map-append (slice_get names) (before ++ take i xs) (get_or xs i 0 ∷ [])
 
   -- the names of one position more, where a candidate stands there
-  pub chosen-found : (name : Name) → slice_get names (get_or xs i 0) ≡ Some name → chosen names (before ++ take i xs) ++ name ∷ [] ≡ chosen names (before ++ take (i + 1) xs)
-  chosen-found name found = sym (more ∙ ap (λ l. chosen names (before ++ take i xs) ++ l) (filter_map-found (slice_get names) (get_or xs i 0) name found))
+  pub chosen-found : (name : Name) → slice_get names (get_or xs i 0) ≡ Some name → items_at names (before ++ take i xs) ++ name ∷ [] ≡ items_at names (before ++ take (i + 1) xs)
+  chosen-found name found = sym (more ∙ ap (λ l. items_at names (before ++ take i xs) ++ l) (filter_map-found (slice_get names) (get_or xs i 0) name found))
 
   -- and where none does
-  pub chosen-missed : slice_get names (get_or xs i 0) ≡ None → chosen names (before ++ take i xs) ≡ chosen names (before ++ take (i + 1) xs)
+  pub chosen-missed : slice_get names (get_or xs i 0) ≡ None → items_at names (before ++ take i xs) ≡ items_at names (before ++ take (i + 1) xs)
   chosen-missed none =
-      sym (more ∙ ap (λ l. chosen names (before ++ take i xs) ++ l) (filter_map-missed (slice_get names) (get_or xs i 0) none)
-      ∙ append-nil (chosen names (before ++ take i xs)))
+      sym (more ∙ ap (λ l. items_at names (before ++ take i xs) ++ l) (filter_map-missed (slice_get names) (get_or xs i 0) none)
+      ∙ append-nil (items_at names (before ++ take i xs)))
 
 -- the name of one feature more, seen in a text of it
 pub names-next : (f : Name → Name) (fs : List Feature) (k : ℕ) (feature : Feature) (texts new : List (String Global)) (text : String Global) → k < length fs → feature ≡ get_or fs k feature

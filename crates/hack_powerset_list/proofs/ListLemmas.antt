@@ -2,12 +2,12 @@
 use Rattle.std.proofs.Common.{Option, inr, if◌then◌else◌, ◌≡◌, ◌∙◌, ℕ, List, [], ◌∷◌, true, false, length, map, nat_lt, refl, sym, ap, subst}
 use Rattle.std.specs.declared.io.ErrorKind.{ErrorKind}
 use Rattle.std.proofs.lemmas.List.{length-map}
-use Rattle.hack_features.specs.Names.{Name}
+use Rattle.hack_base.specs.Names.{Name}
 use Rattle.hack_features.specs.declared.feature.Feature.{Feature}
 use Rattle.hack_features.specs.Feature.{name_of, group_of, groups_of}
 use Rattle.hack_features.specs.FeatureMap.{FeatureMap}
 use Rattle.hack_features.specs.Sets.{IsListing}
-use Rattle.hack_features.specs.Rules.{Choice, IsListed, unlifted}
+use Rattle.hack_features.specs.Rules.{Choice, IsListed, unlifted_groups}
 use Rattle.hack_plan.specs.declared.runs.RunOptions.{RunOptions}
 use Rattle.hack_powerset_list.specs.declared.wishes.Wishes.{Wishes}
 use Rattle.hack_plan.specs.Runs.{PackageRun, runs_from}
@@ -20,7 +20,7 @@ use Rattle.hack_powerset_list.specs.ListRuns.{chosen_from, options_from, AreList
 use Rattle.hack_powerset_list.specs.CommandList.{choice_for, options_for, IsCommandList, IsInput, IsListFor, WritesFront, RefusesList}
 
 -- where no group is lifted, all stay
-pub unlifted-none : (groups : List (List Name)) → unlifted groups [] ≡ groups
+pub unlifted-none : (groups : List (List Name)) → unlifted_groups groups [] ≡ groups
 unlifted-none [] = refl
 unlifted-none (group ∷ groups) = ap (λ l. group ∷ l) (unlifted-none groups)
 

@@ -3,7 +3,7 @@ use Rattle.std.proofs.Common.{◌≡◌, ℕ, zero, suc, ◌+◌, ◌<◌, ◌�
 use Rattle.std.specs.Prelude.{Vec, if◌then◌else◌, is_some, MatchOption}
 use Rattle.std.proofs.lemmas.List.Elements.{filter-append}
 use Rattle.std.proofs.lemmas.Grind.{flat_map-append}
-use Rattle.hack_features.specs.Names.{Name}
+use Rattle.hack_base.specs.Names.{Name}
 use Rattle.hack_features.proofs.Listing.{below_or_same}
 use Rattle.hack_plan.specs.Runs.{Set}
 use Rattle.hack_powerset_list.specs.Lines.{run_line}

@@ -5,8 +5,8 @@ use Rattle.std.specs.Io.KnownBytes.{Appends}
 use Rattle.std.proofs.KnownBytes.{Appends-nil, Appends-trans}
 use Rattle.std.proofs.lemmas.Grind.{flat_map-append}
 use Rattle.std.proofs.lemmas.List.{take_more, flat_map_more}
-use Rattle.hack_term.specs.Writes.{AppendsFront}
-use Rattle.hack_term.proofs.WriteLemmas.{AppendsFront-then, AppendsFront-append}
+use Rattle.hack_base.specs.Writes.{AppendsFront}
+use Rattle.hack_base.proofs.WriteLemmas.{AppendsFront-then, AppendsFront-append}
 use Rattle.hack_powerset_list.specs.LineWords.{Prints}
 
 -- nothing is printed

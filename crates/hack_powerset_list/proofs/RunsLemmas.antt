@@ -3,11 +3,11 @@ use Rattle.std.proofs.Common.{◌≡◌, ℕ, zero, suc, List, [], ◌∷◌, �
 use Rattle.std.specs.Prelude.{not, ◌&&◌, ◌||◌, ◌==◌}
 use Rattle.std.proofs.lemmas.Bool.{lt-ltb}
 use Rattle.std.proofs.lemmas.Grind.{flat_map-append}
-use Rattle.hack_features.specs.Names.{Name}
+use Rattle.hack_base.specs.Names.{Name}
 use Rattle.hack_features.specs.declared.feature.Feature.{Feature}
 use Rattle.hack_features.proofs.Permitted.{nonzero}
 use Rattle.hack_plan.specs.declared.runs.RunOptions.{RunOptions}
-use Rattle.hack_plan.specs.Runs.{Plain, AllFeatures, NoDefaultFeatures, Set, kept, keeps_all, is_plain, in_turn, turned, last_first, allows_two, runs_from}
+use Rattle.hack_plan.specs.Runs.{Plain, AllFeatures, NoDefaultFeatures, Set, run_if, keeps_all, is_plain, in_turn, with_last_first, last_first, allows_two, runs_from}
 use Rattle.hack_powerset_list.specs.declared.wishes.Wishes.{Wishes}
 use Rattle.hack_powerset_list.specs.ListRuns.{options_from}
 use Rattle.hack_powerset_list.specs.Lines.{run_line, run_lines}
@@ -29,7 +29,7 @@ map-lines : (names : List Name) (sets : List (List ℕ)) → run_lines names (ma
 map-lines names [] = refl
 map-lines names (s ∷ sets) = ap (λ l. run_line names (Set s) ++ l) (map-lines names sets)
 
-turned-none : (b : Bool) → turned {X = List ℕ} b [] ≡ []
+turned-none : (b : Bool) → with_last_first {X = List ℕ} b [] ≡ []
 turned-none true = refl
 turned-none false = refl
 
@@ -38,14 +38,14 @@ module _ (w : Wishes) (fs : List Feature) where
   no-all = and-false (not (nat_lt 0 (length w.mutually_exclusive.items)))
 
   -- where no set is listed
-  pub runs-none : runs_from (options_from w fs) [] ≡ (if length fs == 0 then Plain ∷ [] else kept (length w.at_least_one_of.items == 0) NoDefaultFeatures)
+  pub runs-none : runs_from (options_from w fs) [] ≡ (if length fs == 0 then Plain ∷ [] else run_if (length w.at_least_one_of.items == 0) NoDefaultFeatures)
   runs-none =
       let o : RunOptions = options_from w fs in
-      ap (λ b. if b then Plain ∷ [] else kept (keeps_all o) AllFeatures ++ kept (not o.exclude_no_default_features) NoDefaultFeatures ++ map Set (in_turn o [])) (alone (length fs == 0))
-      ∙ ap (λ b. if length fs == 0 then Plain ∷ [] else kept b AllFeatures ++ kept (not o.exclude_no_default_features) NoDefaultFeatures ++ map Set (in_turn o [])) no-all
-      ∙ ap (λ b. if length fs == 0 then Plain ∷ [] else kept b NoDefaultFeatures ++ map Set (in_turn o [])) (is-empty (length w.at_least_one_of.items))
-      ∙ ap (λ (l : List (List ℕ)). if length fs == 0 then Plain ∷ [] else kept (length w.at_least_one_of.items == 0) NoDefaultFeatures ++ map Set l) (turned-none (o.powerset && not (keeps_all o) && nat_lt 1 0 && allows_two o.depth))
-      ∙ ap (λ l. if length fs == 0 then Plain ∷ [] else l) (append-nil (kept (length w.at_least_one_of.items == 0) NoDefaultFeatures))
+      ap (λ b. if b then Plain ∷ [] else run_if (keeps_all o) AllFeatures ++ run_if (not o.exclude_no_default_features) NoDefaultFeatures ++ map Set (in_turn o [])) (alone (length fs == 0))
+      ∙ ap (λ b. if length fs == 0 then Plain ∷ [] else run_if b AllFeatures ++ run_if (not o.exclude_no_default_features) NoDefaultFeatures ++ map Set (in_turn o [])) no-all
+      ∙ ap (λ b. if length fs == 0 then Plain ∷ [] else run_if b NoDefaultFeatures ++ map Set (in_turn o [])) (is-empty (length w.at_least_one_of.items))
+      ∙ ap (λ (l : List (List ℕ)). if length fs == 0 then Plain ∷ [] else run_if (length w.at_least_one_of.items == 0) NoDefaultFeatures ++ map Set l) (turned-none (o.powerset && not (keeps_all o) && nat_lt 1 0 && allows_two o.depth))
+      ∙ ap (λ l. if length fs == 0 then Plain ∷ [] else l) (append-nil (run_if (length w.at_least_one_of.items == 0) NoDefaultFeatures))
 
   module _ (sets front : List (List ℕ)) (last : List ℕ) (is : sets ≡ front ++ last ∷ []) where
     some : (n : ℕ) × (length sets ≡ suc n)
@@ -54,28 +54,28 @@ module _ (w : Wishes) (fs : List Feature) where
     not-plain : is_plain (options_from w fs) sets ≡ false
     not-plain = ap (λ n. (n == 0) && ((length fs == 0) && (0 == 0) || false)) some.1 ∙ ap (λ b. b && ((length fs == 0) && (0 == 0) || false)) (nonzero some.0)
 
-    single : (b : Bool) (xs : List (List ℕ)) (x : List ℕ) → xs ≡ x ∷ [] → turned b xs ≡ xs
+    single : (b : Bool) (xs : List (List ℕ)) (x : List ℕ) → xs ≡ x ∷ [] → with_last_first b xs ≡ xs
     single true xs x e = ap last_first e ∙ sym e
     single false xs x e = refl
 
-    turns : (b : Bool) (more : List (List ℕ)) → front ≡ more → turned (nat_lt 1 (length sets) && b) sets ≡ turned b sets
+    turns : (b : Bool) (more : List (List ℕ)) → front ≡ more → with_last_first (nat_lt 1 (length sets) && b) sets ≡ with_last_first b sets
     turns b [] e = single (nat_lt 1 (length sets) && b) sets last (is ∙ ap (λ l. l ++ last ∷ []) e) ∙ sym (single b sets last (is ∙ ap (λ l. l ++ last ∷ []) e))
     turns b (x ∷ more) e =
         let len : length sets ≡ length (front ++ last ∷ []) = ap length is in
         let long : length front ≡ suc (length more) = ap length e in
-        ap (λ c. turned (c && b) sets) (lt-ltb 1 (length sets) (omega (arith, len, length-append front (last ∷ []), long)))
+        ap (λ c. with_last_first (c && b) sets) (lt-ltb 1 (length sets) (omega (arith, len, length-append front (last ∷ []), long)))
 
-    in-turn : in_turn (options_from w fs) sets ≡ turned (allows_two w.depth) sets
-    in-turn = ap (λ b. turned (not b && nat_lt 1 (length sets) && allows_two w.depth) sets) no-all ∙ turns (allows_two w.depth) front refl
+    in-turn : in_turn (options_from w fs) sets ≡ with_last_first (allows_two w.depth) sets
+    in-turn = ap (λ b. with_last_first (not b && nat_lt 1 (length sets) && allows_two w.depth) sets) no-all ∙ turns (allows_two w.depth) front refl
 
     -- where some are
     pub runs-some : (names : List Name) → run_lines names (runs_from (options_from w fs) sets)
-        ≡ run_lines names (kept (length w.at_least_one_of.items == 0) NoDefaultFeatures) ++ set_lines names (turned (allows_two w.depth) sets)
+        ≡ run_lines names (run_if (length w.at_least_one_of.items == 0) NoDefaultFeatures) ++ set_lines names (with_last_first (allows_two w.depth) sets)
     runs-some names =
         let o : RunOptions = options_from w fs in
-        ap (λ b. run_lines names (if b then Plain ∷ [] else kept (keeps_all o) AllFeatures ++ kept (not o.exclude_no_default_features) NoDefaultFeatures ++ map Set (in_turn o sets))) not-plain
-        ∙ ap (λ b. run_lines names (kept b AllFeatures ++ kept (not o.exclude_no_default_features) NoDefaultFeatures ++ map Set (in_turn o sets))) no-all
-        ∙ ap (λ b. run_lines names (kept b NoDefaultFeatures ++ map Set (in_turn o sets))) (is-empty (length w.at_least_one_of.items))
-        ∙ ap (λ l. run_lines names (kept (length w.at_least_one_of.items == 0) NoDefaultFeatures ++ map Set l)) in-turn
-        ∙ flat_map-append (run_line names) (kept (length w.at_least_one_of.items == 0) NoDefaultFeatures) (map Set (turned (allows_two w.depth) sets))
-        ∙ ap (λ l. run_lines names (kept (length w.at_least_one_of.items == 0) NoDefaultFeatures) ++ l) (map-lines names (turned (allows_two w.depth) sets))
+        ap (λ b. run_lines names (if b then Plain ∷ [] else run_if (keeps_all o) AllFeatures ++ run_if (not o.exclude_no_default_features) NoDefaultFeatures ++ map Set (in_turn o sets))) not-plain
+        ∙ ap (λ b. run_lines names (run_if b AllFeatures ++ run_if (not o.exclude_no_default_features) NoDefaultFeatures ++ map Set (in_turn o sets))) no-all
+        ∙ ap (λ b. run_lines names (run_if b NoDefaultFeatures ++ map Set (in_turn o sets))) (is-empty (length w.at_least_one_of.items))
+        ∙ ap (λ l. run_lines names (run_if (length w.at_least_one_of.items == 0) NoDefaultFeatures ++ map Set l)) in-turn
+        ∙ flat_map-append (run_line names) (run_if (length w.at_least_one_of.items == 0) NoDefaultFeatures) (map Set (with_last_first (allows_two w.depth) sets))
+        ∙ ap (λ l. run_lines names (run_if (length w.at_least_one_of.items == 0) NoDefaultFeatures) ++ l) (map-lines names (with_last_first (allows_two w.depth) sets))

@@ -4,17 +4,17 @@ use Rattle.std.specs.List.{join_with_byte, cons_option}
 use Rattle.std.proofs.lemmas.List.{get_or-map, length-map, take_more}
 use Rattle.std.proofs.lemmas.Grind.{flat_map-append}
 use Rattle.std.proofs.lemmas.List.Elements.{All-cons}
-use Rattle.hack_features.specs.Names.{Name, names_of}
-use Rattle.hack_features.specs.Sets.{chosen, IsSelection}
+use Rattle.hack_base.specs.Names.{Name, names_of}
+use Rattle.hack_features.specs.Sets.{items_at, IsSelection}
 use Rattle.hack_features.proofs.Listing.{chosen-push, slice_get-at}
-use Rattle.hack_process.specs.CommandTexts.{appended, shown_features}
+use Rattle.hack_process.specs.CommandTexts.{with_names, shown_features}
 use Rattle.hack_plan.specs.Runs.{Set}
 use Rattle.hack_powerset_list.specs.Lines.{run_line}
 use Rattle.hack_powerset_list.specs.LineWords.{others_text}
 
 -- the names of a set with one position in front
-pub chosen-front : (names : List Name) (p : ℕ) (s : List ℕ) → p < length names → chosen names (p ∷ s) ≡ get_or names p [] ∷ chosen names s
-chosen-front names p s lt = ap (λ o. cons_option o (chosen names s)) (slice_get-at names p [] lt)
+pub chosen-front : (names : List Name) (p : ℕ) (s : List ℕ) → p < length names → items_at names (p ∷ s) ≡ get_or names p [] ∷ items_at names s
+chosen-front names p s lt = ap (λ o. cons_option o (items_at names s)) (slice_get-at names p [] lt)
 
 joined : (name : Name) (names : List Name) → join_with_byte 44 (name ∷ names) ≡ name ++ others_text names
 joined name [] = sym (append-nil name)
@@ -32,22 +32,22 @@ text-at names before texts p d same lt =
 
 -- the line of a set, from its command, its first name and the others
 pub line-of : (names : List Name) (p : ℕ) (s : List ℕ) (bare first others : List ℕ) → p < length names → bare ≡ codes "cargo check --no-default-features" → first ≡ codes " --features " ++ get_or names p []
-    → others ≡ others_text (chosen names s) → bare ++ first ++ others ++ codes "\n" ≡ run_line names (Set (p ∷ s))
+    → others ≡ others_text (items_at names s) → bare ++ first ++ others ++ codes "\n" ≡ run_line names (Set (p ∷ s))
 line-of names p s bare first others lt is_bare is_first is_others =
     let name : Name = get_or names p [] in
-    let rest : List Name = chosen names s in
-    let shown : shown_features (appended None (chosen names (p ∷ s))) ≡ first ++ others =
-    ap (λ l. shown_features (appended None l)) (chosen-front names p s lt)
+    let rest : List Name = items_at names s in
+    let shown : shown_features (with_names None (items_at names (p ∷ s))) ≡ first ++ others =
+    ap (λ l. shown_features (with_names None l)) (chosen-front names p s lt)
     ∙ ap (λ l. codes " --features " ++ l) (joined name rest)
     ∙ sym (append_assoc (codes " --features ") name (others_text rest))
     ∙ ap (λ l. l ++ others_text rest) (sym is_first)
     ∙ ap (λ l. first ++ l) (sym is_others) in
     ap (λ l. l ++ codes "\n")
-    (append_assoc bare first others ∙ ap (λ l. bare ++ l) (sym shown) ∙ ap (λ l. l ++ shown_features (appended None (chosen names (p ∷ s)))) is_bare)
+    (append_assoc bare first others ∙ ap (λ l. bare ++ l) (sym shown) ∙ ap (λ l. l ++ shown_features (with_names None (items_at names (p ∷ s)))) is_bare)
 
 -- the names of a set with one position in front, behind another name
 pub others-front : (names : List Name) (p : ℕ) (s : List ℕ) (next others : List ℕ) → p < length names → next ≡ codes "," ++ get_or names p []
-    → others ≡ others_text (chosen names s) → next ++ others ≡ others_text (chosen names (p ∷ s))
+    → others ≡ others_text (items_at names s) → next ++ others ≡ others_text (items_at names (p ∷ s))
 others-front names p s next others lt is_next is_others =
     ap (λ l. l ++ others) is_next
     ∙ ap (λ l. (codes "," ++ get_or names p []) ++ l) is_others
@@ -83,10 +83,10 @@ above-cons p s above = All-cons (λ q. p ≤ q) p s (omega arith) (λ k d in'. o
 
 -- the names of one position more, behind another name
 pub others-more : (names : List Name) (xs : List ℕ) (i p : ℕ) (next : List ℕ) → i < length xs → p ≡ get_or xs i p → p < length names → next ≡ codes "," ++ get_or names p []
-    → others_text (chosen names (take i xs)) ++ next ≡ others_text (chosen names (take (i + 1) xs))
+    → others_text (items_at names (take i xs)) ++ next ≡ others_text (items_at names (take (i + 1) xs))
 others-more names xs i p next lt here inside is_next =
-    ap (λ l. others_text (chosen names (take i xs)) ++ l) (is_next ∙ sym (append-nil (codes "," ++ get_or names p [])))
-    ∙ sym (flat_map-append (λ name. codes "," ++ name) (chosen names (take i xs)) (get_or names p [] ∷ []))
+    ap (λ l. others_text (items_at names (take i xs)) ++ l) (is_next ∙ sym (append-nil (codes "," ++ get_or names p [])))
+    ∙ sym (flat_map-append (λ name. codes "," ++ name) (items_at names (take i xs)) (get_or names p [] ∷ []))
     ∙ ap others_text (sym (chosen-push names (take i xs) p [] inside))
-    ∙ ap (λ q. others_text (chosen names (take i xs ++ q ∷ []))) here
-    ∙ ap (λ l. others_text (chosen names l)) (sym (take_more xs i p lt))
+    ∙ ap (λ q. others_text (items_at names (take i xs ++ q ∷ []))) here
+    ∙ ap (λ l. others_text (items_at names l)) (sym (take_more xs i p lt))

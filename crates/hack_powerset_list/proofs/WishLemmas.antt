@@ -5,13 +5,13 @@ use Rattle.std.specs.Option.{option_and_then}
 use Rattle.std.proofs.Math.Seq.{take-length}
 use Rattle.std.proofs.lemmas.List.{map-append, take-map, get_or_default}
 use Rattle.std.proofs.lemmas.List.Elements.{All-push}
-use Rattle.hack_features.specs.Names.{Name, names_of, shown}
+use Rattle.hack_base.specs.Names.{Name, names_of, names_behind}
 use Rattle.hack_features.specs.Feature.{group_of, groups_of, IsGroup}
 use Rattle.hack_features.specs.declared.feature.Feature.{Feature}
 use Rattle.hack_features.specs.declared.feature.Feature.TheVariants.{Normal, Group as Grouped, Path}
-use Rattle.hack_features.proofs.Members.{Contains-map}
-use Rattle.hack_features.proofs.NameLemmas.{shown-more}
-use Rattle.hack_term.specs.Lists.{HasSeparator, group_names}
+use Rattle.hack_base.proofs.Members.{Contains-map}
+use Rattle.hack_base.proofs.NameLemmas.{shown-more}
+use Rattle.hack_base.specs.Lists.{HasSeparator, group_names}
 use Rattle.hack_powerset_list.specs.Words.{Written, with_value, with_words, AreGroups, LacksSeparator}
 
 -- an option and its value are taken, before the words that are left
@@ -37,19 +37,19 @@ IsGroup-names names (Path name slash) h = absurd h
 
 -- the groups of one list more
 pub groups-more : (lists : List (Bor Name)) (k : ℕ) (d : Bor Name) (groups : List Feature) (group : Feature) → k < length lists
-    → AreGroups (shown (take k lists)) (groups_of groups) → HasSeparator (get_or lists k d).now → group_of group ≡ group_names (get_or lists k d).now
-    → AreGroups (shown (take (k + 1) lists)) (groups_of (groups ++ group ∷ []))
+    → AreGroups (names_behind (take k lists)) (groups_of groups) → HasSeparator (get_or lists k d).now → group_of group ≡ group_names (get_or lists k d).now
+    → AreGroups (names_behind (take (k + 1) lists)) (groups_of (groups ++ group ∷ []))
 groups-more lists k d groups group l so_far sep named = subst (λ (texts : List Name). AreGroups texts (groups_of (groups ++ group ∷ []))) (sym more) (record {
-  separated = All-push HasSeparator (shown (take k lists)) (get_or lists k d).now so_far.separated sep;
+  separated = All-push HasSeparator (names_behind (take k lists)) (get_or lists k d).now so_far.separated sep;
   named = map-append group_of groups (group ∷ [])
       ∙ ap (λ (names : List (List Name)). names ++ group_of group ∷ []) so_far.named
-      ∙ ap (λ (names : List Name). map group_names (shown (take k lists)) ++ names ∷ []) named
-      ∙ sym (map-append group_names (shown (take k lists)) ((get_or lists k d).now ∷ []));
+      ∙ ap (λ (names : List Name). map group_names (names_behind (take k lists)) ++ names ∷ []) named
+      ∙ sym (map-append group_names (names_behind (take k lists)) ((get_or lists k d).now ∷ []));
 })
   where
-    more : shown (take (k + 1) lists) ≡ shown (take k lists) ++ (get_or lists k d).now ∷ []
+    more : names_behind (take (k + 1) lists) ≡ names_behind (take k lists) ++ (get_or lists k d).now ∷ []
     more = sym (take-map (λ (b : Bor Name). b.now) (k + 1) lists) ∙ shown-more lists k (get_or lists k d) l (get_or_default lists k d (get_or lists k d) l) ∙ ap (λ (t : List Name). t ++ (get_or lists k d).now ∷ []) (take-map (λ (b : Bor Name). b.now) k lists)
 
 -- a list without a separator
-pub lacks-here : (lists : List (Bor Name)) (k : ℕ) (d : Bor Name) → k < length lists → ¬ HasSeparator (get_or lists k d).now → LacksSeparator (shown lists)
+pub lacks-here : (lists : List (Bor Name)) (k : ℕ) (d : Bor Name) → k < length lists → ¬ HasSeparator (get_or lists k d).now → LacksSeparator (names_behind lists)
 lacks-here lists k d l single = record { list = (get_or lists k d).now; listed = Contains-map (λ (b : Bor Name). b.now) lists (get_or lists k d) (k, l, get_or_default lists k (get_or lists k d) d l); single = single }

@@ -1,8 +1,8 @@
 -- What `powerset-list` writes for a feature map and what is asked for, and what it refuses.
 use Rattle.std.specs.Prelude.{◌≡◌, ◌⊎◌, ℕ, List, [], ◌∷◌, map, length, Option, IfSome, nat_lt, true, false}
 use Rattle.std.specs.Io.KnownBytes.{Appends}
-use Rattle.hack_term.specs.Writes.{AppendsFront}
-use Rattle.hack_features.specs.Names.{Name}
+use Rattle.hack_base.specs.Writes.{AppendsFront}
+use Rattle.hack_base.specs.Names.{Name}
 use Rattle.hack_features.specs.FeatureMap.{FeatureMap}
 use Rattle.hack_features.specs.Sets.{IsListing}
 use Rattle.hack_features.specs.Rules.{Choice, IsListed}

@@ -6,8 +6,8 @@ use Rattle.std.specs.IoError.{error_kind}
 use Rattle.std.specs.Io.KnownBytes.{Appends}
 use Rattle.std.specs.declared.vec.IntoIter.{IntoIter}
 use Rattle.std.specs.declared.io.Error.{Error}
-use Rattle.hack_term.specs.Writes.{AppendsFront}
-use Rattle.hack_features.specs.Names.{Name}
+use Rattle.hack_base.specs.Writes.{AppendsFront}
+use Rattle.hack_base.specs.Names.{Name}
 use Rattle.hack_powerset_list.specs.declared.fault.ListFault.{ListFault}
 use Rattle.hack_powerset_list.specs.declared.fault.ListFault.TheVariants.{NotText}
 use Rattle.hack_powerset_list.specs.declared.call.Ending.{Ending}

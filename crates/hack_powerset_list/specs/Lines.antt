@@ -1,8 +1,8 @@
 -- The lines of a command list, and the commands of runs.
 use Rattle.std.specs.Prelude.{ℕ, List, [], ◌∷◌, ◌++◌, Option, None, false, codes, flat_map}
-use Rattle.hack_features.specs.Names.{Name}
-use Rattle.hack_features.specs.Sets.{chosen}
-use Rattle.hack_process.specs.CommandTexts.{Command, appended, shown_features}
+use Rattle.hack_base.specs.Names.{Name}
+use Rattle.hack_features.specs.Sets.{items_at}
+use Rattle.hack_process.specs.CommandTexts.{Command, with_names, shown_features}
 use Rattle.hack_plan.specs.Runs.{PackageRun, Plain, AllFeatures, NoDefaultFeatures, Set}
 
 -- the text of a run's command, where the candidates have these names
@@ -10,7 +10,7 @@ abbrev pub run_text : List Name → PackageRun → List ℕ
 run_text names Plain = codes "cargo check"
 run_text names AllFeatures = codes "cargo check --all-features"
 run_text names NoDefaultFeatures = codes "cargo check --no-default-features"
-run_text names (Set s) = codes "cargo check --no-default-features" ++ shown_features (appended None (chosen names s))
+run_text names (Set s) = codes "cargo check --no-default-features" ++ shown_features (with_names None (items_at names s))
 
 -- the line of a run: its text, and a line feed
 abbrev pub run_line : List Name → PackageRun → List ℕ
@@ -32,7 +32,7 @@ abbrev pub run_features : List Name → PackageRun → Option (List ℕ)
 run_features names Plain = None
 run_features names AllFeatures = None
 run_features names NoDefaultFeatures = None
-run_features names (Set s) = appended None (chosen names s)
+run_features names (Set s) = with_names None (items_at names s)
 
 -- the command of a run, where the user wrote these words for cargo and the candidates have these names
 abbrev pub run_command : List (List ℕ) → List Name → PackageRun → Command

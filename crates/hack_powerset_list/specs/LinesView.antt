@@ -1,6 +1,6 @@
 -- What the texts hold that lines are made of.
 use Rattle.std.specs.Prelude.{◌≡◌, ◌++◌, List, map, string_bytes, codes}
-use Rattle.hack_features.specs.Names.{Name, names_of}
+use Rattle.hack_base.specs.Names.{Name, names_of}
 use Rattle.hack_powerset_list.specs.declared.lines.Texts.{Texts}
 
 -- the texts of the lines of `cargo check`, where the candidates have these names

@@ -1,7 +1,7 @@
 -- Which sets a walk lists, and their lines.
 use Rattle.std.specs.Prelude.{◌≡◌, ℕ, List, [], ◌∷◌, ◌++◌, Bool, ◌&&◌, not, filter, flat_map, bytes_eq}
 use Rattle.hack_features.specs.declared.rules.Rules.{Rules}
-use Rattle.hack_features.specs.Names.{Name}
+use Rattle.hack_base.specs.Names.{Name}
 use Rattle.hack_features.specs.Questions.{is_whole}
 use Rattle.hack_features.specs.View.{may_of, size_of, whole_of}
 use Rattle.hack_features.specs.Walk.{below}

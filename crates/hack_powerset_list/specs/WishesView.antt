@@ -1,7 +1,7 @@
 -- What the parts of the reader of words show.
 use Rattle.std.specs.Prelude.{Option, option_map}
 use Rattle.std.specs.Borrow.{Bor}
-use Rattle.hack_features.specs.Names.{Name, shown}
+use Rattle.hack_base.specs.Names.{Name, names_behind}
 use Rattle.hack_powerset_list.specs.declared.wishes.Values.{Values}
 use Rattle.hack_powerset_list.specs.Words.{Written}
 
@@ -11,4 +11,4 @@ shown_text text = option_map (λ t. t.now) text
 
 -- the values that `Values` holds
 abbrev pub written_in : Values → Written
-written_in v = record { depth = shown_text v.depth; at_least_one_of = shown v.at_least_one_of.items; exclusive = shown v.mutually_exclusive.items }
+written_in v = record { depth = shown_text v.depth; at_least_one_of = names_behind v.at_least_one_of.items; exclusive = names_behind v.mutually_exclusive.items }

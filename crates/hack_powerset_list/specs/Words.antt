@@ -1,8 +1,8 @@
 -- What the words of `powerset-list` ask for, and why they are refused.
 use Rattle.std.specs.Prelude.{◌≡◌, ◌⊎◌, ℕ, List, [], ◌∷◌, ◌++◌, Option, None, Some, All, Contains, map, codes, bytes_eq, string_bytes, option_and_then, if◌then◌else◌}
-use Rattle.hack_features.specs.Names.{Name}
-use Rattle.hack_versions.specs.Numbers.{IsNumber}
-use Rattle.hack_term.specs.Lists.{HasSeparator, group_names}
+use Rattle.hack_base.specs.Names.{Name}
+use Rattle.hack_base.specs.Numbers.{IsNumber}
+use Rattle.hack_base.specs.Lists.{HasSeparator, group_names}
 use Rattle.hack_powerset_list.specs.declared.fault.ListFault.{ListFault}
 use Rattle.hack_powerset_list.specs.declared.fault.ListFault.TheVariants as list
 use Rattle.hack_powerset_list.specs.declared.wishes.WordsFault.{WordsFault}

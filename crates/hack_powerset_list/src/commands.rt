@@ -1,9 +1,9 @@
 //! The commands of runs.
 
 ghost use Rattle.std.specs.Prelude.{◌≡◌, [], ◌∷◌, codes, map, string_bytes, IfOk};
-ghost use Rattle.hack_features.specs.Names.{shown};
+ghost use Rattle.hack_base.specs.Names.{names_behind};
 ghost use Rattle.hack_features.specs.Feature.{name_of};
-ghost use Rattle.hack_features.specs.Sets.{chosen};
+ghost use Rattle.hack_features.specs.Sets.{items_at};
 ghost use Rattle.hack_process.specs.CommandTexts.{listed_of};
 ghost use Rattle.hack_process.specs.Commands.{command_of};
 ghost use Rattle.hack_plan.specs.Runs.{run_of};
@@ -50,8 +50,8 @@ fn names_at<'a>(
     features: &'a [Feature],
     positions: &[usize],
 ) -> Result<Vec<&'a str>, AllocError>
-    ensures { IfOk result (λ names. shown names.items
-        ≡ chosen (map name_of features.now) positions.now) }
+    ensures { IfOk result (λ names. names_behind names.items
+        ≡ items_at (map name_of features.now) positions.now) }
 {
     let mut names = Vec::new(alloc);
     for p in positions {

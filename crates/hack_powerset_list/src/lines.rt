@@ -3,14 +3,14 @@
 ghost use Rattle.std.specs.Prelude.{◌≡◌, ◌<◌, ◌++◌, [], ◌∷◌, codes, length, map, string_bytes};
 ghost use Rattle.std.specs.Prelude.{IfOk, OnOk, OnErr};
 ghost use Rattle.std.specs.Io.KnownBytes.{Appends};
-ghost use Rattle.hack_features.specs.Names.{shown, names_of};
+ghost use Rattle.hack_base.specs.Names.{names_behind, names_of};
 ghost use Rattle.hack_features.specs.Feature.{name_of};
 ghost use Rattle.hack_process.specs.CommandTexts.{listed_of};
 ghost use Rattle.hack_process.specs.Commands.{command_of};
-ghost use Rattle.hack_term.specs.Writes.{AppendsFront};
+ghost use Rattle.hack_base.specs.Writes.{AppendsFront};
 ghost use Rattle.hack_powerset_list.specs.LineWords.{bare_command, Prints, TurnsPage};
 
-use crate::writes::write_text;
+use hack_base::writes::write_front;
 use hack_features::Feature;
 use hack_process::process::ProcessBuilder;
 use std::alloc::{AllocError, Global};
@@ -33,7 +33,7 @@ pub struct Texts {
 /// The command behind whose program the words stand that are passed, and then its own.
 fn beginning(alloc: Global, passed: &[String], own: &[&str]) -> Result<String, AllocError>
     ensures { IfOk result (λ text. string_bytes text
-        ≡ listed_of [] (bare_command (map string_bytes passed.now) (shown own.now))) }
+        ≡ listed_of [] (bare_command (map string_bytes passed.now) (names_behind own.now))) }
 {
     let mut command = ProcessBuilder::new(alloc, "cargo")?;
     command.pass_words(passed, &[]);
@@ -98,7 +98,7 @@ fn turn_full_page<W: Write>(page: &mut String, out: &mut W) -> io::Result<()>
     if page.len() < FULL {
         return Ok(());
     }
-    write_text(page.as_str(), out)?;
+    write_front(page.as_str(), out)?;
     page.clear();
     Ok(())
 }

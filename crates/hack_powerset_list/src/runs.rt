@@ -5,8 +5,9 @@ ghost use Rattle.std.specs.Prelude.{if◌then◌else◌};
 ghost use Rattle.std.specs.Io.KnownBytes.{Appends};
 ghost use Rattle.hack_features.specs.Feature.{name_of};
 ghost use Rattle.hack_features.specs.View.{size_of};
-ghost use Rattle.hack_term.specs.Writes.{AppendsFront};
-ghost use Rattle.hack_plan.specs.Runs.{Plain, NoDefaultFeatures, kept, runs_from, turned};
+ghost use Rattle.hack_base.specs.Writes.{AppendsFront};
+ghost use Rattle.hack_plan.specs.Runs.{Plain, NoDefaultFeatures, run_if, runs_from};
+ghost use Rattle.hack_plan.specs.Runs.{with_last_first};
 ghost use Rattle.hack_powerset_list.specs.Lines.{run_lines};
 ghost use Rattle.hack_powerset_list.specs.LineWords.{Prints};
 ghost use Rattle.hack_powerset_list.specs.LinesView.{AreTexts};
@@ -18,7 +19,7 @@ use crate::lines::{Texts, empty_page, print_line};
 use crate::room::SetRoom;
 use crate::walk::{SetLines, last_below, print_below, print_whole};
 use crate::wishes::Wishes;
-use crate::writes::write_text;
+use hack_base::writes::write_front;
 use hack_features::{Feature, Rules};
 use hack_plan::runs::fits_two;
 use std::alloc::Global;
@@ -38,10 +39,10 @@ fn print_front<W: Write>(
     requires texts { AreTexts (map name_of features.now) texts.now }
     ensures ok { OnOk result (Prints (W.contents out.old) (W.contents out.new)
         (string_bytes page.old) (string_bytes page.new) (run_lines (map name_of features.now)
-        (if plain then Plain ∷ [] else kept bare NoDefaultFeatures))) }
+        (if plain then Plain ∷ [] else run_if bare NoDefaultFeatures))) }
     ensures err { OnErr result (AppendsFront (W.contents out.old) (W.contents out.new)
         (string_bytes page.old ++ run_lines (map name_of features.now)
-        (if plain then Plain ∷ [] else kept bare NoDefaultFeatures))) }
+        (if plain then Plain ∷ [] else run_if bare NoDefaultFeatures))) }
 {
     if plain {
         print_line(texts.plain.as_str(), "", "", page, out)
@@ -69,10 +70,10 @@ fn print_sets<W: Write>(
     ensures ok { OnOk result (Prints (W.contents out.old) (W.contents out.new)
         (string_bytes page.old) (string_bytes page.new)
         (set_lines (map name_of lines.now.features.now)
-        (turned last_first (listed_in lines.now.rules.now)))) }
+        (with_last_first last_first (listed_in lines.now.rules.now)))) }
     ensures err { OnErr result (AppendsFront (W.contents out.old) (W.contents out.new)
         (string_bytes page.old ++ set_lines (map name_of lines.now.features.now)
-        (turned last_first (listed_in lines.now.rules.now)))) }
+        (with_last_first last_first (listed_in lines.now.rules.now)))) }
 {
     let n = lines.features.len();
     if last_first {
@@ -138,6 +139,6 @@ pub fn write_lines<W: Write>(
 {
     let mut page = empty_page(alloc)?;
     print_runs(alloc, wishes, features, rules, &mut page, out)?;
-    write_text(page.as_str(), out)?;
+    write_front(page.as_str(), out)?;
     out.flush()
 }

@@ -4,9 +4,9 @@ ghost use Rattle.std.specs.Prelude.{◌≡◌, ◌<◌, ◌≤◌, ◌++◌, ◌
 ghost use Rattle.std.specs.Prelude.{length, IfOk, OnOk, OnErr, IsTrue, MatchOption, false};
 ghost use Rattle.std.specs.Prelude.{string_bytes};
 ghost use Rattle.hack_features.specs.Feature.{name_of};
-ghost use Rattle.hack_features.specs.Sets.{IsSelection, chosen};
+ghost use Rattle.hack_features.specs.Sets.{IsSelection, items_at};
 ghost use Rattle.hack_features.specs.View.{may_of, size_of};
-ghost use Rattle.hack_term.specs.Writes.{AppendsFront};
+ghost use Rattle.hack_base.specs.Writes.{AppendsFront};
 ghost use Rattle.hack_plan.specs.Runs.{Set};
 ghost use Rattle.hack_powerset_list.specs.Lines.{run_line};
 ghost use Rattle.hack_powerset_list.specs.LineWords.{Prints, others_text};
@@ -93,11 +93,11 @@ fn print_set<W: Write>(
 ) -> io::Result<()>
     requires texts { AreTexts (map name_of features.now) texts.now }
     requires least { least < length features.now }
-    ensures ok { (s : List ℕ) → others.now ≡ others_text (chosen (map name_of features.now) s)
+    ensures ok { (s : List ℕ) → others.now ≡ others_text (items_at (map name_of features.now) s)
         → OnOk result (Prints (W.contents out.old) (W.contents out.new)
         (string_bytes page.old) (string_bytes page.new)
         (run_line (map name_of features.now) (Set (least ∷ s)))) }
-    ensures err { (s : List ℕ) → others.now ≡ others_text (chosen (map name_of features.now) s)
+    ensures err { (s : List ℕ) → others.now ≡ others_text (items_at (map name_of features.now) s)
         → OnErr result (AppendsFront (W.contents out.old) (W.contents out.new)
         (string_bytes page.old ++ run_line (map name_of features.now) (Set (least ∷ s)))) }
 {
@@ -123,13 +123,13 @@ fn print_other<W: Write>(
     requires least { least < length lines.now.features.now }
     requires set { IsSelection (size_of lines.now.rules.now) set.now }
     ensures ok { (s : List ℕ) → set.now ≡ least ∷ s
-        → others.now ≡ others_text (chosen (map name_of lines.now.features.now) s)
+        → others.now ≡ others_text (items_at (map name_of lines.now.features.now) s)
         → OnOk result (Prints (W.contents out.old) (W.contents out.new)
         (string_bytes page.old) (string_bytes page.new)
         (set_lines (map name_of lines.now.features.now)
         (filter (is_other lines.now.rules.now lines.now.last.now) (set.now ∷ [])))) }
     ensures err { (s : List ℕ) → set.now ≡ least ∷ s
-        → others.now ≡ others_text (chosen (map name_of lines.now.features.now) s)
+        → others.now ≡ others_text (items_at (map name_of lines.now.features.now) s)
         → OnErr result (AppendsFront (W.contents out.old) (W.contents out.new)
         (string_bytes page.old ++ set_lines (map name_of lines.now.features.now)
         (filter (is_other lines.now.rules.now lines.now.last.now) (set.now ∷ [])))) }
@@ -151,9 +151,9 @@ fn longer(
 ) -> Result<String, AllocError>
     requires texts { AreTexts (map name_of features.now) texts.now }
     requires least { least < length features.now }
-    ensures { (s : List ℕ) → others.now ≡ others_text (chosen (map name_of features.now) s)
+    ensures { (s : List ℕ) → others.now ≡ others_text (items_at (map name_of features.now) s)
         → IfOk result (λ longer. string_bytes longer
-        ≡ others_text (chosen (map name_of features.now) (least ∷ s))) }
+        ≡ others_text (items_at (map name_of features.now) (least ∷ s))) }
 {
     let next = texts.next[least].as_str();
     let mut longer = String::with_capacity(alloc, next.len().saturating_add(others.len()))?;
@@ -180,7 +180,7 @@ pub fn print_below<W: Write>(
     requires above { All (λ p. limit ≤ p) (set_in room.old) }
     requires limit { limit ≤ size_of lines.now.rules.now }
     requires others { others.now
-        ≡ others_text (chosen (map name_of lines.now.features.now) (set_in room.old)) }
+        ≡ others_text (items_at (map name_of lines.now.features.now) (set_in room.old)) }
     ensures ok { OnOk result (Prints (W.contents out.old) (W.contents out.new)
         (string_bytes page.old) (string_bytes page.new)
         (set_lines (map name_of lines.now.features.now)
@@ -218,7 +218,7 @@ fn names_behind_another(
     requires texts { AreTexts (map name_of features.now) texts.now }
     requires below { All (λ p. p < length features.now) positions.now }
     ensures { IfOk result (λ others. string_bytes others
-        ≡ others_text (chosen (map name_of features.now) positions.now)) }
+        ≡ others_text (items_at (map name_of features.now) positions.now)) }
 {
     let mut others = String::new(alloc);
     for p in positions {

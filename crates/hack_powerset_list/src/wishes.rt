@@ -2,7 +2,7 @@
 
 ghost use Rattle.std.specs.Prelude.{◌≡◌, IfOk, IfErr, Some, None, option_map};
 ghost use Rattle.std.specs.Prelude.{MatchBool, MatchOption};
-ghost use Rattle.hack_features.specs.Names.{names_of, shown};
+ghost use Rattle.hack_base.specs.Names.{names_of, names_behind};
 ghost use Rattle.hack_features.specs.Feature.{groups_of as names_in_groups};
 ghost use Rattle.hack_powerset_list.specs.Words.{none_written, with_value, with_words, Asks};
 ghost use Rattle.hack_powerset_list.specs.Words.{RefusesWords, IsDepth, IsNoDepth, AreGroups};
@@ -129,8 +129,8 @@ fn depth_of(depth: Option<&str>) -> Result<Option<usize>, &str>
 
 /// The groups that lists name; none where a list has no separator.
 fn groups_of(alloc: Global, lists: &[&str]) -> Result<Option<Vec<Feature>>, AllocError>
-    ensures { IfOk result (λ found. MatchOption found (LacksSeparator (shown lists.now))
-        (λ groups. AreGroups (shown lists.now) (names_in_groups groups.items))) }
+    ensures { IfOk result (λ found. MatchOption found (LacksSeparator (names_behind lists.now))
+        (λ groups. AreGroups (names_behind lists.now) (names_in_groups groups.items))) }
 {
     let mut groups = Vec::new(alloc);
     for list in lists {

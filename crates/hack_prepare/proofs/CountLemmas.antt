@@ -1,6 +1,6 @@
 -- How many calls of files have failed, one step behind another.
 use Rattle.std.proofs.Common.{◌≡◌, inl, inr, ℕ, Result, Ok, Err, sym, subst, arith}
-use Rattle.hack_features.specs.Names.{Name}
+use Rattle.hack_base.specs.Names.{Name}
 use Rattle.hack_files.specs.Faults.{IsOfRead, IsOfText, IsOfWrite}
 use Rattle.hack_files.specs.Files.{GrowsBy}
 use Rattle.hack_files.specs.declared.fs.FsFault.{FsFault}

@@ -5,14 +5,14 @@ use Rattle.std.specs.List.{find, list_any}
 use Rattle.std.specs.Str.{bytes_eq}
 use Rattle.std.proofs.lemmas.Bool.{true≢false}
 use Rattle.std.proofs.lemmas.Slice.Eq.{bytes_eq-Decides}
-use Rattle.hack_features.specs.Names.{Name}
+use Rattle.hack_base.specs.Names.{Name}
 use Rattle.hack_files.specs.Faults.{HoldsNoText, IsOfRead, IsOfText, IsOfWrite}
 use Rattle.hack_files.specs.Files.{Contents}
 use Rattle.hack_files.specs.declared.fs.FsFault.{FsFault}
 use Rattle.hack_files.specs.declared.fs.FsFault.TheVariants as fs
 use Rattle.hack_prepare.specs.Faults.{IsDevFault, IsEditsFault, IsFault, IsFileFault, IsHeldFault, IsMembersFault, IsOfFile, IsRootFault, IsTextFault, IsUnmade, NoFault}
 use Rattle.hack_prepare.specs.Paths.{IsAlonePath, IsEdited, IsLookedAt, IsReadRoot, IsTextless, Nowhere, Only, OnlyIf}
-use Rattle.hack_prepare.specs.Prepared.{Member, Wanted, edits_root, goes, gone, has_some, is_alone, is_alone_at, is_root}
+use Rattle.hack_prepare.specs.Prepared.{Member, Wanted, edits_root, goes, gone_manifests, has_some, is_alone, is_alone_at, is_root}
 use Rattle.hack_load.specs.Contexts.{ContextRecord}
 use Rattle.hack_prepare.specs.PreparedView.{IsPrepareFault, edits_in, members_in, wanted_in}
 use Rattle.hack_prepare.specs.Steps.{KeepsApart}
@@ -88,7 +88,7 @@ virtual-fault tells w private text held old r same read x =
 
 -- a member's text isn't edited
 pub found-fault : {T : Type 0} (tells : Type 0) (w : Wanted) (ms : List Member) (private : List Name) (text : Name) (held : Contents) (r : Result T PrepareFault)
-    → Some text ≡ option_map text_in (find (is_root w) ms) → w.no_private ≡ true → private ≡ gone w ms
+    → Some text ≡ option_map text_in (find (is_root w) ms) → w.no_private ≡ true → private ≡ gone_manifests w ms
     → IfErr r (IsFault Nowhere (OnlyIf (w.drops_dev || has_some private) w.root) Nowhere (λ e. ((w.drops_dev || has_some private) ≡ true) × IsTextFault w w.drops_dev private text e))
     → IfErr r (IsFault (IsReadRoot w ms) (OnlyIf (edits_root w ms) w.root) (IsTextless tells held (IsReadRoot w ms)) (IsRootFault w ms tells held))
 found-fault tells w ms private text held r found wanted same x =
@@ -100,12 +100,12 @@ found-fault tells w ms private text held r found wanted same x =
       text = text;
       asked = asks ∙ f.0;
       read = λ t. text-found w ms text held found;
-      fault = subst (λ b. IsTextFault w b (gone w ms) text e) (sym drops) (subst (λ l. IsTextFault w w.drops_dev l text e) same f.1);
+      fault = subst (λ b. IsTextFault w b (gone_manifests w ms) text e) (sym drops) (subst (λ l. IsTextFault w w.drops_dev l text e) same f.1);
     }) r x
 
 -- a text that no member has read isn't edited
 pub missed-fault : {T : Type 0} (tells : Type 0) (w : Wanted) (ms : List Member) (private : List Name) (held : Contents) (r : Result T PrepareFault)
-    → None ≡ option_map text_in (find (is_root w) ms) → w.no_private ≡ true → private ≡ gone w ms
+    → None ≡ option_map text_in (find (is_root w) ms) → w.no_private ≡ true → private ≡ gone_manifests w ms
     → IfErr r (IsFault (OnlyIf (has_some private) w.root) (OnlyIf (has_some private) w.root) (IsTextless tells held (OnlyIf (has_some private) w.root)) (IsHeldFault w private tells held))
     → IfErr r (IsFault (IsReadRoot w ms) (OnlyIf (edits_root w ms) w.root) (IsTextless tells held (IsReadRoot w ms)) (IsRootFault w ms tells held))
 missed-fault tells w ms private held r missed wanted same x =
@@ -119,7 +119,7 @@ missed-fault tells w ms private held r missed wanted same x =
       text = f.1;
       asked = asks ∙ f.0;
       read = λ t. text-missed w ms f.1 held missed (f.2 t);
-      fault = subst (λ b. IsTextFault w b (gone w ms) f.1 e) (sym drops) (subst (λ l. IsTextFault w false l f.1 e) same f.3);
+      fault = subst (λ b. IsTextFault w b (gone_manifests w ms) f.1 e) (sym drops) (subst (λ l. IsTextFault w false l f.1 e) same f.3);
     }) r x
 
 -- ---- all together

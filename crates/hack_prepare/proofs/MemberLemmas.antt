@@ -9,15 +9,15 @@ use Rattle.std.proofs.lemmas.List.Elements.{All-contains, All-push, All-take, Co
 use Rattle.std.proofs.lemmas.List.Folds.{list_any_at}
 use Rattle.std.proofs.lemmas.Grind.{flat_map-append}
 use Rattle.std.proofs.lemmas.Slice.Eq.{bytes_eq-Decides}
-use Rattle.hack_features.specs.Names.{Name}
-use Rattle.hack_features.proofs.Steps.{filter_map-found, seen-next}
+use Rattle.hack_base.specs.Names.{Name}
+use Rattle.hack_base.proofs.Steps.{filter_map-found, seen-next}
 use Rattle.hack_metadata.specs.View.{place_at}
 use Rattle.hack_metadata.specs.declared.resolve.PackageId.{PackageId}
 use Rattle.hack_edits.specs.DevDeps.{IsWithoutDev}
 use Rattle.hack_files.specs.Files.{Contents, GrowsBy, KeepsOthers}
-use Rattle.hack_versions.specs.Notes.{Note}
+use Rattle.hack_base.specs.Notes.{Note}
 use Rattle.hack_prepare.specs.Paths.{IsAlonePath, Only}
-use Rattle.hack_prepare.specs.Prepared.{HasPrivateRoot, HoldTexts, Member, Wanted, goes, gone, drops_at_root, is_alone, is_alone_at, is_left, is_root}
+use Rattle.hack_prepare.specs.Prepared.{HasPrivateRoot, HoldTexts, Member, Wanted, goes, gone_manifests, drops_at_root, is_alone, is_alone_at, is_left, is_root}
 use Rattle.hack_prepare.specs.Steps.{ArePartlyTurned, AreTurned, HoldsText, IsStep, IsTurned, IsTurnedOrNot, KeepsApart}
 use Rattle.hack_files.specs.declared.restore.Manager.{Manager}
 use Rattle.hack_prepare.proofs.CountLemmas.{none_then}
@@ -25,7 +25,7 @@ use Rattle.hack_prepare.proofs.StepLemmas.{step_given, step_then}
 use Rattle.hack_prepare.specs.Told.{dev_note, edit_notes, member_notes, notes, root_notes}
 use Rattle.hack_prepare.specs.PreparedView.{wanted_in}
 use Rattle.hack_load.specs.Contexts.{ContextRecord}
-use Rattle.hack_process.specs.PathTexts.{join_of}
+use Rattle.hack_base.specs.PathTexts.{join_of}
 use Rattle.hack_words.specs.declared.cli.args.Args.{Args}
 
 pub or_left : (a b : Bool) → (a || b) ≡ false → a ≡ false
@@ -47,19 +47,19 @@ alone-goes w m e = by w.drops_dev w.no_private m.is_private (is_root w m) e
     by true false p r h = absurd (true≢false (sym h))
 
 -- those that go
-pub gone-more : (w : Wanted) (ms : List Member) (m : Member) (before now : List Name) → before ≡ gone w ms → now ≡ before ++ m.path ∷ [] → goes w m ≡ true → now ≡ gone w (ms ++ m ∷ [])
+pub gone-more : (w : Wanted) (ms : List Member) (m : Member) (before now : List Name) → before ≡ gone_manifests w ms → now ≡ before ++ m.path ∷ [] → goes w m ≡ true → now ≡ gone_manifests w (ms ++ m ∷ [])
 gone-more w ms m before now is grown e =
     let path : Member → Name = λ x. x.path in
     grown ∙ ap (λ l. l ++ m.path ∷ []) is
-    ∙ ap (λ b. gone w ms ++ map path (cond b (m ∷ []) [])) (sym e)
+    ∙ ap (λ b. gone_manifests w ms ++ map path (cond b (m ∷ []) [])) (sym e)
     ∙ sym (map-append path (filter (goes w) ms) (filter (goes w) (m ∷ [])))
     ∙ ap (map path) (sym (filter-append (goes w) ms (m ∷ [])))
 
-pub gone-same : (w : Wanted) (ms : List Member) (m : Member) (before : List Name) → before ≡ gone w ms → goes w m ≡ false → before ≡ gone w (ms ++ m ∷ [])
+pub gone-same : (w : Wanted) (ms : List Member) (m : Member) (before : List Name) → before ≡ gone_manifests w ms → goes w m ≡ false → before ≡ gone_manifests w (ms ++ m ∷ [])
 gone-same w ms m before is e =
     let path : Member → Name = λ x. x.path in
-    is ∙ sym (append-nil (gone w ms))
-    ∙ ap (λ b. gone w ms ++ map path (cond b (m ∷ []) [])) (sym e)
+    is ∙ sym (append-nil (gone_manifests w ms))
+    ∙ ap (λ b. gone_manifests w ms ++ map path (cond b (m ∷ []) [])) (sym e)
     ∙ sym (map-append path (filter (goes w) ms) (filter (goes w) (m ∷ [])))
     ∙ ap (map path) (sym (filter-append (goes w) ms (m ∷ [])))
 
@@ -200,7 +200,7 @@ Visited tells w ms k old new start now before after private told notes =
     × (tells → KeepsApart w ms start now)
     × (tells → HoldTexts start ms → AreTurned w (take k ms) now)
     × (tells → HoldTexts start ms → ArePartlyTurned w ms ⊥ start now)
-    × (private ≡ gone w (take k ms))
+    × (private ≡ gone_manifests w (take k ms))
     × (¬ HasPrivateRoot w (take k ms))
     × (notes ≡ told ++ flat_map (member_notes w) (take k ms))
 
@@ -215,7 +215,7 @@ module _ (tells : Type 0) (w : Wanted) (ms : List Member) (k : ℕ) (m : Member)
         h.2,
         λ t holds. subst (λ l. AreTurned w l now) (sym one) (turned-same w (take k ms) m now alone (h.3 t holds)),
         h.4,
-        gone-more w (take k ms) m private more h.5 grown go ∙ ap (gone w) (sym one),
+        gone-more w (take k ms) m private more h.5 grown go ∙ ap (gone_manifests w) (sym one),
         subst (λ l. ¬ HasPrivateRoot w l) (sym one) (never-more w (take k ms) m (λ _. apart) h.6),
         told-same w (take k ms) m told notes h.7 alone ∙ ap (λ l. told ++ flat_map (member_notes w) l) (sym one),
       )
@@ -229,7 +229,7 @@ module _ (tells : Type 0) (w : Wanted) (ms : List Member) (k : ℕ) (m : Member)
     h.2,
     λ t holds. subst (λ l. AreTurned w l now) (sym one) (turned-same w (take k ms) m now alone (h.3 t holds)),
     h.4,
-    gone-same w (take k ms) m private h.5 stay ∙ ap (gone w) (sym one),
+    gone-same w (take k ms) m private h.5 stay ∙ ap (gone_manifests w) (sym one),
     subst (λ l. ¬ HasPrivateRoot w l) (sym one) (never-more w (take k ms) m (λ go. absurd (true≢false (sym go ∙ stay))) h.6),
     told-same w (take k ms) m told notes h.7 alone ∙ ap (λ l. told ++ flat_map (member_notes w) l) (sym one),
   )
@@ -246,7 +246,7 @@ module _ (tells : Type 0) (w : Wanted) (ms : List Member) (k : ℕ) (m : Member)
         (turned-more w (take k ms) m held now
         (All-take (λ x. x.path ≡ m.path → x.text ≡ m.text) k ms (one-text start ms m holds (All-contains (λ x. start x.path ≡ Some x.text) ms m holds among))) (turned t) (keeps t) (h.3 t holds)),
     partly-fails tells w ms m ⊥ start held now among h.4 (λ t. inr (inl (turned t))) keeps,
-    gone-same w (take k ms) m private h.5 stay ∙ ap (gone w) (sym one),
+    gone-same w (take k ms) m private h.5 stay ∙ ap (gone_manifests w) (sym one),
     subst (λ l. ¬ HasPrivateRoot w l) (sym one) (never-more w (take k ms) m (λ go. absurd (true≢false (sym go ∙ stay))) h.6),
     told-more w (take k ms) m told notes more h.7 grown alone ∙ ap (λ l. told ++ flat_map (member_notes w) l) (sym one),
   )
@@ -261,7 +261,7 @@ flat-none w (m ∷ ms) d = ap (λ b. cond (b && not (is_left w m)) (dev_note w.v
 
 -- where nothing is asked, nothing is told
 pub told-none : (w : Wanted) (ms : List Member) → w.drops_dev ≡ false → w.no_private ≡ false → notes w ms ≡ []
-told-none w ms d n = ap (λ l. l ++ root_notes w ms) (flat-none w ms d) ∙ ap (λ b. cond b (edit_notes w (drops_at_root w ms) (gone w ms)) []) n
+told-none w ms d n = ap (λ l. l ++ root_notes w ms) (flat-none w ms d) ∙ ap (λ b. cond b (edit_notes w (drops_at_root w ms) (gone_manifests w ms)) []) n
 
 -- what is wanted, from what is loaded
 pub wanted-is : (cx : ContextRecord) (args : Args) (drops : Bool) (folder root lockfile : Name) → args ≡ cx.args → drops ≡ (args.no_dev_deps || args.remove_dev_deps)

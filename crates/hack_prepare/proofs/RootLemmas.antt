@@ -5,12 +5,12 @@ use Rattle.std.specs.List.{find, list_any}
 use Rattle.std.specs.Str.{bytes_eq}
 use Rattle.std.proofs.lemmas.Bool.{cases_Bool, true≢false}
 use Rattle.std.proofs.lemmas.Slice.Eq.{bytes_eq-Decides}
-use Rattle.hack_features.specs.Names.{Name}
+use Rattle.hack_base.specs.Names.{Name}
 use Rattle.hack_files.specs.Files.{Contents, GrowsBy, KeepsAll, KeepsOthers}
 use Rattle.hack_edits.specs.DevDeps.{IsWithoutDev}
-use Rattle.hack_process.specs.PathTexts.{texts}
+use Rattle.hack_base.specs.Names.{names_behind}
 use Rattle.hack_prepare.specs.Paths.{Only}
-use Rattle.hack_prepare.specs.Prepared.{HoldTexts, IsPartlyPrepared, IsPrepared, IsRootEdit, KeepsUnedited, Member, TurnsOrStays, Wanted, drops_at_root, edits_root, gone, has_root, has_some, is_alone, is_alone_at, is_root}
+use Rattle.hack_prepare.specs.Prepared.{HoldTexts, IsPartlyPrepared, IsPrepared, IsRootEdit, KeepsUnedited, Member, TurnsOrStays, Wanted, drops_at_root, edits_root, gone_manifests, has_root, has_some, is_alone, is_alone_at, is_root}
 use Rattle.hack_prepare.specs.Steps.{ArePartlyTurned, AreTurned, IsRootText, IsTurnedOrNot, KeepsApart, KeepsBut, MakesRoot, MakesRootOrNot}
 use Rattle.hack_prepare.specs.Told.{edit_notes, root_notes}
 use Rattle.hack_prepare.proofs.CountLemmas.{none_then}
@@ -24,7 +24,7 @@ abbrev pub text_in : Member → Name
 text_in m = m.text
 
 -- where members are left to go there are some
-pub some-left : (l : List (Bor (List ℕ))) → false ≡ (length l == 0) → has_some (texts l) ≡ true
+pub some-left : (l : List (Bor (List ℕ))) → false ≡ (length l == 0) → has_some (names_behind l) ≡ true
 some-left [] h = absurd (true≢false (sym h))
 some-left (x ∷ xs) h = refl
 
@@ -90,15 +90,15 @@ pub drops-missed : (w : Wanted) (ms : List Member) → has_root w ms ≡ false �
 drops-missed w ms e = keeps-by w.drops_dev (has_root w ms) e
 
 -- whether it is edited
-pub edits-is : (w : Wanted) (ms : List Member) (drops : Bool) (private : List Name) → w.no_private ≡ true → drops_at_root w ms ≡ drops → private ≡ gone w ms
+pub edits-is : (w : Wanted) (ms : List Member) (drops : Bool) (private : List Name) → w.no_private ≡ true → drops_at_root w ms ≡ drops → private ≡ gone_manifests w ms
     → edits_root w ms ≡ (drops || has_some private)
-edits-is w ms drops private wanted is same = ap (λ b. b && (drops_at_root w ms || has_some (gone w ms))) wanted ∙ ap (λ b. b || has_some (gone w ms)) is ∙ ap (λ l. drops || has_some l) (sym same)
+edits-is w ms drops private wanted is same = ap (λ b. b && (drops_at_root w ms || has_some (gone_manifests w ms))) wanted ∙ ap (λ b. b || has_some (gone_manifests w ms)) is ∙ ap (λ l. drops || has_some l) (sym same)
 
 -- what is told of it
-pub notes-are : (w : Wanted) (ms : List Member) (drops : Bool) (private : List Name) → w.no_private ≡ true → drops_at_root w ms ≡ drops → private ≡ gone w ms
+pub notes-are : (w : Wanted) (ms : List Member) (drops : Bool) (private : List Name) → w.no_private ≡ true → drops_at_root w ms ≡ drops → private ≡ gone_manifests w ms
     → edit_notes w drops private ≡ root_notes w ms
 notes-are w ms drops private wanted is same =
-    sym (ap (λ b. cond b (edit_notes w (drops_at_root w ms) (gone w ms)) []) wanted ∙ ap (λ b. edit_notes w b (gone w ms)) is ∙ ap (λ l. edit_notes w drops l) (sym same))
+    sym (ap (λ b. cond b (edit_notes w (drops_at_root w ms) (gone_manifests w ms)) []) wanted ∙ ap (λ b. edit_notes w b (gone_manifests w ms)) is ∙ ap (λ l. edit_notes w drops l) (sym same))
 
 on_ok : {T E : Type 0} (P Q : Type 0) (r : Result T E) → (P → Q) → OnOk r P → OnOk r Q
 on_ok P Q (Ok v) f p = f p
@@ -114,7 +114,7 @@ edited-found tells r w ms private text old new found made =
 
 -- a text that no member has read is edited
 pub edited-missed : {T E : Type 0} (tells : Type 0) (r : Result T E) (w : Wanted) (ms : List Member) (private : List Name) (old new : Contents)
-    → None ≡ option_map text_in (find (is_root w) ms) → w.no_private ≡ true → private ≡ gone w ms
+    → None ≡ option_map text_in (find (is_root w) ms) → w.no_private ≡ true → private ≡ gone_manifests w ms
     → OnOk r (tells → has_some private ≡ true → (x : Name) × (old w.root ≡ Some x) × MakesRoot w false private x new)
     → OnOk r (tells → edits_root w ms ≡ true → (x : Name) × IsRootText w ms old x × MakesRoot w (drops_at_root w ms) private x new)
 edited-missed tells r w ms private old new missed wanted same made =
@@ -143,7 +143,7 @@ apart-by true true false true x h = absurd (true≢false (sym h))
 
 -- a member that is edited by itself isn't at the root
 alone-apart : (w : Wanted) (ms : List Member) (m : Member) → is_alone w m ≡ true → (edits_root w ms && bytes_eq m.path w.root) ≡ false
-alone-apart w ms m e = apart-by w.drops_dev w.no_private m.is_private (is_root w m) (drops_at_root w ms || has_some (gone w ms)) e
+alone-apart w ms m e = apart-by w.drops_dev w.no_private m.is_private (is_root w m) (drops_at_root w ms || has_some (gone_manifests w ms)) e
 
 free-by : (a b rest : Bool) → b ≡ false → rest ≡ false → ((a && b) || rest) ≡ false
 free-by true b rest e f = ap (λ x. x || rest) e ∙ f
@@ -175,7 +175,7 @@ and_first false b e = e
 
 -- where the root's manifest is edited at the end, no member's is edited there by itself
 pub root-apart : (w : Wanted) (ms : List Member) → edits_root w ms ≡ true → list_any (is_alone_at w w.root) ms ≡ false
-root-apart w ms e = none-alone w ms (and_first w.no_private (drops_at_root w ms || has_some (gone w ms)) e)
+root-apart w ms e = none-alone w ms (and_first w.no_private (drops_at_root w ms || has_some (gone_manifests w ms)) e)
 
 -- what the root's manifest held
 root-old : (w : Wanted) (ms : List Member) (old mid : Contents) (text : Name) → HoldTexts old ms → KeepsApart w ms old mid → IsRootText w ms mid text → old w.root ≡ Some text
@@ -203,7 +203,7 @@ unedited w ms old mid late apart keeps q free =
 pub unedited-apart : (w : Wanted) (ms : List Member) (old mid : Contents) → KeepsApart w ms old mid → KeepsUnedited w ms old mid
 unedited-apart w ms old mid apart q free = apart q (or_left (list_any (is_alone_at w q) ms) (edits_root w ms && bytes_eq q w.root) free)
 
-pub prepared : (w : Wanted) (ms : List Member) (private : List Name) (old mid late new : Contents) → private ≡ gone w ms → HoldTexts old ms → AreTurned w ms mid → KeepsApart w ms old mid
+pub prepared : (w : Wanted) (ms : List Member) (private : List Name) (old mid late new : Contents) → private ≡ gone_manifests w ms → HoldTexts old ms → AreTurned w ms mid → KeepsApart w ms old mid
     → (edits_root w ms ≡ true → (x : Name) × IsRootText w ms mid x × MakesRoot w (drops_at_root w ms) private x late)
     → KeepsBut w (edits_root w ms) mid late → KeepsAll late new → IsPrepared w ms old new
 prepared w ms private old mid late new are holds turned apart made keeps same = record {
@@ -212,7 +212,7 @@ prepared w ms private old mid late new are holds turned apart made keeps same = 
       let m : Member = get_or ms k d in (m.text, t.0, holds k d lt, same m.path ∙ keeps m.path (alone-apart w ms m is) ∙ t.1, t.2);
   root = λ asked.
       let h = made asked in
-      let m = h.2 (ap (λ l. drops_at_root w ms || has_some l) are ∙ and_second w.no_private (drops_at_root w ms || has_some (gone w ms)) asked) in
+      let m = h.2 (ap (λ l. drops_at_root w ms || has_some l) are ∙ and_second w.no_private (drops_at_root w ms || has_some (gone_manifests w ms)) asked) in
       (h.0, m.0, root-old w ms old mid h.0 holds apart h.1, same w.root ∙ m.1, subst (λ l. IsRootEdit w.folder (drops_at_root w ms) l h.0 m.0) are m.2);
   others = λ q free. same q ∙ unedited w ms old mid late apart keeps q free;
 }
@@ -242,15 +242,15 @@ root-or-not w drops private R S F G old mid new same reads fails (inl h) = inl (
 root-or-not w drops private R S F G old mid new same reads fails (inr (inl x)) = inr (inl (x.0, reads x.0 x.1, x.2))
 root-or-not w drops private R S F G old mid new same reads fails (inr (inr f)) = inr (inr (fails f))
 
-root-by : (w : Wanted) (ms : List Member) (private : List Name) (failed fails : Type 0) (old mid late : Contents) → private ≡ gone w ms → HoldTexts old ms → KeepsApart w ms old mid → edits_root w ms ≡ true
-    → (failed → fails) → MakesRootOrNot w (drops_at_root w ms) private (IsRootText w ms mid) failed mid late → TurnsOrStays fails (IsRootEdit w.folder (drops_at_root w ms) (gone w ms)) w.root old late
+root-by : (w : Wanted) (ms : List Member) (private : List Name) (failed fails : Type 0) (old mid late : Contents) → private ≡ gone_manifests w ms → HoldTexts old ms → KeepsApart w ms old mid → edits_root w ms ≡ true
+    → (failed → fails) → MakesRootOrNot w (drops_at_root w ms) private (IsRootText w ms mid) failed mid late → TurnsOrStays fails (IsRootEdit w.folder (drops_at_root w ms) (gone_manifests w ms)) w.root old late
 root-by w ms private failed fails old mid late are holds apart asked more (inl h) = inl (h ∙ apart w.root (root-apart w ms asked))
 root-by w ms private failed fails old mid late are holds apart asked more (inr (inl x)) =
     inr (inl (x.0, x.2.0, root-old w ms old mid x.0 holds apart x.1, x.2.1, subst (λ l. IsRootEdit w.folder (drops_at_root w ms) l x.0 x.2.0) are x.2.2))
 root-by w ms private failed fails old mid late are holds apart asked more (inr (inr f)) = inr (inr (more f))
 
 -- the members' manifests are written, and the root's may be
-pub partly-root : (w : Wanted) (ms : List Member) (private : List Name) (failed fails : Type 0) (old mid late : Contents) → private ≡ gone w ms → HoldTexts old ms → AreTurned w ms mid → KeepsApart w ms old mid
+pub partly-root : (w : Wanted) (ms : List Member) (private : List Name) (failed fails : Type 0) (old mid late : Contents) → private ≡ gone_manifests w ms → HoldTexts old ms → AreTurned w ms mid → KeepsApart w ms old mid
     → KeepsBut w (edits_root w ms) mid late → (failed → fails) → MakesRootOrNot w (drops_at_root w ms) private (IsRootText w ms mid) failed mid late → IsPartlyPrepared w ms fails old late
 partly-root w ms private failed fails old mid late are holds turned apart keeps more made = record {
   alone = λ k d lt is.

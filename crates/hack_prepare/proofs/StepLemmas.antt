@@ -5,9 +5,9 @@ use Rattle.std.specs.Str.{bytes_eq}
 use Rattle.std.proofs.lemmas.Bool.{cond_both, true≢false}
 use Rattle.std.proofs.lemmas.List.Folds.{list_any-append}
 use Rattle.std.proofs.lemmas.Slice.Eq.{bytes_eq-Decides}
-use Rattle.hack_features.specs.Names.{Name}
+use Rattle.hack_base.specs.Names.{Name}
 use Rattle.hack_files.specs.Files.{Contents, KeepsAll, KeepsOthers}
-use Rattle.hack_files.specs.Restore.{AreSafe, Kept, is_kept, kept_too, registered}
+use Rattle.hack_files.specs.Restore.{AreSafe, Kept, is_kept, kept_too, registered_files}
 use Rattle.hack_files.specs.declared.restore.Manager.{Manager}
 use Rattle.hack_files.proofs.SafeLemmas.{kept_now, safe_kept, safe_same, safe_written}
 use Rattle.hack_prepare.specs.Paths.{Only}
@@ -44,7 +44,7 @@ step_look tells P K manager mid held same = record {
   needs = refl;
   unkept = λ _. refl;
   kept = λ q h. inl h;
-  safe = λ t needs start p h. safe_same (registered manager) start mid held (same t) h;
+  safe = λ t needs start p h. safe_same (registered_files manager) start mid held (same t) h;
 }
 
 -- what is read at a path is written there, if it is kept
@@ -54,7 +54,7 @@ step_read tells path held K old new first mid late same holds h = record {
   needs = h.needs;
   unkept = h.unkept;
   kept = h.kept;
-  safe = λ t e start _ s. h.safe t e start (λ free. sym (s.others path free) ∙ holds t) (safe_same (registered old) start first mid (same t) s);
+  safe = λ t e start _ s. h.safe t e start (λ free. sym (s.others path free) ∙ holds t) (safe_same (registered_files old) start first mid (same t) s);
 }
 
 unkept_by : (needs : Bool) (kept too more : List Kept) → more ≡ cond needs too kept → needs ≡ false → more ≡ kept
@@ -83,46 +83,46 @@ only_by false files more file is q took = inl (subst (λ l. is_kept l q ≡ true
 
 -- what a path held is kept, and it is written
 pub replaced : (tells : Type 0) (file : Kept) (held : Name) (old new : Manager) (mid late : Contents)
-    → file.bytes ≡ held → registered new ≡ cond old.needs_restore (kept_too (registered old) file) (registered old) → new.needs_restore ≡ old.needs_restore
+    → file.bytes ≡ held → registered_files new ≡ cond old.needs_restore (kept_too (registered_files old) file) (registered_files old) → new.needs_restore ≡ old.needs_restore
     → (tells → KeepsOthers file.path mid late) → IsStep tells (HeldUnkept old file.path held) (Only file.path) old new mid late
 replaced tells file held old new mid late same is needs keeps =
-    let too = kept_too (registered old) file in
+    let too = kept_too (registered_files old) file in
     record {
       needs = needs;
-      unkept = λ e. unkept_by old.needs_restore (registered old) too (registered new) is e;
-      kept = only_by old.needs_restore (registered old) (registered new) file is;
+      unkept = λ e. unkept_by old.needs_restore (registered_files old) too (registered_files new) is e;
+      kept = only_by old.needs_restore (registered_files old) (registered_files new) file is;
       safe = λ t e start given h.
-          subst (λ l. AreSafe l start late) (sym (kept_by old.needs_restore (registered old) too (registered new) is e))
-          (safe_written too file.path start mid late (kept_now (registered old) file) (keeps t) (safe_kept (registered old) file start mid (λ free. given free ∙ ap Some (sym same)) h));
+          subst (λ l. AreSafe l start late) (sym (kept_by old.needs_restore (registered_files old) too (registered_files new) is e))
+          (safe_written too file.path start mid late (kept_now (registered_files old) file) (keeps t) (safe_kept (registered_files old) file start mid (λ free. given free ∙ ap Some (sym same)) h));
     }
 
 -- what a path holds is kept
 pub locked : (tells : Type 0) (file : Kept) (old new : Manager) (mid late : Contents)
-    → registered new ≡ cond old.needs_restore (kept_too (registered old) file) (registered old) → new.needs_restore ≡ old.needs_restore
+    → registered_files new ≡ cond old.needs_restore (kept_too (registered_files old) file) (registered_files old) → new.needs_restore ≡ old.needs_restore
     → (tells → mid file.path ≡ Some file.bytes) → (tells → KeepsAll mid late) → IsStep tells AnyStart (Only file.path) old new mid late
 locked tells file old new mid late is needs holds same =
-    let too = kept_too (registered old) file in
+    let too = kept_too (registered_files old) file in
     record {
       needs = needs;
-      unkept = λ e. unkept_by old.needs_restore (registered old) too (registered new) is e;
-      kept = only_by old.needs_restore (registered old) (registered new) file is;
+      unkept = λ e. unkept_by old.needs_restore (registered_files old) too (registered_files new) is e;
+      kept = only_by old.needs_restore (registered_files old) (registered_files new) file is;
       safe = λ t e start _ h.
-          subst (λ l. AreSafe l start late) (sym (kept_by old.needs_restore (registered old) too (registered new) is e))
-          (safe_same too start mid late (same t) (safe_kept (registered old) file start mid (λ free. sym (h.others file.path free) ∙ holds t) h));
+          subst (λ l. AreSafe l start late) (sym (kept_by old.needs_restore (registered_files old) too (registered_files new) is e))
+          (safe_same too start mid late (same t) (safe_kept (registered_files old) file start mid (λ free. sym (h.others file.path free) ∙ holds t) h));
     }
 
 -- and then it is kept
-pub locked_now : (file : Kept) (old new : Manager) → registered new ≡ cond old.needs_restore (kept_too (registered old) file) (registered old)
-    → old.needs_restore ≡ true → is_kept (registered new) file.path ≡ true
+pub locked_now : (file : Kept) (old new : Manager) → registered_files new ≡ cond old.needs_restore (kept_too (registered_files old) file) (registered_files old)
+    → old.needs_restore ≡ true → is_kept (registered_files new) file.path ≡ true
 locked_now file old new is e =
-    subst (λ l. is_kept l file.path ≡ true) (sym (kept_by old.needs_restore (registered old) (kept_too (registered old) file) (registered new) is e)) (kept_now (registered old) file)
+    subst (λ l. is_kept l file.path ≡ true) (sym (kept_by old.needs_restore (registered_files old) (kept_too (registered_files old) file) (registered_files new) is e)) (kept_now (registered_files old) file)
 
 -- no more is kept, and at most this is looked at
 pub step_same : (tells : Type 0) (P : Contents → Type 0) (K : Name → Type 0) (old new : Manager) (mid held : Contents)
-    → registered new ≡ registered old → new.needs_restore ≡ old.needs_restore → (tells → KeepsAll mid held) → IsStep tells P K old new mid held
+    → registered_files new ≡ registered_files old → new.needs_restore ≡ old.needs_restore → (tells → KeepsAll mid held) → IsStep tells P K old new mid held
 step_same tells P K old new mid held is needs same = record {
   needs = needs;
   unkept = λ _. is;
   kept = λ q took. inl (subst (λ l. is_kept l q ≡ true) is took);
-  safe = λ t e start p h. subst (λ l. AreSafe l start held) (sym is) (safe_same (registered old) start mid held (same t) h);
+  safe = λ t e start p h. subst (λ l. AreSafe l start held) (sym is) (safe_same (registered_files old) start mid held (same t) h);
 }

@@ -1,7 +1,7 @@
 -- Why manifests aren't edited.
 use Rattle.std.specs.Prelude.{◌≡◌, ◌⊎◌, Bool, true, false, MatchBool, Some, None, List, Contains, string_bytes}
 use Rattle.toml.specs.Parse.{parse_document}
-use Rattle.hack_features.specs.Names.{Name}
+use Rattle.hack_base.specs.Names.{Name}
 use Rattle.hack_files.specs.declared.fs.FsFault.{FsFault}
 use Rattle.hack_files.specs.declared.fs.FsFault.TheVariants as fs
 use Rattle.hack_files.specs.Files.{Contents}
@@ -11,7 +11,7 @@ use Rattle.hack_edits.specs.PrivateCrates.{HasBadForm, HasWork, some_path_contro
 use Rattle.hack_edits.specs.declared.fault.ManifestFault.{ManifestFault}
 use Rattle.hack_edits.specs.declared.fault.ManifestFault.TheVariants as edit
 use Rattle.hack_prepare.specs.Paths.{IsEdited, IsLookedAt, IsReadRoot, IsTextless}
-use Rattle.hack_prepare.specs.Prepared.{HasPrivateRoot, Member, Wanted, drops_at_root, edits_root, gone, has_some, is_alone}
+use Rattle.hack_prepare.specs.Prepared.{HasPrivateRoot, Member, Wanted, drops_at_root, edits_root, gone_manifests, has_some, is_alone}
 use Rattle.hack_prepare.specs.Steps.{IsRootText}
 use Rattle.hack_prepare.specs.declared.fault.PrepareFault.{PrepareFault}
 use Rattle.hack_prepare.specs.declared.fault.PrepareFault.TheVariants.{Memory, PrivateRoot, Files, Toml, InlineTarget, WorkspaceForm, PathText, ReadBack}
@@ -99,7 +99,7 @@ pub record IsRootFault (w : Wanted) (ms : List Member) (tells : Type 0) (held : 
   pub text : Name
   pub asked : edits_root w ms ≡ true
   pub read : tells → IsRootText w ms held text
-  pub fault : IsTextFault w (drops_at_root w ms) (gone w ms) text e
+  pub fault : IsTextFault w (drops_at_root w ms) (gone_manifests w ms) text e
 
 -- an edit isn't made
 abbrev pub IsUnmade : Wanted → List Member → Type 0 → Contents → PrepareFault → Type 0

@@ -1,7 +1,7 @@
 -- Paths that are read, written and kept.
 use Rattle.std.specs.Prelude.{◌≡◌, ◌⊎◌, Bool, true, false, List}
 use Rattle.std.specs.List.{list_any}
-use Rattle.hack_features.specs.Names.{Name}
+use Rattle.hack_base.specs.Names.{Name}
 use Rattle.hack_files.specs.Faults.{HoldsNoText}
 use Rattle.hack_files.specs.Files.{Contents}
 use Rattle.hack_prepare.specs.Prepared.{Member, Wanted, edits_root, has_root, is_alone_at, is_edited}

@@ -2,7 +2,7 @@
 use Rattle.std.specs.Prelude.{◌≡◌, ◌⊎◌, ◌&&◌, ◌||◌, Bool, true, false, not, MatchBool, List, [], ◌∷◌, Some, All, Contains, map}
 use Rattle.std.specs.List.{filter, list_any}
 use Rattle.std.specs.Str.{bytes_eq}
-use Rattle.hack_features.specs.Names.{Name}
+use Rattle.hack_base.specs.Names.{Name}
 use Rattle.hack_files.specs.Files.{Contents}
 use Rattle.hack_edits.specs.DevDeps.{IsWithoutDev}
 use Rattle.hack_edits.specs.Members.{in_order}
@@ -58,8 +58,8 @@ abbrev pub is_alone_at : Wanted → Name → Member → Bool
 is_alone_at w q m = is_alone w m && bytes_eq m.path q
 
 -- the manifests of the members that go
-abbrev pub gone : Wanted → List Member → List Name
-gone w ms = map (λ m. m.path) (filter (goes w) ms)
+abbrev pub gone_manifests : Wanted → List Member → List Name
+gone_manifests w ms = map (λ m. m.path) (filter (goes w) ms)
 
 -- there are some
 abbrev pub has_some : List Name → Bool
@@ -76,7 +76,7 @@ drops_at_root w ms = w.drops_dev && has_root w ms
 
 -- the manifest in the folder of the workspace gets its edits at the end
 abbrev pub edits_root : Wanted → List Member → Bool
-edits_root w ms = w.no_private && (drops_at_root w ms || has_some (gone w ms))
+edits_root w ms = w.no_private && (drops_at_root w ms || has_some (gone_manifests w ms))
 
 -- a path is edited
 abbrev pub is_edited : Wanted → List Member → Name → Bool
@@ -101,7 +101,7 @@ KeepsUnedited w ms old new = (q : Name) → is_edited w ms q ≡ false → new q
 -- each manifest that is edited holds its edit, and every other path what it held
 pub record IsPrepared (w : Wanted) (ms : List Member) (old new : Contents) : Type 0 where
   pub alone : All (λ m. is_alone w m ≡ true → Turns IsWithoutDev m.path old new) ms
-  pub root : edits_root w ms ≡ true → Turns (IsRootEdit w.folder (drops_at_root w ms) (gone w ms)) w.root old new
+  pub root : edits_root w ms ≡ true → Turns (IsRootEdit w.folder (drops_at_root w ms) (gone_manifests w ms)) w.root old new
   pub others : KeepsUnedited w ms old new
 
 -- a path holds what it held, or what is made of that so, or this has failed
@@ -111,7 +111,7 @@ TurnsOrStays failed P path old new = (new path ≡ old path) ⊎ (Turns P path o
 -- each manifest that is edited holds what it held, or its edit, or this has failed
 pub record IsPartlyPrepared (w : Wanted) (ms : List Member) (failed : Type 0) (old new : Contents) : Type 0 where
   pub alone : All (λ m. is_alone w m ≡ true → TurnsOrStays failed IsWithoutDev m.path old new) ms
-  pub root : edits_root w ms ≡ true → TurnsOrStays failed (IsRootEdit w.folder (drops_at_root w ms) (gone w ms)) w.root old new
+  pub root : edits_root w ms ≡ true → TurnsOrStays failed (IsRootEdit w.folder (drops_at_root w ms) (gone_manifests w ms)) w.root old new
 
 -- a private member stands in the folder of the workspace, and private members are to go
 pub record HasPrivateRoot (w : Wanted) (ms : List Member) : Type 0 where

@@ -1,11 +1,11 @@
 -- What a call wants of the manifests, from what is loaded for it.
 use Rattle.std.specs.Prelude.{◌≡◌, ◌⊎◌, ◌||◌, ℕ, Bool, true, List, Option, codes, map, option_and_then, option_map, string_bytes}
 use Rattle.std.specs.List.{filter_map}
-use Rattle.hack_process.specs.PathTexts.{join_of}
+use Rattle.hack_base.specs.PathTexts.{join_of}
 use Rattle.hack_load.specs.Contexts.{ContextRecord, is_private_at, manifest_at, package_at}
-use Rattle.hack_features.specs.Names.{Name}
+use Rattle.hack_base.specs.Names.{Name}
 use Rattle.hack_files.specs.Files.{Contents}
-use Rattle.hack_versions.specs.Notes.{Note}
+use Rattle.hack_base.specs.Notes.{Note}
 use Rattle.hack_prepare.specs.Faults.{IsEditsFault}
 use Rattle.hack_prepare.specs.Paths.{IsTouched}
 use Rattle.hack_prepare.specs.Prepared.{HasPrivateRoot, HoldTexts, IsPartlyPrepared, IsPrepared, KeepsUnedited, Member, Wanted, edits}

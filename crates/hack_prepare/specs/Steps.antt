@@ -2,9 +2,9 @@
 use Rattle.std.specs.Prelude.{◌≡◌, ◌⊎◌, ◌&&◌, ◌||◌, ℕ, Bool, true, false, List, Some, MatchOption, All}
 use Rattle.std.specs.List.{find, list_any}
 use Rattle.std.specs.Str.{bytes_eq}
-use Rattle.hack_features.specs.Names.{Name}
+use Rattle.hack_base.specs.Names.{Name}
 use Rattle.hack_files.specs.Files.{Contents, GrowsBy}
-use Rattle.hack_files.specs.Restore.{AreSafe, is_kept, registered}
+use Rattle.hack_files.specs.Restore.{AreSafe, is_kept, registered_files}
 use Rattle.hack_files.specs.declared.restore.Manager.{Manager}
 use Rattle.hack_edits.specs.DevDeps.{IsWithoutDev}
 use Rattle.hack_prepare.specs.Prepared.{Member, Wanted, IsRootEdit, has_some, is_alone, is_alone_at, is_root}
@@ -15,15 +15,15 @@ Grows before now = (k : ℕ) × GrowsBy k before now
 
 -- a path that is kept was kept before, or is one of these
 abbrev pub KeepsOnly : (Name → Type 0) → Manager → Manager → Type 0
-KeepsOnly P old new = (q : Name) → is_kept (registered new) q ≡ true → (is_kept (registered old) q ≡ true) ⊎ P q
+KeepsOnly P old new = (q : Name) → is_kept (registered_files new) q ≡ true → (is_kept (registered_files old) q ≡ true) ⊎ P q
 
 -- What a step does to the manager and to what files hold: it keeps none but these paths, and where files come back, what is
 -- safe stays so for each start that meets a premise.
 pub record IsStep (tells : Type 0) (P : Contents → Type 0) (K : Name → Type 0) (old new : Manager) (mid held : Contents) : Type 0 where
   pub needs : new.needs_restore ≡ old.needs_restore
-  pub unkept : old.needs_restore ≡ false → registered new ≡ registered old
+  pub unkept : old.needs_restore ≡ false → registered_files new ≡ registered_files old
   pub kept : KeepsOnly K old new
-  pub safe : tells → old.needs_restore ≡ true → (start : Contents) → P start → AreSafe (registered old) start mid → AreSafe (registered new) start held
+  pub safe : tells → old.needs_restore ≡ true → (start : Contents) → P start → AreSafe (registered_files old) start mid → AreSafe (registered_files new) start held
 
 -- nothing is asked of the start
 abbrev pub AnyStart : Contents → Type 0
@@ -31,7 +31,7 @@ AnyStart start = Unit {0}
 
 -- a path that isn't kept held this
 abbrev pub HeldUnkept : Manager → Name → Name → Contents → Type 0
-HeldUnkept old path held start = is_kept (registered old) path ≡ false → start path ≡ Some held
+HeldUnkept old path held start = is_kept (registered_files old) path ≡ false → start path ≡ Some held
 
 -- the member's manifest holds what was read there
 abbrev pub HoldsText : Member → Contents → Type 0

@@ -1,11 +1,11 @@
 -- What the user is told of edits.
 use Rattle.std.specs.Prelude.{◌++◌, ◌&&◌, Bool, List, [], codes, if◌then◌else◌}
 use Rattle.std.specs.List.{flat_map}
-use Rattle.hack_features.specs.Names.{Name}
-use Rattle.hack_versions.specs.Notes.{Note}
-use Rattle.hack_versions.specs.declared.notice.NoticeKind.TheVariants.{Info}
-use Rattle.hack_words.specs.Call.{note_if}
-use Rattle.hack_prepare.specs.Prepared.{Member, Wanted, drops_at_root, gone, has_some, is_alone}
+use Rattle.hack_base.specs.Names.{Name}
+use Rattle.hack_base.specs.Notes.{Note}
+use Rattle.hack_base.specs.declared.notice.NoticeKind.TheVariants.{Info}
+use Rattle.hack_base.specs.Notes.{note_if}
+use Rattle.hack_prepare.specs.Prepared.{Member, Wanted, drops_at_root, gone_manifests, has_some, is_alone}
 
 -- a manifest's development dependencies go
 abbrev pub dev_note : Bool → Name → List Note
@@ -25,7 +25,7 @@ edit_notes w drops_dev private = dev_note (drops_dev && w.verbose) w.root ++ pri
 
 -- the same, for all members
 abbrev pub root_notes : Wanted → List Member → List Note
-root_notes w ms = if w.no_private then edit_notes w (drops_at_root w ms) (gone w ms) else []
+root_notes w ms = if w.no_private then edit_notes w (drops_at_root w ms) (gone_manifests w ms) else []
 
 -- of all edits
 abbrev pub notes : Wanted → List Member → List Note

@@ -1,7 +1,7 @@
 //! The edits of a manifest's text, told by the path of the manifest.
 
 ghost use Rattle.std.specs.Prelude.{IfErr, IfOk, string_bytes};
-ghost use Rattle.hack_process.specs.PathTexts.{texts};
+ghost use Rattle.hack_base.specs.Names.{names_behind};
 ghost use Rattle.hack_edits.specs.DevDeps.{IsWithoutDev};
 ghost use Rattle.hack_edits.specs.Members.{in_order};
 ghost use Rattle.hack_edits.specs.PrivateCrates.{IsWithoutPrivate};
@@ -31,9 +31,10 @@ pub(crate) fn without_private(
     text: &str,
 ) -> Result<String, PrepareFault>
     ensures ok { IfOk result (λ new.
-        IsWithoutPrivate folder.now (in_order (texts private.now)) text.now (string_bytes new)) }
+        IsWithoutPrivate folder.now (in_order (names_behind private.now)) text.now
+        (string_bytes new)) }
     ensures err { IfErr result
-        (IsPrivateFault path.now folder.now (in_order (texts private.now)) text.now) }
+        (IsPrivateFault path.now folder.now (in_order (names_behind private.now)) text.now) }
 {
     match remove_private_crates(alloc, text, folder, private) {
         Ok(new) => Ok(new),

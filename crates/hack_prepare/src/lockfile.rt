@@ -2,7 +2,7 @@
 
 ghost use Rattle.std.specs.Prelude.{◌≡◌, OnOk, IfErr, IfSome, true};
 ghost use Rattle.hack_files.specs.Files.{KeepsAll};
-ghost use Rattle.hack_files.specs.Restore.{is_kept, registered};
+ghost use Rattle.hack_files.specs.Restore.{is_kept, registered_files};
 ghost use Rattle.hack_prepare.specs.Counts.{CountsCalls};
 ghost use Rattle.hack_prepare.specs.Faults.{IsFault, NoFault};
 ghost use Rattle.hack_prepare.specs.Paths.{Nowhere, Only};
@@ -26,7 +26,7 @@ pub(crate) fn keep_lockfile<F: Files>(
         (F.bytes_at files.old) (F.bytes_at files.new) }
     ensures kept { OnOk result (F.tells → manager.old.needs_restore ≡ true
         → IfSome (F.bytes_at files.old path.now) (λ _.
-        is_kept (registered manager.new) path.now ≡ true)) }
+        is_kept (registered_files manager.new) path.now ≡ true)) }
     ensures same { F.tells → KeepsAll (F.bytes_at files.old) (F.bytes_at files.new) }
     ensures err { IfErr result (IsFault (Only path.now) Nowhere Nowhere NoFault) }
 {

@@ -1,14 +1,14 @@
 //! The manifests of members that are edited by themselves.
 
-ghost use Rattle.std.specs.Prelude.{◌≡◌, ◌++◌, IfErr, IfOk, OnOk, map};
+ghost use Rattle.std.specs.Prelude.{◌≡◌, IfErr, IfOk, OnOk};
 ghost use Rattle.std.specs.List.{flat_map};
 ghost use Rattle.hack_files.specs.Files.{GrowsBy, KeepsOthers};
-ghost use Rattle.hack_process.specs.PathTexts.{texts};
-ghost use Rattle.hack_versions.specs.Notes.{note_of};
+ghost use Rattle.hack_base.specs.Names.{names_behind};
+ghost use Rattle.hack_base.specs.Notes.{AddsNotes};
 ghost use Rattle.hack_prepare.specs.Counts.{CountsCalls};
 ghost use Rattle.hack_prepare.specs.Faults.{IsDevFault, IsFault, IsMembersFault};
 ghost use Rattle.hack_prepare.specs.Paths.{IsAlonePath, Nowhere, Only};
-ghost use Rattle.hack_prepare.specs.Prepared.{HasPrivateRoot, HoldTexts, gone};
+ghost use Rattle.hack_prepare.specs.Prepared.{HasPrivateRoot, HoldTexts, gone_manifests};
 ghost use Rattle.hack_prepare.specs.PreparedView.{member_view, members_view, wanted_view};
 ghost use Rattle.hack_prepare.specs.Steps.{ArePartlyTurned, AreTurned, HoldsText, IsStep};
 ghost use Rattle.hack_prepare.specs.Steps.{IsTurned, IsTurnedOrNot, KeepsApart};
@@ -19,9 +19,9 @@ use crate::fault::PrepareFault;
 use crate::replace::replace;
 use crate::told::tell_dev;
 use crate::wanted::{Member, Wanted};
+use hack_base::notice::Notice;
 use hack_files::fs::Files;
 use hack_files::restore::Manager;
-use hack_versions::notice::Notice;
 use std::alloc::Global;
 
 /// Takes the development dependencies out of the manifests that are edited by themselves, and
@@ -49,11 +49,12 @@ pub(crate) fn edit_members<'a, F: Files>(
     ensures others { F.tells → KeepsApart (wanted_view wanted.now) (members_view members.now)
         (F.bytes_at files.old) (F.bytes_at files.new) }
     ensures gone { IfOk result (λ paths.
-        texts paths.items ≡ gone (wanted_view wanted.now) (members_view members.now)) }
+        names_behind paths.items ≡ gone_manifests (wanted_view wanted.now)
+        (members_view members.now)) }
     ensures never { OnOk result
         (¬ HasPrivateRoot (wanted_view wanted.now) (members_view members.now)) }
-    ensures told { OnOk result (map note_of notices.new.items ≡ map note_of notices.old.items
-        ++ flat_map (member_notes (wanted_view wanted.now)) (members_view members.now)) }
+    ensures told { OnOk result (AddsNotes notices.old notices.new
+        (flat_map (member_notes (wanted_view wanted.now)) (members_view members.now))) }
     ensures err { IfErr result (IsFault Nowhere
         (IsAlonePath (wanted_view wanted.now) (members_view members.now)) Nowhere
         (IsMembersFault (wanted_view wanted.now) (members_view members.now))) }
@@ -92,8 +93,8 @@ fn edit_member<F: Files>(
         (F.bytes_at files.old) (F.bytes_at files.new) (member_view member.now) }
     ensures others { F.tells → KeepsOthers (member_view member.now).path
         (F.bytes_at files.old) (F.bytes_at files.new) }
-    ensures told { OnOk result (map note_of notices.new.items
-        ≡ map note_of notices.old.items ++ dev_note verbose (member_view member.now).path) }
+    ensures told { OnOk result (AddsNotes notices.old notices.new
+        (dev_note verbose (member_view member.now).path)) }
     ensures err { IfErr result (IsFault Nowhere (Only (member_view member.now).path) Nowhere
         (IsDevFault (member_view member.now).path (member_view member.now).text)) }
 {

@@ -3,9 +3,9 @@
 ghost use Rattle.std.specs.Prelude.{◌≡◌, ◌<◌, ◌↔◌, ◌⊎◌, ◌||◌, IfErr, IfOk, IfSome, OnOk, IsTrue};
 ghost use Rattle.std.specs.Prelude.{List, false, map, true};
 ghost use Rattle.hack_files.specs.Files.{Change, Contents, GrowsBy, Makes};
-ghost use Rattle.hack_files.specs.Restore.{AreSafe, Brings, Tried, is_kept, registered};
+ghost use Rattle.hack_files.specs.Restore.{AreSafe, Brings, Tried, is_kept, registered_files};
 ghost use Rattle.hack_load.specs.ContextView.{context_view};
-ghost use Rattle.hack_versions.specs.Notes.{note_of};
+ghost use Rattle.hack_base.specs.Notes.{note_of};
 ghost use Rattle.hack_prepare.specs.Counts.{CountsCalls};
 ghost use Rattle.hack_prepare.specs.Faults.{IsEditsFault};
 ghost use Rattle.hack_prepare.specs.Paths.{IsTouched};
@@ -24,12 +24,12 @@ use crate::lockfile::keep_lockfile;
 use crate::members::edit_members;
 use crate::root::edit_root;
 use crate::wanted::{Member, Wanted, members_of};
+use hack_base::notice::Notice;
+use hack_base::paths::join;
 use hack_files::fs::Files;
 use hack_files::restore::Manager;
 use hack_load::context::Context;
-use hack_process::paths::join;
 use hack_term::term::Term;
-use hack_versions::notice::Notice;
 use hack_words::cli::Args;
 use std::alloc::Global;
 use std::io::Write;
@@ -50,13 +50,13 @@ pub fn prepare<F: Files>(
     ensures counted { CountsCalls (F.failed files.old) (F.failed files.new) result }
     ensures needs { manager.new.needs_restore ≡ manager.old.needs_restore }
     ensures unkept { manager.old.needs_restore ≡ false
-        → registered manager.new ≡ registered manager.old }
+        → registered_files manager.new ≡ registered_files manager.old }
 
     // Whatever comes of it, what was written since comes back.
     ensures safe { F.tells → manager.old.needs_restore ≡ true → (start : Contents)
         → HoldTextsIn (context_view cx.now) start
-        → AreSafe (registered manager.old) start (F.bytes_at files.old)
-        → AreSafe (registered manager.new) start (F.bytes_at files.new) }
+        → AreSafe (registered_files manager.old) start (F.bytes_at files.old)
+        → AreSafe (registered_files manager.new) start (F.bytes_at files.new) }
 
     // No path is kept but those that are edited and the lockfile, and none where no edit is asked.
     ensures kept { KeepsOnly (IsTouchedIn (context_view cx.now)) manager.old manager.new }
@@ -78,7 +78,7 @@ pub fn prepare<F: Files>(
     ensures lockfile { OnOk result (F.tells → manager.old.needs_restore ≡ true
         → edits_in (context_view cx.now) ≡ true
         → IfSome (F.bytes_at files.new (wanted_in (context_view cx.now)).lockfile) (λ _.
-        is_kept (registered manager.new) (wanted_in (context_view cx.now)).lockfile ≡ true)) }
+        is_kept (registered_files manager.new) (wanted_in (context_view cx.now)).lockfile ≡ true)) }
     ensures never { OnOk result (¬ HasPrivateRootIn (context_view cx.now)) }
     ensures told { IfOk result (λ notices.
         map note_of notices.items ≡ notes_in (context_view cx.now)) }
@@ -149,7 +149,7 @@ fn edit<F: Files>(
         (F.bytes_at files.old) (F.bytes_at files.new) }
     ensures lockfile { OnOk result (F.tells → manager.old.needs_restore ≡ true
         → IfSome (F.bytes_at files.new (wanted_view wanted.now).lockfile) (λ _.
-        is_kept (registered manager.new) (wanted_view wanted.now).lockfile ≡ true)) }
+        is_kept (registered_files manager.new) (wanted_view wanted.now).lockfile ≡ true)) }
     ensures never { OnOk result
         (¬ HasPrivateRoot (wanted_view wanted.now) (members_view members.now)) }
     ensures told { IfOk result (λ notices. map note_of notices.items
@@ -181,9 +181,9 @@ pub fn finish<F: Files, W: Write>(
 ) -> u64
     ensures stays { F.stays files.old files.new }
     ensures counted { GrowsBy result (F.failed files.old) (F.failed files.new) }
-    ensures restored { F.tells → Brings (registered manager)
+    ensures restored { F.tells → Brings (registered_files manager)
         (F.bytes_at files.old) (F.bytes_at files.new) result }
-    ensures tried { F.whole → (made : List Change) × Tried (registered manager) made result
+    ensures tried { F.whole → (made : List Change) × Tried (registered_files manager) made result
         × Makes made (F.trace files.old) (F.trace files.new)
         (F.bytes_at files.old) (F.bytes_at files.new) }
     ensures noted { IsTrue term.new.error ↔ (IsTrue term.old.error ⊎ (0 < result)) }

@@ -1,12 +1,12 @@
 //! The manifest in the folder of the workspace, which gets all its edits in one write.
 
-ghost use Rattle.std.specs.Prelude.{◌≡◌, ◌⊎◌, ◌++◌, ◌&&◌, ◌||◌, IfErr, IfOk, OnOk, MatchBool, Some};
-ghost use Rattle.std.specs.Prelude.{map, option_copied, option_map, string_bytes, true, false};
+ghost use Rattle.std.specs.Prelude.{◌≡◌, ◌⊎◌, ◌&&◌, ◌||◌, IfErr, IfOk, OnOk, MatchBool, Some};
+ghost use Rattle.std.specs.Prelude.{option_copied, option_map, string_bytes, true, false};
 ghost use Rattle.std.specs.List.{find};
-ghost use Rattle.hack_features.specs.Names.{Name};
+ghost use Rattle.hack_base.specs.Names.{Name};
 ghost use Rattle.hack_files.specs.Files.{GrowsBy};
-ghost use Rattle.hack_process.specs.PathTexts.{texts};
-ghost use Rattle.hack_versions.specs.Notes.{note_of};
+ghost use Rattle.hack_base.specs.Names.{names_behind};
+ghost use Rattle.hack_base.specs.Notes.{AddsNotes};
 ghost use Rattle.hack_edits.specs.DevDeps.{IsWithoutDev};
 ghost use Rattle.hack_edits.specs.Members.{in_order};
 ghost use Rattle.hack_edits.specs.PrivateCrates.{IsWithoutPrivate};
@@ -14,7 +14,7 @@ ghost use Rattle.hack_prepare.specs.Counts.{CountsCalls};
 ghost use Rattle.hack_prepare.specs.Faults.{IsDevFault, IsFault, IsHeldFault, IsPrivateFault};
 ghost use Rattle.hack_prepare.specs.Faults.{IsRootFault, IsTextFault};
 ghost use Rattle.hack_prepare.specs.Paths.{IsReadRoot, IsTextless, Nowhere, Only, OnlyIf};
-ghost use Rattle.hack_prepare.specs.Prepared.{HoldTexts, drops_at_root, edits_root, gone};
+ghost use Rattle.hack_prepare.specs.Prepared.{HoldTexts, drops_at_root, edits_root, gone_manifests};
 ghost use Rattle.hack_prepare.specs.Prepared.{has_some, is_root};
 ghost use Rattle.hack_prepare.specs.PreparedView.{members_view, wanted_view};
 ghost use Rattle.hack_prepare.specs.Steps.{AnyStart, HeldUnkept, IsRootText, IsStep, KeepsBut};
@@ -26,9 +26,9 @@ use crate::fault::{PrepareFault, of_file};
 use crate::replace::replace;
 use crate::told::{tell_dev, tell_private};
 use crate::wanted::{Member, Wanted};
+use hack_base::notice::Notice;
 use hack_files::fs::{Files, read_to_string};
 use hack_files::restore::Manager;
-use hack_versions::notice::Notice;
 use std::alloc::{AllocError, Global};
 
 /// Edits the manifest in the folder of the workspace, where that is wanted: `private`
@@ -42,7 +42,8 @@ pub(crate) fn edit_root<F: Files>(
     manager: &mut Manager,
     notices: &mut Vec<Notice>,
 ) -> Result<(), PrepareFault>
-    requires { texts private.now ≡ gone (wanted_view wanted.now) (members_view members.now) }
+    requires { names_behind private.now ≡ gone_manifests (wanted_view wanted.now)
+        (members_view members.now) }
     ensures stays { F.stays files.old files.new }
     ensures counted { CountsCalls (F.failed files.old) (F.failed files.new) result }
     ensures step { IsStep F.tells (λ start. HoldTexts start (members_view members.now))
@@ -53,18 +54,20 @@ pub(crate) fn edit_root<F: Files>(
         → edits_root (wanted_view wanted.now) (members_view members.now) ≡ true → (text : Name)
         × IsRootText (wanted_view wanted.now) (members_view members.now) (F.bytes_at files.old) text
         × MakesRoot (wanted_view wanted.now)
-        (drops_at_root (wanted_view wanted.now) (members_view members.now)) (texts private.now) text
+        (drops_at_root (wanted_view wanted.now) (members_view members.now))
+        (names_behind private.now) text
         (F.bytes_at files.new)) }
     ensures partly { F.tells → MakesRootOrNot (wanted_view wanted.now)
-        (drops_at_root (wanted_view wanted.now) (members_view members.now)) (texts private.now)
+        (drops_at_root (wanted_view wanted.now) (members_view members.now))
+        (names_behind private.now)
         (IsRootText (wanted_view wanted.now) (members_view members.now) (F.bytes_at files.old))
         (GrowsBy 1 (F.failed files.old) (F.failed files.new))
         (F.bytes_at files.old) (F.bytes_at files.new) }
     ensures others { F.tells → KeepsBut (wanted_view wanted.now)
         (edits_root (wanted_view wanted.now) (members_view members.now))
         (F.bytes_at files.old) (F.bytes_at files.new) }
-    ensures told { OnOk result (map note_of notices.new.items ≡ map note_of notices.old.items
-        ++ root_notes (wanted_view wanted.now) (members_view members.now)) }
+    ensures told { OnOk result (AddsNotes notices.old notices.new
+        (root_notes (wanted_view wanted.now) (members_view members.now))) }
     ensures err { IfErr result (IsFault
         (IsReadRoot (wanted_view wanted.now) (members_view members.now))
         (OnlyIf (edits_root (wanted_view wanted.now) (members_view members.now))
@@ -117,25 +120,28 @@ fn edit_virtual<F: Files>(
     ensures stays { F.stays files.old files.new }
     ensures counted { CountsCalls (F.failed files.old) (F.failed files.new) result }
     ensures step { IsStep F.tells AnyStart
-        (OnlyIf (has_some (texts private.now)) wanted.now.root.now)
+        (OnlyIf (has_some (names_behind private.now)) wanted.now.root.now)
         manager.old manager.new (F.bytes_at files.old) (F.bytes_at files.new) }
-    ensures edited { OnOk result (F.tells → has_some (texts private.now) ≡ true
+    ensures edited { OnOk result (F.tells → has_some (names_behind private.now) ≡ true
         → (text : Name) × (F.bytes_at files.old wanted.now.root.now ≡ Some text)
-        × MakesRoot (wanted_view wanted.now) false (texts private.now) text
+        × MakesRoot (wanted_view wanted.now) false (names_behind private.now) text
         (F.bytes_at files.new)) }
-    ensures partly { F.tells → MakesRootOrNot (wanted_view wanted.now) false (texts private.now)
+    ensures partly { F.tells → MakesRootOrNot (wanted_view wanted.now) false
+        (names_behind private.now)
         (λ text. F.bytes_at files.old wanted.now.root.now ≡ Some text)
         (GrowsBy 1 (F.failed files.old) (F.failed files.new))
         (F.bytes_at files.old) (F.bytes_at files.new) }
-    ensures others { F.tells → KeepsBut (wanted_view wanted.now) (has_some (texts private.now))
+    ensures others { F.tells → KeepsBut (wanted_view wanted.now)
+        (has_some (names_behind private.now))
         (F.bytes_at files.old) (F.bytes_at files.new) }
-    ensures told { OnOk result (map note_of notices.new.items ≡ map note_of notices.old.items
-        ++ edit_notes (wanted_view wanted.now) false (texts private.now)) }
-    ensures err { IfErr result (IsFault (OnlyIf (has_some (texts private.now)) wanted.now.root.now)
-        (OnlyIf (has_some (texts private.now)) wanted.now.root.now)
+    ensures told { OnOk result (AddsNotes notices.old notices.new
+        (edit_notes (wanted_view wanted.now) false (names_behind private.now))) }
+    ensures err { IfErr result (IsFault (OnlyIf
+        (has_some (names_behind private.now)) wanted.now.root.now)
+        (OnlyIf (has_some (names_behind private.now)) wanted.now.root.now)
         (IsTextless F.tells (F.bytes_at files.old)
-        (OnlyIf (has_some (texts private.now)) wanted.now.root.now))
-        (IsHeldFault (wanted_view wanted.now) (texts private.now) F.tells
+        (OnlyIf (has_some (names_behind private.now)) wanted.now.root.now))
+        (IsHeldFault (wanted_view wanted.now) (names_behind private.now) F.tells
         (F.bytes_at files.old))) }
 {
     if private.is_empty() {
@@ -170,22 +176,23 @@ fn edit_held<F: Files>(
     ensures stays { F.stays files.old files.new }
     ensures counted { CountsCalls (F.failed files.old) (F.failed files.new) result }
     ensures step { IsStep F.tells (HeldUnkept manager.old wanted.now.root.now held.now)
-        (OnlyIf (drops_dev || has_some (texts private.now)) wanted.now.root.now)
+        (OnlyIf (drops_dev || has_some (names_behind private.now)) wanted.now.root.now)
         manager.old manager.new (F.bytes_at files.old) (F.bytes_at files.new) }
     ensures edited { OnOk result (F.tells → MakesRoot (wanted_view wanted.now) drops_dev
-        (texts private.now) held.now (F.bytes_at files.new)) }
+        (names_behind private.now) held.now (F.bytes_at files.new)) }
     ensures partly { F.tells → MakesRootOrNot (wanted_view wanted.now) drops_dev
-        (texts private.now) (Only held.now) (GrowsBy 1 (F.failed files.old) (F.failed files.new))
+        (names_behind private.now) (Only held.now)
+        (GrowsBy 1 (F.failed files.old) (F.failed files.new))
         (F.bytes_at files.old) (F.bytes_at files.new) }
     ensures others { F.tells → KeepsBut (wanted_view wanted.now)
-        (drops_dev || has_some (texts private.now))
+        (drops_dev || has_some (names_behind private.now))
         (F.bytes_at files.old) (F.bytes_at files.new) }
-    ensures told { OnOk result (map note_of notices.new.items ≡ map note_of notices.old.items
-        ++ edit_notes (wanted_view wanted.now) drops_dev (texts private.now)) }
+    ensures told { OnOk result (AddsNotes notices.old notices.new
+        (edit_notes (wanted_view wanted.now) drops_dev (names_behind private.now))) }
     ensures err { IfErr result (IsFault Nowhere
-        (OnlyIf (drops_dev || has_some (texts private.now)) wanted.now.root.now) Nowhere
-        (λ e. ((drops_dev || has_some (texts private.now)) ≡ true)
-        × IsTextFault (wanted_view wanted.now) drops_dev (texts private.now) held.now e)) }
+        (OnlyIf (drops_dev || has_some (names_behind private.now)) wanted.now.root.now) Nowhere
+        (λ e. ((drops_dev || has_some (names_behind private.now)) ≡ true)
+        × IsTextFault (wanted_view wanted.now) drops_dev (names_behind private.now) held.now e)) }
 {
     if !is_asked(drops_dev, private) {
         return Ok(());
@@ -197,7 +204,7 @@ fn edit_held<F: Files>(
 
 /// Whether there is something to do.
 fn is_asked(drops_dev: bool, private: &[&str]) -> bool
-    ensures { result ≡ (drops_dev || has_some (texts private.now)) }
+    ensures { result ≡ (drops_dev || has_some (names_behind private.now)) }
 {
     drops_dev || !private.is_empty()
 }
@@ -212,8 +219,8 @@ fn dev_edit(
 ) -> Result<String, PrepareFault>
     ensures ok { IfOk result (λ new. MatchBool drops_dev
         (IsWithoutDev text.now (string_bytes new)) (string_bytes new ≡ text.now)) }
-    ensures told { OnOk result (map note_of notices.new.items ≡ map note_of notices.old.items
-        ++ dev_note (drops_dev && wanted.now.verbose) wanted.now.root.now) }
+    ensures told { OnOk result (AddsNotes notices.old notices.new
+        (dev_note (drops_dev && wanted.now.verbose) wanted.now.root.now)) }
     ensures err { IfErr result (λ e. (e ≡ PrepareFault.Memory)
         ⊎ ((drops_dev ≡ true) × IsDevFault wanted.now.root.now text.now e)) }
 {
@@ -232,13 +239,15 @@ fn private_edit(
     text: String,
     notices: &mut Vec<Notice>,
 ) -> Result<String, PrepareFault>
-    ensures ok { IfOk result (λ new. MatchBool (has_some (texts private.now))
-        (IsWithoutPrivate wanted.now.folder.now (in_order (texts private.now))
+    ensures ok { IfOk result (λ new. MatchBool (has_some (names_behind private.now))
+        (IsWithoutPrivate wanted.now.folder.now (in_order (names_behind private.now))
         (string_bytes text) (string_bytes new)) (string_bytes new ≡ string_bytes text)) }
-    ensures told { OnOk result (map note_of notices.new.items ≡ map note_of notices.old.items
-        ++ private_note (has_some (texts private.now) && wanted.now.verbose) wanted.now.root.now) }
+    ensures told { OnOk result (AddsNotes notices.old notices.new
+        (private_note (has_some (names_behind private.now) && wanted.now.verbose)
+        wanted.now.root.now)) }
     ensures err { IfErr result (λ e. (e ≡ PrepareFault.Memory)
-        ⊎ IsPrivateFault wanted.now.root.now wanted.now.folder.now (in_order (texts private.now))
+        ⊎ IsPrivateFault wanted.now.root.now wanted.now.folder.now
+        (in_order (names_behind private.now))
         (string_bytes text) e) }
 {
     if private.is_empty() {

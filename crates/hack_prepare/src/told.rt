@@ -1,12 +1,12 @@
 //! What the user is told of edits.
 
-ghost use Rattle.std.specs.Prelude.{◌≡◌, ◌++◌, OnOk, map};
-ghost use Rattle.hack_versions.specs.Notes.{note_of};
-ghost use Rattle.hack_words.specs.Call.{note_if};
-ghost use Rattle.hack_versions.specs.declared.notice.NoticeKind.TheVariants.{Info as InfoKind};
+ghost use Rattle.std.specs.Prelude.{◌++◌, OnOk};
+ghost use Rattle.hack_base.specs.Notes.{AddsNotes};
+ghost use Rattle.hack_base.specs.Notes.{note_if};
+ghost use Rattle.hack_base.specs.declared.notice.NoticeKind.TheVariants.{Info as InfoKind};
 ghost use Rattle.hack_prepare.specs.Told.{dev_note, private_note};
 
-use hack_versions::notice::{Notice, NoticeKind};
+use hack_base::notice::{Notice, NoticeKind};
 use std::alloc::{AllocError, Global};
 
 /// Tells that the development dependencies of a manifest go.
@@ -16,8 +16,7 @@ pub(crate) fn tell_dev(
     path: &str,
     notices: &mut Vec<Notice>,
 ) -> Result<(), AllocError>
-    ensures { OnOk result (map note_of notices.new.items
-        ≡ map note_of notices.old.items ++ dev_note told path.now) }
+    ensures { OnOk result (AddsNotes notices.old notices.new (dev_note told path.now)) }
 {
     tell(
         alloc,
@@ -35,8 +34,7 @@ pub(crate) fn tell_private(
     path: &str,
     notices: &mut Vec<Notice>,
 ) -> Result<(), AllocError>
-    ensures { OnOk result (map note_of notices.new.items
-        ≡ map note_of notices.old.items ++ private_note told path.now) }
+    ensures { OnOk result (AddsNotes notices.old notices.new (private_note told path.now)) }
 {
     tell(alloc, told, "removing private crates from ", path, notices)
 }
@@ -49,8 +47,8 @@ fn tell(
     path: &str,
     notices: &mut Vec<Notice>,
 ) -> Result<(), AllocError>
-    ensures { OnOk result (map note_of notices.new.items
-        ≡ map note_of notices.old.items ++ note_if told InfoKind (front.now ++ path.now)) }
+    ensures { OnOk result (AddsNotes notices.old notices.new
+        (note_if told InfoKind (front.now ++ path.now))) }
 {
     if !told {
         return Ok(());

@@ -6,8 +6,8 @@ use Rattle.std.proofs.lemmas.Bool.Decides.{Decides-eqb}
 use Rattle.std.proofs.lemmas.Grind.{flat_map-append}
 use Rattle.std.proofs.lemmas.List.{take_more, map-append, at_drop_more, at_drop_all}
 use Rattle.std.proofs.lemmas.Slice.Eq.{slice_eq-Decides}
-use Rattle.hack_process.specs.CommandTexts.{with_name, appended, spaced, each_spaced, is_manifest_path, shown_path, shown_words}
-use Rattle.hack_process.specs.OwnWords.{awaits_path, shown_own, pending}
+use Rattle.hack_process.specs.CommandTexts.{with_name, with_names, spaced_word, each_spaced, is_manifest_path, shown_path, shown_words}
+use Rattle.hack_process.specs.OwnWords.{awaits_path, shown_own, pending_option}
 
 -- a name more behind a `,`
 join-push : (y : List ℕ) (names : List (List ℕ)) (x : List ℕ) → join_with_byte 44 (y ∷ names ++ x ∷ []) ≡ (join_with_byte 44 (y ∷ names) ++ codes ",") ++ x
@@ -17,44 +17,44 @@ join-push y (z ∷ names) x =
     ap (λ l. y ++ (44 ∷ l)) (join-push z names x) ∙ sym (append_assoc y (44 ∷ (rest ++ codes ",")) x) ∙ ap (λ l. l ++ x) (sym (append_assoc y (44 ∷ rest) (codes ",")))
 
 -- names and one more are the names with one more behind them
-pub appended-push : (list : Option (List ℕ)) (names : List (List ℕ)) (x : List ℕ) → appended list (names ++ x ∷ []) ≡ Some (with_name (appended list names) x)
+pub appended-push : (list : Option (List ℕ)) (names : List (List ℕ)) (x : List ℕ) → with_names list (names ++ x ∷ []) ≡ Some (with_name (with_names list names) x)
 appended-push None [] x = refl
 appended-push (Some list) [] x = ap Some (join-push list [] x)
 appended-push None (y ∷ names) x = ap Some (join-push y names x)
 appended-push (Some list) (y ∷ names) x = ap Some (join-push list (y ∷ names) x)
 
 -- the step of a loop over values that show as names
-pub appended-more : {T : Type 0} (f : T → List ℕ) (list : Option (List ℕ)) (xs : List T) (i : ℕ) (d : T) → i < length xs → appended list (map f (take (i + 1) xs)) ≡ Some (with_name (appended list (map f (take i xs))) (f (get_or xs i d)))
+pub appended-more : {T : Type 0} (f : T → List ℕ) (list : Option (List ℕ)) (xs : List T) (i : ℕ) (d : T) → i < length xs → with_names list (map f (take (i + 1) xs)) ≡ Some (with_name (with_names list (map f (take i xs))) (f (get_or xs i d)))
 appended-more f list xs i d l =
-    ap (λ ys. appended list (map f ys)) (take_more xs i d l) ∙ ap (appended list) (map-append f (take i xs) (get_or xs i d ∷ [])) ∙ appended-push list (map f (take i xs)) (f (get_or xs i d))
+    ap (λ ys. with_names list (map f ys)) (take_more xs i d l) ∙ ap (with_names list) (map-append f (take i xs) (get_or xs i d ∷ [])) ∙ appended-push list (map f (take i xs)) (f (get_or xs i d))
 
 -- a word that is no `--manifest-path` is shown
-shown-plain : (full : Bool) (dir word : List ℕ) (words : List (List ℕ)) → is_manifest_path word ≡ false → each_spaced (shown_words full dir (word ∷ words)) ≡ spaced word ++ each_spaced (shown_words full dir words)
+shown-plain : (full : Bool) (dir word : List ℕ) (words : List (List ℕ)) → is_manifest_path word ≡ false → each_spaced (shown_words full dir (word ∷ words)) ≡ spaced_word word ++ each_spaced (shown_words full dir words)
 shown-plain full dir word [] f = refl
 shown-plain full dir word (value ∷ words) f = rw f refl
 
 -- the own words that are left, from the next one on
 pub shown-next : (full : Bool) (dir : List ℕ) (awaits : Bool) (word : List ℕ) (words : List (List ℕ))
-    → each_spaced (shown_words full dir (pending awaits ++ word ∷ words)) ≡ shown_own awaits full dir word ++ each_spaced (shown_words full dir (pending (awaits_path awaits word) ++ words))
-shown-next full dir true word words = flat_map-append spaced (shown_path full dir word) (shown_words full dir words)
+    → each_spaced (shown_words full dir (pending_option awaits ++ word ∷ words)) ≡ shown_own awaits full dir word ++ each_spaced (shown_words full dir (pending_option (awaits_path awaits word) ++ words))
+shown-next full dir true word words = flat_map-append spaced_word (shown_path full dir word) (shown_words full dir words)
 shown-next full dir false word words =
-    elim (cases_Bool (is_manifest_path word)) as (λ _. each_spaced (shown_words full dir (pending false ++ word ∷ words)) ≡ shown_own false full dir word ++ each_spaced (shown_words full dir (pending (awaits_path false word) ++ words))) [
+    elim (cases_Bool (is_manifest_path word)) as (λ _. each_spaced (shown_words full dir (pending_option false ++ word ∷ words)) ≡ shown_own false full dir word ++ each_spaced (shown_words full dir (pending_option (awaits_path false word) ++ words))) [
       | inl t ↦ rw t (ap (λ w. each_spaced (shown_words full dir (w ∷ words))) ((slice_eq-Decides Decides-eqb word (codes "--manifest-path") _ refl).0 t))
       | inr f ↦ rw f (shown-plain full dir word words f)
     ]
 
 -- the step of a loop over values that show as own words
 pub shown-more : {T : Type 0} (f : T → List ℕ) (full : Bool) (dir : List ℕ) (awaits now : Bool) (word : List ℕ) (xs : List T) (i : ℕ) (d : T) → i < length xs → word ≡ f (get_or xs i d) → now ≡ awaits_path awaits word
-    → each_spaced (shown_words full dir (pending awaits ++ map f (drop i xs))) ≡ shown_own awaits full dir word ++ each_spaced (shown_words full dir (pending now ++ map f (drop (i + 1) xs)))
+    → each_spaced (shown_words full dir (pending_option awaits ++ map f (drop i xs))) ≡ shown_own awaits full dir word ++ each_spaced (shown_words full dir (pending_option now ++ map f (drop (i + 1) xs)))
 shown-more f full dir awaits now word xs i d l w a =
     let rest = map f (drop (i + 1) xs) in
-    at_drop_more (λ ys. each_spaced (shown_words full dir (pending awaits ++ map f ys))) xs i d l
-    ∙ ap (λ v. each_spaced (shown_words full dir (pending awaits ++ v ∷ rest))) (sym w)
+    at_drop_more (λ ys. each_spaced (shown_words full dir (pending_option awaits ++ map f ys))) xs i d l
+    ∙ ap (λ v. each_spaced (shown_words full dir (pending_option awaits ++ v ∷ rest))) (sym w)
     ∙ shown-next full dir awaits word rest
-    ∙ ap (λ b. shown_own awaits full dir word ++ each_spaced (shown_words full dir (pending b ++ rest))) (sym a)
+    ∙ ap (λ b. shown_own awaits full dir word ++ each_spaced (shown_words full dir (pending_option b ++ rest))) (sym a)
 
 -- its end
 pub shown-end : {T : Type 0} (f : T → List ℕ) (full : Bool) (dir : List ℕ) (awaits : Bool) (xs : List T) (i : ℕ) → length xs ≤ i
-    → each_spaced (shown_words full dir (pending awaits ++ map f (drop i xs))) ≡ each_spaced (pending awaits)
-shown-end f full dir true xs i l = at_drop_all (λ ys. each_spaced (shown_words full dir (pending true ++ map f ys))) xs i l
-shown-end f full dir false xs i l = at_drop_all (λ ys. each_spaced (shown_words full dir (pending false ++ map f ys))) xs i l
+    → each_spaced (shown_words full dir (pending_option awaits ++ map f (drop i xs))) ≡ each_spaced (pending_option awaits)
+shown-end f full dir true xs i l = at_drop_all (λ ys. each_spaced (shown_words full dir (pending_option true ++ map f ys))) xs i l
+shown-end f full dir false xs i l = at_drop_all (λ ys. each_spaced (shown_words full dir (pending_option false ++ map f ys))) xs i l

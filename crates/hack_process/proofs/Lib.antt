@@ -1,4 +1,2 @@
 pub mod CommandLemmas
 pub mod LineLemmas
-pub mod NormalLemmas
-pub mod PathLemmas

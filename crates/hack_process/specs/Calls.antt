@@ -35,8 +35,8 @@ abbrev pub texts_of : List (String Global) → List (List ℕ)
 texts_of texts = map string_bytes texts
 
 -- a program with these words is asked
-abbrev pub asking : List ℕ → List (String Global) → Bool → Asked
-asking program words capture = record {
+abbrev pub asked_call : List ℕ → List (String Global) → Bool → Asked
+asked_call program words capture = record {
   program = program;
   words = texts_of words;
   capture = capture;

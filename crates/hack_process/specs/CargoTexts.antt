@@ -2,7 +2,7 @@
 use Rattle.std.specs.Prelude.{ℕ, List, [], ◌∷◌, Option, Some, None, length, drop, codes, nat_eq, option_map, if◌then◌else◌}
 use Rattle.std.specs.List.{starts_with}
 use Rattle.std.specs.Str.Lines.{lines}
-use Rattle.hack_versions.specs.VersionTexts.{front_of}
+use Rattle.hack_base.specs.Cuts.{front_of}
 
 -- what stands behind a name at the front of a line
 abbrev pub behind : List ℕ → List ℕ → Option (List ℕ)

@@ -1,7 +1,7 @@
 -- Commands, and how they are shown.
 use Rattle.std.specs.Prelude.{ℕ, Bool, true, ◌&&◌, not, Option, Some, None, List, [], ◌∷◌, ◌++◌, codes, bytes_eq, if◌then◌else◌}
 use Rattle.std.specs.List.{flat_map, join_with_byte}
-use Rattle.hack_process.specs.PathTexts.{stem_of, under_of}
+use Rattle.hack_base.specs.PathTexts.{stem_of, under_of}
 
 -- a command: its program, its words by who gave them, and its features joined by `,` where a name was appended
 pub record Command : Type 0 where
@@ -19,10 +19,10 @@ with_name None name = name
 with_name (Some list) name = list ++ codes "," ++ name
 
 -- features with names behind them, all joined by `,`
-abbrev pub appended : Option (List ℕ) → List (List ℕ) → Option (List ℕ)
-appended list [] = list
-appended None (name ∷ names) = Some (join_with_byte 44 (name ∷ names))
-appended (Some list) (name ∷ names) = Some (join_with_byte 44 (list ∷ name ∷ names))
+abbrev pub with_names : Option (List ℕ) → List (List ℕ) → Option (List ℕ)
+with_names list [] = list
+with_names None (name ∷ names) = Some (join_with_byte 44 (name ∷ names))
+with_names (Some list) (name ∷ names) = Some (join_with_byte 44 (list ∷ name ∷ names))
 
 -- the features as words: none, or the option and its value
 abbrev pub feature_words : Option (List ℕ) → List (List ℕ)
@@ -30,21 +30,21 @@ feature_words None = []
 feature_words (Some list) = codes "--features" ∷ list ∷ []
 
 -- the trailing words behind their mark, where there are any
-abbrev pub marked : List (List ℕ) → List (List ℕ)
-marked [] = []
-marked (word ∷ words) = codes "--" ∷ word ∷ words
+abbrev pub marked_words : List (List ℕ) → List (List ℕ)
+marked_words [] = []
+marked_words (word ∷ words) = codes "--" ∷ word ∷ words
 
 -- the words of a command behind its program, in order
 abbrev pub words_behind : Command → List (List ℕ)
-words_behind c = c.leading ++ c.passed ++ c.own ++ feature_words c.features ++ marked c.trailing
+words_behind c = c.leading ++ c.passed ++ c.own ++ feature_words c.features ++ marked_words c.trailing
 
 -- a word after a space
-abbrev pub spaced : List ℕ → List ℕ
-spaced word = codes " " ++ word
+abbrev pub spaced_word : List ℕ → List ℕ
+spaced_word word = codes " " ++ word
 
 -- words, each after a space
 abbrev pub each_spaced : List (List ℕ) → List ℕ
-each_spaced words = flat_map spaced words
+each_spaced words = flat_map spaced_word words
 
 -- a word is `--manifest-path`
 abbrev pub is_manifest_path : List ℕ → Bool

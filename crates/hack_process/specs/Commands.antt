@@ -1,5 +1,6 @@
 -- Builders and lines as the commands that they show.
-use Rattle.std.specs.Prelude.{ℕ, Bool, List, string_bytes, map, option_map}
+use Rattle.std.specs.Prelude.{ℕ, Bool, List, string_bytes, map}
+use Rattle.hack_base.specs.Names.{optional_text}
 use Rattle.hack_process.specs.declared.process.ProcessBuilder.{ProcessBuilder}
 use Rattle.hack_process.specs.declared.process.Line.{Line}
 use Rattle.hack_process.specs.CommandTexts.{Command, words_behind, words_of}
@@ -7,7 +8,7 @@ use Rattle.hack_process.specs.Calls.{Asked}
 
 -- the command that a builder has collected
 abbrev pub command_of : ProcessBuilder → Command
-command_of b = record { program = string_bytes b.program; strip_program_path = b.strip_program_path; leading = map string_bytes b.leading.items; passed = map string_bytes b.passed.now; own = map string_bytes b.own.items; features = option_map string_bytes b.features; trailing = map string_bytes b.trailing.now }
+command_of b = record { program = string_bytes b.program; strip_program_path = b.strip_program_path; leading = map string_bytes b.leading.items; passed = map string_bytes b.passed.now; own = map string_bytes b.own.items; features = optional_text b.features; trailing = map string_bytes b.trailing.now }
 
 -- what a line shows
 abbrev pub line_text : Line → List ℕ

@@ -5,7 +5,7 @@ use Rattle.hack_process.specs.declared.caller.End.{End}
 use Rattle.hack_process.specs.declared.fake.Made.{Made}
 use Rattle.hack_process.specs.declared.fake.Reply.{Reply}
 use Rattle.hack_process.specs.declared.fake.FakeCaller.{FakeCaller}
-use Rattle.hack_process.specs.Calls.{Answer, Call, asking}
+use Rattle.hack_process.specs.Calls.{Answer, Call, asked_call}
 use Rattle.hack_process.specs.CommandTexts.{each_spaced}
 
 -- what was said for a line
@@ -32,7 +32,7 @@ otherwise_of caller = caller.otherwise
 -- a call, without where it lies in memory
 abbrev pub call_of : Made → Call
 call_of m = record {
-  asked = asking (string_bytes m.program) m.words.items m.capture;
+  asked = asked_call (string_bytes m.program) m.words.items m.capture;
   answer = record { end = m.end; stdout = m.stdout.items; stderr = m.stderr.items };
 }
 
@@ -59,5 +59,5 @@ abbrev pub answer_to : List ℕ → FakeCaller → Answer
 answer_to line caller = reply_to line (otherwise_of caller) (replies_of caller)
 
 -- an answer as a call has it that captures the output, or doesn't
-abbrev pub seen : Bool → Answer → Answer
-seen capture answer = if capture then answer else nothing_but answer.end
+abbrev pub seen_answer : Bool → Answer → Answer
+seen_answer capture answer = if capture then answer else nothing_but answer.end

@@ -6,4 +6,3 @@ pub mod Ends
 pub mod Fake
 pub mod Faults
 pub mod OwnWords
-pub mod PathTexts

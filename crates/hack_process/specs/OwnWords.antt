@@ -1,6 +1,6 @@
 -- Own words one by one.
 use Rattle.std.specs.Prelude.{ℕ, Bool, true, false, ◌&&◌, not, List, [], ◌∷◌, codes, if◌then◌else◌}
-use Rattle.hack_process.specs.CommandTexts.{spaced, each_spaced, is_manifest_path, shown_path}
+use Rattle.hack_process.specs.CommandTexts.{spaced_word, each_spaced, is_manifest_path, shown_path}
 
 -- a word is `--manifest-path` itself, and not the value of one before it
 abbrev pub awaits_path : Bool → List ℕ → Bool
@@ -9,8 +9,8 @@ awaits_path is_path word = not is_path && is_manifest_path word
 -- what is shown at an own word, where it is known whether it is the value of `--manifest-path`
 abbrev pub shown_own : Bool → Bool → List ℕ → List ℕ → List ℕ
 shown_own true full dir word = each_spaced (shown_path full dir word)
-shown_own false full dir word = if is_manifest_path word then [] else spaced word
+shown_own false full dir word = if is_manifest_path word then [] else spaced_word word
 
 -- an option that awaits its value
-abbrev pub pending : Bool → List (List ℕ)
-pending awaits = if awaits then codes "--manifest-path" ∷ [] else []
+abbrev pub pending_option : Bool → List (List ℕ)
+pending_option awaits = if awaits then codes "--manifest-path" ∷ [] else []

@@ -2,7 +2,7 @@
 //! has told what to answer.
 
 ghost use Rattle.std.specs.Prelude.{◌≡◌, ◌↔◌, [], List, IfOk, IsTrue, OnErr, Some, false};
-ghost use Rattle.hack_process.specs.Calls.{Call, Adds, MayAdd, WroteNothing, answer_of, asking};
+ghost use Rattle.hack_process.specs.Calls.{Call, Adds, MayAdd, WroteNothing, answer_of, asked_call};
 ghost use Rattle.hack_process.specs.Calls.{IsSuccess};
 ghost use Rattle.hack_process.specs.Faults.{end_text};
 
@@ -82,9 +82,10 @@ pub trait Caller {
         words: &[String],
         capture: bool,
     ) -> Result<Called, AllocError>
-        ensures told { IfOk result (λ called. tells → Adds (asking program.now words.now capture)
+        ensures told { IfOk result (λ called. tells → Adds
+            (asked_call program.now words.now capture)
             (answer_of called) (calls self.old) (calls self.new)) }
-        ensures refused { OnErr result (tells → MayAdd (asking program.now words.now capture)
+        ensures refused { OnErr result (tells → MayAdd (asked_call program.now words.now capture)
             (calls self.old) (calls self.new)) }
         ensures silent { capture ≡ false →
             IfOk result (λ called. WroteNothing (answer_of called)) };

@@ -2,7 +2,7 @@
 
 ghost use Rattle.std.specs.Prelude.{◌≡◌, ◌⊎◌, IfOk, IfErr, option_copied};
 ghost use Rattle.std.specs.Str.Lines.{lines};
-ghost use Rattle.hack_versions.specs.VersionTexts.{front_of};
+ghost use Rattle.hack_base.specs.Cuts.{front_of};
 ghost use Rattle.hack_versions.specs.ToolTexts.{TellsRelease, IsAnswerFault};
 ghost use Rattle.hack_process.specs.CargoTexts.{behind, first_behind, host_of, release_part};
 

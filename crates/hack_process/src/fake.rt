@@ -2,13 +2,13 @@
 
 ghost use Rattle.std.specs.Prelude.{◌≡◌, ◌++◌, ◌∷◌, [], IfOk, OnOk, OnErr, Some, false, map};
 ghost use Rattle.std.specs.Prelude.{string_bytes};
-ghost use Rattle.hack_process.specs.Calls.{Adds, MayAdd, WroteNothing, answer_of, asking};
+ghost use Rattle.hack_process.specs.Calls.{Adds, MayAdd, WroteNothing, answer_of, asked_call};
 ghost use Rattle.hack_process.specs.Fake.{answer_to, call_of, heard, line_of, made_by};
-ghost use Rattle.hack_process.specs.Fake.{otherwise_of, replies_of, seen};
+ghost use Rattle.hack_process.specs.Fake.{otherwise_of, replies_of, seen_answer};
 
 use crate::caller::{Called, Caller, End};
 use crate::process::Spaced;
-use crate::words::owned;
+use hack_base::copies::copies;
 use std::alloc::{AllocError, Global};
 use std::fmt;
 
@@ -93,11 +93,11 @@ impl FakeCaller {
     // What is answered to a line.
     fn reply(&self, alloc: Global, line: &str, capture: bool) -> Result<Called, AllocError>
         ensures { IfOk result (λ called.
-            answer_of called ≡ seen capture (answer_to line.now self.now)) }
+            answer_of called ≡ seen_answer capture (answer_to line.now self.now)) }
     {
         for reply in &self.replies {
             if reply.line.as_str() == line {
-                return reply.called(alloc, capture);
+                return reply.as_called(alloc, capture);
             }
         }
         Ok(Called::silent(alloc, self.otherwise))
@@ -105,8 +105,8 @@ impl FakeCaller {
 }
 
 impl Reply {
-    fn called(&self, alloc: Global, capture: bool) -> Result<Called, AllocError>
-        ensures { IfOk result (λ called. answer_of called ≡ seen capture (heard self.now)) }
+    fn as_called(&self, alloc: Global, capture: bool) -> Result<Called, AllocError>
+        ensures { IfOk result (λ called. answer_of called ≡ seen_answer capture (heard self.now)) }
     {
         if !capture {
             return Ok(Called::silent(alloc, self.end));
@@ -128,13 +128,13 @@ impl Made {
         called: &Called,
     ) -> Result<Made, AllocError>
         ensures { IfOk result (λ made. call_of made ≡ record {
-          asked = asking program.now words.now capture;
+          asked = asked_call program.now words.now capture;
           answer = answer_of called.now;
         }) }
     {
         Ok(Made {
             program: String::from_str(alloc, program)?,
-            words: owned(alloc, words)?,
+            words: copies(alloc, words)?,
             capture,
             end: called.end,
             stdout: called.stdout.to_vec(alloc)?,
@@ -185,12 +185,12 @@ impl Caller for FakeCaller {
         words: &[String],
         capture: bool,
     ) -> Result<Called, AllocError>
-        ensures told { IfOk result (λ called. Adds (asking program.now words.now capture)
+        ensures told { IfOk result (λ called. Adds (asked_call program.now words.now capture)
             (answer_of called) (made_by self.old) (made_by self.new)) }
-        ensures refused { OnErr result (MayAdd (asking program.now words.now capture)
+        ensures refused { OnErr result (MayAdd (asked_call program.now words.now capture)
             (made_by self.old) (made_by self.new)) }
         ensures silent { capture ≡ false → IfOk result (λ called. WroteNothing (answer_of called)) }
-        ensures answered { IfOk result (λ called. answer_of called ≡ seen capture
+        ensures answered { IfOk result (λ called. answer_of called ≡ seen_answer capture
             (answer_to (line_of program.now (map string_bytes words.now)) self.old)) }
         ensures same { otherwise_of self.new ≡ otherwise_of self.old }
         ensures replies { replies_of self.new ≡ replies_of self.old }

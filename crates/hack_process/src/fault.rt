@@ -45,14 +45,14 @@ impl Failure {
         Failure {
             command,
             end: called.end,
-            stdout: shown(alloc, called.stdout),
-            stderr: shown(alloc, called.stderr),
+            stdout: shown_text(alloc, called.stdout),
+            stderr: shown_text(alloc, called.stderr),
         }
     }
 }
 
 /// The bytes as a text, or an empty one where they are no text or white space alone.
-fn shown(alloc: Global, bytes: Vec<u8>) -> String
+fn shown_text(alloc: Global, bytes: Vec<u8>) -> String
     ensures shown { IsShown bytes.items (string_bytes result) }
     ensures none { bytes.items ≡ [] → string_bytes result ≡ [] }
 {

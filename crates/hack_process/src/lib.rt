@@ -6,6 +6,5 @@ pub mod cargo;
 mod child;
 mod fake;
 mod fault;
-pub mod paths;
 pub mod process;
 mod words;

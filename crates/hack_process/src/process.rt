@@ -1,11 +1,12 @@
 //! A command of cargo: the words that it is made of, and how it is shown.
 
 ghost use Rattle.std.specs.Prelude.{◌≡◌, ◌≢◌, ◌++◌, ◌∷◌, [], ◌||◌, IfOk, IfErr, OnOk, OnErr, Some};
-ghost use Rattle.std.specs.Prelude.{None, map, true, false, string_bytes, option_map};
+ghost use Rattle.std.specs.Prelude.{None, map, true, false, string_bytes};
+ghost use Rattle.hack_base.specs.Names.{optional_text};
 ghost use Rattle.hack_process.specs.Calls.{Adds, IsSuccess, answer_of};
 ghost use Rattle.hack_process.specs.CommandTexts.{text_of, listed_of, line_of, each_spaced};
 ghost use Rattle.hack_process.specs.CommandTexts.{shown_words, shown_features, shown_trailing};
-ghost use Rattle.hack_process.specs.CommandTexts.{shown_program, appended, words_behind};
+ghost use Rattle.hack_process.specs.CommandTexts.{shown_program, with_names, words_behind};
 ghost use Rattle.hack_process.specs.OwnWords.{awaits_path, shown_own};
 ghost use Rattle.hack_process.specs.Commands.{asked_of, command_of, line_text};
 ghost use Rattle.hack_process.specs.Faults.{Had, IsFault, IsReadFault, ShowsNothing};
@@ -15,8 +16,9 @@ pub use crate::caller::{Called, Caller, End};
 pub use crate::child::Child;
 pub use crate::fake::{FakeCaller, Made};
 pub use crate::fault::{Failure, ProcessFault};
-use crate::paths::{stem, under};
-use crate::words::{copied, longer, owned, push_features, push_trailing, push_words, without_ends};
+use crate::words::{longer, push_features, push_trailing, push_words, without_ends};
+use hack_base::copies::{copies, copy_of};
+use hack_base::paths::{stem, under};
 use std::alloc::{AllocError, Global};
 use std::convert::AsStr;
 use std::fmt;
@@ -78,7 +80,7 @@ impl<'a> ProcessBuilder<'a> {
             { own = (command_of self.old).own ++ map T.text words.now }) }
         ensures err { OnErr result (command_of self.new ≡ command_of self.old) }
     {
-        let mut own = owned(*self.own.allocator(), words)?;
+        let mut own = copies(*self.own.allocator(), words)?;
         self.own.append(&mut own)
     }
 
@@ -107,11 +109,11 @@ impl<'a> ProcessBuilder<'a> {
     /// as one.
     pub fn append_features<T: AsStr>(&mut self, names: &[T]) -> Result<(), AllocError>
         ensures ok { OnOk result (command_of self.new ≡ record (command_of self.old)
-            { features = appended (command_of self.old).features (map T.text names.now) }) }
+            { features = with_names (command_of self.old).features (map T.text names.now) }) }
         ensures err { OnErr result (command_of self.new ≡ command_of self.old) }
     {
         let alloc = *self.own.allocator();
-        let mut features = copied(alloc, &self.features)?;
+        let mut features = copy_of(self.features.as_ref())?;
         for name in names {
             features = Some(longer(alloc, features, name.as_str())?);
         }
@@ -192,7 +194,7 @@ impl<'a> ProcessBuilder<'a> {
             (C.calls caller.old) (C.calls caller.new)) }
         ensures bare { IfErr result ShowsNothing }
     {
-        let _called = self.called(alloc, caller, false, dir)?;
+        let _called = self.call_once(alloc, caller, false, dir)?;
         Ok(())
     }
 
@@ -211,7 +213,7 @@ impl<'a> ProcessBuilder<'a> {
             (text_of true dir.now (command_of self.now))
             (C.calls caller.old) (C.calls caller.new)) }
     {
-        self.called(alloc, caller, true, dir)
+        self.call_once(alloc, caller, true, dir)
     }
 
     /// Runs the command once, and answers the text that it wrote to its output, without line feeds
@@ -230,7 +232,7 @@ impl<'a> ProcessBuilder<'a> {
             (text_of true dir.now (command_of self.now))
             (C.calls caller.old) (C.calls caller.new)) }
     {
-        let called = self.called(alloc, caller, true, dir)?;
+        let called = self.call_once(alloc, caller, true, dir)?;
         match String::from_utf8(called.stdout) {
             Ok(text) => Ok(without_ends(text)),
             Err(_) => Err(ProcessFault::NotText(self.text(alloc, true, false, dir)?)),
@@ -238,7 +240,7 @@ impl<'a> ProcessBuilder<'a> {
     }
 
     /// Calls the command once, and answers what came of it where it ended with status 0.
-    fn called<C: Caller>(
+    fn call_once<C: Caller>(
         &self,
         alloc: Global,
         caller: &mut C,
@@ -258,7 +260,7 @@ impl<'a> ProcessBuilder<'a> {
         if program.is_empty() {
             return Err(ProcessFault::EmptyProgram);
         }
-        let words = owned(alloc, &self.words(alloc)?)?;
+        let words = copies(alloc, &self.words(alloc)?)?;
         let called = caller.call(alloc, program, &words, capture)?;
         if called.end.is_success() {
             return Ok(called);
@@ -424,7 +426,7 @@ impl fmt::Display for OwnWord<'_> {
 struct Features<'b>(&'b Option<String>);
 
 impl fmt::Display for Features<'_> {
-    ghost output = { λ features. Some (shown_features (option_map string_bytes features.0.now)) };
+    ghost output = { λ features. Some (shown_features (optional_text features.0.now)) };
 
     fn fmt<W: fmt::Write>(&self, f: &mut fmt::Formatter<W>) -> fmt::Result {
         match self.0 {

@@ -1,13 +1,13 @@
-//! Words of a command: gathered and copied, and the text of an answer without its last line ends.
+//! Words of a command, gathered, and the text of an answer without its last line ends.
 
 ghost use Rattle.std.specs.Prelude.{◌≡◌, ◌++◌, ◌∷◌, ◌<◌, ◌-◌, [], IfOk, OnOk, IsTrue, length, map};
-ghost use Rattle.std.specs.Prelude.{slice_index, string_bytes, option_map};
+ghost use Rattle.std.specs.Prelude.{slice_index, string_bytes};
 ghost use Rattle.std.specs.Bool.{OnTrue, OnFalse};
-ghost use Rattle.hack_process.specs.CommandTexts.{with_name, feature_words, marked};
+ghost use Rattle.hack_base.specs.Names.{optional_text};
+ghost use Rattle.hack_process.specs.CommandTexts.{with_name, feature_words, marked_words};
 ghost use Rattle.hack_process.specs.Faults.{ends_line, without_line_ends};
 
 use std::alloc::{AllocError, Global};
-use std::convert::AsStr;
 
 fn push_word<'b>(words: &mut Vec<&'b str>, word: &'b str) -> Result<(), AllocError>
     ensures { OnOk result (map (λ word. word.now) words.new.items
@@ -35,7 +35,7 @@ pub(crate) fn push_features<'b>(
 ) -> Result<(), AllocError>
     ensures { OnOk result (map (λ word. word.now) words.new.items
         ≡ map (λ word. word.now) words.old.items
-        ++ feature_words (option_map string_bytes features.now)) }
+        ++ feature_words (optional_text features.now)) }
 {
     match features {
         Some(names) => {
@@ -53,35 +53,13 @@ pub(crate) fn push_trailing<'b>(
     trailing: &'b [String],
 ) -> Result<(), AllocError>
     ensures { OnOk result (map (λ word. word.now) words.new.items
-        ≡ map (λ word. word.now) words.old.items ++ marked (map string_bytes trailing.now)) }
+        ≡ map (λ word. word.now) words.old.items ++ marked_words (map string_bytes trailing.now)) }
 {
     if trailing.is_empty() {
         return Ok(());
     }
     push_word(words, "--")?;
     push_words(words, trailing)
-}
-
-/// Copies of words.
-pub(crate) fn owned<T: AsStr>(alloc: Global, words: &[T]) -> Result<Vec<String>, AllocError>
-    ensures { IfOk result (λ own. map string_bytes own.items ≡ map T.text words.now) }
-{
-    let mut own = Vec::new(alloc);
-    for word in words {
-        own.push(String::from_str(alloc, word.as_str())?)?;
-    }
-    Ok(own)
-}
-
-/// A copy of the features.
-pub(crate) fn copied(alloc: Global, features: &Option<String>) -> Result<Option<String>, AllocError>
-    ensures { IfOk result (λ copy. option_map string_bytes copy
-        ≡ option_map string_bytes features.now) }
-{
-    match features {
-        Some(names) => Ok(Some(String::from_str(alloc, names.as_str())?)),
-        None => Ok(None),
-    }
 }
 
 /// The features with one more name.
@@ -91,7 +69,7 @@ pub(crate) fn longer(
     name: &str,
 ) -> Result<String, AllocError>
     ensures { IfOk result (λ names. string_bytes names
-        ≡ with_name (option_map string_bytes features) name.now) }
+        ≡ with_name (optional_text features) name.now) }
 {
     match features {
         Some(mut names) => {

@@ -8,8 +8,8 @@ use Rattle.std.proofs.lemmas.List.Elements.{filter_map-append}
 use Rattle.hack_features.specs.declared.feature.Feature.{Feature}
 use Rattle.hack_features.specs.declared.feature.Feature.TheVariants.{Normal, Group, Path}
 use Rattle.hack_features.specs.Feature.{IsGroup, IsNormal, group_of}
-use Rattle.hack_features.specs.Names.{names_of}
-use Rattle.hack_term.specs.Lists.{group_names}
+use Rattle.hack_base.specs.Names.{names_of}
+use Rattle.hack_base.specs.Lists.{group_names}
 use Rattle.hack_rules.specs.CliGroups.{AreGroupsOf, AreNormalsOf, AreLifts, AreReadAs, lift_in}
 use Rattle.hack_rules.specs.CliLists.{Lift, first_failing, is_lift, lift_of, same_names}
 

@@ -9,7 +9,7 @@ use Rattle.hack_uses.specs.Faults.{LongFlag, ShortFlag}
 use Rattle.hack_uses.specs.Passed.{leading_of, count_of}
 use Rattle.hack_uses.specs.Uses.{Use, Known, Unknown, Word, is_given}
 use Rattle.hack_uses.specs.Values.{value_given}
-use Rattle.hack_versions.specs.Numbers.{number_of}
+use Rattle.hack_base.specs.Numbers.{number_of}
 use Rattle.hack_versions.specs.Readings.{BadRange, ReadRange, range_of}
 use Rattle.hack_versions.specs.declared.version.VersionRange.{VersionRange}
 use Rattle.hack_versions.specs.declared.version.MaybeVersion.TheVariants.{Msrv}

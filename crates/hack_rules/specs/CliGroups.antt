@@ -3,7 +3,7 @@ use Rattle.std.specs.Prelude.{◌≡◌, ℕ, List, [], ◌∷◌, Some, String,
 use Rattle.hack_features.specs.declared.feature.Feature.{Feature}
 use Rattle.hack_features.specs.Feature.{IsGroup, IsNormal, group_of}
 use Rattle.hack_rules.specs.CliLists.{Lift, lift_of}
-use Rattle.hack_term.specs.Lists.{group_names}
+use Rattle.hack_base.specs.Lists.{group_names}
 
 -- one group for each text, of the names in it
 abbrev pub AreGroupsOf : List (List ℕ) → List Feature → Type 0

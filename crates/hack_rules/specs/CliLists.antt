@@ -5,9 +5,9 @@ use Rattle.hack_options.specs.declared.Opt.{Opt}
 use Rattle.hack_options.specs.declared.Opt.TheVariants as opt
 use Rattle.hack_uses.specs.Uses.{Use, is_given}
 use Rattle.hack_uses.specs.Values.{value_given, values_given}
-use Rattle.hack_versions.specs.VersionTexts.{front_of, rest_of}
+use Rattle.hack_base.specs.Cuts.{front_of, rest_of}
 use Rattle.hack_rules.specs.CliFaults.{Fault, LiftForm, LiftGroup}
-use Rattle.hack_term.specs.Lists.{is_list, group_names, list_names, unquoted}
+use Rattle.hack_base.specs.Lists.{is_list, group_names, list_names, without_quotes}
 
 -- the names in all lists of an option, in order
 abbrev pub names_given : Opt → List Use → List (List ℕ)
@@ -20,7 +20,7 @@ groups_given o us = map group_names (values_given o us)
 -- the names of a list that may be left out; empty ones count
 abbrev pub names_or_none : Option (List ℕ) → List (List ℕ)
 names_or_none None = []
-names_or_none (Some text) = group_names (unquoted text)
+names_or_none (Some text) = group_names (without_quotes text)
 
 -- the names of the optional dependencies, where the option is used
 abbrev pub optional_given : List Use → Option (List (List ℕ))

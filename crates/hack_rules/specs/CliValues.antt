@@ -1,6 +1,6 @@
 -- What is wrong with the texts of options.
 use Rattle.std.specs.Prelude.{ℕ, ◌==◌, List, Option, Some, None, Result, Ok, Err, if◌then◌else◌}
-use Rattle.hack_versions.specs.Numbers.{number_of}
+use Rattle.hack_base.specs.Numbers.{number_of}
 use Rattle.hack_versions.specs.Readings.{BadRange, range_of}
 use Rattle.hack_term.specs.Groups.{log_group_of}
 use Rattle.hack_term.specs.Partitions.{piece_of, kind_of}

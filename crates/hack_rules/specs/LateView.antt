@@ -4,7 +4,7 @@ use Rattle.hack_uses.specs.Uses.{Use}
 use Rattle.hack_rules.specs.Asked.{range_asked, is_old_asked, step_asked, log_group_asked, piece_asked, kind_asked}
 use Rattle.hack_rules.specs.CliGroups.{AreLifts}
 use Rattle.hack_rules.specs.CliLists.{lifts_given}
-use Rattle.hack_rules.specs.declared.late_rules.Late.{Late}
+use Rattle.hack_rules.specs.declared.late.Late.{Late}
 
 -- what uses ask for of versions, log groups and pieces
 pub record IsLate (github_actions : Bool) (us : List Use) (late : Late) : Type 0 where

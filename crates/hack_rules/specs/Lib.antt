@@ -8,3 +8,7 @@ pub mod LateView
 pub mod Listed
 pub mod ListsView
 pub mod Rules
+pub mod Early
+pub mod Bare
+pub mod Late
+pub mod Verdicts

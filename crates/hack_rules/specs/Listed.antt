@@ -14,8 +14,8 @@ pub record Listed : Type 0 where
   pub exclusive : List (List (List ℕ))
 
 -- what uses list
-abbrev pub listed : List Use → Listed
-listed us = record {
+abbrev pub listed_by : List Use → Listed
+listed_by us = record {
   features = names_given opt.Features us;
   includes = names_given opt.IncludeFeatures us;
   excludes = names_given opt.ExcludeFeatures us;

@@ -3,7 +3,7 @@
 ghost use Rattle.std.specs.Prelude.{◌≡◌, [], IfOk, Some, map, string_bytes};
 ghost use Rattle.std.specs.List.{filter_map, list_any};
 ghost use Rattle.std.specs.Option.{option_map};
-ghost use Rattle.hack_features.specs.Names.{names_of};
+ghost use Rattle.hack_base.specs.Names.{names_of, optional_text_ref};
 ghost use Rattle.hack_uses.specs.Uses.{views};
 ghost use Rattle.hack_uses.specs.Values.{values_given};
 ghost use Rattle.hack_rules.specs.CliFaults.{Checks, LiftForm, LiftGroup};
@@ -12,13 +12,13 @@ ghost use Rattle.hack_rules.specs.CliLists.{lifts_given, is_lift, lifts_one_of, 
 ghost use Rattle.hack_rules.specs.CliLists.{first_failing, first_fault_of, lift_form, lift_group};
 ghost use Rattle.hack_rules.specs.CliTargets.{AreRising, AreSame, put_all};
 ghost use Rattle.hack_features.specs.Feature.{IsGroup, group_of};
-ghost use Rattle.hack_term.specs.Lists.{group_names};
+ghost use Rattle.hack_base.specs.Lists.{group_names};
 ghost use Rattle.hack_rules.specs.CliGroups.{AreGroupsOf, AreNormalsOf, AreLifts, AreReadAs};
 
 use crate::fault::CliFault;
+use hack_base::lists::{has_separator, split_group, split_names, unquoted};
 use hack_features::Feature;
 use hack_options::Opt;
-use hack_term::lists::{has_separator, split_group, split_names, unquoted};
 use hack_uses::{Use, given, value, values};
 use std::alloc::{AllocError, Global};
 use std::collections::BTreeSet;
@@ -39,7 +39,7 @@ pub fn names(alloc: Global, option: Opt, uses: &[Use]) -> Result<Vec<String>, Al
 /// The names of a list that may be left out.
 fn names_or_empty(alloc: Global, text: Option<&String>) -> Result<Vec<String>, AllocError>
     ensures { IfOk result (λ names. map string_bytes names.items
-        ≡ names_or_none (option_map (λ value. string_bytes value.now) text.entry)) }
+        ≡ names_or_none (optional_text_ref text.entry)) }
 {
     match text {
         Some(text) => split_group(alloc, unquoted(text.as_str())),

@@ -3,7 +3,7 @@
 ghost use Rattle.std.specs.Prelude.{◌≡◌, IfOk, Some};
 ghost use Rattle.hack_rules.specs.CliFaults.{Checks};
 ghost use Rattle.hack_rules.specs.CliValues.{depth_fault, step_fault};
-ghost use Rattle.hack_versions.specs.Numbers.{number_of};
+ghost use Rattle.hack_base.specs.Numbers.{number_of};
 
 use crate::fault::CliFault;
 use std::alloc::Global;

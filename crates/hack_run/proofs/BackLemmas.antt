@@ -2,9 +2,9 @@
 use Rattle.std.proofs.Common.{◌≡◌, ◌+◌, ◌-◌, ◌<◌, ◌∙◌, ℕ, zero, suc, Bool, true, false, List, [], ◌++◌, Result, Ok, Err, IsOk, IsTrue, OnOk, length, replicate, arith, refl, sym, subst}
 use Rattle.std.proofs.lemmas.List.{length-append, length-replicate}
 use Rattle.std.proofs.lemmas.List.Elements.{Contains-append_left, Contains-append_right}
-use Rattle.hack_features.specs.Names.{Name}
+use Rattle.hack_base.specs.Names.{Name}
 use Rattle.hack_files.specs.Files.{Contents, GrowsBy, KeepsAll}
-use Rattle.hack_files.specs.Restore.{AreSafe, Brings, Kept, registered}
+use Rattle.hack_files.specs.Restore.{AreSafe, Brings, Kept, registered_files}
 use Rattle.hack_files.specs.declared.restore.Manager.{Manager}
 use Rattle.hack_files.proofs.RestoreLemmas.{grows_more}
 use Rattle.hack_files.proofs.SafeLemmas.{safe_back, safe_none}
@@ -35,7 +35,7 @@ leaves tells files first asked mid last k n m o r t left safe grows counted brin
     }
 
 -- nothing is kept yet
-pub safe_new : (old new : Manager) (held : Contents) → registered old ≡ [] → registered new ≡ registered old → AreSafe (registered new) held held
+pub safe_new : (old new : Manager) (held : Contents) → registered_files old ≡ [] → registered_files new ≡ registered_files old → AreSafe (registered_files new) held held
 safe_new old new held empty same = subst (λ l. AreSafe l held held) (sym (same ∙ empty)) (safe_none held)
 
 -- nothing is brought back
@@ -46,7 +46,7 @@ brings_none files old new k empty brings =
     λ q. back.others q (λ h. absurd (omega (arith, h.1)))
 
 -- where edits stay nothing is kept
-pub kept_none : (first mid last : Manager) → registered first ≡ [] → registered mid ≡ registered first → registered last ≡ registered mid → registered last ≡ []
+pub kept_none : (first mid last : Manager) → registered_files first ≡ [] → registered_files mid ≡ registered_files first → registered_files last ≡ registered_files mid → registered_files last ≡ []
 kept_none first mid last empty same kept = kept ∙ same ∙ empty
 
 -- what an answer leaves of the files

@@ -1,6 +1,6 @@
 -- Calls that a question makes, and what is made of its answer.
 use Rattle.std.proofs.Common.{◌≡◌, refl, inl, inr, List, Option, Some, None, Result, Ok, Err, IfOk, IfErr, OnOk, IsSome, Bool, true, false, sym, subst, ◌^◌, ◌-◌, Global, String}
-use Rattle.hack_features.specs.Names.{Name}
+use Rattle.hack_base.specs.Names.{Name}
 use Rattle.hack_process.specs.Calls.{Answer, Asked, Call, IsSuccess, MayAdd}
 use Rattle.hack_process.specs.CargoTexts.{release_part}
 use Rattle.hack_process.specs.Commands.{asked_of}

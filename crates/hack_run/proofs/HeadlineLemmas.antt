@@ -3,14 +3,14 @@ use Rattle.std.proofs.Common.{◌≡◌, sym, subst, List, Option, None, Result,
 use Rattle.std.specs.Prelude.{◌&&◌}
 use Rattle.hack_calls.specs.Made.{IsPlanOf}
 use Rattle.hack_calls.specs.Powersets.{HavePowersets}
-use Rattle.hack_features.specs.Names.{Name}
+use Rattle.hack_base.specs.Names.{Name}
 use Rattle.hack_load.specs.Contexts.{ContextRecord}
 use Rattle.hack_runs.specs.View.{PlanView}
 use Rattle.hack_session.specs.Handouts.{HandsOut}
 use Rattle.hack_session.specs.Histories.{Course, IsHistory, next_of}
 use Rattle.hack_session.specs.Schedules.{IsSchedule}
 use Rattle.hack_term.proofs.PieceLemmas.{in_just_one, joined-all}
-use Rattle.hack_versions.specs.Notes.{Note}
+use Rattle.hack_base.specs.Notes.{Note}
 use Rattle.hack_versions.specs.declared.version.Version.{Version}
 use Rattle.hack_words.specs.declared.cli.args.Args.{Args}
 use Rattle.hack_run.specs.Headline.{AreShared, IsHandedOut}

@@ -1,6 +1,6 @@
 -- What a call called, put together from its stages.
 use Rattle.std.proofs.Common.{◌≡◌, ◌⊎◌, inl, inr, List, Option, Result, Ok, Err, OnErr, Global, String}
-use Rattle.hack_features.specs.Names.{Name}
+use Rattle.hack_base.specs.Names.{Name}
 use Rattle.hack_load.specs.Contexts.{ContextRecord}
 use Rattle.hack_process.specs.Calls.{Call}
 use Rattle.hack_process.specs.declared.fault.ProcessFault.{ProcessFault}

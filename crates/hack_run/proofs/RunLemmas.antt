@@ -9,7 +9,7 @@ use Rattle.hack_process.specs.declared.fault.ProcessFault.{ProcessFault}
 use Rattle.hack_term.specs.declared.term.Term.{Term}
 use Rattle.hack_term.specs.declared.partition.Partition.{Partition}
 use Rattle.hack_runs.specs.View.{PlanView}
-use Rattle.hack_session.specs.Histories.{HasPassed, passed}
+use Rattle.hack_session.specs.Histories.{HasPassed, passed_step}
 use Rattle.hack_session.specs.Lists.{HasListed, IsListed, has_failed, is_sent, is_sent_step, is_unlisted}
 use Rattle.hack_session.specs.Performs.{Exactly, GrowsBy, HasPerformed, HasTold, Performs, PerformsAll}
 use Rattle.hack_session.specs.Schedules.{IsSchedule}
@@ -20,12 +20,12 @@ use Rattle.hack_session.specs.declared.step.Outcome.TheVariants.{Passed, Failed}
 use Rattle.hack_run.specs.Runs.{PassesAll, RunsAll, SendsAll}
 
 -- a step that passed wasn't cut short
-exactly : (plan : PlanView) (step : Step) (calls : List Call) (cut : ℕ) → Performs plan (passed step) calls cut → Exactly plan step calls Passed
+exactly : (plan : PlanView) (step : Step) (calls : List Call) (cut : ℕ) → Performs plan (passed_step step) calls cut → Exactly plan step calls Passed
 exactly plan step calls cut (inl h) = h.0
 exactly plan step calls cut (inr h) = let e : Passed ≡ Failed = h.1 in absurd (cc)
 
 -- steps that all passed made just their calls
-pub passes : (plan : PlanView) (steps : List Step) (calls : List Call) (cut : ℕ) → PerformsAll plan (map passed steps) calls cut → PassesAll plan steps calls
+pub passes : (plan : PlanView) (steps : List Step) (calls : List Call) (cut : ℕ) → PerformsAll plan (map passed_step steps) calls cut → PassesAll plan steps calls
 passes plan [] calls cut p = p.0
 passes plan (step ∷ steps) calls cut p = (p.0, p.1, p.4, exactly plan step p.0 p.2 p.6, passes plan steps p.1 p.3 p.7)
 
@@ -41,7 +41,7 @@ all_passed steps term fault (inr (inr kept)) none quiet = absurd (none_kept faul
 
 -- then the whole schedule was run
 pub runs_all : (plan : PlanView) (piece : Option Partition) (schedule : List Step) (handed : List Handed) (old new : List Call) (before now : ℕ) (term : Term) (fault : Option ProcessFault)
-    → IsSchedule piece plan schedule → (All HasPassed handed → handed ≡ map passed schedule) → HasPerformed plan handed old new before now
+    → IsSchedule piece plan schedule → (All HasPassed handed → handed ≡ map passed_step schedule) → HasPerformed plan handed old new before now
     → (All HasPassed handed ⊎ HasTold term fault) → fault ≡ None → term.error ≡ false → RunsAll plan piece old new
 runs_all plan piece schedule handed old new before now term fault scheduled whole performed told none quiet = record {
   schedule = schedule;
@@ -96,17 +96,17 @@ all_handed (h ∷ steps) sent listed = go (is_sent h) refl sent (λ l. all_hande
     go true is all rest = let l = rw is at all in All-cons HasPassed h steps (All-head HasPassed h (filter is_sent steps) l) (rest (All-tail HasPassed h (filter is_sent steps) l))
     go false is all rest = let l = rw is at all in All-cons HasPassed h steps (passed_by h is (All-head IsListed h steps listed)) (rest l)
 
-sent_passed : (steps : List Step) → filter is_sent (map passed steps) ≡ map passed (filter is_sent_step steps)
+sent_passed : (steps : List Step) → filter is_sent (map passed_step steps) ≡ map passed_step (filter is_sent_step steps)
 sent_passed [] = refl
 sent_passed (step ∷ steps) = go (is_sent_step step) refl (sent_passed steps)
   where
-    go : (b : Bool) → is_sent_step step ≡ b → filter is_sent (map passed steps) ≡ map passed (filter is_sent_step steps) → filter is_sent (map passed (step ∷ steps)) ≡ map passed (filter is_sent_step (step ∷ steps))
-    go true is rest = rw is (ap (λ (l : List Handed). passed step ∷ l) rest)
+    go : (b : Bool) → is_sent_step step ≡ b → filter is_sent (map passed_step steps) ≡ map passed_step (filter is_sent_step steps) → filter is_sent (map passed_step (step ∷ steps)) ≡ map passed_step (filter is_sent_step (step ∷ steps))
+    go true is rest = rw is (ap (λ (l : List Handed). passed_step step ∷ l) rest)
     go false is rest = rw is rest
 
 -- then just the toolchains and lockfiles of the whole schedule were made
 pub sends_all : (plan : PlanView) (piece : Option Partition) (schedule : List Step) (handed : List Handed) (old new : List Call) (before now : ℕ) (term : Term) (fault : Option ProcessFault)
-    → IsSchedule piece plan schedule → (All HasPassed handed → handed ≡ map passed schedule) → HasPerformed plan (filter is_sent handed) old new before now
+    → IsSchedule piece plan schedule → (All HasPassed handed → handed ≡ map passed_step schedule) → HasPerformed plan (filter is_sent handed) old new before now
     → (All HasPassed (filter is_sent handed) ⊎ HasTold term fault) → All IsListed handed → fault ≡ None → term.error ≡ false → SendsAll plan piece old new
 sends_all plan piece schedule handed old new before now term fault scheduled whole performed told listed none quiet = record {
   schedule = schedule;
@@ -118,5 +118,5 @@ sends_all plan piece schedule handed old new before now term fault scheduled who
   };
 }
   where
-    all : handed ≡ map passed schedule
+    all : handed ≡ map passed_step schedule
     all = whole (all_handed handed (all_passed (filter is_sent handed) term fault told none quiet) listed)

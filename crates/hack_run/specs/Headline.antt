@@ -3,21 +3,21 @@ use Rattle.std.specs.Prelude.{ℕ, ◌≡◌, ◌<◌, ◌&&◌, not, true, List
 use Rattle.std.proofs.Common.{Global, String}
 use Rattle.hack_calls.specs.Made.{IsPlanOf}
 use Rattle.hack_calls.specs.Powersets.{HavePowersets}
-use Rattle.hack_features.specs.Names.{Name}
+use Rattle.hack_base.specs.Names.{Name}
 use Rattle.hack_load.specs.Contexts.{ContextRecord}
 use Rattle.hack_session.specs.Handouts.{HandsOut}
 use Rattle.hack_session.specs.Histories.{Course, IsHistory, next_of}
 use Rattle.hack_session.specs.Schedules.{IsSchedule}
-use Rattle.hack_term.specs.Pieces.{InJustOnePiece, joined}
+use Rattle.hack_term.specs.Pieces.{InJustOnePiece, joined_blocks}
 use Rattle.hack_term.specs.declared.partition.PartitionKind.{PartitionKind}
-use Rattle.hack_versions.specs.Notes.{Note}
+use Rattle.hack_base.specs.Notes.{Note}
 use Rattle.hack_versions.specs.declared.version.Version.{Version}
 
 -- each place of a plan is in exactly one of its pieces, however many there are and however they are dealt; and the blocks, one
 -- behind the other, are the plan
 pub record AreShared {A : Type 0} (plan : List A) : Type 0 where
   pub once : (kind : PartitionKind) (count place : ℕ) → 0 < count → place < length plan → InJustOnePiece kind count (length plan) place
-  pub blocks : (count : ℕ) → 0 < count → joined count plan ≡ plan
+  pub blocks : (count : ℕ) → 0 < count → joined_blocks count plan ≡ plan
 
 -- The session's plan is the context's: exactly the admissible runs, in order. Its schedule is that of the chosen piece; what was
 -- handed out is a front of it with its outcomes, in which no element but the last stops, and there is no next step. The runs

@@ -5,5 +5,5 @@ use Rattle.hack_journal.specs.Apart.{apart}
 use Rattle.hack_journal.specs.Safe.{without}
 
 -- lockfiles are those of other files, and the journal isn't there
-abbrev pub seen : List ℕ → Contents → Contents → Contents
-seen journal files lockfiles = apart (without journal files) lockfiles
+abbrev pub contents_seen : List ℕ → Contents → Contents → Contents
+contents_seen journal files lockfiles = apart (without journal files) lockfiles

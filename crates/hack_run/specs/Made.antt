@@ -1,7 +1,7 @@
 -- What a call called, whatever came of it.
 use Rattle.std.specs.Prelude.{ℕ, ◌≡◌, ◌⊎◌, ◌∷◌, [], Bool, List, Option, Result, codes, false, filter, string_bytes, true}
 use Rattle.std.proofs.Common.{Global, String}
-use Rattle.hack_features.specs.Names.{Name}
+use Rattle.hack_base.specs.Names.{Name}
 use Rattle.hack_files.specs.Files.{Contents}
 use Rattle.hack_load.specs.Answers.{AreAnswers}
 use Rattle.hack_load.specs.ContextOf.{IsContextFrom}
@@ -17,7 +17,7 @@ use Rattle.hack_session.specs.Performs.{BreaksInstall, Installs, Makes, Performs
 use Rattle.hack_session.specs.Toolchains.{addition_of, trial_of}
 use Rattle.hack_session.specs.declared.step.Handed.{Handed}
 use Rattle.hack_session.specs.declared.step.Outcome.TheVariants.{Failed}
-use Rattle.hack_versions.specs.Notes.{Note}
+use Rattle.hack_base.specs.Notes.{Note}
 use Rattle.hack_versions.specs.declared.rustup.Rustup.{Rustup}
 use Rattle.hack_versions.specs.declared.version.Version.{Version}
 use Rattle.hack_words.specs.Answers.{Answers as IsAnswer, around_of}
@@ -32,16 +32,16 @@ use Rattle.hack_run.specs.Questions.{AsksRustup, AsksStable, InstallsStable, Nee
 use Rattle.hack_run.specs.Runs.{HandsOver}
 
 -- the steps that call something, by whether commands are listed: a list's own steps call nothing
-abbrev pub performed : Bool → List Handed → List Handed
-performed true steps = filter is_sent steps
-performed false steps = steps
+abbrev pub steps_performed : Bool → List Handed → List Handed
+steps_performed true steps = filter is_sent steps
+steps_performed false steps = steps
 
 -- one history of the plan of a context was handed out, where this was asked of stable, and its steps made just these calls, one behind the other
 pub record PerformsOne (listing : Bool) (cx : ContextRecord) (stable : Result (Option Version) (String Global)) (rustup : Name) (old new : List Call) : Type 0 where
   pub course : Course
   pub cut : ℕ
   pub handed : IsHandedOut cx stable rustup course
-  pub calls : Makes (λ made. PerformsAll course.plan (performed listing course.handed) made cut) old new
+  pub calls : Makes (λ made. PerformsAll course.plan (steps_performed listing course.handed) made cut) old new
 
 -- one history was performed, or nothing was called
 abbrev pub PerformsAtMostOne : Bool → ContextRecord → Result (Option Version) (String Global) → Name → List Call → List Call → Type 0

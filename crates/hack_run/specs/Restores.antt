@@ -1,8 +1,8 @@
 -- Calls whose edits don't stay.
 use Rattle.std.specs.Prelude.{◌≡◌, ℕ, false, List}
-use Rattle.hack_features.specs.Names.{Name}
+use Rattle.hack_base.specs.Names.{Name}
 use Rattle.hack_files.specs.Files.{Contents, GrowsBy, KeepsAll}
-use Rattle.hack_versions.specs.Notes.{Note}
+use Rattle.hack_base.specs.Notes.{Note}
 use Rattle.hack_versions.specs.declared.rustup.Rustup.{Rustup}
 use Rattle.hack_words.specs.Answers.{Answers as IsAnswer, around_of}
 use Rattle.hack_words.specs.Call.{ComesTo}

@@ -2,7 +2,7 @@
 use Rattle.std.specs.Prelude.{◌≡◌, ◌++◌, ◌∷◌, [], All, Bool, List, Option, Result, false, filter, true}
 use Rattle.std.proofs.Common.{Global, String}
 use Rattle.hack_calls.specs.Made.{IsPlanOf}
-use Rattle.hack_features.specs.Names.{Name}
+use Rattle.hack_base.specs.Names.{Name}
 use Rattle.hack_load.specs.Contexts.{ContextRecord}
 use Rattle.hack_process.specs.Calls.{Call}
 use Rattle.hack_term.specs.declared.partition.Partition.{Partition}
@@ -14,7 +14,7 @@ use Rattle.hack_session.specs.Schedules.{IsSchedule}
 use Rattle.hack_session.specs.declared.step.Handed.{Handed}
 use Rattle.hack_session.specs.declared.step.Step.{Step}
 use Rattle.hack_session.specs.declared.step.Outcome.TheVariants.{Passed}
-use Rattle.hack_versions.specs.Notes.{Note}
+use Rattle.hack_base.specs.Notes.{Note}
 use Rattle.hack_versions.specs.declared.version.Version.{Version}
 use Rattle.hack_run.specs.Headline.{IsHandedOut}
 

@@ -3,7 +3,7 @@
 
 ghost use Rattle.std.specs.Prelude.{◌≡◌, IfOk, IfSome, IsSome, IsSomeAnd, None, Ok, OnErr, OnOk};
 ghost use Rattle.std.specs.Prelude.{false, string_bytes, true};
-ghost use Rattle.hack_features.specs.Names.{names_of};
+ghost use Rattle.hack_base.specs.Names.{names_of};
 ghost use Rattle.hack_process.specs.Calls.{MayAdd};
 ghost use Rattle.hack_process.specs.CargoTexts.{release_part};
 ghost use Rattle.hack_process.specs.Commands.{asked_of, command_of};
@@ -49,7 +49,7 @@ pub(crate) fn rustup_for<C: Caller>(
     let asked = rustup_command(alloc, env)?;
     match asked.read(alloc, caller, env.current_dir.as_str()) {
         Ok(text) => rustup_in(alloc, &asked, text.as_str(), env, verbose),
-        Err(fault) => unknown(alloc, fault),
+        Err(fault) => unknown_rustup(alloc, fault),
     }
 }
 
@@ -62,7 +62,7 @@ fn rustup_command<'a>(alloc: Global, env: &Env) -> Result<ProcessBuilder<'a>, Al
 }
 
 /// What is known of rustup where asking it failed.
-fn unknown(alloc: Global, fault: ProcessFault) -> Result<Rustup, AllocError>
+fn unknown_rustup(alloc: Global, fault: ProcessFault) -> Result<Rustup, AllocError>
     ensures { IfOk result IsUnknown }
 {
     match fault {
@@ -84,12 +84,12 @@ fn rustup_in(
     match minor_version(alloc, answer) {
         Ok(minor) => Ok(Rustup::Known(minor)),
         Err(VersionTextFault::Memory) => Err(AllocError),
-        Err(fault) => Ok(Rustup::Unknown(told(alloc, fault, asked, env, verbose)?)),
+        Err(fault) => Ok(Rustup::Unknown(wrong_answer_text(alloc, fault, asked, env, verbose)?)),
     }
 }
 
 /// What is wrong with the answer to a command, as a text.
-fn told(
+fn wrong_answer_text(
     alloc: Global,
     fault: VersionTextFault,
     asked: &ProcessBuilder<'_>,
@@ -97,10 +97,10 @@ fn told(
     verbose: bool,
 ) -> Result<String, AllocError> {
     let command = asked.text(alloc, false, verbose, env.current_dir.as_str())?;
-    shown(alloc, fault.of(command.as_str()))
+    shown_fault(alloc, fault.of(command.as_str()))
 }
 
-fn shown(alloc: Global, fault: AnswerFault<'_>) -> Result<String, AllocError> {
+fn shown_fault(alloc: Global, fault: AnswerFault<'_>) -> Result<String, AllocError> {
     format!(in alloc; "{fault}")
 }
 
@@ -123,7 +123,7 @@ pub(crate) fn stable_for<C: Caller>(
     if args.subcommand.is_none() || !is_stable_asked(args) {
         return Ok(Ok(None));
     }
-    match installed(alloc, env, term, caller) {
+    match install(alloc, env, term, caller) {
         Ok(()) => stable_version(alloc, env, term.verbose, caller),
         Err(fault) => stable_fault(alloc, fault),
     }
@@ -141,7 +141,7 @@ fn is_stable_asked(args: &Args) -> bool
 }
 
 /// Makes sure that the toolchain is there, and tells nothing of it.
-fn installed<C: Caller>(
+fn install<C: Caller>(
     alloc: Global,
     env: &Env,
     term: &Term,
@@ -223,6 +223,6 @@ fn stable_in(
     match version(alloc, answer) {
         Ok(version) => Ok(Ok(Some(version))),
         Err(VersionTextFault::Memory) => Err(AllocError),
-        Err(fault) => Ok(Err(told(alloc, fault, asked, env, verbose)?)),
+        Err(fault) => Ok(Err(wrong_answer_text(alloc, fault, asked, env, verbose)?)),
     }
 }

@@ -1,11 +1,11 @@
 //! A whole call over files with a journal: wherever it ends, nothing is lost.
 
 ghost use Rattle.std.specs.Prelude.{◌≡◌, ◌↔◌, ◌⊎◌, ◌≤◌, IsTrue, None, false, string_bytes, true};
-ghost use Rattle.hack_features.specs.Names.{names_of};
+ghost use Rattle.hack_base.specs.Names.{names_of};
 ghost use Rattle.hack_files.specs.Files.{KeepsAll};
 ghost use Rattle.hack_journal.specs.Safe.{StaysSafe};
 ghost use Rattle.hack_process.specs.Calls.{MayAdd};
-ghost use Rattle.hack_run.specs.Journals.{seen};
+ghost use Rattle.hack_run.specs.Journals.{contents_seen};
 ghost use Rattle.hack_run.specs.Made.{MadeOnce};
 ghost use Rattle.hack_run.specs.Questions.{rustup_asked};
 ghost use Rattle.hack_run.specs.Restores.{RestoresEdits};
@@ -49,16 +49,16 @@ pub fn run_journaled<F: Files, L: Files, C: Caller, O: Write, E: Write>(
         (C.calls runner.old) (C.calls runner.new)) }
     ensures done { term.new.error ≡ false → C.tells → F.tells → L.tells
         → IsDone (names_of words.now) env.now
-        (seen (string_bytes journal) (F.bytes_at files) (L.bytes_at lockfiles))
-        (seen (string_bytes journal) (F.bytes_at result.1) (L.bytes_at result.2)) 0
+        (contents_seen (string_bytes journal) (F.bytes_at files) (L.bytes_at lockfiles))
+        (contents_seen (string_bytes journal) (F.bytes_at result.1) (L.bytes_at result.2)) 0
         (C.calls runner.old) (C.calls runner.new) }
     ensures made { C.tells → F.tells → L.tells → MadeOnce (names_of words.now) env.now
-        (seen (string_bytes journal) (F.bytes_at files) (L.bytes_at lockfiles)) 0
+        (contents_seen (string_bytes journal) (F.bytes_at files) (L.bytes_at lockfiles)) 0
         (C.calls runner.old) (C.calls runner.new) }
     ensures clean { term.new.error ≡ false → RestoresEdits env.now (names_of words.now)
         → F.tells → L.tells → KeepsAll
-        (seen (string_bytes journal) (F.bytes_at files) (L.bytes_at lockfiles))
-        (seen (string_bytes journal) (F.bytes_at result.1) (L.bytes_at result.2)) }
+        (contents_seen (string_bytes journal) (F.bytes_at files) (L.bytes_at lockfiles))
+        (contents_seen (string_bytes journal) (F.bytes_at result.1) (L.bytes_at result.2)) }
 
     // After each front of its changes each path holds what it held at first, or the journal has it:
     // wherever the call is interrupted, `recover` brings everything back.

@@ -55,7 +55,7 @@ pub(crate) fn list<C: Caller, O: Write, E: Write>(
     };
     let came = hand_to_lister(alloc, cx, rustup, stable, term, caller, &mut buffer, err);
     let flushed = buffer.flush().is_ok();
-    ended(came, flushed)
+    end_of_list(came, flushed)
 }
 
 /// Hands the plan to a lister over the writer.
@@ -124,7 +124,7 @@ fn list_over<'a, W: Lines, R: Teller>(
 }
 
 /// How the list ends, where its end was written or not.
-fn ended(listed: Listed, flushed: bool) -> Result<(), RunFault>
+fn end_of_list(listed: Listed, flushed: bool) -> Result<(), RunFault>
     ensures { OnOk result ((listed.refused ≡ Ok false) × (listed.fault ≡ None)
         × (listed.failed ≡ 0)) }
 {

@@ -2,7 +2,7 @@
 
 ghost use Rattle.std.specs.Prelude.{◌≡◌, ◌↔◌, ◌⊎◌, ◌≤◌, IsErr, IsTrue, OnOk, false, true};
 ghost use Rattle.std.specs.Prelude.{string_bytes};
-ghost use Rattle.hack_features.specs.Names.{names_of};
+ghost use Rattle.hack_base.specs.Names.{names_of};
 ghost use Rattle.hack_load.specs.LeavesFew.{LeavesFew};
 ghost use Rattle.hack_process.specs.Calls.{MayAdd};
 ghost use Rattle.hack_run.specs.Made.{MadeOnce, TriesOnce, listing_asked};
@@ -14,10 +14,10 @@ use crate::ask::rustup_for;
 use crate::fault::RunFault;
 use crate::stages::perform;
 use crate::tell::{tell_all, tell_end};
+use hack_base::notice::Notice;
 use hack_files::fs::Files;
 use hack_process::process::{Caller, ProcessBuilder, ProcessFault};
 use hack_term::term::{Coloring, Term};
-use hack_versions::notice::Notice;
 use hack_words::cli::{Args, Env, Parsed};
 use std::alloc::Global;
 use std::io::Write;

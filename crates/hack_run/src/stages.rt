@@ -3,7 +3,7 @@
 
 ghost use Rattle.std.specs.Prelude.{◌≡◌, IfOk, IsOk, OnOk, false, string_bytes, true};
 ghost use Rattle.hack_files.specs.Files.{GrowsBy};
-ghost use Rattle.hack_files.specs.Restore.{AreSafe, registered};
+ghost use Rattle.hack_files.specs.Restore.{AreSafe, registered_files};
 ghost use Rattle.hack_load.specs.Answers.{IsLoaded};
 ghost use Rattle.hack_load.specs.ContextOf.{IsContextFrom};
 ghost use Rattle.hack_load.specs.ContextView.{context_view};
@@ -94,14 +94,14 @@ fn follow<F: Files, C: Caller, O: Write, E: Write>(
     ensures made { C.tells → AfterAnswers args answers (string_bytes env.now.rustup)
         (C.calls caller.old) (C.calls caller.new) }
     ensures unkept { manager.old.needs_restore ≡ false
-        → registered manager.new ≡ registered manager.old }
+        → registered_files manager.new ≡ registered_files manager.old }
     ensures grows { Grows (F.failed files.old) (F.failed files.new) }
     ensures counted { OnOk result (IsOk answers.loaded
         × GrowsBy 0 (F.failed files.old) (F.failed files.new)) }
     ensures safe { F.tells → IfOk answers.loaded (IsLoaded F.tells (F.bytes_at files.old) env.now)
         → manager.old.needs_restore ≡ true
-        → AreSafe (registered manager.old) (F.bytes_at files.old) (F.bytes_at files.old)
-        → AreSafe (registered manager.new) (F.bytes_at files.old) (F.bytes_at files.new) }
+        → AreSafe (registered_files manager.old) (F.bytes_at files.old) (F.bytes_at files.old)
+        → AreSafe (registered_files manager.new) (F.bytes_at files.old) (F.bytes_at files.new) }
 {
     let cx = context(alloc, args, answers, term, err)?;
     edit(alloc, &cx, term, files, manager, err)?;
@@ -154,11 +154,11 @@ fn edit<F: Files, E: Write>(
         → HoldTextsIn (context_view cx.now) (F.bytes_at files.old)
         → IsPreparedIn (context_view cx.now) (F.bytes_at files.old) (F.bytes_at files.new)) }
     ensures unkept { manager.old.needs_restore ≡ false
-        → registered manager.new ≡ registered manager.old }
+        → registered_files manager.new ≡ registered_files manager.old }
     ensures safe { F.tells → HoldTextsIn (context_view cx.now) (F.bytes_at files.old)
         → manager.old.needs_restore ≡ true
-        → AreSafe (registered manager.old) (F.bytes_at files.old) (F.bytes_at files.old)
-        → AreSafe (registered manager.new) (F.bytes_at files.old) (F.bytes_at files.new) }
+        → AreSafe (registered_files manager.old) (F.bytes_at files.old) (F.bytes_at files.old)
+        → AreSafe (registered_files manager.new) (F.bytes_at files.old) (F.bytes_at files.new) }
 {
     match prepare(alloc, cx, files, manager) {
         Ok(notices) => {

@@ -3,11 +3,11 @@
 ghost use Rattle.std.specs.Prelude.{◌≡◌, OnErr, OnOk, true};
 
 use crate::fault::RunFault;
+use hack_base::notice::Notice;
 use hack_load::context::ContextFault;
 use hack_load::metadata::AskFault;
 use hack_process::process::ProcessFault;
 use hack_term::term::Term;
-use hack_versions::notice::Notice;
 use std::alloc::Global;
 use std::io::Write;
 

@@ -4,7 +4,7 @@ use Rattle.std.specs.List.{flat_map, filter_map, join_with_byte, slice_get, slic
 use Rattle.std.specs.Option.{unwrap_or}
 use Rattle.std.proofs.lemmas.List.{take_more, flat_map_more}
 use Rattle.std.proofs.lemmas.List.Elements.{filter_map-append}
-use Rattle.hack_process.specs.CommandTexts.{appended}
+use Rattle.hack_process.specs.CommandTexts.{with_names}
 use Rattle.hack_runs.specs.Commands.{names_at}
 
 -- a first name that is names joined
@@ -14,7 +14,7 @@ join-join x (z ∷ zs) y ys =
     append_assoc x (44 ∷ join_with_byte 44 (z ∷ zs)) (44 ∷ join_with_byte 44 (y ∷ ys)) ∙ ap (λ l. x ++ (44 ∷ l)) (join-join z zs y ys)
 
 -- names appended in two turns
-pub appended-append : (list : Option (List ℕ)) (xs ys : List (List ℕ)) → appended (appended list xs) ys ≡ appended list (xs ++ ys)
+pub appended-append : (list : Option (List ℕ)) (xs ys : List (List ℕ)) → with_names (with_names list xs) ys ≡ with_names list (xs ++ ys)
 appended-append list [] ys = refl
 appended-append None (x ∷ xs) [] = ap (λ l. Some (join_with_byte 44 (x ∷ l))) (sym (append-nil xs))
 appended-append (Some l) (x ∷ xs) [] = ap (λ m. Some (join_with_byte 44 (l ∷ x ∷ m))) (sym (append-nil xs))
@@ -23,10 +23,10 @@ appended-append (Some l) (x ∷ xs) (y ∷ ys) = ap Some (join-join l (x ∷ xs)
 
 -- the names at one position more
 pub names-more : (list : Option (List ℕ)) (candidates : List (List (List ℕ))) (ps : List ℕ) (i d : ℕ) → i < length ps
-    → appended (appended list (names_at candidates (take i ps))) (slice_index_or candidates (get_or ps i d) []) ≡ appended list (names_at candidates (take (i + 1) ps))
+    → with_names (with_names list (names_at candidates (take i ps))) (slice_index_or candidates (get_or ps i d) []) ≡ with_names list (names_at candidates (take (i + 1) ps))
 names-more list candidates ps i d lt =
     appended-append list (names_at candidates (take i ps)) (slice_index_or candidates (get_or ps i d) [])
-    ∙ ap (appended list) (flat_map_more (λ p. slice_index_or candidates p []) [] (take i ps) (get_or ps i d) ∙ ap (names_at candidates) (sym (take_more ps i d lt)))
+    ∙ ap (with_names list) (flat_map_more (λ p. slice_index_or candidates p []) [] (take i ps) (get_or ps i d) ∙ ap (names_at candidates) (sym (take_more ps i d lt)))
 
 -- one text of several
 pub one-at : {X Y : Type 0} (f : X → Y) (xs : List X) (i : ℕ) (x : X) → slice_get xs i ≡ Some x → take 1 (drop i (map f xs)) ≡ f x ∷ []

@@ -1,9 +1,9 @@
 -- The commands of a plan.
 use Rattle.std.specs.Prelude.{ℕ, Bool, true, false, List, [], ◌∷◌, ◌++◌, Option, Some, None, map, take, drop, length, codes, decimal, slice_get, nat_lt, ◌&&◌, if◌then◌else◌}
 use Rattle.std.specs.List.{flat_map, slice_index_or}
-use Rattle.hack_features.specs.Names.{Name}
+use Rattle.hack_base.specs.Names.{Name}
 use Rattle.hack_versions.specs.declared.version.Version.{Version}
-use Rattle.hack_process.specs.CommandTexts.{Command, appended}
+use Rattle.hack_process.specs.CommandTexts.{Command, with_names}
 use Rattle.hack_plan.specs.Runs.{PackageRun, Plain, AllFeatures, NoDefaultFeatures, Set}
 use Rattle.hack_plan.specs.Scenes.{minor_of}
 use Rattle.hack_plan.specs.declared.places.Quad.{Quad}
@@ -60,7 +60,7 @@ run_names candidates (Set s) = names_at candidates s
 
 -- a command with the words that the call hands on
 abbrev pub call_command : CallView → Option Version → List (List ℕ) → List (List ℕ) → Command
-call_command c version own names = record { program = program_of c version; strip_program_path = false; leading = leading_of version; passed = c.passed; own = own; features = appended None names; trailing = c.trailing }
+call_command c version own names = record { program = program_of c version; strip_program_path = false; leading = leading_of version; passed = c.passed; own = own; features = with_names None names; trailing = c.trailing }
 
 -- the command of a run that is for all packages
 abbrev pub whole_command : CallView → Option Version → ℕ → Command
@@ -103,8 +103,8 @@ cleaned_words None = []
 cleaned_words (Some k) = codes "--package" ∷ k.name ∷ []
 
 -- the command that removes artifacts: those of a package, or all
-abbrev pub cleaning : CallView → Option PackageView → Command
-cleaning c cleaned = plain_command c.cargo [] (codes "clean" ∷ locked_words c.locked ++ cleaned_words cleaned)
+abbrev pub clean_command : CallView → Option PackageView → Command
+clean_command c cleaned = plain_command c.cargo [] (codes "clean" ∷ locked_words c.locked ++ cleaned_words cleaned)
 
 -- the command that makes the lockfile anew
 abbrev pub lockfile_command : CallView → Version → Command

@@ -1,5 +1,6 @@
 -- A plan as plain data.
-use Rattle.std.specs.Prelude.{ℕ, Bool, List, Option, string_bytes, option_map, map}
+use Rattle.std.specs.Prelude.{ℕ, Bool, List, Option, string_bytes, map}
+use Rattle.hack_base.specs.Names.{optional_text}
 use Rattle.hack_features.specs.Feature.{groups_of}
 use Rattle.hack_plan.specs.Runs.{PackageRun}
 use Rattle.hack_plan.specs.RunsView.{runs_in}
@@ -40,8 +41,8 @@ pub record PlanView : Type 0 where
 
 -- texts as their bytes
 abbrev pub call_view : CallWords → CallView
-call_view w = record { cargo = string_bytes w.cargo; rustup = string_bytes w.rustup; passed = map string_bytes w.passed.items; trailing = map string_bytes w.trailing.items; features = map string_bytes w.features.items; targets = map string_bytes w.targets.items; cargo_minor = w.cargo_minor; locked = w.locked; clean_per_run = w.clean_per_run; clean_per_version = w.clean_per_version; current_manifest = option_map string_bytes w.current_manifest; dir = string_bytes w.dir }
+call_view w = record { cargo = string_bytes w.cargo; rustup = string_bytes w.rustup; passed = map string_bytes w.passed.items; trailing = map string_bytes w.trailing.items; features = map string_bytes w.features.items; targets = map string_bytes w.targets.items; cargo_minor = w.cargo_minor; locked = w.locked; clean_per_run = w.clean_per_run; clean_per_version = w.clean_per_version; current_manifest = optional_text w.current_manifest; dir = string_bytes w.dir }
 
 -- a package as its texts and runs
 abbrev pub package_view : PlanPackage → PackageView
-package_view p = record { name = string_bytes p.name; manifest_path = option_map string_bytes p.manifest_path; features = map string_bytes p.features.items; candidates = groups_of p.candidates.items; runs = runs_in p.runs }
+package_view p = record { name = string_bytes p.name; manifest_path = optional_text p.manifest_path; features = map string_bytes p.features.items; candidates = groups_of p.candidates.items; runs = runs_in p.runs }

@@ -3,16 +3,17 @@
 ghost use Rattle.std.specs.Prelude.{◌≡◌, ◌++◌, ◌∷◌, [], Some, None, map, option_map, IfOk, OnOk};
 ghost use Rattle.std.specs.Prelude.{List, ℕ, take, drop, string_bytes, codes};
 ghost use Rattle.std.specs.List.{flat_map, slice_index_or};
+ghost use Rattle.hack_base.specs.Names.{optional_text};
 ghost use Rattle.hack_features.specs.Feature.{groups_of};
 ghost use Rattle.hack_plan.specs.Runs.{run_of};
 ghost use Rattle.hack_process.specs.Commands.{command_of};
-ghost use Rattle.hack_process.specs.CommandTexts.{appended};
+ghost use Rattle.hack_process.specs.CommandTexts.{with_names};
 ghost use Rattle.hack_runs.specs.View.{call_view, package_view};
 ghost use Rattle.hack_runs.specs.Commands.{toolchain_of, program_of, leading_of, is_split};
 ghost use Rattle.hack_runs.specs.Commands.{targets_in, target_pair, manifest_words, run_words};
 ghost use Rattle.hack_runs.specs.Commands.{names_at, run_names, call_command, whole_command};
 ghost use Rattle.hack_runs.specs.Commands.{run_command, plain_command, locked_words, cleaned_words};
-ghost use Rattle.hack_runs.specs.Commands.{cleaning, lockfile_command};
+ghost use Rattle.hack_runs.specs.Commands.{clean_command, lockfile_command};
 
 use crate::parts::{CallWords, PlanPackage};
 use hack_features::Feature;
@@ -133,7 +134,8 @@ impl CallWords {
         member: Option<&PlanPackage>,
     ) -> Result<ProcessBuilder<'_>, AllocError>
         ensures { IfOk result (λ command. command_of command
-            ≡ cleaning (call_view self.now) (option_map (λ k. package_view k.now) member.entry)) }
+            ≡ clean_command (call_view self.now)
+            (option_map (λ k. package_view k.now) member.entry)) }
     {
         let mut command = self.program(alloc, None)?;
         command.arg("clean")?;
@@ -196,7 +198,7 @@ fn add_targets(command: &mut ProcessBuilder<'_>, targets: &[String]) -> Result<(
 /// Adds a manifest's path behind its option.
 fn add_manifest(command: &mut ProcessBuilder<'_>, path: &Option<String>) -> Result<(), AllocError>
     ensures { OnOk result (command_of command.new ≡ record (command_of command.old) {
-      own = (command_of command.old).own ++ manifest_words (option_map string_bytes path.now);
+      own = (command_of command.old).own ++ manifest_words (optional_text path.now);
     }) }
 {
     match path {
@@ -237,7 +239,7 @@ fn add_names(
     positions: &[usize],
 ) -> Result<(), AllocError>
     ensures { OnOk result (command_of command.new ≡ record (command_of command.old) {
-      features = appended (command_of command.old).features
+      features = with_names (command_of command.old).features
           (names_at (groups_of candidates.now) positions.now);
     }) }
 {
@@ -255,7 +257,7 @@ fn add_features(
     positions: &[usize],
 ) -> Result<(), AllocError>
     ensures { OnOk result (command_of command.new ≡ record (command_of command.old) {
-      features = appended (command_of command.old).features
+      features = with_names (command_of command.old).features
           ((package_view member.now).features
           ++ run_names (package_view member.now).candidates (run_of run positions.now));
     }) }

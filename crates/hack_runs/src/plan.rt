@@ -7,7 +7,8 @@ ghost use Rattle.hack_plan.specs.Spans.{AreTiled};
 ghost use Rattle.hack_process.specs.Commands.{command_of};
 ghost use Rattle.hack_runs.specs.Prepared.{span_of};
 ghost use Rattle.hack_runs.specs.View.{package_view};
-ghost use Rattle.hack_runs.specs.Commands.{command_of_quad, cleaning, lockfile_command, package_at};
+ghost use Rattle.hack_runs.specs.Commands.{command_of_quad, clean_command, lockfile_command};
+ghost use Rattle.hack_runs.specs.Commands.{package_at};
 ghost use Rattle.hack_runs.specs.Commands.{name_in, ranked_command};
 ghost use Rattle.hack_runs.specs.Plans.{counts_in};
 
@@ -141,7 +142,7 @@ impl Plan {
 
     /// The command that removes the artifacts of all packages, before the runs of a version.
     pub fn cleaning(&self, alloc: Global) -> Result<ProcessBuilder<'_>, AllocError>
-        ensures { IfOk result (λ command. command_of command ≡ cleaning self.now.call None) }
+        ensures { IfOk result (λ command. command_of command ≡ clean_command self.now.call None) }
     {
         self.words.cleaning(alloc, None)
     }
@@ -156,7 +157,7 @@ impl Plan {
         requires { place < length self.now.quads }
         ensures { IfOk result (λ command. IfSome (slice_get self.now.quads place)
             (λ q. command_of command
-            ≡ cleaning self.now.call (package_at self.now.packages q.package))) }
+            ≡ clean_command self.now.call (package_at self.now.packages q.package))) }
     {
         let quad = self.places.run(place);
         self.words.cleaning(alloc, self.package_of(quad))

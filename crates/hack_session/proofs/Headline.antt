@@ -19,7 +19,7 @@ use Rattle.hack_session.specs.declared.step.Step.TheVariants.{Prepare, Skip, Run
 use Rattle.hack_session.specs.declared.step.Outcome.{Outcome}
 use Rattle.hack_session.specs.declared.step.Outcome.TheVariants.{Passed}
 use Rattle.hack_session.specs.declared.step.Handed.{Handed}
-use Rattle.hack_session.specs.Histories.{Course, IsHistory, IsSameCourse, HasPassed, next_of, passed, stops, stops_at, step_of}
+use Rattle.hack_session.specs.Histories.{Course, IsHistory, IsSameCourse, HasPassed, next_of, passed_step, stops, stops_at, step_of}
 use Rattle.hack_session.specs.Schedules.{IsTestOf, IsSchedule, in_kind, in_piece, is_place, mark}
 use Rattle.hack_session.specs.Handouts.{ArePiece, HandsOut, run_place, runs_of}
 
@@ -151,11 +151,11 @@ hands_out piece t schedule history complete = go (list_any (stops t.keep_going) 
 tail_passed : (h : Handed) (hs : List Handed) → All HasPassed (h ∷ hs) → All HasPassed hs
 tail_passed h hs a = λ k d l. a (suc k) d (omega arith)
 
-passed_steps : (hs : List Handed) → All HasPassed hs → map passed (map step_of hs) ≡ hs
+passed_steps : (hs : List Handed) → All HasPassed hs → map passed_step (map step_of hs) ≡ hs
 passed_steps [] a = refl
 passed_steps (h ∷ hs) a =
     let e : h.outcome ≡ Passed = a 0 h (omega arith) in
-    ap (λ (o : Outcome). record { step = h.step; outcome = o } ∷ map passed (map step_of hs)) (sym e) ∙ ap (λ (l : List Handed). h ∷ l) (passed_steps hs (tail_passed h hs a))
+    ap (λ (o : Outcome). record { step = h.step; outcome = o } ∷ map passed_step (map step_of hs)) (sym e) ∙ ap (λ (l : List Handed). h ∷ l) (passed_steps hs (tail_passed h hs a))
 
 passed_goes : (keep : Bool) (step : Step) → stops_at keep step Passed ≡ false
 passed_goes keep (Prepare p) = refl
@@ -170,11 +170,11 @@ none_stops keep (h ∷ hs) a =
     rw f (none_stops keep hs (tail_passed h hs a))
 
 -- where each step passed, a complete history is the whole schedule
-pub whole : (t : Course) → IsHistory t → next_of t ≡ None → All HasPassed t.handed → t.handed ≡ map passed t.schedule
+pub whole : (t : Course) → IsHistory t → next_of t ≡ None → All HasPassed t.handed → t.handed ≡ map passed_step t.schedule
 whole t history complete all =
     let at : slice_get t.schedule (length t.handed) ≡ None = rw (none_stops t.keep_going t.handed all) at complete in
     let past : length t.schedule ≤ length t.handed = ends t.schedule (length t.handed) at in
-    sym (passed_steps t.handed all) ∙ ap (map passed) (history.front ∙ take_all (length t.handed) t.schedule past)
+    sym (passed_steps t.handed all) ∙ ap (map passed_step) (history.front ∙ take_all (length t.handed) t.schedule past)
 
 pub schedule_of : (piece : Option Partition) (s t : Course) (plan : PlanView) → IsSameCourse t s → s.plan ≡ plan → IsSchedule piece plan s.schedule → IsSchedule piece t.plan t.schedule
 schedule_of piece s t plan same e h =

@@ -6,7 +6,7 @@ use Rattle.std.proofs.lemmas.Result.{on_ok_weaker}
 use Rattle.hack_plan.specs.declared.places.Quad.{Quad}
 use Rattle.hack_process.specs.CommandTexts.{Command}
 use Rattle.hack_runs.specs.View.{PlanView}
-use Rattle.hack_runs.specs.Commands.{cleaning, command_of_quad, package_at}
+use Rattle.hack_runs.specs.Commands.{clean_command, command_of_quad, package_at}
 use Rattle.hack_session.specs.declared.lines.LineFault.{LineFault}
 use Rattle.hack_session.specs.declared.step.Step.{Step}
 use Rattle.hack_session.specs.declared.step.Outcome.TheVariants.{Failed}
@@ -15,19 +15,19 @@ use Rattle.hack_session.specs.Performs.{GrowsBy}
 use Rattle.hack_session.specs.Lists.{HasListed, is_sent, is_sent_step, line_of, run_lines}
 use Rattle.hack_session.specs.Joins.{appends_more}
 
-cleaned_lines : (plan : PlanView) (o : Option Quad) (q : Quad) (own clean : Command) → o ≡ Some q → own ≡ command_of_quad plan q → IfSome o (λ x. clean ≡ cleaning plan.call (package_at plan.packages x.package)) → true ≡ plan.call.clean_per_run
+cleaned_lines : (plan : PlanView) (o : Option Quad) (q : Quad) (own clean : Command) → o ≡ Some q → own ≡ command_of_quad plan q → IfSome o (λ x. clean ≡ clean_command plan.call (package_at plan.packages x.package)) → true ≡ plan.call.clean_per_run
     → line_of plan.call.dir clean ++ line_of plan.call.dir own ≡ run_lines plan o
 cleaned_lines plan o q own clean e f g b =
-    let h : clean ≡ cleaning plan.call (package_at plan.packages q.package) = subst (λ (x : Option Quad). IfSome x (λ y. clean ≡ cleaning plan.call (package_at plan.packages y.package))) e g in
-    ap (λ (c : Command). line_of plan.call.dir c ++ line_of plan.call.dir own) h ∙ ap (λ (c : Command). line_of plan.call.dir (cleaning plan.call (package_at plan.packages q.package)) ++ line_of plan.call.dir c) f
-    ∙ sym (ap (run_lines plan) e ∙ at_flag plan.call.clean_per_run b (line_of plan.call.dir (cleaning plan.call (package_at plan.packages q.package))) (line_of plan.call.dir (command_of_quad plan q)))
+    let h : clean ≡ clean_command plan.call (package_at plan.packages q.package) = subst (λ (x : Option Quad). IfSome x (λ y. clean ≡ clean_command plan.call (package_at plan.packages y.package))) e g in
+    ap (λ (c : Command). line_of plan.call.dir c ++ line_of plan.call.dir own) h ∙ ap (λ (c : Command). line_of plan.call.dir (clean_command plan.call (package_at plan.packages q.package)) ++ line_of plan.call.dir c) f
+    ∙ sym (ap (run_lines plan) e ∙ at_flag plan.call.clean_per_run b (line_of plan.call.dir (clean_command plan.call (package_at plan.packages q.package))) (line_of plan.call.dir (command_of_quad plan q)))
   where
     at_flag : (flag : Bool) → true ≡ flag → (xs ys : List ℕ) → (if flag then xs ++ ys else ys) ≡ xs ++ ys
     at_flag false b xs ys = absurd (cc)
     at_flag true b xs ys = refl
 
 pub two_lines : {T : Type 0} (r : Result T LineFault) (plan : PlanView) (o : Option Quad) (q : Quad) (own clean : Command) (dir last : List ℕ) (a b c : Option (List ℕ)) → o ≡ Some q → own ≡ command_of_quad plan q
-    → IfSome o (λ x. clean ≡ cleaning plan.call (package_at plan.packages x.package)) → true ≡ plan.call.clean_per_run → dir ≡ plan.call.dir → last ≡ plan.call.dir
+    → IfSome o (λ x. clean ≡ clean_command plan.call (package_at plan.packages x.package)) → true ≡ plan.call.clean_per_run → dir ≡ plan.call.dir → last ≡ plan.call.dir
     → Appends a b (line_of dir clean) → OnOk r (Appends b c (line_of last own)) → OnOk r (Appends a c (run_lines plan o))
 two_lines r plan o q own clean dir last a b c e f g h i j p q' =
     on_ok_weaker r (λ s. subst (Appends a c) (cleaned_lines plan o q own clean e f g h)

@@ -11,7 +11,7 @@ use Rattle.hack_process.specs.CommandTexts.{Command}
 use Rattle.hack_process.specs.Calls.{Asked, Call}
 use Rattle.hack_process.specs.Commands.{asked_of}
 use Rattle.hack_runs.specs.View.{PlanView}
-use Rattle.hack_runs.specs.Commands.{cleaning, command_of_quad, package_at, toolchain_of}
+use Rattle.hack_runs.specs.Commands.{clean_command, command_of_quad, package_at, toolchain_of}
 use Rattle.hack_session.specs.declared.step.Step.{Step}
 use Rattle.hack_session.specs.declared.step.Outcome.{Outcome}
 use Rattle.hack_session.specs.declared.step.Outcome.TheVariants.{Passed, Failed}
@@ -84,9 +84,9 @@ run_plain plan o q own e f b = ap (λ (c : Command). asked_of false c ∷ []) f 
     at_flag plan q true b = absurd (cc)
     at_flag plan q false b = refl
 
-pub run_cleaned : (plan : PlanView) (o : Option Quad) (q : Quad) (own clean : Command) → o ≡ Some q → own ≡ command_of_quad plan q → IfSome o (λ x. clean ≡ cleaning plan.call (package_at plan.packages x.package)) → plan.call.clean_per_run ≡ true → asked_of false clean ∷ asked_of false own ∷ [] ≡ run_commands plan o
+pub run_cleaned : (plan : PlanView) (o : Option Quad) (q : Quad) (own clean : Command) → o ≡ Some q → own ≡ command_of_quad plan q → IfSome o (λ x. clean ≡ clean_command plan.call (package_at plan.packages x.package)) → plan.call.clean_per_run ≡ true → asked_of false clean ∷ asked_of false own ∷ [] ≡ run_commands plan o
 run_cleaned plan o q own clean e f g b =
-    let h : clean ≡ cleaning plan.call (package_at plan.packages q.package) = subst (λ (x : Option Quad). IfSome x (λ y. clean ≡ cleaning plan.call (package_at plan.packages y.package))) e g in
+    let h : clean ≡ clean_command plan.call (package_at plan.packages q.package) = subst (λ (x : Option Quad). IfSome x (λ y. clean ≡ clean_command plan.call (package_at plan.packages y.package))) e g in
     ap (λ (c : Command). asked_of false c ∷ asked_of false own ∷ []) h ∙ ap (λ (c : Command). cleaning_asked plan q ∷ asked_of false c ∷ []) f ∙ sym (ap (run_commands plan) e ∙ at_flag plan q plan.call.clean_per_run b)
   where
     at_flag : (plan : PlanView) (q : Quad) (flag : Bool) → flag ≡ true → (if flag then cleaning_asked plan q ∷ own_asked plan q ∷ [] else own_asked plan q ∷ []) ≡ cleaning_asked plan q ∷ own_asked plan q ∷ []

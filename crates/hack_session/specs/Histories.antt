@@ -60,5 +60,5 @@ abbrev pub HasPassed : Handed → Type 0
 HasPassed h = h.outcome ≡ Passed
 
 -- a step with the outcome that it passed
-abbrev pub passed : Step → Handed
-passed step = record { step = step; outcome = Passed }
+abbrev pub passed_step : Step → Handed
+passed_step step = record { step = step; outcome = Passed }

@@ -9,7 +9,7 @@ use Rattle.std.proofs.lemmas.Grind.{flat_map-append, common_steps}
 use Rattle.hack_runs.specs.View.{PlanView}
 use Rattle.hack_session.specs.declared.step.Handed.{Handed}
 use Rattle.hack_session.specs.Joined.{grows_more}
-use Rattle.hack_session.specs.Lists.{HasListed, IsListed, is_sent, is_unlisted, listed}
+use Rattle.hack_session.specs.Lists.{HasListed, IsListed, is_sent, is_unlisted, lines_listed}
 
 pub appends_none : (a : Option (List ℕ)) → Appends a a []
 appends_none None = search rules
@@ -40,8 +40,8 @@ listed_more plan steps more a b c x y z u v w p q = record {
   each = omega (arith, counts_more steps more, p.each, q.each);
   failed = grows_more p.broken q.broken x y z p.failed q.failed;
   short = grows_more p.cut q.cut u v w p.short q.short;
-  written = λ h. subst (Appends a c) (sym (flat_map-append (listed plan) steps more))
-      (appends_more a b c (flat_map (listed plan) steps) (flat_map (listed plan) more) (p.written (all_front IsListed steps more h)) (q.written (all_back IsListed steps more h)));
+  written = λ h. subst (Appends a c) (sym (flat_map-append (lines_listed plan) steps more))
+      (appends_more a b c (flat_map (lines_listed plan) steps) (flat_map (lines_listed plan) more) (p.written (all_front IsListed steps more h)) (q.written (all_back IsListed steps more h)));
 }
 
 pub sent_more : {S : Type 0} (plan : PlanView) (steps more : List Handed) (ran : PlanView → List Handed → S → S → Type 0) (a b c : S)

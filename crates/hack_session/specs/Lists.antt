@@ -6,7 +6,7 @@ use Rattle.hack_plan.specs.declared.places.Quad.{Quad}
 use Rattle.hack_process.specs.CommandTexts.{Command, listed_of}
 use Rattle.hack_runs.specs.declared.parts.Preparation.TheVariants.{Toolchain, Lockfile, Clean}
 use Rattle.hack_runs.specs.View.{PlanView}
-use Rattle.hack_runs.specs.Commands.{cleaning, command_of_quad, package_at}
+use Rattle.hack_runs.specs.Commands.{clean_command, command_of_quad, package_at}
 use Rattle.hack_session.specs.declared.step.Step.{Step}
 use Rattle.hack_session.specs.declared.step.Step.TheVariants.{Prepare, Skip, Run}
 use Rattle.hack_session.specs.declared.step.Outcome.{Outcome}
@@ -24,7 +24,7 @@ line_of dir command = listed_of dir command ++ codes "\n"
 abbrev pub lines_of : PlanView → Quad → List ℕ
 lines_of plan q =
     if plan.call.clean_per_run
-    then line_of plan.call.dir (cleaning plan.call (package_at plan.packages q.package)) ++ line_of plan.call.dir (command_of_quad plan q)
+    then line_of plan.call.dir (clean_command plan.call (package_at plan.packages q.package)) ++ line_of plan.call.dir (command_of_quad plan q)
     else line_of plan.call.dir (command_of_quad plan q)
 
 -- the lines of the run at a place
@@ -36,13 +36,13 @@ run_lines plan (Some q) = lines_of plan q
 abbrev pub step_lines : PlanView → Step → List ℕ
 step_lines plan (Prepare (Toolchain v)) = []
 step_lines plan (Prepare (Lockfile v)) = []
-step_lines plan (Prepare (Clean v)) = line_of plan.call.dir (cleaning plan.call None)
+step_lines plan (Prepare (Clean v)) = line_of plan.call.dir (clean_command plan.call None)
 step_lines plan (Skip place) = []
 step_lines plan (Run place) = run_lines plan (slice_get plan.quads place)
 
 -- what a step that was handed out lists
-abbrev pub listed : PlanView → Handed → List ℕ
-listed plan h = step_lines plan h.step
+abbrev pub lines_listed : PlanView → Handed → List ℕ
+lines_listed plan h = step_lines plan h.step
 
 -- a step that isn't listed, but performed: a toolchain or a lockfile
 abbrev pub is_sent_step : Step → Bool
@@ -87,4 +87,4 @@ pub record HasListed (plan : PlanView) (steps : List Handed) (old new : Option (
   pub each : count_by is_unlisted steps ≡ broken + cut
   pub failed : GrowsBy broken before now
   pub short : GrowsBy cut refused refusals
-  pub written : All IsListed steps → Appends old new (flat_map (listed plan) steps)
+  pub written : All IsListed steps → Appends old new (flat_map (lines_listed plan) steps)

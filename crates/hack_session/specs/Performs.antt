@@ -11,7 +11,7 @@ use Rattle.hack_plan.specs.declared.places.Quad.{Quad}
 use Rattle.hack_runs.specs.declared.parts.PlanVersion.{PlanVersion}
 use Rattle.hack_runs.specs.declared.parts.Preparation.TheVariants.{Toolchain, Lockfile, Clean}
 use Rattle.hack_runs.specs.View.{PlanView}
-use Rattle.hack_runs.specs.Commands.{cleaning, command_of_quad, lockfile_command, package_at, toolchain_of}
+use Rattle.hack_runs.specs.Commands.{clean_command, command_of_quad, lockfile_command, package_at, toolchain_of}
 use Rattle.hack_session.specs.Toolchains.{addition_of, trial_of}
 use Rattle.hack_session.specs.declared.step.Step.{Step}
 use Rattle.hack_session.specs.declared.step.Step.TheVariants.{Prepare, Skip, Run}
@@ -75,7 +75,7 @@ own_asked plan q = asked_of false (command_of_quad plan q)
 
 -- what a run's cleaning asks
 abbrev pub cleaning_asked : PlanView → Quad → Asked
-cleaning_asked plan q = asked_of false (cleaning plan.call (package_at plan.packages q.package))
+cleaning_asked plan q = asked_of false (clean_command plan.call (package_at plan.packages q.package))
 
 -- the commands of a run: its cleaning where runs are cleaned, and its own
 abbrev pub commands_of : PlanView → Quad → List Asked
@@ -118,7 +118,7 @@ lockfile_commands plan (Some v) = asked_of true (lockfile_command plan.call v) �
 abbrev pub Exactly : PlanView → Step → List Call → Outcome → Type 0
 Exactly plan (Prepare (Toolchain v)) calls outcome = InstallsAt plan (number_at (slice_get plan.versions v)) calls outcome
 Exactly plan (Prepare (Lockfile v)) calls outcome = Follows (lockfile_commands plan (number_at (slice_get plan.versions v))) calls outcome
-Exactly plan (Prepare (Clean v)) calls outcome = Follows (asked_of false (cleaning plan.call None) ∷ []) calls outcome
+Exactly plan (Prepare (Clean v)) calls outcome = Follows (asked_of false (clean_command plan.call None) ∷ []) calls outcome
 Exactly plan (Skip place) calls outcome = (calls ≡ []) × (outcome ≡ Passed)
 Exactly plan (Run place) calls outcome = Follows (run_commands plan (slice_get plan.quads place)) calls outcome
 
@@ -126,7 +126,7 @@ Exactly plan (Run place) calls outcome = Follows (run_commands plan (slice_get p
 abbrev pub IsCut : PlanView → Step → List Call → Type 0
 IsCut plan (Prepare (Toolchain v)) calls = BreaksInstallAt plan (number_at (slice_get plan.versions v)) calls
 IsCut plan (Prepare (Lockfile v)) calls = Breaks (lockfile_commands plan (number_at (slice_get plan.versions v))) calls
-IsCut plan (Prepare (Clean v)) calls = Breaks (asked_of false (cleaning plan.call None) ∷ []) calls
+IsCut plan (Prepare (Clean v)) calls = Breaks (asked_of false (clean_command plan.call None) ∷ []) calls
 IsCut plan (Skip place) calls = calls ≡ []
 IsCut plan (Run place) calls = Breaks (run_commands plan (slice_get plan.quads place)) calls
 

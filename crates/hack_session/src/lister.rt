@@ -4,7 +4,7 @@ ghost use Rattle.std.specs.Prelude.{◌≡◌, ◌<◌, ◌++◌, None, OnOk, fi
 ghost use Rattle.std.specs.Io.KnownBytes.{Appends};
 ghost use Rattle.std.proofs.Common.{◌∙◌, refl};
 ghost use Rattle.hack_process.specs.Commands.{command_of};
-ghost use Rattle.hack_runs.specs.Commands.{cleaning};
+ghost use Rattle.hack_runs.specs.Commands.{clean_command};
 ghost use Rattle.hack_session.specs.Histories.{IsStepOf};
 ghost use Rattle.hack_session.specs.Lists.{CountsLines, HasListed, is_sent, is_sent_step, line_of};
 ghost use Rattle.hack_session.specs.Lists.{run_lines, step_lines};
@@ -95,7 +95,7 @@ fn list<W: Lines>(alloc: Global, out: &mut W, plan: &Plan, step: Step) -> Result
 /// Writes the line of a version's cleaning.
 fn list_cleaning<W: Lines>(alloc: Global, out: &mut W, plan: &Plan) -> Result<(), LineFault>
     ensures written { OnOk result (Appends (W.contents out.old) (W.contents out.new)
-        (line_of plan.now.call.dir (cleaning plan.now.call None))) }
+        (line_of plan.now.call.dir (clean_command plan.now.call None))) }
     ensures counted { CountsLines (W.failed out.old) (W.failed out.new) result }
 {
     let command = plan.cleaning(alloc)?;

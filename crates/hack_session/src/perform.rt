@@ -3,7 +3,7 @@
 ghost use Rattle.std.specs.Prelude.{◌≡◌, ◌<◌, ◌∷◌, [], IfOk, None, Some, false, length, option_map};
 ghost use Rattle.std.specs.Prelude.{slice_get, string_bytes};
 ghost use Rattle.hack_process.specs.Commands.{asked_of, command_of};
-ghost use Rattle.hack_runs.specs.Commands.{cleaning, command_of_quad, name_in, package_at};
+ghost use Rattle.hack_runs.specs.Commands.{clean_command, command_of_quad, name_in, package_at};
 ghost use Rattle.hack_session.specs.Histories.{IsStepOf};
 ghost use Rattle.hack_session.specs.Performs.{Breaks, BreaksInstallAt, Comes, Exactly, Follows};
 ghost use Rattle.hack_session.specs.Performs.{InstallsAt, IsCut, Makes, lockfile_commands};
@@ -122,8 +122,8 @@ fn clean_all<C: Caller, O: Write, E: Write>(
     plan: &Plan,
 ) -> Result<(), ProcessFault>
     ensures { C.tells → Makes (λ calls.
-        Comes (Follows (asked_of false (cleaning plan.now.call None) ∷ []) calls)
-        (Breaks (asked_of false (cleaning plan.now.call None) ∷ []) calls) result)
+        Comes (Follows (asked_of false (clean_command plan.now.call None) ∷ []) calls)
+        (Breaks (asked_of false (clean_command plan.now.call None) ∷ []) calls) result)
         (C.calls caller.old) (C.calls caller.new) }
 {
     let command = plan.cleaning(alloc)?;

@@ -33,7 +33,7 @@ pub struct KeepGoing {
 }
 
 /// The run at a place, told as one that failed.
-fn told(alloc: Global, plan: &Plan, place: usize) -> Result<Option<Failure>, AllocError>
+fn failure_at(alloc: Global, plan: &Plan, place: usize) -> Result<Option<Failure>, AllocError>
     ensures { IfOk result (λ found. option_map failure_view found
         ≡ run_at plan.now (slice_get plan.now.quads place)) }
 {
@@ -53,7 +53,7 @@ fn failure_in(alloc: Global, plan: &Plan, handed: Handed) -> Result<Option<Failu
     match handed.outcome {
         Outcome::Passed => Ok(None),
         Outcome::Failed => match handed.step {
-            Step::Run(place) => told(alloc, plan, place),
+            Step::Run(place) => failure_at(alloc, plan, place),
             Step::Prepare(_) | Step::Skip(_) => Ok(None),
         },
     }
@@ -74,7 +74,10 @@ fn failures(alloc: Global, plan: &Plan, handed: &[Handed]) -> Result<Vec<Failure
 }
 
 /// The commands of failed runs by the names of their packages.
-fn grouped(alloc: Global, failures: &[Failure]) -> Result<BTreeMap<String, Vec<String>>, AllocError>
+fn group_by_package(
+    alloc: Global,
+    failures: &[Failure],
+) -> Result<BTreeMap<String, Vec<String>>, AllocError>
     ensures texts { IfOk result (λ m. (name : List ℕ)
         → texts_in name m ≡ map told_text (filter (is_of name) (map failure_view failures.now))) }
     ensures names { IfOk result (λ m. (name : List ℕ) → is_some (get_by_text m name)
@@ -95,7 +98,7 @@ impl Session {
         ensures { IfOk result (IsReport (failures_of self.now)) }
     {
         let failures = self.failures(alloc)?;
-        let commands = grouped(alloc, &failures)?;
+        let commands = group_by_package(alloc, &failures)?;
         Ok(KeepGoing {
             count: failures.len(),
             commands,

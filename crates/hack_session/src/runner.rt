@@ -5,7 +5,7 @@ ghost use Rattle.hack_runs.specs.View.{PlanView};
 ghost use Rattle.hack_session.specs.declared.step.Handed.{Handed as HandedStep};
 ghost use Rattle.hack_session.specs.Handouts.{HandsOut};
 ghost use Rattle.hack_session.specs.Histories.{HasPassed, IsHistory, IsSameCourse, IsStepOf};
-ghost use Rattle.hack_session.specs.Histories.{next_of, passed};
+ghost use Rattle.hack_session.specs.Histories.{next_of, passed_step};
 ghost use Rattle.hack_session.specs.Schedules.{IsSchedule};
 
 use crate::session::Session;
@@ -75,7 +75,8 @@ pub fn drive_plan<R: Runner>(
     ensures hands_out { IfOk result (HandsOut partition (length plan.quads)) }
 
     // Where each step passed, the whole schedule was handed out.
-    ensures whole { IfOk result (λ s. All HasPassed s.handed → s.handed ≡ map passed s.schedule) }
+    ensures whole { IfOk result (λ s. All HasPassed s.handed → s.handed
+        ≡ map passed_step s.schedule) }
 {
     let session = Session::new(alloc, plan, partition, keep_going)?;
     Ok(drive(session, runner))

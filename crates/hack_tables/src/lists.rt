@@ -3,7 +3,7 @@
 
 use crate::answers::{joined, word, yes};
 use crate::table::Group;
-use hack_term::lists::{has_separator, split_group, split_names};
+use hack_base::lists::{has_separator, split_group, split_names};
 use hack_term::partition::{Partition, PartitionKind};
 use hack_term::term::{Coloring, LogGroup};
 use std::alloc::{AllocError, Global};

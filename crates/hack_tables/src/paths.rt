@@ -2,7 +2,7 @@
 
 use crate::answers::word;
 use crate::table::Group;
-use hack_process::paths::{join, normal, parent, stem, under};
+use hack_base::paths::{join, normal, parent, stem, under};
 use std::alloc::{AllocError, Global};
 
 /// `stem`, `parent`, `normal` of a path; `under` of a path and a folder; `join` of a folder and a

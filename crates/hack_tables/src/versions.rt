@@ -5,8 +5,8 @@ ghost use Rattle.std.specs.Prelude.{◌<◌};
 
 use crate::answers::{or_none, word, yes};
 use crate::table::Group;
+use hack_base::notice::Notice;
 use hack_process::cargo;
-use hack_versions::notice::Notice;
 use hack_versions::rustup::{
     PackageVersion, VersionGroup, group_by_version, lockfile_before, minor_version, version_range,
 };

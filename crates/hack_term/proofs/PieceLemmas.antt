@@ -6,7 +6,7 @@ use Rattle.std.proofs.lemmas.List.{append-nil, append_assoc, take-append-drop, t
 use Rattle.std.proofs.Math.Nat.{div-eq_of_lt-le, div-mul-le_self, lt-div-mul-add, div-lt_iff_lt-mul}
 use Rattle.hack_term.specs.declared.partition.PartitionKind.{PartitionKind}
 use Rattle.hack_term.specs.declared.partition.PartitionKind.TheVariants.{Block, Turn}
-use Rattle.hack_term.specs.Pieces.{InPiece, InJustOnePiece, joined}
+use Rattle.hack_term.specs.Pieces.{InPiece, InJustOnePiece, joined_blocks}
 
 -- count times a quotient that is rounded up is the total or more
 pub div_ceil-covers : (total count : ℕ) → 0 < count → total ≤ count * div_ceil total count
@@ -91,7 +91,7 @@ blocks-behind c j (suc n) xs =
     step : take (j * c) xs ++ slice_range xs ((j + 1 - 1) * c) ((j + 1) * c) ≡ take ((j + 1) * c) xs
     step = ap (λ (k : ℕ). take (j * c) xs ++ slice_range xs (k * c) ((j + 1) * c)) one ∙ take-slice (j * c) ((j + 1) * c) xs more
 
-pub joined-all : {A : Type 0} (count : ℕ) → 0 < count → (plan : List A) → joined count plan ≡ plan
+pub joined-all : {A : Type 0} (count : ℕ) → 0 < count → (plan : List A) → joined_blocks count plan ≡ plan
 joined-all count h plan = front (div_ceil (length plan) count) ∙ blocks-behind (div_ceil (length plan) count) 0 count plan ∙ take_all _ plan (omega (arith, div_ceil-covers (length plan) count h))
   where
     zero-product : (c : ℕ) → 0 ≡ 0 * c

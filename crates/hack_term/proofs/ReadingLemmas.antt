@@ -4,10 +4,10 @@ use Rattle.std.proofs.Common.{length, get_or, nat_lt, lt-ltb, append_assoc, opti
 use Rattle.std.proofs.Common.{arith, refl, ap, sym, subst, ◌∙◌}
 use Rattle.std.proofs.lemmas.Bool.Decides.{nat_tests}
 use Rattle.std.proofs.lemmas.Bool.{ltb-true}
-use Rattle.hack_versions.specs.Numbers.{number_of}
-use Rattle.hack_versions.specs.VersionTexts.{front_of, rest_of}
-use Rattle.hack_versions.proofs.NumberLemmas.{number-read, number-holds}
-use Rattle.hack_versions.proofs.FrontLemmas.{front-joined, rest-joined, rest-cut}
+use Rattle.hack_base.specs.Numbers.{number_of}
+use Rattle.hack_base.specs.Cuts.{front_of, rest_of}
+use Rattle.hack_base.proofs.NumberLemmas.{number-read, number-holds}
+use Rattle.hack_base.proofs.CutLemmas.{front-joined, rest-joined, rest-cut}
 use Rattle.hack_term.specs.Partitions.{IsPiece, IsNoPiece, PieceNumbers, piece_if, piece_of}
 use Rattle.hack_term.proofs.TextLemmas.{IsNumber-no_slash}
 

@@ -5,7 +5,7 @@ use Rattle.std.proofs.lemmas.Bool.Decides.{nat_tests}
 use Rattle.std.proofs.lemmas.Str.Parse.{IsNumeralModel, numerals_by_value, tells_digits, not_in_digits}
 use Rattle.std.proofs.lemmas.Str.Pattern.{IsSplitOnceResult, split_after, split_parts}
 use Rattle.std.specs.Str.Parse.{AllDigits, digits_value}
-use Rattle.hack_versions.specs.Numbers.{IsNumber}
+use Rattle.hack_base.specs.Numbers.{IsNumber}
 use Rattle.hack_term.specs.Partitions.{IsPiece, IsNoPiece}
 
 decimals : IsNumeralModel (AllDigits 10) (digits_value 10)

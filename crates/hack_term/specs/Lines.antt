@@ -1,9 +1,9 @@
 -- The lines that a user is told.
 use Rattle.std.specs.Prelude.{◌≡◌, ℕ, List, [], ◌∷◌, ◌++◌, codes, bytes_eq, true}
 use Rattle.std.specs.Prelude.{Option, Some, None, if◌then◌else◌}
-use Rattle.hack_versions.specs.declared.notice.NoticeKind.{NoticeKind}
-use Rattle.hack_versions.specs.declared.notice.NoticeKind.TheVariants.{Info, Warn, QuietWarn}
-use Rattle.hack_term.specs.Writes.{line}
+use Rattle.hack_base.specs.declared.notice.NoticeKind.{NoticeKind}
+use Rattle.hack_base.specs.declared.notice.NoticeKind.TheVariants.{Info, Warn, QuietWarn}
+use Rattle.hack_base.specs.Writes.{line}
 use Rattle.hack_term.specs.declared.term.Coloring.{Coloring}
 use Rattle.hack_term.specs.declared.term.Coloring.TheVariants.{Auto, Always, Never}
 use Rattle.hack_term.specs.declared.term.Term.{Term}

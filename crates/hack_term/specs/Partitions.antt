@@ -1,8 +1,8 @@
 -- The texts of pieces and of their kinds.
 use Rattle.std.specs.Prelude.{◌≡◌, ℕ, ◌<◌, ◌≤◌, ◌&&◌, not, nat_lt, List, ◌++◌, codes, bytes_eq}
 use Rattle.std.specs.Prelude.{Option, Some, None, option_and_then, string_bytes, if◌then◌else◌}
-use Rattle.hack_versions.specs.Numbers.{IsNumber, number_of}
-use Rattle.hack_versions.specs.VersionTexts.{front_of, rest_of}
+use Rattle.hack_base.specs.Numbers.{IsNumber, number_of}
+use Rattle.hack_base.specs.Cuts.{front_of, rest_of}
 use Rattle.hack_term.specs.declared.partition.PartitionKind.{PartitionKind}
 use Rattle.hack_term.specs.declared.partition.PartitionKind.TheVariants.{Block, Turn}
 use Rattle.hack_term.specs.declared.partition.PartitionFault.{PartitionFault}

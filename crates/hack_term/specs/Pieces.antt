@@ -19,5 +19,5 @@ abbrev pub block : {A : Type 0} → ℕ → ℕ → List A → List A
 block m count plan = slice_range plan ((m - 1) * div_ceil (length plan) count) (m * div_ceil (length plan) count)
 
 -- the blocks from the first to the last, one behind the other
-abbrev pub joined : {A : Type 0} → ℕ → List A → List A
-joined count plan = flat_map (λ m. block m count plan) (range_with_len 1 count)
+abbrev pub joined_blocks : {A : Type 0} → ℕ → List A → List A
+joined_blocks count plan = flat_map (λ m. block m count plan) (range_with_len 1 count)

@@ -1,9 +1,6 @@
-//! Texts that stand for themselves: lists of names in one word, pieces of a plan, and lines for the
-//! user.
+//! Lines for the user, groups of them in a log, and pieces of a plan.
 #![tactic(auto)]
 
-pub mod lists;
 mod log_group;
 pub mod partition;
 pub mod term;
-mod writes;

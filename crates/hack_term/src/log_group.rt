@@ -3,12 +3,12 @@
 ghost use Rattle.std.specs.Prelude.{◌≡◌, ◌↔◌, ◌⊎◌, IsTrue, IfOk, IfErr, MatchResult, OnOk};
 ghost use Rattle.std.specs.Prelude.{IsSome, Some, None as Nothing};
 ghost use Rattle.std.specs.Io.KnownBytes.{Appends};
-ghost use Rattle.hack_term.specs.Writes.{AppendsFront};
+ghost use Rattle.hack_base.specs.Writes.{AppendsFront};
 ghost use Rattle.hack_term.specs.Groups.{group_name, RefusesGroup, log_group_of};
 ghost use Rattle.hack_term.specs.Groups.{opening_line, message_line, closing_line};
 
 use crate::term::Term;
-use crate::writes::{write_front, write_line};
+use hack_base::writes::{write_front, write_line};
 use std::alloc::{AllocError, Global};
 use std::io;
 use std::io::Write;

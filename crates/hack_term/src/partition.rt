@@ -3,7 +3,7 @@
 ghost use Rattle.std.specs.Prelude.{◌≡◌, ◌<◌, ◌≤◌, ◌↔◌, ◌⊎◌, List, ℕ, IsTrue};
 ghost use Rattle.std.specs.Prelude.{IfOk, IfErr, MatchResult, IfSome, IfNone, Some, None};
 ghost use Rattle.hack_term.specs.declared.partition.PartitionKind.{PartitionKind as Kind};
-ghost use Rattle.hack_term.specs.Pieces.{InPiece, InJustOnePiece, joined};
+ghost use Rattle.hack_term.specs.Pieces.{InPiece, InJustOnePiece, joined_blocks};
 ghost use Rattle.hack_term.specs.Partitions.{IsPiece, IsNoPiece, RefusesPiece, piece_of};
 ghost use Rattle.hack_term.specs.Partitions.{kind_name, RefusesKind, kind_of};
 
@@ -128,7 +128,7 @@ impl Partition {
 
         // The blocks of any plan, one behind the other, are the plan, the empty one too. Its places
         // may be of any type: numbers stand for them.
-        ensures joined { (plan : List ℕ) → joined self.now.count plan ≡ plan }
+        ensures joined { (plan : List ℕ) → joined_blocks self.now.count plan ≡ plan }
     {
         match self.kind {
             PartitionKind::Block => place / total.div_ceil(self.count) == self.piece - 1,

@@ -5,7 +5,7 @@
 ghost use Rattle.std.specs.Prelude.{◌≡◌, ◌↔◌, ◌≤◌, ◌⊎◌, IsTrue, IfSome, IfNone, OnOk, true, false};
 ghost use Rattle.std.specs.Prelude.{string_bytes};
 ghost use Rattle.std.specs.Io.KnownBytes.{Appends};
-ghost use Rattle.hack_term.specs.Writes.{AppendsFront};
+ghost use Rattle.hack_base.specs.Writes.{AppendsFront};
 ghost use Rattle.hack_term.specs.Lines.{coloring_name, IsNoColoring, coloring_of};
 ghost use Rattle.hack_term.specs.Lines.{info_label as label_of_info};
 ghost use Rattle.hack_term.specs.Lines.{warning_label as label_of_warnings};
@@ -13,8 +13,8 @@ ghost use Rattle.hack_term.specs.Lines.{error_label as label_of_errors, info_lin
 ghost use Rattle.hack_term.specs.Lines.{error_line, notice_line, after_notice};
 
 pub use crate::log_group::{LogGroup, LogGroupFault, LogGroupGuard};
-use crate::writes::write_line;
-pub use hack_versions::notice::{Notice, NoticeKind};
+pub use hack_base::notice::{Notice, NoticeKind};
+use hack_base::writes::write_line;
 use std::io;
 use std::io::Write;
 

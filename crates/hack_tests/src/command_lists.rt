@@ -5,6 +5,7 @@ use hack_powerset_list::{ListFault, powerset_list};
 use std::alloc::{AllocError, Global};
 use std::io;
 use std::io::{ErrorKind, Read, Write};
+use std::process::Abort;
 use std::test::Fail;
 
 const FOUR: &str = r#"{"a":[],"b":["a"],"c":["b"],"d":["a","b"]}"#;
@@ -57,6 +58,16 @@ fn refused(alloc: Global, given: &str, input: &[u8]) -> Result<String, AllocErro
     }
 }
 
+/// Each row's words and input have the list that it tells.
+fn check_lists<R: Abort + AllocGlobal>(rt: &R, rows: &[(&str, &str, &str)]) -> Result<(), Fail> {
+    for (given, input, told) in rows {
+        let want = list_text(rt.alloc(), *told)?;
+        let list = listed(rt.alloc(), *given, input.as_bytes())?;
+        assert_eq!(rt; list.as_slice(), want.as_bytes(), "{given} {input}");
+    }
+    Ok(())
+}
+
 #[test]
 fn lists_of_small_maps(rt: HostRuntime) -> Result<(), Fail> {
     let rows = [
@@ -75,12 +86,7 @@ fn lists_of_small_maps(rt: HostRuntime) -> Result<(), Fail> {
             "N;b,tokio;a;async-std;b;a,b;async-std,b;tokio",
         ),
     ];
-    for (given, input, told) in rows {
-        let want = list_text(rt.alloc(), told)?;
-        let list = listed(rt.alloc(), given, input.as_bytes())?;
-        assert_eq!(rt; list.as_slice(), want.as_bytes(), "{given} {input}");
-    }
-    Ok(())
+    check_lists(&rt, &rows)
 }
 
 #[test]
@@ -95,12 +101,7 @@ fn lists_of_hostile_maps(rt: HostRuntime) -> Result<(), Fail> {
             "N;b;a",
         ),
     ];
-    for (given, input, told) in rows {
-        let want = list_text(rt.alloc(), told)?;
-        let list = listed(rt.alloc(), given, input.as_bytes())?;
-        assert_eq!(rt; list.as_slice(), want.as_bytes(), "{given} {input}");
-    }
-    Ok(())
+    check_lists(&rt, &rows)
 }
 
 #[test]

@@ -4,7 +4,7 @@ use Rattle.std.specs.List.{starts_with, position_or_len, after_first}
 use Rattle.std.proofs.lemmas.Str.{length-encode, len_utf8_bounds}
 use Rattle.hack_lexopt.specs.declared.LexFault.{LexFault}
 use Rattle.hack_lexopt.specs.declared.LexFault.TheVariants.{UnexpectedValue}
-use Rattle.hack_lexopt.specs.Cuts.{Left, Untaken, Nothing, Pending, Chain, Cut, LongCut, ShortCut, ValueCut, is_long, is_chain, is_equals, is_plain, pending_of, first_letter, after_letter, chain_of, untaken_of, next_cut, after_cut, after_value, after_attached, after_optional, value_of, optional_of, attached, unexpected_of}
+use Rattle.hack_lexopt.specs.Cuts.{Left, Untaken, Nothing, Pending, Chain, Cut, LongCut, ShortCut, ValueCut, is_long, is_chain, is_equals, is_plain, pending_of, first_letter, after_letter, chain_of, untaken_of, next_cut, after_cut, after_value, after_attached, after_optional, value_of, optional_of, attached_value, unexpected_of}
 use Rattle.hack_options.specs.declared.Opt.{Opt}
 use Rattle.hack_options.specs.declared.Kind.{Kind}
 use Rattle.hack_options.specs.declared.Kind.TheVariants as kind
@@ -14,7 +14,7 @@ use Rattle.hack_uses.specs.declared.cut.Print.{Print}
 use Rattle.hack_uses.specs.declared.cut.Print.TheVariants as print
 use Rattle.hack_uses.specs.Faults.{Flag, LongFlag, ShortFlag, Repeat, LoneQuote}
 use Rattle.hack_uses.specs.Uses.{Use, Known, Unknown, is_given, subcommand_of}
-use Rattle.hack_uses.specs.Reads.{Reading, Met, End, Prints, Fails, is_quote, is_bare, unknown, with_value, with_names, with_names_or_none, question, help_of, by_kind, known, removed_of, similar_of, other, by_name, by_letter, of_cut, refused, of_next, read_of, Reads, flag_left}
+use Rattle.hack_uses.specs.Reads.{Reading, Met, End, Prints, Fails, is_quote, is_bare, unknown_option, with_value, with_names, with_names_or_none, question, help_of, by_kind, known_option, removed_of, similar_of, other, by_name, by_letter, of_cut, refused_value, of_next, read_of, Reads, flag_left}
 
 -- how much is left of the words
 abbrev pub weight_of : Untaken → ℕ
@@ -79,9 +79,9 @@ Leaves P (Fails fault) = Unit {0}
 abbrev Kept : (Left → Type 0) → Type 0
 Kept P = (l : Left) → P l → P (after_attached l) × P (after_value l) × P (after_optional l)
 
-leaves-unknown : (P : Left → Type 0) (k : Kept P) (flag : Flag) (l : Left) → P l → Leaves P (unknown flag l)
+leaves-unknown : (P : Left → Type 0) (k : Kept P) (flag : Flag) (l : Left) → P l → Leaves P (unknown_option flag l)
 leaves-unknown P k (LongFlag name) l p = (k l p).0
-leaves-unknown P k (ShortFlag c) l p = elim (is_bare c) as (λ b. Leaves P (cond b (Met (Unknown (ShortFlag c) None) l) (Met (Unknown (ShortFlag c) (attached l.untaken)) (after_attached l)))) [ true ↦ p | false ↦ (k l p).0 ]
+leaves-unknown P k (ShortFlag c) l p = elim (is_bare c) as (λ b. Leaves P (cond b (Met (Unknown (ShortFlag c) None) l) (Met (Unknown (ShortFlag c) (attached_value l.untaken)) (after_attached l)))) [ true ↦ p | false ↦ (k l p).0 ]
 
 leaves-value : (P : Left → Type 0) (o : Opt) (flag : Flag) (v : Option (List ℕ)) (l : Left) → P l → Leaves P (with_value o flag v l)
 leaves-value P o flag (Some v) l p = p
@@ -108,7 +108,7 @@ leaves-kind P k kind.Help us o flag l p = leaves-question P k (help_of flag) (su
 leaves-kind P k kind.Version us o flag l p = leaves-question P k print.Version (subcommand_of us) flag l p
 leaves-kind P k kind.Refused us o flag l p = tt
 
-leaves-known : (P : Left → Type 0) (k : Kept P) (us : List Use) (o : Opt) (flag : Flag) (l : Left) → P l → Leaves P (known us o flag l)
+leaves-known : (P : Left → Type 0) (k : Kept P) (us : List Use) (o : Opt) (flag : Flag) (l : Left) → P l → Leaves P (known_option us o flag l)
 leaves-known P k us o flag l p = elim ((entry_of o).once && is_given (meaning_of o) us) as (λ b. Leaves P (cond b (Fails (Repeat flag o (subcommand_of us))) (by_kind (entry_of o).kind us o flag l))) [ true ↦ tt | false ↦ leaves-kind P k (entry_of o).kind us o flag l p ]
 
 leaves-other : (P : Left → Type 0) (k : Kept P) (r s : Option Opt) (us : List Use) (name : List ℕ) (l : Left) → P l → Leaves P (other r s us name l)
@@ -129,7 +129,7 @@ leaves-cut P k us (LongCut name) l p = leaves-name P k (long_option name) us nam
 leaves-cut P k us (ShortCut c) l p = leaves-letter P k (short_option c) us c l p
 leaves-cut P k us (ValueCut word) l p = p
 
-refused-no_use : (option : Option Flag) (v : Option (List ℕ)) (u : Use) (l : Left) → refused option v ≡ Met u l → ⊥
+refused-no_use : (option : Option Flag) (v : Option (List ℕ)) (u : Use) (l : Left) → refused_value option v ≡ Met u l → ⊥
 refused-no_use (Some flag) (Some v) u l h = cc
 refused-no_use (Some flag) None u l h = cc
 refused-no_use None v u l h = cc

@@ -1,6 +1,6 @@
 -- Options as they were written, and why words can't be cut into them.
 use Rattle.std.specs.Prelude.{ℕ, List, Option, Some, None, string_bytes}
-use Rattle.std.specs.Option.{option_map}
+use Rattle.hack_base.specs.Names.{optional_text}
 use Rattle.hack_lexopt.specs.Cuts.{Cut, LongCut, ShortCut, ValueCut, as_written}
 use Rattle.hack_options.specs.declared.Opt.{Opt}
 use Rattle.hack_uses.specs.declared.fault.OwnedFlag.{OwnedFlag}
@@ -49,8 +49,8 @@ abbrev pub fault_of : CutFault → Option Fault
 fault_of code.Memory = None
 fault_of (code.Missing flag) = Some (Missing (flag_seen flag))
 fault_of (code.Unexpected flag value) = Some (Unexpected (flag_seen flag) (string_bytes value))
-fault_of (code.Repeat flag option subcommand) = Some (Repeat (flag_seen flag) option (option_map string_bytes subcommand))
+fault_of (code.Repeat flag option subcommand) = Some (Repeat (flag_seen flag) option (optional_text subcommand))
 fault_of (code.LoneQuote flag) = Some (LoneQuote (flag_seen flag))
 fault_of code.BehaviorForm = Some BehaviorForm
 fault_of (code.Removed name instead) = Some (Removed (string_bytes name) instead)
-fault_of (code.Similar name meant subcommand) = Some (Similar (string_bytes name) meant (option_map string_bytes subcommand))
+fault_of (code.Similar name meant subcommand) = Some (Similar (string_bytes name) meant (optional_text subcommand))

@@ -37,11 +37,11 @@ with_value word None = word ∷ []
 with_value word (Some value) = word ∷ value ∷ []
 
 -- the words that a use passes on to cargo
-abbrev pub passed : WorkspaceBehavior → Use → List (List ℕ)
-passed behavior (Word word) = word ∷ []
-passed behavior (Unknown flag value) = word_of flag value ∷ []
-passed behavior (Known o flag value) = if passes behavior o then with_value (flag_text flag) value else []
+abbrev pub words_passed : WorkspaceBehavior → Use → List (List ℕ)
+words_passed behavior (Word word) = word ∷ []
+words_passed behavior (Unknown flag value) = word_of flag value ∷ []
+words_passed behavior (Known o flag value) = if passes behavior o then with_value (flag_text flag) value else []
 
 -- the words that all uses pass on to cargo, in order
 abbrev pub leading_of : WorkspaceBehavior → List Use → List (List ℕ)
-leading_of behavior us = flat_map (passed behavior) us
+leading_of behavior us = flat_map (words_passed behavior) us

@@ -1,7 +1,7 @@
 -- How words are read as uses of options, one cut after the other.
 use Rattle.std.specs.Prelude.{ℕ, ◌≡◌, List, [], ◌∷◌, ◌++◌, ◌==◌, ◌&&◌, ◌||◌, Bool, Option, Some, None, Result, Ok, Err, codes, if◌then◌else◌, IfSome}
 use Rattle.std.specs.Str.{bytes_eq}
-use Rattle.hack_lexopt.specs.Cuts.{Cut, LongCut, ShortCut, ValueCut, Left, next_cut, after_cut, attached, after_attached, value_of, after_value, optional_of, after_optional, unexpected_of}
+use Rattle.hack_lexopt.specs.Cuts.{Cut, LongCut, ShortCut, ValueCut, Left, next_cut, after_cut, attached_value, after_attached, value_of, after_value, optional_of, after_optional, unexpected_of}
 use Rattle.hack_lexopt.specs.Parsers.{start}
 use Rattle.hack_lexopt.specs.declared.LexFault.{LexFault}
 use Rattle.hack_options.specs.declared.Opt.{Opt}
@@ -36,10 +36,10 @@ abbrev pub is_bare : ℕ → Bool
 is_bare letter = (letter == 110) || (letter == 113) || (letter == 114)
 
 -- an option that is not in the table, with the rest of its word
-abbrev pub unknown : Flag → Left → Reading
-unknown (LongFlag name) left = Met (Unknown (LongFlag name) (attached left.untaken)) (after_attached left)
-unknown (ShortFlag letter) left =
-    if is_bare letter then Met (Unknown (ShortFlag letter) None) left else Met (Unknown (ShortFlag letter) (attached left.untaken)) (after_attached left)
+abbrev pub unknown_option : Flag → Left → Reading
+unknown_option (LongFlag name) left = Met (Unknown (LongFlag name) (attached_value left.untaken)) (after_attached left)
+unknown_option (ShortFlag letter) left =
+    if is_bare letter then Met (Unknown (ShortFlag letter) None) left else Met (Unknown (ShortFlag letter) (attached_value left.untaken)) (after_attached left)
 
 -- an option that wants a value, at the value that stands there
 abbrev pub with_value : Opt → Flag → Option (List ℕ) → Left → Reading
@@ -59,7 +59,7 @@ with_names_or_none o flag None left = Met (Known (meaning_of o) flag None) left
 -- a question for a text while no subcommand was met, and then an option like one that is not in the table
 abbrev pub question : Print → Option (List ℕ) → Flag → Left → Reading
 question print None flag left = Prints print
-question print (Some subcommand) flag left = unknown flag left
+question print (Some subcommand) flag left = unknown_option flag left
 
 -- the short help for the letter, the long one for the name
 abbrev pub help_of : Flag → Print
@@ -77,8 +77,8 @@ by_kind kind.Version us o flag left = question Version (subcommand_of us) flag l
 by_kind kind.Refused us o flag left = Fails BehaviorForm
 
 -- an option of the table: a repeat of one that stands once comes before its value is wanted
-abbrev pub known : List Use → Opt → Flag → Left → Reading
-known us o flag left =
+abbrev pub known_option : List Use → Opt → Flag → Left → Reading
+known_option us o flag left =
     if (entry_of o).once && is_given (meaning_of o) us then Fails (Repeat flag o (subcommand_of us)) else by_kind (entry_of o).kind us o flag left
 
 -- the option that serves in place of one of this name that was removed
@@ -103,7 +103,7 @@ similar_of name =
 abbrev pub other : Option Opt → Option Opt → List Use → List ℕ → Left → Reading
 other (Some instead) meant us name left = Fails (Removed name instead)
 other None (Some meant) us name left = Fails (Similar name meant (subcommand_of us))
-other None None us name left = unknown (LongFlag name) left
+other None None us name left = unknown_option (LongFlag name) left
 
 -- a name that is not in the table
 abbrev pub other_name : List Use → List ℕ → Left → Reading
@@ -111,13 +111,13 @@ other_name us name left = other (removed_of name) (similar_of name) us name left
 
 -- a long option, by its option of the table
 abbrev pub by_name : Option Opt → List Use → List ℕ → Left → Reading
-by_name (Some o) us name left = known us o (LongFlag name) left
+by_name (Some o) us name left = known_option us o (LongFlag name) left
 by_name None us name left = other_name us name left
 
 -- a letter, by its option of the table
 abbrev pub by_letter : Option Opt → List Use → ℕ → Left → Reading
-by_letter (Some o) us letter left = known us o (ShortFlag letter) left
-by_letter None us letter left = unknown (ShortFlag letter) left
+by_letter (Some o) us letter left = known_option us o (ShortFlag letter) left
+by_letter None us letter left = unknown_option (ShortFlag letter) left
 
 -- what a cut comes to behind these uses
 abbrev pub of_cut : List Use → Cut → Left → Reading
@@ -131,14 +131,14 @@ flag_left (Some cut) = flag_in cut
 flag_left None = None
 
 -- a value that the option before it did not take
-abbrev pub refused : Option Flag → Option (List ℕ) → Reading
-refused (Some flag) (Some value) = Fails (Unexpected flag value)
-refused (Some flag) None = End
-refused None value = End
+abbrev pub refused_value : Option Flag → Option (List ℕ) → Reading
+refused_value (Some flag) (Some value) = Fails (Unexpected flag value)
+refused_value (Some flag) None = End
+refused_value None value = End
 
 -- what the next cut comes to, or its refusal
 abbrev pub of_next : Result (Option Cut) LexFault → List Use → Left → Reading
-of_next (Err fault) us left = refused (flag_left left.option) (unexpected_of left.untaken)
+of_next (Err fault) us left = refused_value (flag_left left.option) (unexpected_of left.untaken)
 of_next (Ok None) us left = End
 of_next (Ok (Some cut)) us left = of_cut us cut (after_cut left)
 

@@ -1,7 +1,7 @@
 -- The uses of options that words make.
 use Rattle.std.specs.Prelude.{ℕ, List, [], ◌∷◌, Bool, false, Option, Some, None, map, string_bytes}
 use Rattle.std.specs.List.{list_any}
-use Rattle.std.specs.Option.{option_map}
+use Rattle.hack_base.specs.Names.{optional_text}
 use Rattle.hack_options.specs.declared.Opt.{Opt}
 use Rattle.hack_options.specs.Table.{same}
 use Rattle.hack_uses.specs.declared.cut.Use.{Use as CodeUse}
@@ -16,8 +16,8 @@ pub data Use : Type 0 where
 
 -- the use that the code holds
 abbrev pub view : CodeUse → Use
-view (code.Known o flag value) = Known o (flag_seen flag) (option_map string_bytes value)
-view (code.Unknown flag value) = Unknown (flag_seen flag) (option_map string_bytes value)
+view (code.Known o flag value) = Known o (flag_seen flag) (optional_text value)
+view (code.Unknown flag value) = Unknown (flag_seen flag) (optional_text value)
 view (code.Word word) = Word (string_bytes word)
 
 -- the uses that the code holds, in order

@@ -1,12 +1,12 @@
 //! Cuts the words into uses, one after the other.
 
 ghost use Rattle.std.specs.Prelude.{map, string_bytes};
-ghost use Rattle.hack_lexopt.specs.Parsers.{left};
+ghost use Rattle.hack_lexopt.specs.Parsers.{left_in};
 ghost use Rattle.hack_uses.specs.Reads.{Gives, GivesUses, GivesNoOther, read_of};
 ghost use Rattle.hack_uses.specs.Uses.{views};
 
 use crate::fault::{CutFault, OwnedFlag};
-use crate::known::{known, other_name, unknown};
+use crate::known::{cut_known, cut_unknown, other_name};
 use hack_lexopt::{Arg, Next, Parser};
 use hack_options::{Opt, long, short};
 use std::alloc::Global;
@@ -47,19 +47,19 @@ pub(crate) enum Step {
 
 /// The next use behind the uses so far, or what else is next.
 fn read(alloc: Global, parser: &mut Parser, uses: &[Use]) -> Result<Step, CutFault>
-    ensures { Gives result (left parser.new) (read_of (views uses.now) (left parser.old)) }
+    ensures { Gives result (left_in parser.new) (read_of (views uses.now) (left_in parser.old)) }
 {
     match parser.cut() {
         Next::Cut(Arg::Long(name)) => {
             let name = String::from_str(alloc, name)?;
             match long(&name) {
-                Some(option) => known(alloc, parser, uses, option, OwnedFlag::Long(name)),
+                Some(option) => cut_known(alloc, parser, uses, option, OwnedFlag::Long(name)),
                 None => other_name(alloc, parser, uses, name),
             }
         }
         Next::Cut(Arg::Short(letter)) => match short(letter) {
-            Some(option) => known(alloc, parser, uses, option, OwnedFlag::Short(letter)),
-            None => unknown(alloc, parser, OwnedFlag::Short(letter)),
+            Some(option) => cut_known(alloc, parser, uses, option, OwnedFlag::Short(letter)),
+            None => cut_unknown(alloc, parser, OwnedFlag::Short(letter)),
         },
         Next::Cut(Arg::Value(word)) => {
             let word = String::from_str(alloc, word)?;

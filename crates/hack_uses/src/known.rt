@@ -1,11 +1,12 @@
 //! What an option comes to: one of the table by what it takes, another by its name.
 
 ghost use Rattle.std.specs.Prelude.{◌≡◌, ◌&&◌, IfOk, string_bytes};
-ghost use Rattle.std.specs.Option.{option_map};
-ghost use Rattle.hack_lexopt.specs.Parsers.{left};
+ghost use Rattle.hack_base.specs.Names.{optional_text};
+ghost use Rattle.hack_lexopt.specs.Parsers.{left_in};
 ghost use Rattle.hack_uses.specs.Faults.{flag_seen};
 ghost use Rattle.hack_lexopt.specs.Cuts.{value_of, after_value, optional_of, after_optional};
-ghost use Rattle.hack_uses.specs.Reads.{Gives, known as known_reading, unknown as unknown_reading};
+ghost use Rattle.hack_uses.specs.Reads.{Gives, known_option as known_reading};
+ghost use Rattle.hack_uses.specs.Reads.{unknown_option as unknown_reading};
 ghost use Rattle.hack_uses.specs.Reads.{other_name as other_reading, with_value as value_reading};
 ghost use Rattle.hack_uses.specs.Reads.{with_names as names_reading};
 ghost use Rattle.hack_uses.specs.Reads.{with_names_or_none as optional_reading};
@@ -31,7 +32,7 @@ fn is_quote(value: &str) -> bool
 
 /// The subcommand that was met so far, where one was.
 fn subcommand_text(uses: &[Use]) -> Result<Option<String>, AllocError>
-    ensures { IfOk result (λ word. option_map string_bytes word ≡ subcommand_of (views uses.now)) }
+    ensures { IfOk result (λ word. optional_text word ≡ subcommand_of (views uses.now)) }
 {
     match subcommand(uses) {
         Some(word) => Ok(Some(word.clone()?)),
@@ -40,7 +41,7 @@ fn subcommand_text(uses: &[Use]) -> Result<Option<String>, AllocError>
 }
 
 /// An option of the table is met.
-fn met(option: Opt, flag: OwnedFlag, value: Option<String>) -> Step
+fn meet(option: Opt, flag: OwnedFlag, value: Option<String>) -> Step
     ensures { result ≡ Step.Met (Use.Known option flag value) }
 {
     Step::Met(Use::Known {
@@ -52,8 +53,13 @@ fn met(option: Opt, flag: OwnedFlag, value: Option<String>) -> Step
 
 /// An option that is not in the table, and the rest of its word. Cargo's `-n`, `-q` and `-r` take
 /// no value, so that what follows them in their word is cut on.
-pub(crate) fn unknown(alloc: Global, parser: &mut Parser, flag: OwnedFlag) -> Result<Step, CutFault>
-    ensures { Gives result (left parser.new) (unknown_reading (flag_seen flag) (left parser.old)) }
+pub(crate) fn cut_unknown(
+    alloc: Global,
+    parser: &mut Parser,
+    flag: OwnedFlag,
+) -> Result<Step, CutFault>
+    ensures { Gives result (left_in parser.new)
+        (unknown_reading (flag_seen flag) (left_in parser.old)) }
 {
     if let OwnedFlag::Short('n' | 'q' | 'r') = flag {
         return Ok(Step::Met(Use::Unknown { flag, value: None }));
@@ -71,12 +77,12 @@ fn question(
     flag: OwnedFlag,
     print: Print,
 ) -> Result<Step, CutFault>
-    ensures { Gives result (left parser.new)
+    ensures { Gives result (left_in parser.new)
         (question_reading print (subcommand_of (views uses.now)) (flag_seen flag)
-        (left parser.old)) }
+        (left_in parser.old)) }
 {
     match subcommand(uses) {
-        Some(_) => unknown(alloc, parser, flag),
+        Some(_) => cut_unknown(alloc, parser, flag),
         None => Ok(Step::Asks(print)),
     }
 }
@@ -98,12 +104,12 @@ fn with_value(
     option: Opt,
     flag: OwnedFlag,
 ) -> Result<Step, CutFault>
-    ensures { Gives result (left parser.new)
-        (value_reading option (flag_seen flag) (value_of (left parser.old))
-        (after_value (left parser.old))) }
+    ensures { Gives result (left_in parser.new)
+        (value_reading option (flag_seen flag) (value_of (left_in parser.old))
+        (after_value (left_in parser.old))) }
 {
     match parser.value(alloc) {
-        Ok(value) => Ok(met(option.means(), flag, Some(value))),
+        Ok(value) => Ok(meet(option.means(), flag, Some(value))),
         Err(LexFault::Memory) => Err(CutFault::Memory),
         Err(_) => Err(CutFault::Missing { flag }),
     }
@@ -116,13 +122,13 @@ fn with_names(
     option: Opt,
     flag: OwnedFlag,
 ) -> Result<Step, CutFault>
-    ensures { Gives result (left parser.new)
-        (names_reading option (flag_seen flag) (value_of (left parser.old))
-        (after_value (left parser.old))) }
+    ensures { Gives result (left_in parser.new)
+        (names_reading option (flag_seen flag) (value_of (left_in parser.old))
+        (after_value (left_in parser.old))) }
 {
     match parser.value(alloc) {
         Ok(value) if is_quote(&value) => Err(CutFault::LoneQuote { flag }),
-        Ok(value) => Ok(met(option.means(), flag, Some(value))),
+        Ok(value) => Ok(meet(option.means(), flag, Some(value))),
         Err(LexFault::Memory) => Err(CutFault::Memory),
         Err(_) => Err(CutFault::Missing { flag }),
     }
@@ -135,13 +141,13 @@ fn with_names_or_none(
     option: Opt,
     flag: OwnedFlag,
 ) -> Result<Step, CutFault>
-    ensures { Gives result (left parser.new)
-        (optional_reading option (flag_seen flag) (optional_of (left parser.old))
-        (after_optional (left parser.old))) }
+    ensures { Gives result (left_in parser.new)
+        (optional_reading option (flag_seen flag) (optional_of (left_in parser.old))
+        (after_optional (left_in parser.old))) }
 {
     match parser.value_or_none(alloc)? {
         Some(value) if is_quote(&value) => Err(CutFault::LoneQuote { flag }),
-        value => Ok(met(option.means(), flag, value)),
+        value => Ok(meet(option.means(), flag, value)),
     }
 }
 
@@ -153,12 +159,12 @@ fn by_kind(
     option: Opt,
     flag: OwnedFlag,
 ) -> Result<Step, CutFault>
-    ensures { Gives result (left parser.new)
+    ensures { Gives result (left_in parser.new)
         (kind_reading (entry_of option).kind (views uses.now) option (flag_seen flag)
-        (left parser.old)) }
+        (left_in parser.old)) }
 {
     match option.row().kind {
-        Kind::Flag => Ok(met(option.means(), flag, None)),
+        Kind::Flag => Ok(meet(option.means(), flag, None)),
         Kind::Value => with_value(alloc, parser, option, flag),
         Kind::Names => with_names(alloc, parser, option, flag),
         Kind::OptionalNames => with_names_or_none(alloc, parser, option, flag),
@@ -179,15 +185,15 @@ fn is_repeat(option: Opt, uses: &[Use]) -> bool
 }
 
 /// An option of the table, and its value where it takes one.
-pub(crate) fn known(
+pub(crate) fn cut_known(
     alloc: Global,
     parser: &mut Parser,
     uses: &[Use],
     option: Opt,
     flag: OwnedFlag,
 ) -> Result<Step, CutFault>
-    ensures { Gives result (left parser.new)
-        (known_reading (views uses.now) option (flag_seen flag) (left parser.old)) }
+    ensures { Gives result (left_in parser.new)
+        (known_reading (views uses.now) option (flag_seen flag) (left_in parser.old)) }
 {
     if is_repeat(option, uses) {
         return Err(CutFault::Repeat {
@@ -200,7 +206,7 @@ pub(crate) fn known(
 }
 
 /// The option to use in place of one of older versions that was removed.
-fn removed(name: &str) -> Option<Opt>
+fn replacement_of(name: &str) -> Option<Opt>
     ensures { result ≡ removed_of name.now }
 {
     if name == "ignore-non-exist-features" {
@@ -238,10 +244,10 @@ pub(crate) fn other_name(
     uses: &[Use],
     name: String,
 ) -> Result<Step, CutFault>
-    ensures { Gives result (left parser.new)
-        (other_reading (views uses.now) (string_bytes name) (left parser.old)) }
+    ensures { Gives result (left_in parser.new)
+        (other_reading (views uses.now) (string_bytes name) (left_in parser.old)) }
 {
-    if let Some(option) = removed(&name) {
+    if let Some(option) = replacement_of(&name) {
         return Err(CutFault::Removed {
             name,
             instead: option,
@@ -254,5 +260,5 @@ pub(crate) fn other_name(
             subcommand: subcommand_text(uses)?,
         });
     }
-    unknown(alloc, parser, OwnedFlag::Long(name))
+    cut_unknown(alloc, parser, OwnedFlag::Long(name))
 }

@@ -1,8 +1,9 @@
 //! The words that uses pass on to cargo.
 
-ghost use Rattle.std.specs.Prelude.{◌≡◌, ◌++◌, IfOk, OnOk, map, option_map, string_bytes};
+ghost use Rattle.std.specs.Prelude.{◌≡◌, ◌++◌, IfOk, OnOk, map, string_bytes};
+ghost use Rattle.hack_base.specs.Names.{optional_text};
 ghost use Rattle.hack_uses.specs.Faults.{flag_seen};
-ghost use Rattle.hack_uses.specs.Passed.{passed, passes, word_of, leading_of};
+ghost use Rattle.hack_uses.specs.Passed.{words_passed, passes, word_of, leading_of};
 ghost use Rattle.hack_uses.specs.Uses.{view, views};
 
 use crate::fault::OwnedFlag;
@@ -24,9 +25,13 @@ fn is_passed(behavior: WorkspaceBehavior, option: Opt) -> bool
 }
 
 /// An unknown option and the rest of its word, in one word.
-fn joined(alloc: Global, flag: &OwnedFlag, value: &Option<String>) -> Result<String, AllocError>
+fn joined_word(
+    alloc: Global,
+    flag: &OwnedFlag,
+    value: &Option<String>,
+) -> Result<String, AllocError>
     ensures { IfOk result (λ word. string_bytes word
-        ≡ word_of (flag_seen flag.now) (option_map string_bytes value.now)) }
+        ≡ word_of (flag_seen flag.now) (optional_text value.now)) }
 {
     match (flag, value) {
         (_, None) => format!(in alloc; "{flag}"),
@@ -43,11 +48,11 @@ fn pass(
     one: &Use,
 ) -> Result<(), AllocError>
     ensures { OnOk result (map string_bytes leading.new.items
-        ≡ map string_bytes leading.old.items ++ passed behavior (view one.now)) }
+        ≡ map string_bytes leading.old.items ++ words_passed behavior (view one.now)) }
 {
     match one {
         Use::Word(word) => leading.push(word.clone()?)?,
-        Use::Unknown { flag, value } => leading.push(joined(alloc, flag, value)?)?,
+        Use::Unknown { flag, value } => leading.push(joined_word(alloc, flag, value)?)?,
         Use::Known {
             option,
             flag,

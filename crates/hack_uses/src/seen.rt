@@ -1,7 +1,7 @@
 //! What uses say of an option.
 
 ghost use Rattle.std.specs.Prelude.{◌≡◌, IfOk, map, string_bytes};
-ghost use Rattle.std.specs.Option.{option_map};
+ghost use Rattle.hack_base.specs.Names.{optional_text_ref};
 ghost use Rattle.hack_uses.specs.Passed.{count_of};
 ghost use Rattle.hack_uses.specs.Values.{value_given, values_given};
 ghost use Rattle.hack_uses.specs.Uses.{is_given, views, subcommand_of};
@@ -26,7 +26,7 @@ pub fn given(option: Opt, uses: &[Use]) -> bool
 
 /// The first word that no option takes; the later ones are its arguments.
 pub fn subcommand(uses: &[Use]) -> Option<&String>
-    ensures { option_map (λ word. string_bytes word.now) result ≡ subcommand_of (views uses.now) }
+    ensures { optional_text_ref result ≡ subcommand_of (views uses.now) }
 {
     for one in uses {
         if let Use::Word(word) = one {
@@ -38,7 +38,7 @@ pub fn subcommand(uses: &[Use]) -> Option<&String>
 
 /// The value of the option's first use that has one, for an option that stands once.
 pub fn value(option: Opt, uses: &[Use]) -> Option<&String>
-    ensures { option_map (λ value. string_bytes value.now) result
+    ensures { optional_text_ref result
         ≡ value_given option (views uses.now) }
 {
     for one in uses {

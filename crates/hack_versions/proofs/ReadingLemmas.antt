@@ -9,11 +9,12 @@ use Rattle.hack_versions.specs.declared.version.MaybeVersion.TheVariants.{Versio
 use Rattle.hack_versions.specs.declared.version.VersionRange.{VersionRange}
 use Rattle.hack_versions.specs.declared.version.VersionFault.{VersionFault}
 use Rattle.hack_versions.specs.declared.version.VersionFault.TheVariants as fault
-use Rattle.hack_versions.specs.Numbers.{IsNumber}
-use Rattle.hack_versions.specs.VersionTexts.{front_of, rest_of, IsSomeNumber, IsBadNumber, IsVersionText, IsVersionFault, IsCut, IsUncut, IsBare, IsBoundText, IsBoundFault, IsEndText, IsOpen, IsEndFault, IsRangeText, IsRangeTextFault}
+use Rattle.hack_base.specs.Numbers.{IsNumber}
+use Rattle.hack_versions.specs.VersionTexts.{IsSomeNumber, IsBadNumber, IsVersionText, IsVersionFault, IsCut, IsUncut, IsBare, IsBoundText, IsBoundFault, IsEndText, IsOpen, IsEndFault, IsRangeText, IsRangeTextFault}
+use Rattle.hack_base.specs.Cuts.{front_of, rest_of}
 use Rattle.hack_versions.specs.Readings.{BadRange, BadNumber, OpenInclusive, IsRefusedBy}
 use Rattle.hack_versions.specs.Readings.{End, Sides, ReadRange, then_read, read_as, or_bad, part_of, with_patch, with_minor, version_of, bound_of, behind_equals, end_of, at_dots, with_end, range_at, range_of}
-use Rattle.hack_versions.proofs.NumberLemmas.{number-read, number-unread}
+use Rattle.hack_base.proofs.NumberLemmas.{number-read, number-unread}
 
 Refused-then : {A B : Type 0} (f : A → Result B BadRange) (r : Result A BadRange) (e : VersionFault) → IsRefusedBy r e → IsRefusedBy (then_read f r) e
 Refused-then f r fault.Memory h = h

@@ -3,8 +3,8 @@ use Rattle.std.specs.Prelude.{◌≡◌, ℕ, ◌==◌, List, [], ◌∷◌, Boo
 use Rattle.std.specs.Prelude.{Option, Some, None, Result, Ok, Err, MatchOption, option_map}
 use Rattle.std.specs.Prelude.{codes, drop, nat_eq, string_bytes}
 use Rattle.std.specs.List.{starts_with}
-use Rattle.hack_versions.specs.Numbers.{number_of}
-use Rattle.hack_versions.specs.VersionTexts.{front_of, rest_of}
+use Rattle.hack_base.specs.Numbers.{number_of}
+use Rattle.hack_base.specs.Cuts.{front_of, rest_of}
 use Rattle.hack_versions.specs.declared.version.Version.{Version}
 use Rattle.hack_versions.specs.declared.version.MaybeVersion.{MaybeVersion}
 use Rattle.hack_versions.specs.declared.version.MaybeVersion.TheVariants.{Version as Given}

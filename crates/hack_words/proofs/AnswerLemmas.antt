@@ -7,7 +7,7 @@ use Rattle.hack_uses.specs.declared.fault.CutFault.TheVariants as cut
 use Rattle.hack_uses.specs.Reads.{Ends, Reading, Met, End, Prints, Fails, IsLast}
 use Rattle.hack_uses.specs.Uses.{Use}
 use Rattle.hack_uses.specs.declared.cut.Print.{Print as Question}
-use Rattle.hack_versions.specs.Notes.{Note}
+use Rattle.hack_base.specs.Notes.{Note}
 use Rattle.hack_words.specs.Answers.{Answers, Refuses, IsJudged, IsPrinted, GivesCuts, BreakNoRule}
 use Rattle.hack_words.specs.Call.{Around, Outcome, IsEnd, ComesFrom, ComesTo, Faulty, outcome_of}
 use Rattle.hack_rules.specs.CliFaults.{Fault, Cut, fault_of, told_of_cut}

@@ -1,5 +1,6 @@
 -- What is answered to the words of a call.
-use Rattle.std.specs.Prelude.{◌≡◌, ℕ, List, [], Bool, true, false, Option, Some, None, Result, Ok, Err, MatchOption, option_map, string_bytes, codes}
+use Rattle.std.specs.Prelude.{◌≡◌, ℕ, List, [], Result, Ok, Err, MatchOption, string_bytes, codes}
+use Rattle.hack_base.specs.Names.{optional_text}
 use Rattle.hack_uses.specs.declared.behavior.WorkspaceBehavior.{WorkspaceBehavior}
 use Rattle.hack_uses.specs.Faults.{Fault as CutFault}
 use Rattle.hack_uses.specs.Reads.{Ends, End, Prints, Fails}
@@ -8,7 +9,7 @@ use Rattle.hack_uses.specs.declared.cut.Cuts.{Cuts}
 use Rattle.hack_uses.specs.declared.cut.Cuts.TheVariants as cuts
 use Rattle.hack_uses.specs.declared.cut.Print.{Print}
 use Rattle.hack_uses.specs.declared.cut.Print.TheVariants.{ShortHelp, LongHelp, Version}
-use Rattle.hack_versions.specs.Notes.{Note}
+use Rattle.hack_base.specs.Notes.{Note}
 use Rattle.hack_versions.specs.declared.rustup.Rustup.{Rustup}
 use Rattle.hack_words.specs.declared.cli.env.Env.{Env}
 use Rattle.hack_rules.specs.declared.fault.CliFault.{CliFault}
@@ -23,12 +24,13 @@ use Rattle.hack_rules.specs.Asked.{coloring_asked, depth_asked}
 use Rattle.hack_words.specs.Call.{Around, Outcome, Faulty, Printed, Listing, Parsed, ComesTo, outcome_of, unknown_notes, notes_on}
 use Rattle.hack_rules.specs.CliFaults.{Fault, fault_of, Cut}
 use Rattle.hack_rules.specs.LateView.{IsLate}
-use Rattle.hack_rules.specs.Rules.{Verdict, Accepted, Lists, Refused, verdict_of}
+use Rattle.hack_rules.specs.Rules.{Verdict, Accepted, Lists, Refused}
+use Rattle.hack_rules.specs.Verdicts.{verdict_of}
 use Rattle.hack_words.specs.RustupView.{known_of, unknown_of}
 
 -- what is known beside the words
 abbrev pub around_of : Env → Rustup → Around
-around_of env rustup = record { term_color = option_map string_bytes env.term_color; github_actions = env.github_actions; rustup = known_of rustup; unknown = unknown_of rustup }
+around_of env rustup = record { term_color = optional_text env.term_color; github_actions = env.github_actions; rustup = known_of rustup; unknown = unknown_of rustup }
 
 -- the same, as the code hands it on
 abbrev pub around_in : Surroundings → Around
@@ -81,12 +83,6 @@ abbrev pub GivesCuts : Result Cuts CliFault → List (List ℕ) → Type 0
 GivesCuts (Ok (cuts.Uses us)) words = Ends words (views us.items) End
 GivesCuts (Ok (cuts.Asks print)) words = (us : List Use) × Ends words us (Prints print)
 GivesCuts (Err e) words = MatchOption (fault_of e) (e ≡ fault.Memory) (λ told. (us : List Use) × (cut : CutFault) × (told ≡ Cut cut) × Ends words us (Fails cut))
-
--- what uses that are left of the bare rules come to: they go on, they ask for cargo's list, or there is no subcommand
-abbrev pub GoesOn : Result Bool CliFault → Option Verdict → Type 0
-GoesOn (Ok true) bare = bare ≡ Some Lists
-GoesOn (Ok false) bare = bare ≡ None
-GoesOn (Err e) bare = MatchOption (fault_of e) (e ≡ fault.Memory) (λ told. bare ≡ Some (Refused told))
 
 -- words come to no fault
 abbrev pub BreakNoRule : Around → List (List ℕ) → Type 0

@@ -1,6 +1,6 @@
 -- What arguments say, field by field.
-use Rattle.std.specs.Prelude.{ℕ, ◌≡◌, List, Bool, Option, IfSome, option_map, string_bytes}
-use Rattle.hack_features.specs.Names.{names_of}
+use Rattle.std.specs.Prelude.{ℕ, ◌≡◌, List, Bool, Option, IfSome, option_map}
+use Rattle.hack_base.specs.Names.{names_of, optional_text}
 use Rattle.hack_options.specs.declared.Opt.TheVariants as opt
 use Rattle.hack_uses.specs.declared.behavior.WorkspaceBehavior.{WorkspaceBehavior}
 use Rattle.hack_uses.specs.Uses.{Use, is_given, subcommand_of}
@@ -10,7 +10,7 @@ use Rattle.hack_words.specs.declared.cli.args.Read.{Read}
 use Rattle.hack_rules.specs.Asked.{coloring_asked, depth_asked, range_asked, step_asked, log_group_asked, piece_asked, kind_asked, leading_asked, excluded_asked, excludes_no_default, excludes_all, ignores_private}
 use Rattle.hack_rules.specs.CliGroups.{AreGroupsOf, AreNormalsOf, AreLifts}
 use Rattle.hack_rules.specs.CliLists.{names_given, optional_given, lifts_given}
-use Rattle.hack_rules.specs.Listed.{listed}
+use Rattle.hack_rules.specs.Listed.{listed_by}
 use Rattle.hack_rules.specs.CliTargets.{AreRising, AreSame}
 
 -- the options without a value
@@ -32,14 +32,14 @@ pub record HasFlags (us : List Use) (args : Args) : Type 0 where
   pub include_deps_features : args.include_deps_features ≡ is_given opt.IncludeDepsFeatures us
   pub no_default_features : args.no_default_features ≡ is_given opt.NoDefaultFeatures us
   pub verbose : args.verbose ≡ is_given opt.Verbose us
-  pub exclude_no_default_features : args.exclude_no_default_features ≡ excludes_no_default (listed us) us
-  pub exclude_all_features : args.exclude_all_features ≡ excludes_all (listed us) us
+  pub exclude_no_default_features : args.exclude_no_default_features ≡ excludes_no_default (listed_by us) us
+  pub exclude_all_features : args.exclude_all_features ≡ excludes_all (listed_by us) us
 
 -- the words and lists of words
 pub record HasTexts (behavior : WorkspaceBehavior) (us : List Use) (args : Args) : Type 0 where
   pub leading_args : names_of args.leading_args.items ≡ leading_asked behavior us
-  pub subcommand : option_map string_bytes args.subcommand ≡ subcommand_of us
-  pub manifest_path : option_map string_bytes args.manifest_path ≡ value_given opt.ManifestPath us
+  pub subcommand : optional_text args.subcommand ≡ subcommand_of us
+  pub manifest_path : optional_text args.manifest_path ≡ value_given opt.ManifestPath us
   pub packages : names_of args.«package».items ≡ values_given opt.Package us
   pub exclude : names_of args.exclude.items ≡ values_given opt.Exclude us
   pub features : names_of args.features.items ≡ names_given opt.Features us

@@ -6,14 +6,16 @@ use Rattle.hack_uses.specs.declared.cut.Print.{Print}
 use Rattle.hack_uses.specs.Reads.{Reading, Met, End, Prints as Questions, Fails, Ends}
 use Rattle.hack_uses.specs.Uses.{Use, is_given}
 use Rattle.hack_uses.specs.Values.{value_given}
-use Rattle.hack_versions.specs.Notes.{Note}
+use Rattle.hack_base.specs.Notes.{Note, note_if}
 use Rattle.hack_versions.specs.Readings.{Sides, at_dots}
-use Rattle.hack_versions.specs.declared.notice.NoticeKind.{NoticeKind}
-use Rattle.hack_versions.specs.declared.notice.NoticeKind.TheVariants.{Info, Warn, QuietWarn}
+use Rattle.hack_base.specs.declared.notice.NoticeKind.{NoticeKind}
+use Rattle.hack_base.specs.declared.notice.NoticeKind.TheVariants.{Info, Warn, QuietWarn}
 use Rattle.hack_rules.specs.Asked.{is_old_asked}
 use Rattle.hack_rules.specs.CliFaults.{Fault, Cut}
-use Rattle.hack_rules.specs.Listed.{Listed, listed}
-use Rattle.hack_rules.specs.Rules.{Verdict, Accepted, Lists, Refused, is_nonempty, is_ranged, verdict_of}
+use Rattle.hack_rules.specs.Listed.{Listed, listed_by}
+use Rattle.hack_rules.specs.Rules.{Verdict, Accepted, Lists, Refused, is_nonempty}
+use Rattle.hack_rules.specs.Late.{is_ranged}
+use Rattle.hack_rules.specs.Verdicts.{verdict_of}
 use Rattle.hack_words.specs.Start.{Start, Refuses, Cuts, start_of}
 
 -- what is known beside the words: the colouring of the environment, whether GitHub Actions runs, and rustup's minor version or why it isn't known
@@ -55,10 +57,6 @@ ComesFrom around (Cuts behavior cut trailing) outcome = (us : List Use) × (end 
 abbrev pub ComesTo : Around → List (List ℕ) → Outcome → Type 0
 ComesTo around words outcome = ComesFrom around (start_of words) outcome
 
--- a notice where a test is true
-abbrev pub note_if : Bool → NoticeKind → List ℕ → List Note
-note_if b kind text = if b then record { kind = kind; text = text } ∷ [] else []
-
 -- the text on unknown features
 abbrev pub unknown_words : List ℕ
 unknown_words = codes "--ignore-unknown-features for --include-features is not fully implemented and may not work as intended"
@@ -69,7 +67,7 @@ in_vain l us = is_given opt.IgnoreUnknownFeatures us && is_nonempty l.includes
 
 -- unknown features are not ignored everywhere
 abbrev pub unknown_notes : List Use → List Note
-unknown_notes us = note_if (in_vain (listed us) us) QuietWarn unknown_words
+unknown_notes us = note_if (in_vain (listed_by us) us) QuietWarn unknown_words
 
 -- the text on rustup
 abbrev pub rustup_words : List ℕ → List ℕ

@@ -1,5 +1,6 @@
 -- What a call looks up beside its words.
-use Rattle.std.specs.Prelude.{◌≡◌, ℕ, List, [], ◌∷◌, Bool, true, false, Option, Some, None, String, string_bytes, codes, map, option_map, bytes_eq, if◌then◌else◌}
+use Rattle.std.specs.Prelude.{◌≡◌, ℕ, List, [], ◌∷◌, Bool, true, false, Option, Some, None, String, string_bytes, codes, map, bytes_eq, if◌then◌else◌}
+use Rattle.hack_base.specs.Names.{optional_text}
 use Rattle.hack_rules.specs.Asked.{or_else, or_next}
 use Rattle.hack_words.specs.declared.cli.env.Env.{Env}
 
@@ -27,7 +28,7 @@ is_set name vars = is_some (variable name vars)
 
 -- the environment of variables and of the current folder
 pub record IsEnv (vars : List Variable) (current_dir : List ℕ) (env : Env) : Type 0 where
-  pub term_color : option_map string_bytes env.term_color ≡ variable (codes "CARGO_TERM_COLOR") vars
+  pub term_color : optional_text env.term_color ≡ variable (codes "CARGO_TERM_COLOR") vars
   pub github_actions : env.github_actions ≡ is_set (codes "GITHUB_ACTIONS") vars
   pub deny_warnings : env.deny_warnings ≡ is_set (codes "CARGO_HACK_DENY_WARNINGS") vars
   pub cargo : string_bytes env.cargo ≡ or_else (codes "cargo") (or_next (variable (codes "CARGO_HACK_CARGO_SRC") vars) (variable (codes "CARGO") vars))

@@ -3,7 +3,8 @@
 
 pub mod cli;
 
+pub use hack_base::lists;
 pub use hack_files::{fs, restore};
 pub use hack_lexopt as lexopt;
-pub use hack_term::{lists, partition, term};
+pub use hack_term::{partition, term};
 pub use hack_versions::{rustup, version};

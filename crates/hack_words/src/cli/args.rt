@@ -1,8 +1,8 @@
 //! What a call asks for.
 
-ghost use Rattle.std.specs.Prelude.{◌≡◌, ◌++◌, IfOk, OnOk, codes, string_bytes, option_map};
+ghost use Rattle.std.specs.Prelude.{◌≡◌, ◌++◌, IfOk, OnOk, codes, string_bytes};
 ghost use Rattle.std.specs.List.{repeat};
-ghost use Rattle.hack_features.specs.Names.{names_of};
+ghost use Rattle.hack_base.specs.Names.{names_of, optional_text_ref, optional_text};
 ghost use Rattle.hack_uses.specs.Passed.{leading_of};
 ghost use Rattle.hack_uses.specs.Uses.{views};
 ghost use Rattle.hack_uses.specs.Values.{values_given};
@@ -10,12 +10,14 @@ ghost use Rattle.hack_rules.specs.Asked.{verbose_words, excludes_no_default, exc
 ghost use Rattle.hack_rules.specs.Asked.{ignores_private as private_ignored};
 ghost use Rattle.hack_rules.specs.ListsView.{listed_in};
 
+use hack_base::copies::{copy_of, push_copies};
 use hack_features::Feature;
 use hack_options::Opt;
-use hack_rules::late_rules::Late;
+use hack_rules::checks::has_some;
+use hack_rules::early::Early;
+use hack_rules::late::Late;
 use hack_rules::listed::Lists;
 use hack_rules::named;
-use hack_rules::rules::{Early, has_some};
 use hack_term::partition::Partition;
 use hack_term::term::{Coloring, LogGroup};
 use hack_uses::{Use, WorkspaceBehavior, count, given, subcommand, value, values};
@@ -107,27 +109,6 @@ fn pass_verbose(alloc: Global, leading: &mut Vec<String>, said: usize) -> Result
     Ok(())
 }
 
-/// The list behind another.
-fn with_features(excluded: &mut Vec<String>, features: &[String]) -> Result<(), AllocError>
-    ensures { OnOk result (names_of excluded.new.items
-        ≡ names_of excluded.old.items ++ names_of features.now) }
-{
-    for feature in features {
-        excluded.push(feature.clone()?)?;
-    }
-    Ok(())
-}
-
-fn owned(word: Option<&String>) -> Result<Option<String>, AllocError>
-    ensures { IfOk result (λ text. option_map string_bytes text
-        ≡ option_map (λ word. string_bytes word.now) word.entry) }
-{
-    match word {
-        Some(word) => Ok(Some(word.clone()?)),
-        None => Ok(None),
-    }
-}
-
 /// Whether the run without default features is left out: there is always another one.
 fn leaves_no_default(lists: &Lists, uses: &[Use]) -> bool
     ensures { result ≡ excludes_no_default (listed_in lists.now) (views uses.now) }
@@ -176,13 +157,13 @@ pub struct Read {
 impl Args {
     ghost use Rattle.hack_words.specs.ArgsView.{HasFlags, HasTexts, HasFeatures, Carries};
     ghost use Rattle.hack_rules.specs.CliGroups.{AreGroupsOf};
-    ghost use Rattle.hack_rules.specs.Listed.{listed};
+    ghost use Rattle.hack_rules.specs.Listed.{listed_by};
 
     /// The arguments that uses of options and what was read of them say.
     pub(crate) fn of(alloc: Global, read: Read, uses: &[Use]) -> Result<Args, AllocError>
         requires passed { names_of read.call.passed.items
             ≡ leading_of read.call.behavior (views uses.now) }
-        requires listed { listed_in read.call.lists ≡ listed (views uses.now) }
+        requires listed { listed_in read.call.lists ≡ listed_by (views uses.now) }
         requires groups { AreGroupsOf (values_given Opt.GroupFeatures
             (views uses.now)) read.call.lists.group_features.items }
         requires exclusive { AreGroupsOf
@@ -212,12 +193,12 @@ impl Args {
             group_features,
             mutually_exclusive_features,
         } = lists;
-        with_features(&mut excludes, features.as_slice())?;
+        push_copies(&mut excludes, features.as_slice())?;
         Ok(Args {
             leading_args,
             trailing_args,
-            subcommand: owned(subcommand(uses))?,
-            manifest_path: owned(value(Opt::ManifestPath, uses))?,
+            subcommand: copy_of(subcommand(uses))?,
+            manifest_path: copy_of(value(Opt::ManifestPath, uses))?,
             no_manifest_path: given(Opt::NoManifestPath, uses),
             locked: given(Opt::Locked, uses),
             package: values(alloc, Opt::Package, uses)?,

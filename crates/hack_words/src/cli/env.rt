@@ -1,6 +1,7 @@
 //! What a call looks up beside its words: variables of the environment, and the current folder.
 
-ghost use Rattle.std.specs.Prelude.{◌≡◌, IfOk, string_bytes, option_map};
+ghost use Rattle.std.specs.Prelude.{◌≡◌, IfOk, string_bytes};
+ghost use Rattle.hack_base.specs.Names.{optional_text_ref};
 ghost use Rattle.hack_rules.specs.Asked.{or_else};
 ghost use Rattle.hack_words.specs.EnvView.{IsEnv, variable as variable_named, is_set as set};
 ghost use Rattle.hack_words.specs.EnvView.{vars_of};
@@ -26,7 +27,7 @@ pub struct Env {
 
 /// The value of the first variable of this name.
 fn variable<'a>(vars: &'a [(String, String)], name: &str) -> Option<&'a String>
-    ensures { option_map (λ value. string_bytes value.now) result
+    ensures { optional_text_ref result
         ≡ variable_named name.now (vars_of vars.now) }
 {
     for (key, value) in vars {
@@ -43,9 +44,9 @@ fn is_set(vars: &[(String, String)], name: &str) -> bool
     variable(vars, name).is_some()
 }
 
-fn owned(alloc: Global, value: Option<&String>, other: &str) -> Result<String, AllocError>
+fn value_or(alloc: Global, value: Option<&String>, other: &str) -> Result<String, AllocError>
     ensures { IfOk result (λ text. string_bytes text
-        ≡ or_else other.now (option_map (λ value. string_bytes value.now) value.entry)) }
+        ≡ or_else other.now (optional_text_ref value.entry)) }
 {
     match value {
         Some(value) => value.clone(),
@@ -71,8 +72,8 @@ impl Env {
             term_color,
             github_actions: is_set(vars, "GITHUB_ACTIONS"),
             deny_warnings: is_set(vars, "CARGO_HACK_DENY_WARNINGS"),
-            cargo: owned(alloc, cargo, "cargo")?,
-            rustup: owned(alloc, variable(vars, "CARGO_HACK_RUSTUP"), "rustup")?,
+            cargo: value_or(alloc, cargo, "cargo")?,
+            rustup: value_or(alloc, variable(vars, "CARGO_HACK_RUSTUP"), "rustup")?,
             current_dir,
         })
     }

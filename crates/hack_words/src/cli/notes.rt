@@ -1,25 +1,17 @@
 //! What the user is told of words that are accepted.
 
-ghost use Rattle.std.specs.Prelude.{◌≡◌, ◌++◌, IfOk, OnOk, true, codes, map, string_bytes};
-ghost use Rattle.std.specs.Prelude.{option_map};
-ghost use Rattle.hack_versions.specs.Notes.{note_of};
-ghost use Rattle.hack_words.specs.Call.{note_if, unknown_words, rustup_words, rustup_notes};
+ghost use Rattle.std.specs.Prelude.{◌≡◌, ◌++◌, IfOk, OnOk, true, codes, string_bytes};
+ghost use Rattle.hack_base.specs.Names.{optional_text_ref};
+ghost use Rattle.hack_base.specs.Notes.{AddsNotes};
+ghost use Rattle.hack_base.specs.Notes.{note_if};
+ghost use Rattle.hack_words.specs.Call.{unknown_words, rustup_words, rustup_notes};
 ghost use Rattle.hack_words.specs.Call.{old_words, old_notes, editing_words, edits_words};
 ghost use Rattle.hack_words.specs.Call.{edit_notes, new_form as newer_form};
 ghost use Rattle.hack_words.specs.RustupView.{unknown_of};
 
-use hack_versions::notice::{Notice, NoticeKind};
+use hack_base::notice::{Notice, NoticeKind, tell};
 use hack_versions::rustup::Rustup;
 use std::alloc::{AllocError, Global};
-
-/// Adds a notice.
-fn note(notices: &mut Vec<Notice>, kind: NoticeKind, text: String) -> Result<(), AllocError>
-    ensures { OnOk result (map note_of notices.new.items
-        ≡ map note_of notices.old.items ++ note_if true kind (string_bytes text)) }
-{
-    notices.push(Notice { kind, text })?;
-    Ok(())
-}
 
 fn unknown_text(alloc: Global) -> Result<String, AllocError>
     ensures { IfOk result (λ text. string_bytes text ≡ unknown_words) }
@@ -32,11 +24,11 @@ fn unknown_text(alloc: Global) -> Result<String, AllocError>
 
 /// Tells that unknown features are not ignored everywhere.
 pub fn tell_unknown(alloc: Global, notices: &mut Vec<Notice>, told: bool) -> Result<(), AllocError>
-    ensures { OnOk result (map note_of notices.new.items
-        ≡ map note_of notices.old.items ++ note_if told NoticeKind.QuietWarn unknown_words) }
+    ensures { OnOk result (AddsNotes notices.old notices.new
+        (note_if told NoticeKind.QuietWarn unknown_words)) }
 {
     if told {
-        note(notices, NoticeKind::QuietWarn, unknown_text(alloc)?)?;
+        tell(notices, true, NoticeKind::QuietWarn, unknown_text(alloc)?)?;
     }
     Ok(())
 }
@@ -54,15 +46,14 @@ pub fn tell_rustup(
     ranged: bool,
     rustup: &Rustup,
 ) -> Result<(), AllocError>
-    ensures { OnOk result (map note_of notices.new.items
-        ≡ map note_of notices.old.items ++ rustup_notes ranged (unknown_of rustup.now)) }
+    ensures { OnOk result (AddsNotes notices.old notices.new
+        (rustup_notes ranged (unknown_of rustup.now))) }
 {
     match rustup {
-        Rustup::Unknown(why) if ranged => note(
-            notices,
-            NoticeKind::Warn,
-            rustup_text(alloc, why.as_str())?,
-        ),
+        Rustup::Unknown(why) if ranged => {
+            let text = rustup_text(alloc, why.as_str())?;
+            tell(notices, true, NoticeKind::Warn, text)
+        }
         Rustup::Unknown(_) => Ok(()),
         Rustup::Known(_) => Ok(()),
     }
@@ -97,15 +88,14 @@ pub fn tell_old(
     is_old: bool,
     range: Option<&String>,
 ) -> Result<(), AllocError>
-    ensures { OnOk result (map note_of notices.new.items
-        ≡ map note_of notices.old.items
-        ++ old_notes is_old (option_map (λ text. string_bytes text.now) range.entry)) }
+    ensures { OnOk result (AddsNotes notices.old notices.new
+        (old_notes is_old (optional_text_ref range.entry))) }
 {
     match range {
         Some(range) if is_old => {
             let newer = new_form(alloc, range.as_str())?;
             let text = old_text(alloc, newer.as_str())?;
-            note(notices, NoticeKind::Warn, text)
+            tell(notices, true, NoticeKind::Warn, text)
         }
         Some(_) => Ok(()),
         None => Ok(()),
@@ -113,7 +103,7 @@ pub fn tell_old(
 }
 
 /// The options that edit manifests while commands run.
-fn editing(no_dev_deps: bool, no_private: bool) -> &'static str
+fn editing_options(no_dev_deps: bool, no_private: bool) -> &'static str
     ensures { result.now ≡ editing_words no_dev_deps no_private }
 {
     if !no_dev_deps {
@@ -140,13 +130,12 @@ pub fn tell_edits(
     no_dev_deps: bool,
     no_private: bool,
 ) -> Result<(), AllocError>
-    ensures { OnOk result (map note_of notices.new.items
-        ≡ map note_of notices.old.items ++ edit_notes no_dev_deps no_private) }
+    ensures { OnOk result (AddsNotes notices.old notices.new (edit_notes no_dev_deps no_private)) }
 {
     let edits = no_dev_deps || no_private;
     if edits {
-        let text = edits_text(alloc, editing(no_dev_deps, no_private))?;
-        note(notices, NoticeKind::Info, text)?;
+        let text = edits_text(alloc, editing_options(no_dev_deps, no_private))?;
+        tell(notices, true, NoticeKind::Info, text)?;
     }
     Ok(())
 }

@@ -1,21 +1,19 @@
 //! Words into arguments, or the first fault.
 
-ghost use Rattle.std.specs.Prelude.{ℕ, List, ◌≡◌, ◌++◌, IfOk, IfErr, MatchOption, OnOk, map};
+ghost use Rattle.std.specs.Prelude.{ℕ, List, ◌≡◌, IfOk, IfErr, MatchOption, OnOk, map};
 ghost use Rattle.std.specs.Prelude.{string_bytes};
-ghost use Rattle.hack_features.specs.Names.{names_of};
-ghost use Rattle.hack_uses.specs.declared.behavior.WorkspaceBehavior.{WorkspaceBehavior};
+ghost use Rattle.hack_base.specs.Names.{names_of};
 ghost use Rattle.hack_uses.specs.Passed.{leading_of};
 ghost use Rattle.hack_uses.specs.Uses.{views, subcommand_of};
-ghost use Rattle.hack_versions.specs.Notes.{note_of};
-ghost use Rattle.hack_words.specs.Answers.{Judges, GoesOn, IsJudged, IsText, IsPrinted, Answers};
+ghost use Rattle.hack_base.specs.Notes.{note_of, AddsNotes};
+ghost use Rattle.hack_words.specs.Answers.{Judges, IsJudged, IsText, IsPrinted, Answers};
 ghost use Rattle.hack_words.specs.Answers.{Refuses, GivesCuts, BreakNoRule, around_of, around_in};
 ghost use Rattle.hack_rules.specs.Asked.{is_old_asked};
 ghost use Rattle.hack_words.specs.Call.{Around, Outcome, ComesFrom, ComesTo, Faulty, outcome_of};
 ghost use Rattle.hack_words.specs.Call.{later_notes, in_vain};
 ghost use Rattle.hack_rules.specs.CliFaults.{fault_of};
-ghost use Rattle.hack_rules.specs.Listed.{listed};
+ghost use Rattle.hack_rules.specs.Listed.{listed_by};
 ghost use Rattle.hack_rules.specs.ListsView.{listed_in};
-ghost use Rattle.hack_rules.specs.Rules.{bare_verdict};
 ghost use Rattle.hack_words.specs.StartView.{start_in};
 ghost use Rattle.hack_words.specs.RustupView.{known_of, unknown_of};
 
@@ -23,13 +21,15 @@ use crate::cli::args::{Args, Call, Read};
 use crate::cli::env::Env;
 use crate::cli::notes::{tell_edits, tell_old, tell_rustup, tell_unknown};
 use crate::cli::start::Start;
+use hack_base::notice::Notice;
 use hack_options::{Help, Opt};
+use hack_rules::bare::lists_commands;
+use hack_rules::checks::has_some;
+use hack_rules::early::{self, Early};
 use hack_rules::fault::CliFault;
-use hack_rules::late_rules::{self, Late, is_ranged};
+use hack_rules::late::{self, Late, is_ranged};
 use hack_rules::listed::Lists;
-use hack_rules::rules::{self, Early, has, has_some};
-use hack_uses::{Cuts, Print, Use, WorkspaceBehavior, all_uses, given, leading, subcommand, value};
-use hack_versions::notice::Notice;
+use hack_uses::{Cuts, Print, Use, WorkspaceBehavior, all_uses, given, leading, value};
 use hack_versions::rustup::Rustup;
 use std::alloc::{AllocError, Global};
 
@@ -57,31 +57,13 @@ enum Checked {
     Accepted { early: Early, late: Late },
 }
 
-fn known(rustup: &Rustup) -> Option<u32>
+fn known_minor(rustup: &Rustup) -> Option<u32>
     ensures { result ≡ known_of rustup.now }
 {
     match rustup {
         Rustup::Known(minor) => Some(*minor),
         Rustup::Unknown(_) => None,
     }
-}
-
-/// Whether cargo's list is asked for, where there is no subcommand.
-fn lists_commands(passed: &[String], uses: &[Use]) -> Result<bool, CliFault>
-    ensures { (behavior : WorkspaceBehavior)
-        → names_of passed.now ≡ leading_of behavior (views uses.now)
-        → GoesOn result (bare_verdict behavior (subcommand_of (views uses.now)) (views uses.now)) }
-{
-    if subcommand(uses).is_some() {
-        return Ok(false);
-    }
-    if has(passed, "--list") {
-        return Ok(true);
-    }
-    if given(Opt::RemoveDevDeps, uses) {
-        return Ok(false);
-    }
-    Err(CliFault::NoSubcommand)
 }
 
 /// All rules, in order.
@@ -93,7 +75,7 @@ fn keep_rules(
 ) -> Result<Checked, CliFault>
     requires passed { names_of call.now.passed.items
         ≡ leading_of call.now.behavior (views uses.now) }
-    requires listed { listed_in call.now.lists ≡ listed (views uses.now) }
+    requires listed { listed_in call.now.lists ≡ listed_by (views uses.now) }
     ensures { Judges result call.now.behavior (around_in around.entry) (views uses.now) }
 {
     let Surroundings { env, rustup } = around;
@@ -104,11 +86,11 @@ fn keep_rules(
         ..
     } = call;
     let term_color = env.term_color.as_ref();
-    let early = rules::before(alloc, *behavior, term_color, lists, passed, uses)?;
+    let early = early::check(alloc, *behavior, term_color, lists, passed, uses)?;
     if lists_commands(passed, uses)? {
         return Ok(Checked::List);
     }
-    let late = late_rules::after(alloc, known(rustup), env.github_actions, lists, uses)?;
+    let late = late::check(alloc, known_minor(rustup), env.github_actions, lists, uses)?;
     Ok(Checked::Accepted { early, late })
 }
 
@@ -121,8 +103,8 @@ fn tell(
     rustup: &Rustup,
 ) -> Result<(), AllocError>
     requires { is_old ≡ is_old_asked (views uses.now) }
-    ensures { OnOk result (map note_of notices.new.items
-        ≡ map note_of notices.old.items ++ later_notes (unknown_of rustup.now) (views uses.now)) }
+    ensures { OnOk result (AddsNotes notices.old notices.new
+        (later_notes (unknown_of rustup.now) (views uses.now))) }
 {
     tell_rustup(alloc, notices, is_ranged(uses), rustup)?;
     tell_old(alloc, notices, is_old, value(Opt::VersionRange, uses))?;
@@ -138,7 +120,7 @@ fn ignores_in_vain(lists: &Lists, uses: &[Use]) -> bool
 }
 
 /// What uses of options come to.
-fn judged(
+fn judge_uses(
     alloc: Global,
     around: Surroundings<'_>,
     behavior: WorkspaceBehavior,
@@ -196,7 +178,7 @@ fn cut(alloc: Global, words: Vec<String>) -> Result<Cuts, CliFault>
 }
 
 /// The answer to words that ask for a text.
-fn printed(alloc: Global, print: Print) -> Result<(Parsed, Vec<Notice>), AllocError>
+fn print_answer(alloc: Global, print: Print) -> Result<(Parsed, Vec<Notice>), AllocError>
     ensures { IfOk result (λ answer. IsPrinted print answer.0 (map note_of answer.1.items)) }
 {
     let text = text_of(alloc, print)?;
@@ -204,7 +186,7 @@ fn printed(alloc: Global, print: Print) -> Result<(Parsed, Vec<Notice>), AllocEr
 }
 
 /// What words come to that begin so.
-fn begun(
+fn parse_start(
     alloc: Global,
     around: Surroundings<'_>,
     start: Start,
@@ -221,8 +203,8 @@ fn begun(
         trailing,
     } = start;
     match cut(alloc, words)? {
-        Cuts::Asks(print) => Ok(printed(alloc, print)?),
-        Cuts::Uses(uses) => judged(alloc, around, behavior, trailing, uses.as_slice()),
+        Cuts::Asks(print) => Ok(print_answer(alloc, print)?),
+        Cuts::Uses(uses) => judge_uses(alloc, around, behavior, trailing, uses.as_slice()),
     }
 }
 
@@ -239,7 +221,7 @@ fn read_words(
     ensures err { IfErr result (Refuses (ComesTo (around_in around.entry) (names_of words.now))) }
 {
     let start = Start::of(alloc, words)?;
-    begun(alloc, around, start)
+    parse_start(alloc, around, start)
 }
 
 /// The law that what words come to is one thing. It does nothing; its contract is the law.

@@ -1,13 +1,14 @@
 //! How the words of a call begin, before they are cut into options.
 
 ghost use Rattle.std.specs.Prelude.{◌≡◌, IfOk};
-ghost use Rattle.hack_features.specs.Names.{names_of};
+ghost use Rattle.hack_base.specs.Names.{names_of};
 ghost use Rattle.hack_words.specs.Start.{front_words, trailing_words, is_behavior as behavior};
 ghost use Rattle.hack_words.specs.Start.{is_range_option as range_option};
 ghost use Rattle.hack_words.specs.Start.{has_range as range_with_value};
 ghost use Rattle.hack_words.specs.Start.{wants_rustup as rustup_wanted};
 ghost use Rattle.hack_words.specs.StartView.{Begins, TakesOut};
 
+use hack_base::copies::copies;
 use hack_options::Opt;
 use hack_rules::fault::CliFault;
 use hack_uses::{CutFault, OwnedFlag, WorkspaceBehavior};
@@ -90,16 +91,6 @@ fn taken_out(alloc: Global, front: &[String]) -> Result<Front, CliFault>
     Ok(Front { behavior, words })
 }
 
-fn copied(alloc: Global, words: &[String]) -> Result<Vec<String>, AllocError>
-    ensures { IfOk result (λ copies. names_of copies.items ≡ names_of words.now) }
-{
-    let mut copies = Vec::new(alloc);
-    for word in words {
-        copies.push(word.clone()?)?;
-    }
-    Ok(copies)
-}
-
 /// What words begin with.
 #[derive(Drop)]
 pub struct Start {
@@ -125,7 +116,7 @@ impl Start {
         }
         let (front, trailing) = split_at_dashes(rest);
         let Front { behavior, words } = taken_out(alloc, front)?;
-        let trailing = copied(alloc, trailing)?;
+        let trailing = copies(alloc, trailing)?;
         Ok(Start {
             behavior,
             words,

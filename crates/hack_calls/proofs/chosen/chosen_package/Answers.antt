@@ -1,6 +1,6 @@
 use Rattle.std.proofs.Common.{◌∙◌, sym, ap, subst, Some}
 use Rattle.hack_features.specs.Feature.{groups_of}
-use Rattle.hack_features.specs.Names.{shown}
+use Rattle.hack_base.specs.Names.{names_behind}
 use Rattle.hack_load.specs.ContextView.{context_view}
 use Rattle.hack_metadata.specs.View.{package_view}
 use Rattle.hack_packages.specs.CandidatesView.{wishes}
@@ -30,7 +30,7 @@ returns c =
       path = c.in_ok-given_path.ensures
           ∙ ap (λ (a : Args). given_path a.no_manifest_path c.current_dir.result.now (Some pkg)) c.args-2.ensures
           ∙ ap (λ dir. given_path cx.args.no_manifest_path dir (Some pkg)) c.current_dir.ensures;
-      given = c.in_ok-features.ensures ∙ ap shown c.as_slice.ensures.value ∙ c.in_ok-given.ensures.names;
+      given = c.in_ok-features.ensures ∙ ap names_behind c.as_slice.ensures.value ∙ c.in_ok-given.ensures.names;
       candidates = of-kind (wishes cx.args) (known_as pkg features) c.in_ok-found.found.kind (groups_of c.in_ok-candidates.candidates.items) (runs_in c.in_ok-candidates.runs) parts.candidates parts.runs (found.kind pkg features known loaded);
       runs = subst (AreRuns (wishes cx.args) (known_as pkg features)) (sym parts.runs) (found.runs pkg features known loaded);
       covered = λ powerset. subst (AreCovering (wishes cx.args) (known_as pkg features)) (sym parts.runs) (found.covered pkg features known loaded powerset);

@@ -3,7 +3,7 @@ use Rattle.std.proofs.lemmas.List.{map-append}
 use Rattle.hack_load.specs.ContextView.{context_view}
 use Rattle.hack_metadata.specs.View.{place_at}
 use Rattle.hack_runs.specs.View.{package_view}
-use Rattle.hack_versions.specs.Notes.{note_of}
+use Rattle.hack_base.specs.Notes.{note_of}
 use Rattle.hack_calls.specs.Calls.{ArePlanned, begins}
 use Rattle.hack_calls.proofs.ChosenLemmas.{planned-more}
 use Rattle.hack_calls.proofs.chosen.chosen_packages.Goals as goal

@@ -2,7 +2,7 @@ use Rattle.std.proofs.Common.{◌≡◌, ◌++◌, Some, map, take}
 use Rattle.std.specs.List.{flat_map}
 use Rattle.hack_load.specs.ContextView.{context_view}
 use Rattle.hack_metadata.specs.View.{place_at}
-use Rattle.hack_versions.specs.Notes.{note_of}
+use Rattle.hack_base.specs.Notes.{note_of}
 use Rattle.hack_calls.specs.Calls.{version_notes}
 use Rattle.hack_calls.proofs.notes.add_groups.Given as goal
 

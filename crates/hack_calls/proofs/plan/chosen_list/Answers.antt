@@ -1,6 +1,6 @@
 use Rattle.std.proofs.Common.{map}
 use Rattle.hack_load.specs.ContextView.{context_view}
-use Rattle.hack_versions.specs.Notes.{note_of}
+use Rattle.hack_base.specs.Notes.{note_of}
 use Rattle.hack_calls.proofs.ChosenLemmas.{ids-in}
 use Rattle.hack_calls.proofs.plan.chosen_list.Goals as goal
 

@@ -8,7 +8,7 @@ use Rattle.hack_plan.specs.Quads.{ArePlaces, HasTooMany}
 use Rattle.hack_runs.specs.Plans.{counts_in}
 use Rattle.hack_runs.specs.Prepared.{ArePrepared}
 use Rattle.hack_runs.specs.View.{CallView, package_view}
-use Rattle.hack_versions.specs.Notes.{note_of}
+use Rattle.hack_base.specs.Notes.{note_of}
 use Rattle.hack_versions.specs.declared.version.VersionFault.{VersionFault}
 use Rattle.hack_calls.specs.Calls.{IsSceneOf, ArePlanned, HasBadOwn, left_out_notes}
 use Rattle.hack_calls.specs.Made.{run_counts}

@@ -1,6 +1,6 @@
 use Rattle.std.proofs.Common.{◌≡◌, ◌+◌, List, [], sym, subst, map, take, inl, inr, ◌⊎◌}
 use Rattle.std.proofs.lemmas.List.{take_all}
-use Rattle.hack_features.proofs.Members.{Contains-nil}
+use Rattle.hack_base.proofs.Members.{Contains-nil}
 use Rattle.hack_load.specs.ContextView.{context_view}
 use Rattle.hack_metadata.specs.View.{place_at}
 use Rattle.hack_metadata.specs.declared.resolve.PackageId.{PackageId}

@@ -1,12 +1,12 @@
 use Rattle.std.proofs.Common.{◌≡◌, drop}
 use Rattle.std.specs.Prelude.{◌||◌}
 use Rattle.toml.specs.View.{items_view}
-use Rattle.hack_process.specs.PathTexts.{texts}
+use Rattle.hack_base.specs.Names.{names_behind}
 use Rattle.hack_edits.specs.Members.{some_led, paths_left}
 use Rattle.hack_edits.proofs.members.choose.Given as goal
 
 abbrev pub invariant-items : goal.invariant-items
 invariant-items l = record {
-  some : (l.some || some_led l.root (texts l.left.items) (items_view (drop l.item-index l.item-items))) ≡ some_led l.root (texts l.paths) (items_view l.item-items);
-  paths : paths_left l.root (texts l.left.items) (items_view (drop l.item-index l.item-items)) ≡ paths_left l.root (texts l.paths) (items_view l.item-items);
+  some : (l.some || some_led l.root (names_behind l.left.items) (items_view (drop l.item-index l.item-items))) ≡ some_led l.root (names_behind l.paths) (items_view l.item-items);
+  paths : paths_left l.root (names_behind l.left.items) (items_view (drop l.item-index l.item-items)) ≡ paths_left l.root (names_behind l.paths) (items_view l.item-items);
 }

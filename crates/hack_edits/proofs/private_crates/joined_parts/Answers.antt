@@ -1,6 +1,7 @@
 use Rattle.std.proofs.Common.{◌≡◌, ◌++◌, ap, ◌∙◌, map}
 use Rattle.toml.specs.View.{table_view}
-use Rattle.hack_process.specs.PathTexts.{texts, parent_of}
+use Rattle.hack_base.specs.PathTexts.{parent_of}
+use Rattle.hack_base.specs.Names.{names_behind}
 use Rattle.hack_manifest.specs.View.{piece_view}
 use Rattle.hack_edits.specs.PrivateCrates.{IsMade}
 use Rattle.hack_edits.proofs.LeftLemmas.{parts-more}
@@ -8,7 +9,7 @@ use Rattle.hack_edits.proofs.private_crates.joined_parts.Goals as goal
 
 pub loop-piece-preserved : goal.loop-piece-preserved
 loop-piece-preserved c =
-    let ts = map parent_of (texts c.args.choice.now.paths.items) in
+    let ts = map parent_of (names_behind c.args.choice.now.paths.items) in
     let ws = table_view c.args.workspace.now in
     let takes = c.args.choice.now.some in
     let xs = c.args.pieces.now in

@@ -1,11 +1,11 @@
 use Rattle.std.proofs.Common.{◌≡◌}
 use Rattle.std.specs.Vec.Iter.{into_iter_items}
 use Rattle.toml.specs.View.{items_view}
-use Rattle.hack_process.specs.PathTexts.{texts}
+use Rattle.hack_base.specs.Names.{names_behind}
 use Rattle.hack_edits.specs.Members.{members_left}
 use Rattle.hack_edits.proofs.ItemLemmas.{append_items}
 use Rattle.hack_edits.proofs.workspace_tree.kept_members.Given as goal
 
 abbrev pub invariant-loop-item : goal.invariant-loop-item
-invariant-loop-item l = append_items (items_view l.kept.items) (members_left l.root (texts l.left.items) (items_view (into_iter_items l.item-iterator)))
-    ≡ members_left l.root (texts l.paths) (items_view l.fn.items.items)
+invariant-loop-item l = append_items (items_view l.kept.items) (members_left l.root (names_behind l.left.items) (items_view (into_iter_items l.item-iterator)))
+    ≡ members_left l.root (names_behind l.paths) (items_view l.fn.items.items)

@@ -1,7 +1,7 @@
 use Rattle.std.proofs.Common.{◌∷◌, ◌++◌, [], ◌∙◌, sym, ap, subst, take}
 use Rattle.hack_features.specs.Feature.{group_of, groups_of}
 use Rattle.hack_features.specs.Deps.{none}
-use Rattle.hack_features.proofs.Members.{not_from}
+use Rattle.hack_base.proofs.Members.{not_from}
 use Rattle.hack_features.proofs.DepsLemmas.{ServeSoFar, serve-kept, serve-dropped, groups-more}
 use Rattle.hack_features.proofs.deps.at_least_one_of_for_package.Goals as goal
 use Rattle.hack_features.proofs.deps.at_least_one_of_for_package.Goals.{then-not-is_empty+in_ok-push, else-not-is_empty}

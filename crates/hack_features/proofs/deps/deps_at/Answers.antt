@@ -6,7 +6,7 @@ use Rattle.hack_features.specs.Deps.{has_name}
 use Rattle.hack_features.specs.Sets.{rows_of}
 use Rattle.hack_features.specs.Tables.{cell}
 use Rattle.hack_features.specs.Routed.{names_in}
-use Rattle.hack_features.proofs.NameLemmas.{length-shown}
+use Rattle.hack_base.proofs.NameLemmas.{length-shown}
 use Rattle.hack_features.proofs.RouteDeps.{Tells, here_at, tells-more, tells-skip, tells-end}
 use Rattle.hack_features.proofs.deps.deps_at.Goals as goal
 use Rattle.hack_features.proofs.deps.deps_at.Goals.{then-leads_on+in_ok-insert, else-leads_on}

@@ -1,5 +1,5 @@
 use Rattle.std.proofs.Common.{take}
-use Rattle.hack_features.specs.Names.{names_of}
+use Rattle.hack_base.specs.Names.{names_of}
 use Rattle.hack_features.proofs.DepsLemmas.{IsUnserved}
 use Rattle.hack_features.proofs.deps.serves.Given as goal
 

@@ -8,7 +8,7 @@ use Rattle.std.proofs.lemmas.Map.Lookups.{exact_bytes}
 use Rattle.hack_features.specs.contracts.feature.FeatureOrd.TheImpl as ord
 use Rattle.hack_features.specs.declared.feature.Feature.{Feature}
 use Rattle.hack_features.specs.declared.feature.Feature.TheVariants.{Normal, Group, Path}
-use Rattle.hack_features.specs.Names.{Name, names_of}
+use Rattle.hack_base.specs.Names.{Name, names_of}
 use Rattle.hack_features.specs.Feature.{name_of}
 use Rattle.hack_features.specs.FeatureOrder.{variant_of, list_of, slash_of, feature_order, AreSame}
 use Rattle.hack_features.proofs.feature.compare_features.Goals as goal

@@ -4,7 +4,7 @@ use Rattle.hack_features.specs.FeatureMap.{Chain}
 use Rattle.hack_features.specs.Sets.{rows_of}
 use Rattle.hack_features.specs.Tables.{bit}
 use Rattle.hack_features.specs.Places.{Leads}
-use Rattle.hack_features.proofs.Steps.{row-pushed, row_items}
+use Rattle.hack_base.proofs.Steps.{row-pushed, row_items}
 use Rattle.hack_features.proofs.marks.all_marks.Goals as goal
 
 pub loop-place-preserved : goal.loop-place-preserved

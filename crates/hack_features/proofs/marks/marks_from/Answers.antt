@@ -14,4 +14,4 @@ returns-then-is_empty c =
     (led_nowhere rows c.args.place (sym c.row_at.ensures ∙ none))
 
 pub returns : goal.returns
-returns c = led_on (rows_of c.args.rows.now) c.args.place c.in_ok-reached.field-0.items c.in_ok-reached.ensures
+returns c = led_on (rows_of c.args.rows.now) c.args.place c.in_ok-mark_reached.field-0.items c.in_ok-mark_reached.ensures

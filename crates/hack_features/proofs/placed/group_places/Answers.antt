@@ -4,7 +4,7 @@ use Rattle.hack_features.specs.Sets.{rows_of}
 use Rattle.hack_features.specs.Feature.{group_of, groups_of}
 use Rattle.hack_features.specs.Places.{AreAllAt, AreAt}
 use Rattle.hack_features.specs.Table.{table}
-use Rattle.hack_features.proofs.Steps.{seen-next, row_items}
+use Rattle.hack_base.proofs.Steps.{seen-next, row_items}
 use Rattle.hack_features.proofs.PlaceLemmas.{all_at-nothing, all_at-front, all_at-push, more-none, more-then}
 use Rattle.hack_features.proofs.placed.group_places.Goals as goal
 

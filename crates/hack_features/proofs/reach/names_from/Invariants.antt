@@ -1,5 +1,5 @@
 use Rattle.std.proofs.Common.{◌-◌, ◌∷◌, length}
-use Rattle.hack_features.specs.Names.{shown}
+use Rattle.hack_base.specs.Names.{names_behind}
 use Rattle.hack_features.specs.FeatureMap.{feature_map}
 use Rattle.hack_features.specs.Search.{HasJust, edge_of}
 use Rattle.hack_features.proofs.ReachLemmas.{Searching, all_targets}
@@ -7,8 +7,8 @@ use Rattle.hack_features.proofs.reach.names_from.Given as goal
 
 abbrev pub invariant-loop-next : goal.invariant-loop-next
 invariant-loop-next l = record {
-  just : HasJust l.found.seen (shown l.found.order.items);
-  searching : Searching (edge_of l.edges (feature_map l.map)) l.name (shown l.found.order.items) l.next;
+  just : HasJust l.found.seen (names_behind l.found.order.items);
+  searching : Searching (edge_of l.edges (feature_map l.map)) l.name (names_behind l.found.order.items) l.next;
 }
 
 abbrev pub decreases-loop-next : goal.decreases-loop-next

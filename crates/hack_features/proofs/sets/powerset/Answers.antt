@@ -1,6 +1,6 @@
 use Rattle.std.proofs.Common.{◌≡◌, ◌++◌, map, ap, ◌∙◌, length, arith}
 use Rattle.std.proofs.lemmas.List.{map-append}
-use Rattle.hack_features.specs.Sets.{rows_of, with_each, chosen}
+use Rattle.hack_features.specs.Sets.{rows_of, with_each, items_at}
 use Rattle.hack_features.proofs.Listing.{next_lists, listing, sets_below}
 use Rattle.hack_features.proofs.sets.powerset.Goals as goal
 
@@ -19,5 +19,5 @@ returns g c =
     record {
       sets = sets_below c.args.depth (length c.args.items.now);
       listing = listing c.args.depth (length c.args.items.now);
-      items_of = c.loop-item.invariant ∙ ap (λ n. map (chosen c.args.items.now) (sets_below c.args.depth n)) all;
+      items_of = c.loop-item.invariant ∙ ap (λ n. map (items_at c.args.items.now) (sets_below c.args.depth n)) all;
     }

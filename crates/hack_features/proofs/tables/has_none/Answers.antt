@@ -1,7 +1,7 @@
 use Rattle.std.proofs.Common.{◌≡◌, ◌++◌, ◌∷◌, [], sym, refl, ◌∙◌, ℕ, List, Bool, true, eqb-true, length}
 use Rattle.std.specs.Prelude.{not}
 use Rattle.hack_features.specs.Tables.{bit}
-use Rattle.hack_features.proofs.Steps.{all_always}
+use Rattle.hack_base.proofs.Steps.{all_always}
 use Rattle.hack_features.proofs.tables.has_none.Goals as goal
 
 empty_row : (row : List Bool) (q : ℕ) → length row ≡ 0 → not (bit row q) ≡ true

@@ -2,7 +2,7 @@ use Rattle.std.proofs.Common.{◌≡◌, [], sym, arith, ℕ, get_or, subst, Lis
 use Rattle.std.specs.List.{list_any}
 use Rattle.hack_features.specs.Sets.{rows_of}
 use Rattle.hack_features.specs.Tables.{leads, Counts}
-use Rattle.hack_features.proofs.Steps.{row-pushed}
+use Rattle.hack_base.proofs.Steps.{row-pushed}
 use Rattle.hack_features.proofs.MarkLemmas.{row_at}
 use Rattle.hack_features.proofs.tables.hit_row.Goals as goal
 
@@ -17,6 +17,6 @@ loop-names-preserved c =
     record {
       len = omega (arith, c.in_ok-push.ensures.len, c.loop-names.invariant.len);
       counts = λ q lt. rw c.in_ok-push.ensures.items
-          (row-pushed counts c.loop-names.row.items k c.reaching.result 0 c.loop-names.invariant.len c.loop-names.invariant.counts
-          (subst (λ (names : List ℕ). Counts P names c.reaching.result) (c.as_slice.ensures.value ∙ sym here) c.reaching.ensures) q lt);
+          (row-pushed counts c.loop-names.row.items k c.count_reaching.result 0 c.loop-names.invariant.len c.loop-names.invariant.counts
+          (subst (λ (names : List ℕ). Counts P names c.count_reaching.result) (c.as_slice.ensures.value ∙ sym here) c.count_reaching.ensures) q lt);
     }

@@ -2,7 +2,7 @@ use Rattle.std.proofs.Common.{◌≡◌, [], sym, ap, ◌∙◌, arith, Bool, �
 use Rattle.std.specs.List.{list_any}
 use Rattle.hack_features.specs.Sets.{rows_of}
 use Rattle.hack_features.specs.Tables.{serves_test}
-use Rattle.hack_features.proofs.Steps.{row-pushed}
+use Rattle.hack_base.proofs.Steps.{row-pushed}
 use Rattle.hack_features.proofs.MarkLemmas.{row_at}
 use Rattle.hack_features.proofs.tables.serve_row.Goals as goal
 

@@ -5,8 +5,8 @@ use Rattle.hack_features.specs.Sets.{rows_of}
 use Rattle.hack_features.specs.Routed.{names_in}
 use Rattle.hack_features.specs.Tables as table
 use Rattle.hack_features.specs.Tables.{RowsServe, serves_test}
-use Rattle.hack_features.proofs.NameLemmas.{length-shown}
-use Rattle.hack_features.proofs.Steps.{row_items}
+use Rattle.hack_base.proofs.NameLemmas.{length-shown}
+use Rattle.hack_base.proofs.Steps.{row_items}
 use Rattle.hack_features.proofs.MarkLemmas.{row_at}
 use Rattle.hack_features.proofs.TableLemmas.{rows-kept, rows-dropped}
 use Rattle.hack_features.proofs.tables.serve_rows.Goals as goal

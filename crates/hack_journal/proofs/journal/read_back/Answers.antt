@@ -1,6 +1,6 @@
 use Rattle.std.proofs.Common.{◌≡◌, ap, sym, ◌∙◌}
 use Rattle.std.proofs.lemmas.Result.{err_from_is_err_and}
-use Rattle.hack_journal.specs.Journal.{edits_text, spelling, edits_of}
+use Rattle.hack_journal.specs.Journal.{edits_text, journal_text, edits_of}
 use Rattle.hack_journal.proofs.TextLemmas.{differ_of, text_paths}
 use Rattle.hack_journal.proofs.journal.read_back.Goals as goal
 
@@ -17,7 +17,7 @@ returns-in_err-entries-clause-only c = λ entries texts h.
 pub returns-then-ne-clause-only : goal.returns-then-ne-clause-only
 returns-then-ne-clause-only c = λ entries texts h.
     let read : edits_of c.in_ok-entries.entries.items ≡ entries = c.in_ok-entries.ensures entries texts (c.in_ok-rest.ensures.only (edits_text entries) h) in
-    let again : c.in_ok-again.again.items ≡ spelling entries = c.in_ok-again.ensures ∙ ap (λ es. spelling (edits_of es)) c.deref.ensures.value ∙ ap spelling read in
+    let again : c.in_ok-again.again.items ≡ journal_text entries = c.in_ok-again.ensures ∙ ap (λ es. journal_text (edits_of es)) c.deref.ensures.value ∙ ap journal_text read in
     differ_of c.ne.result c.as_slice.result.now c.args.text.now c.ne.ensures c.if-ne.true (c.as_slice.ensures.value ∙ again ∙ sym h)
 
 pub returns-clause-only : goal.returns-clause-only

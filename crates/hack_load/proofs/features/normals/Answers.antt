@@ -2,7 +2,7 @@ use Rattle.std.proofs.Common.{ap, sym, ◌∙◌, string_bytes, subst, append-ni
 use Rattle.std.specs.Map.{keys_of}
 use Rattle.std.specs.Map.Iter.{deref}
 use Rattle.std.proofs.lemmas.Map.Iter.{rest_more}
-use Rattle.hack_features.specs.Names.{Name, names_of}
+use Rattle.hack_base.specs.Names.{Name, names_of}
 use Rattle.hack_features.specs.Feature.{IsNormal}
 use Rattle.hack_features.specs.declared.feature.Feature.{Feature}
 use Rattle.hack_load.specs.Features.{AreNormals, IsRising, texts_of}

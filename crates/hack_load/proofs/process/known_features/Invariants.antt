@@ -1,7 +1,7 @@
 use Rattle.std.proofs.Common.{◌≡◌, take, map, not, List, ℕ, Bor}
 use Rattle.std.specs.List.{filter}
-use Rattle.hack_features.specs.Names.{names_of}
-use Rattle.hack_versions.specs.Notes.{note_of}
+use Rattle.hack_base.specs.Names.{names_of}
+use Rattle.hack_base.specs.Notes.{note_of}
 use Rattle.hack_load.specs.ContextView.{context_view}
 use Rattle.hack_load.specs.GivenFeatures.{knows, left_out, name_at}
 use Rattle.hack_load.proofs.process.known_features.Given as goal

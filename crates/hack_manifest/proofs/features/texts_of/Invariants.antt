@@ -1,6 +1,6 @@
 use Rattle.std.proofs.Common.{◌≡◌, ◌++◌, drop}
 use Rattle.toml.specs.View.{items_view}
-use Rattle.hack_features.specs.Names.{names_of}
+use Rattle.hack_base.specs.Names.{names_of}
 use Rattle.hack_manifest.specs.Manifest.{texts_in}
 use Rattle.hack_manifest.proofs.features.texts_of.Given as goal
 

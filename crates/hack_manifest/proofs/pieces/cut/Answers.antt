@@ -1,7 +1,7 @@
 use Rattle.std.proofs.Common.{[], ◌∷◌, ◌++◌, map, ◌≡◌, refl, append-nil, ap, ◌∙◌, sym, drop}
 use Rattle.std.proofs.lemmas.Str.{IsUtf8-drop}
 use Rattle.std.proofs.lemmas.List.{map-append}
-use Rattle.hack_features.specs.Names.{names_of}
+use Rattle.hack_base.specs.Names.{names_of}
 use Rattle.hack_manifest.specs.Runs.{IsFirstRun, HasNoRun}
 use Rattle.hack_manifest.specs.Paths.{View, next_header}
 use Rattle.hack_manifest.specs.View.{piece_view}

@@ -1,6 +1,6 @@
 use Rattle.std.proofs.Common.{◌≡◌, ℕ, List, [], ◌++◌, map, length}
 use Rattle.std.specs.Prelude.{IsUtf8}
-use Rattle.hack_features.specs.Names.{names_of}
+use Rattle.hack_base.specs.Names.{names_of}
 use Rattle.hack_manifest.specs.Runs.{IsCutInto}
 use Rattle.hack_manifest.specs.Paths.{HavePaths}
 use Rattle.hack_manifest.proofs.RunLemmas.{last_header}

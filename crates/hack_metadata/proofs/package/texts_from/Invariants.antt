@@ -1,6 +1,6 @@
 use Rattle.std.proofs.Common.{◌≡◌, ◌++◌, option_map}
 use Rattle.serde_json.specs.View.{items_view}
-use Rattle.hack_features.specs.Names.{names_of}
+use Rattle.hack_base.specs.Names.{names_of}
 use Rattle.hack_metadata.specs.Read.{texts_of}
 use Rattle.hack_metadata.proofs.package.texts_from.Given as goal
 

@@ -3,7 +3,7 @@ use Rattle.std.proofs.lemmas.List.{map-append}
 use Rattle.std.specs.Prelude.{filter, ◌&&◌}
 use Rattle.hack_features.specs.Feature.{group_of, groups_of}
 use Rattle.hack_packages.specs.Candidates.{Names, stays, is_asked, is_bare}
-use Rattle.hack_packages.specs.CandidatesView.{wishes, known}
+use Rattle.hack_packages.specs.CandidatesView.{wishes, known_of_package}
 use Rattle.hack_packages.proofs.CandidateLemmas.{four-lists}
 use Rattle.hack_packages.proofs.candidates.candidates.Goals as goal
 
@@ -17,7 +17,7 @@ returns c =
     let g : List Names = groups_of groups in
     let bare : is_bare w.included ≡ true =
     ap (λ l. is_bare (groups_of l)) (sym c.deref.ensures.value) ∙ sym c.is_bare.ensures ∙ c.if-not-is_bare.false in
-    four-lists w (known c.args.pkg.now c.args.features.now) (groups_of found) (groups_of optional) (groups_of of_deps) g _ bare
+    four-lists w (known_of_package c.args.pkg.now c.args.features.now) (groups_of found) (groups_of optional) (groups_of of_deps) g _ bare
     (c.in_ok-found.ensures ∙ ap (λ l. filter (stays w) (groups_of l)) c.normal.ensures)
     (c.in_ok-optional.ensures ∙ ap (λ l. filter (λ names. is_asked w.optional_deps names && stays w names) (groups_of l)) c.optional_deps.ensures)
     (c.in_ok-of_deps.ensures ∙ ap (λ l. filter (λ names. w.deps_features && stays w names) (groups_of l)) c.deps_features.ensures)

@@ -1,19 +1,19 @@
 use Rattle.std.proofs.Common.{◌∙◌, ap, not, string_bytes}
-use Rattle.hack_versions.specs.declared.notice.NoticeKind.TheVariants.{Info}
+use Rattle.hack_base.specs.declared.notice.NoticeKind.TheVariants.{Info}
 use Rattle.hack_features.specs.Feature.{group_of}
-use Rattle.hack_features.specs.Names.{names_of}
+use Rattle.hack_base.specs.Names.{names_of}
 use Rattle.hack_packages.specs.Texts.{group_text}
 use Rattle.hack_packages.specs.Candidates.{applies}
-use Rattle.hack_packages.specs.CandidatesView.{wishes, known}
+use Rattle.hack_packages.specs.CandidatesView.{wishes, known_of_package}
 use Rattle.hack_packages.proofs.Growth.{notes-next}
 use Rattle.hack_packages.proofs.candidates.group_notes.Goals as goal
 
 pub loop-group-preserved : goal.loop-group-preserved
 loop-group-preserved c =
     let w = wishes c.args.args.now in
-    let p = known c.args.pkg.now c.args.features.now in
+    let p = known_of_package c.args.pkg.now c.args.features.now in
     notes-next (λ names. not (applies w p names)) Info (group_text (string_bytes c.args.pkg.now.name)) group_of c.deref-group-items.result.now c.loop-group.group-index c.group-item.result _ _ _ _
     c.loop-group-test.true c.group-item.is
     (ap not c.applies-told.ensures)
     (c.in_ok-text.ensures ∙ ap (λ pkg. group_text pkg (names_of c.as_group.result.now)) c.as_str.ensures.value ∙ ap (group_text (string_bytes c.args.pkg.now.name)) c.as_group.ensures)
-    c.in_ok-note.ensures c.loop-group.invariant
+    c.in_ok-tell.ensures c.loop-group.invariant

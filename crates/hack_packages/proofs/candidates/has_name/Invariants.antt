@@ -1,5 +1,5 @@
 use Rattle.std.proofs.Common.{◌≡◌, drop}
-use Rattle.hack_features.specs.Names.{names_of}
+use Rattle.hack_base.specs.Names.{names_of}
 use Rattle.hack_packages.specs.Candidates.{has_name}
 use Rattle.hack_packages.proofs.candidates.has_name.Given as goal
 

@@ -3,7 +3,7 @@ use Rattle.hack_features.specs.Feature.{groups_of}
 use Rattle.hack_features.specs.Forest.{sets_in}
 use Rattle.hack_plan.specs.Runs.{is_plain, runs_from}
 use Rattle.hack_packages.specs.Candidates.{Wishes, Known}
-use Rattle.hack_packages.specs.CandidatesView.{wishes, known}
+use Rattle.hack_packages.specs.CandidatesView.{wishes, known_of_package}
 use Rattle.hack_packages.specs.Kinds.{options_of}
 use Rattle.hack_packages.proofs.KindLemmas.{covering-runs}
 use Rattle.hack_packages.proofs.kind.kind_of.Goals as goal
@@ -11,7 +11,7 @@ use Rattle.hack_packages.proofs.kind.kind_of.Goals as goal
 pub returns-then-args-clause-covered : goal.returns-then-args-clause-covered
 returns-then-args-clause-covered c = λ powerset.
     let w : Wishes = wishes c.args.args.now in
-    let p : Known = known c.args.pkg.now c.args.features.now in
+    let p : Known = known_of_package c.args.pkg.now c.args.features.now in
     let sets : List (List ℕ) = sets_in c.in_ok-sets.sets in
     let some : is_plain (options_of w p) sets ≡ false =
     ap (λ o. is_plain o sets) (sym c.options-options.ensures) ∙ sym (c.is_plain.ensures sets (sym c.len.ensures.same)) ∙ c.if-is_plain.false in

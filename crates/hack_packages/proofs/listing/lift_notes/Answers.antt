@@ -2,7 +2,7 @@ use Rattle.std.proofs.Common.{◌∙◌, ap, not, map, string_bytes}
 use Rattle.std.specs.declared.string.String.{String}
 use Rattle.std.specs.declared.alloc.Global.{Global}
 use Rattle.hack_features.specs.declared.feature.Feature.{Feature}
-use Rattle.hack_versions.specs.declared.notice.NoticeKind.TheVariants.{Warn}
+use Rattle.hack_base.specs.declared.notice.NoticeKind.TheVariants.{Warn}
 use Rattle.hack_packages.specs.Texts.{lift_text}
 use Rattle.hack_packages.specs.Members.{is_called}
 use Rattle.hack_packages.specs.MembersView.{member_view}
@@ -16,4 +16,4 @@ loop-lift-preserved c =
     c.loop-lift-test.true c.lift-item.is
     (ap not (c.is_called-told.ensures ∙ ap (is_called ms) c.as_str-owner.ensures.value))
     (c.in_ok-text.ensures ∙ ap (lift_text c.args.root.now) c.as_str-owner.ensures.value)
-    c.in_ok-note.ensures c.loop-lift.invariant
+    c.in_ok-tell.ensures c.loop-lift.invariant

@@ -1,29 +1,29 @@
 use Rattle.std.proofs.Common.{◌≡◌, ◌∙◌, true, false, List, map, inl, inr, sym, ap, subst}
 use Rattle.std.specs.Prelude.{option_copied}
-use Rattle.hack_features.specs.Names.{Name, names_of}
+use Rattle.hack_base.specs.Names.{Name, names_of}
 use Rattle.hack_packages.specs.Members.{Choosing, IsAbout, Keeps, IsMatched, AllMatch, names_some}
 use Rattle.hack_packages.specs.Members as plain
-use Rattle.hack_packages.specs.MembersView.{member_view, choosing}
+use Rattle.hack_packages.specs.MembersView.{member_view, choosing_of}
 use Rattle.hack_packages.proofs.PackageLemmas.{never-unnamed, never-named, named-fault}
 use Rattle.hack_packages.proofs.packages.about.Goals as goal
 
 pub returns-then-not-names_some-clause-ok : goal.returns-then-not-names_some-clause-ok
 returns-then-not-names_some-clause-ok c =
-    let w : Choosing = choosing c.args.args.now (option_copied c.args.current) in
+    let w : Choosing = choosing_of c.args.args.now (option_copied c.args.current) in
     let ms : List plain.Member = map member_view c.args.members.now in
-    let found : List plain.Member = map member_view c.in_ok-unnamed.field-0.items in
+    let found : List plain.Member = map member_view c.in_ok-members_without_names.field-0.items in
     let f : names_some w ≡ false = sym (c.names_some.ensures (option_copied c.args.current)) ∙ c.if-not-names_some.true in
-    subst (λ b. IsAbout b w ms found) (sym f) c.in_ok-unnamed.ensures
+    subst (λ b. IsAbout b w ms found) (sym f) c.in_ok-members_without_names.ensures
 
 pub returns-then-not-names_some-clause-never : goal.returns-then-not-names_some-clause-never
 returns-then-not-names_some-clause-never c =
-    let w : Choosing = choosing c.args.args.now (option_copied c.args.current) in
+    let w : Choosing = choosing_of c.args.args.now (option_copied c.args.current) in
     let f : names_some w ≡ false = sym (c.names_some.ensures (option_copied c.args.current)) ∙ c.if-not-names_some.true in
     never-unnamed w (map member_view c.args.members.now) f
 
 pub returns-in-Err-clause-err : goal.returns-in-Err-clause-err
 returns-in-Err-clause-err c =
-    let w : Choosing = choosing c.args.args.now (option_copied c.args.current) in
+    let w : Choosing = choosing_of c.args.args.now (option_copied c.args.current) in
     let f : names_some w ≡ true = sym (c.names_some.ensures (option_copied c.args.current)) ∙ c.if-not-names_some.false in
     elim c.in-Err.ensures.err [
       | inl m ↦ inl m
@@ -32,15 +32,15 @@ returns-in-Err-clause-err c =
 
 pub returns-clause-ok : goal.returns-clause-ok
 returns-clause-ok c =
-    let w : Choosing = choosing c.args.args.now (option_copied c.args.current) in
+    let w : Choosing = choosing_of c.args.args.now (option_copied c.args.current) in
     let ms : List plain.Member = map member_view c.args.members.now in
-    let found : List plain.Member = map member_view c.in_ok-picked.field-0.items in
+    let found : List plain.Member = map member_view c.in_ok-matched_members.field-0.items in
     let f : names_some w ≡ true = sym (c.names_some.ensures (option_copied c.args.current)) ∙ c.if-not-names_some.false in
     subst (λ b. IsAbout b w ms found) (sym f)
-    (subst (λ l. Keeps (IsMatched (names_of l)) ms found) c.deref-2.ensures.value c.in_ok-picked.ensures)
+    (subst (λ l. Keeps (IsMatched (names_of l)) ms found) c.deref-2.ensures.value c.in_ok-matched_members.ensures)
 
 pub returns-clause-never : goal.returns-clause-never
 returns-clause-never c =
-    let w : Choosing = choosing c.args.args.now (option_copied c.args.current) in
+    let w : Choosing = choosing_of c.args.args.now (option_copied c.args.current) in
     let ms : List plain.Member = map member_view c.args.members.now in
     never-named w ms (subst (λ l. AllMatch ms (names_of l)) c.deref.ensures.value c.in_default.ensures.ok)

@@ -1,5 +1,5 @@
 use Rattle.std.proofs.Common.{ap, ◌∙◌, option_map}
-use Rattle.hack_features.specs.Names.{names_of}
+use Rattle.hack_base.specs.Names.{names_of}
 use Rattle.hack_powerset_list.proofs.InputLemmas.{member-turn}
 use Rattle.hack_powerset_list.proofs.input.map_of.Goals as goal
 

@@ -1,6 +1,6 @@
 use Rattle.std.proofs.Common.{◌≡◌, ◌++◌, option_map}
 use Rattle.serde_json.specs.View.{view, items_view}
-use Rattle.hack_features.specs.Names.{names_of}
+use Rattle.hack_base.specs.Names.{names_of}
 use Rattle.hack_powerset_list.specs.Input.{values_in, texts_in}
 use Rattle.hack_powerset_list.proofs.input.texts_of.Given as goal
 

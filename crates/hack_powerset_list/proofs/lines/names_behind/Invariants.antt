@@ -1,5 +1,5 @@
 use Rattle.std.proofs.Common.{◌≡◌, ◌++◌, map, take}
-use Rattle.hack_features.specs.Names.{names_of}
+use Rattle.hack_base.specs.Names.{names_of}
 use Rattle.hack_features.specs.Feature.{name_of}
 use Rattle.hack_powerset_list.proofs.lines.names_behind.Given as goal
 

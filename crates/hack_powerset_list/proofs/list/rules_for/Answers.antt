@@ -1,11 +1,11 @@
 use Rattle.std.proofs.Common.{◌∙◌, List, [], length, sym, ap}
 use Rattle.std.proofs.lemmas.List.{length-map}
-use Rattle.hack_features.specs.Names.{Name}
+use Rattle.hack_base.specs.Names.{Name}
 use Rattle.hack_features.specs.Feature.{group_of, groups_of}
 use Rattle.hack_features.specs.FeatureMap.{FeatureMap, feature_map}
-use Rattle.hack_features.specs.Rules.{Choice, unlifted}
+use Rattle.hack_features.specs.Rules.{Choice, unlifted_groups}
 use Rattle.hack_features.specs.Given.{choice}
-use Rattle.hack_features.proofs.Steps.{length-candidates_of}
+use Rattle.hack_features.proofs.CandidateLemmas.{length-candidates_of}
 use Rattle.hack_powerset_list.proofs.ListLemmas.{unlifted-none}
 use Rattle.hack_powerset_list.proofs.list.rules_for.Goals as goal
 
@@ -24,7 +24,7 @@ returns-clause-choice c =
     c.in_ok-rules.ensures.choice
     ∙ ap (λ x. choice all w.depth x c.as_slice-2.result.now c.args.found.now []) c.as_slice.ensures.value
     ∙ ap (λ x. choice all w.depth w.at_least_one_of.items x c.args.found.now []) c.as_slice-2.ensures.value
-    ∙ ap (λ names. made_of names (unlifted (groups_of w.mutually_exclusive.items) [])) c.requires
+    ∙ ap (λ names. made_of names (unlifted_groups (groups_of w.mutually_exclusive.items) [])) c.requires
     ∙ ap (made_of (groups_of c.args.features.now)) (unlifted-none (groups_of w.mutually_exclusive.items))
 
 pub returns-clause-size : goal.returns-clause-size

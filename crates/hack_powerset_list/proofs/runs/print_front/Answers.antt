@@ -1,9 +1,9 @@
 use Rattle.std.proofs.Common.{◌≡◌, ◌++◌, ◌∷◌, [], List, ℕ, map, ap, ◌∙◌, sym, codes, string_bytes, append-nil, refl}
 use Rattle.std.specs.Prelude.{if◌then◌else◌}
-use Rattle.hack_term.specs.Writes.{AppendsFront}
-use Rattle.hack_features.specs.Names.{Name}
+use Rattle.hack_base.specs.Writes.{AppendsFront}
+use Rattle.hack_base.specs.Names.{Name}
 use Rattle.hack_features.specs.Feature.{name_of}
-use Rattle.hack_plan.specs.Runs.{PackageRun, Plain, NoDefaultFeatures, kept}
+use Rattle.hack_plan.specs.Runs.{PackageRun, Plain, NoDefaultFeatures, run_if}
 use Rattle.hack_powerset_list.specs.Lines.{run_line, run_lines}
 use Rattle.hack_powerset_list.proofs.PageLemmas.{on_err-same}
 use Rattle.hack_powerset_list.proofs.runs.print_front.Goals as goal
@@ -17,7 +17,7 @@ returns-then-plain-clause-err g c =
     let names : List Name = map name_of c.args.features.now in
     on_err-same c.print_line.result (λ l. AppendsFront (g.W.Write.contents c.args.out.now) (g.W.Write.contents c.print_line.new.out) (string_bytes c.args.page.now ++ l)) _ _
     (alone names Plain c.as_str.result.now (codes "cargo check") (c.as_str.ensures.value ∙ c.requires.texts.plain) refl
-    ∙ ap (λ b. run_lines names (if b then Plain ∷ [] else kept c.args.bare NoDefaultFeatures)) (sym c.if-plain.true))
+    ∙ ap (λ b. run_lines names (if b then Plain ∷ [] else run_if c.args.bare NoDefaultFeatures)) (sym c.if-plain.true))
     c.print_line.ensures.err
 
 pub returns-then-bare-clause-err : goal.returns-then-bare-clause-err
@@ -25,6 +25,6 @@ returns-then-bare-clause-err g c =
     let names : List Name = map name_of c.args.features.now in
     on_err-same c.print_line-then-bare.result (λ l. AppendsFront (g.W.Write.contents c.args.out.now) (g.W.Write.contents c.print_line-then-bare.new.out) (string_bytes c.args.page.now ++ l)) _ _
     (alone names NoDefaultFeatures c.as_str-then-bare.result.now (codes "cargo check --no-default-features") (c.as_str-then-bare.ensures.value ∙ c.requires.texts.bare) refl
-    ∙ ap (λ b. run_lines names (kept b NoDefaultFeatures)) (sym c.if-bare.true)
-    ∙ ap (λ b. run_lines names (if b then Plain ∷ [] else kept c.args.bare NoDefaultFeatures)) (sym c.if-plain.false))
+    ∙ ap (λ b. run_lines names (run_if b NoDefaultFeatures)) (sym c.if-bare.true)
+    ∙ ap (λ b. run_lines names (if b then Plain ∷ [] else run_if c.args.bare NoDefaultFeatures)) (sym c.if-plain.false))
     c.print_line-then-bare.ensures.err

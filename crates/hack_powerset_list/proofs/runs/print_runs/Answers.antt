@@ -1,9 +1,9 @@
 use Rattle.std.proofs.Common.{◌≡◌, ◌++◌, ◌∷◌, [], List, ℕ, map, length, ap, ◌∙◌, sym, subst, refl, arith, string_bytes, append-nil}
 use Rattle.std.specs.Prelude.{◌==◌, if◌then◌else◌, vec_len}
-use Rattle.hack_term.specs.Writes.{AppendsFront}
-use Rattle.hack_features.specs.Names.{Name}
+use Rattle.hack_base.specs.Writes.{AppendsFront}
+use Rattle.hack_base.specs.Names.{Name}
 use Rattle.hack_features.specs.Feature.{name_of}
-use Rattle.hack_plan.specs.Runs.{Plain, NoDefaultFeatures, allows_two, kept, runs_from, turned}
+use Rattle.hack_plan.specs.Runs.{Plain, NoDefaultFeatures, allows_two, run_if, runs_from, with_last_first}
 use Rattle.hack_powerset_list.specs.Lines.{run_lines}
 use Rattle.hack_powerset_list.specs.LineWords.{Prints}
 use Rattle.hack_powerset_list.specs.ListRuns.{options_from}
@@ -53,9 +53,9 @@ returns-in_default-clause-ok g c =
     let same : listed_below r (length fs) (set_in c.in_ok-room.room) ≡ sets =
     ap (listed_below r (length fs)) c.in_ok-room.ensures.set ∙ ap (λ n. listed_below r n []) (sym c.requires) in
     let none : sets ≡ [] = sym same ∙ subst (Ends (listed_below r (length fs) (set_in c.in_ok-room.room))) c.in_default.is c.in_ok-last.ensures.last in
-    let is : run_lines names (if c.is_empty.result then Plain ∷ [] else kept c.is_empty-bare.result NoDefaultFeatures) ≡ all =
-    ap (λ b. run_lines names (if b then Plain ∷ [] else kept c.is_empty-bare.result NoDefaultFeatures)) c.is_empty.ensures
-    ∙ ap (λ b. run_lines names (if length fs == 0 then Plain ∷ [] else kept b NoDefaultFeatures)) bare
+    let is : run_lines names (if c.is_empty.result then Plain ∷ [] else run_if c.is_empty-bare.result NoDefaultFeatures) ≡ all =
+    ap (λ b. run_lines names (if b then Plain ∷ [] else run_if c.is_empty-bare.result NoDefaultFeatures)) c.is_empty.ensures
+    ∙ ap (λ b. run_lines names (if length fs == 0 then Plain ∷ [] else run_if b NoDefaultFeatures)) bare
     ∙ ap (run_lines names) (sym (runs-none w fs))
     ∙ ap (λ l. run_lines names (runs_from (options_from w fs) l)) (sym none) in
     on_ok-same c.print_front.result (λ l. Prints (g.W.Write.contents c.args.out.now) (g.W.Write.contents c.print_front.new.out) page (string_bytes c.print_front.new.page) l) _ _ is c.print_front.ensures.ok
@@ -75,9 +75,9 @@ returns-in_default-clause-err g c =
     let same : listed_below r (length fs) (set_in c.in_ok-room.room) ≡ sets =
     ap (listed_below r (length fs)) c.in_ok-room.ensures.set ∙ ap (λ n. listed_below r n []) (sym c.requires) in
     let none : sets ≡ [] = sym same ∙ subst (Ends (listed_below r (length fs) (set_in c.in_ok-room.room))) c.in_default.is c.in_ok-last.ensures.last in
-    let is : run_lines names (if c.is_empty.result then Plain ∷ [] else kept c.is_empty-bare.result NoDefaultFeatures) ≡ all =
-    ap (λ b. run_lines names (if b then Plain ∷ [] else kept c.is_empty-bare.result NoDefaultFeatures)) c.is_empty.ensures
-    ∙ ap (λ b. run_lines names (if length fs == 0 then Plain ∷ [] else kept b NoDefaultFeatures)) bare
+    let is : run_lines names (if c.is_empty.result then Plain ∷ [] else run_if c.is_empty-bare.result NoDefaultFeatures) ≡ all =
+    ap (λ b. run_lines names (if b then Plain ∷ [] else run_if c.is_empty-bare.result NoDefaultFeatures)) c.is_empty.ensures
+    ∙ ap (λ b. run_lines names (if length fs == 0 then Plain ∷ [] else run_if b NoDefaultFeatures)) bare
     ∙ ap (run_lines names) (sym (runs-none w fs))
     ∙ ap (λ l. run_lines names (runs_from (options_from w fs) l)) (sym none) in
     on_err-same c.print_front.result (λ l. AppendsFront (g.W.Write.contents c.args.out.now) (g.W.Write.contents c.print_front.new.out) (page ++ l)) _ _ is c.print_front.ensures.err
@@ -98,11 +98,11 @@ returns-in_err-print_front-clause-err g c =
     ap (listed_below r (length fs)) c.in_ok-room.ensures.set ∙ ap (λ n. listed_below r n []) (sym c.requires) in
     let last : List ℕ = c.in-Some.last.items in
     let ends : EndsIn sets last = subst (λ l. EndsIn l last) same (subst (Ends (listed_below r (length fs) (set_in c.in_ok-room.room))) c.in-Some.is c.in_ok-last.ensures.last) in
-    let front : List ℕ = run_lines names (kept c.is_empty-bare.result NoDefaultFeatures) in
-    let lines : List ℕ = set_lines names (turned (allows_two w.depth) sets) in
+    let front : List ℕ = run_lines names (run_if c.is_empty-bare.result NoDefaultFeatures) in
+    let lines : List ℕ = set_lines names (with_last_first (allows_two w.depth) sets) in
     let is : all ≡ front ++ lines =
     runs-some w fs sets ends.front last ends.same names
-    ∙ ap (λ b. run_lines names (kept b NoDefaultFeatures) ++ lines) (sym bare) in
+    ∙ ap (λ b. run_lines names (run_if b NoDefaultFeatures) ++ lines) (sym bare) in
     on_err-any c.from_residual-in_err-print_front.result _
     (prints-stopped _ _ (g.W.Write.contents c.print_front-2.new.out) page page [] front lines all (prints-none (g.W.Write.contents c.args.out.now) page) c.in_err-print_front.ensures.err is)
 
@@ -122,13 +122,13 @@ returns-clause-ok g c =
     ap (listed_below r (length fs)) c.in_ok-room.ensures.set ∙ ap (λ n. listed_below r n []) (sym c.requires) in
     let last : List ℕ = c.in-Some.last.items in
     let ends : EndsIn sets last = subst (λ l. EndsIn l last) same (subst (Ends (listed_below r (length fs) (set_in c.in_ok-room.room))) c.in-Some.is c.in_ok-last.ensures.last) in
-    let front : List ℕ = run_lines names (kept c.is_empty-bare.result NoDefaultFeatures) in
-    let lines : List ℕ = set_lines names (turned (allows_two w.depth) sets) in
+    let front : List ℕ = run_lines names (run_if c.is_empty-bare.result NoDefaultFeatures) in
+    let lines : List ℕ = set_lines names (with_last_first (allows_two w.depth) sets) in
     let is : all ≡ front ++ lines =
     runs-some w fs sets ends.front last ends.same names
-    ∙ ap (λ b. run_lines names (kept b NoDefaultFeatures) ++ lines) (sym bare) in
-    let shown : set_lines (map name_of c.args.features.now) (turned c.fits_two-last_first.result sets) ≡ lines =
-    ap (λ b. set_lines names (turned b sets)) c.fits_two-last_first.ensures in
+    ∙ ap (λ b. run_lines names (run_if b NoDefaultFeatures) ++ lines) (sym bare) in
+    let shown : set_lines (map name_of c.args.features.now) (with_last_first c.fits_two-last_first.result sets) ≡ lines =
+    ap (λ b. set_lines names (with_last_first b sets)) c.fits_two-last_first.ensures in
     on_ok-then c.print_sets.result _ _
     (λ h. subst (Prints (g.W.Write.contents c.args.out.now) (g.W.Write.contents c.print_sets.new.out) page (string_bytes c.print_sets.new.page)) (sym is)
     (prints-then _ _ _ page (string_bytes c.print_front-2.new.page) (string_bytes c.print_sets.new.page) front lines c.in_ok-print_front.ensures.ok
@@ -151,13 +151,13 @@ returns-clause-err g c =
     ap (listed_below r (length fs)) c.in_ok-room.ensures.set ∙ ap (λ n. listed_below r n []) (sym c.requires) in
     let last : List ℕ = c.in-Some.last.items in
     let ends : EndsIn sets last = subst (λ l. EndsIn l last) same (subst (Ends (listed_below r (length fs) (set_in c.in_ok-room.room))) c.in-Some.is c.in_ok-last.ensures.last) in
-    let front : List ℕ = run_lines names (kept c.is_empty-bare.result NoDefaultFeatures) in
-    let lines : List ℕ = set_lines names (turned (allows_two w.depth) sets) in
+    let front : List ℕ = run_lines names (run_if c.is_empty-bare.result NoDefaultFeatures) in
+    let lines : List ℕ = set_lines names (with_last_first (allows_two w.depth) sets) in
     let is : all ≡ front ++ lines =
     runs-some w fs sets ends.front last ends.same names
-    ∙ ap (λ b. run_lines names (kept b NoDefaultFeatures) ++ lines) (sym bare) in
-    let shown : set_lines (map name_of c.args.features.now) (turned c.fits_two-last_first.result sets) ≡ lines =
-    ap (λ b. set_lines names (turned b sets)) c.fits_two-last_first.ensures in
+    ∙ ap (λ b. run_lines names (run_if b NoDefaultFeatures) ++ lines) (sym bare) in
+    let shown : set_lines (map name_of c.args.features.now) (with_last_first c.fits_two-last_first.result sets) ≡ lines =
+    ap (λ b. set_lines names (with_last_first b sets)) c.fits_two-last_first.ensures in
     on_err-then c.print_sets.result _ _
     (λ h. prints-stopped _ _ _ page (string_bytes c.print_front-2.new.page) front lines [] all c.in_ok-print_front.ensures.ok
     (subst (λ l. AppendsFront (g.W.Write.contents c.print_front-2.new.out) (g.W.Write.contents c.print_sets.new.out) (string_bytes c.print_front-2.new.page ++ l)) shown h)

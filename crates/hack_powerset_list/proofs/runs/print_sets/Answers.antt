@@ -1,9 +1,9 @@
 use Rattle.std.proofs.Common.{◌≡◌, ◌<◌, ◌++◌, [], List, ℕ, map, length, get_or, ap, ◌∙◌, sym, subst, filter, string_bytes, append-nil}
-use Rattle.hack_term.specs.Writes.{AppendsFront}
-use Rattle.hack_features.specs.Names.{Name}
+use Rattle.hack_base.specs.Writes.{AppendsFront}
+use Rattle.hack_base.specs.Names.{Name}
 use Rattle.hack_features.specs.Feature.{name_of}
 use Rattle.hack_features.specs.View.{may_of}
-use Rattle.hack_plan.specs.Runs.{Set, turned}
+use Rattle.hack_plan.specs.Runs.{Set, with_last_first}
 use Rattle.hack_powerset_list.specs.Lines.{run_line}
 use Rattle.hack_powerset_list.specs.LineWords.{Prints}
 use Rattle.hack_powerset_list.specs.Room.{set_in}
@@ -30,7 +30,7 @@ returns-in_err-print_whole-clause-err g c =
     let page : List ℕ = string_bytes c.args.page.now in
     let others : set_lines names (filter (is_other r last) (below (may_of r) (length c.args.lines.now.features.now) (set_in c.args.room.now))) ≡ set_lines names front =
     text-others names r front last (length c.args.lines.now.features.now) (set_in c.args.room.now) (sym c.requires.size) c.requires.none c.requires.last.same in
-    let all : List ℕ = set_lines names (turned c.args.last_first sets) in
+    let all : List ℕ = set_lines names (with_last_first c.args.last_first sets) in
     let is : all ≡ run_line names (Set last) ++ set_lines names front = first-text names sets front last c.requires.last.same c.args.last_first c.if-last_first.true in
     on_err-any c.from_residual.result _
     (prints-stopped _ _ (g.W.Write.contents c.print_whole.new.out) page page [] (run_line names (Set last)) (set_lines names front) all
@@ -46,7 +46,7 @@ returns-in_err-print_below-clause-err g c =
     let page : List ℕ = string_bytes c.args.page.now in
     let others : set_lines names (filter (is_other r last) (below (may_of r) (length c.args.lines.now.features.now) (set_in c.args.room.now))) ≡ set_lines names front =
     text-others names r front last (length c.args.lines.now.features.now) (set_in c.args.room.now) (sym c.requires.size) c.requires.none c.requires.last.same in
-    let all : List ℕ = set_lines names (turned c.args.last_first sets) in
+    let all : List ℕ = set_lines names (with_last_first c.args.last_first sets) in
     let is : all ≡ set_lines names front ++ run_line names (Set last) = behind-text names sets front last c.requires.last.same c.args.last_first c.if-last_first.false in
     on_err-any c.from_residual-in_err-print_below.result _
     (prints-stopped _ _ (g.W.Write.contents c.print_below-else-last_first.new.out) page page [] (set_lines names front) (run_line names (Set last)) all
@@ -70,7 +70,7 @@ returns-in_ok-print_whole-clause-ok g c =
     let page : List ℕ = string_bytes c.args.page.now in
     let others : set_lines names (filter (is_other r last) (below (may_of r) (length c.args.lines.now.features.now) (set_in c.args.room.now))) ≡ set_lines names front =
     text-others names r front last (length c.args.lines.now.features.now) (set_in c.args.room.now) (sym c.requires.size) c.requires.none c.requires.last.same in
-    let all : List ℕ = set_lines names (turned c.args.last_first sets) in
+    let all : List ℕ = set_lines names (with_last_first c.args.last_first sets) in
     let is : all ≡ run_line names (Set last) ++ set_lines names front = first-text names sets front last c.requires.last.same c.args.last_first c.if-last_first.true in
     on_ok-then c.print_below.result _ _
     (λ h. subst (Prints (g.W.Write.contents c.args.out.now) (g.W.Write.contents c.print_below.new.out) page (string_bytes c.print_below.new.page)) (sym is)
@@ -88,7 +88,7 @@ returns-in_ok-print_whole-clause-err g c =
     let page : List ℕ = string_bytes c.args.page.now in
     let others : set_lines names (filter (is_other r last) (below (may_of r) (length c.args.lines.now.features.now) (set_in c.args.room.now))) ≡ set_lines names front =
     text-others names r front last (length c.args.lines.now.features.now) (set_in c.args.room.now) (sym c.requires.size) c.requires.none c.requires.last.same in
-    let all : List ℕ = set_lines names (turned c.args.last_first sets) in
+    let all : List ℕ = set_lines names (with_last_first c.args.last_first sets) in
     let is : all ≡ run_line names (Set last) ++ set_lines names front = first-text names sets front last c.requires.last.same c.args.last_first c.if-last_first.true in
     on_err-then c.print_below.result _ _
     (λ h. prints-stopped _ _ _ page (string_bytes c.print_whole.new.page) (run_line names (Set last)) (set_lines names front) [] all c.in_ok-print_whole.ensures.ok
@@ -106,7 +106,7 @@ returns-in_ok-print_below-clause-ok g c =
     let page : List ℕ = string_bytes c.args.page.now in
     let others : set_lines names (filter (is_other r last) (below (may_of r) (length c.args.lines.now.features.now) (set_in c.args.room.now))) ≡ set_lines names front =
     text-others names r front last (length c.args.lines.now.features.now) (set_in c.args.room.now) (sym c.requires.size) c.requires.none c.requires.last.same in
-    let all : List ℕ = set_lines names (turned c.args.last_first sets) in
+    let all : List ℕ = set_lines names (with_last_first c.args.last_first sets) in
     let is : all ≡ set_lines names front ++ run_line names (Set last) = behind-text names sets front last c.requires.last.same c.args.last_first c.if-last_first.false in
     on_ok-then c.print_whole-else-last_first.result _ _
     (λ h. subst (Prints (g.W.Write.contents c.args.out.now) (g.W.Write.contents c.print_whole-else-last_first.new.out) page (string_bytes c.print_whole-else-last_first.new.page)) (sym is)
@@ -124,7 +124,7 @@ returns-in_ok-print_below-clause-err g c =
     let page : List ℕ = string_bytes c.args.page.now in
     let others : set_lines names (filter (is_other r last) (below (may_of r) (length c.args.lines.now.features.now) (set_in c.args.room.now))) ≡ set_lines names front =
     text-others names r front last (length c.args.lines.now.features.now) (set_in c.args.room.now) (sym c.requires.size) c.requires.none c.requires.last.same in
-    let all : List ℕ = set_lines names (turned c.args.last_first sets) in
+    let all : List ℕ = set_lines names (with_last_first c.args.last_first sets) in
     let is : all ≡ set_lines names front ++ run_line names (Set last) = behind-text names sets front last c.requires.last.same c.args.last_first c.if-last_first.false in
     on_err-then c.print_whole-else-last_first.result _ _
     (λ h. prints-stopped _ _ _ page (string_bytes c.print_below-else-last_first.new.page) (set_lines names front) (run_line names (Set last)) [] all

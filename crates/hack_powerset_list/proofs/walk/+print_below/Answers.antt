@@ -1,8 +1,8 @@
 use Rattle.std.proofs.Common.{◌≡◌, ◌∙◌, ◌<◌, ◌≤◌, ◌+◌, ◌++◌, ◌∷◌, [], ℕ, zero, List, Bool, length, filter, map, true, false, ap, sym, subst, arith, drop, append_assoc, string_bytes, All}
-use Rattle.hack_term.specs.Writes.{AppendsFront}
-use Rattle.hack_features.specs.Names.{Name}
+use Rattle.hack_base.specs.Writes.{AppendsFront}
+use Rattle.hack_base.specs.Names.{Name}
 use Rattle.hack_features.specs.Feature.{name_of}
-use Rattle.hack_features.specs.Sets.{IsSelection, chosen}
+use Rattle.hack_features.specs.Sets.{IsSelection, items_at}
 use Rattle.hack_features.specs.View.{may_of, size_of}
 use Rattle.hack_powerset_list.specs.LineWords.{Prints, others_text}
 use Rattle.hack_powerset_list.specs.Room.{set_in, most_in}
@@ -95,7 +95,7 @@ returns-in_err-print_other-clause-err g t c =
     ap (λ l. may (p ∷ l)) (sym (c.set.ensures ∙ c.loop-p.invariant.kept)) ∙ sym c.may_begin.ensures.answer ∙ c.if-not-may_begin.false in
     let stood : set_in c.put.new.self ≡ p ∷ s = c.put.ensures.set ∙ ap (λ l. p ∷ l) c.loop-p.invariant.kept in
     let set : c.set-in-loop-p.result.now ≡ p ∷ s = c.set-in-loop-p.ensures ∙ stood in
-    let others : c.args.others.now ≡ others_text (chosen names s) = asked.1.1.1.1.1.1 in
+    let others : c.args.others.now ≡ others_text (items_at names s) = asked.1.1.1.1.1.1 in
     let all = text-all names test may s p c.args.limit lt permitted in
     let stopped : AppendsFront (g.W.Write.contents c.loop-p.out) (g.W.Write.contents c.print_other.new.out) (string_bytes c.loop-p.page ++ line_at names test may s p) =
     subst (λ x. AppendsFront (g.W.Write.contents c.loop-p.out) (g.W.Write.contents c.print_other.new.out) (string_bytes c.loop-p.page ++ set_lines names (filter test (x ∷ []))))
@@ -121,7 +121,7 @@ returns-in_err-longer-clause-err g t c =
     ap (λ l. may (p ∷ l)) (sym (c.set.ensures ∙ c.loop-p.invariant.kept)) ∙ sym c.may_begin.ensures.answer ∙ c.if-not-may_begin.false in
     let stood : set_in c.put.new.self ≡ p ∷ s = c.put.ensures.set ∙ ap (λ l. p ∷ l) c.loop-p.invariant.kept in
     let set : c.set-in-loop-p.result.now ≡ p ∷ s = c.set-in-loop-p.ensures ∙ stood in
-    let others : c.args.others.now ≡ others_text (chosen names s) = asked.1.1.1.1.1.1 in
+    let others : c.args.others.now ≡ others_text (items_at names s) = asked.1.1.1.1.1.1 in
     let all = text-all names test may s p c.args.limit lt permitted in
     let line : Prints (g.W.Write.contents c.loop-p.out) (g.W.Write.contents c.print_other.new.out) (string_bytes c.loop-p.page) (string_bytes c.print_other.new.page) (line_at names test may s p) =
     subst (λ x. Prints (g.W.Write.contents c.loop-p.out) (g.W.Write.contents c.print_other.new.out) (string_bytes c.loop-p.page) (string_bytes c.print_other.new.page) (set_lines names (filter test (x ∷ []))))
@@ -146,7 +146,7 @@ print_below-requires g t c κs within =
     let selection : IsSelection n (p ∷ s) =
     selection-front n p s (omega (arith, lt, asked.1.1.1.1.1.0)) (above-front c.args.limit p s lt asked.1.1.1.1.0) asked.1.1.1.0 in
     let stood : set_in c.put.new.self ≡ p ∷ s = c.put.ensures.set ∙ ap (λ l. p ∷ l) c.loop-p.invariant.kept in
-    let others : c.args.others.now ≡ others_text (chosen names s) = asked.1.1.1.1.1.1 in (
+    let others : c.args.others.now ≡ others_text (items_at names s) = asked.1.1.1.1.1.1 in (
       omega (arith, lt),
       (
         within,
@@ -162,7 +162,7 @@ print_below-requires g t c κs within =
                   subst (All (λ q. p ≤ q)) (sym stood) (above-cons p s (above-front c.args.limit p s lt asked.1.1.1.1.0)),
                   (
                     omega (arith, lt, asked.1.1.1.1.1.0),
-                    c.as_str.ensures.value ∙ c.in_ok-longer.ensures s others ∙ ap (λ l. others_text (chosen names l)) (sym stood),
+                    c.as_str.ensures.value ∙ c.in_ok-longer.ensures s others ∙ ap (λ l. others_text (items_at names l)) (sym stood),
                   ),
                 ),
               ),
@@ -189,7 +189,7 @@ returns-in_err-print_below-clause-err g t c =
     ap (λ l. may (p ∷ l)) (sym (c.set.ensures ∙ c.loop-p.invariant.kept)) ∙ sym c.may_begin.ensures.answer ∙ c.if-not-may_begin.false in
     let stood : set_in c.put.new.self ≡ p ∷ s = c.put.ensures.set ∙ ap (λ l. p ∷ l) c.loop-p.invariant.kept in
     let set : c.set-in-loop-p.result.now ≡ p ∷ s = c.set-in-loop-p.ensures ∙ stood in
-    let others : c.args.others.now ≡ others_text (chosen names s) = asked.1.1.1.1.1.1 in
+    let others : c.args.others.now ≡ others_text (items_at names s) = asked.1.1.1.1.1.1 in
     let all = text-all names test may s p c.args.limit lt permitted in
     let line : Prints (g.W.Write.contents c.loop-p.out) (g.W.Write.contents c.print_other.new.out) (string_bytes c.loop-p.page) (string_bytes c.print_other.new.page) (line_at names test may s p) =
     subst (λ x. Prints (g.W.Write.contents c.loop-p.out) (g.W.Write.contents c.print_other.new.out) (string_bytes c.loop-p.page) (string_bytes c.print_other.new.page) (set_lines names (filter test (x ∷ []))))
@@ -220,7 +220,7 @@ loop-p-preserved g t c =
     ap (λ l. may (p ∷ l)) (sym (c.set.ensures ∙ c.loop-p.invariant.kept)) ∙ sym c.may_begin.ensures.answer ∙ c.if-not-may_begin.false in
     let stood : set_in c.put.new.self ≡ p ∷ s = c.put.ensures.set ∙ ap (λ l. p ∷ l) c.loop-p.invariant.kept in
     let set : c.set-in-loop-p.result.now ≡ p ∷ s = c.set-in-loop-p.ensures ∙ stood in
-    let others : c.args.others.now ≡ others_text (chosen names s) = asked.1.1.1.1.1.1 in
+    let others : c.args.others.now ≡ others_text (items_at names s) = asked.1.1.1.1.1.1 in
     let all = text-all names test may s p c.args.limit lt permitted in
     let line : Prints (g.W.Write.contents c.loop-p.out) (g.W.Write.contents c.print_other.new.out) (string_bytes c.loop-p.page) (string_bytes c.print_other.new.page) (line_at names test may s p) =
     subst (λ x. Prints (g.W.Write.contents c.loop-p.out) (g.W.Write.contents c.print_other.new.out) (string_bytes c.loop-p.page) (string_bytes c.print_other.new.page) (set_lines names (filter test (x ∷ []))))

@@ -2,9 +2,9 @@ use Rattle.std.proofs.Common.{◌≡◌, ◌∙◌, [], ◌∷◌, get_or, false
 use Rattle.std.proofs.lemmas.List.{get_or_default, map-append}
 use Rattle.std.proofs.lemmas.Result.{err_from_is_err_and}
 use Rattle.hack_prepare.proofs.FaultLemmas.{member-fault, root-fault}
-use Rattle.hack_features.proofs.Steps.{seen-next, seen_here}
-use Rattle.hack_process.specs.PathTexts.{texts}
-use Rattle.hack_versions.specs.Notes.{note_of}
+use Rattle.hack_base.proofs.Steps.{seen-next, seen_here}
+use Rattle.hack_base.specs.Names.{names_behind}
+use Rattle.hack_base.specs.Notes.{note_of}
 use Rattle.hack_prepare.specs.PreparedView.{member_view, members_view, wanted_view}
 use Rattle.hack_prepare.specs.declared.wanted.Member.{Member}
 use Rattle.hack_files.specs.Files.{GrowsBy}
@@ -31,15 +31,15 @@ loop-member-preserved g c =
     let told = map note_of c.args.notices.now.items in
     let now = g.F.Files.bytes_at c.loop-member.files in
     let after = g.F.Files.failed c.loop-member.files in
-    let private = texts c.loop-member.gone.items in
+    let private = names_behind c.loop-member.gone.items in
     let notes = map note_of c.loop-member.notices.items in
     elim c.if-goes.branch [
       | then-goes+else-is_root+in_ok-push b ↦
           rw (b.files-is, b.manager-is, b.notices-is, b.gone-is) (
             h.0,
-            visited-goes tells w ms k m one c.args.manager.now start before told c.loop-member.manager now after private (texts b.push.new.self.items) notes
+            visited-goes tells w ms k m one c.args.manager.now start before told c.loop-member.manager now after private (names_behind b.push.new.self.items) notes
                 (sym b.if-goes.ensures) (sym b.if-is_root.ensures)
-                (ap texts b.in_ok-push.ensures.items ∙ map-append (λ (r : Bor (List ℕ)). r.now) c.loop-member.gone.items (x.path ∷ [])) h.1,
+                (ap names_behind b.in_ok-push.ensures.items ∙ map-append (λ (r : Bor (List ℕ)). r.now) c.loop-member.gone.items (x.path ∷ [])) h.1,
           )
       | else-goes+then-is_alone+in_ok-edit_member b ↦
           rw (b.files-is, b.manager-is, b.notices-is, b.gone-is) (

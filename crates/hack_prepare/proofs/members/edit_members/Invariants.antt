@@ -1,6 +1,6 @@
 use Rattle.std.proofs.Common.{map}
-use Rattle.hack_process.specs.PathTexts.{texts}
-use Rattle.hack_versions.specs.Notes.{note_of}
+use Rattle.hack_base.specs.Names.{names_behind}
+use Rattle.hack_base.specs.Notes.{note_of}
 use Rattle.hack_prepare.specs.PreparedView.{members_view, wanted_view}
 use Rattle.hack_prepare.proofs.MemberLemmas.{Visited}
 use Rattle.hack_prepare.proofs.members.edit_members.Given as goal
@@ -10,4 +10,4 @@ abbrev pub invariant-loop-member : goal.invariant-loop-member
 invariant-loop-member g l =
     g.F.Files.stays l.initial.files l.files
     × Visited g.F.Files.tells (wanted_view l.wanted) (members_view l.members) l.member-index l.initial.manager l.manager (g.F.Files.bytes_at l.initial.files) (g.F.Files.bytes_at l.files)
-    (g.F.Files.failed l.initial.files) (g.F.Files.failed l.files) (texts l.gone.items) (map note_of l.initial.notices.items) (map note_of l.notices.items)
+    (g.F.Files.failed l.initial.files) (g.F.Files.failed l.files) (names_behind l.gone.items) (map note_of l.initial.notices.items) (map note_of l.notices.items)

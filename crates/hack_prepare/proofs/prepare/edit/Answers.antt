@@ -1,8 +1,8 @@
 use Rattle.std.proofs.Common.{◌≡◌, ◌∙◌, true, IfSome, ap, sym, subst}
 use Rattle.std.proofs.lemmas.Result.{err_from_is_err_and}
 use Rattle.hack_files.specs.Files.{GrowsBy}
-use Rattle.hack_files.specs.Restore.{is_kept, registered}
-use Rattle.hack_process.specs.PathTexts.{texts}
+use Rattle.hack_files.specs.Restore.{is_kept, registered_files}
+use Rattle.hack_base.specs.Names.{names_behind}
 use Rattle.hack_prepare.specs.PreparedView.{members_view, wanted_view}
 use Rattle.hack_prepare.proofs.CountLemmas.{fault_then, none_then}
 use Rattle.hack_prepare.proofs.FaultLemmas.{lock-among, members-among, root-among}
@@ -42,10 +42,10 @@ returns-in_err-edit_root-clause-step g c =
 
 pub returns-in_err-edit_root-clause-edited : goal.returns-in_err-edit_root-clause-edited
 returns-in_err-edit_root-clause-edited g c =
-    λ t holds. partly-root (wanted_view c.args.wanted.now) (members_view c.args.members.now) (texts c.as_slice.result.now)
+    λ t holds. partly-root (wanted_view c.args.wanted.now) (members_view c.args.members.now) (names_behind c.as_slice.result.now)
     (GrowsBy 1 (g.F.Files.failed c.edit_members.new.files) (g.F.Files.failed c.edit_root.new.files)) (GrowsBy 1 (g.F.Files.failed c.args.files.now) (g.F.Files.failed c.edit_root.new.files))
     (g.F.Files.bytes_at c.args.files.now) (g.F.Files.bytes_at c.edit_members.new.files) (g.F.Files.bytes_at c.edit_root.new.files)
-    (ap texts c.as_slice.ensures.value ∙ c.in_ok-gone.ensures.gone) holds (c.in_ok-gone.ensures.turned t holds) (c.edit_members.ensures.others t) (c.edit_root.ensures.others t)
+    (ap names_behind c.as_slice.ensures.value ∙ c.in_ok-gone.ensures.gone) holds (c.in_ok-gone.ensures.turned t holds) (c.edit_members.ensures.others t) (c.edit_root.ensures.others t)
     (none_then 1 (g.F.Files.failed c.args.files.now) (g.F.Files.failed c.edit_members.new.files) (g.F.Files.failed c.edit_root.new.files) c.in_ok-gone.ensures.counted) (c.edit_root.ensures.partly t)
 
 pub returns-in_err-edit_root-clause-others : goal.returns-in_err-edit_root-clause-others
@@ -77,9 +77,9 @@ returns-in_err-keep_lockfile-clause-step g c =
 pub returns-in_err-keep_lockfile-clause-edited : goal.returns-in_err-keep_lockfile-clause-edited
 returns-in_err-keep_lockfile-clause-edited g c =
     λ t holds. partly-all (wanted_view c.args.wanted.now) (members_view c.args.members.now) (GrowsBy 1 (g.F.Files.failed c.args.files.now) (g.F.Files.failed c.keep_lockfile.new.files)) (g.F.Files.bytes_at c.args.files.now) (g.F.Files.bytes_at c.keep_lockfile.new.files)
-    (prepared (wanted_view c.args.wanted.now) (members_view c.args.members.now) (texts c.as_slice.result.now)
+    (prepared (wanted_view c.args.wanted.now) (members_view c.args.members.now) (names_behind c.as_slice.result.now)
     (g.F.Files.bytes_at c.args.files.now) (g.F.Files.bytes_at c.edit_members.new.files) (g.F.Files.bytes_at c.edit_root.new.files) (g.F.Files.bytes_at c.keep_lockfile.new.files)
-    (ap texts c.as_slice.ensures.value ∙ c.in_ok-gone.ensures.gone) holds (c.in_ok-gone.ensures.turned t holds) (c.edit_members.ensures.others t)
+    (ap names_behind c.as_slice.ensures.value ∙ c.in_ok-gone.ensures.gone) holds (c.in_ok-gone.ensures.turned t holds) (c.edit_members.ensures.others t)
     (c.in_ok-edit_root.ensures.edited t) (c.edit_root.ensures.others t) (c.keep_lockfile.ensures.same t))
 
 pub returns-in_err-keep_lockfile-clause-others : goal.returns-in_err-keep_lockfile-clause-others
@@ -109,17 +109,17 @@ returns-clause-step g c =
 
 pub returns-clause-prepared : goal.returns-clause-prepared
 returns-clause-prepared g c =
-    λ t holds. prepared (wanted_view c.args.wanted.now) (members_view c.args.members.now) (texts c.as_slice.result.now)
+    λ t holds. prepared (wanted_view c.args.wanted.now) (members_view c.args.members.now) (names_behind c.as_slice.result.now)
     (g.F.Files.bytes_at c.args.files.now) (g.F.Files.bytes_at c.edit_members.new.files) (g.F.Files.bytes_at c.edit_root.new.files) (g.F.Files.bytes_at c.keep_lockfile.new.files)
-    (ap texts c.as_slice.ensures.value ∙ c.in_ok-gone.ensures.gone) holds (c.in_ok-gone.ensures.turned t holds) (c.edit_members.ensures.others t)
+    (ap names_behind c.as_slice.ensures.value ∙ c.in_ok-gone.ensures.gone) holds (c.in_ok-gone.ensures.turned t holds) (c.edit_members.ensures.others t)
     (c.in_ok-edit_root.ensures.edited t) (c.edit_root.ensures.others t) (c.keep_lockfile.ensures.same t)
 
 pub returns-clause-edited : goal.returns-clause-edited
 returns-clause-edited g c =
     λ t holds. partly-all (wanted_view c.args.wanted.now) (members_view c.args.members.now) (GrowsBy 1 (g.F.Files.failed c.args.files.now) (g.F.Files.failed c.keep_lockfile.new.files)) (g.F.Files.bytes_at c.args.files.now) (g.F.Files.bytes_at c.keep_lockfile.new.files)
-    (prepared (wanted_view c.args.wanted.now) (members_view c.args.members.now) (texts c.as_slice.result.now)
+    (prepared (wanted_view c.args.wanted.now) (members_view c.args.members.now) (names_behind c.as_slice.result.now)
     (g.F.Files.bytes_at c.args.files.now) (g.F.Files.bytes_at c.edit_members.new.files) (g.F.Files.bytes_at c.edit_root.new.files) (g.F.Files.bytes_at c.keep_lockfile.new.files)
-    (ap texts c.as_slice.ensures.value ∙ c.in_ok-gone.ensures.gone) holds (c.in_ok-gone.ensures.turned t holds) (c.edit_members.ensures.others t)
+    (ap names_behind c.as_slice.ensures.value ∙ c.in_ok-gone.ensures.gone) holds (c.in_ok-gone.ensures.turned t holds) (c.edit_members.ensures.others t)
     (c.in_ok-edit_root.ensures.edited t) (c.edit_root.ensures.others t) (c.keep_lockfile.ensures.same t))
 
 pub returns-clause-others : goal.returns-clause-others
@@ -131,5 +131,5 @@ pub returns-clause-lockfile : goal.returns-clause-lockfile
 returns-clause-lockfile g c =
     λ t e.
     let path = c.args.wanted.now.lockfile.now in
-    subst (λ o. IfSome o (λ _. is_kept (registered c.keep_lockfile.new.manager) path ≡ true)) (sym (c.keep_lockfile.ensures.same t path))
+    subst (λ o. IfSome o (λ _. is_kept (registered_files c.keep_lockfile.new.manager) path ≡ true)) (sym (c.keep_lockfile.ensures.same t path))
     (c.in_ok-keep_lockfile.ensures.kept t (c.edit_root.ensures.step.needs ∙ c.edit_members.ensures.step.needs ∙ e))

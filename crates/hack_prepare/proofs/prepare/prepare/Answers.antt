@@ -3,7 +3,7 @@ use Rattle.std.specs.Prelude.{◌||◌}
 use Rattle.hack_files.specs.Files.{GrowsBy}
 use Rattle.hack_words.specs.declared.cli.args.Args.{Args}
 use Rattle.hack_load.specs.ContextView.{context_view}
-use Rattle.hack_versions.specs.Notes.{note_of}
+use Rattle.hack_base.specs.Notes.{note_of}
 use Rattle.hack_prepare.specs.Faults.{IsEditsFault}
 use Rattle.hack_prepare.specs.Paths.{IsTouched}
 use Rattle.hack_prepare.specs.Prepared.{HoldTexts, IsPartlyPrepared, KeepsUnedited, Member, Wanted, edits}

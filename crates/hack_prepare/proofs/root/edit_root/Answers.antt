@@ -1,8 +1,8 @@
 use Rattle.std.proofs.Common.{◌≡◌, ◌∙◌, ◌++◌, List, OnOk, sym, subst, map}
 use Rattle.std.specs.Prelude.{◌||◌, Bool, false}
 use Rattle.hack_files.specs.Files.{GrowsBy}
-use Rattle.hack_process.specs.PathTexts.{texts}
-use Rattle.hack_versions.specs.Notes.{Note, note_of}
+use Rattle.hack_base.specs.Names.{names_behind}
+use Rattle.hack_base.specs.Notes.{Note, note_of}
 use Rattle.hack_prepare.specs.Paths.{OnlyIf}
 use Rattle.hack_prepare.specs.Prepared.{HoldTexts, edits_root, has_some}
 use Rattle.hack_prepare.specs.PreparedView.{members_view, wanted_view}
@@ -17,19 +17,19 @@ returns-in-Some-clause-step g c =
     let w = wanted_view c.args.wanted.now in
     let ms = members_view c.args.members.now in
     step_given g.F.Files.tells (HeldUnkept c.args.manager.now w.root c.in-Some.text.now) (λ start. HoldTexts start ms)
-    (OnlyIf (w.drops_dev || has_some (texts c.args.private.now)) w.root) (OnlyIf (edits_root w ms) w.root) c.args.manager.now c.edit_held.new.manager
+    (OnlyIf (w.drops_dev || has_some (names_behind c.args.private.now)) w.root) (OnlyIf (edits_root w ms) w.root) c.args.manager.now c.edit_held.new.manager
     (g.F.Files.bytes_at c.args.files.now) (g.F.Files.bytes_at c.edit_held.new.files)
     (λ start holds _. root-held w ms c.in-Some.text.now start holds c.in-Some.ensures)
-    (λ q h. (edits-is w ms w.drops_dev (texts c.args.private.now) c.if-not-wanted.false (drops-found w ms (root-found w ms c.in-Some.text.now c.in-Some.ensures)) c.requires ∙ h.0, h.1)) c.edit_held.ensures.step
+    (λ q h. (edits-is w ms w.drops_dev (names_behind c.args.private.now) c.if-not-wanted.false (drops-found w ms (root-found w ms c.in-Some.text.now c.in-Some.ensures)) c.requires ∙ h.0, h.1)) c.edit_held.ensures.step
 
 pub returns-in-Some-clause-partly : goal.returns-in-Some-clause-partly
 returns-in-Some-clause-partly g c =
-    partly-found g.F.Files.tells (GrowsBy 1 (g.F.Files.failed c.args.files.now) (g.F.Files.failed c.edit_held.new.files)) (wanted_view c.args.wanted.now) (members_view c.args.members.now) (texts c.args.private.now)
+    partly-found g.F.Files.tells (GrowsBy 1 (g.F.Files.failed c.args.files.now) (g.F.Files.failed c.edit_held.new.files)) (wanted_view c.args.wanted.now) (members_view c.args.members.now) (names_behind c.args.private.now)
     c.in-Some.text.now (g.F.Files.bytes_at c.args.files.now) (g.F.Files.bytes_at c.edit_held.new.files) c.in-Some.ensures c.edit_held.ensures.partly
 
 pub returns-in-Some-clause-edited : goal.returns-in-Some-clause-edited
 returns-in-Some-clause-edited g c =
-    edited-found g.F.Files.tells c.edit_held.result (wanted_view c.args.wanted.now) (members_view c.args.members.now) (texts c.args.private.now) c.in-Some.text.now
+    edited-found g.F.Files.tells c.edit_held.result (wanted_view c.args.wanted.now) (members_view c.args.members.now) (names_behind c.args.private.now) c.in-Some.text.now
     (g.F.Files.bytes_at c.args.files.now) (g.F.Files.bytes_at c.edit_held.new.files) c.in-Some.ensures c.edit_held.ensures.edited
 
 pub returns-in-Some-clause-others : goal.returns-in-Some-clause-others
@@ -37,31 +37,31 @@ returns-in-Some-clause-others g c = λ t.
     let w = wanted_view c.args.wanted.now in
     let ms = members_view c.args.members.now in
     subst (λ (b : Bool). KeepsBut w b (g.F.Files.bytes_at c.args.files.now) (g.F.Files.bytes_at c.edit_held.new.files))
-    (sym (edits-is w ms w.drops_dev (texts c.args.private.now) c.if-not-wanted.false (drops-found w ms (root-found w ms c.in-Some.text.now c.in-Some.ensures)) c.requires)) (c.edit_held.ensures.others t)
+    (sym (edits-is w ms w.drops_dev (names_behind c.args.private.now) c.if-not-wanted.false (drops-found w ms (root-found w ms c.in-Some.text.now c.in-Some.ensures)) c.requires)) (c.edit_held.ensures.others t)
 
 pub returns-in-Some-clause-told : goal.returns-in-Some-clause-told
 returns-in-Some-clause-told g c =
     let w = wanted_view c.args.wanted.now in
     let ms = members_view c.args.members.now in
     subst (λ (l : List Note). OnOk c.edit_held.result (map note_of c.edit_held.new.notices.items ≡ map note_of c.args.notices.now.items ++ l))
-    (notes-are w ms w.drops_dev (texts c.args.private.now) c.if-not-wanted.false (drops-found w ms (root-found w ms c.in-Some.text.now c.in-Some.ensures)) c.requires) c.edit_held.ensures.told
+    (notes-are w ms w.drops_dev (names_behind c.args.private.now) c.if-not-wanted.false (drops-found w ms (root-found w ms c.in-Some.text.now c.in-Some.ensures)) c.requires) c.edit_held.ensures.told
 
 pub returns-in-None-clause-step : goal.returns-in-None-clause-step
 returns-in-None-clause-step g c =
     let w = wanted_view c.args.wanted.now in
     let ms = members_view c.args.members.now in
-    step_given g.F.Files.tells AnyStart (λ start. HoldTexts start ms) (OnlyIf (has_some (texts c.args.private.now)) w.root) (OnlyIf (edits_root w ms) w.root) c.args.manager.now c.edit_virtual.new.manager
+    step_given g.F.Files.tells AnyStart (λ start. HoldTexts start ms) (OnlyIf (has_some (names_behind c.args.private.now)) w.root) (OnlyIf (edits_root w ms) w.root) c.args.manager.now c.edit_virtual.new.manager
     (g.F.Files.bytes_at c.args.files.now) (g.F.Files.bytes_at c.edit_virtual.new.files) (λ start holds. tt)
-    (λ q h. (edits-is w ms false (texts c.args.private.now) c.if-not-wanted.false (drops-missed w ms (root-missed w ms c.in-None.ensures)) c.requires ∙ h.0, h.1)) c.edit_virtual.ensures.step
+    (λ q h. (edits-is w ms false (names_behind c.args.private.now) c.if-not-wanted.false (drops-missed w ms (root-missed w ms c.in-None.ensures)) c.requires ∙ h.0, h.1)) c.edit_virtual.ensures.step
 
 pub returns-in-None-clause-partly : goal.returns-in-None-clause-partly
 returns-in-None-clause-partly g c =
-    partly-missed g.F.Files.tells (GrowsBy 1 (g.F.Files.failed c.args.files.now) (g.F.Files.failed c.edit_virtual.new.files)) (wanted_view c.args.wanted.now) (members_view c.args.members.now) (texts c.args.private.now)
+    partly-missed g.F.Files.tells (GrowsBy 1 (g.F.Files.failed c.args.files.now) (g.F.Files.failed c.edit_virtual.new.files)) (wanted_view c.args.wanted.now) (members_view c.args.members.now) (names_behind c.args.private.now)
     (g.F.Files.bytes_at c.args.files.now) (g.F.Files.bytes_at c.edit_virtual.new.files) c.in-None.ensures c.edit_virtual.ensures.partly
 
 pub returns-in-None-clause-edited : goal.returns-in-None-clause-edited
 returns-in-None-clause-edited g c =
-    edited-missed g.F.Files.tells c.edit_virtual.result (wanted_view c.args.wanted.now) (members_view c.args.members.now) (texts c.args.private.now)
+    edited-missed g.F.Files.tells c.edit_virtual.result (wanted_view c.args.wanted.now) (members_view c.args.members.now) (names_behind c.args.private.now)
     (g.F.Files.bytes_at c.args.files.now) (g.F.Files.bytes_at c.edit_virtual.new.files) c.in-None.ensures c.if-not-wanted.false c.requires c.edit_virtual.ensures.edited
 
 pub returns-in-None-clause-told : goal.returns-in-None-clause-told
@@ -69,14 +69,14 @@ returns-in-None-clause-told g c =
     let w = wanted_view c.args.wanted.now in
     let ms = members_view c.args.members.now in
     subst (λ (l : List Note). OnOk c.edit_virtual.result (map note_of c.edit_virtual.new.notices.items ≡ map note_of c.args.notices.now.items ++ l))
-    (notes-are w ms false (texts c.args.private.now) c.if-not-wanted.false (drops-missed w ms (root-missed w ms c.in-None.ensures)) c.requires) c.edit_virtual.ensures.told
+    (notes-are w ms false (names_behind c.args.private.now) c.if-not-wanted.false (drops-missed w ms (root-missed w ms c.in-None.ensures)) c.requires) c.edit_virtual.ensures.told
 
 pub returns-in-Some-clause-err : goal.returns-in-Some-clause-err
 returns-in-Some-clause-err g c =
-    found-fault g.F.Files.tells (wanted_view c.args.wanted.now) (members_view c.args.members.now) (texts c.args.private.now) c.in-Some.text.now (g.F.Files.bytes_at c.args.files.now)
+    found-fault g.F.Files.tells (wanted_view c.args.wanted.now) (members_view c.args.members.now) (names_behind c.args.private.now) c.in-Some.text.now (g.F.Files.bytes_at c.args.files.now)
     c.edit_held.result c.in-Some.ensures c.if-not-wanted.false c.requires c.edit_held.ensures.err
 
 pub returns-in-None-clause-err : goal.returns-in-None-clause-err
 returns-in-None-clause-err g c =
-    missed-fault g.F.Files.tells (wanted_view c.args.wanted.now) (members_view c.args.members.now) (texts c.args.private.now) (g.F.Files.bytes_at c.args.files.now)
+    missed-fault g.F.Files.tells (wanted_view c.args.wanted.now) (members_view c.args.members.now) (names_behind c.args.private.now) (g.F.Files.bytes_at c.args.files.now)
     c.edit_virtual.result c.in-None.ensures c.if-not-wanted.false c.requires c.edit_virtual.ensures.err

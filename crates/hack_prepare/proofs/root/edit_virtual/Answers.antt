@@ -1,5 +1,5 @@
 use Rattle.std.proofs.Common.{◌∙◌, Some, ap, sym, string_bytes}
-use Rattle.hack_process.specs.PathTexts.{texts}
+use Rattle.hack_base.specs.Names.{names_behind}
 use Rattle.hack_prepare.specs.Faults.{IsHeldFault}
 use Rattle.hack_prepare.specs.Paths.{OnlyIf}
 use Rattle.hack_prepare.specs.Prepared.{has_some}
@@ -17,29 +17,29 @@ returns-in-Ok-clause-counted g c =
 
 pub returns-in-Ok-clause-step : goal.returns-in-Ok-clause-step
 returns-in-Ok-clause-step g c =
-    step_read g.F.Files.tells c.args.wanted.now.root.now c.as_str.result.now (OnlyIf (has_some (texts c.args.private.now)) c.args.wanted.now.root.now) c.args.manager.now c.edit_held.new.manager
+    step_read g.F.Files.tells c.args.wanted.now.root.now c.as_str.result.now (OnlyIf (has_some (names_behind c.args.private.now)) c.args.wanted.now.root.now) c.args.manager.now c.edit_held.new.manager
     (g.F.Files.bytes_at c.args.files.now) (g.F.Files.bytes_at c.read_to_string.new.files) (g.F.Files.bytes_at c.edit_held.new.files)
     c.read_to_string.ensures.same (λ t. c.in-Ok.ensures.text t ∙ ap Some (sym c.as_str.ensures.value)) c.edit_held.ensures.step
 
 pub returns-in-Ok-clause-edited : goal.returns-in-Ok-clause-edited
 returns-in-Ok-clause-edited g c =
-    edited-read g.F.Files.tells c.edit_held.result (wanted_view c.args.wanted.now) (texts c.args.private.now) (string_bytes c.in-Ok.text) c.as_str.result.now
+    edited-read g.F.Files.tells c.edit_held.result (wanted_view c.args.wanted.now) (names_behind c.args.private.now) (string_bytes c.in-Ok.text) c.as_str.result.now
     (g.F.Files.bytes_at c.args.files.now) (g.F.Files.bytes_at c.edit_held.new.files) c.as_str.ensures.value c.in-Ok.ensures.text c.edit_held.ensures.edited
 
 pub returns-in-Ok-clause-partly : goal.returns-in-Ok-clause-partly
 returns-in-Ok-clause-partly g c =
-    partly-read g.F.Files.tells (wanted_view c.args.wanted.now) (texts c.args.private.now) (string_bytes c.in-Ok.text) c.as_str.result.now
+    partly-read g.F.Files.tells (wanted_view c.args.wanted.now) (names_behind c.args.private.now) (string_bytes c.in-Ok.text) c.as_str.result.now
     (g.F.Files.failed c.args.files.now) (g.F.Files.failed c.read_to_string.new.files) (g.F.Files.failed c.edit_held.new.files)
     (g.F.Files.bytes_at c.args.files.now) (g.F.Files.bytes_at c.read_to_string.new.files) (g.F.Files.bytes_at c.edit_held.new.files)
     c.as_str.ensures.value c.in-Ok.ensures.text c.read_to_string.ensures.same c.in-Ok.ensures.ok c.edit_held.ensures.partly
 
 pub returns-in-Ok-clause-err : goal.returns-in-Ok-clause-err
 returns-in-Ok-clause-err g c =
-    virtual-fault g.F.Files.tells (wanted_view c.args.wanted.now) (texts c.args.private.now) (string_bytes c.in-Ok.text) c.as_str.result.now (g.F.Files.bytes_at c.args.files.now)
+    virtual-fault g.F.Files.tells (wanted_view c.args.wanted.now) (names_behind c.args.private.now) (string_bytes c.in-Ok.text) c.as_str.result.now (g.F.Files.bytes_at c.args.files.now)
     c.edit_held.result c.as_str.ensures.value c.in-Ok.ensures.text c.edit_held.ensures.err
 
 pub returns-in-Err-clause-err : goal.returns-in-Err-clause-err
 returns-in-Err-clause-err g c =
-    text-fault c.args.wanted.now.root.now (has_some (texts c.args.private.now)) g.F.Files.tells (g.F.Files.bytes_at c.args.files.now)
-    (IsHeldFault (wanted_view c.args.wanted.now) (texts c.args.private.now) g.F.Files.tells (g.F.Files.bytes_at c.args.files.now)) (g.F.Files.failed c.args.files.now) (g.F.Files.failed c.read_to_string.new.files)
+    text-fault c.args.wanted.now.root.now (has_some (names_behind c.args.private.now)) g.F.Files.tells (g.F.Files.bytes_at c.args.files.now)
+    (IsHeldFault (wanted_view c.args.wanted.now) (names_behind c.args.private.now) g.F.Files.tells (g.F.Files.bytes_at c.args.files.now)) (g.F.Files.failed c.args.files.now) (g.F.Files.failed c.read_to_string.new.files)
     c.in-Err.fault c.of_file.result (some-left c.args.private.now c.if-is_empty.ensures) c.in-Err.ensures.fault c.of_file.ensures

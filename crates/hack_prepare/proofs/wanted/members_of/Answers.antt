@@ -4,7 +4,7 @@ use Rattle.std.proofs.lemmas.List.{get_or_default, length-map, map-append, take_
 use Rattle.hack_load.specs.ContextView.{context_view}
 use Rattle.hack_metadata.specs.declared.resolve.PackageId.{PackageId}
 use Rattle.hack_metadata.specs.View.{place_at}
-use Rattle.hack_features.proofs.Steps.{seen_here}
+use Rattle.hack_base.proofs.Steps.{seen_here}
 use Rattle.hack_prepare.specs.PreparedView.{member_at, member_view, members_view}
 use Rattle.hack_prepare.proofs.MemberLemmas.{found-more}
 use Rattle.hack_prepare.proofs.wanted.members_of.Goals as goal

@@ -2,7 +2,7 @@ use Rattle.std.proofs.Common.{rules, ◌≡◌, ◌++◌, ◌∷◌, [], ◌∙�
 use Rattle.std.proofs.lemmas.List.{map-append, take_more}
 use Rattle.hack_features.specs.declared.feature.Feature.{Feature}
 use Rattle.hack_features.specs.Feature.{IsGroup}
-use Rattle.hack_term.specs.Lists.{group_names}
+use Rattle.hack_base.specs.Lists.{group_names}
 use Rattle.hack_rules.specs.CliGroups.{AreGroupsOf}
 use Rattle.hack_rules.proofs.GroupLemmas.{AreGroupsOf-more}
 use Rattle.hack_rules.proofs.named.groups.Goals as goal

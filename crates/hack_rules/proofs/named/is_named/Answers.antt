@@ -1,6 +1,6 @@
 use Rattle.std.proofs.Common.{ap, ◌∙◌}
 use Rattle.hack_rules.specs.CliLists.{same_names}
-use Rattle.hack_features.specs.Names.{names_of}
+use Rattle.hack_base.specs.Names.{names_of}
 use Rattle.hack_rules.proofs.GroupLemmas.{same-names}
 use Rattle.hack_rules.proofs.named.is_named.Goals as goal
 

@@ -2,7 +2,7 @@ use Rattle.std.proofs.Common.{rules, ◌≡◌, ◌+◌, ◌++◌, ◌∷◌, []
 use Rattle.std.proofs.lemmas.List.{drop_more, take_more}
 use Rattle.hack_features.specs.Feature.{IsGroup}
 use Rattle.hack_rules.specs.CliLists.{first_failing, is_lift, lift_of}
-use Rattle.hack_term.specs.Lists.{group_names}
+use Rattle.hack_base.specs.Lists.{group_names}
 use Rattle.hack_rules.proofs.GroupLemmas.{lift-passes, lift-read, lift-some, read-more}
 use Rattle.hack_rules.proofs.named.lifts_of.Goals as goal
 

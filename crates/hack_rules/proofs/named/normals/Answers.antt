@@ -1,6 +1,6 @@
 use Rattle.std.proofs.Common.{rules, ◌≡◌, ◌++◌, ◌∷◌, [], ◌∙◌, ap, sym, subst, take, List, string_bytes}
 use Rattle.std.proofs.lemmas.List.{map-append, take_more}
-use Rattle.hack_features.specs.Names.{Name, names_of}
+use Rattle.hack_base.specs.Names.{Name, names_of}
 use Rattle.hack_features.specs.declared.feature.Feature.{Feature}
 use Rattle.hack_features.specs.Feature.{IsNormal}
 use Rattle.hack_rules.specs.CliGroups.{AreNormalsOf}

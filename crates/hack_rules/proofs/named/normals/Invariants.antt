@@ -1,5 +1,5 @@
 use Rattle.std.proofs.Common.{take}
-use Rattle.hack_features.specs.Names.{names_of}
+use Rattle.hack_base.specs.Names.{names_of}
 use Rattle.hack_rules.specs.CliGroups.{AreNormalsOf}
 use Rattle.hack_rules.proofs.named.normals.Given as goal
 

@@ -1,5 +1,5 @@
 use Rattle.std.proofs.Common.{◌∙◌}
-use Rattle.hack_versions.proofs.NumberLemmas.{number-parses}
+use Rattle.hack_base.proofs.NumberLemmas.{number-parses}
 use Rattle.hack_rules.proofs.values.short.Goals as goal
 
 pub returns : goal.returns

@@ -1,5 +1,5 @@
 use Rattle.std.proofs.Common.{◌≡◌, subst, sym, true, string_bytes}
-use Rattle.hack_features.specs.Names.{names_of}
+use Rattle.hack_base.specs.Names.{names_of}
 use Rattle.hack_words.specs.Start.{wants_rustup}
 use Rattle.hack_process.specs.Calls.{IsSuccess, MayAdd}
 use Rattle.hack_process.specs.CommandTexts.{text_of}
@@ -16,5 +16,5 @@ returns-clause-may g c = λ t.
 
 pub returns-clause-asked : goal.returns-clause-asked
 returns-clause-asked g c =
-    asks_in_vain g.C.Caller.tells (wants_rustup (names_of c.args.words.now)) (string_bytes c.args.env.now.rustup) (g.C.Caller.calls c.args.caller.now) (g.C.Caller.calls c.read.new.caller) c.unknown.result
-    (sym c.if-not-wants_rustup.ensures) (returns-clause-may g c) c.unknown.ensures
+    asks_in_vain g.C.Caller.tells (wants_rustup (names_of c.args.words.now)) (string_bytes c.args.env.now.rustup) (g.C.Caller.calls c.args.caller.now) (g.C.Caller.calls c.read.new.caller) c.unknown_rustup.result
+    (sym c.if-not-wants_rustup.ensures) (returns-clause-may g c) c.unknown_rustup.ensures

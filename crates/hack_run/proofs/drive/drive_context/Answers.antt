@@ -4,7 +4,7 @@ use Rattle.hack_words.specs.declared.cli.args.Args.{Args}
 use Rattle.hack_calls.specs.Made.{IsPlanOf}
 use Rattle.hack_runs.specs.View.{PlanView}
 use Rattle.hack_load.specs.ContextView.{context_view}
-use Rattle.hack_versions.specs.Notes.{note_of}
+use Rattle.hack_base.specs.Notes.{note_of}
 use Rattle.hack_run.proofs.HeadlineLemmas.{handed_out}
 use Rattle.hack_run.proofs.drive.drive_context.Goals as goal
 

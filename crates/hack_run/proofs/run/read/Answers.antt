@@ -1,6 +1,6 @@
 use Rattle.std.proofs.Common.{◌≡◌, false, map}
-use Rattle.hack_features.specs.Names.{names_of}
-use Rattle.hack_versions.specs.Notes.{note_of}
+use Rattle.hack_base.specs.Names.{names_of}
+use Rattle.hack_base.specs.Notes.{note_of}
 use Rattle.hack_run.specs.Restores.{ComesBack, RestoresEdits}
 use Rattle.hack_run.proofs.BackLemmas.{clean_by}
 use Rattle.hack_run.proofs.WholeLemmas.{done}

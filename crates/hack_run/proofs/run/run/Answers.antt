@@ -1,4 +1,4 @@
-use Rattle.hack_features.specs.Names.{names_of}
+use Rattle.hack_base.specs.Names.{names_of}
 use Rattle.hack_run.specs.Restores.{IsClean, RestoresEdits}
 use Rattle.hack_run.specs.Whole.{IsDone}
 use Rattle.hack_run.proofs.WholeLemmas.{comes, told_fault}

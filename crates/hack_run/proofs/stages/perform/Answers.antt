@@ -1,7 +1,7 @@
 use Rattle.std.proofs.Common.{◌≡◌, ◌<◌, ◌∙◌, ap, false, inr}
 use Rattle.std.specs.Prelude.{IfOk, not}
 use Rattle.hack_load.specs.Answers.{IsLoaded}
-use Rattle.hack_files.specs.Restore.{registered}
+use Rattle.hack_files.specs.Restore.{registered_files}
 use Rattle.hack_run.proofs.BackLemmas.{brings_none, cleans, kept_none, leaves, safe_new, whole_keeps}
 use Rattle.hack_run.proofs.WholeLemmas.{performs}
 use Rattle.hack_run.proofs.stages.perform.Goals as goal
@@ -18,7 +18,7 @@ returns-clause-done g c =
     first asked prepared last before later (g.C.Caller.calls c.args.caller.now) (g.C.Caller.calls c.ask-answers.new.caller) (g.C.Caller.calls c.follow-came.new.caller)
     c.ask-answers.result c.follow-came.new.term.error c.finish.new.term.error
     c.ask-answers.ensures.asked c.finish.ensures.noted.1 (λ t. (t, c.ask-answers.ensures.read)) (whole_keeps g.F.Files.tells first asked before later c.ask-answers.result.loaded c.ask-answers.ensures.whole)
-    (λ t stay. brings_none (registered c.follow-came.new.manager) prepared last c.finish.result
+    (λ t stay. brings_none (registered_files c.follow-came.new.manager) prepared last c.finish.result
     (kept_none c.new-manager.result c.ask-answers.new.manager c.follow-came.new.manager c.new-manager.ensures.nothing c.ask-answers.ensures.kept
     (c.follow-came.ensures.unkept (c.ask-answers.ensures.needs ∙ c.new-manager.ensures.needs ∙ ap not stay)))
     (c.finish.ensures.restored t))
@@ -27,7 +27,7 @@ returns-clause-done g c =
 pub returns-clause-back : goal.returns-clause-back
 returns-clause-back g c = λ kept t.
     let asked = g.F.Files.bytes_at c.ask-answers.new.files in
-    leaves g.F.Files.tells (registered c.follow-came.new.manager) (g.F.Files.bytes_at c.args.files.now) asked (g.F.Files.bytes_at c.follow-came.new.files) (g.F.Files.bytes_at c.finish.new.files)
+    leaves g.F.Files.tells (registered_files c.follow-came.new.manager) (g.F.Files.bytes_at c.args.files.now) asked (g.F.Files.bytes_at c.follow-came.new.files) (g.F.Files.bytes_at c.finish.new.files)
     (g.F.Files.failed c.args.files.now) (g.F.Files.failed c.ask-answers.new.files) (g.F.Files.failed c.follow-came.new.files) (g.F.Files.failed c.finish.new.files) c.finish.result
     t c.ask-answers.ensures.left
     (c.follow-came.ensures.safe t c.ask-answers.ensures.read (c.ask-answers.ensures.needs ∙ c.new-manager.ensures.needs ∙ ap not kept) (safe_new c.new-manager.result c.ask-answers.new.manager asked c.new-manager.ensures.nothing c.ask-answers.ensures.kept))
@@ -36,7 +36,7 @@ returns-clause-back g c = λ kept t.
 pub returns-clause-clean : goal.returns-clause-clean
 returns-clause-clean g c =
     let asked = g.F.Files.bytes_at c.ask-answers.new.files in
-    cleans g.F.Files.tells (c.args.args.remove_dev_deps ≡ false) c.follow-came.result c.ask-answers.result.loaded (registered c.follow-came.new.manager)
+    cleans g.F.Files.tells (c.args.args.remove_dev_deps ≡ false) c.follow-came.result c.ask-answers.result.loaded (registered_files c.follow-came.new.manager)
     (g.F.Files.bytes_at c.args.files.now) asked (g.F.Files.bytes_at c.follow-came.new.files) (g.F.Files.bytes_at c.finish.new.files)
     (g.F.Files.failed c.args.files.now) (g.F.Files.failed c.ask-answers.new.files) (g.F.Files.failed c.follow-came.new.files) (g.F.Files.failed c.finish.new.files) c.finish.result c.finish.new.term.error
     c.ask-answers.ensures.whole c.follow-came.ensures.counted

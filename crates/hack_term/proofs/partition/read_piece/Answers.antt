@@ -1,5 +1,5 @@
 use Rattle.std.proofs.Common.{arith, sym}
-use Rattle.hack_versions.proofs.NumberLemmas.{number-parsed, number-unparsed}
+use Rattle.hack_base.proofs.NumberLemmas.{number-parsed, number-unparsed}
 use Rattle.hack_term.proofs.TextLemmas.{uncut-no_piece, cut-piece, joined-piece}
 use Rattle.hack_term.proofs.partition.read_piece.Goals as goal
 use Rattle.hack_term.proofs.partition.read_piece.Goals.{then-piece-eq0-via-then-piece-eq0, then-piece-eq0-via-else-piece-eq0+then-count-piece}

@@ -1,8 +1,8 @@
 use Rattle.std.proofs.Common.{◌≡◌, ◌+◌, [], ◌∷◌, ◌++◌, length, take, sym, ap, ◌∙◌, arith, string_bytes, append_assoc}
 use Rattle.std.specs.List.{join_with_byte}
 use Rattle.std.proofs.lemmas.List.{length-take-le}
-use Rattle.hack_features.specs.Names.{names_of}
-use Rattle.hack_features.proofs.NameLemmas.{names-more, join-push, length-names}
+use Rattle.hack_base.specs.Names.{names_of}
+use Rattle.hack_base.proofs.NameLemmas.{names-more, join-push, length-names}
 use Rattle.hack_features.proofs.feature.Feature.group.Goals as goal
 use Rattle.hack_features.proofs.feature.Feature.group.Goals.{then-place-gt0+in_ok-push_str, else-place-gt0}
 

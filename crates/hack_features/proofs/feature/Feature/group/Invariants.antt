@@ -1,6 +1,6 @@
 use Rattle.std.proofs.Common.{◌≡◌, take, string_bytes}
 use Rattle.std.specs.List.{join_with_byte}
-use Rattle.hack_features.specs.Names.{names_of}
+use Rattle.hack_base.specs.Names.{names_of}
 use Rattle.hack_features.proofs.feature.Feature.group.Given as goal
 
 abbrev pub invariant-loop-place : goal.invariant-loop-place

@@ -1,6 +1,6 @@
 use Rattle.std.proofs.Common.{◌≡◌, ◌+◌, ◌∷◌, ◌++◌, [], take, subst, sym, ap, ◌∙◌, arith, Contains, refl}
-use Rattle.hack_features.specs.Names.{names_of}
-use Rattle.hack_features.proofs.NameLemmas.{names-more, names-at, names-whole, missing-more, same_text, differ}
+use Rattle.hack_base.specs.Names.{names_of}
+use Rattle.hack_base.proofs.NameLemmas.{names-more, names-at, names-whole, missing-more, same_text, differ}
 use Rattle.hack_features.proofs.feature.Feature.matches.Goals as goal
 
 pub returns-then-eq : goal.returns-then-eq

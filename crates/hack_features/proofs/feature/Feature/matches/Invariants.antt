@@ -1,5 +1,5 @@
 use Rattle.std.proofs.Common.{take, Contains}
-use Rattle.hack_features.specs.Names.{names_of}
+use Rattle.hack_base.specs.Names.{names_of}
 use Rattle.hack_features.proofs.feature.Feature.matches.Given as goal
 
 abbrev pub invariant-loop-name : goal.invariant-loop-name

@@ -1,6 +1,6 @@
 use Rattle.std.proofs.Common.{◌↔◌, Any, Contains, IsTrue, subst}
 use Rattle.hack_features.specs.Feature.{group_of}
-use Rattle.hack_features.proofs.NameLemmas.{shown-any, any-shown}
+use Rattle.hack_base.proofs.NameLemmas.{shown-any, any-shown}
 use Rattle.hack_features.proofs.feature.Feature.matches_recursive.Goals as goal
 
 pub returns : goal.returns

@@ -5,8 +5,8 @@ use Rattle.hack_features.specs.Places.{AreRows, name_at}
 use Rattle.hack_features.specs.Sets.{rows_of}
 use Rattle.hack_features.specs.Table.{table}
 use Rattle.hack_features.specs.Linked.{table_of}
-use Rattle.hack_features.proofs.NameLemmas.{shown-at, length-shown}
-use Rattle.hack_features.proofs.Steps.{row_items}
+use Rattle.hack_base.proofs.NameLemmas.{shown-at, length-shown}
+use Rattle.hack_base.proofs.Steps.{row_items}
 use Rattle.hack_features.proofs.LinkLemmas.{rows-next, key_at, grown-targets}
 use Rattle.hack_features.proofs.links.Links.add_row.Goals as goal
 

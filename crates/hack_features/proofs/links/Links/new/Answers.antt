@@ -4,7 +4,7 @@ use Rattle.hack_features.specs.Sets.{rows_of}
 use Rattle.hack_features.specs.Places.{AreRows}
 use Rattle.hack_features.specs.Table.{table}
 use Rattle.hack_features.specs.Linked.{table_of}
-use Rattle.hack_features.proofs.NameLemmas.{length-shown}
+use Rattle.hack_base.proofs.NameLemmas.{length-shown}
 use Rattle.hack_features.proofs.ReachLemmas.{all_targets}
 use Rattle.hack_features.proofs.LinkLemmas.{rows-none, grown-none, grown-then, grown-bound}
 use Rattle.hack_features.proofs.links.Links.new.Goals as goal

@@ -1,8 +1,8 @@
 use Rattle.std.proofs.Common.{◌+◌, ◌++◌, ◌∷◌, [], ◌∙◌, take, sym, ap, subst}
-use Rattle.hack_features.specs.Names.{names_of}
+use Rattle.hack_base.specs.Names.{names_of}
 use Rattle.hack_features.specs.Places.{AreAt}
 use Rattle.hack_features.specs.Table.{table}
-use Rattle.hack_features.proofs.NameLemmas.{names-more}
+use Rattle.hack_base.proofs.NameLemmas.{names-more}
 use Rattle.hack_features.proofs.PlaceLemmas.{at-front, at-push, at-nothing, more-none, more-then}
 use Rattle.hack_features.proofs.names.Names.places_of.Goals as goal
 

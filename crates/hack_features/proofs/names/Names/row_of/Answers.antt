@@ -1,5 +1,5 @@
 use Rattle.std.proofs.Common.{◌∙◌, [], sym, ap, subst}
-use Rattle.hack_features.specs.Names.{names_of}
+use Rattle.hack_base.specs.Names.{names_of}
 use Rattle.hack_features.specs.Search.{Adds, IsTarget}
 use Rattle.hack_features.specs.Places.{AreAt, targets_of}
 use Rattle.hack_features.specs.Table.{table}

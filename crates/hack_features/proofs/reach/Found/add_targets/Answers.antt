@@ -1,7 +1,7 @@
 use Rattle.std.proofs.Common.{◌≡◌, ◌+◌, ◌++◌, ◌∷◌, [], take, subst, sym, ap, ◌∙◌}
-use Rattle.hack_features.specs.Names.{names_of, shown}
+use Rattle.hack_base.specs.Names.{names_of, names_behind}
 use Rattle.hack_features.specs.Search.{HasJust, Adds, IsTarget}
-use Rattle.hack_features.proofs.NameLemmas.{names-more}
+use Rattle.hack_base.proofs.NameLemmas.{names-more}
 use Rattle.hack_features.proofs.ReachLemmas.{adds-target, adds-no_target}
 use Rattle.hack_features.proofs.reach.Found.add_targets.Goals as goal
 use Rattle.hack_features.proofs.reach.Found.add_targets.Goals.{in-Some+in_ok-add, in_default}
@@ -13,16 +13,16 @@ loop-value-preserved c =
     names-more c.args.values.now c.loop-value.value-index c.value-item.result c.loop-value-test.true c.value-item.is ∙ ap (λ n. before ++ n ∷ []) (sym c.as_str.ensures.value) in
     elim c.match-target.branch [
       | in-Some+in_ok-add w ↦ record {
-        just = subst (λ f. HasJust f.seen (shown f.order.items)) (sym w.self-is) w.in_ok-add.ensures.in_step;
-        adds = subst (λ vs. Adds (IsTarget c.args.edges vs) (shown c.args.self.now.order.items) (shown c.match-target.self.order.items)) (sym more)
-            (subst (λ f. Adds (IsTarget c.args.edges (before ++ c.as_str.result.now ∷ [])) (shown c.args.self.now.order.items) (shown f.order.items)) (sym w.self-is)
-            (adds-target c.args.edges before c.as_str.result.now w.in-Some.name.now (shown c.args.self.now.order.items) (shown c.loop-value.self.order.items) (shown w.add.new.self.order.items)
+        just = subst (λ f. HasJust f.seen (names_behind f.order.items)) (sym w.self-is) w.in_ok-add.ensures.in_step;
+        adds = subst (λ vs. Adds (IsTarget c.args.edges vs) (names_behind c.args.self.now.order.items) (names_behind c.match-target.self.order.items)) (sym more)
+            (subst (λ f. Adds (IsTarget c.args.edges (before ++ c.as_str.result.now ∷ [])) (names_behind c.args.self.now.order.items) (names_behind f.order.items)) (sym w.self-is)
+            (adds-target c.args.edges before c.as_str.result.now w.in-Some.name.now (names_behind c.args.self.now.order.items) (names_behind c.loop-value.self.order.items) (names_behind w.add.new.self.order.items)
             c.loop-value.invariant.adds w.in-Some.ensures w.in_ok-add.ensures.adds));
       }
       | in_default w ↦ record {
-        just = subst (λ f. HasJust f.seen (shown f.order.items)) (sym w.self-is) c.loop-value.invariant.just;
-        adds = subst (λ vs. Adds (IsTarget c.args.edges vs) (shown c.args.self.now.order.items) (shown c.match-target.self.order.items)) (sym more)
-            (subst (λ f. Adds (IsTarget c.args.edges (before ++ c.as_str.result.now ∷ [])) (shown c.args.self.now.order.items) (shown f.order.items)) (sym w.self-is)
-            (adds-no_target c.args.edges before c.as_str.result.now (shown c.args.self.now.order.items) (shown c.loop-value.self.order.items) c.loop-value.invariant.adds w.in_default.ensures));
+        just = subst (λ f. HasJust f.seen (names_behind f.order.items)) (sym w.self-is) c.loop-value.invariant.just;
+        adds = subst (λ vs. Adds (IsTarget c.args.edges vs) (names_behind c.args.self.now.order.items) (names_behind c.match-target.self.order.items)) (sym more)
+            (subst (λ f. Adds (IsTarget c.args.edges (before ++ c.as_str.result.now ∷ [])) (names_behind c.args.self.now.order.items) (names_behind f.order.items)) (sym w.self-is)
+            (adds-no_target c.args.edges before c.as_str.result.now (names_behind c.args.self.now.order.items) (names_behind c.loop-value.self.order.items) c.loop-value.invariant.adds w.in_default.ensures));
       }
     ]

@@ -6,7 +6,7 @@ use Rattle.hack_features.specs.Places.{Leads, leads}
 use Rattle.hack_features.specs.Sets.{rows_of}
 use Rattle.hack_features.specs.Table.{table}
 use Rattle.hack_features.specs.Linked.{table_of}
-use Rattle.hack_features.proofs.Steps.{row_items}
+use Rattle.hack_base.proofs.Steps.{row_items}
 use Rattle.hack_features.proofs.LinkLemmas.{rows_inside, routes_from}
 use Rattle.hack_features.proofs.routes.Routes.new.Goals as goal
 

@@ -1,7 +1,7 @@
 use Rattle.std.proofs.Common.{◌++◌, ◌∷◌, [], sym, ap, ◌∙◌, ℕ, List, Bool}
 use Rattle.std.specs.Prelude.{nat_le, sum_by}
 use Rattle.hack_features.specs.Tables.{count_at}
-use Rattle.hack_features.proofs.Steps.{all_next, all_stop, row_items}
+use Rattle.hack_base.proofs.Steps.{all_next, all_stop, row_items}
 use Rattle.hack_features.proofs.tables.Tables.is_exclusive.Goals as goal
 
 pub returns-then-not-has_at_most_one : goal.returns-then-not-has_at_most_one

@@ -1,7 +1,7 @@
 use Rattle.std.proofs.Common.{sym, ap, ◌∙◌, List, Bool}
 use Rattle.std.specs.List.{list_any}
 use Rattle.hack_features.specs.Tables.{bit}
-use Rattle.hack_features.proofs.Steps.{all_next, all_stop, row_items}
+use Rattle.hack_base.proofs.Steps.{all_next, all_stop, row_items}
 use Rattle.hack_features.proofs.tables.Tables.is_required.Goals as goal
 
 pub returns-then-not-has_some : goal.returns-then-not-has_some

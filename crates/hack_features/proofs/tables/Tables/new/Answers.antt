@@ -3,7 +3,7 @@ use Rattle.std.proofs.lemmas.List.{length-map}
 use Rattle.hack_features.specs.Sets.{rows_of}
 use Rattle.hack_features.specs.Given.{choice_in}
 use Rattle.hack_features.specs.Routed.{names_in}
-use Rattle.hack_features.proofs.Steps.{row_items}
+use Rattle.hack_base.proofs.Steps.{row_items}
 use Rattle.hack_features.proofs.TableLemmas.{spares_iff, exclusive_iff, required_iff}
 use Rattle.hack_features.proofs.tables.Tables.new.Goals as goal
 

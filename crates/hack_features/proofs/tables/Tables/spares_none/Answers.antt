@@ -4,7 +4,8 @@ use Rattle.std.proofs.lemmas.Bool.{ltb-false}
 use Rattle.std.proofs.lemmas.List.{length-map}
 use Rattle.hack_features.specs.Sets.{rows_of}
 use Rattle.hack_features.specs.Tables.{cell}
-use Rattle.hack_features.proofs.Steps.{all_always, past_end, row_items}
+use Rattle.hack_base.proofs.Steps.{all_always, row_items}
+use Rattle.hack_features.proofs.CandidateLemmas.{past_end}
 use Rattle.hack_features.proofs.tables.Tables.spares_none.Goals as goal
 
 pub returns-in-None : goal.returns-in-None

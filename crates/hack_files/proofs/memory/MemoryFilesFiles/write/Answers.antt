@@ -1,9 +1,9 @@
-use Rattle.hack_files.specs.Memory.{nothing}
+use Rattle.hack_files.specs.Memory.{no_contents}
 use Rattle.hack_files.proofs.FilesLemmas.{made, makes_here, makes_others}
 use Rattle.hack_files.proofs.memory.MemoryFilesFiles.write.Goals as goal
 
 pub returns-in-Ok-clause-traced : goal.returns-in-Ok-clause-traced
-returns-in-Ok-clause-traced c = λ _. made _ _ _ nothing c.in-Ok.ensures.ok
+returns-in-Ok-clause-traced c = λ _. made _ _ _ no_contents c.in-Ok.ensures.ok
 
 pub returns-in-Ok-clause-written : goal.returns-in-Ok-clause-written
 returns-in-Ok-clause-written c = λ t. makes_here _ _ _ _ _ (returns-in-Ok-clause-traced c t)

@@ -1,17 +1,17 @@
 use Rattle.std.proofs.Common.{length, ap, ◌<◌, arith, rules, map}
-use Rattle.hack_files.specs.Restore.{kept}
+use Rattle.hack_files.specs.Restore.{kept_file}
 use Rattle.hack_files.proofs.RestoreLemmas.{so_far_none, so_far_written, so_far_failed, brings_all, tried_none, tried_written, tried_failed, grows_more, is_at, IsAt, noted_none, noted_failed, noted_written, grows_still, below_kept, end_kept}
 use Rattle.hack_files.proofs.restore.Manager.restore_all.Goals as goal
 use Rattle.hack_files.proofs.restore.Manager.restore_all.Goals.{then-not-put_back, else-not-put_back}
 
 pub loop-file-init : goal.loop-file-init
 loop-file-init g c =
-    (omega arith, search rules, (λ low. omega (arith, low)), (λ _. so_far_none _ _), (λ _. tried_none (map kept c.deref-file-items.result.now) _ _), noted_none _, search rules)
+    (omega arith, search rules, (λ low. omega (arith, low)), (λ _. so_far_none _ _), (λ _. tried_none (map kept_file c.deref-file-items.result.now) _ _), noted_none _, search rules)
 
 pub loop-file-preserved : goal.loop-file-preserved
 loop-file-preserved g c =
-    let at : IsAt (map kept c.deref-file-items.result.now) c.loop-file.file-index (kept c.file-item.result) = is_at c.deref-file-items.result.now c.loop-file.file-index c.file-item.result c.loop-file-test.true c.file-item.is in
-    let lt : c.loop-file.file-index < length (map kept c.deref-file-items.result.now) = below_kept _ _ c.loop-file-test.true in
+    let at : IsAt (map kept_file c.deref-file-items.result.now) c.loop-file.file-index (kept_file c.file-item.result) = is_at c.deref-file-items.result.now c.loop-file.file-index c.file-item.result c.loop-file-test.true c.file-item.is in
+    let lt : c.loop-file.file-index < length (map kept_file c.deref-file-items.result.now) = below_kept _ _ c.loop-file-test.true in
     let before = c.loop-file.invariant in
     elim c.if-not-put_back.branch [
       | then-not-put_back w ↦

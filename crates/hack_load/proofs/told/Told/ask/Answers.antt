@@ -8,6 +8,6 @@ use Rattle.hack_load.proofs.told.Told.ask.Goals as goal
 pub returns-clause-ok : goal.returns-clause-ok
 returns-clause-ok g c =
     let is : command_of c.in_ok-asked.asked ≡ self_command (string_bytes c.args.env.now.cargo) = search rules in
-    IfOk-weaker c.failed.result _ _ (λ t h told.
+    IfOk-weaker c.of_failure.result _ _ (λ t h told.
     self-failed g.C.Caller.tells c.args.args.now c.args.env.now (command_of c.in_ok-asked.asked) c.as_str.result.now (g.C.Caller.calls c.args.caller.now) (g.C.Caller.calls c.read.new.caller)
-    c.in-Err.fault _ _ is c.as_str.ensures.value c.in-Err.ensures.err told h) c.failed.ensures
+    c.in-Err.fault _ _ is c.as_str.ensures.value c.in-Err.ensures.err told h) c.of_failure.ensures

@@ -1,6 +1,6 @@
 use Rattle.std.proofs.lemmas.Result.{err_from_is_err_and}
 use Rattle.std.proofs.Common.{inl}
-use Rattle.hack_files.specs.Restore.{registered}
+use Rattle.hack_files.specs.Restore.{registered_files}
 use Rattle.hack_metadata.proofs.AskWays.{restored}
 use Rattle.hack_metadata.proofs.ask.Question.read_over.Goals as goal
 
@@ -12,9 +12,9 @@ returns-in_err-keep-clause-err g c =
 pub returns-in-Ok-clause-left : goal.returns-in-Ok-clause-left
 returns-in-Ok-clause-left g c =
     restored c.args.lockfile.now g.F.Files.tells (g.F.Files.bytes_at c.args.files.now) (g.F.Files.bytes_at c.keep.new.files) (g.F.Files.bytes_at c.put_back.new.files) (g.F.Files.failed c.args.files.now) (g.F.Files.failed c.keep.new.files) (g.F.Files.failed c.put_back.new.files)
-    (registered c.args.manager.now) (registered c.keep.new.manager) c.in_ok-keep.ensures.left c.in_ok-keep.ensures.ok c.in_ok-put_back.ensures.back
+    (registered_files c.args.manager.now) (registered_files c.keep.new.manager) c.in_ok-keep.ensures.left c.in_ok-keep.ensures.ok c.in_ok-put_back.ensures.back
 
 pub returns-in-Err-clause-left : goal.returns-in-Err-clause-left
 returns-in-Err-clause-left g c =
     inl (restored c.args.lockfile.now g.F.Files.tells (g.F.Files.bytes_at c.args.files.now) (g.F.Files.bytes_at c.keep.new.files) (g.F.Files.bytes_at c.put_back.new.files) (g.F.Files.failed c.args.files.now) (g.F.Files.failed c.keep.new.files) (g.F.Files.failed c.put_back.new.files)
-    (registered c.args.manager.now) (registered c.keep.new.manager) c.in_ok-keep.ensures.left c.in_ok-keep.ensures.ok c.in_ok-put_back.ensures.back)
+    (registered_files c.args.manager.now) (registered_files c.keep.new.manager) c.in_ok-keep.ensures.left c.in_ok-keep.ensures.ok c.in_ok-put_back.ensures.back)

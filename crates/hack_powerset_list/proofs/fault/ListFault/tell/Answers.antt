@@ -1,5 +1,5 @@
 use Rattle.std.proofs.Common.{◌++◌, codes, ap, subst}
-use Rattle.hack_term.specs.Writes.{AppendsFront}
+use Rattle.hack_base.specs.Writes.{AppendsFront}
 use Rattle.hack_powerset_list.specs.Faults.{fault_text}
 use Rattle.hack_powerset_list.proofs.PageLemmas.{parts-end}
 use Rattle.hack_powerset_list.proofs.fault.ListFault.tell.Goals as goal

@@ -1,5 +1,5 @@
 use Rattle.std.proofs.Common.{◌≡◌, length}
-use Rattle.hack_features.specs.Names.{names_of}
+use Rattle.hack_base.specs.Names.{names_of}
 use Rattle.hack_powerset_list.specs.Words.{none_written, with_words}
 use Rattle.hack_powerset_list.specs.WishesView.{written_in}
 use Rattle.hack_powerset_list.proofs.wishes.Values.of.Given as goal

@@ -1,7 +1,7 @@
 use Rattle.std.proofs.Common.{◌++◌, ◌∙◌, refl, sym, ap, append_assoc, string_bytes, true}
 use Rattle.std.proofs.lemmas.Grind.{put_two}
 use Rattle.hack_process.specs.CommandTexts.{each_spaced}
-use Rattle.hack_process.specs.OwnWords.{shown_own, pending}
+use Rattle.hack_process.specs.OwnWords.{shown_own, pending_option}
 use Rattle.hack_process.proofs.CommandLemmas.{shown-more, shown-end}
 use Rattle.hack_process.proofs.process.OwnWordsDisplay.fmt.Goals as goal
 
@@ -22,4 +22,4 @@ returns-in_ok-write-2-clause-writes g c p e =
     let self = c.args.self.now in
     let so_far = c.loop-word.invariant p in
     let end = shown-end string_bytes self.full self.dir.now c.loop-word.awaits_path self.words.now c.loop-word.word-index c.loop-word-test.false in
-    put_two g.W.Write.write_str_gives _ _ _ so_far.0 (each_spaced (pending true)) _ so_far.1 (c.in_ok-write-2.ensures.writes so_far.1.plain e) (sym (so_far.2 ∙ ap (λ l. so_far.0 ++ l) (end ∙ ap (λ b. each_spaced (pending b)) c.if-awaits_path.true)))
+    put_two g.W.Write.write_str_gives _ _ _ so_far.0 (each_spaced (pending_option true)) _ so_far.1 (c.in_ok-write-2.ensures.writes so_far.1.plain e) (sym (so_far.2 ∙ ap (λ l. so_far.0 ++ l) (end ∙ ap (λ b. each_spaced (pending_option b)) c.if-awaits_path.true)))

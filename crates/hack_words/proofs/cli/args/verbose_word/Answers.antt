@@ -1,6 +1,6 @@
 use Rattle.std.proofs.Common.{ap, sym, ◌∙◌, ◌++◌, append_assoc, codes}
 use Rattle.std.specs.List.{repeat}
-use Rattle.hack_term.proofs.ListLemmas.{repeat-more}
+use Rattle.hack_base.proofs.ListLemmas.{repeat-more}
 use Rattle.hack_words.proofs.cli.args.verbose_word.Goals as goal
 
 pub loop-preserved : goal.loop-preserved

@@ -3,8 +3,11 @@ use Rattle.std.proofs.lemmas.Result.{err_from_is_err_and}
 use Rattle.hack_uses.specs.Uses.{views, subcommand_of}
 use Rattle.hack_rules.specs.CliFaults.{fault_of}
 use Rattle.hack_rules.specs.declared.fault.CliFault.TheVariants as fault
-use Rattle.hack_rules.specs.Listed.{listed}
-use Rattle.hack_rules.specs.Rules.{Accepted, bare_verdict, first_of, refused_by, rules_after, rules_before}
+use Rattle.hack_rules.specs.Listed.{listed_by}
+use Rattle.hack_rules.specs.Rules.{Accepted, first_of, refused_by}
+use Rattle.hack_rules.specs.Early.{rules_before}
+use Rattle.hack_rules.specs.Bare.{bare_verdict}
+use Rattle.hack_rules.specs.Late.{rules_after}
 use Rattle.hack_words.specs.Answers.{around_in}
 use Rattle.hack_words.proofs.AnswerLemmas.{bare-refused}
 use Rattle.hack_words.proofs.cli.parse.keep_rules.Goals as goal
@@ -15,5 +18,5 @@ returns-in_err-lists_commands c =
     let e = c.in_err-lists_commands.field-0.0 in
     let around = around_in c.args.around in
     let us = views c.args.uses.now in
-    let kept : first_of (rules_before c.args.call.now.behavior around.term_color (listed us) us) ≡ None = search rules in
-    rw (p.1, p.2) (bare-refused (fault_of e) (e ≡ fault.Memory) _ (bare_verdict c.args.call.now.behavior (subcommand_of us) us) (refused_by (first_of (rules_after around.rustup (listed us) us)) Accepted) kept (c.in_err-lists_commands.ensures c.args.call.now.behavior (search rules)))
+    let kept : first_of (rules_before c.args.call.now.behavior around.term_color (listed_by us) us) ≡ None = search rules in
+    rw (p.1, p.2) (bare-refused (fault_of e) (e ≡ fault.Memory) _ (bare_verdict c.args.call.now.behavior (subcommand_of us) us) (refused_by (first_of (rules_after around.rustup (listed_by us) us)) Accepted) kept (c.in_err-lists_commands.ensures c.args.call.now.behavior (search rules)))

@@ -1,5 +1,5 @@
 use Rattle.std.proofs.Common.{◌≡◌, ◌++◌, take, drop}
-use Rattle.hack_features.specs.Names.{names_of}
+use Rattle.hack_base.specs.Names.{names_of}
 use Rattle.hack_words.specs.Start.{front_words, trailing_words}
 use Rattle.hack_words.proofs.cli.start.split_at_dashes.Given as goal
 

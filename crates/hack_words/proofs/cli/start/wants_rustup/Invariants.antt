@@ -1,6 +1,6 @@
 use Rattle.std.proofs.Common.{◌≡◌, drop}
 use Rattle.std.specs.List.{list_any}
-use Rattle.hack_features.specs.Names.{names_of}
+use Rattle.hack_base.specs.Names.{names_of}
 use Rattle.hack_words.specs.Start.{is_range_word, wants_rustup}
 use Rattle.hack_words.proofs.cli.start.wants_rustup.Given as goal
 

@@ -1,7 +1,7 @@
 use Rattle.std.proofs.Common.{map}
 use Rattle.std.proofs.lemmas.Result.{IfOk-weaker}
-use Rattle.hack_features.specs.Names.{names_of}
-use Rattle.hack_versions.specs.Notes.{note_of}
+use Rattle.hack_base.specs.Names.{names_of}
+use Rattle.hack_base.specs.Notes.{note_of}
 use Rattle.hack_words.specs.Answers.{Answers, BreakNoRule, around_of}
 use Rattle.hack_words.specs.Call.{ComesTo}
 use Rattle.hack_words.proofs.AnswerLemmas.{answers-never}

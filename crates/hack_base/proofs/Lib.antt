@@ -1,0 +1,10 @@
+pub mod Members
+pub mod Passes
+pub mod Steps
+pub mod NameLemmas
+pub mod CutLemmas
+pub mod NumberLemmas
+pub mod ListLemmas
+pub mod PathLemmas
+pub mod NormalLemmas
+pub mod WriteLemmas

@@ -1,0 +1,11 @@
+use Rattle.std.proofs.Common.{◌∙◌}
+use Rattle.std.proofs.lemmas.Iterator.Consumers.{YieldsList-end}
+use Rattle.std.proofs.lemmas.Iterator.Splits.{YieldsList-from_str_split}
+use Rattle.hack_base.specs.Lists.{separator_of}
+use Rattle.hack_base.proofs.ListLemmas.{separator_of-ascii}
+use Rattle.hack_base.proofs.lists.split_group.Goals as goal
+
+pub returns : goal.returns
+returns c =
+    let end = YieldsList-end (YieldsList-from_str_split (separator_of c.args.text.now) c.args.text.now (separator_of-ascii c.args.text.now) (cc) (cc) (cc)) c.loop-name.yielded _ c.loop-name.yielded_by _ _ c.in-None.is c.next.ensures.steps in
+    c.loop-name.invariant ∙ end.0

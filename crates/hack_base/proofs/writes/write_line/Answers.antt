@@ -1,0 +1,16 @@
+use Rattle.std.proofs.Common.{◌++◌, codes}
+use Rattle.std.proofs.KnownBytes.{Appends-trans}
+use Rattle.hack_base.proofs.WriteLemmas.{AppendsFront-then, AppendsFront-append}
+use Rattle.hack_base.proofs.writes.write_line.Goals as goal
+
+pub returns-in_err-write_front-clause-front : goal.returns-in_err-write_front-clause-front
+returns-in_err-write_front-clause-front g c =
+    AppendsFront-append _ _ (c.args.label.now ++ c.args.text.now) (codes "\n") (AppendsFront-append _ _ c.args.label.now c.args.text.now c.write_front.ensures.front)
+
+pub returns-in_err-write_front-2-clause-front : goal.returns-in_err-write_front-2-clause-front
+returns-in_err-write_front-2-clause-front g c =
+    AppendsFront-append _ _ (c.args.label.now ++ c.args.text.now) (codes "\n") (AppendsFront-then _ _ _ c.args.label.now c.args.text.now c.in_ok-write_front.ensures.all c.write_front-2.ensures.front)
+
+pub returns-clause-front : goal.returns-clause-front
+returns-clause-front g c =
+    AppendsFront-then _ _ _ (c.args.label.now ++ c.args.text.now) (codes "\n") (Appends-trans _ _ _ c.args.label.now c.args.text.now c.in_ok-write_front.ensures.all c.in_ok-write_front-2.ensures.all) c.write_front-3.ensures.front

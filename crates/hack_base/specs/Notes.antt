@@ -1,0 +1,21 @@
+-- Notices, as definitions see them.
+use Rattle.std.specs.Prelude.{◌≡◌, ℕ, List, [], ◌∷◌, ◌++◌, Bool, Vec, map, string_bytes, if◌then◌else◌}
+use Rattle.hack_base.specs.declared.notice.Notice.{Notice}
+use Rattle.hack_base.specs.declared.notice.NoticeKind.{NoticeKind}
+
+-- a kind and a line of text
+pub record Note : Type 0 where
+  pub kind : NoticeKind
+  pub text : List ℕ
+
+-- what a notice says
+abbrev pub note_of : Notice → Note
+note_of notice = record { kind = notice.kind; text = string_bytes notice.text }
+
+-- a notice where a test is true
+abbrev pub note_if : Bool → NoticeKind → List ℕ → List Note
+note_if b kind text = if b then record { kind = kind; text = text } ∷ [] else []
+
+-- these notices stand behind those that were there
+abbrev pub AddsNotes : {Y Z : Type 0} → Vec Notice Y → Vec Notice Z → List Note → Type 0
+AddsNotes old new notes = map note_of new.items ≡ map note_of old.items ++ notes

@@ -1,0 +1,39 @@
+//! Copies of texts.
+
+ghost use Rattle.std.specs.Prelude.{◌≡◌, ◌++◌, IfOk, OnOk, map};
+ghost use Rattle.hack_base.specs.Names.{names_of, optional_text, optional_text_ref};
+
+use std::alloc::{AllocError, Global};
+use std::convert::AsStr;
+
+/// Copies of texts, in order.
+pub fn copies<T: AsStr>(alloc: Global, texts: &[T]) -> Result<Vec<String>, AllocError>
+    ensures { IfOk result (λ copies. names_of copies.items ≡ map T.text texts.now) }
+{
+    let mut copies = Vec::with_capacity(alloc, texts.len())?;
+    for text in texts {
+        copies.push(String::from_str(alloc, text.as_str())?)?;
+    }
+    Ok(copies)
+}
+
+/// Puts copies of texts behind those before them.
+pub fn push_copies(texts: &mut Vec<String>, more: &[String]) -> Result<(), AllocError>
+    ensures { OnOk result (names_of texts.new.items
+        ≡ names_of texts.old.items ++ names_of more.now) }
+{
+    for text in more {
+        texts.push(text.clone()?)?;
+    }
+    Ok(())
+}
+
+/// A copy of a text, where there is one.
+pub fn copy_of(text: Option<&String>) -> Result<Option<String>, AllocError>
+    ensures { IfOk result (λ copy. optional_text copy ≡ optional_text_ref text.entry) }
+{
+    match text {
+        Some(text) => Ok(Some(text.clone()?)),
+        None => Ok(None),
+    }
+}

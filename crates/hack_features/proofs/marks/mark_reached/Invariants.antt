@@ -1,0 +1,15 @@
+use Rattle.std.proofs.Common.{◌≡◌, ◌-◌, length}
+use Rattle.hack_features.specs.Sets.{rows_of}
+use Rattle.hack_features.specs.Places.{AreMarked}
+use Rattle.hack_features.proofs.MarkLemmas.{Marking}
+use Rattle.hack_features.proofs.marks.mark_reached.Given as goal
+
+abbrev pub invariant-loop-next : goal.invariant-loop-next
+invariant-loop-next l = record {
+  marked : AreMarked l.found.marks.items l.found.order.items;
+  size : length l.found.marks.items ≡ length l.rows;
+  marking : Marking (rows_of l.rows) l.start l.found.order.items l.next;
+}
+
+abbrev pub decreases-loop-next : goal.decreases-loop-next
+decreases-loop-next l = length l.rows - l.next

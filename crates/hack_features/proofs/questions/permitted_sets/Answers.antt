@@ -1,0 +1,19 @@
+use Rattle.std.proofs.Common.{◌≡◌, ap, ◌∙◌, sym, subst, arith, All, IsTrue}
+use Rattle.hack_features.specs.Sets.{IsSelection, IsListing}
+use Rattle.hack_features.proofs.Permitted.{permitted_below, permitted_listing, all_selections}
+use Rattle.hack_features.proofs.questions.permitted_sets.Goals as goal
+
+pub extend-requires-clause-below : goal.extend-requires-clause-below
+extend-requires-clause-below g c =
+    subst (λ ls. All (IsSelection c.loop-next.next) ls) (sym c.loop-next.invariant.sets)
+    (all_selections (g.Q.Questions.may c.args.questions.now) (g.met.Q.Questions.empty c.args.questions.now) (g.met.Q.Questions.closed c.args.questions.now) c.loop-next.next)
+
+pub extend-requires-clause-most : goal.extend-requires-clause-most
+extend-requires-clause-most g c = λ s may.
+    c.most-most.ensures s (subst (λ m. IsTrue (m s)) c.loop-next.invariant.same_may may)
+
+pub returns-clause-sets : goal.returns-clause-sets
+returns-clause-sets g c =
+    let all : c.loop-next.next ≡ c.args.n = omega arith in
+    subst (λ ls. IsListing c.args.n (λ s. IsTrue (g.Q.Questions.may c.args.questions.now s)) ls) (sym (c.loop-next.invariant.sets ∙ ap (permitted_below (g.Q.Questions.may c.args.questions.now)) all))
+    (permitted_listing (g.Q.Questions.may c.args.questions.now) (g.met.Q.Questions.empty c.args.questions.now) (g.met.Q.Questions.closed c.args.questions.now) c.args.n)

@@ -1,0 +1,102 @@
+//! What covers a set: another one inside it that enables the same names.
+
+ghost use Rattle.std.specs.Prelude.{◌≡◌, ◌<◌, [], length, slice_index, vec_len, IfOk};
+ghost use Rattle.std.specs.Prelude.{if◌then◌else◌};
+ghost use Rattle.std.specs.List.{list_any, slice_index_or, remove};
+ghost use Rattle.hack_features.specs.Sets.{IsSelection, rows_of};
+ghost use Rattle.hack_features.specs.Rules.{Choice, IsFirstCover, IsWanted};
+ghost use Rattle.hack_features.specs.Tables.{leads};
+ghost use Rattle.hack_features.specs.PlacedView.{IsPlaced};
+ghost use Rattle.hack_features.specs.Cover.{set_enables_test, covers_test};
+ghost use Rattle.hack_features.specs.declared.reach.Edges.TheVariants.{Enabling};
+
+use crate::marks::row_at;
+use crate::placed::Placed;
+use crate::routes::Routes;
+use std::alloc::{AllocError, Global};
+
+/// The set without each member, from the greatest on, that those left then cover.
+pub(crate) fn first_cover(
+    alloc: Global,
+    enabled: &Placed,
+    positions: &[usize],
+) -> Result<Vec<usize>, AllocError>
+    ensures { IfOk result (λ kept. (c : Choice)
+        → IsPlaced Enabling c.map c.candidates c.at_least_one_of enabled.now
+        → IsSelection (length c.candidates) positions.now → IsWanted c positions.now
+        → IsFirstCover c positions.now kept.items) }
+{
+    let mut kept = Vec::from_slice(alloc, positions)?;
+    let mut place = positions.len();
+    while place > 0 {
+        place -= 1;
+        kept = without(alloc, enabled, kept, place)?;
+    }
+    Ok(kept)
+}
+
+/// Whether one of the names leads to `y`.
+fn some_leads(routes: &Routes, names: &[usize], y: usize) -> bool
+    ensures { result ≡ list_any (λ x. leads (rows_of routes.now.marks.items) x y) names.now }
+{
+    for x in names {
+        if routes.leads(*x, y) {
+            return true;
+        }
+    }
+    false
+}
+
+/// Whether a name of a member of the set enables `y`.
+fn set_enables(enabled: &Placed, positions: &[usize], y: usize) -> bool
+    ensures { result ≡ set_enables_test (rows_of enabled.now.routes.marks.items)
+        (rows_of enabled.now.candidates.items) positions.now y }
+{
+    for p in positions {
+        let names = row_at(enabled.candidates.as_slice(), *p);
+        if some_leads(&enabled.routes, names, y) {
+            return true;
+        }
+    }
+    false
+}
+
+/// Whether the set is not empty and enables each of the names.
+fn covers(enabled: &Placed, positions: &[usize], names: &[usize]) -> bool
+    ensures { result ≡ covers_test (rows_of enabled.now.routes.marks.items)
+        (rows_of enabled.now.candidates.items) positions.now names.now }
+{
+    if positions.is_empty() {
+        return false;
+    }
+    for y in names {
+        if !set_enables(enabled, positions, *y) {
+            return false;
+        }
+    }
+    true
+}
+
+/// The set without the place, where what is left covers what stands there, else the set as it is.
+fn without(
+    alloc: Global,
+    enabled: &Placed,
+    kept: Vec<usize>,
+    place: usize,
+) -> Result<Vec<usize>, AllocError>
+    requires { place < vec_len kept }
+    ensures { IfOk result (λ next. next.items
+        ≡ (if covers_test (rows_of enabled.now.routes.marks.items)
+        (rows_of enabled.now.candidates.items) (remove kept.items place)
+        (slice_index_or (rows_of enabled.now.candidates.items)
+        (slice_index kept.items place) []) then remove kept.items place else kept.items)) }
+{
+    let mut rest = Vec::from_slice(alloc, kept.as_slice())?;
+    let p = rest.remove(place);
+    let names = row_at(enabled.candidates.as_slice(), p);
+    if covers(enabled, rest.as_slice(), names) {
+        Ok(rest)
+    } else {
+        Ok(kept)
+    }
+}

@@ -1,0 +1,7 @@
+use Rattle.std.proofs.Common.{◌≡◌, drop}
+use Rattle.hack_uses.specs.Uses.{views}
+use Rattle.hack_rules.specs.Early.{single_rule}
+use Rattle.hack_rules.proofs.early.lists_two.Given as goal
+
+abbrev pub invariant-loop-one : goal.invariant-loop-one
+invariant-loop-one l = single_rule l.option (views l.uses) ≡ single_rule l.option (views (drop l.one-index l.uses))

@@ -1,8 +1,0 @@
-use Rattle.std.proofs.Common.{◌≡◌, drop}
-use Rattle.std.specs.List.{list_any}
-use Rattle.hack_uses.specs.Uses.{views}
-use Rattle.hack_rules.specs.Asked.{is_message_format}
-use Rattle.hack_rules.proofs.late_rules.formats_messages.Given as goal
-
-abbrev pub invariant-loop-one : goal.invariant-loop-one
-invariant-loop-one l = list_any is_message_format (views l.uses) ≡ list_any is_message_format (views (drop l.one-index l.uses))

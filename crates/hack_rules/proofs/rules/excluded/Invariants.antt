@@ -1,8 +1,0 @@
-use Rattle.std.proofs.Common.{◌≡◌, drop}
-use Rattle.hack_features.specs.Names.{names_of}
-use Rattle.hack_rules.specs.ListsView.{listed_in}
-use Rattle.hack_rules.specs.Rules.{excluded_rule}
-use Rattle.hack_rules.proofs.rules.excluded.Given as goal
-
-abbrev pub invariant-loop-name : goal.invariant-loop-name
-invariant-loop-name l = excluded_rule (listed_in l.lists) (listed_in l.lists).excludes ≡ excluded_rule (listed_in l.lists) (names_of (drop l.name-index l.name-items))

@@ -1,7 +1,0 @@
-use Rattle.std.proofs.Common.{◌≡◌, drop}
-use Rattle.hack_uses.specs.Uses.{views}
-use Rattle.hack_rules.specs.Rules.{single_rule}
-use Rattle.hack_rules.proofs.rules.lists_two.Given as goal
-
-abbrev pub invariant-loop-one : goal.invariant-loop-one
-invariant-loop-one l = single_rule l.option (views l.uses) ≡ single_rule l.option (views (drop l.one-index l.uses))

@@ -1,0 +1,15 @@
+-- What uses of options come to by all rules.
+use Rattle.std.specs.Prelude.{ℕ, List, Option}
+use Rattle.hack_uses.specs.declared.behavior.WorkspaceBehavior.{WorkspaceBehavior}
+use Rattle.hack_uses.specs.Uses.{Use, subcommand_of}
+use Rattle.hack_rules.specs.Listed.{listed_by}
+use Rattle.hack_rules.specs.Rules.{Verdict, Accepted, first_of, refused_by, verdict_or}
+use Rattle.hack_rules.specs.Early.{rules_before}
+use Rattle.hack_rules.specs.Bare.{bare_verdict}
+use Rattle.hack_rules.specs.Late.{rules_after}
+
+-- the verdict on uses: the first rule that gives a fault refuses them
+abbrev pub verdict_of : WorkspaceBehavior → Option (List ℕ) → Option ℕ → List Use → Verdict
+verdict_of behavior term_color rustup us =
+    refused_by (first_of (rules_before behavior term_color (listed_by us) us))
+    (verdict_or (bare_verdict behavior (subcommand_of us) us) (refused_by (first_of (rules_after rustup (listed_by us) us)) Accepted))

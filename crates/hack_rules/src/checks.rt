@@ -1,0 +1,51 @@
+//! The checks that rules are made of.
+
+ghost use Rattle.std.specs.Prelude.{◌≡◌};
+ghost use Rattle.hack_base.specs.Names.{names_of};
+ghost use Rattle.hack_uses.specs.Uses.{views};
+ghost use Rattle.hack_rules.specs.CliFaults.{Checks};
+ghost use Rattle.hack_rules.specs.Rules.{needs as needs_rule, clash as clash_rule};
+ghost use Rattle.hack_rules.specs.Rules.{is_nonempty, is_among};
+
+use crate::fault::{Beside, CliFault};
+use hack_options::Opt;
+use hack_uses::{Use, given};
+
+/// Refused where an option is there, and nothing that it stands beside is.
+pub fn needs(there: bool, option: Opt, beside: Beside, others: bool) -> Result<(), CliFault>
+    ensures { Checks result (needs_rule there option beside others) }
+{
+    if there && !others {
+        return Err(CliFault::Needs { option, beside });
+    }
+    Ok(())
+}
+
+/// Refused where both options are there.
+pub fn clash(option: Opt, other: Opt, uses: &[Use]) -> Result<(), CliFault>
+    ensures { Checks result (clash_rule option other (views uses.now)) }
+{
+    if given(option, uses) && given(other, uses) {
+        return Err(CliFault::Clash { option, other });
+    }
+    Ok(())
+}
+
+/// There is a name.
+pub fn has_some(names: &[String]) -> bool
+    ensures { result ≡ is_nonempty (names_of names.now) }
+{
+    !names.is_empty()
+}
+
+/// One of the names.
+pub fn has(names: &[String], name: &str) -> bool
+    ensures { result ≡ is_among (names_of names.now) name.now }
+{
+    for one in names {
+        if one.as_str() == name {
+            return true;
+        }
+    }
+    false
+}

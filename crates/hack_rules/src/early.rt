@@ -1,0 +1,418 @@
+//! The rules before that on a missing subcommand. Each is checked in its order, and the first that
+//! is broken gives the fault.
+
+ghost use Rattle.std.specs.Prelude.{◌≡◌, IfOk, option_map};
+ghost use Rattle.hack_features.specs.Feature.{groups_of};
+ghost use Rattle.hack_base.specs.Names.{names_of, optional_text_ref};
+ghost use Rattle.hack_uses.specs.Passed.{leading_of};
+ghost use Rattle.hack_uses.specs.Uses.{views, is_given, subcommand_of};
+ghost use Rattle.hack_uses.specs.Values.{value_given};
+ghost use Rattle.hack_rules.specs.Asked.{coloring_asked, depth_asked};
+ghost use Rattle.hack_rules.specs.CliFaults.{Checks};
+ghost use Rattle.hack_rules.specs.CliValues.{depth_fault};
+ghost use Rattle.hack_rules.specs.ListsView.{listed_in};
+ghost use Rattle.hack_rules.specs.Rules.{needs as needs_rule, first_of, of_value};
+ghost use Rattle.hack_rules.specs.Early.{is_in_group, is_optional};
+ghost use Rattle.hack_rules.specs.Early.{color_rule, unknown_rule, each_rules, powerset_rules};
+ghost use Rattle.hack_rules.specs.Early.{single_rule, single_rules, subcommand_rule, cargo_rule};
+ghost use Rattle.hack_rules.specs.Early.{is_target_flag as target_flag};
+ghost use Rattle.hack_rules.specs.Early.{is_target_name as target_name, first_target_word};
+ghost use Rattle.hack_rules.specs.Early.{target_rule, include_rules, pair_rules};
+ghost use Rattle.hack_rules.specs.Early.{option_naming as naming_option, excluded_rule};
+ghost use Rattle.hack_rules.specs.Early.{early_rules};
+ghost use Rattle.hack_rules.specs.Early.{together_rules, rules_before, is_each as each};
+
+use crate::checks::{clash, has, has_some, needs};
+use crate::fault::{Beside, CliFault};
+use crate::listed::Lists;
+use crate::values;
+use hack_base::lists::has_separator;
+use hack_features::Feature;
+use hack_options::Opt;
+use hack_term::term::Coloring;
+use hack_uses::{Use, WorkspaceBehavior, given, subcommand, value};
+use std::alloc::Global;
+
+fn group_has(groups: &[Feature], name: &str) -> bool
+    ensures { result ≡ is_in_group (groups_of groups.now) name.now }
+{
+    for group in groups {
+        if has(group.as_group(), name) {
+            return true;
+        }
+    }
+    false
+}
+
+/// The colouring of the words, else that of the environment.
+fn coloring(term_color: Option<&String>, uses: &[Use]) -> Result<Coloring, CliFault>
+    ensures rule { Checks result (color_rule (value_given Opt.Color (views uses.now))
+        (optional_text_ref term_color.entry)) }
+    ensures value { IfOk result (λ coloring. coloring
+        ≡ coloring_asked (optional_text_ref term_color.entry)
+        (views uses.now)) }
+{
+    if let Some(said) = value(Opt::Color, uses) {
+        return match Coloring::parse(said.as_str()) {
+            Some(coloring) => Ok(coloring),
+            None => Err(CliFault::Color {
+                found: said.clone()?,
+            }),
+        };
+    }
+    let Some(found) = term_color else {
+        return Ok(Coloring::Auto);
+    };
+    match Coloring::parse(found.as_str()) {
+        Some(coloring) => Ok(coloring),
+        None => Err(CliFault::TermColor {
+            found: found.clone()?,
+        }),
+    }
+}
+
+/// Unknown features are ignored in a list of features.
+fn beside_lists(lists: &Lists, uses: &[Use]) -> Result<(), CliFault>
+    ensures { Checks result (unknown_rule (listed_in lists.now) (views uses.now)) }
+{
+    let there = has_some(lists.features.as_slice())
+        || has_some(lists.include_features.as_slice())
+        || given(Opt::GroupFeatures, uses);
+    let option = Opt::IgnoreUnknownFeatures;
+    needs(given(option, uses), option, Beside::FeatureLists, there)
+}
+
+fn is_each(uses: &[Use]) -> bool
+    ensures { result ≡ each (views uses.now) }
+{
+    given(Opt::EachFeature, uses) || given(Opt::FeaturePowerset, uses)
+}
+
+/// Refused where the option is there and `--each-feature` and `--feature-powerset` are not.
+fn needs_each(there: bool, option: Opt, uses: &[Use]) -> Result<(), CliFault>
+    ensures { Checks result (needs_rule there option Beside.EachOrPowerset
+        (each (views uses.now))) }
+{
+    needs(there, option, Beside::EachOrPowerset, is_each(uses))
+}
+
+/// What stands beside `--each-feature` or `--feature-powerset`.
+fn beside_each(lists: &Lists, uses: &[Use]) -> Result<(), CliFault>
+    ensures { Checks result (first_of (each_rules (listed_in lists.now) (views uses.now))) }
+{
+    needs_each(given(Opt::OptionalDeps, uses), Opt::OptionalDeps, uses)?;
+    let excludes = has_some(lists.exclude_features.as_slice());
+    needs_each(excludes, Opt::ExcludeFeatures, uses)?;
+    let option = Opt::ExcludeNoDefaultFeatures;
+    needs_each(given(option, uses), option, uses)?;
+    let option = Opt::ExcludeAllFeatures;
+    needs_each(given(option, uses), option, uses)?;
+    let includes = has_some(lists.include_features.as_slice());
+    needs_each(includes, Opt::IncludeFeatures, uses)?;
+    let option = Opt::IncludeDepsFeatures;
+    needs_each(given(option, uses), option, uses)
+}
+
+/// Refused where the option is there and `--feature-powerset` is not.
+fn needs_powerset(option: Opt, uses: &[Use]) -> Result<(), CliFault>
+    ensures { Checks result (needs_rule (is_given option (views uses.now)) option Beside.Powerset
+        (is_given Opt.FeaturePowerset (views uses.now))) }
+{
+    let there = given(Opt::FeaturePowerset, uses);
+    needs(given(option, uses), option, Beside::Powerset, there)
+}
+
+/// What stands beside `--feature-powerset`.
+fn beside_powerset(uses: &[Use]) -> Result<(), CliFault>
+    ensures { Checks result (first_of (powerset_rules (views uses.now))) }
+{
+    needs_powerset(Opt::Depth, uses)?;
+    needs_powerset(Opt::GroupFeatures, uses)?;
+    needs_powerset(Opt::MutuallyExclusiveFeatures, uses)?;
+    needs_powerset(Opt::AtLeastOneOf, uses)
+}
+
+/// The depth, where one is given.
+fn depth(alloc: Global, uses: &[Use]) -> Result<Option<usize>, CliFault>
+    ensures rule { Checks result (of_value depth_fault (value_given Opt.Depth (views uses.now))) }
+    ensures value { IfOk result (λ depth. depth ≡ depth_asked (views uses.now)) }
+{
+    match value(Opt::Depth, uses) {
+        Some(text) => Ok(Some(values::depth(alloc, text.as_str())?)),
+        None => Ok(None),
+    }
+}
+
+/// Refused where a use of the option has a single name.
+fn lists_two(option: Opt, uses: &[Use]) -> Result<(), CliFault>
+    ensures { Checks result (single_rule option (views uses.now)) }
+{
+    for one in uses {
+        if let Use::Known {
+            option: used,
+            value: Some(value),
+            ..
+        } = one
+            && used.is(option)
+            && !has_separator(value.as_str())
+        {
+            return Err(CliFault::Single { option });
+        }
+    }
+    Ok(())
+}
+
+fn groups_list_two(uses: &[Use]) -> Result<(), CliFault>
+    ensures { Checks result (first_of (single_rules (views uses.now))) }
+{
+    lists_two(Opt::GroupFeatures, uses)?;
+    lists_two(Opt::MutuallyExclusiveFeatures, uses)?;
+    lists_two(Opt::AtLeastOneOf, uses)
+}
+
+/// Subcommands beside which some options don't stand.
+fn beside_subcommand(uses: &[Use]) -> Result<(), CliFault>
+    ensures { Checks result (subcommand_rule (subcommand_of (views uses.now)) (views uses.now)) }
+{
+    let Some(word) = subcommand(uses) else {
+        return Ok(());
+    };
+    if word.as_str() == "test" || word.as_str() == "bench" {
+        if given(Opt::RemoveDevDeps, uses) {
+            return Err(CliFault::BesideSubcommand {
+                option: Opt::RemoveDevDeps,
+                subcommand: word.clone()?,
+            });
+        }
+        if given(Opt::NoDevDeps, uses) {
+            return Err(CliFault::BesideSubcommand {
+                option: Opt::NoDevDeps,
+                subcommand: word.clone()?,
+            });
+        }
+    } else if word.as_str() == "install" {
+        return Err(CliFault::Install);
+    }
+    Ok(())
+}
+
+/// Refused where the option stands beside Cargo's own handling of workspaces.
+fn beside_cargo(behavior: WorkspaceBehavior, option: Opt, uses: &[Use]) -> Result<(), CliFault>
+    ensures { Checks result (cargo_rule behavior option (views uses.now)) }
+{
+    if behavior == WorkspaceBehavior::Cargo && given(option, uses) {
+        return Err(CliFault::Clash {
+            option: Opt::WorkspaceBehavior,
+            other: option,
+        });
+    }
+    Ok(())
+}
+
+fn is_target_flag(word: &str) -> bool
+    ensures { result ≡ target_flag word.now }
+{
+    word == "--example"
+        || word == "--examples"
+        || word == "--test"
+        || word == "--tests"
+        || word == "--bench"
+        || word == "--benches"
+        || word == "--all-targets"
+}
+
+fn is_target_name(word: &str) -> bool
+    ensures { result ≡ target_name word.now }
+{
+    word.starts_with("--example=") || word.starts_with("--test=") || word.starts_with("--bench=")
+}
+
+/// The first word for cargo that picks targets which need dev-dependencies.
+fn target_choice(leading: &[String]) -> Option<&String>
+    ensures { optional_text_ref result
+        ≡ first_target_word (names_of leading.now) }
+{
+    for word in leading {
+        if is_target_flag(word.as_str()) || is_target_name(word.as_str()) {
+            return Some(word);
+        }
+    }
+    None
+}
+
+/// No dev-dependencies are left out beside a word that picks targets which need them.
+fn beside_targets(leading: &[String], uses: &[Use]) -> Result<(), CliFault>
+    ensures { Checks result (target_rule (views uses.now)
+        (first_target_word (names_of leading.now))) }
+{
+    let Some(word) = target_choice(leading) else {
+        return Ok(());
+    };
+    if given(Opt::RemoveDevDeps, uses) {
+        return Err(CliFault::ClashWord {
+            option: Opt::RemoveDevDeps,
+            word: word.clone()?,
+        });
+    }
+    if given(Opt::NoDevDeps, uses) {
+        return Err(CliFault::ClashWord {
+            option: Opt::NoDevDeps,
+            word: word.clone()?,
+        });
+    }
+    Ok(())
+}
+
+/// Features that are listed to be included stand alone.
+fn beside_includes(lists: &Lists, uses: &[Use]) -> Result<(), CliFault>
+    ensures { Checks result (first_of (include_rules (listed_in lists.now) (views uses.now))) }
+{
+    let option = Opt::IncludeFeatures;
+    if !has_some(lists.include_features.as_slice()) {
+        return Ok(());
+    }
+    if given(Opt::OptionalDeps, uses) {
+        return Err(CliFault::Clash {
+            option,
+            other: Opt::OptionalDeps,
+        });
+    }
+    if given(Opt::IncludeDepsFeatures, uses) {
+        return Err(CliFault::Clash {
+            option,
+            other: Opt::IncludeDepsFeatures,
+        });
+    }
+    Ok(())
+}
+
+/// Options that don't stand together.
+fn check_pairs(uses: &[Use]) -> Result<(), CliFault>
+    ensures { Checks result (first_of (pair_rules (views uses.now))) }
+{
+    clash(Opt::NoDevDeps, Opt::RemoveDevDeps, uses)?;
+    clash(Opt::EachFeature, Opt::FeaturePowerset, uses)?;
+    clash(Opt::AllFeatures, Opt::EachFeature, uses)?;
+    clash(Opt::AllFeatures, Opt::FeaturePowerset, uses)?;
+    clash(Opt::NoDefaultFeatures, Opt::EachFeature, uses)?;
+    clash(Opt::NoDefaultFeatures, Opt::FeaturePowerset, uses)
+}
+
+/// One of the optional dependencies, where they are named.
+fn optional_has(names: Option<&Vec<String>>, name: &str) -> bool
+    ensures { result ≡ is_optional (option_map
+        (λ names. names_of names.now.items) names.entry) name.now }
+{
+    match names {
+        Some(names) => has(names.as_slice(), name),
+        None => false,
+    }
+}
+
+/// The first option that names the feature.
+fn naming(lists: &Lists, name: &str) -> Option<Opt>
+    ensures { result ≡ naming_option (listed_in lists.now) name.now }
+{
+    if has(lists.features.as_slice(), name) {
+        Some(Opt::Features)
+    } else if optional_has(lists.optional_deps.as_ref(), name) {
+        Some(Opt::OptionalDeps)
+    } else if group_has(lists.group_features.as_slice(), name) {
+        Some(Opt::GroupFeatures)
+    } else if group_has(lists.mutually_exclusive_features.as_slice(), name) {
+        Some(Opt::MutuallyExclusiveFeatures)
+    } else if has(lists.include_features.as_slice(), name) {
+        Some(Opt::IncludeFeatures)
+    } else {
+        None
+    }
+}
+
+/// No option names a feature that is excluded.
+fn check_excluded(lists: &Lists) -> Result<(), CliFault>
+    ensures { Checks result (excluded_rule (listed_in lists.now) (listed_in lists.now).excludes) }
+{
+    for name in lists.exclude_features.as_slice() {
+        if let Some(option) = naming(lists, name.as_str()) {
+            return Err(CliFault::Excluded {
+                feature: name.clone()?,
+                option,
+            });
+        }
+    }
+    Ok(())
+}
+
+/// Groups, and what doesn't stand together. `leading` has the words that are passed on to cargo.
+fn check_together(
+    behavior: WorkspaceBehavior,
+    lists: &Lists,
+    leading: &[String],
+    uses: &[Use],
+) -> Result<(), CliFault>
+    requires { names_of leading.now ≡ leading_of behavior (views uses.now) }
+    ensures { Checks result (first_of
+        (together_rules behavior (listed_in lists.now) (views uses.now))) }
+{
+    groups_list_two(uses)?;
+    beside_subcommand(uses)?;
+    beside_cargo(behavior, Opt::EachFeature, uses)?;
+    beside_cargo(behavior, Opt::FeaturePowerset, uses)?;
+    beside_targets(leading, uses)?;
+    beside_includes(lists, uses)?;
+    check_pairs(uses)?;
+    check_excluded(lists)
+}
+
+/// What these rules read while they check.
+#[derive(Clone, Copy)]
+pub struct Early {
+    pub coloring: Coloring,
+    pub depth: Option<usize>,
+}
+
+/// Colour, what stands beside lists and runs by features, and the depth.
+fn check_lists(
+    alloc: Global,
+    term_color: Option<&String>,
+    lists: &Lists,
+    uses: &[Use],
+) -> Result<Early, CliFault>
+    ensures rules { Checks result (first_of
+        (early_rules (optional_text_ref term_color.entry)
+        (listed_in lists.now) (views uses.now))) }
+    ensures coloring { IfOk result (λ early. early.coloring
+        ≡ coloring_asked (optional_text_ref term_color.entry)
+        (views uses.now)) }
+    ensures depth { IfOk result (λ early. early.depth ≡ depth_asked (views uses.now)) }
+{
+    let coloring = coloring(term_color, uses)?;
+    beside_lists(lists, uses)?;
+    beside_each(lists, uses)?;
+    beside_powerset(uses)?;
+    let depth = depth(alloc, uses)?;
+    Ok(Early { coloring, depth })
+}
+
+/// The rules before that on a missing subcommand, and what they read.
+pub fn check(
+    alloc: Global,
+    behavior: WorkspaceBehavior,
+    term_color: Option<&String>,
+    lists: &Lists,
+    leading: &[String],
+    uses: &[Use],
+) -> Result<Early, CliFault>
+    requires { names_of leading.now ≡ leading_of behavior (views uses.now) }
+    ensures rules { Checks result (first_of
+        (rules_before behavior (optional_text_ref term_color.entry)
+        (listed_in lists.now) (views uses.now))) }
+    ensures coloring { IfOk result (λ early. early.coloring
+        ≡ coloring_asked (optional_text_ref term_color.entry)
+        (views uses.now)) }
+    ensures depth { IfOk result (λ early. early.depth ≡ depth_asked (views uses.now)) }
+{
+    let early = check_lists(alloc, term_color, lists, uses)?;
+    check_together(behavior, lists, leading, uses)?;
+    Ok(early)
+}

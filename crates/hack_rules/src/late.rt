@@ -1,0 +1,239 @@
+//! The rules behind that on a missing subcommand: ranges of versions, log groups, pieces of a plan
+//! and lifted groups.
+
+ghost use Rattle.std.specs.Prelude.{◌≡◌, IfOk, IfSome, option_map, option_and_then};
+ghost use Rattle.std.specs.List.{list_any};
+ghost use Rattle.hack_uses.specs.Uses.{view, views};
+ghost use Rattle.hack_uses.specs.Values.{value_given};
+ghost use Rattle.hack_rules.specs.Asked.{read_range, range_asked, is_old_asked, step_asked};
+ghost use Rattle.hack_rules.specs.Asked.{is_message_format as message_format, log_group_asked};
+ghost use Rattle.hack_rules.specs.Asked.{piece_asked, kind_asked};
+ghost use Rattle.hack_rules.specs.CliFaults.{Checks};
+ghost use Rattle.hack_rules.specs.CliGroups.{AreLifts};
+ghost use Rattle.hack_rules.specs.CliLists.{lifts_given};
+ghost use Rattle.hack_rules.specs.CliValues.{range_fault, step_fault, log_group_fault};
+ghost use Rattle.hack_rules.specs.LateView.{IsLate};
+ghost use Rattle.hack_rules.specs.ListsView.{listed_in};
+ghost use Rattle.hack_rules.specs.Rules.{first_of, of_value};
+ghost use Rattle.hack_rules.specs.Late.{rustup_rule, is_ranged as ranged, range_rules, piece_rules};
+ghost use Rattle.hack_rules.specs.Late.{lift_rules, rules_after};
+
+use crate::checks::{clash, needs};
+use crate::fault::{Beside, CliFault};
+use crate::listed::Lists;
+use crate::{named, values};
+use hack_features::Feature;
+use hack_options::Opt;
+use hack_term::partition::{Partition, PartitionKind};
+use hack_term::term::LogGroup;
+use hack_uses::{OwnedFlag, Use, given, value};
+use hack_versions::version::VersionRange;
+use std::alloc::Global;
+
+/// The first minor version of rustup that runs what a range asks for.
+const LEAST_RUSTUP: u32 = 23;
+
+/// Refused where the option is there and rustup is known to be too old for it.
+fn new_rustup(option: Opt, rustup: Option<u32>, uses: &[Use]) -> Result<(), CliFault>
+    ensures { Checks result (rustup_rule option rustup (views uses.now)) }
+{
+    if let Some(minor) = rustup
+        && given(option, uses)
+        && minor < LEAST_RUSTUP
+    {
+        return Err(CliFault::OldRustup { option });
+    }
+    Ok(())
+}
+
+/// A range of versions is asked.
+pub fn is_ranged(uses: &[Use]) -> bool
+    ensures { result ≡ ranged (views uses.now) }
+{
+    given(Opt::VersionRange, uses) || given(Opt::RustVersion, uses)
+}
+
+/// What is asked of versions.
+#[derive(Clone, Copy)]
+pub struct Versions {
+    pub range: Option<VersionRange>,
+    /// The range has the form `1.60..1.70`, in place of `1.60..=1.70`.
+    pub is_old: bool,
+    pub step: u16,
+}
+
+/// The range that is given, and whether it has the old form.
+fn said_range(alloc: Global, uses: &[Use]) -> Result<Option<(VersionRange, bool)>, CliFault>
+    ensures rule { Checks result (of_value range_fault
+        (value_given Opt.VersionRange (views uses.now))) }
+    ensures value { IfOk result (λ said.
+        option_map (λ read. record { range = read.0; old = read.1 }) said
+        ≡ option_and_then read_range (value_given Opt.VersionRange (views uses.now))) }
+{
+    match value(Opt::VersionRange, uses) {
+        Some(text) => Ok(Some(VersionRange::parse(alloc, text.as_str())?)),
+        None => Ok(None),
+    }
+}
+
+/// The step between versions.
+fn step(alloc: Global, uses: &[Use]) -> Result<u16, CliFault>
+    ensures rule { Checks result (of_value step_fault
+        (value_given Opt.VersionStep (views uses.now))) }
+    ensures value { IfOk result (λ step. step ≡ step_asked (views uses.now)) }
+{
+    match value(Opt::VersionStep, uses) {
+        Some(text) => values::step(alloc, text.as_str()),
+        None => Ok(1),
+    }
+}
+
+/// The rules on versions.
+fn check_versions(alloc: Global, rustup: Option<u32>, uses: &[Use]) -> Result<Versions, CliFault>
+    ensures rules { Checks result (first_of (range_rules rustup (views uses.now))) }
+    ensures range { IfOk result (λ versions. versions.range ≡ range_asked (views uses.now)) }
+    ensures old { IfOk result (λ versions. versions.is_old ≡ is_old_asked (views uses.now)) }
+    ensures step { IfOk result (λ versions. versions.step ≡ step_asked (views uses.now)) }
+{
+    clash(Opt::VersionRange, Opt::RustVersion, uses)?;
+    new_rustup(Opt::VersionRange, rustup, uses)?;
+    new_rustup(Opt::RustVersion, rustup, uses)?;
+    let said = said_range(alloc, uses)?;
+    let there = is_ranged(uses);
+    let option = Opt::VersionStep;
+    needs(given(option, uses), option, Beside::VersionRange, there)?;
+    let option = Opt::CleanPerVersion;
+    needs(given(option, uses), option, Beside::VersionRange, there)?;
+    let step = step(alloc, uses)?;
+    let (range, is_old) = match said {
+        Some((range, is_old)) => (Some(range), is_old),
+        None => (None, false),
+    };
+    let range = if given(Opt::RustVersion, uses) {
+        Some(VersionRange::msrv())
+    } else {
+        range
+    };
+    Ok(Versions {
+        range,
+        is_old,
+        step,
+    })
+}
+
+fn is_message_format(one: &Use) -> bool
+    ensures { result ≡ message_format (view one.now) }
+{
+    match one {
+        Use::Unknown {
+            flag: OwnedFlag::Long(name),
+            ..
+        } => name.as_str() == "message-format",
+        _ => false,
+    }
+}
+
+/// Cargo's messages are formatted, so that lines of ours among them would be in the way.
+fn formats_messages(uses: &[Use]) -> bool
+    ensures { result ≡ list_any message_format (views uses.now) }
+{
+    for one in uses {
+        if is_message_format(one) {
+            return true;
+        }
+    }
+    false
+}
+
+/// How the lines of a run are grouped.
+fn log_group(alloc: Global, github_actions: bool, uses: &[Use]) -> Result<LogGroup, CliFault>
+    ensures rule { Checks result (of_value log_group_fault
+        (value_given Opt.LogGroup (views uses.now))) }
+    ensures value { IfOk result (λ group. group ≡ log_group_asked github_actions (views uses.now)) }
+{
+    let group = match value(Opt::LogGroup, uses) {
+        Some(text) => LogGroup::parse(alloc, text.as_str())?,
+        None => LogGroup::auto(github_actions && !formats_messages(uses)),
+    };
+    if given(Opt::PrintCommandList, uses) {
+        return Ok(LogGroup::None);
+    }
+    Ok(group)
+}
+
+/// The piece of the plan, with the way in which places are dealt to pieces.
+fn partition(alloc: Global, uses: &[Use]) -> Result<Option<Partition>, CliFault>
+    ensures rules { Checks result (first_of (piece_rules (views uses.now))) }
+    ensures piece { IfOk result (λ partition.
+        option_map (λ p. record { piece = p.piece; count = p.count }) partition
+        ≡ piece_asked (views uses.now)) }
+    ensures kind { IfOk result (λ partition.
+        IfSome partition (λ p. p.kind ≡ kind_asked (views uses.now))) }
+{
+    let piece = match value(Opt::Partition, uses) {
+        Some(text) => Some(Partition::parse(alloc, text.as_str())?),
+        None => None,
+    };
+    let option = Opt::PartitionKind;
+    let there = given(Opt::Partition, uses);
+    needs(given(option, uses), option, Beside::Partition, there)?;
+    let kind = match value(Opt::PartitionKind, uses) {
+        Some(text) => PartitionKind::parse(alloc, text.as_str())?,
+        None => PartitionKind::Block,
+    };
+    match piece {
+        Some(piece) => Ok(Some(piece.with_kind(kind))),
+        None => Ok(None),
+    }
+}
+
+/// The exclusion groups that are lifted for a package.
+fn lifts(alloc: Global, lists: &Lists, uses: &[Use]) -> Result<Vec<(String, Feature)>, CliFault>
+    ensures rules { Checks result (first_of (lift_rules (listed_in lists.now) (views uses.now))) }
+    ensures lifts { IfOk result (λ lifts. AreLifts (lifts_given (views uses.now)) lifts.items) }
+{
+    let option = Opt::AllowTogether;
+    let there = given(Opt::MutuallyExclusiveFeatures, uses);
+    needs(
+        given(option, uses),
+        option,
+        Beside::MutuallyExclusive,
+        there,
+    )?;
+    named::lifts(alloc, lists.mutually_exclusive_features.as_slice(), uses)
+}
+
+/// What these rules read while they check.
+#[derive(Drop)]
+pub struct Late {
+    pub versions: Versions,
+    pub log_group: LogGroup,
+    pub partition: Option<Partition>,
+    /// Packages, and for each an exclusion group that is lifted for it.
+    pub lifts: Vec<(String, Feature)>,
+}
+
+/// The rules behind that on a missing subcommand, and what they read. `rustup` is its minor
+/// version, where known.
+pub fn check(
+    alloc: Global,
+    rustup: Option<u32>,
+    github_actions: bool,
+    lists: &Lists,
+    uses: &[Use],
+) -> Result<Late, CliFault>
+    ensures rules { Checks result (first_of
+        (rules_after rustup (listed_in lists.now) (views uses.now))) }
+    ensures late { IfOk result (IsLate github_actions (views uses.now)) }
+{
+    let versions = check_versions(alloc, rustup, uses)?;
+    let log_group = log_group(alloc, github_actions, uses)?;
+    let partition = partition(alloc, uses)?;
+    let lifts = lifts(alloc, lists, uses)?;
+    Ok(Late {
+        versions,
+        log_group,
+        partition,
+        lifts,
+    })
+}

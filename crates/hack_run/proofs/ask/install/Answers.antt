@@ -1,0 +1,28 @@
+use Rattle.std.proofs.Common.{true, [], codes, subst, OnErr, OnOk}
+use Rattle.hack_process.specs.Commands.{asked_of}
+use Rattle.hack_session.specs.Performs.{BreaksInstall, Installs}
+use Rattle.hack_session.specs.Toolchains.{addition_of, trial_of}
+use Rattle.hack_run.specs.Made.{FailsStable}
+use Rattle.hack_run.specs.Questions.{InstallsStable}
+use Rattle.hack_run.proofs.CallLemmas.{installed}
+use Rattle.hack_run.proofs.MadeLemmas.{fails}
+use Rattle.hack_run.proofs.ask.install.Goals as goal
+
+-- src/ask.rt:117:1
+pub returns-clause-ok : goal.returns-clause-ok
+returns-clause-ok g c =
+    subst (λ rustup. OnOk c.install_toolchain.result (g.C.Caller.tells → InstallsStable rustup (g.C.Caller.calls c.args.caller.now) (g.C.Caller.calls c.install_toolchain.new.caller))) c.as_str.ensures.value
+    (installed g.C.Caller.tells
+    (λ calls. Installs [] (asked_of true (trial_of c.as_str.result.now (codes "stable"))) (asked_of true (addition_of c.as_str.result.now (codes "stable") [])) calls)
+    (λ calls. BreaksInstall [] (asked_of true (trial_of c.as_str.result.now (codes "stable"))) (asked_of true (addition_of c.as_str.result.now (codes "stable") [])) calls)
+    (g.C.Caller.calls c.args.caller.now) (g.C.Caller.calls c.install_toolchain.new.caller) c.install_toolchain.result
+    c.install_toolchain.ensures)
+
+pub returns-clause-err : goal.returns-clause-err
+returns-clause-err g c =
+    subst (λ rustup. OnErr c.install_toolchain.result (g.C.Caller.tells → FailsStable rustup (g.C.Caller.calls c.args.caller.now) (g.C.Caller.calls c.install_toolchain.new.caller))) c.as_str.ensures.value
+    (fails g.C.Caller.tells
+    (λ calls. Installs [] (asked_of true (trial_of c.as_str.result.now (codes "stable"))) (asked_of true (addition_of c.as_str.result.now (codes "stable") [])) calls)
+    (λ calls. BreaksInstall [] (asked_of true (trial_of c.as_str.result.now (codes "stable"))) (asked_of true (addition_of c.as_str.result.now (codes "stable") [])) calls)
+    (g.C.Caller.calls c.args.caller.now) (g.C.Caller.calls c.install_toolchain.new.caller) c.install_toolchain.result
+    c.install_toolchain.ensures)
