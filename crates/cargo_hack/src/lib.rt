@@ -10,8 +10,7 @@ pub mod powerset_list;
 pub mod run;
 pub mod rustup;
 
+pub use hack_base::{notice, paths};
 pub use hack_load::{cargo, context, metadata, process};
-pub use hack_base::paths;
 pub use hack_session::session;
-pub use hack_base::notice;
 pub use hack_words::{cli, fs, lexopt, lists, partition, restore, term, version};

@@ -1,10 +1,10 @@
 //! The journal of a call that edits manifests: where it stands, who may use it, and what a call
 //! that was interrupted left there.
 
+use hack_base::paths::{join, normal, parent, under};
 use hack_files::fs::{FileFault, Files};
 use hack_journal::journal::{JournalFault, read_back};
 use hack_manifest::lookup::{find_table, value_at};
-use hack_base::paths::{join, normal, parent, under};
 use hack_words::cli::{Args, CliFault, Env, Parsed};
 use hack_words::rustup::Rustup;
 use std::alloc::{AllocError, Global};
