@@ -112,7 +112,7 @@ fn choose<'a>(
 {
     let mut goes = Vec::new(alloc);
     let mut some = false;
-    let mut left = copy_paths(alloc, paths)?;
+    let mut left = Vec::from_slice(alloc, paths)?;
     'items: for item in items {
         let led = value_led(alloc, root, item, left.as_slice())?;
         goes.push(led)?;
@@ -131,7 +131,7 @@ fn no_choice<'a>(alloc: Global, paths: &[&'a str]) -> Result<Choice<'a>, AllocEr
     ensures some { IfOk result (λ c. c.some ≡ false) }
     ensures paths { IfOk result (λ c. names_behind c.paths.items ≡ names_behind paths.now) }
 {
-    let left = copy_paths(alloc, paths)?;
+    let left = Vec::from_slice(alloc, paths)?;
     Ok(Choice {
         goes: Vec::new(alloc),
         some: false,
@@ -166,7 +166,7 @@ pub fn value_unled<'a>(
 {
     match item {
         Value::String(member) => not_led(alloc, root, member.as_str(), paths),
-        _ => copy_paths(alloc, paths),
+        _ => Vec::from_slice(alloc, paths),
     }
 }
 
@@ -226,15 +226,4 @@ fn leads_to(alloc: Global, manifest: &str, path: &str) -> Result<bool, AllocErro
 {
     let wanted = normal(alloc, path)?;
     Ok(manifest == wanted.as_str())
-}
-
-/// Copies of paths.
-pub fn copy_paths<'a>(alloc: Global, paths: &[&'a str]) -> Result<Vec<&'a str>, AllocError>
-    ensures { IfOk result (λ left. names_behind left.items ≡ names_behind paths.now) }
-{
-    let mut all = Vec::new(alloc);
-    for path in paths {
-        all.push(*path)?;
-    }
-    Ok(all)
 }

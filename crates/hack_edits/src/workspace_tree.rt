@@ -13,7 +13,7 @@ ghost use Rattle.hack_edits.specs.WorkspaceTree.{workspace_value, with_workspace
 ghost use Rattle.hack_edits.specs.WorkspaceTree.{reads_without};
 
 use crate::exclude::has_paths;
-use crate::members::{MEMBERS, chosen, copy_paths, value_led, value_unled};
+use crate::members::{MEMBERS, chosen, value_led, value_unled};
 use crate::same::same_table;
 use crate::tables::{put_at, tree_of};
 use hack_base::paths::parent;
@@ -179,7 +179,7 @@ fn kept_members(
     ensures { IfOk result (λ v. array_view v
         ≡ members_left root.now (names_behind paths.now) (array_view items)) }
 {
-    let mut left = copy_paths(alloc, paths)?;
+    let mut left = Vec::from_slice(alloc, paths)?;
     let mut kept = Array::new(alloc);
     for item in items {
         let led = value_led(alloc, root, &item, left.as_slice())?;

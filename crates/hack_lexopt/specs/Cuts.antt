@@ -2,8 +2,8 @@
 use Rattle.std.specs.Prelude.{ℕ, List, [], ◌∷◌, ◌++◌, ◌==◌, ◌&&◌, not, length, drop, Bool, Option, Some, None, Result, Ok, Err, slice_get, nat_lt, nat_eq, encode_utf8, codes, if◌then◌else◌}
 use Rattle.std.specs.List.{before_first, after_first, position_or_len, starts_with}
 use Rattle.std.specs.Str.{chars}
-use Rattle.hack_lexopt.specs.declared.LexFault.{LexFault}
-use Rattle.hack_lexopt.specs.declared.LexFault.TheVariants.{UnexpectedValue}
+use Rattle.hack_lexopt.specs.declared.fault.LexFault.{LexFault}
+use Rattle.hack_lexopt.specs.declared.fault.LexFault.TheVariants.{UnexpectedValue}
 
 -- an option by its long name or by one letter, or a word that is none
 pub data Cut : Type 0 where

@@ -2,19 +2,19 @@
 use Rattle.std.specs.Prelude.{◌≡◌, ℕ, List, drop, map, string_bytes, Option, Some, None, Result, Ok, Err}
 use Rattle.std.specs.Borrow.{MutBor, Fml}
 use Rattle.std.specs.Io.BufRead.{Rests}
-use Rattle.hack_lexopt.specs.declared.Place.{Place}
-use Rattle.hack_lexopt.specs.declared.Spot.{Spot}
-use Rattle.hack_lexopt.specs.declared.Place.TheVariants.{Closed, Value as Behind, Letters}
-use Rattle.hack_lexopt.specs.declared.Parser.{Parser}
-use Rattle.hack_lexopt.specs.declared.Arg.{Arg}
-use Rattle.hack_lexopt.specs.declared.Arg.TheVariants.{Long, Short, Value}
-use Rattle.hack_lexopt.specs.declared.Flag.{Flag}
-use Rattle.hack_lexopt.specs.declared.Flag.TheVariants as flag
-use Rattle.hack_lexopt.specs.declared.Next.{Next}
-use Rattle.hack_lexopt.specs.declared.Next.TheVariants as next
-use Rattle.hack_lexopt.specs.declared.LexFault.{LexFault}
-use Rattle.hack_lexopt.specs.declared.LexFault.TheVariants.{UnexpectedValue}
-use Rattle.hack_lexopt.specs.contracts.Parser.{the_row}
+use Rattle.hack_lexopt.specs.declared.cuts.Place.{Place}
+use Rattle.hack_lexopt.specs.declared.cuts.Spot.{Spot}
+use Rattle.hack_lexopt.specs.declared.cuts.Place.TheVariants.{Closed, Value as Behind, Letters}
+use Rattle.hack_lexopt.specs.declared.parser.Parser.{Parser}
+use Rattle.hack_lexopt.specs.declared.arg.Arg.{Arg}
+use Rattle.hack_lexopt.specs.declared.arg.Arg.TheVariants.{Long, Short, Value}
+use Rattle.hack_lexopt.specs.declared.arg.Flag.{Flag}
+use Rattle.hack_lexopt.specs.declared.arg.Flag.TheVariants as flag
+use Rattle.hack_lexopt.specs.declared.parser.Next.{Next}
+use Rattle.hack_lexopt.specs.declared.parser.Next.TheVariants as next
+use Rattle.hack_lexopt.specs.declared.fault.LexFault.{LexFault}
+use Rattle.hack_lexopt.specs.declared.fault.LexFault.TheVariants.{UnexpectedValue}
+use Rattle.hack_lexopt.specs.contracts.parser.Parser.{the_row}
 use Rattle.hack_lexopt.specs.Cuts.{Untaken, Nothing, Pending, Chain, Left, Cut, LongCut, ShortCut, ValueCut, cut_of, option_in, next_cut, unexpected_of}
 
 -- what the rest of a word leaves untaken

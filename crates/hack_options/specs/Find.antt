@@ -1,6 +1,6 @@
 -- The options that words name.
 use Rattle.std.specs.Prelude.{ℕ, ◌≡◌, ◌↔◌, List, Option, Some}
-use Rattle.hack_options.specs.declared.Opt.{Opt}
+use Rattle.hack_options.specs.declared.opt.Opt.{Opt}
 use Rattle.hack_options.specs.declared.table.TheConstants.{ALL}
 use Rattle.hack_options.specs.Table.{option_named, option_lettered}
 

@@ -2,11 +2,11 @@
 use Rattle.std.specs.Prelude.{ℕ, List, [], ◌∷◌, ◌==◌, Bool, true, false, Option, Some, None, codes, slice_get, is_some, if◌then◌else◌}
 use Rattle.std.specs.Str.{bytes_eq}
 use denote.Enum.Bare.{sameb}
-use Rattle.hack_options.specs.contracts.Opt.{the_type}
-use Rattle.hack_options.specs.declared.Opt.{Opt}
-use Rattle.hack_options.specs.declared.Opt.TheVariants as opt
-use Rattle.hack_options.specs.declared.Kind.{Kind}
-use Rattle.hack_options.specs.declared.Kind.TheVariants.{Flag, Value, Names, OptionalNames, Help, Version, Refused}
+use Rattle.hack_options.specs.contracts.opt.Opt.{the_type}
+use Rattle.hack_options.specs.declared.opt.Opt.{Opt}
+use Rattle.hack_options.specs.declared.opt.Opt.TheVariants as opt
+use Rattle.hack_options.specs.declared.table.Kind.{Kind}
+use Rattle.hack_options.specs.declared.table.Kind.TheVariants.{Flag, Value, Names, OptionalNames, Help, Version, Refused}
 use Rattle.hack_options.specs.declared.table.Row.{Row}
 
 -- a row of the table: how an option is written and cut, and whether and how the help shows it

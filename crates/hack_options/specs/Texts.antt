@@ -1,7 +1,7 @@
 -- How messages and the help show options.
 use Rattle.std.specs.Prelude.{ℕ, List, ◌++◌, ◌&&◌, Bool, false, Option, Some, None, codes, encode_utf8, if◌then◌else◌}
-use Rattle.hack_options.specs.declared.Opt.{Opt}
-use Rattle.hack_options.specs.declared.Opt.TheVariants as opt
+use Rattle.hack_options.specs.declared.opt.Opt.{Opt}
+use Rattle.hack_options.specs.declared.opt.Opt.TheVariants as opt
 use Rattle.hack_options.specs.declared.messages.Usage.{Usage}
 use Rattle.hack_options.specs.declared.messages.Usage.TheVariants.{Long, Short}
 use Rattle.hack_options.specs.declared.messages.WithAlias.{WithAlias}

@@ -4,7 +4,8 @@ ghost use Rattle.std.specs.Prelude.{◌≡◌, Some};
 ghost use Rattle.hack_options.specs.Find.{Finds, long_option, short_option};
 ghost use Rattle.hack_options.specs.Table.{entry_of, option_named, option_lettered};
 
-use crate::{ALL, Opt};
+use crate::opt::Opt;
+use crate::table::ALL;
 
 /// The first option of this name.
 fn find_name(options: &[Opt], name: &str) -> Option<Opt>

@@ -2,8 +2,8 @@
 
 ghost use Rattle.std.specs.Prelude.{◌≡◌, true, false};
 
-use crate::table::HelpText;
-use crate::{ALL, Opt};
+use crate::opt::Opt;
+use crate::table::{ALL, HelpText};
 use std::fmt;
 
 const HEAD: &str = "cargo-hack

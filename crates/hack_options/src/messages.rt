@@ -1,24 +1,11 @@
-//! How messages name options.
+//! How messages show options.
 
-ghost use Rattle.std.specs.Prelude.{◌≡◌, ◌&&◌, Some};
-ghost use Rattle.hack_options.specs.Texts.{shown_option, shown_name as name_of, shown_with_alias};
-ghost use Rattle.hack_options.specs.Texts.{aliased_option};
-ghost use Rattle.hack_options.specs.Texts.{usage_text, has_usage as named_in_help};
-ghost use Rattle.hack_options.specs.Texts.{shows_letter as letter_in_help};
+ghost use Rattle.std.specs.Prelude.{Some};
+ghost use Rattle.hack_options.specs.Texts.{shown_with_alias, aliased_option, usage_text};
 
-use crate::{Opt, long, short};
+use crate::find::{long, short};
+use crate::opt::Opt;
 use std::fmt;
-
-/// The option as messages name it. `--workspace-behavior` is named with `cargo`, the only value
-/// that it takes.
-impl fmt::Display for Opt {
-    ghost output = { λ o. Some (shown_option o) };
-
-    fn fmt<W: fmt::Write>(&self, f: &mut fmt::Formatter<W>) -> fmt::Result {
-        let name = self.shown_name();
-        write!(f, "--{name}")
-    }
-}
 
 /// An option with its alias behind it, `--exclude-features (--skip)`, in the messages that tell it.
 #[derive(Clone, Copy)]
@@ -78,42 +65,5 @@ impl fmt::Display for RowUsage {
     fn fmt<W: fmt::Write>(&self, f: &mut fmt::Formatter<W>) -> fmt::Result {
         let row = self.option.row();
         write!(f, "--{} {}", row.name, row.value)
-    }
-}
-
-impl Opt {
-    /// The name that messages show.
-    pub(crate) fn shown_name(self) -> &'static str
-        ensures { result.now ≡ name_of self }
-    {
-        match self {
-            Opt::WorkspaceBehavior => "workspace-behavior=cargo",
-            option => option.row().name,
-        }
-    }
-
-    /// The option for a message that tells its alias too.
-    pub fn with_alias(self) -> WithAlias
-        ensures { aliased_option result ≡ self }
-    {
-        WithAlias { option: self }
-    }
-
-    /// Whether a row of the help has just this name: that of `--workspace-behavior` has its value
-    /// too.
-    fn has_usage(self) -> bool
-        ensures { result ≡ named_in_help self }
-    {
-        match self {
-            Opt::WorkspaceBehavior => false,
-            option => option.row().told.is_some(),
-        }
-    }
-
-    /// Whether a row of the help has just this name, and its letter too.
-    fn has_letter_usage(self) -> bool
-        ensures { result ≡ (named_in_help self && letter_in_help self) }
-    {
-        self.has_usage() && self.row().letter_shown
     }
 }

@@ -1,22 +1,12 @@
 //! The table of options. Each has a row: how it is written, how it is cut, and what the help tells
 //! of it.
 
-ghost use Rattle.std.specs.Prelude.{◌≡◌, ◌↔◌, IsTrue, IsSome, is_some, false, Some};
-ghost use Rattle.hack_options.specs.Table.{entry, entry_of, out_of_help, meaning_of, same};
+ghost use Rattle.std.specs.Prelude.{◌≡◌, IsSome, is_some, false, Some};
+ghost use Rattle.hack_options.specs.Table.{entry, entry_of, out_of_help};
 ghost use Rattle.hack_options.specs.Table.{flag as flag_entry, once as once_entry};
 ghost use Rattle.hack_options.specs.Table.{many as many_entry};
 
-use crate::{Kind, Opt};
-
-const WITH_FEATURE_SETS: &str =
-    "This flag can only be used together with either --each-feature flag or --feature-powerset flag.";
-
-const WITH_POWERSET: &str = "This flag can only be used together with --feature-powerset flag.";
-
-const WITH_VERSION_RANGE: &str = "This flag can only be used together with --version-range flag.";
-
-const ALSO_WITHOUT_DEFAULT: &str =
-    "This also includes runs with just --no-default-features flag, and default features.";
+use crate::opt::Opt;
 
 /// A row of the table: how an option is written and cut, and what the help shows of it.
 #[derive(Clone, Copy)]
@@ -46,6 +36,26 @@ pub(crate) struct HelpText {
     pub text: &'static str,
     /// What the long help says beyond that.
     pub paragraphs: &'static [&'static str],
+}
+
+/// What an option takes.
+#[derive(Clone, Copy, Debug, PartialEq, Eq)]
+pub enum Kind {
+    /// Nothing.
+    Flag,
+    /// One value, attached or the next word.
+    Value,
+    /// A list of names in one value.
+    Names,
+    /// The same, which may be left out.
+    OptionalNames,
+    /// Nothing; it asks for the help as long as no subcommand was met.
+    Help,
+    /// Nothing; it asks for the version as long as no subcommand was met.
+    Version,
+    /// `=cargo`, which is taken before the words are cut: whatever is left here has another form,
+    /// and is a fault.
+    Refused,
 }
 
 /// All options, in the order of the help; those that the help doesn't show stand last.
@@ -97,264 +107,275 @@ pub const ALL: [Opt; 45] = [
     Opt::IncludeDepsFeatures,
 ];
 
-impl Opt {
-    /// The option's row. It stands in two parts of one order, `written` and `told`: a match of both
-    /// takes twice as long to prove.
-    pub fn row(self) -> Row
-        ensures { entry result ≡ entry_of self }
+impl Row {
+    /// The row of an option. It stands in two parts of one order, `syntax` and `help_text`: a match
+    /// of both takes twice as long to prove.
+    pub(crate) fn of(option: Opt) -> Row
+        ensures { entry result ≡ entry_of option }
     {
         Row {
-            told: self.help_text(),
-            ..self.syntax()
+            told: help_text(option),
+            ..syntax(option)
         }
     }
 
-    /// How the option is written and cut, and the value that is shown for it.
-    fn syntax(self) -> Row
-        ensures { entry result ≡ out_of_help (entry_of self) }
+    /// The same option, written as a letter too.
+    fn with_letter(self, letter: char) -> Row
+        ensures { entry result ≡ record (entry self) { letter = Some letter } }
     {
-        match self {
-            Opt::Package => many("package", Kind::Value, "<SPEC>...").with_letter('p'),
-            Opt::All => flag("all"),
-            Opt::Workspace => flag("workspace"),
-            Opt::Exclude => many("exclude", Kind::Value, "<SPEC>..."),
-            Opt::ManifestPath => once("manifest-path", Kind::Value, "<PATH>").hidden_letter('m'),
-            Opt::Locked => flag("locked"),
-            Opt::Features => many("features", Kind::Names, "<FEATURES>...").with_letter('F'),
-            Opt::EachFeature => flag("each-feature"),
-            Opt::FeaturePowerset => flag("feature-powerset"),
-            Opt::OptionalDeps => once("optional-deps", Kind::OptionalNames, "[DEPS]..."),
-            Opt::Skip => many("skip", Kind::Names, "<FEATURES>..."),
-            Opt::ExcludeFeatures => many("exclude-features", Kind::Names, "<FEATURES>..."),
-            Opt::ExcludeNoDefaultFeatures => flag("exclude-no-default-features"),
-            Opt::ExcludeAllFeatures => flag("exclude-all-features"),
-            Opt::Depth => once("depth", Kind::Value, "<NUM>"),
-            Opt::GroupFeatures => many("group-features", Kind::Value, "<FEATURES>..."),
-            Opt::Target => many("target", Kind::Value, "<TRIPLE>"),
-            Opt::MutuallyExclusiveFeatures => many(
-                "mutually-exclusive-features",
-                Kind::Value,
-                "<FEATURES>...",
-            ),
-            Opt::AllowTogether => many("allow-together", Kind::Value, "<PKG=FEATURES>..."),
-            Opt::AtLeastOneOf => many("at-least-one-of", Kind::Value, "<FEATURES>..."),
-            Opt::IncludeFeatures => many("include-features", Kind::Names, "<FEATURES>..."),
-            Opt::NoDevDeps => flag("no-dev-deps"),
-            Opt::RemoveDevDeps => flag("remove-dev-deps"),
-            Opt::NoPrivate => flag("no-private"),
-            Opt::IgnorePrivate => flag("ignore-private"),
-            Opt::IgnoreUnknownFeatures => flag("ignore-unknown-features"),
-            Opt::RustVersion => flag("rust-version"),
-            Opt::VersionRange => once("version-range", Kind::Value, "[START]..[=END]"),
-            Opt::VersionStep => once("version-step", Kind::Value, "<NUM>"),
-            Opt::CleanPerRun => flag("clean-per-run"),
-            Opt::CleanPerVersion => flag("clean-per-version"),
-            Opt::KeepGoing => flag("keep-going"),
-            Opt::Partition => once("partition", Kind::Value, "<M/N>"),
-            Opt::PartitionKind => once("partition-kind", Kind::Value, "<KIND>"),
-            Opt::LogGroup => once("log-group", Kind::Value, "<KIND>"),
-            Opt::WorkspaceBehavior => many("workspace-behavior", Kind::Refused, ""),
-            Opt::PrintCommandList => flag("print-command-list"),
-            Opt::NoManifestPath => flag("no-manifest-path"),
-            Opt::Verbose => many("verbose", Kind::Flag, "").with_letter('v'),
-            Opt::Color => once("color", Kind::Value, "<WHEN>"),
-            Opt::Help => many("help", Kind::Help, "").with_letter('h'),
-            Opt::Version => many("version", Kind::Version, "").with_letter('V'),
-            Opt::NoDefaultFeatures => many("no-default-features", Kind::Flag, ""),
-            Opt::AllFeatures => many("all-features", Kind::Flag, ""),
-            Opt::IncludeDepsFeatures => flag("include-deps-features"),
+        Row {
+            letter: Some(letter),
+            ..self
         }
     }
 
-    /// What the help tells of the option, where it has a row for it.
-    fn help_text(self) -> Option<HelpText>
-        ensures { is_some result ≡ (entry_of self).in_help }
+    /// The same, where the help doesn't show the letter.
+    fn hidden_letter(self, letter: char) -> Row
+        ensures { entry result ≡ record (entry self)
+            { letter = Some letter; letter_shown = false } }
     {
-        match self {
-            Opt::Package => brief("Package(s) to check"),
-            Opt::All => brief("Alias for --workspace"),
-            Opt::Workspace => brief("Perform command for all packages in the workspace"),
-            Opt::Exclude => brief("Exclude packages from the check"),
-            Opt::ManifestPath => brief("Path to Cargo.toml"),
-            Opt::Locked => brief("Require Cargo.lock is up to date"),
-            Opt::Features => brief("Space or comma separated list of features to activate"),
-            Opt::EachFeature => help_row(
-                "Perform for each feature of the package",
-                &[
-                    ALSO_WITHOUT_DEFAULT,
-                    "When this flag is not used together with --exclude-features (--skip) and --include-features and there are multiple features, this also includes runs with just --all-features flag.",
-                ],
-            ),
-            Opt::FeaturePowerset => help_row(
-                "Perform for the feature powerset of the package",
-                &[
-                    ALSO_WITHOUT_DEFAULT,
-                    "When this flag is used together with --depth or namespaced features (-Z namespaced-features) and not used together with --exclude-features (--skip) and --include-features and there are multiple features, this also includes runs with just --all-features flag.",
-                ],
-            ),
-            Opt::OptionalDeps => help_row(
-                "Use optional dependencies as features",
-                &[
-                    "If DEPS are not specified, all optional dependencies are considered as features.",
-                    WITH_FEATURE_SETS,
-                ],
-            ),
-            Opt::Skip => brief("Alias for --exclude-features"),
-            Opt::ExcludeFeatures => help_row(
-                "Space or comma separated list of features to exclude",
-                &[
-                    "To exclude run of default feature, using value `--exclude-features default`.",
-                    "To exclude run of just --no-default-features flag, using --exclude-no-default-features flag.",
-                    "To exclude run of just --all-features flag, using --exclude-all-features flag.",
-                    WITH_FEATURE_SETS,
-                ],
-            ),
-            Opt::ExcludeNoDefaultFeatures => help_row(
-                "Exclude run of just --no-default-features flag",
-                &[WITH_FEATURE_SETS],
-            ),
-            Opt::ExcludeAllFeatures => help_row(
-                "Exclude run of just --all-features flag",
-                &[WITH_FEATURE_SETS],
-            ),
-            Opt::Depth => help_row(
-                "Specify a max number of simultaneous feature flags of --feature-powerset",
-                &[
-                    "If NUM is set to 1, --feature-powerset is equivalent to --each-feature.",
-                    WITH_POWERSET,
-                ],
-            ),
-            Opt::GroupFeatures => help_row(
-                "Space or comma separated list of features to group",
-                &[
-                    "This treats the specified features as if it were a single feature.",
-                    "To specify multiple groups, use this option multiple times: `--group-features a,b --group-features c,d`",
-                    WITH_POWERSET,
-                ],
-            ),
-            Opt::Target => help_row(
-                "Build for specified target triple",
-                &[
-                    "Comma-separated lists of targets are not supported, but you can specify the whole --target option multiple times to do multiple targets.",
-                    "This is actually not a cargo-hack option, it is interpreted by Cargo itself.",
-                ],
-            ),
-            Opt::MutuallyExclusiveFeatures => help_row(
-                "Space or comma separated list of features to not use together",
-                &[
-                    "To specify multiple groups, use this option multiple times: `--mutually-exclusive-features a,b --mutually-exclusive-features c,d`",
-                    WITH_POWERSET,
-                ],
-            ),
-            Opt::AllowTogether => help_row(
-                "Lift one group of --mutually-exclusive-features for one package",
-                &["This flag can only be used together with --mutually-exclusive-features flag."],
-            ),
-            Opt::AtLeastOneOf => help_row(
-                "Space or comma separated list of features. Skips sets of features that don't enable any of the features listed",
-                &[
-                    "To specify multiple groups, use this option multiple times: `--at-least-one-of a,b --at-least-one-of c,d`",
-                    WITH_POWERSET,
-                ],
-            ),
-            Opt::IncludeFeatures => help_row(
-                "Include only the specified features in the feature combinations instead of package features",
-                &[WITH_FEATURE_SETS],
-            ),
-            Opt::NoDevDeps => help_row(
-                "Perform without dev-dependencies",
-                &[
-                    "Note that this flag removes dev-dependencies from real `Cargo.toml` while cargo-hack is running and restores it when finished.",
-                ],
-            ),
-            Opt::RemoveDevDeps => brief(
-                "Equivalent to --no-dev-deps flag except for does not restore the original `Cargo.toml` after performed",
-            ),
-            Opt::NoPrivate => brief("Perform without `publish = false` crates"),
-            Opt::IgnorePrivate => brief("Skip to perform on `publish = false` packages"),
-            Opt::IgnoreUnknownFeatures => help_row(
-                "Skip passing --features flag to `cargo` if that feature does not exist in the package",
-                &[
-                    "This flag can be used with --features, --include-features, or --group-features.",
-                ],
-            ),
-            Opt::RustVersion => help_row(
-                "Perform commands on `package.rust-version`",
-                &["This cannot be used with --version-range."],
-            ),
-            Opt::VersionRange => help_row(
-                "Perform commands on a specified (inclusive) range of Rust versions",
-                &[
-                    "If the upper bound of the range is omitted, the latest stable compiler is used as the upper bound.",
-                    "If the lower bound of the range is omitted, the value of the `rust-version` field in `Cargo.toml` is used as the lower bound.",
-                    "Note that ranges are always inclusive ranges.",
-                ],
-            ),
-            Opt::VersionStep => help_row(
-                "Specify the version interval of --version-range (default to `1`)",
-                &[WITH_VERSION_RANGE],
-            ),
-            Opt::CleanPerRun => help_row(
-                "Remove artifacts for that package before running the command",
-                &[
-                    "If used this flag with --workspace, --each-feature, or --feature-powerset, artifacts will be removed before each run.",
-                    "Note that dependencies artifacts will be preserved.",
-                ],
-            ),
-            Opt::CleanPerVersion => help_row(
-                "Remove artifacts per Rust version",
-                &[
-                    "Note that dependencies artifacts will also be removed.",
-                    WITH_VERSION_RANGE,
-                ],
-            ),
-            Opt::KeepGoing => brief("Keep going on failure"),
-            Opt::Partition => brief("Partition runs and execute only its subset according to M/N"),
-            Opt::PartitionKind => help_row(
-                "Partitioning: block, turn",
-                &["This flag can only be used together with --partition flag."],
-            ),
-            Opt::LogGroup => help_row(
-                "Log grouping: none, github-actions",
-                &["If this option is not used, the environment will be automatically detected."],
-            ),
-            Opt::WorkspaceBehavior => help_row(
-                "Use Cargo's workspace handling",
-                &[
-                    "This is for use cases where cargo-hack's workspace handling does not work.",
-                    "Note that this is incompatible with flags that require cargo-hack's workspace handling to work properly (e.g., `--each-feature`, `--feature-powerset`, etc.).",
-                ],
-            ),
-            Opt::PrintCommandList => brief("Print commands without run (Unstable)"),
-            Opt::NoManifestPath => brief("Do not pass --manifest-path option to cargo (Unstable)"),
-            Opt::Verbose => brief("Use verbose output"),
-            Opt::Color => help_row(
-                "Coloring: auto, always, never",
-                &["This flag will be propagated to cargo."],
-            ),
-            Opt::Help => brief("Prints help information"),
-            Opt::Version => brief("Prints version information"),
-            Opt::NoDefaultFeatures | Opt::AllFeatures | Opt::IncludeDepsFeatures => None,
+        Row {
+            letter: Some(letter),
+            letter_shown: false,
+            ..self
         }
     }
+}
 
-    /// What an alias stands for; any other option stands for itself.
-    pub fn means(self) -> Opt
-        ensures { result ≡ meaning_of self }
-    {
-        match self {
-            Opt::All => Opt::Workspace,
-            Opt::Skip => Opt::ExcludeFeatures,
-            other => other,
-        }
+const WITH_FEATURE_SETS: &str =
+    "This flag can only be used together with either --each-feature flag or --feature-powerset flag.";
+
+const WITH_POWERSET: &str = "This flag can only be used together with --feature-powerset flag.";
+
+const WITH_VERSION_RANGE: &str = "This flag can only be used together with --version-range flag.";
+
+const ALSO_WITHOUT_DEFAULT: &str =
+    "This also includes runs with just --no-default-features flag, and default features.";
+
+/// How the option is written and cut, and the value that is shown for it.
+fn syntax(option: Opt) -> Row
+    ensures { entry result ≡ out_of_help (entry_of option) }
+{
+    match option {
+        Opt::Package => many("package", Kind::Value, "<SPEC>...").with_letter('p'),
+        Opt::All => flag("all"),
+        Opt::Workspace => flag("workspace"),
+        Opt::Exclude => many("exclude", Kind::Value, "<SPEC>..."),
+        Opt::ManifestPath => once("manifest-path", Kind::Value, "<PATH>").hidden_letter('m'),
+        Opt::Locked => flag("locked"),
+        Opt::Features => many("features", Kind::Names, "<FEATURES>...").with_letter('F'),
+        Opt::EachFeature => flag("each-feature"),
+        Opt::FeaturePowerset => flag("feature-powerset"),
+        Opt::OptionalDeps => once("optional-deps", Kind::OptionalNames, "[DEPS]..."),
+        Opt::Skip => many("skip", Kind::Names, "<FEATURES>..."),
+        Opt::ExcludeFeatures => many("exclude-features", Kind::Names, "<FEATURES>..."),
+        Opt::ExcludeNoDefaultFeatures => flag("exclude-no-default-features"),
+        Opt::ExcludeAllFeatures => flag("exclude-all-features"),
+        Opt::Depth => once("depth", Kind::Value, "<NUM>"),
+        Opt::GroupFeatures => many("group-features", Kind::Value, "<FEATURES>..."),
+        Opt::Target => many("target", Kind::Value, "<TRIPLE>"),
+        Opt::MutuallyExclusiveFeatures => many(
+            "mutually-exclusive-features",
+            Kind::Value,
+            "<FEATURES>...",
+        ),
+        Opt::AllowTogether => many("allow-together", Kind::Value, "<PKG=FEATURES>..."),
+        Opt::AtLeastOneOf => many("at-least-one-of", Kind::Value, "<FEATURES>..."),
+        Opt::IncludeFeatures => many("include-features", Kind::Names, "<FEATURES>..."),
+        Opt::NoDevDeps => flag("no-dev-deps"),
+        Opt::RemoveDevDeps => flag("remove-dev-deps"),
+        Opt::NoPrivate => flag("no-private"),
+        Opt::IgnorePrivate => flag("ignore-private"),
+        Opt::IgnoreUnknownFeatures => flag("ignore-unknown-features"),
+        Opt::RustVersion => flag("rust-version"),
+        Opt::VersionRange => once("version-range", Kind::Value, "[START]..[=END]"),
+        Opt::VersionStep => once("version-step", Kind::Value, "<NUM>"),
+        Opt::CleanPerRun => flag("clean-per-run"),
+        Opt::CleanPerVersion => flag("clean-per-version"),
+        Opt::KeepGoing => flag("keep-going"),
+        Opt::Partition => once("partition", Kind::Value, "<M/N>"),
+        Opt::PartitionKind => once("partition-kind", Kind::Value, "<KIND>"),
+        Opt::LogGroup => once("log-group", Kind::Value, "<KIND>"),
+        Opt::WorkspaceBehavior => many("workspace-behavior", Kind::Refused, ""),
+        Opt::PrintCommandList => flag("print-command-list"),
+        Opt::NoManifestPath => flag("no-manifest-path"),
+        Opt::Verbose => many("verbose", Kind::Flag, "").with_letter('v'),
+        Opt::Color => once("color", Kind::Value, "<WHEN>"),
+        Opt::Help => many("help", Kind::Help, "").with_letter('h'),
+        Opt::Version => many("version", Kind::Version, "").with_letter('V'),
+        Opt::NoDefaultFeatures => many("no-default-features", Kind::Flag, ""),
+        Opt::AllFeatures => many("all-features", Kind::Flag, ""),
+        Opt::IncludeDepsFeatures => flag("include-deps-features"),
     }
+}
 
-    /// Whether both are the same option.
-    pub fn is(self, other: Opt) -> bool
-        ensures value { result ≡ same self other }
-        ensures equal { IsTrue result ↔ (self ≡ other) }
-    {
-        self == other
+/// What the help tells of the option, where it has a row for it.
+fn help_text(option: Opt) -> Option<HelpText>
+    ensures { is_some result ≡ (entry_of option).in_help }
+{
+    match option {
+        Opt::Package => brief("Package(s) to check"),
+        Opt::All => brief("Alias for --workspace"),
+        Opt::Workspace => brief("Perform command for all packages in the workspace"),
+        Opt::Exclude => brief("Exclude packages from the check"),
+        Opt::ManifestPath => brief("Path to Cargo.toml"),
+        Opt::Locked => brief("Require Cargo.lock is up to date"),
+        Opt::Features => brief("Space or comma separated list of features to activate"),
+        Opt::EachFeature => help_row(
+            "Perform for each feature of the package",
+            &[
+                ALSO_WITHOUT_DEFAULT,
+                "When this flag is not used together with --exclude-features (--skip) and --include-features and there are multiple features, this also includes runs with just --all-features flag.",
+            ],
+        ),
+        Opt::FeaturePowerset => help_row(
+            "Perform for the feature powerset of the package",
+            &[
+                ALSO_WITHOUT_DEFAULT,
+                "When this flag is used together with --depth or namespaced features (-Z namespaced-features) and not used together with --exclude-features (--skip) and --include-features and there are multiple features, this also includes runs with just --all-features flag.",
+            ],
+        ),
+        Opt::OptionalDeps => help_row(
+            "Use optional dependencies as features",
+            &[
+                "If DEPS are not specified, all optional dependencies are considered as features.",
+                WITH_FEATURE_SETS,
+            ],
+        ),
+        Opt::Skip => brief("Alias for --exclude-features"),
+        Opt::ExcludeFeatures => help_row(
+            "Space or comma separated list of features to exclude",
+            &[
+                "To exclude run of default feature, using value `--exclude-features default`.",
+                "To exclude run of just --no-default-features flag, using --exclude-no-default-features flag.",
+                "To exclude run of just --all-features flag, using --exclude-all-features flag.",
+                WITH_FEATURE_SETS,
+            ],
+        ),
+        Opt::ExcludeNoDefaultFeatures => help_row(
+            "Exclude run of just --no-default-features flag",
+            &[WITH_FEATURE_SETS],
+        ),
+        Opt::ExcludeAllFeatures => help_row(
+            "Exclude run of just --all-features flag",
+            &[WITH_FEATURE_SETS],
+        ),
+        Opt::Depth => help_row(
+            "Specify a max number of simultaneous feature flags of --feature-powerset",
+            &[
+                "If NUM is set to 1, --feature-powerset is equivalent to --each-feature.",
+                WITH_POWERSET,
+            ],
+        ),
+        Opt::GroupFeatures => help_row(
+            "Space or comma separated list of features to group",
+            &[
+                "This treats the specified features as if it were a single feature.",
+                "To specify multiple groups, use this option multiple times: `--group-features a,b --group-features c,d`",
+                WITH_POWERSET,
+            ],
+        ),
+        Opt::Target => help_row(
+            "Build for specified target triple",
+            &[
+                "Comma-separated lists of targets are not supported, but you can specify the whole --target option multiple times to do multiple targets.",
+                "This is actually not a cargo-hack option, it is interpreted by Cargo itself.",
+            ],
+        ),
+        Opt::MutuallyExclusiveFeatures => help_row(
+            "Space or comma separated list of features to not use together",
+            &[
+                "To specify multiple groups, use this option multiple times: `--mutually-exclusive-features a,b --mutually-exclusive-features c,d`",
+                WITH_POWERSET,
+            ],
+        ),
+        Opt::AllowTogether => help_row(
+            "Lift one group of --mutually-exclusive-features for one package",
+            &["This flag can only be used together with --mutually-exclusive-features flag."],
+        ),
+        Opt::AtLeastOneOf => help_row(
+            "Space or comma separated list of features. Skips sets of features that don't enable any of the features listed",
+            &[
+                "To specify multiple groups, use this option multiple times: `--at-least-one-of a,b --at-least-one-of c,d`",
+                WITH_POWERSET,
+            ],
+        ),
+        Opt::IncludeFeatures => help_row(
+            "Include only the specified features in the feature combinations instead of package features",
+            &[WITH_FEATURE_SETS],
+        ),
+        Opt::NoDevDeps => help_row(
+            "Perform without dev-dependencies",
+            &[
+                "Note that this flag removes dev-dependencies from real `Cargo.toml` while cargo-hack is running and restores it when finished.",
+            ],
+        ),
+        Opt::RemoveDevDeps => brief(
+            "Equivalent to --no-dev-deps flag except for does not restore the original `Cargo.toml` after performed",
+        ),
+        Opt::NoPrivate => brief("Perform without `publish = false` crates"),
+        Opt::IgnorePrivate => brief("Skip to perform on `publish = false` packages"),
+        Opt::IgnoreUnknownFeatures => help_row(
+            "Skip passing --features flag to `cargo` if that feature does not exist in the package",
+            &["This flag can be used with --features, --include-features, or --group-features."],
+        ),
+        Opt::RustVersion => help_row(
+            "Perform commands on `package.rust-version`",
+            &["This cannot be used with --version-range."],
+        ),
+        Opt::VersionRange => help_row(
+            "Perform commands on a specified (inclusive) range of Rust versions",
+            &[
+                "If the upper bound of the range is omitted, the latest stable compiler is used as the upper bound.",
+                "If the lower bound of the range is omitted, the value of the `rust-version` field in `Cargo.toml` is used as the lower bound.",
+                "Note that ranges are always inclusive ranges.",
+            ],
+        ),
+        Opt::VersionStep => help_row(
+            "Specify the version interval of --version-range (default to `1`)",
+            &[WITH_VERSION_RANGE],
+        ),
+        Opt::CleanPerRun => help_row(
+            "Remove artifacts for that package before running the command",
+            &[
+                "If used this flag with --workspace, --each-feature, or --feature-powerset, artifacts will be removed before each run.",
+                "Note that dependencies artifacts will be preserved.",
+            ],
+        ),
+        Opt::CleanPerVersion => help_row(
+            "Remove artifacts per Rust version",
+            &[
+                "Note that dependencies artifacts will also be removed.",
+                WITH_VERSION_RANGE,
+            ],
+        ),
+        Opt::KeepGoing => brief("Keep going on failure"),
+        Opt::Partition => brief("Partition runs and execute only its subset according to M/N"),
+        Opt::PartitionKind => help_row(
+            "Partitioning: block, turn",
+            &["This flag can only be used together with --partition flag."],
+        ),
+        Opt::LogGroup => help_row(
+            "Log grouping: none, github-actions",
+            &["If this option is not used, the environment will be automatically detected."],
+        ),
+        Opt::WorkspaceBehavior => help_row(
+            "Use Cargo's workspace handling",
+            &[
+                "This is for use cases where cargo-hack's workspace handling does not work.",
+                "Note that this is incompatible with flags that require cargo-hack's workspace handling to work properly (e.g., `--each-feature`, `--feature-powerset`, etc.).",
+            ],
+        ),
+        Opt::PrintCommandList => brief("Print commands without run (Unstable)"),
+        Opt::NoManifestPath => brief("Do not pass --manifest-path option to cargo (Unstable)"),
+        Opt::Verbose => brief("Use verbose output"),
+        Opt::Color => help_row(
+            "Coloring: auto, always, never",
+            &["This flag will be propagated to cargo."],
+        ),
+        Opt::Help => brief("Prints help information"),
+        Opt::Version => brief("Prints version information"),
+        Opt::NoDefaultFeatures | Opt::AllFeatures | Opt::IncludeDepsFeatures => None,
     }
 }
 
@@ -387,30 +408,6 @@ fn many(name: &'static str, kind: Kind, value: &'static str) -> Row
     Row {
         once: false,
         ..once(name, kind, value)
-    }
-}
-
-impl Row {
-    /// The same option, written as a letter too.
-    fn with_letter(self, letter: char) -> Row
-        ensures { entry result ≡ record (entry self) { letter = Some letter } }
-    {
-        Row {
-            letter: Some(letter),
-            ..self
-        }
-    }
-
-    /// The same, where the help doesn't show the letter.
-    fn hidden_letter(self, letter: char) -> Row
-        ensures { entry result ≡ record (entry self)
-            { letter = Some letter; letter_shown = false } }
-    {
-        Row {
-            letter: Some(letter),
-            letter_shown: false,
-            ..self
-        }
     }
 }
 

@@ -3,7 +3,7 @@ use Rattle.std.specs.Prelude.{ℕ, ◌||◌, ◌&&◌, not, ◌++◌, ◌-◌, L
 use Rattle.std.specs.Prelude.{Option, Some, None, Result, Ok, Err, option_map, option_and_then}
 use Rattle.std.specs.Prelude.{codes, nat_lt, bytes_eq}
 use Rattle.std.specs.List.{list_any, repeat}
-use Rattle.hack_options.specs.declared.Opt.TheVariants as opt
+use Rattle.hack_options.specs.declared.opt.Opt.TheVariants as opt
 use Rattle.hack_uses.specs.declared.behavior.WorkspaceBehavior.{WorkspaceBehavior}
 use Rattle.hack_uses.specs.Faults.{LongFlag, ShortFlag}
 use Rattle.hack_uses.specs.Passed.{leading_of, count_of}

@@ -1,6 +1,6 @@
 -- The rule on a missing subcommand.
 use Rattle.std.specs.Prelude.{ℕ, List, Bool, false, Option, Some, None, codes, if◌then◌else◌}
-use Rattle.hack_options.specs.declared.Opt.TheVariants as opt
+use Rattle.hack_options.specs.declared.opt.Opt.TheVariants as opt
 use Rattle.hack_uses.specs.declared.behavior.WorkspaceBehavior.{WorkspaceBehavior}
 use Rattle.hack_uses.specs.Passed.{leading_of}
 use Rattle.hack_uses.specs.Uses.{Use, is_given}

@@ -1,7 +1,7 @@
 -- Why words are refused, without where the texts of a fault lie in memory.
 use Rattle.std.specs.Prelude.{ℕ, ◌≡◌, List, Option, Some, None, Result, Ok, Err, MatchOption}
 use Rattle.std.specs.Prelude.{string_bytes, option_map}
-use Rattle.hack_options.specs.declared.Opt.{Opt}
+use Rattle.hack_options.specs.declared.opt.Opt.{Opt}
 use Rattle.hack_uses.specs.Faults.{fault_of as cut_fault_of, Fault as WrongCut}
 use Rattle.hack_uses.specs.declared.fault.CutFault.{CutFault}
 use Rattle.hack_uses.specs.declared.fault.CutFault.TheVariants as cut

@@ -1,8 +1,8 @@
 -- The lists that uses of options give.
 use Rattle.std.specs.Prelude.{ℕ, List, [], ◌∷◌, ◌&&◌, Bool, true, false, Option, Some, None, length, map, nat_lt, bytes_eq, option_map, if◌then◌else◌}
 use Rattle.std.specs.List.{flat_map, filter_map, list_any}
-use Rattle.hack_options.specs.declared.Opt.{Opt}
-use Rattle.hack_options.specs.declared.Opt.TheVariants as opt
+use Rattle.hack_options.specs.declared.opt.Opt.{Opt}
+use Rattle.hack_options.specs.declared.opt.Opt.TheVariants as opt
 use Rattle.hack_uses.specs.Uses.{Use, is_given}
 use Rattle.hack_uses.specs.Values.{value_given, values_given}
 use Rattle.hack_base.specs.Cuts.{front_of, rest_of}

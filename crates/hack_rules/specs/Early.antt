@@ -1,8 +1,8 @@
 -- The rules before that on a missing subcommand.
 use Rattle.std.specs.Prelude.{ℕ, ◌&&◌, ◌||◌, not, List, [], ◌∷◌, Bool, false, Option, Some, None, codes, nat_eq, bytes_eq, option_map, if◌then◌else◌}
 use Rattle.std.specs.List.{list_any, starts_with}
-use Rattle.hack_options.specs.declared.Opt.{Opt}
-use Rattle.hack_options.specs.declared.Opt.TheVariants as opt
+use Rattle.hack_options.specs.declared.opt.Opt.{Opt}
+use Rattle.hack_options.specs.declared.opt.Opt.TheVariants as opt
 use Rattle.hack_uses.specs.declared.behavior.WorkspaceBehavior.{WorkspaceBehavior}
 use Rattle.hack_uses.specs.Behavior.{is_cargo}
 use Rattle.hack_uses.specs.Passed.{leading_of}

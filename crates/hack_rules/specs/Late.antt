@@ -1,7 +1,7 @@
 -- The rules behind that on a missing subcommand.
 use Rattle.std.specs.Prelude.{ℕ, ◌&&◌, ◌||◌, List, [], ◌∷◌, Bool, Option, Some, None, nat_lt}
-use Rattle.hack_options.specs.declared.Opt.{Opt}
-use Rattle.hack_options.specs.declared.Opt.TheVariants as opt
+use Rattle.hack_options.specs.declared.opt.Opt.{Opt}
+use Rattle.hack_options.specs.declared.opt.Opt.TheVariants as opt
 use Rattle.hack_uses.specs.Uses.{Use, is_given}
 use Rattle.hack_uses.specs.Values.{value_given}
 use Rattle.hack_rules.specs.declared.fault.Beside.TheVariants as beside

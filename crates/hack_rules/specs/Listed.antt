@@ -1,6 +1,6 @@
 -- The lists of features that rules look at.
 use Rattle.std.specs.Prelude.{ℕ, List, Option}
-use Rattle.hack_options.specs.declared.Opt.TheVariants as opt
+use Rattle.hack_options.specs.declared.opt.Opt.TheVariants as opt
 use Rattle.hack_uses.specs.Uses.{Use}
 use Rattle.hack_rules.specs.CliLists.{names_given, groups_given, optional_given}
 

@@ -1,7 +1,7 @@
 -- What rules on uses of options are made of, each the fault that it gives, if any; and what rules come to.
 use Rattle.std.specs.Prelude.{ℕ, ◌&&◌, not, List, [], ◌∷◌, Bool, Option, Some, None, length, nat_lt, bytes_eq, option_and_then, if◌then◌else◌}
 use Rattle.std.specs.List.{list_any}
-use Rattle.hack_options.specs.declared.Opt.{Opt}
+use Rattle.hack_options.specs.declared.opt.Opt.{Opt}
 use Rattle.hack_uses.specs.Uses.{Use, is_given}
 use Rattle.hack_rules.specs.declared.fault.Beside.{Beside}
 use Rattle.hack_rules.specs.CliFaults.{Fault, Needs, Clash}

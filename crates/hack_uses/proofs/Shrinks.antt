@@ -2,12 +2,12 @@
 use Rattle.std.proofs.Common.{◌≡◌, ◌+◌, ◌<◌, ◌≤◌, ℕ, List, [], ◌∷◌, ◌&&◌, ◌++◌, append-nil, append_assoc, Ok, Some, ◌∙◌, true, false, length, ap, sym, refl, Err, None, Option, Result, zero, suc, cond, codes, nat_lt, nat_eq, subst, drop, encode_utf8, length-drop, arith}
 use Rattle.std.specs.List.{starts_with, position_or_len, after_first}
 use Rattle.std.proofs.lemmas.Str.{length-encode, len_utf8_bounds}
-use Rattle.hack_lexopt.specs.declared.LexFault.{LexFault}
-use Rattle.hack_lexopt.specs.declared.LexFault.TheVariants.{UnexpectedValue}
+use Rattle.hack_lexopt.specs.declared.fault.LexFault.{LexFault}
+use Rattle.hack_lexopt.specs.declared.fault.LexFault.TheVariants.{UnexpectedValue}
 use Rattle.hack_lexopt.specs.Cuts.{Left, Untaken, Nothing, Pending, Chain, Cut, LongCut, ShortCut, ValueCut, is_long, is_chain, is_equals, is_plain, pending_of, first_letter, after_letter, chain_of, untaken_of, next_cut, after_cut, after_value, after_attached, after_optional, value_of, optional_of, attached_value, unexpected_of}
-use Rattle.hack_options.specs.declared.Opt.{Opt}
-use Rattle.hack_options.specs.declared.Kind.{Kind}
-use Rattle.hack_options.specs.declared.Kind.TheVariants as kind
+use Rattle.hack_options.specs.declared.opt.Opt.{Opt}
+use Rattle.hack_options.specs.declared.table.Kind.{Kind}
+use Rattle.hack_options.specs.declared.table.Kind.TheVariants as kind
 use Rattle.hack_options.specs.Table.{entry_of, meaning_of}
 use Rattle.hack_options.specs.Find.{long_option, short_option}
 use Rattle.hack_uses.specs.declared.cut.Print.{Print}

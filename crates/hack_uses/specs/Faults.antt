@@ -2,7 +2,7 @@
 use Rattle.std.specs.Prelude.{ℕ, List, Option, Some, None, string_bytes}
 use Rattle.hack_base.specs.Names.{optional_text}
 use Rattle.hack_lexopt.specs.Cuts.{Cut, LongCut, ShortCut, ValueCut, as_written}
-use Rattle.hack_options.specs.declared.Opt.{Opt}
+use Rattle.hack_options.specs.declared.opt.Opt.{Opt}
 use Rattle.hack_uses.specs.declared.fault.OwnedFlag.{OwnedFlag}
 use Rattle.hack_uses.specs.declared.fault.OwnedFlag.TheVariants as owned
 use Rattle.hack_uses.specs.declared.fault.CutFault.{CutFault}

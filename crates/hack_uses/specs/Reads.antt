@@ -3,11 +3,11 @@ use Rattle.std.specs.Prelude.{ℕ, ◌≡◌, List, [], ◌∷◌, ◌++◌, ◌
 use Rattle.std.specs.Str.{bytes_eq}
 use Rattle.hack_lexopt.specs.Cuts.{Cut, LongCut, ShortCut, ValueCut, Left, next_cut, after_cut, attached_value, after_attached, value_of, after_value, optional_of, after_optional, unexpected_of}
 use Rattle.hack_lexopt.specs.Parsers.{start}
-use Rattle.hack_lexopt.specs.declared.LexFault.{LexFault}
-use Rattle.hack_options.specs.declared.Opt.{Opt}
-use Rattle.hack_options.specs.declared.Opt.TheVariants as opt
-use Rattle.hack_options.specs.declared.Kind.{Kind}
-use Rattle.hack_options.specs.declared.Kind.TheVariants as kind
+use Rattle.hack_lexopt.specs.declared.fault.LexFault.{LexFault}
+use Rattle.hack_options.specs.declared.opt.Opt.{Opt}
+use Rattle.hack_options.specs.declared.opt.Opt.TheVariants as opt
+use Rattle.hack_options.specs.declared.table.Kind.{Kind}
+use Rattle.hack_options.specs.declared.table.Kind.TheVariants as kind
 use Rattle.hack_options.specs.Table.{entry_of, meaning_of}
 use Rattle.hack_options.specs.Find.{long_option, short_option}
 use Rattle.hack_uses.specs.declared.cut.Print.{Print}

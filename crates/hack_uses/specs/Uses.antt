@@ -2,7 +2,7 @@
 use Rattle.std.specs.Prelude.{ℕ, List, [], ◌∷◌, Bool, false, Option, Some, None, map, string_bytes}
 use Rattle.std.specs.List.{list_any}
 use Rattle.hack_base.specs.Names.{optional_text}
-use Rattle.hack_options.specs.declared.Opt.{Opt}
+use Rattle.hack_options.specs.declared.opt.Opt.{Opt}
 use Rattle.hack_options.specs.Table.{same}
 use Rattle.hack_uses.specs.declared.cut.Use.{Use as CodeUse}
 use Rattle.hack_uses.specs.declared.cut.Use.TheVariants as code

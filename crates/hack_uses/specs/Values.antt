@@ -1,6 +1,6 @@
 -- What the uses of an option give it.
 use Rattle.std.specs.Prelude.{ℕ, List, [], ◌∷◌, Option, Some, None, if◌then◌else◌}
-use Rattle.hack_options.specs.declared.Opt.{Opt}
+use Rattle.hack_options.specs.declared.opt.Opt.{Opt}
 use Rattle.hack_options.specs.Table.{same}
 use Rattle.hack_uses.specs.Uses.{Use, Known, Unknown, Word}
 

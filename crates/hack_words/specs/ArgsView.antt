@@ -1,7 +1,7 @@
 -- What arguments say, field by field.
 use Rattle.std.specs.Prelude.{ℕ, ◌≡◌, List, Bool, Option, IfSome, option_map}
 use Rattle.hack_base.specs.Names.{names_of, optional_text}
-use Rattle.hack_options.specs.declared.Opt.TheVariants as opt
+use Rattle.hack_options.specs.declared.opt.Opt.TheVariants as opt
 use Rattle.hack_uses.specs.declared.behavior.WorkspaceBehavior.{WorkspaceBehavior}
 use Rattle.hack_uses.specs.Uses.{Use, is_given, subcommand_of}
 use Rattle.hack_uses.specs.Values.{value_given, values_given}

@@ -1,6 +1,6 @@
 -- What words come to beside their environment: a fault, a text to print, cargo's list, or arguments.
 use Rattle.std.specs.Prelude.{ℕ, ◌≡◌, ◌++◌, ◌&&◌, ◌||◌, List, [], ◌∷◌, Bool, true, false, Option, Some, None, codes, if◌then◌else◌}
-use Rattle.hack_options.specs.declared.Opt.TheVariants as opt
+use Rattle.hack_options.specs.declared.opt.Opt.TheVariants as opt
 use Rattle.hack_uses.specs.declared.behavior.WorkspaceBehavior.{WorkspaceBehavior}
 use Rattle.hack_uses.specs.declared.cut.Print.{Print}
 use Rattle.hack_uses.specs.Reads.{Reading, Met, End, Prints as Questions, Fails, Ends}

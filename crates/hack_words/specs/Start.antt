@@ -1,7 +1,7 @@
 -- How the words of a call begin, before they are cut into options.
 use Rattle.std.specs.Prelude.{ℕ, List, [], ◌∷◌, not, ◌||◌, Bool, None, codes, length, nat_lt, nat_eq, bytes_eq, if◌then◌else◌}
 use Rattle.std.specs.List.{filter, list_any, starts_with}
-use Rattle.hack_options.specs.declared.Opt.TheVariants as opt
+use Rattle.hack_options.specs.declared.opt.Opt.TheVariants as opt
 use Rattle.hack_uses.specs.declared.behavior.WorkspaceBehavior.{WorkspaceBehavior}
 use Rattle.hack_uses.specs.declared.behavior.WorkspaceBehavior.TheVariants.{Cargo, Default}
 use Rattle.hack_uses.specs.Faults.{LongFlag, Repeat}

@@ -1,7 +1,7 @@
 -- How the words of a call begin, as the code answers it.
 use Rattle.std.specs.Prelude.{ℕ, ◌≡◌, List, true, false, None, Result, Ok, Err, MatchOption, codes, nat_lt}
 use Rattle.hack_base.specs.Names.{names_of}
-use Rattle.hack_options.specs.declared.Opt.TheVariants as opt
+use Rattle.hack_options.specs.declared.opt.Opt.TheVariants as opt
 use Rattle.hack_uses.specs.Faults.{LongFlag, Repeat}
 use Rattle.hack_rules.specs.declared.fault.CliFault.{CliFault}
 use Rattle.hack_rules.specs.declared.fault.CliFault.TheVariants as fault

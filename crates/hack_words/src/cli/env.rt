@@ -6,6 +6,7 @@ ghost use Rattle.hack_rules.specs.Asked.{or_else};
 ghost use Rattle.hack_words.specs.EnvView.{IsEnv, variable as variable_named, is_set as set};
 ghost use Rattle.hack_words.specs.EnvView.{vars_of};
 
+use hack_base::copies::copy_of;
 use std::alloc::{AllocError, Global};
 
 /// What a call looks up beside its words.
@@ -63,13 +64,9 @@ impl Env {
     ) -> Result<Env, AllocError>
         ensures { IfOk result (IsEnv (vars_of vars.now) (string_bytes current_dir)) }
     {
-        let term_color = match variable(vars, "CARGO_TERM_COLOR") {
-            Some(color) => Some(color.clone()?),
-            None => None,
-        };
         let cargo = variable(vars, "CARGO_HACK_CARGO_SRC").or(variable(vars, "CARGO"));
         Ok(Env {
-            term_color,
+            term_color: copy_of(variable(vars, "CARGO_TERM_COLOR"))?,
             github_actions: is_set(vars, "GITHUB_ACTIONS"),
             deny_warnings: is_set(vars, "CARGO_HACK_DENY_WARNINGS"),
             cargo: value_or(alloc, cargo, "cargo")?,

@@ -1,6 +1,6 @@
 use Rattle.std.proofs.Common.{rules, ◌≡◌, ◌∙◌, [], sym, subst, List, ℕ, String, map, string_bytes, Global}
 use Rattle.std.proofs.lemmas.Result.{IfOk-weaker}
-use Rattle.hack_options.specs.declared.Opt.TheVariants as opt
+use Rattle.hack_options.specs.declared.opt.Opt.TheVariants as opt
 use Rattle.hack_uses.specs.Uses.{views}
 use Rattle.hack_uses.specs.Values.{values_given}
 use Rattle.hack_rules.specs.CliTargets.{AreSame, put_all}

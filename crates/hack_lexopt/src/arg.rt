@@ -1,0 +1,51 @@
+//! What a word is cut into.
+
+ghost use Rattle.hack_lexopt.specs.Cuts.{as_written};
+ghost use Rattle.hack_lexopt.specs.Parsers.{cut_in, flag_cut};
+
+use std::fmt;
+
+/// One cut. Its text is the option as it was written, `--name` or `-c`, or the value.
+#[derive(Clone, Copy, Debug, PartialEq, Eq)]
+pub enum Arg<'a> {
+    /// The name without its `--`.
+    Long(&'a str),
+    Short(char),
+    /// A word that is no option.
+    Value(&'a str),
+}
+
+impl fmt::Display for Arg<'_> {
+    ghost use Rattle.std.specs.Prelude.{Some};
+
+    ghost output = { λ arg. Some (as_written (cut_in arg)) };
+
+    fn fmt<W: fmt::Write>(&self, f: &mut fmt::Formatter<W>) -> fmt::Result {
+        match self {
+            Arg::Long(name) => write!(f, "--{name}"),
+            Arg::Short(letter) => write!(f, "-{letter}"),
+            Arg::Value(word) => write!(f, "{word}"),
+        }
+    }
+}
+
+/// An option as it was written. Its text is that, `--name` or `-c`.
+#[derive(Clone, Copy, Debug, PartialEq, Eq)]
+pub enum Flag<'a> {
+    /// The name without its `--`.
+    Long(&'a str),
+    Short(char),
+}
+
+impl fmt::Display for Flag<'_> {
+    ghost use Rattle.std.specs.Prelude.{Some};
+
+    ghost output = { λ flag. Some (as_written (flag_cut flag)) };
+
+    fn fmt<W: fmt::Write>(&self, f: &mut fmt::Formatter<W>) -> fmt::Result {
+        match self {
+            Flag::Long(name) => write!(f, "--{name}"),
+            Flag::Short(letter) => write!(f, "-{letter}"),
+        }
+    }
+}

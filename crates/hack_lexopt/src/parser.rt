@@ -1,0 +1,153 @@
+//! The parser: it walks over words, and each call answers what stands next.
+
+ghost use Rattle.std.specs.Prelude.{◌≡◌, ◌≢◌, ◌<◌, None, Some, true, OnOk, OnErr, IfOk, IfErr, length};
+ghost use Rattle.std.specs.Prelude.{map, string_bytes};
+ghost use Rattle.std.specs.Borrow.{sem};
+ghost use Rattle.std.specs.Str.{IsCharBoundary};
+ghost use Rattle.hack_base.specs.Names.{optional_text};
+ghost use Rattle.hack_lexopt.specs.Cuts.{is_long, next_cut, after_cut, attached_value};
+ghost use Rattle.hack_lexopt.specs.Cuts.{after_attached, value_of, after_value, optional_of};
+ghost use Rattle.hack_lexopt.specs.Cuts.{after_optional};
+ghost use Rattle.hack_lexopt.specs.declared.cuts.Place.TheVariants.{Closed, Letters};
+
+use crate::arg::{Arg, Flag};
+use crate::cuts::{Place, Spot, first_cut, flag_of, is_plain, is_refused, letter_cut, value_of};
+use crate::fault::LexFault;
+use std::alloc::{AllocError, Global};
+use std::collections::VecDeque;
+
+/// Walks over words, one cut after the other.
+#[derive(Drop)]
+pub struct Parser {
+    words: VecDeque<String>,
+    word: String,
+    spot: Spot,
+    ghost boundary: { IsCharBoundary (string_bytes word) spot.at },
+    ghost letters: { spot.place ≡ Letters → spot.at < length (string_bytes word) },
+    ghost long: { spot.place ≢ Closed → spot.letter ≡ None → is_long (string_bytes word) ≡ true },
+}
+
+/// What is next of the words.
+#[derive(Clone, Copy, Debug, PartialEq, Eq)]
+pub enum Next<'a> {
+    /// An option, or a word that is none.
+    Cut(Arg<'a>),
+    /// Nobody took the value that is attached to the option.
+    Refused { option: Flag<'a>, value: &'a str },
+    /// No word is left.
+    End,
+}
+
+impl Parser {
+    ghost use Rattle.hack_lexopt.specs.Parsers.{left_in, start, cut_seen, IsNext, Leaves};
+
+    /// A parser that stands at the first word.
+    pub fn from_args(alloc: Global, words: Vec<String>) -> Parser
+        ensures { left_in result ≡ start (map string_bytes words.items) }
+    {
+        Parser {
+            words: VecDeque::from_vec(words),
+            word: String::new(alloc),
+            spot: Spot {
+                letter: None,
+                at: 0,
+                place: Place::Closed,
+            },
+        }
+    }
+
+    /// What is next: a cut, the end, or a value that nobody took, and then the parser stands at the
+    /// next word.
+    pub fn cut(&mut self) -> Next<'_>
+        ensures* leaves { sem 𝓛 (Leaves self.entry (after_cut (left_in self.old))) }
+        ensures next { IsNext (left_in self.old) result }
+    {
+        let Spot { letter, at, place } = self.spot;
+        if is_refused(place, &self.word.as_str()[at..]) {
+            self.spot.place = Place::Closed;
+            let word = self.word.as_str();
+            return Next::Refused {
+                option: flag_of(letter, word),
+                value: value_of(place, &word[at..]),
+            };
+        }
+        if let Place::Letters = place {
+            // Cut twice: for the spot, and for the letter that is answered.
+            self.spot = letter_cut(self.word.as_str(), at).spot;
+            return Next::Cut(letter_cut(self.word.as_str(), at).arg);
+        }
+        let Some(word) = self.words.pop_front() else {
+            return Next::End;
+        };
+        // Cut twice: the answer borrows the word from where the parser keeps it.
+        let spot = first_cut(word.as_str()).spot;
+        self.word = word;
+        self.spot = spot;
+        Next::Cut(first_cut(self.word.as_str()).arg)
+    }
+
+    /// The next cut, or none behind the last word. A value that nobody took is refused here, and
+    /// then the parser stands at the next word.
+    pub fn next(&mut self) -> Result<Option<Arg<'_>>, LexFault>
+        ensures* leaves { sem 𝓛 (Leaves self.entry (after_cut (left_in self.old))) }
+        ensures cut { cut_seen result ≡ next_cut (left_in self.old) }
+        ensures refused { IfErr result (λ fault. fault ≡ LexFault.UnexpectedValue) }
+    {
+        match self.cut() {
+            Next::Cut(arg) => Ok(Some(arg)),
+            Next::Refused { .. } => Err(LexFault::UnexpectedValue),
+            Next::End => Ok(None),
+        }
+    }
+
+    /// The value that is attached to the option that was cut last: what stands behind the `=` of a
+    /// long one, or the rest of a chain with one leading `=` dropped.
+    pub fn optional_value(&mut self, alloc: Global) -> Result<Option<String>, AllocError>
+        ensures value { IfOk result
+            (λ value. optional_text value ≡ attached_value (left_in self.old).untaken) }
+        ensures ok { OnOk result (left_in self.new ≡ after_attached (left_in self.old)) }
+        ensures err { OnErr result (left_in self.new ≡ left_in self.old) }
+    {
+        let Spot { at, place, .. } = self.spot;
+        if let Place::Closed = place {
+            return Ok(None);
+        }
+        let value = value_of(place, &self.word.as_str()[at..]);
+        let value = String::from_str(alloc, value)?;
+        self.spot.place = Place::Closed;
+        Ok(Some(value))
+    }
+
+    /// The value of the option that was cut last: what is attached, else the next word whatever it
+    /// is.
+    pub fn value(&mut self, alloc: Global) -> Result<String, LexFault>
+        ensures value { IfOk result
+            (λ value. value_of (left_in self.old) ≡ Some (string_bytes value)) }
+        ensures missing { result ≡ Err LexFault.MissingValue → value_of (left_in self.old) ≡ None }
+        ensures expected { result ≢ Err LexFault.UnexpectedValue }
+        ensures ok { OnOk result (left_in self.new ≡ after_value (left_in self.old)) }
+        ensures err { OnErr result (left_in self.new ≡ left_in self.old) }
+    {
+        match self.optional_value(alloc)? {
+            Some(value) => Ok(value),
+            None => self.words.pop_front().ok_or(LexFault::MissingValue),
+        }
+    }
+
+    /// The value of an option that may stand without one: what is attached, else the next word
+    /// unless that is an option.
+    pub fn value_or_none(&mut self, alloc: Global) -> Result<Option<String>, AllocError>
+        ensures value { IfOk result
+            (λ value. optional_text value ≡ optional_of (left_in self.old)) }
+        ensures ok { OnOk result (left_in self.new ≡ after_optional (left_in self.old)) }
+        ensures err { OnErr result (left_in self.new ≡ left_in self.old) }
+    {
+        if let Some(value) = self.optional_value(alloc)? {
+            return Ok(Some(value));
+        }
+        match self.words.front() {
+            Some(word) if is_plain(word.as_str()) => Ok(self.words.pop_front()),
+            _ => Ok(None),
+        }
+    }
+}

@@ -1,0 +1,138 @@
+//! An option, what it stands for, and how it is named.
+
+ghost use Rattle.std.specs.Prelude.{◌≡◌, ◌↔◌, ◌&&◌, IsTrue, Some};
+ghost use Rattle.hack_options.specs.Table.{entry, entry_of, meaning_of, same};
+ghost use Rattle.hack_options.specs.Texts.{shown_option, shown_name as name_of, aliased_option};
+ghost use Rattle.hack_options.specs.Texts.{has_usage as named_in_help};
+ghost use Rattle.hack_options.specs.Texts.{shows_letter as letter_in_help};
+
+use crate::messages::WithAlias;
+use crate::table::Row;
+use std::fmt;
+
+/// An option of `cargo hack`. Aliases have a variant of their own, since the help has a row for
+/// each.
+#[derive(Clone, Copy, Debug, PartialEq, Eq)]
+pub enum Opt {
+    Package,
+    /// Stands for `Workspace`.
+    All,
+    Workspace,
+    Exclude,
+    ManifestPath,
+    Locked,
+    Features,
+    EachFeature,
+    FeaturePowerset,
+    OptionalDeps,
+    /// Stands for `ExcludeFeatures`.
+    Skip,
+    ExcludeFeatures,
+    ExcludeNoDefaultFeatures,
+    ExcludeAllFeatures,
+    Depth,
+    GroupFeatures,
+    Target,
+    MutuallyExclusiveFeatures,
+    AllowTogether,
+    AtLeastOneOf,
+    IncludeFeatures,
+    NoDevDeps,
+    RemoveDevDeps,
+    NoPrivate,
+    IgnorePrivate,
+    IgnoreUnknownFeatures,
+    RustVersion,
+    VersionRange,
+    VersionStep,
+    CleanPerRun,
+    CleanPerVersion,
+    KeepGoing,
+    Partition,
+    PartitionKind,
+    LogGroup,
+    WorkspaceBehavior,
+    PrintCommandList,
+    NoManifestPath,
+    Verbose,
+    Color,
+    Help,
+    Version,
+    NoDefaultFeatures,
+    AllFeatures,
+    IncludeDepsFeatures,
+}
+
+/// The option as messages name it. `--workspace-behavior` is named with `cargo`, the only value
+/// that it takes.
+impl fmt::Display for Opt {
+    ghost output = { λ o. Some (shown_option o) };
+
+    fn fmt<W: fmt::Write>(&self, f: &mut fmt::Formatter<W>) -> fmt::Result {
+        let name = self.shown_name();
+        write!(f, "--{name}")
+    }
+}
+
+impl Opt {
+    /// The option's row in the table.
+    pub fn row(self) -> Row
+        ensures { entry result ≡ entry_of self }
+    {
+        Row::of(self)
+    }
+
+    /// What an alias stands for; any other option stands for itself.
+    pub fn means(self) -> Opt
+        ensures { result ≡ meaning_of self }
+    {
+        match self {
+            Opt::All => Opt::Workspace,
+            Opt::Skip => Opt::ExcludeFeatures,
+            other => other,
+        }
+    }
+
+    /// Whether both are the same option.
+    pub fn is(self, other: Opt) -> bool
+        ensures value { result ≡ same self other }
+        ensures equal { IsTrue result ↔ (self ≡ other) }
+    {
+        self == other
+    }
+
+    /// The name that messages show.
+    pub(crate) fn shown_name(self) -> &'static str
+        ensures { result.now ≡ name_of self }
+    {
+        match self {
+            Opt::WorkspaceBehavior => "workspace-behavior=cargo",
+            option => option.row().name,
+        }
+    }
+
+    /// The option for a message that tells its alias too.
+    pub fn with_alias(self) -> WithAlias
+        ensures { aliased_option result ≡ self }
+    {
+        WithAlias { option: self }
+    }
+
+    /// Whether a row of the help has just this name: that of `--workspace-behavior` has its value
+    /// too.
+    pub(crate) fn has_usage(self) -> bool
+        ensures { result ≡ named_in_help self }
+    {
+        match self {
+            Opt::WorkspaceBehavior => false,
+            option => option.row().told.is_some(),
+        }
+    }
+
+    /// Whether a row of the help has just this name, and its letter too.
+    pub(crate) fn has_letter_usage(self) -> bool
+        ensures { result ≡ (named_in_help self && letter_in_help self) }
+    {
+        self.has_usage() && self.row().letter_shown
+    }
+}
