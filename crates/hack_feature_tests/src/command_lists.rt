@@ -23,12 +23,13 @@ const LONE_REQUIRED: &str =
 const LONE_EXCLUSIVE: &str =
     "--mutually-exclusive-features requires a list of two or more features separated by space or comma";
 
-/// The text of a list whose lines are told by their features: `P` is the plain run, and `N` the one without default
-/// features and without others.
+/// The text of a list whose lines are told by their features: `P` is the plain run, `N` the one without default features
+/// and without others, and `-` stands for no line.
 fn list_text(alloc: Global, told: &str) -> Result<String, AllocError> {
     let mut text = String::new(alloc);
     for line in told.split(';') {
         match line {
+            "-" => {}
             "P" => text.push_str("cargo check\n")?,
             "N" => text.push_str("cargo check --no-default-features\n")?,
             features => {
@@ -77,6 +78,7 @@ fn lists_of_small_maps(rt: HostRuntime) -> Result<(), Fail> {
         ("", r#"{"a":["b"],"b":["a"]}"#, "N;b;a"),
         ("--depth 1", FOUR, "N;a;b;c;d"),
         ("--depth 0", r#"{"a":[]}"#, "N"),
+        ("--depth 0 --at-least-one-of a,b", r#"{"a":[]}"#, "-"),
         ("--depth 18446744073709551615", r#"{"a":[]}"#, "N;a"),
         ("--at-least-one-of x,y", FOUR, "c,d;a;b;c;d"),
         ("--at-least-one-of a,b", "{}", "P"),

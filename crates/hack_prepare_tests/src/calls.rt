@@ -42,6 +42,29 @@ const PRIVATE_ROOT: World<'static> = World {
     ..ROOT
 };
 
+/// No text names the private member, and there is no header behind which its folder could be excluded.
+const UNPLACED: World<'static> = World {
+    files: &[
+        ("/w/Cargo.toml", "workspace.members = [\"*\"]\n"),
+        ("/w/p/Cargo.toml", "[package]\n"),
+        ("/w/q/Cargo.toml", "[package]\n"),
+    ],
+    ..VIRTUAL
+};
+
+/// No text names the private member, and among the excluded folders stands what is no text.
+const NUMBERED: World<'static> = World {
+    files: &[
+        (
+            "/w/Cargo.toml",
+            "[workspace]\nmembers = [\"*\"]\nexclude = [1]\n",
+        ),
+        ("/w/p/Cargo.toml", "[package]\n"),
+        ("/w/q/Cargo.toml", "[package]\n"),
+    ],
+    ..VIRTUAL
+};
+
 /// A member's development dependencies are in an inline table.
 const INLINE: World<'static> = World {
     files: &[
@@ -76,6 +99,16 @@ fn private_members(rt: HostRuntime) -> Result<(), Fail> {
             PRIVATE_ROOT,
             "hack check --no-private",
             "status 1\ninfo: --no-private modifies real `Cargo.toml` while cargo-hack is running and restores it when finished\nerror: --no-private is not supported yet with workspace with private root crate\n",
+        ),
+        (
+            UNPLACED,
+            "hack check --no-private --workspace",
+            "status 1\ninfo: --no-private modifies real `Cargo.toml` while cargo-hack is running and restores it when finished\nerror: unsupported form of manifest `/w/Cargo.toml`\n",
+        ),
+        (
+            NUMBERED,
+            "hack check --no-private --workspace",
+            "status 1\ninfo: --no-private modifies real `Cargo.toml` while cargo-hack is running and restores it when finished\nerror: failed to edit manifest `/w/Cargo.toml`\n",
         ),
         (
             INLINE,

@@ -32,6 +32,11 @@ fn lists(rt: HostRuntime) -> Result<(), Fail> {
         ),
         (
             AD,
+            "hack check --feature-powerset --depth 1 --optional-deps --partition 2/3 --partition-kind turn --print-command-list --clean-per-run",
+            "status 0\nasked\nout\ncargo clean --package p\ncargo check --manifest-path Cargo.toml --no-default-features\n",
+        ),
+        (
+            AD,
             "hack check --feature-powerset --no-manifest-path --print-command-list",
             "status 0\nasked\nout\ncargo check --all-features\ncargo check --no-default-features\ncargo check --no-default-features --features a\n",
         ),
