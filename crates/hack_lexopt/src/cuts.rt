@@ -1,7 +1,8 @@
 //! How a word is cut. What is borrowed from a word is cut by functions over texts, so that the
 //! parser's own steps only move its place.
 
-ghost use Rattle.std.specs.Prelude.{◌≡◌, ◌≢◌, ◌↔◌, ◌<◌, None, Some, true, IsSome, IsTrue, length, drop};
+ghost use Rattle.std.specs.Prelude.{◌≡◌, ◌≢◌, ◌↔◌, ◌<◌, None, Some, true, IsSome, IsTrue};
+ghost use Rattle.std.specs.Prelude.{length, drop};
 ghost use Rattle.std.specs.List.{before_first};
 ghost use Rattle.std.specs.Str.{IsCharBoundary};
 ghost use Rattle.hack_lexopt.specs.Cuts.{ShortCut, cut_of, untaken_of, first_letter, after_letter};

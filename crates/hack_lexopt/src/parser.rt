@@ -1,7 +1,7 @@
 //! The parser: it walks over words, and each call answers what stands next.
 
-ghost use Rattle.std.specs.Prelude.{◌≡◌, ◌≢◌, ◌<◌, None, Some, true, OnOk, OnErr, IfOk, IfErr, length};
-ghost use Rattle.std.specs.Prelude.{map, string_bytes};
+ghost use Rattle.std.specs.Prelude.{◌≡◌, ◌≢◌, ◌<◌, None, Some, true, OnOk, OnErr, IfOk, IfErr};
+ghost use Rattle.std.specs.Prelude.{length, map, string_bytes};
 ghost use Rattle.std.specs.Borrow.{sem};
 ghost use Rattle.std.specs.Str.{IsCharBoundary};
 ghost use Rattle.hack_base.specs.Names.{optional_text};
