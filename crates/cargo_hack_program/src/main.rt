@@ -117,10 +117,7 @@ fn journaled<E: Write>(
     err: &mut E,
 ) -> Result<u8, StartFault> {
     let alloc = rt.alloc();
-    let mut disk = disk;
     let path = String::from_str(alloc, journal.as_str())?;
-    // So its first bytes take the place of a file too, as a whole.
-    let _ = disk.write(path.as_str(), b"");
     let (status, disk, _) = run_journaled(
         alloc,
         words,
@@ -153,11 +150,6 @@ fn is_restored<F: Files, E: Write>(
     err: &mut E,
 ) -> Result<bool, StartFault> {
     if let Some(bytes) = held(alloc, journal, files)? {
-        // Made by a call that edited nothing.
-        if bytes.is_empty() {
-            let _ = files.remove(journal);
-            return Ok(true);
-        }
         if let Some(path) = stranger(alloc, folder, &bytes)? {
             let text = format!(in alloc;
                 "`{journal}` tells of `{path}`, which is no manifest in its folder; put back by hand what it tells, and remove it"

@@ -14,18 +14,19 @@ use std::{fs, io, rt};
 
 /// The files of the system.
 ///
-/// A file that is there is replaced as a whole: its new bytes are written to a file beside it and
-/// flushed to the disk, and that file takes its place, with its permissions and owner. So neither a
-/// full disk nor the end of the program in the midst of a write loses what the file held. A
-/// symbolic link is followed. What has no file to lose or can't be replaced is written in place: a
-/// new file, a file of several names, a device, and a file in a folder where none can be made.
+/// A file is written as a whole: its bytes are written to a file beside its path and flushed to the
+/// disk, and that file takes the path, with the permissions and owner of the one that was there. So
+/// neither a full disk nor the end of the program in the midst of a write loses what the file held,
+/// or leaves a part of a new one. A symbolic link is followed. What can't be replaced is written in
+/// place: what a link to nowhere names, a file of several names, a device, and a file in a folder
+/// where none can be made.
 #[derive(Drop)]
 pub struct Disk<R: rt::Files + AllocGlobal + Drop> {
     rt: R,
     failures: u64,
 }
 
-// A new file beside another, whose place it can take.
+// A new file beside a path that it can take.
 #[derive(Drop)]
 struct Successor<F: Drop> {
     file: F,
@@ -33,7 +34,7 @@ struct Successor<F: Drop> {
     target: PathBuf,
 }
 
-// How many names are tried for a file beside another: one may be left from a program that was
+// How many names are tried for a file beside a path: one may be left from a program that was
 // killed.
 const NAMES: u64 = 16;
 
@@ -62,8 +63,23 @@ fn make_like<R: rt::Files>(rt: &R, file: &R::File, name: &str, other: &Metadata)
     file.set_permissions(other.permissions())
 }
 
-// A file that can take the place of the one at the path, behind all links. None where nothing is
-// there, or what is there can't be replaced.
+// Whether nothing is at the path, not even a link to nowhere.
+fn is_free<R: rt::Files>(rt: &R, path: &str) -> bool {
+    match fs::symlink_metadata(rt, path) {
+        Ok(_) => false,
+        Err(e) => e.kind() == ErrorKind::NotFound,
+    }
+}
+
+// A file that can take a path where nothing is. None where it can't be made.
+fn first_at<R: rt::Files + AllocGlobal>(rt: &R, path: &str) -> Option<Successor<R::File>> {
+    let target = PathBuf::from_str(rt.alloc(), path).ok()?;
+    let (file, name) = new_file(rt, path)?;
+    Some(Successor { file, name, target })
+}
+
+// A file that can take the place of the one at the path, behind all links. None where what is there
+// can't be replaced.
 fn successor_of<R: rt::Files + AllocGlobal>(rt: &R, path: &str) -> Option<Successor<R::File>> {
     let target = fs::canonicalize(rt, path).ok()?;
     let held = fs::metadata(rt, target.as_path()).ok()?;
@@ -90,7 +106,7 @@ fn fill<F: Write + OpenFile>(file: &mut F, bytes: &[u8]) -> io::Result<()> {
     Ok(())
 }
 
-// Writes the file beside the target, and puts it there.
+// Writes the file beside its target, and puts it there.
 fn replace<R: rt::Files>(rt: &R, successor: Successor<R::File>, bytes: &[u8]) -> io::Result<()> {
     let Successor {
         mut file,
@@ -108,7 +124,12 @@ fn replace<R: rt::Files>(rt: &R, successor: Successor<R::File>, bytes: &[u8]) ->
 }
 
 fn write_file<R: rt::Files + AllocGlobal>(rt: &R, path: &str, bytes: &[u8]) -> io::Result<()> {
-    match successor_of(rt, path) {
+    let successor = if is_free(rt, path) {
+        first_at(rt, path)
+    } else {
+        successor_of(rt, path)
+    };
+    match successor {
         Some(successor) => replace(rt, successor, bytes),
         None => fill(&mut fs::create(rt, path)?, bytes),
     }
