@@ -1,4 +1,5 @@
-//! Calls over files of which one call fails: what is left, and with which status.
+//! Calls over files of which one call fails: the status, the path that the fault names, and what is
+//! left.
 
 use crate::given::{ROOT, VIRTUAL, World, left};
 use std::alloc::Global;
@@ -27,31 +28,31 @@ fn leaves<R: Abort>(
 #[test]
 fn a_package(rt: HostRuntime) -> Result<(), Fail> {
     let wanted = [
-        "status 1",
-        "status 1",
-        "status 1",
-        "status 1",
-        "status 1 /w/Cargo.toml",
-        "status 1 /w/Cargo.lock",
-        "status 0",
+        "status 1;error: failed to read from file `/w/Cargo.toml`;",
+        "status 1;error: failed to write to file `/w/Cargo.toml`;",
+        "status 1;error: failed to read from file `/w/Cargo.lock`;",
+        "status 1;error: failed to read from file `/w/Cargo.lock`;",
+        "status 1;error: failed to write to file `/w/Cargo.toml`; /w/Cargo.toml",
+        "status 1;error: failed to write to file `/w/Cargo.lock`; /w/Cargo.lock",
+        "status 0;",
     ];
     leaves(&rt, rt.alloc(), ROOT, "hack check --no-dev-deps", &wanted)
 }
 
-// Three reads, of both members and of the workspace's manifest, which no member has; two writes,
-// a look for the lockfile, and two writes back.
+// Both members are read, and the public one is written; the workspace's manifest, which no member
+// has, is read and written; the lockfile is looked for, and both are written back.
 #[test]
 fn a_workspace(rt: HostRuntime) -> Result<(), Fail> {
     let wanted = [
-        "status 1",
-        "status 1",
-        "status 1",
-        "status 1",
-        "status 1",
-        "status 1",
-        "status 1 /w/p/Cargo.toml",
-        "status 1 /w/Cargo.toml",
-        "status 0",
+        "status 1;error: failed to read from file `/w/p/Cargo.toml`;",
+        "status 1;error: failed to read from file `/w/q/Cargo.toml`;",
+        "status 1;error: failed to write to file `/w/p/Cargo.toml`;",
+        "status 1;error: failed to read from file `/w/Cargo.toml`;",
+        "status 1;error: failed to write to file `/w/Cargo.toml`;",
+        "status 1;error: failed to read from file `/w/Cargo.lock`;",
+        "status 1;error: failed to write to file `/w/p/Cargo.toml`; /w/p/Cargo.toml",
+        "status 1;error: failed to write to file `/w/Cargo.toml`; /w/Cargo.toml",
+        "status 0;",
     ];
     let words = "hack check --no-private --no-dev-deps --workspace";
     leaves(&rt, rt.alloc(), VIRTUAL, words, &wanted)

@@ -188,13 +188,18 @@ pub fn changed(alloc: Global, world: World<'_>, words: &str) -> Result<String, F
     Ok(text)
 }
 
-/// The paths that hold something else than at first, behind a call over files of which one call
-/// fails, with its status.
+/// What comes of a call over files of which one call fails: its status, each error that it tells,
+/// and the paths that hold something else than at first.
 pub fn left(alloc: Global, world: World<'_>, words: &str, failing: u64) -> Result<String, Fail> {
     let mut files = FailingFiles::new(files_of(alloc, world)?, failing);
     let told = called(alloc, world, words, &mut files)?;
-    let status = told.as_str().lines().next().unwrap_or("");
-    let mut text = String::from_str(alloc, status)?;
+    let mut text = String::new(alloc);
+    for line in told.as_str().lines() {
+        if line.starts_with("status ") || line.starts_with("error: ") {
+            text.push_str(line)?;
+            text.push_str(";")?;
+        }
+    }
     for file in world.files {
         let (path, held) = *file;
         if !holds(files.inner(), path, held) {
