@@ -27,4 +27,6 @@ mod uses;
 #[cfg(test)]
 mod versions;
 #[cfg(test)]
+mod worked_rows;
+#[cfg(test)]
 mod worked_words;

@@ -5,7 +5,7 @@ use std::alloc::{AllocError, Global};
 use std::test::Fail;
 
 /// What the check of a table tells, and behind it what it counts, or its fault.
-fn told(alloc: Global, table: &str) -> Result<String, AllocError> {
+pub fn told(alloc: Global, table: &str) -> Result<String, AllocError> {
     let mut out = Vec::new(alloc);
     let end = match check(alloc, table, &mut out) {
         Ok(Counts { rows, wrong }) => format!(in alloc; "{wrong} of {rows} are wrong")?,
