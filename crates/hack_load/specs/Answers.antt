@@ -37,9 +37,9 @@ IsAskFault (ask.Field name) e = e ≡ faults.Asked (ask.Field name)
 
 -- `held` is what the files held before, and so many of their calls had failed before and behind
 module _ (args : Args) (env : Env) (held : Contents) (before now : ℕ) where
-  -- behind the metadata the manifests were read, and cargo told where the call stands; or a fault ended it
+  -- after the metadata the manifests were read, and cargo told where the call stands, and just that was loaded; or a fault ended it
   abbrev pub Follows : Metadata → List Call → List Call → Result Loaded ContextFault → Type 0
-  Follows m mid new (Ok l) = (l.metadata ≡ m) × IsLocated args env mid new l.located
+  Follows m mid new (Ok l) = (l.metadata ≡ m) × IsLocated args env mid new l.located × IsLoaded (Unit {0}) held env l
   Follows m mid new (Err e) = ((new ≡ mid) × IsMemberFault (Unit {0}) held (metadata_view m) before now e)
       ⊎ ((xs : List Manifest) × AreOfMembers (Unit {0}) held (metadata_view m) xs
       × FailsLocate (Unit {0}) (locate args env) (string_bytes env.current_dir) mid new e)
