@@ -1,18 +1,22 @@
 # Everything goes through the kit's command `rt`, which has to be in the PATH.
 PREFIX ?= /usr/local
 
-PROGRAM := crates/powerset_list/out/powerset_list
+POWERSET_LIST := crates/powerset_list/out/powerset_list
 CARGO_HACK := crates/cargo_hack_program/out/cargo_hack_program
+SHARE = $(DESTDIR)$(PREFIX)/share
 
 .DEFAULT_GOAL := help
-.PHONY: help run program install test quick planted bench faults stand-ins
+.PHONY: help run program programs install uninstall dist manual test quick planted bench faults stand-ins
 
 help:
 	@echo 'make run      calls cargo hack on the workspace in examples/, over a cargo in memory, by a trial build without proofs'
+	@echo 'make manual   writes the man pages and completions from the table of options of the built cargo-hack'
 	@echo 'make test     proves and tests everything from nothing: the gate'
 	@echo 'make quick    lays out and checks CRATE=NAME and what stands on it, and the rows, over what is kept'
 	@echo 'make planted  tries the edits that the gate leaves out, of all crates or of CRATE=NAME'
-	@echo 'make install  proves and builds powerset-list and cargo-hack, and installs them in PREFIX/bin (PREFIX=$(PREFIX))'
+	@echo 'make install  proves and builds cargo-hack and powerset-list, and installs them in PREFIX/bin (PREFIX=$(PREFIX))'
+	@echo 'make uninstall  removes what make install put there'
+	@echo 'make dist     proves and builds both, and packs them with a sum of each file for machines without the kit'
 	@echo 'make bench    proves and builds powerset-list, and prints its times, memory and lines'
 	@echo 'make faults   proves and builds powerset-list, and compares what it tells of refused calls'
 	@echo 'make stand-ins proves and builds the programs that stand in for cargo and rustup in tests, and tries them'
@@ -31,22 +35,43 @@ quick:
 planted:
 	@tests/planted $(CRATE)
 
-# Proves the program and what it stands on, as far as that is not done yet, and leaves it at PROGRAM.
+# Proves powerset-list and what it stands on, as far as that is not done yet, and leaves it at POWERSET_LIST.
 program:
-	@cd crates/powerset_list && rt run < ../../examples/features.json > /dev/null
+	@tools/build_programs.py powerset_list
 
-install: program
-	@cd crates/cargo_hack_program && rt run -- hack --version > /dev/null
-	install -D -m 755 $(PROGRAM) '$(DESTDIR)$(PREFIX)/bin/powerset-list'
+# Both programs, side by side.
+programs:
+	@tools/build_programs.py cargo_hack_program powerset_list
+
+install: programs
 	install -D -m 755 $(CARGO_HACK) '$(DESTDIR)$(PREFIX)/bin/cargo-hack'
+	install -D -m 755 $(POWERSET_LIST) '$(DESTDIR)$(PREFIX)/bin/powerset-list'
+	install -D -m 644 man/cargo-hack.1 '$(SHARE)/man/man1/cargo-hack.1'
+	install -D -m 644 man/powerset-list.1 '$(SHARE)/man/man1/powerset-list.1'
+	install -D -m 644 completions/cargo-hack.bash '$(SHARE)/bash-completion/completions/cargo-hack'
+	install -D -m 644 completions/_cargo-hack '$(SHARE)/zsh/site-functions/_cargo-hack'
+	install -D -m 644 completions/cargo-hack.fish '$(SHARE)/fish/vendor_completions.d/cargo-hack.fish'
+
+uninstall:
+	rm -f '$(DESTDIR)$(PREFIX)/bin/cargo-hack' '$(DESTDIR)$(PREFIX)/bin/powerset-list'
+	rm -f '$(SHARE)/man/man1/cargo-hack.1' '$(SHARE)/man/man1/powerset-list.1'
+	rm -f '$(SHARE)/bash-completion/completions/cargo-hack' '$(SHARE)/zsh/site-functions/_cargo-hack'
+	rm -f '$(SHARE)/fish/vendor_completions.d/cargo-hack.fish'
+
+dist: programs
+	@tools/dist.py $(CARGO_HACK) $(POWERSET_LIST)
+
+# The man pages and the completions, from the table of options.
+manual: programs
+	@tools/manual.py $(CARGO_HACK)
 
 bench: program
 	@cd crates/hack_rows && rt run < stdin > /dev/null
-	@cd crates/load_bench && rt run -- members 3 < stdin > /dev/null
-	@tests/bench $(PROGRAM) crates/hack_rows/out/hack_rows crates/load_bench/out/load_bench
+	@cd crates/sample_calls && rt run < stdin > /dev/null
+	@tests/bench $(POWERSET_LIST) crates/hack_rows/out/hack_rows crates/sample_calls/out/sample_calls
 
 faults: program
-	@tests/faults $(PROGRAM)
+	@tests/faults $(POWERSET_LIST)
 
 stand-ins:
 	@tests/stand_ins

@@ -1,7 +1,8 @@
-//! Calls of `cargo hack` on the workspace in `examples`, as a user of the library makes them: over
-//! a caller and files in memory, so that no cargo is asked and nothing is built. Standard input has
-//! what cargo tells of the workspace, on a line, and each manifest behind a line `== PATH`. Prints
-//! each call, what it tells, and its list.
+//! Calls of `cargo hack`, as a user of the library makes them: over a caller and files in memory, so
+//! that no cargo is asked and nothing is built. Standard input has what cargo reports of the
+//! workspace, on a line, and each manifest after a line `== PATH`. With arguments the call of these
+//! is made, else three calls on the workspace in `examples`. Prints each call, its messages, and its
+//! list. The bench times such calls.
 #![tactic(auto)]
 
 use cargo_hack::cli::Env;
@@ -10,9 +11,9 @@ use cargo_hack::process::{End, FakeCaller};
 use cargo_hack::run::run;
 use cargo_hack::term::{Coloring, Term};
 use std::alloc::{AllocError, Global};
-use std::io;
+use std::{env, io};
 
-/// The words of each call.
+/// The command lines of the three calls.
 const CALLS: [&str; 3] = [
     "hack check --feature-powerset --print-command-list --ignore-private --depth 2",
     "hack check --each-feature --exclude-all-features --partition 2/2",
@@ -53,19 +54,24 @@ fn workspace(alloc: Global, input: &str) -> Result<(String, MemoryFiles), AllocE
     Ok((told, files))
 }
 
-/// The lines of a call with these words, and of what it tells and lists.
-fn call(alloc: Global, line: &str, input: &str) -> Result<String, AllocError> {
-    let (told, files) = workspace(alloc, input)?;
-    let mut files = files;
+/// The arguments of a command line without quotes.
+fn words_of(alloc: Global, line: &str) -> Result<Vec<String>, AllocError> {
     let mut words = Vec::new(alloc);
     for word in line.split(' ') {
         words.push(String::from_str(alloc, word)?)?;
     }
+    Ok(words)
+}
+
+/// The lines of a call with these arguments, of its messages and its list.
+fn call(alloc: Global, words: &[String], input: &str) -> Result<String, AllocError> {
+    let (told, files) = workspace(alloc, input)?;
+    let mut files = files;
     let mut out = Vec::new(alloc);
     let mut err = Vec::new(alloc);
     let status = run(
         alloc,
-        &words,
+        words,
         &Env::new(alloc, &[], String::from_str(alloc, "/w")?)?,
         &mut Term::new(Coloring::Never, false),
         &mut files,
@@ -75,14 +81,20 @@ fn call(alloc: Global, line: &str, input: &str) -> Result<String, AllocError> {
     );
     let listed = String::from_utf8_lossy(alloc, &out)?;
     let notes = String::from_utf8_lossy(alloc, &err)?;
+    let line = words.join(alloc, " ")?;
     format!(in alloc; "$ cargo {line}\n{notes}{listed}status {status}\n")
 }
 
 fn main(rt: HostRuntime) -> io::Result<()> {
     let alloc = rt.alloc();
     let input = io::read_to_string(alloc, rt.reader())?;
+    let words: Vec<String> = env::args(&rt)?.skip(1).collect(alloc)?;
+    if !words.is_empty() {
+        let lines = call(alloc, &words, input.as_str())?;
+        return println!(rt; "{lines}");
+    }
     for line in CALLS {
-        let lines = call(alloc, line, input.as_str())?;
+        let lines = call(alloc, &words_of(alloc, line)?, input.as_str())?;
         println!(rt; "{lines}")?;
     }
     Ok(())

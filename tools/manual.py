@@ -1,0 +1,259 @@
+#!/usr/bin/env python3
+"""Writes the man pages and the completions of bash, zsh and fish from the table of options that `cargo hack --help` prints.
+
+usage: tools/manual.py CARGO_HACK           writes man/ and completions/
+       tools/manual.py --check CARGO_HACK   writes nothing, and says which of them isn't what it would write
+
+The options that the help leaves out, as cargo-hack's does, stand in HIDDEN below. The status is 1 where a file is stale.
+"""
+
+import pathlib
+import re
+import subprocess
+import sys
+
+ROOT = pathlib.Path(__file__).resolve().parent.parent
+
+# Options that the help doesn't show: how they are written, and what they do.
+HIDDEN = [
+    ("--no-default-features", "Run without the default features. This is Cargo's own option."),
+    ("--all-features", "Run with all features. This is Cargo's own option."),
+    ("--include-deps-features", "Use the features of dependencies as features of the package."),
+]
+
+# The values that an option takes, where they are few.
+VALUES = {
+    "--color": ["auto", "always", "never"],
+    "--log-group": ["none", "github-actions"],
+    "--partition-kind": ["block", "turn"],
+}
+
+SUBCOMMANDS = {
+    "build": "Compile the current package",
+    "check": "Analyze the current package and report errors",
+    "run": "Run a binary or example of the local package",
+    "test": "Run the tests",
+}
+
+ENVIRONMENT = [
+    ("CARGO_HACK_CARGO_SRC, CARGO", "The cargo to call; the first that is set counts."),
+    ("CARGO_HACK_RUSTUP", "The rustup to call for ranges of versions."),
+    ("CARGO_HACK_DENY_WARNINGS", "Where it is true, a warning makes the exit status 1."),
+    ("CARGO_TERM_COLOR, NO_COLOR", "Whether messages are coloured."),
+    ("GITHUB_ACTIONS", "Where it is set, each run is a group of the log."),
+]
+
+
+class Option:
+    """An option: how it is written (`-p, --package <SPEC>...`), and what it does, in paragraphs."""
+
+    def __init__(self, usage, paragraphs):
+        self.usage, self.paragraphs = usage, paragraphs
+        self.names = re.findall(r"(?<!\S)--?[a-zA-Z][\w-]*", usage)
+        self.value = usage.partition(self.names[-1])[2].strip()
+
+    @property
+    def long(self):
+        return self.names[-1]
+
+    @property
+    def letter(self):
+        return self.names[0] if len(self.names) > 1 else ""
+
+    @property
+    def takes_value(self):
+        return self.value.startswith("<") or self.long == "--version-range"
+
+    @property
+    def completed(self):
+        """The option as it is typed: with the value that belongs to its name."""
+        return self.long + (self.value if self.value.startswith("=") and "<" not in self.value else "")
+
+    @property
+    def text(self):
+        """What it does, in one line."""
+        return self.paragraphs[0].rstrip(".")
+
+
+def options(help_text):
+    """The options of the long help, and those that it leaves out."""
+    part = help_text.partition("\nOPTIONS:\n")[2].partition("\nSome common cargo commands")[0]
+    found = []
+    for block in re.split(r"(?m)^(?= {4}-| {8}--)", part):
+        usage, _, rest = block.strip("\n").partition("\n")
+        if usage.strip():
+            paragraphs = [" ".join(it.split()) for it in re.split(r"\n\s*\n", rest) if it.strip()]
+            found.append(Option(usage.strip(), paragraphs))
+    return found + [Option(usage, [text]) for usage, text in HIDDEN]
+
+
+def roff(text):
+    """A text as roff reads it."""
+    text = text.replace("\\", "\\\\").replace("-", "\\-")
+    return re.sub(r"`([^`]*)`", r"\\fB\1\\fP", text if not text.startswith((".", "'")) else "\\&" + text)
+
+
+def man_usage(option):
+    """How an option is written, its names bold and its value in italics."""
+    names = ", ".join(f"\\fB{roff(it)}\\fP" for it in option.names)
+    value = option.value
+    if not value:
+        return names
+    return f"{names}{'' if value.startswith('=') else ' '}\\fI{roff(value)}\\fP"
+
+
+def man(name, section, title, parts):
+    """A man page of these parts: a heading each, and its lines."""
+    lines = [f'.TH "{name.upper()}" "{section}" "" "{name}" "{title}"']
+    for heading, text in parts:
+        lines += [f".SH {heading}", *text]
+    return "\n".join(lines) + "\n"
+
+
+def items(pairs):
+    """A list of terms, each with its paragraphs."""
+    lines = []
+    for term, paragraphs in pairs:
+        lines += [".TP", term, roff(paragraphs[0])]
+        for paragraph in paragraphs[1:]:
+            lines += [".IP", roff(paragraph)]
+    return lines
+
+
+def cargo_hack_page(found):
+    return man("cargo-hack", 1, "Cargo", [
+        ("NAME", ["cargo\\-hack \\- run cargo for each sensible combination of a package's features"]),
+        ("SYNOPSIS", ["\\fBcargo hack\\fP [\\fIOPTIONS\\fP] [\\fISUBCOMMAND\\fP] [\\fIARGUMENTS OF CARGO\\fP]"]),
+        ("DESCRIPTION", [
+            roff("Runs a subcommand of cargo, as `check` or `test`, for each feature of the packages, for each set of their"),
+            roff("features, or for each version of Rust in a range. Arguments that it doesn't know go to cargo."),
+        ]),
+        ("OPTIONS", items((man_usage(it), it.paragraphs) for it in found)),
+        ("ENVIRONMENT", items((f"\\fB{roff(name)}\\fP", [text]) for name, text in ENVIRONMENT)),
+        ("FILES", items([("\\fB.cargo\\-hack\\-journal\\fP", [
+            "In the folder of the workspace while a call has edited manifests: what they held. After a call that was killed"
+            " the next one brings them back and removes it.",
+        ])])),
+        ("EXIT STATUS", [roff("0, or 1 after an error. A warning counts as an error where CARGO_HACK_DENY_WARNINGS is set.")]),
+        ("EXAMPLES", items([
+            ("\\fBcargo hack check \\-\\-each\\-feature \\-\\-workspace\\fP", ["Check each feature of each package alone."]),
+            ("\\fBcargo hack test \\-\\-feature\\-powerset \\-\\-depth 2\\fP", ["Test each set of at most two features."]),
+            ("\\fBcargo hack check \\-\\-version\\-range 1.60..\\fP", ["Check with each minor version of Rust from 1.60 on."]),
+            ("\\fBcargo hack check \\-\\-feature\\-powerset \\-\\-partition 1/4\\fP", ["Run the first of four pieces."]),
+        ])),
+        ("SEE ALSO", ["\\fBcargo\\fP(1), \\fBpowerset\\-list\\fP(1)"]),
+    ])
+
+
+def powerset_list_page():
+    return man("powerset-list", 1, "Cargo", [
+        ("NAME", ["powerset\\-list \\- list the commands of a feature powerset"]),
+        ("SYNOPSIS", [
+            "\\fBpowerset\\-list\\fP [\\fB\\-\\-depth\\fP \\fIN\\fP] [\\fB\\-\\-at\\-least\\-one\\-of\\fP \\fILIST\\fP]...",
+            "[\\fB\\-\\-mutually\\-exclusive\\-features\\fP \\fILIST\\fP]...",
+        ]),
+        ("DESCRIPTION", [
+            roff("Reads the feature map of a package from standard input, a JSON object whose values are arrays of texts, and"),
+            roff("prints the commands that `cargo hack check --feature-powerset` would run for it, one a line."),
+        ]),
+        ("OPTIONS", items([
+            ("\\fB\\-\\-depth\\fP \\fIN\\fP", ["The most features in one set."]),
+            ("\\fB\\-\\-at\\-least\\-one\\-of\\fP \\fILIST\\fP", ["Keep the sets that enable one of these features."]),
+            ("\\fB\\-\\-mutually\\-exclusive\\-features\\fP \\fILIST\\fP", ["Keep the sets that reach at most one of these."]),
+        ])),
+        ("EXIT STATUS", [roff("0, or 1 after an error.")]),
+        ("EXAMPLES", items([("\\fBecho '{\"a\": [], \"b\": [\"a\"]}' | powerset\\-list\\fP", ["The sets of two features, of which one enables the other."])])),
+        ("SEE ALSO", ["\\fBcargo\\-hack\\fP(1)"]),
+    ])
+
+
+def bash(found):
+    words = " ".join([*SUBCOMMANDS, *(it.letter for it in found if it.letter), *(it.completed for it in found)])
+    cases = "\n".join(f"        {name}) COMPREPLY=($(compgen -W '{' '.join(values)}' -- \"$word\")); return ;;" for name, values in VALUES.items())
+    return f"""# Completions of `cargo hack` for bash, written by tools/manual.py.
+_cargo_hack() {{
+    local word=${{COMP_WORDS[COMP_CWORD]}} before=${{COMP_WORDS[COMP_CWORD-1]}}
+    case $before in
+        --manifest-path) COMPREPLY=($(compgen -f -- "$word")); return ;;
+{cases}
+    esac
+    COMPREPLY=($(compgen -W '{words}' -- "$word"))
+}}
+complete -F _cargo_hack cargo-hack
+
+# `cargo hack` too, where this file is read after the completions of cargo.
+_cargo_with_hack() {{
+    if [[ ${{COMP_WORDS[1]}} == hack && COMP_CWORD -gt 1 ]]; then
+        _cargo_hack
+    elif declare -F _cargo > /dev/null; then
+        _cargo "$@"
+    fi
+}}
+complete -F _cargo_with_hack cargo
+"""
+
+
+def zsh_text(text):
+    return text.replace("'", "'\\''").replace("[", "\\[").replace("]", "\\]").replace(":", "\\:")
+
+
+def zsh(found):
+    lines = []
+    for it in found:
+        value = ""
+        if it.long == "--manifest-path":
+            value = ":path:_files"
+        elif it.takes_value:
+            value = f":value:({' '.join(VALUES.get(it.long, []))})" if it.long in VALUES else ":value:"
+        for name in [it.letter, it.completed]:
+            if name:
+                lines.append(f"    '*{name}[{zsh_text(it.text)}]{value}'")
+    subcommands = " ".join(f"{name}\\:'{text}'" for name, text in SUBCOMMANDS.items())
+    return "#compdef cargo-hack\n# Completions of `cargo hack` for zsh, written by tools/manual.py.\n_arguments \\\n" + " \\\n".join(
+        [*lines, f'    "1:subcommand:(({subcommands}))"', "    '*::arguments of cargo:_files'"]
+    ) + "\n"
+
+
+def fish_text(text):
+    return text.replace("\\", "\\\\").replace("'", "\\'")
+
+
+def fish(found):
+    lines = ["# Completions of `cargo hack` for fish, written by tools/manual.py."]
+    for command, when in (("cargo", " -n '__fish_seen_subcommand_from hack'"), ("cargo-hack", "")):
+        for name, text in SUBCOMMANDS.items():
+            lines.append(f"complete -c {command}{when} -f -a {name} -d '{fish_text(text)}'")
+        for it in found:
+            letter = f" -s {it.letter[1:]}" if it.letter else ""
+            value = f" -x -a '{' '.join(VALUES[it.long])}'" if it.long in VALUES else " -r" if it.takes_value else ""
+            lines.append(f"complete -c {command}{when}{letter} -l '{it.completed[2:]}'{value} -d '{fish_text(it.text)}'")
+    return "\n".join(lines) + "\n"
+
+
+def main(words):
+    is_check = words[:1] == ["--check"]
+    words = words[is_check:]
+    if len(words) != 1:
+        sys.exit(__doc__)
+    help_text = subprocess.run([words[0], "hack", "--help"], stdout=subprocess.PIPE, text=True, check=True).stdout
+    found = options(help_text)
+    files = {
+        "man/cargo-hack.1": cargo_hack_page(found),
+        "man/powerset-list.1": powerset_list_page(),
+        "completions/cargo-hack.bash": bash(found),
+        "completions/_cargo-hack": zsh(found),
+        "completions/cargo-hack.fish": fish(found),
+    }
+    stale = [it for it, text in files.items() if not (ROOT / it).is_file() or (ROOT / it).read_text("utf-8") != text]
+    for it in stale:
+        if is_check:
+            print(f"{it} is stale: tools/manual.py writes it")
+            continue
+        (ROOT / it).parent.mkdir(exist_ok=True)
+        (ROOT / it).write_text(files[it], "utf-8")
+        print(f"wrote {it}")
+    return 1 if stale and is_check else 0
+
+
+if __name__ == "__main__":
+    sys.exit(main(sys.argv[1:]))
