@@ -1,117 +1,165 @@
-//! Values of options, attached and not, and the texts of faults.
+//! Values of options, attached and not. `parser: CALLS of WORDS` makes calls of one parser over the
+//! words between bars, and the answer has a line for each: `next` cuts, `value` wants a value,
+//! `attached` takes what is attached to the option, and `or-none` takes the next word too where it
+//! is no option. A value stands between quotes.
 
-use hack_lexopt::{LexFault, Parser};
+use crate::asks::{halves, list, on, push_line};
+use hack_holds::Wrong;
+use hack_lexopt::Parser;
 use std::alloc::{AllocError, Global};
-use std::test::Fail;
 
-fn parser_of(alloc: Global, words: &[&str]) -> Result<Parser, AllocError> {
-    let mut list = Vec::new(alloc);
-    for word in words {
-        list.push(String::from_str(alloc, word)?)?;
+pub fn parser(alloc: Global, text: &str) -> Result<String, AllocError> {
+    let (calls, words) = halves(text, " of ");
+    let mut parser = Parser::from_args(alloc, list(alloc, words)?);
+    let mut told = String::new(alloc);
+    for call in calls.split(' ') {
+        push_line(&mut told, called(alloc, &mut parser, call)?.as_str())?;
     }
-    Ok(Parser::from_args(alloc, list))
+    Ok(told)
+}
+
+fn called(alloc: Global, parser: &mut Parser, call: &str) -> Result<String, AllocError> {
+    match call {
+        "next" => cut(alloc, parser),
+        "value" => value(alloc, parser),
+        "attached" => quoted(alloc, parser.optional_value(alloc)?),
+        "or-none" => quoted(alloc, parser.value_or_none(alloc)?),
+        _ => String::from_str(alloc, "no such call"),
+    }
 }
 
 /// The text of the next cut; `end` behind the last; where it is refused that of the fault.
 fn cut(alloc: Global, parser: &mut Parser) -> Result<String, AllocError> {
     match parser.next() {
-        Ok(Some(arg)) => format!(in alloc; "{arg}"),
+        Ok(Some(arg)) => arg.to_string(alloc),
         Ok(None) => String::from_str(alloc, "end"),
-        Err(fault) => format!(in alloc; "{fault}"),
+        Err(fault) => fault.to_string(alloc),
+    }
+}
+
+fn value(alloc: Global, parser: &mut Parser) -> Result<String, AllocError> {
+    match parser.value(alloc) {
+        Ok(value) => quoted(alloc, Some(value)),
+        Err(fault) => fault.to_string(alloc),
+    }
+}
+
+fn quoted(alloc: Global, value: Option<String>) -> Result<String, AllocError> {
+    match value {
+        Some(value) => format!(in alloc; "'{value}'"),
+        None => String::from_str(alloc, "none"),
     }
 }
 
 #[test]
-fn values_that_nobody_took(rt: HostRuntime) -> Result<(), Fail> {
-    for word in ["--foo=bar", "--foo=", "-j=4"] {
-        let mut parser = parser_of(rt.alloc(), &[word, "x"])?;
-        let _first = cut(rt.alloc(), &mut parser)?;
-        assert_eq!(rt;
-            cut(rt.alloc(), &mut parser)?.as_str(),
-            "unexpected argument",
-            "of {word}"
-        );
-        assert_eq!(rt;
-            cut(rt.alloc(), &mut parser)?.as_str(),
-            "x",
-            "behind {word}"
-        );
-    }
-    Ok(())
+fn values_that_nobody_took(rt: HostRuntime) -> Result<(), Wrong> {
+    on(
+        rt.alloc(),
+        "
+            > parser: next next next of --foo=bar|x
+            | --foo
+            | unexpected argument
+            | x
+            > parser: next next next of --foo=|x
+            | --foo
+            | unexpected argument
+            | x
+            > parser: next next next of -j=4|x
+            | -j
+            | unexpected argument
+            | x
+        ",
+    )
 }
 
 #[test]
-fn values(rt: HostRuntime) -> Result<(), Fail> {
-    let rows = [
-        ("-j4", "4", "x"),
-        ("-j=4", "4", "x"),
-        ("-j==4", "=4", "x"),
-        ("-éß", "ß", "x"),
-        ("--foo=bar", "bar", "x"),
-        ("--foo=", "", "x"),
-        ("--foo", "x", "--y"),
-        ("-j", "x", "--y"),
-    ];
-    for (word, want, behind) in rows {
-        let mut parser = parser_of(rt.alloc(), &[word, "x", "--y"])?;
-        let _first = cut(rt.alloc(), &mut parser)?;
-        let value = parser.value(rt.alloc());
-        assert!(rt;
-            value.is_ok_and(|value| value.as_str() == want),
-            "of {word}"
-        );
-        assert_eq!(rt;
-            cut(rt.alloc(), &mut parser)?.as_str(),
-            behind,
-            "behind {word}"
-        );
-    }
-    let mut parser = parser_of(rt.alloc(), &["--foo"])?;
-    let _first = cut(rt.alloc(), &mut parser)?;
-    assert!(rt; matches!(parser.value(rt.alloc()), Err(LexFault::MissingValue)));
-    assert_eq!(rt; cut(rt.alloc(), &mut parser)?.as_str(), "end");
-    Ok(())
+fn values(rt: HostRuntime) -> Result<(), Wrong> {
+    on(
+        rt.alloc(),
+        "
+            > parser: next value next of -j4|x|--y
+            | -j
+            | '4'
+            | x
+            > parser: next value next of -j=4|x|--y
+            | -j
+            | '4'
+            | x
+            > parser: next value next of -j==4|x|--y
+            | -j
+            | '=4'
+            | x
+            > parser: next value next of -éß|x|--y
+            | -é
+            | 'ß'
+            | x
+            > parser: next value next of --foo=bar|x|--y
+            | --foo
+            | 'bar'
+            | x
+            > parser: next value next of --foo=|x|--y
+            | --foo
+            | ''
+            | x
+            > parser: next value next of --foo|x|--y
+            | --foo
+            | 'x'
+            | --y
+            > parser: next value next of -j|x|--y
+            | -j
+            | 'x'
+            | --y
+
+            # No word is left.
+            > parser: next value next of --foo
+            | --foo
+            | missing argument
+            | end
+        ",
+    )
 }
 
 #[test]
-fn values_that_may_be_left_out(rt: HostRuntime) -> Result<(), Fail> {
-    let rows = [
-        ("--foo=", "x", Some(""), Some("")),
-        ("-ab", "x", Some("b"), Some("b")),
-        ("--foo", "x", None, Some("x")),
-        ("--foo", "-", None, Some("-")),
-        ("--foo", "-x", None, None),
-        ("--foo", "--x=y", None, None),
-    ];
-    for (word, behind, attached, taken) in rows {
-        let mut parser = parser_of(rt.alloc(), &[word, behind])?;
-        let _first = cut(rt.alloc(), &mut parser)?;
-        let value = parser.optional_value(rt.alloc())?;
-        assert_eq!(rt;
-            value.as_ref().map(|value| value.as_str()),
-            attached,
-            "of {word}"
-        );
-        let mut parser = parser_of(rt.alloc(), &[word, behind])?;
-        let _first = cut(rt.alloc(), &mut parser)?;
-        let value = parser.value_or_none(rt.alloc())?;
-        assert_eq!(rt;
-            value.as_ref().map(|value| value.as_str()),
-            taken,
-            "of {word} {behind}"
-        );
-    }
-    Ok(())
-}
-
-#[test]
-fn texts_of_faults(rt: HostRuntime) -> Result<(), Fail> {
-    for (fault, want) in [
-        (LexFault::MissingValue, "missing argument"),
-        (LexFault::UnexpectedValue, "unexpected argument"),
-        (LexFault::Memory, "out of memory"),
-    ] {
-        assert_eq!(rt; format!(in rt.alloc(); "{fault}")?.as_str(), want);
-    }
-    Ok(())
+fn values_that_may_be_left_out(rt: HostRuntime) -> Result<(), Wrong> {
+    on(
+        rt.alloc(),
+        "
+            > parser: next attached of --foo=|x
+            | --foo
+            | ''
+            > parser: next or-none of --foo=|x
+            | --foo
+            | ''
+            > parser: next attached of -ab|x
+            | -a
+            | 'b'
+            > parser: next or-none of -ab|x
+            | -a
+            | 'b'
+            > parser: next attached of --foo|x
+            | --foo
+            | none
+            > parser: next or-none of --foo|x
+            | --foo
+            | 'x'
+            > parser: next attached of --foo|-
+            | --foo
+            | none
+            > parser: next or-none of --foo|-
+            | --foo
+            | '-'
+            > parser: next attached of --foo|-x
+            | --foo
+            | none
+            > parser: next or-none of --foo|-x
+            | --foo
+            | none
+            > parser: next attached of --foo|--x=y
+            | --foo
+            | none
+            > parser: next or-none of --foo|--x=y
+            | --foo
+            | none
+        ",
+    )
 }

@@ -1,13 +1,20 @@
-//! Tests of what is made of words, for what stands in no table of rows: the specified examples, types that are made by
-//! hand, writers that fail, and the check of rows itself.
+//! Tests of what is made of words, and of the commands that come of them, for what stands in no
+//! table of rows: the worked examples, types that are made by hand, writers that fail, callers in
+//! memory and a system that starts nothing, and the checks of rows themselves.
 #![tactic(auto)]
 
 #[cfg(test)]
-mod cli;
+mod asks;
 #[cfg(test)]
-mod command_words;
+mod calls;
 #[cfg(test)]
-mod failing_writers;
+mod checks;
+#[cfg(test)]
+mod command_texts;
+#[cfg(test)]
+mod commands;
+#[cfg(test)]
+mod faults;
 #[cfg(test)]
 mod help_texts;
 #[cfg(test)]
@@ -15,13 +22,15 @@ mod lexopt;
 #[cfg(test)]
 mod lines;
 #[cfg(test)]
-mod many_steps;
+mod log_groups;
 #[cfg(test)]
 mod options;
 #[cfg(test)]
-mod process;
+mod page;
 #[cfg(test)]
-mod tables;
+mod started;
+#[cfg(test)]
+mod terminal;
 #[cfg(test)]
 mod uses;
 #[cfg(test)]

@@ -1,152 +1,172 @@
-//! Lines for the user, and what a writer that fails leaves of them.
+//! Lines for the user in each colouring, what is noted of them, and what is left where a write of
+//! them is interrupted, fails or takes nothing. `terminal` tells the questions.
 
-use hack_term::term::{Coloring, LogGroup, Notice, NoticeKind, Term};
-use std::alloc::Global;
-use std::io;
-use std::io::{ErrorKind, Write};
-use std::test::Fail;
+use crate::terminal::on;
+use hack_holds::Wrong;
+use hack_term::term::{Coloring, Term};
 
-/// Takes three bytes at a time, and fails once it was written to so many times.
-#[derive(Drop)]
-struct Page {
-    bytes: Vec<u8>,
-    writes: usize,
-}
+static PLAIN: &str = r"
+    > info a
+    | ok, 4 writes, nothing noted: 'info: a\n'
+    > warn b
+    | ok, 5 writes, warning noted: 'warning: b\n'
+    > warn c
+    | ok, 5 writes, warning noted: 'warning: c\n'
+    > error d
+    | ok, 5 writes, both noted: 'error: d\n'
+";
 
-impl Write for Page {
-    fn write(&mut self, buf: &[u8]) -> io::Result<usize> {
-        if self.writes == 0 {
-            return Err(io::Error::from(ErrorKind::BrokenPipe));
-        }
-        self.writes -= 1;
-        let n = buf.len().min(3);
-        for byte in &buf[..n] {
-            self.bytes.push(*byte)?;
-        }
-        Ok(n)
-    }
+static COLOURED: &str = r"
+    > info a
+    | ok, 11 writes, nothing noted: '\e[0m\e[1minfo\e[0m\e[1m:\e[0m a\n'
+    > warn b
+    | ok, 14 writes, warning noted: '\e[0m\e[1m\e[33mwarning\e[0m\e[1m:\e[0m b\n'
+    > warn c
+    | ok, 14 writes, warning noted: '\e[0m\e[1m\e[33mwarning\e[0m\e[1m:\e[0m c\n'
+    > error d
+    | ok, 13 writes, both noted: '\e[0m\e[1m\e[31merror\e[0m\e[1m:\e[0m d\n'
+";
 
-    fn flush(&mut self) -> io::Result<()> {
-        Ok(())
-    }
-}
-
-fn empty_page(alloc: Global, writes: usize) -> Page {
-    Page {
-        bytes: Vec::new(alloc),
-        writes,
-    }
+#[test]
+fn lines_in_each_colouring(rt: HostRuntime) -> Result<(), Wrong> {
+    on(rt.alloc(), Term::new(Coloring::Auto, false), PLAIN)?;
+    on(rt.alloc(), Term::new(Coloring::Never, false), PLAIN)?;
+    on(rt.alloc(), Term::new(Coloring::Always, false), COLOURED)
 }
 
 #[test]
-fn lines_in_each_colouring(rt: HostRuntime) {
-    let plain = "info: a\nwarning: b\nwarning: c\nerror: d\n";
-    let coloured = "\x1b[0m\x1b[1minfo\x1b[0m\x1b[1m:\x1b[0m a\n\
-                    \x1b[0m\x1b[1m\x1b[33mwarning\x1b[0m\x1b[1m:\x1b[0m b\n\
-                    \x1b[0m\x1b[1m\x1b[33mwarning\x1b[0m\x1b[1m:\x1b[0m c\n\
-                    \x1b[0m\x1b[1m\x1b[31merror\x1b[0m\x1b[1m:\x1b[0m d\n";
-    let rows = [
-        (Coloring::Auto, plain),
-        (Coloring::Never, plain),
-        (Coloring::Always, coloured),
-    ];
-    for (coloring, want) in rows {
-        let mut page = empty_page(rt.alloc(), 200);
-        let mut term = Term::new(coloring, false);
-        assert!(rt; term.info("a", &mut page).is_ok());
-        assert!(rt; term.warn("b", &mut page).is_ok());
-        assert!(rt; term.warn("c", &mut page).is_ok());
-        assert!(rt; term.error("d", &mut page).is_ok());
-        assert_eq!(rt; page.bytes.as_slice(), want.as_bytes(), "{coloring:?}");
-    }
+fn flags_without_a_writer(rt: HostRuntime) -> Result<(), Wrong> {
+    on(
+        rt.alloc(),
+        Term::new(Coloring::Never, false),
+        "
+            > info told / broken at 0
+            | broken, 1 writes, nothing noted: ''
+            > warn told / broken at 0
+            | broken, 1 writes, warning noted: ''
+            > error told / broken at 0
+            | broken, 1 writes, both noted: ''
+
+            > status nothing
+            | 0
+            > info told / broken at 1
+            | broken, 2 writes, nothing noted: 'inf'
+            > warn told / broken at 1
+            | broken, 2 writes, warning noted: 'war'
+            > error told / broken at 1
+            | broken, 2 writes, both noted: 'err'
+
+            > status nothing
+            | 0
+            > info told / broken at 3
+            | broken, 4 writes, nothing noted: 'info: tol'
+            > warn told / broken at 3
+            | broken, 4 writes, warning noted: 'warning: '
+            > error told / broken at 3
+            | broken, 4 writes, both noted: 'error: '
+
+            > status nothing
+            | 0
+            > error told / broken at 4
+            | broken, 5 writes, error noted: 'error: tol'
+        ",
+    )
 }
 
 #[test]
-fn flags_without_a_writer(rt: HostRuntime) {
-    for writes in [0, 1, 3] {
-        let mut term = Term::new(Coloring::Never, false);
-        assert!(rt;
-            term.info("told", &mut empty_page(rt.alloc(), writes))
-                .is_err()
-        );
-        assert_eq!(rt; (term.error, term.warn), (false, false));
-        assert!(rt;
-            term.warn("told", &mut empty_page(rt.alloc(), writes))
-                .is_err()
-        );
-        assert_eq!(rt; (term.error, term.warn), (false, true));
-        assert!(rt;
-            term.error("told", &mut empty_page(rt.alloc(), writes))
-                .is_err()
-        );
-        assert_eq!(rt; (term.error, term.warn), (true, true));
-    }
-    let mut page = empty_page(rt.alloc(), 4);
-    let mut term = Term::new(Coloring::Never, false);
-    assert!(rt; term.error("told", &mut page).is_err());
-    assert_eq!(rt; page.bytes.as_slice(), b"error: tol".as_slice());
+fn notices_by_kind(rt: HostRuntime) -> Result<(), Wrong> {
+    on(
+        rt.alloc(),
+        Term::new(Coloring::Auto, false),
+        r"
+            > note-info n
+            | ok, 4 writes, nothing noted: 'info: n\n'
+            > note-quiet n
+            | ok, 5 writes, nothing noted: 'warning: n\n'
+            > note-warn n
+            | ok, 5 writes, warning noted: 'warning: n\n'
+        ",
+    )
 }
 
 #[test]
-fn notices_by_kind(rt: HostRuntime) -> Result<(), Fail> {
-    let rows = [
-        (NoticeKind::Info, "info: n\n", false),
-        (NoticeKind::Warn, "warning: n\n", true),
-        (NoticeKind::QuietWarn, "warning: n\n", false),
-    ];
-    for (kind, want, noted) in rows {
-        let text = String::from_str(rt.alloc(), "n")?;
-        let mut page = empty_page(rt.alloc(), 200);
-        let mut term = Term::new(Coloring::Auto, false);
-        assert!(rt; term.notice(&Notice { kind, text }, &mut page).is_ok());
-        assert_eq!(rt; page.bytes.as_slice(), want.as_bytes());
-        assert_eq!(rt; (term.error, term.warn), (false, noted), "{kind:?}");
-    }
-    Ok(())
+fn statuses(rt: HostRuntime) -> Result<(), Wrong> {
+    on(
+        rt.alloc(),
+        Term::new(Coloring::Auto, true),
+        "
+            > status nothing
+            | 0
+            > status denied
+            | 0
+            > status warning
+            | 0
+            > status warning denied
+            | 1
+            > status error
+            | 1
+            > status error warning denied
+            | 1
+        ",
+    )
+}
+
+// The line takes five writes: two for `info: `, two for its text, one for the line feed.
+#[test]
+fn an_interrupted_write_is_tried_again(rt: HostRuntime) -> Result<(), Wrong> {
+    on(
+        rt.alloc(),
+        Term::new(Coloring::Never, false),
+        r"
+            > info told / interrupted at 0
+            | ok, 6 writes, nothing noted: 'info: told\n'
+            > info told / interrupted at 1
+            | ok, 6 writes, nothing noted: 'info: told\n'
+            > info told / interrupted at 2
+            | ok, 6 writes, nothing noted: 'info: told\n'
+            > info told / interrupted at 3
+            | ok, 6 writes, nothing noted: 'info: told\n'
+            > info told / interrupted at 4
+            | ok, 6 writes, nothing noted: 'info: told\n'
+            > info told / interrupted at 5
+            | ok, 5 writes, nothing noted: 'info: told\n'
+        ",
+    )
+}
+
+// Nothing is written behind the fault.
+#[test]
+fn another_fault_ends_the_line(rt: HostRuntime) -> Result<(), Wrong> {
+    on(
+        rt.alloc(),
+        Term::new(Coloring::Never, false),
+        "
+            > error told / broken at 0
+            | broken, 1 writes, error noted: ''
+            > error told / broken at 1
+            | broken, 2 writes, error noted: 'err'
+            > error told / broken at 2
+            | broken, 3 writes, error noted: 'error:'
+            > error told / broken at 3
+            | broken, 4 writes, error noted: 'error: '
+            > error told / broken at 4
+            | broken, 5 writes, error noted: 'error: tol'
+            > error told / broken at 5
+            | broken, 6 writes, error noted: 'error: told'
+        ",
+    )
 }
 
 #[test]
-fn statuses(rt: HostRuntime) {
-    let rows = [
-        (false, false, false, 0),
-        (false, false, true, 0),
-        (false, true, false, 0),
-        (false, true, true, 1),
-        (true, false, false, 1),
-        (true, true, true, 1),
-    ];
-    for (error, warn, deny_warnings, want) in rows {
-        let mut term = Term::new(Coloring::Auto, true);
-        term.error = error;
-        term.warn = warn;
-        assert_eq!(rt;
-            term.status(deny_warnings),
-            want,
-            "{error} {warn} {deny_warnings}"
-        );
-    }
-}
-
-#[test]
-fn lines_of_log_groups(rt: HostRuntime) {
-    let rows = [
-        (LogGroup::None, "", "info: running x\n"),
-        (
-            LogGroup::GithubActions,
-            "::group::running x\n::endgroup::\n",
-            "",
-        ),
-    ];
-    for (group, on_out, on_err) in rows {
-        let mut out = empty_page(rt.alloc(), 200);
-        let mut err = empty_page(rt.alloc(), 200);
-        let term = Term::new(Coloring::Auto, false);
-        let (guard, written) = group.print(&term, "running x", &mut out, &mut err);
-        assert!(rt; written.is_ok());
-        if let Some(guard) = guard {
-            assert!(rt; guard.end(&mut out).is_ok());
-        }
-        assert_eq!(rt; out.bytes.as_slice(), on_out.as_bytes(), "{group:?}");
-        assert_eq!(rt; err.bytes.as_slice(), on_err.as_bytes(), "{group:?}");
-    }
+fn a_write_that_takes_nothing_is_a_fault(rt: HostRuntime) -> Result<(), Wrong> {
+    on(
+        rt.alloc(),
+        Term::new(Coloring::Never, false),
+        "
+            > warn told / full at 0
+            | takes nothing, 1 writes, warning noted: ''
+            > note-info told / full at 0
+            | takes nothing, 1 writes, warning noted: ''
+        ",
+    )
 }

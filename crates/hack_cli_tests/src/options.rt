@@ -1,126 +1,216 @@
-//! The table of options, and the help whole.
+//! The table of options, and the help whole. `help: short` and `help: long` ask for the help, `all
+//! by name` how many of all options their own name finds. `long: NAME` and `letter: LETTER` ask
+//! which option is found, `row: NAME` for its row, `means: NAME` for what it stands for, and `same:
+//! NAME OTHER` whether both are the same option.
 
-use crate::help_texts::{LONG_HELP, SHORT_HELP};
-use hack_options::{ALL, Help, Kind, Opt, long, short};
-use std::test::Fail;
+use crate::asks::{halves, on};
+use crate::checks::checked;
+use crate::help_texts::HELP;
+use hack_holds::Wrong;
+use hack_options::{ALL, Help, Opt, long, short};
+use std::alloc::{AllocError, Global};
 
-#[test]
-fn help(rt: HostRuntime) -> Result<(), Fail> {
-    let short_help = format!(in rt.alloc(); "{}", Help::short())?;
-    assert_eq!(rt; short_help.as_str(), SHORT_HELP);
-    let long_help = format!(in rt.alloc(); "{}", Help::long())?;
-    assert_eq!(rt; long_help.as_str(), LONG_HELP);
-    Ok(())
+pub fn help_text(alloc: Global, text: &str) -> Result<String, AllocError> {
+    let help = match text {
+        "short" => Help::short(),
+        _ => Help::long(),
+    };
+    help.to_string(alloc)
 }
 
-#[test]
-fn options_by_name(rt: HostRuntime) {
+pub fn all_by_name(alloc: Global) -> Result<String, AllocError> {
+    let mut count = 0u64;
     for option in &ALL {
-        assert_eq!(rt; long(option.row().name), Some(*option));
+        if long(option.row().name) == Some(*option) {
+            count = count.saturating_add(1);
+        }
     }
-    for name in [
-        "",
-        "al",
-        "alls",
-        "All",
-        "-all",
-        "all=",
-        "workspace-behavior=cargo",
-        "no-dev-dep",
-        "m",
-        "quiet",
-    ] {
-        assert_eq!(rt; long(name), None, "of {name}");
+    count.to_string(alloc)
+}
+
+pub fn by_name(alloc: Global, name: &str) -> Result<String, AllocError> {
+    shown(alloc, long(name))
+}
+
+pub fn by_letter(alloc: Global, text: &str) -> Result<String, AllocError> {
+    match text.chars().next() {
+        Some(letter) => shown(alloc, short(letter)),
+        None => shown(alloc, None),
     }
 }
 
-#[test]
-fn options_by_letter(rt: HostRuntime) {
-    let rows = [
-        ('p', Opt::Package),
-        ('m', Opt::ManifestPath),
-        ('F', Opt::Features),
-        ('v', Opt::Verbose),
-        ('h', Opt::Help),
-        ('V', Opt::Version),
-    ];
-    for (letter, want) in rows {
-        assert_eq!(rt; short(letter), Some(want), "of {letter}");
-    }
-    for letter in ['P', 'f', 'M', 'H', 'q', 'n', '-', 'é'] {
-        assert_eq!(rt; short(letter), None, "of {letter}");
+pub fn means(alloc: Global, name: &str) -> Result<String, AllocError> {
+    match long(name) {
+        Some(option) => shown(alloc, Some(option.means())),
+        None => shown(alloc, None),
     }
 }
 
-/// Whether the option's row says this.
-fn has_row(option: Opt, name: &str, kind: Kind, once: bool) -> bool {
+fn shown(alloc: Global, option: Option<Opt>) -> Result<String, AllocError> {
+    match option {
+        Some(option) => format!(in alloc; "{option:?}"),
+        None => String::from_str(alloc, "none"),
+    }
+}
+
+pub fn row(alloc: Global, name: &str) -> Result<String, AllocError> {
+    match long(name) {
+        Some(option) => row_of(alloc, option),
+        None => String::from_str(alloc, "none"),
+    }
+}
+
+fn row_of(alloc: Global, option: Opt) -> Result<String, AllocError> {
     let row = option.row();
-    row.name == name && row.kind == kind && row.once == once
+    let often = if row.once { "once" } else { "often" };
+    format!(in alloc; "{option:?} {} {:?} {often}", row.name, row.kind)
+}
+
+pub fn same(alloc: Global, text: &str) -> Result<String, AllocError> {
+    let (name, other) = halves(text, " ");
+    let text = match (long(name), long(other)) {
+        (Some(option), Some(other)) if option.is(other) => "yes",
+        (Some(_), Some(_)) => "no",
+        _ => "none",
+    };
+    String::from_str(alloc, text)
 }
 
 #[test]
-fn rows(rt: HostRuntime) {
-    let rows = [
-        (Opt::All, "all", Kind::Flag, true),
-        (Opt::Features, "features", Kind::Names, false),
-        (
-            Opt::OptionalDeps,
-            "optional-deps",
-            Kind::OptionalNames,
-            true,
-        ),
-        (Opt::GroupFeatures, "group-features", Kind::Value, false),
-        (Opt::PartitionKind, "partition-kind", Kind::Value, true),
-        (
-            Opt::WorkspaceBehavior,
-            "workspace-behavior",
-            Kind::Refused,
-            false,
-        ),
-        (Opt::Help, "help", Kind::Help, false),
-        (Opt::Version, "version", Kind::Version, false),
-    ];
-    for (option, name, kind, once) in rows {
-        assert!(rt; has_row(option, name, kind, once), "of {name}");
-    }
+fn help(rt: HostRuntime) -> Result<(), Wrong> {
+    on(rt.alloc(), HELP)
 }
 
 #[test]
-fn options_in_messages(rt: HostRuntime) -> Result<(), Fail> {
-    let rows = [
-        (Opt::Package, "--package", "--package"),
-        (Opt::All, "--all", "--all"),
-        (Opt::Skip, "--skip", "--skip"),
-        (
-            Opt::ExcludeFeatures,
-            "--exclude-features",
-            "--exclude-features (--skip)",
-        ),
-        (
-            Opt::WorkspaceBehavior,
-            "--workspace-behavior=cargo",
-            "--workspace-behavior=cargo",
-        ),
-        (
-            Opt::IncludeDepsFeatures,
-            "--include-deps-features",
-            "--include-deps-features",
-        ),
-    ];
-    for (option, name, with_alias) in rows {
-        let shown = format!(in rt.alloc(); "{option}")?;
-        assert_eq!(rt; shown.as_str(), name);
-        let shown = format!(in rt.alloc(); "{}", option.with_alias())?;
-        assert_eq!(rt; shown.as_str(), with_alias);
-    }
-    Ok(())
+fn options_by_name(rt: HostRuntime) -> Result<(), Wrong> {
+    on(
+        rt.alloc(),
+        "
+            > all by name
+            | 45
+            > long:
+            | none
+            > long: al
+            | none
+            > long: alls
+            | none
+            > long: All
+            | none
+            > long: -all
+            | none
+            > long: all=
+            | none
+            > long: workspace-behavior=cargo
+            | none
+            > long: no-dev-dep
+            | none
+            > long: m
+            | none
+            > long: quiet
+            | none
+        ",
+    )
 }
 
 #[test]
-fn aliases(rt: HostRuntime) {
-    assert_eq!(rt; Opt::All.means(), Opt::Workspace);
-    assert_eq!(rt; Opt::Skip.means(), Opt::ExcludeFeatures);
-    assert_eq!(rt; Opt::Color.means(), Opt::Color);
-    assert!(rt; Opt::Color.is(Opt::Color));
-    assert!(rt; !Opt::All.is(Opt::Workspace));
+fn options_by_letter(rt: HostRuntime) -> Result<(), Wrong> {
+    on(
+        rt.alloc(),
+        "
+            > letter: p
+            | Package
+            > letter: m
+            | ManifestPath
+            > letter: F
+            | Features
+            > letter: v
+            | Verbose
+            > letter: h
+            | Help
+            > letter: V
+            | Version
+            > letter: P
+            | none
+            > letter: f
+            | none
+            > letter: M
+            | none
+            > letter: H
+            | none
+            > letter: q
+            | none
+            > letter: n
+            | none
+            > letter: -
+            | none
+            > letter: é
+            | none
+        ",
+    )
+}
+
+#[test]
+fn rows(rt: HostRuntime) -> Result<(), Wrong> {
+    on(
+        rt.alloc(),
+        "
+            > row: all
+            | All all Flag once
+            > row: features
+            | Features features Names often
+            > row: optional-deps
+            | OptionalDeps optional-deps OptionalNames once
+            > row: group-features
+            | GroupFeatures group-features Value often
+            > row: partition-kind
+            | PartitionKind partition-kind Value once
+            > row: workspace-behavior
+            | WorkspaceBehavior workspace-behavior Refused often
+            > row: help
+            | Help help Help often
+            > row: version
+            | Version version Version often
+        ",
+    )
+}
+
+#[test]
+fn options_in_messages(rt: HostRuntime) -> Result<(), Wrong> {
+    checked(
+        rt.alloc(),
+        "[named] How messages name an option, alone and with its alias, and whether it is one.
+> package
+| --package|--package|no
+> all
+| --all|--all|yes
+> skip
+| --skip|--skip|yes
+> exclude-features
+| --exclude-features|--exclude-features (--skip)|no
+> workspace-behavior
+| --workspace-behavior=cargo|--workspace-behavior=cargo|no
+> include-deps-features
+| --include-deps-features|--include-deps-features|no
+",
+        "0 of 6 are wrong",
+    )
+}
+
+#[test]
+fn aliases(rt: HostRuntime) -> Result<(), Wrong> {
+    on(
+        rt.alloc(),
+        "
+            > means: all
+            | Workspace
+            > means: skip
+            | ExcludeFeatures
+            > means: color
+            | Color
+            > same: color color
+            | yes
+            > same: all workspace
+            | no
+        ",
+    )
 }

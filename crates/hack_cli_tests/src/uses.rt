@@ -1,57 +1,133 @@
-//! Options as they were written, and names as features.
+//! Options as they were written, and names as features. `behavior: true` asks who handles a
+//! workspace that is left to cargo. `flag: long NAME`, `short LETTER` and `value WORD` ask for the
+//! option of a cut, and for the cut that the option gives back. `features: VALUE` asks for the
+//! features that one `--features` names.
 
+use crate::asks::{halves, list, on, push_line};
 use hack_features::Feature;
+use hack_holds::Wrong;
 use hack_lexopt::Arg;
 use hack_options::Opt;
 use hack_rules::named::{names, normals};
-use hack_uses::{CutFault, Cuts, OwnedFlag, Use, all_uses};
+use hack_uses::{Cuts, OwnedFlag, Use, WorkspaceBehavior, all_uses};
 use std::alloc::{AllocError, Global};
-use std::test::Fail;
 
-/// The uses that the words make; none where they are refused.
-fn uses(alloc: Global, words: &[&str]) -> Result<Vec<Use>, AllocError> {
-    let mut texts = Vec::new(alloc);
-    for word in words {
-        texts.push(String::from_str(alloc, *word)?)?;
+pub fn behavior(alloc: Global, text: &str) -> Result<String, AllocError> {
+    let name = match WorkspaceBehavior::new(text == "true") {
+        WorkspaceBehavior::Cargo => "Cargo",
+        WorkspaceBehavior::Default => "Default",
+    };
+    String::from_str(alloc, name)
+}
+
+pub fn flag(alloc: Global, text: &str) -> Result<String, AllocError> {
+    match OwnedFlag::new(alloc, arg_of(text))? {
+        Some(flag) => flag_text(alloc, &flag),
+        None => String::from_str(alloc, "none"),
     }
-    match all_uses(alloc, texts) {
-        Ok(Cuts::Uses(uses)) => Ok(uses),
-        _ => Ok(Vec::new(alloc)),
+}
+
+fn arg_of(text: &str) -> Arg<'_> {
+    let (kind, name) = halves(text, " ");
+    match kind {
+        "long" => Arg::Long(name),
+        "short" => Arg::Short(name.chars().next().unwrap_or(' ')),
+        _ => Arg::Value(name),
+    }
+}
+
+fn flag_text(alloc: Global, flag: &OwnedFlag) -> Result<String, AllocError> {
+    let arg = flag.as_arg();
+    let kind = match arg {
+        Arg::Long(_) => "long",
+        Arg::Short(_) => "short",
+        Arg::Value(_) => "value",
+    };
+    format!(in alloc; "{flag}, {kind} {arg}")
+}
+
+pub fn features(alloc: Global, value: &str) -> Result<String, AllocError> {
+    let mut words = list(alloc, "--features")?;
+    words.push(String::from_str(alloc, value)?)?;
+    match all_uses(alloc, words) {
+        Ok(Cuts::Uses(uses)) => features_of(alloc, &uses),
+        _ => String::from_str(alloc, "no uses"),
+    }
+}
+
+fn features_of(alloc: Global, uses: &[Use]) -> Result<String, AllocError> {
+    let names = names(alloc, Opt::Features, uses)?;
+    let mut text = String::new(alloc);
+    for feature in normals(alloc, &names)? {
+        push_line(&mut text, kind_of(&feature))?;
+        text.push_str(feature.name())?;
+    }
+    Ok(text)
+}
+
+fn kind_of(feature: &Feature) -> &'static str {
+    match feature {
+        Feature::Normal { .. } => "normal ",
+        Feature::Group { .. } => "group ",
+        Feature::Path { .. } => "path ",
     }
 }
 
 #[test]
-fn options_as_written(rt: HostRuntime) -> Result<(), Fail> {
-    let rows = [
-        (Arg::Long("größe"), Some("--größe")),
-        (Arg::Long(""), Some("--")),
-        (Arg::Short('é'), Some("-é")),
-        (Arg::Value("check"), None),
-    ];
-    for (arg, want) in rows {
-        let flag = OwnedFlag::new(rt.alloc(), arg)?;
-        assert!(rt; flag.is_some() == want.is_some(), "of {arg}");
-        if let Some(flag) = flag {
-            assert!(rt; flag.as_arg() == arg, "of {arg}");
-            let text = format!(in rt.alloc(); "{flag}")?;
-            assert_eq!(rt; Some(text.as_str()), want);
-        }
-    }
-    let memory = CutFault::Memory;
-    assert_eq!(rt;
-        format!(in rt.alloc(); "{memory}")?.as_str(),
-        "out of memory"
-    );
-    Ok(())
+fn who_handles_a_workspace(rt: HostRuntime) -> Result<(), Wrong> {
+    on(
+        rt.alloc(),
+        "
+            > behavior: true
+            | Cargo
+            > behavior: false
+            | Default
+        ",
+    )
 }
 
 #[test]
-fn names_are_features(rt: HostRuntime) -> Result<(), Fail> {
-    let uses = uses(rt.alloc(), &["--features", "a,b c"])?;
-    let names = names(rt.alloc(), Opt::Features, &uses)?;
-    let found = normals(rt.alloc(), &names)?;
-    assert_eq!(rt; found.len(), 2);
-    assert!(rt; matches!(&found[0], Feature::Normal { name } if name.as_str() == "a"));
-    assert!(rt; matches!(&found[1], Feature::Normal { name } if name.as_str() == "b c"));
-    Ok(())
+fn flags_outlive_their_cuts(rt: HostRuntime) -> Result<(), Wrong> {
+    on(
+        rt.alloc(),
+        "
+            > flag: long locked
+            | --locked, long --locked
+            > flag: long größe
+            | --größe, long --größe
+            > flag: short v
+            | -v, short -v
+            > flag: value check
+            | none
+        ",
+    )
+}
+
+#[test]
+fn options_as_written(rt: HostRuntime) -> Result<(), Wrong> {
+    on(
+        rt.alloc(),
+        "
+            > flag: long größe
+            | --größe, long --größe
+            > flag: long
+            | --, long --
+            > flag: short é
+            | -é, short -é
+            > flag: value check
+            | none
+        ",
+    )
+}
+
+#[test]
+fn names_are_features(rt: HostRuntime) -> Result<(), Wrong> {
+    on(
+        rt.alloc(),
+        "
+            > features: a,b c
+            | normal a
+            | normal b c
+        ",
+    )
 }

@@ -1,8 +1,8 @@
 //! Worked examples of versions, pieces and words, as rows whose form `docs/TESTING.md` tells: one
 //! for each reader of an answer or a value, and for each rule of words.
 
-use crate::tables::told;
-use std::test::Fail;
+use crate::checks::checked;
+use hack_holds::Wrong;
 
 const VERSIONS: &str = r"[version] Versions.
 > 1
@@ -20,9 +20,8 @@ const VERSIONS: &str = r"[version] Versions.
 ";
 
 #[test]
-fn versions_and_answers(rt: HostRuntime) -> Result<(), Fail> {
-    assert_eq!(rt; told(rt.alloc(), VERSIONS)?.as_str(), "0 of 5 are wrong");
-    Ok(())
+fn versions_and_answers(rt: HostRuntime) -> Result<(), Wrong> {
+    checked(rt.alloc(), VERSIONS, "0 of 5 are wrong")
 }
 
 const RANGES: &str = r"[range] Ranges.
@@ -67,9 +66,8 @@ const RANGES: &str = r"[range] Ranges.
 ";
 
 #[test]
-fn ranges_steps_and_lockfiles(rt: HostRuntime) -> Result<(), Fail> {
-    assert_eq!(rt; told(rt.alloc(), RANGES)?.as_str(), "0 of 13 are wrong");
-    Ok(())
+fn ranges_steps_and_lockfiles(rt: HostRuntime) -> Result<(), Wrong> {
+    checked(rt.alloc(), RANGES, "0 of 13 are wrong")
 }
 
 const PIECES: &str = r"[piece] Pieces.
@@ -113,9 +111,8 @@ const PIECES: &str = r"[piece] Pieces.
 ";
 
 #[test]
-fn pieces_and_their_places(rt: HostRuntime) -> Result<(), Fail> {
-    assert_eq!(rt; told(rt.alloc(), PIECES)?.as_str(), "0 of 17 are wrong");
-    Ok(())
+fn pieces_and_their_places(rt: HostRuntime) -> Result<(), Wrong> {
+    checked(rt.alloc(), PIECES, "0 of 17 are wrong")
 }
 
 const CUTS: &str = r"[words] Help is printed while no subcommand was met.
@@ -166,9 +163,8 @@ const CUTS: &str = r"[words] Help is printed while no subcommand was met.
 ";
 
 #[test]
-fn rules_of_cuts(rt: HostRuntime) -> Result<(), Fail> {
-    assert_eq!(rt; told(rt.alloc(), CUTS)?.as_str(), "0 of 11 are wrong");
-    Ok(())
+fn rules_of_cuts(rt: HostRuntime) -> Result<(), Wrong> {
+    checked(rt.alloc(), CUTS, "0 of 11 are wrong")
 }
 
 const EARLY: &str = r"[words] Colours.
@@ -235,9 +231,8 @@ const EARLY: &str = r"[words] Colours.
 ";
 
 #[test]
-fn rules_before_the_subcommand(rt: HostRuntime) -> Result<(), Fail> {
-    assert_eq!(rt; told(rt.alloc(), EARLY)?.as_str(), "0 of 28 are wrong");
-    Ok(())
+fn rules_before_the_subcommand(rt: HostRuntime) -> Result<(), Wrong> {
+    checked(rt.alloc(), EARLY, "0 of 28 are wrong")
 }
 
 const LATE: &str = r"[words] There is a subcommand, or a list is asked for.
@@ -295,7 +290,6 @@ const LATE: &str = r"[words] There is a subcommand, or a list is asked for.
 ";
 
 #[test]
-fn rules_behind_the_subcommand(rt: HostRuntime) -> Result<(), Fail> {
-    assert_eq!(rt; told(rt.alloc(), LATE)?.as_str(), "0 of 19 are wrong");
-    Ok(())
+fn rules_behind_the_subcommand(rt: HostRuntime) -> Result<(), Wrong> {
+    checked(rt.alloc(), LATE, "0 of 19 are wrong")
 }

@@ -1,57 +1,36 @@
-//! The public calls on a case, with answers as short texts and lists.
+//! Questions on the sets of a scene. Behind each stand the rules, and `-` is the empty set.
+//!
+//! - `list`: the listed sets by their names; `sets`: by the places of their candidates.
+//! - `cover 0,2`: the set that covers this one, or `none`; `covers`: that of each set in turn.
+//! - `all`: the answers of `list`, `sets` and `covers`.
+//! - `ask 0,1 2`: whether the second may follow the first ones, how many questions were counted, and
+//!   whether the first ones are complete.
+//! - `count 24`: how many sets each of the three enumerations finds, and whether they ask
+//!   as many questions as are counted: some, and at most 24.
+//! - `powerset`: the sets of the numbers 1 to 4.
+//! - `order 0 1 0,1`: how each set stands to each.
 
 ghost use Rattle.std.specs.Prelude.{◌≡◌, IsTrue, IfOk, length};
 ghost use Rattle.hack_features.specs.Sets.{IsSelection};
 ghost use Rattle.hack_features.specs.View.{size_of};
 
-use crate::given::Case;
-use hack_features::{Feature, Pruned, Questions, Rules, compare_sets, feature_powerset, pruned};
+use crate::given::{Case, case_of, depth_of, numbers, refs, word_at};
+use crate::shown::{push_between, push_names, push_numbers, push_order};
+use hack_features::{
+    Feature, FeatureSets, Questions, Rules, compare_sets, feature_powerset, powerset, pruned,
+};
+use hack_holds::{Ask, Wrong, hold};
 use std::alloc::{AllocError, Global};
 use std::cmp::Ordering;
 
 /// Whether the positions increase and are below `n`.
-pub(crate) fn is_selection(positions: &[usize], n: usize) -> bool
+fn is_selection(positions: &[usize], n: usize) -> bool
     ensures { IsTrue result → IsSelection n positions.now }
 {
     match positions.split_last() {
         None => true,
         Some((last, others)) => *last < n && is_selection(others, *last),
     }
-}
-
-/// The names of the features, joined by commas, in brackets.
-fn set_text(alloc: Global, set: &[&Feature]) -> Result<String, AllocError> {
-    let mut text = String::from_str(alloc, "[")?;
-    for (place, feature) in set.iter().enumerate() {
-        if place > 0 {
-            text.push_str(",")?;
-        }
-        text.push_str(feature.name())?;
-    }
-    text.push_str("]")?;
-    Ok(text)
-}
-
-/// The sets that `feature_powerset` lists, such as `[a] [b] [a,b]`.
-pub(crate) fn listed(alloc: Global, case: &Case) -> Result<String, AllocError> {
-    let refs = case.candidates.refs(alloc)?;
-    let sets = feature_powerset(
-        alloc,
-        refs.as_slice(),
-        case.depth,
-        case.at_least_one_of.features.as_slice(),
-        case.exclusive.features.as_slice(),
-        &case.map,
-        case.lifted.as_slice(),
-    )?;
-    let mut text = String::new(alloc);
-    for (place, set) in sets.iter().enumerate() {
-        if place > 0 {
-            text.push_str(" ")?;
-        }
-        text.push_str(set_text(alloc, set.as_slice())?.as_str())?;
-    }
-    Ok(text)
 }
 
 /// The rules of a case, for the candidates in `refs`.
@@ -66,67 +45,239 @@ fn rules_of<'a>(
         alloc,
         refs,
         case.depth,
-        case.at_least_one_of.features.as_slice(),
-        case.exclusive.features.as_slice(),
+        case.some.as_slice(),
+        case.apart.as_slice(),
         &case.map,
         case.lifted.as_slice(),
     )
 }
 
-/// What `pruned` answers over the rules of a case, and the count of the rules behind it.
-pub(crate) fn enumerated(alloc: Global, case: &Case) -> Result<(Pruned, u128), AllocError> {
-    let refs = case.candidates.refs(alloc)?;
-    let mut rules = rules_of(alloc, case, refs.as_slice())?;
+/// The sets that `feature_powerset` lists.
+fn powersets<'a>(
+    alloc: Global,
+    case: &Case,
+    refs: &[&'a Feature],
+) -> Result<Vec<Vec<&'a Feature>>, AllocError> {
+    feature_powerset(
+        alloc,
+        refs,
+        case.depth,
+        case.some.as_slice(),
+        case.apart.as_slice(),
+        &case.map,
+        case.lifted.as_slice(),
+    )
+}
+
+fn list(alloc: Global, case: &Case, refs: &[&Feature]) -> Result<String, AllocError> {
+    let sets = powersets(alloc, case, refs)?;
+    let mut text = String::new(alloc);
+    for (place, set) in sets.iter().enumerate() {
+        push_between(&mut text, place, " ")?;
+        push_names(&mut text, set.as_slice())?;
+    }
+    Ok(text)
+}
+
+fn push_sets(text: &mut String, alloc: Global, sets: &FeatureSets) -> Result<(), AllocError> {
+    let mut set = Vec::new(alloc);
+    for rank in 0..sets.len() {
+        push_between(text, rank, " ")?;
+        sets.read(rank, &mut set)?;
+        push_numbers(text, set.as_slice())?;
+    }
+    Ok(())
+}
+
+fn sets(alloc: Global, case: &Case, refs: &[&Feature]) -> Result<String, AllocError> {
+    let mut rules = rules_of(alloc, case, refs)?;
     let found = pruned(alloc, &mut rules, refs.len())?;
-    Ok((found, rules.asked()))
+    let mut text = String::new(alloc);
+    push_sets(&mut text, alloc, &found.sets)?;
+    Ok(text)
 }
 
-/// How many sets `Rules::listed` finds for a case, and how many questions it asks.
-pub(crate) fn listed_by_rules(alloc: Global, case: &Case) -> Result<(usize, u128), AllocError> {
-    let refs = case.candidates.refs(alloc)?;
-    let mut rules = rules_of(alloc, case, refs.as_slice())?;
-    let found = rules.listed(alloc)?;
-    Ok((found.sets.len(), found.asked))
-}
-
-/// What `covering` answers; None inside where it is None, and None where the positions are no selection.
-pub(crate) fn covering(
+/// Puts the set that covers this one behind the text.
+fn push_cover(
+    text: &mut String,
     alloc: Global,
-    case: &Case,
-    positions: &[usize],
-) -> Result<Option<Option<Vec<usize>>>, AllocError> {
-    let refs = case.candidates.refs(alloc)?;
-    let rules = rules_of(alloc, case, refs.as_slice())?;
-    if !is_selection(positions, refs.len()) {
-        return Ok(None);
+    rules: &Rules<'_>,
+    n: usize,
+    set: &[usize],
+) -> Result<(), AllocError>
+    requires { size_of rules.now ≡ n }
+{
+    if !is_selection(set, n) {
+        return text.push_str("no set");
     }
-    Ok(Some(rules.covering(alloc, positions)?))
+    match rules.covering(alloc, set)? {
+        Some(cover) => push_numbers(text, cover.as_slice()),
+        None => text.push_str("none"),
+    }
 }
 
-/// Answers of new rules: whether `next` may follow the positions, the count behind that question, and whether the
-/// positions are complete. None where the positions are no selection below `next`, or it is no candidate's.
-pub(crate) fn questions(
+fn cover(
     alloc: Global,
     case: &Case,
-    positions: &[usize],
+    refs: &[&Feature],
+    set: &[usize],
+) -> Result<String, AllocError> {
+    let rules = rules_of(alloc, case, refs)?;
+    let mut text = String::new(alloc);
+    push_cover(&mut text, alloc, &rules, refs.len(), set)?;
+    Ok(text)
+}
+
+/// The places below `n`.
+fn places(alloc: Global, n: usize) -> Result<Vec<usize>, AllocError> {
+    (0..n).collect(alloc)
+}
+
+fn push_covers(
+    text: &mut String,
+    alloc: Global,
+    case: &Case,
+    refs: &[&Feature],
+) -> Result<(), AllocError> {
+    let rules = rules_of(alloc, case, refs)?;
+    let places = places(alloc, refs.len())?;
+    for set in powerset(alloc, places.as_slice(), None)? {
+        text.push_str(" ")?;
+        push_cover(text, alloc, &rules, refs.len(), set.as_slice())?;
+    }
+    Ok(())
+}
+
+fn all(alloc: Global, case: &Case, refs: &[&Feature]) -> Result<String, AllocError> {
+    let mut text = list(alloc, case, refs)?;
+    text.push_str("\n")?;
+    text.push_str(sets(alloc, case, refs)?.as_str())?;
+    text.push_str("\n")?;
+    push_covers(&mut text, alloc, case, refs)?;
+    Ok(text)
+}
+
+fn may_follow(
+    alloc: Global,
+    case: &Case,
+    refs: &[&Feature],
+    set: &[usize],
     next: usize,
-) -> Result<Option<(bool, u128, bool)>, AllocError> {
-    let refs = case.candidates.refs(alloc)?;
-    let mut rules = rules_of(alloc, case, refs.as_slice())?;
-    if next >= refs.len()
-        || !is_selection(positions, next)
-        || !is_selection(positions, refs.len())
-    {
-        return Ok(None);
+) -> Result<String, AllocError> {
+    let mut rules = rules_of(alloc, case, refs)?;
+    let n = refs.len();
+    if next >= n || !is_selection(set, next) || !is_selection(set, n) {
+        return String::from_str(alloc, "no set");
     }
-    let may = rules.may_extend(positions, next);
-    Ok(Some((may, rules.asked(), rules.complete(positions))))
+    let may = rules.may_extend(set, next);
+    let count = rules.asked();
+    let complete = rules.complete(set);
+    format!(in alloc; "{may} {count} {complete}")
+}
+
+fn count(alloc: Global, case: &Case, refs: &[&Feature], most: u128) -> Result<String, AllocError> {
+    let mut rules = rules_of(alloc, case, refs)?;
+    let found = pruned(alloc, &mut rules, refs.len())?;
+    let mut others = rules_of(alloc, case, refs)?;
+    let other = others.listed(alloc)?;
+    let few = found.asked > 0 && found.asked <= most;
+    let same = found.asked == rules.asked() && found.asked == other.asked;
+    let lists = powersets(alloc, case, refs)?.len();
+    let found = found.sets.len();
+    let other = other.sets.len();
+    format!(in alloc; "{found} {other} {lists} few {few} same {same}")
+}
+
+fn powerset_text(alloc: Global, depth: Option<usize>) -> Result<String, AllocError> {
+    let sets = powerset(alloc, &[1, 2, 3, 4], depth)?;
+    let mut text = String::new(alloc);
+    for (place, set) in sets.iter().enumerate() {
+        push_between(&mut text, place, " ")?;
+        push_numbers(&mut text, set.as_slice())?;
+    }
+    Ok(text)
 }
 
 /// How `compare_sets` orders two sets below 100; None where one isn't such a set.
-pub(crate) fn compared(first: &[usize], second: &[usize]) -> Option<Ordering> {
-    if !is_selection(first, 100) || !is_selection(second, 100) {
-        return None;
+fn compared(first: &[usize], second: &[usize]) -> Option<Ordering> {
+    if is_selection(first, 100) && is_selection(second, 100) {
+        Some(compare_sets(first, second))
+    } else {
+        None
     }
-    Some(compare_sets(first, second))
+}
+
+fn push_compared(
+    text: &mut String,
+    alloc: Global,
+    first: &str,
+    sets: &str,
+) -> Result<(), AllocError> {
+    let first = numbers(alloc, first)?;
+    for set in sets.split_whitespace() {
+        let second = numbers(alloc, set)?;
+        push_order(text, compared(first.as_slice(), second.as_slice()))?;
+    }
+    Ok(())
+}
+
+fn order(alloc: Global, sets: &str) -> Result<String, AllocError> {
+    let mut text = String::new(alloc);
+    for (place, set) in sets.split_whitespace().enumerate() {
+        push_between(&mut text, place, "\n")?;
+        push_compared(&mut text, alloc, set, sets)?;
+    }
+    Ok(text)
+}
+
+fn of_sets(alloc: Global, kind: &str, rest: &str) -> Result<String, AllocError> {
+    match kind {
+        "powerset" => powerset_text(alloc, depth_of(rest)),
+        "order" => order(alloc, rest),
+        _ => String::from_str(alloc, "no such question"),
+    }
+}
+
+/// The answer to a question on a scene.
+fn answer(alloc: Global, scene: &str, question: &str) -> Result<String, AllocError> {
+    let (kind, rest) = question.split_once(' ').unwrap_or((question, ""));
+    let case = case_of(alloc, scene, rest)?;
+    let refs = refs(alloc, case.candidates.as_slice())?;
+    let refs = refs.as_slice();
+    let word = word_at(rest, 0);
+    let set = numbers(alloc, word)?;
+    let next = word_at(rest, 1).parse::<usize>().unwrap_or(0);
+    match kind {
+        "list" => list(alloc, &case, refs),
+        "sets" => sets(alloc, &case, refs),
+        "cover" => cover(alloc, &case, refs, set.as_slice()),
+        "all" => all(alloc, &case, refs),
+        "ask" => may_follow(alloc, &case, refs, set.as_slice(), next),
+        "count" => count(alloc, &case, refs, word.parse::<u128>().unwrap_or(0)),
+        _ => of_sets(alloc, kind, rest),
+    }
+}
+
+/// The answer to the question `all` on a scene with these rules.
+pub fn all_of(alloc: Global, scene: &str, rules: &str) -> Result<String, AllocError> {
+    let case = case_of(alloc, scene, rules)?;
+    let refs = refs(alloc, case.candidates.as_slice())?;
+    all(alloc, &case, refs.as_slice())
+}
+
+/// A scene of which questions are asked.
+#[derive(Drop)]
+struct Asked<'a> {
+    scene: &'a str,
+}
+
+impl Ask for Asked<'_> {
+    fn answer(&mut self, alloc: Global, question: &str) -> Result<String, AllocError> {
+        answer(alloc, self.scene, question)
+    }
+}
+
+/// Holds rows on a scene.
+pub fn on(alloc: Global, scene: &str, rows: &str) -> Result<(), Wrong> {
+    hold(alloc, &mut Asked { scene }, rows)
 }

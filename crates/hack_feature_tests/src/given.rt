@@ -1,13 +1,19 @@
 //! Feature maps, features and whole choices, made from short texts.
+//!
+//! A scene is a map, and behind ` $ ` its candidates, with a space between them. A map is its lines,
+//! with `;` between them: `a:;b: a c`. A feature is a name; `[a|b]` is the group of `a` and `b`, `()`
+//! the group of no names, and `dep>feat` a path. Rules are words: `depth=2`, and groups by names
+//! with commas. Of `some=a,b` a set needs one, of `apart=a,b` it has at most one, and
+//! `lifted=a,b` is a group of that kind that is lifted.
 
 use hack_features::Feature;
 use std::alloc::{AllocError, Global};
 use std::collections::BTreeMap;
 
-pub(crate) type Map = BTreeMap<String, Vec<String>>;
+pub type Map = BTreeMap<String, Vec<String>>;
 
 /// The words of a text.
-pub(crate) fn words(alloc: Global, text: &str) -> Result<Vec<String>, AllocError> {
+pub fn words(alloc: Global, text: &str) -> Result<Vec<String>, AllocError> {
     let mut words = Vec::new(alloc);
     for word in text.split_whitespace() {
         words.push(String::from_str(alloc, word)?)?;
@@ -15,184 +21,166 @@ pub(crate) fn words(alloc: Global, text: &str) -> Result<Vec<String>, AllocError
     Ok(words)
 }
 
-/// The parts of a text between its commas.
-pub(crate) fn parts(alloc: Global, text: &str) -> Result<Vec<String>, AllocError> {
-    let mut parts = Vec::new(alloc);
-    for part in text.split(',') {
-        parts.push(String::from_str(alloc, part)?)?;
+/// What stands behind `key` in the word that begins so, or else `other`.
+pub fn value<'a>(question: &'a str, key: &str, other: &'a str) -> &'a str {
+    for word in question.split_whitespace() {
+        if let Some(value) = word.strip_prefix(key) {
+            return value;
+        }
     }
-    Ok(parts)
+    other
 }
 
-/// A feature from a short text: `[a|b]` is the group of `a` and `b`, `dep>feat` a path, any other text a name.
-pub(crate) fn feature(alloc: Global, text: &str) -> Result<Feature, AllocError> {
-    if let Some((parent, name)) = text.split_once('>') {
-        return Feature::path(alloc, parent, name);
-    }
-    let Some(inside) = text.strip_prefix('[') else {
-        return Feature::normal(alloc, text);
-    };
-    let mut names = Vec::new(alloc);
-    for name in inside.trim_end_matches(']').split('|') {
-        names.push(String::from_str(alloc, name)?)?;
-    }
-    Feature::group(alloc, names)
+/// The word of a question at the place, from 0; empty where there is none.
+pub fn word_at(question: &str, place: usize) -> &str {
+    question.split_whitespace().nth(place).unwrap_or("")
 }
 
-/// A map from lines such as `a: b c`.
-pub(crate) fn map_of(alloc: Global, lines: &[&str]) -> Result<Map, AllocError> {
+/// The numbers between commas; none for a word that is no number.
+pub fn numbers(alloc: Global, text: &str) -> Result<Vec<usize>, AllocError> {
+    let mut numbers = Vec::new(alloc);
+    for word in text.split(',') {
+        if let Ok(number) = word.parse::<usize>() {
+            numbers.push(number)?;
+        }
+    }
+    Ok(numbers)
+}
+
+/// The depth of the rules.
+pub fn depth_of(rules: &str) -> Option<usize> {
+    value(rules, "depth=", "").parse::<usize>().ok()
+}
+
+/// A map from its lines.
+pub fn map_of(alloc: Global, lines: &str) -> Result<Map, AllocError> {
     let mut map = BTreeMap::new(alloc);
-    for line in lines {
-        if let Some((key, values)) = (*line).split_once(':') {
+    for line in lines.split(';') {
+        if let Some((key, values)) = line.split_once(':') {
             map.insert(String::from_str(alloc, key)?, words(alloc, values)?)?;
         }
     }
     Ok(map)
 }
 
-/// A map in which each of the names `f1` to `f{n}` but the first enables the one before it.
-pub(crate) fn chain(alloc: Global, n: usize) -> Result<Map, AllocError> {
-    let mut map = BTreeMap::new(alloc);
-    for i in 0..n {
-        let mut values = Vec::new(alloc);
-        if i > 0 {
-            values.push(format!(in alloc; "f{i}")?)?;
-        }
-        let next = i.saturating_add(1);
-        map.insert(format!(in alloc; "f{next}")?, values)?;
-    }
-    Ok(map)
-}
-
-/// Features, and beside each the names that it stands for.
-#[derive(Drop)]
-pub(crate) struct Features {
-    pub names: Vec<Vec<String>>,
-    pub features: Vec<Feature>,
-}
-
-impl Features {
-    pub(crate) fn new(alloc: Global) -> Features {
-        Features {
-            names: Vec::new(alloc),
-            features: Vec::new(alloc),
-        }
-    }
-
-    /// A feature for each text; one with commas is a group.
-    pub(crate) fn of(alloc: Global, texts: &[&str]) -> Result<Features, AllocError> {
-        let mut features = Features::new(alloc);
-        for text in texts {
-            if text.contains(',') {
-                features.add_group(alloc, *text)?;
-            } else {
-                features.add_normal(alloc, *text)?;
-            }
-        }
-        Ok(features)
-    }
-
-    /// A group for each text, of its parts between commas.
-    pub(crate) fn groups(alloc: Global, texts: &[&str]) -> Result<Features, AllocError> {
-        let mut features = Features::new(alloc);
-        for text in texts {
-            features.add_group(alloc, *text)?;
-        }
-        Ok(features)
-    }
-
-    pub(crate) fn add_normal(&mut self, alloc: Global, name: &str) -> Result<(), AllocError> {
-        let mut names = Vec::new(alloc);
+/// The group of the names between the separators.
+fn group(alloc: Global, text: &str, separator: char) -> Result<Feature, AllocError> {
+    let mut names = Vec::new(alloc);
+    for name in text.split(separator) {
         names.push(String::from_str(alloc, name)?)?;
-        self.names.push(names)?;
-        self.features.push(Feature::normal(alloc, name)?)?;
-        Ok(())
     }
+    Feature::group(alloc, names)
+}
 
-    pub(crate) fn add_group(&mut self, alloc: Global, text: &str) -> Result<(), AllocError> {
-        self.names.push(parts(alloc, text)?)?;
-        self.features
-            .push(Feature::group(alloc, parts(alloc, text)?)?)?;
-        Ok(())
+/// A feature from its text.
+pub fn feature(alloc: Global, text: &str) -> Result<Feature, AllocError> {
+    if text == "()" {
+        Feature::group(alloc, Vec::new(alloc))
+    } else if let Some((parent, name)) = text.split_once('>') {
+        Feature::path(alloc, parent, name)
+    } else if let Some(inside) = text.strip_prefix("[") {
+        group(alloc, inside.trim_end_matches(']'), '|')
+    } else {
+        Feature::normal(alloc, text)
     }
+}
 
-    pub(crate) fn refs(&self, alloc: Global) -> Result<Vec<&Feature>, AllocError> {
-        self.features.iter().collect(alloc)
+/// A feature for each text between spaces; no text at all is an empty name.
+pub fn features(alloc: Global, texts: &str) -> Result<Vec<Feature>, AllocError> {
+    let mut features = Vec::new(alloc);
+    for text in texts.split(' ') {
+        features.push(feature(alloc, text)?)?;
     }
+    Ok(features)
+}
+
+/// The groups of the words that begin by one of the keys.
+fn groups(alloc: Global, rules: &str, keys: [&str; 2]) -> Result<Vec<Feature>, AllocError> {
+    let [one, other] = keys;
+    let mut groups = Vec::new(alloc);
+    for word in rules.split_whitespace() {
+        if let Some(names) = word.strip_prefix(one).or(word.strip_prefix(other)) {
+            groups.push(group(alloc, names, ',')?)?;
+        }
+    }
+    Ok(groups)
+}
+
+/// For each group of names that exclude each other whether it is lifted.
+fn lifted(alloc: Global, rules: &str) -> Result<Vec<bool>, AllocError> {
+    let mut lifted = Vec::new(alloc);
+    for word in rules.split_whitespace() {
+        let is_lifted = word.starts_with("lifted=");
+        if is_lifted || word.starts_with("apart=") {
+            lifted.push(is_lifted)?;
+        }
+    }
+    Ok(lifted)
 }
 
 /// What the sets of a package are chosen from, and by which rules.
 #[derive(Drop)]
-pub(crate) struct Case {
+pub struct Case {
     pub map: Map,
-    pub candidates: Features,
+    pub candidates: Vec<Feature>,
     pub depth: Option<usize>,
-    pub at_least_one_of: Features,
-    pub exclusive: Features,
+    pub some: Vec<Feature>,
+    pub apart: Vec<Feature>,
     pub lifted: Vec<bool>,
 }
 
-impl Case {
-    /// The candidates of a map, without any rule.
-    pub(crate) fn of(alloc: Global, map: Map, candidates: Features) -> Case {
-        Case {
-            map,
-            candidates,
-            depth: None,
-            at_least_one_of: Features::new(alloc),
-            exclusive: Features::new(alloc),
-            lifted: Vec::new(alloc),
+/// The case of a scene with these rules.
+pub fn case_of(alloc: Global, scene: &str, rules: &str) -> Result<Case, AllocError> {
+    let (map, candidates) = scene.split_once(" $ ").unwrap_or((scene, ""));
+    Ok(Case {
+        map: map_of(alloc, map)?,
+        candidates: features(alloc, candidates)?,
+        depth: depth_of(rules),
+        some: groups(alloc, rules, ["some=", "some="])?,
+        apart: groups(alloc, rules, ["apart=", "lifted="])?,
+        lifted: lifted(alloc, rules)?,
+    })
+}
+
+/// References to all features.
+pub fn refs(alloc: Global, features: &[Feature]) -> Result<Vec<&Feature>, AllocError> {
+    features.iter().collect(alloc)
+}
+
+/// The places of the bits that are set.
+pub fn positions_of(alloc: Global, bits: u64) -> Result<Vec<usize>, AllocError> {
+    let mut positions = Vec::new(alloc);
+    let mut rest = bits;
+    for place in 0..64 {
+        if rest % 2 == 1 {
+            positions.push(place)?;
         }
+        rest /= 2;
     }
+    Ok(positions)
+}
 
-    /// The same from lines of a map and texts of candidates.
-    pub(crate) fn new(
-        alloc: Global,
-        map: &[&str],
-        candidates: &[&str],
-    ) -> Result<Case, AllocError> {
-        Ok(Case::of(alloc, map_of(alloc, map)?, Features::of(alloc, candidates)?))
+/// A map of the names `f1` to `f{n}`, each of which but the first enables the one before it.
+fn chain(alloc: Global, n: usize) -> Result<String, AllocError> {
+    let mut text = String::from_str(alloc, "f1:")?;
+    for i in 1..n {
+        let next = i.saturating_add(1);
+        text.push_str(format!(in alloc; ";f{next}: f{i}")?.as_str())?;
     }
+    Ok(text)
+}
 
-    /// The names `f1` to `f{n}`, each of which enables the one before it, where `is_chain` says so, or no other.
-    pub(crate) fn numbered(alloc: Global, n: usize, is_chain: bool) -> Result<Case, AllocError> {
-        let mut candidates = Features::new(alloc);
-        for i in 0..n {
-            let next = i.saturating_add(1);
-            let name = format!(in alloc; "f{next}")?;
-            candidates.add_normal(alloc, name.as_str())?;
-        }
-        let map = if is_chain {
-            chain(alloc, n)?
-        } else {
-            Map::new(alloc)
-        };
-        Ok(Case::of(alloc, map, candidates))
+/// The scene of the candidates `f1` to `f{n}`: they are a chain where `is_chain` says so, and else no
+/// keys.
+pub fn numbered(alloc: Global, n: usize, is_chain: bool) -> Result<String, AllocError> {
+    let mut text = String::new(alloc);
+    if is_chain {
+        text = chain(alloc, n)?;
     }
-
-    pub(crate) fn at_most(mut self, depth: usize) -> Case {
-        self.depth = Some(depth);
-        self
+    text.push_str(" $ f1")?;
+    for i in 1..n {
+        let next = i.saturating_add(1);
+        text.push_str(format!(in alloc; " f{next}")?.as_str())?;
     }
-
-    pub(crate) fn requiring(mut self, alloc: Global, groups: &[&str]) -> Result<Case, AllocError> {
-        self.at_least_one_of = Features::groups(alloc, groups)?;
-        Ok(self)
-    }
-
-    /// Excludes by these groups, none of which is lifted.
-    pub(crate) fn excluding(mut self, alloc: Global, groups: &[&str]) -> Result<Case, AllocError> {
-        self.exclusive = Features::groups(alloc, groups)?;
-        self.lifted = Vec::new(alloc);
-        for _ in groups {
-            self.lifted.push(false)?;
-        }
-        Ok(self)
-    }
-
-    /// Says for each group whether it is lifted.
-    pub(crate) fn lifting(mut self, alloc: Global, lifted: &[bool]) -> Result<Case, AllocError> {
-        self.lifted = Vec::from_slice(alloc, lifted)?;
-        Ok(self)
-    }
+    Ok(text)
 }

@@ -1,4 +1,5 @@
-//! Tests over the public calls of the other crates: worked examples, and a plain slow program to compare with.
+//! Tests of sets of features, of lists of their commands, and of the places of a plan: worked
+//! examples as rows of text, and a plain slow program to compare with.
 #![tactic(auto)]
 
 #[cfg(test)]
@@ -12,10 +13,20 @@ mod given;
 #[cfg(test)]
 mod list_faults;
 #[cfg(test)]
+mod lists;
+#[cfg(test)]
 mod names;
+#[cfg(test)]
+mod places;
 #[cfg(test)]
 mod plain;
 #[cfg(test)]
 mod rules;
+#[cfg(test)]
+mod scenes;
+#[cfg(test)]
+mod shown;
+#[cfg(test)]
+mod streams;
 #[cfg(test)]
 mod worked_sets;

@@ -1,269 +1,428 @@
-//! A plain slow program: it looks at every set of candidates, and tells of each what the rules say, one by one.
+//! A plain slow program: it looks at every set of candidates, and tells of each what the rules say,
+//! one by one. Its names are the letters `a` to `f` and what values make of them, which are the bits
+//! of a number; keys are letters. A set of candidates is a number too.
 
-use crate::given::{Case, Map};
+use crate::given::{depth_of, positions_of};
+use crate::shown::{push_between, push_numbers};
 use std::alloc::{AllocError, Global};
 
-/// Whether values are taken whole and those of dependencies left out, as where a name enables another, or cut before
-/// their first slash, as where it reaches a group.
-#[derive(Clone, Copy)]
-enum Values {
-    Whole,
-    Cut,
-}
+const KEYS: [&str; 6] = ["a", "b", "c", "d", "e", "f"];
 
-fn has(names: &[&str], name: &str) -> bool {
-    names.iter().any(|it| *it == name)
-}
-
-fn target(value: &str, values: Values) -> Option<&str> {
-    match values {
-        Values::Whole if value.starts_with("dep:") => None,
-        Values::Whole => Some(value),
-        Values::Cut => value.split('/').next(),
+fn letter(name: &str) -> u64 {
+    match name {
+        "a" => 1,
+        "b" => 2,
+        "c" => 4,
+        "d" => 8,
+        "e" => 16,
+        "f" => 32,
+        "" => 64,
+        _ => 128,
     }
 }
 
-/// Adds what these values lead to.
-fn add_values<'a>(
-    found: &mut Vec<&'a str>,
-    texts: &'a [String],
-    values: Values,
-) -> Result<(), AllocError> {
-    for text in texts {
-        if let Some(name) = target(text.as_str(), values) {
-            if !has(found.as_slice(), name) {
-                found.push(name)?;
+/// The bit of a name.
+fn bit(name: &str) -> u64 {
+    if let Some(name) = name.strip_prefix("dep:") {
+        letter(name) << 8
+    } else if let Some(name) = name.strip_suffix("?/x") {
+        letter(name) << 16
+    } else if let Some(name) = name.strip_suffix("/x") {
+        letter(name) << 24
+    } else if let Some(name) = name.strip_suffix("?") {
+        letter(name) << 32
+    } else {
+        letter(name)
+    }
+}
+
+/// The names between separators.
+fn bits(names: &str, separator: char) -> u64 {
+    let mut bits = 0;
+    for name in names.split(separator) {
+        bits |= bit(name);
+    }
+    bits
+}
+
+/// The values of a key.
+fn values<'a>(map: &'a str, key: &str) -> &'a str {
+    for line in map.split(';') {
+        if let Some((name, values)) = line.split_once(':') {
+            if name == key {
+                return values;
             }
         }
     }
-    Ok(())
+    ""
 }
 
-/// Adds what the values of all names found lead to.
-fn add_round<'a>(found: &mut Vec<&'a str>, map: &'a Map, values: Values) -> Result<(), AllocError> {
-    for (key, texts) in map.iter() {
-        if has(found.as_slice(), key.as_str()) {
-            add_values(found, texts.as_slice(), values)?;
+/// The keys of a map.
+fn keys(map: &str) -> u64 {
+    let mut keys = 0;
+    for line in map.split(';') {
+        if let Some((name, _)) = line.split_once(':') {
+            keys |= bit(name);
         }
     }
-    Ok(())
+    keys
 }
 
-/// All names that a chain of values leads to. A chain without repeats has no more steps than the map has keys.
-fn leads_to<'a>(
-    alloc: Global,
-    map: &'a Map,
-    name: &'a str,
-    values: Values,
-) -> Result<Vec<&'a str>, AllocError> {
-    let mut found = Vec::new(alloc);
-    found.push(name)?;
-    for _ in 0..map.len() {
-        add_round(&mut found, map, values)?;
+/// What the values enable: they are taken whole, and those of dependencies are left out.
+fn enabled(values: &str) -> u64 {
+    let mut names = 0;
+    for value in values.split_whitespace() {
+        if !value.starts_with("dep:") {
+            names |= bit(value);
+        }
     }
-    Ok(found)
+    names
 }
 
-/// The positions whose bits are set.
-fn positions(alloc: Global, mask: usize, n: usize) -> Result<Vec<usize>, AllocError> {
-    let mut set = Vec::new(alloc);
-    let mut rest = mask;
-    for p in 0..n {
-        if rest % 2 == 1 {
-            set.push(p)?;
+/// What the values reach: they are cut before their first slash.
+fn reached(values: &str) -> u64 {
+    let mut names = 0;
+    for value in values.split_whitespace() {
+        names |= bit(value.split('/').next().unwrap_or(value));
+    }
+    names
+}
+
+/// The names, and what the keys among them lead to.
+fn step(edges: &[u64; 6], names: u64) -> u64 {
+    let mut found = names;
+    let mut key = 1;
+    for targets in edges {
+        if names & key != 0 {
+            found |= *targets;
+        }
+        key <<= 1;
+    }
+    found
+}
+
+/// All that a chain of values leads to. A chain without repeats has at most one step for each key.
+fn leads_to(edges: &[u64; 6], names: u64) -> u64 {
+    let mut found = names;
+    for _ in KEYS {
+        found = step(edges, found);
+    }
+    found
+}
+
+/// The names that a candidate stands for, with `|` between them.
+fn names_of(candidate: &str) -> &str {
+    match candidate.strip_prefix("[") {
+        Some(names) => names.trim_end_matches(']'),
+        None => candidate,
+    }
+}
+
+/// A scene and its rules.
+#[derive(Drop)]
+struct Plain<'a> {
+    candidates: &'a str,
+    rules: &'a str,
+    depth: Option<usize>,
+    keys: u64,
+    enables: [u64; 6],
+    reaches: [u64; 6],
+    /// The names of each candidate.
+    names: [u64; 6],
+}
+
+/// The names of each of up to six candidates.
+fn names_of_each(candidates: &str) -> [u64; 6] {
+    let mut names = [0; 6];
+    for (own, candidate) in names.iter_mut().zip(candidates.split(' ')) {
+        *own = bits(names_of(candidate), '|');
+    }
+    names
+}
+
+fn enabled_by_each(map: &str) -> [u64; 6] {
+    let mut edges = [0; 6];
+    for (targets, key) in edges.iter_mut().zip(KEYS) {
+        *targets = enabled(values(map, key));
+    }
+    edges
+}
+
+fn reached_by_each(map: &str) -> [u64; 6] {
+    let mut edges = [0; 6];
+    for (targets, key) in edges.iter_mut().zip(KEYS) {
+        *targets = reached(values(map, key));
+    }
+    edges
+}
+
+impl<'a> Plain<'a> {
+    fn of(scene: &'a str, rules: &'a str) -> Plain<'a> {
+        let (map, candidates) = scene.split_once(" $ ").unwrap_or((scene, ""));
+        Plain {
+            candidates,
+            rules,
+            depth: depth_of(rules),
+            keys: keys(map),
+            enables: enabled_by_each(map),
+            reaches: reached_by_each(map),
+            names: names_of_each(candidates),
+        }
+    }
+
+    /// The names of the members.
+    fn names_in(&self, set: u64) -> u64 {
+        let mut names = 0;
+        let mut rest = set;
+        for own in &self.names {
+            if rest % 2 == 1 {
+                names |= *own;
+            }
+            rest /= 2;
+        }
+        names
+    }
+
+    /// Whether the name is a key that differs from all of the others and enables them.
+    fn spares(&self, name: u64, others: u64) -> bool {
+        name & self.keys != 0 && name & others == 0 && others & !leads_to(&self.enables, name) == 0
+    }
+
+    /// Whether the name spares one of the members.
+    fn spares_one(&self, name: u64, set: u64) -> bool {
+        let mut rest = set;
+        for own in &self.names {
+            if rest % 2 == 1 && self.spares(name, *own) {
+                return true;
+            }
+            rest /= 2;
+        }
+        false
+    }
+
+    /// Whether a name of the set spares one of its members.
+    fn is_redundant(&self, set: u64) -> bool {
+        let names = self.names_in(set);
+        let mut name = 1;
+        for _ in 0..40 {
+            if names & name != 0 && self.spares_one(name, set) {
+                return true;
+            }
+            name <<= 1;
+        }
+        false
+    }
+
+    /// How many of the names, which may repeat, reach the group.
+    fn reaching(&self, names: &str, group: u64) -> usize {
+        let mut count = 0usize;
+        for name in names.split('|') {
+            if leads_to(&self.reaches, bit(name)) & group != 0 {
+                count = count.saturating_add(1);
+            }
+        }
+        count
+    }
+
+    /// Whether at most one name of the members reaches the group.
+    fn is_exclusive_for(&self, set: u64, group: u64) -> bool {
+        let mut count = 0usize;
+        let mut rest = set;
+        for candidate in self.candidates.split(' ') {
+            if rest % 2 == 1 {
+                count = count.saturating_add(self.reaching(names_of(candidate), group));
+            }
+            rest /= 2;
+        }
+        count <= 1
+    }
+
+    fn is_exclusive(&self, set: u64) -> bool {
+        for word in self.rules.split_whitespace() {
+            if let Some(group) = word.strip_prefix("apart=") {
+                if !self.is_exclusive_for(set, bits(group, ',')) {
+                    return false;
+                }
+            }
+        }
+        true
+    }
+
+    /// Whether one of the names is a key that enables a name of the group.
+    fn serves(&self, names: u64, group: u64) -> bool {
+        leads_to(&self.enables, names & self.keys) & group != 0
+    }
+
+    /// Whether the set serves each group that some key serves.
+    fn is_required(&self, set: u64) -> bool {
+        let names = self.names_in(set);
+        for word in self.rules.split_whitespace() {
+            if let Some(group) = word.strip_prefix("some=") {
+                let group = bits(group, ',');
+                if self.serves(self.keys, group) && !self.serves(names, group) {
+                    return false;
+                }
+            }
+        }
+        true
+    }
+
+    fn is_within(&self, set: u64) -> bool {
+        match self.depth {
+            None => true,
+            Some(most) => set.count_ones() as usize <= most,
+        }
+    }
+
+    /// Whether the set is not empty, and within the depth, exclusive and required.
+    fn is_wanted(&self, set: u64) -> bool {
+        set != 0 && self.is_within(set) && self.is_exclusive(set) && self.is_required(set)
+    }
+
+    fn are_alike(&self, set: u64, other: u64) -> bool {
+        leads_to(&self.enables, self.names_in(set)) == leads_to(&self.enables, self.names_in(other))
+    }
+
+    /// How many sets there are: at most 64.
+    fn count(&self) -> u64 {
+        let mut count = 1u64;
+        for _ in self.candidates.split(' ') {
+            count = count.saturating_mul(2).min(64);
+        }
+        count
+    }
+
+    /// The sets that are wanted, and those of them that are listed, as bits.
+    fn judged(&self) -> Judged {
+        let mut judged = Judged {
+            wanted: 0,
+            listed: 0,
+        };
+        let mut bit = 1;
+        for set in 0..self.count() {
+            if self.is_wanted(set) {
+                judged.wanted |= bit;
+                if !self.is_redundant(set) {
+                    judged.listed |= bit;
+                }
+            }
+            bit <<= 1;
+        }
+        judged
+    }
+}
+
+/// Which sets are wanted, and which of them listed: the set of the number `s` has the bit `s`.
+#[derive(Clone, Copy)]
+struct Judged {
+    wanted: u64,
+    listed: u64,
+}
+
+/// The first listed set inside this one that enables the same names; the empty one where there is
+/// none.
+fn cover(plain: &Plain<'_>, listed: u64, set: u64) -> u64 {
+    let mut rest = listed;
+    for it in 0..plain.count() {
+        if rest % 2 == 1 && it & !set == 0 && plain.are_alike(it, set) {
+            return it;
         }
         rest /= 2;
     }
-    Ok(set)
+    0
 }
 
-/// The names at the position, none past the last.
-fn names_at(case: &Case, p: usize) -> &[String] {
-    match case.candidates.names.get(p) {
-        Some(names) => names.as_slice(),
-        None => &[],
+/// Puts a space behind a set.
+fn push_space(text: &mut String) -> Result<(), AllocError> {
+    if text.ends_with("]") {
+        text.push_str(" ")
+    } else {
+        Ok(())
     }
 }
 
-/// The names of the members, one after another.
-fn names_in<'a>(alloc: Global, case: &'a Case, set: &[usize]) -> Result<Vec<&'a str>, AllocError> {
-    let mut names = Vec::new(alloc);
-    for p in set {
-        for name in names_at(case, *p) {
-            names.push(name.as_str())?;
+/// Puts the names of the members behind the text, such as `[a,b]`.
+fn push_names(text: &mut String, candidates: &str, set: u64) -> Result<(), AllocError> {
+    let mut place = 0usize;
+    let mut rest = set;
+    text.push_str("[")?;
+    for candidate in candidates.split(' ') {
+        if rest % 2 == 1 {
+            push_between(text, place, ",")?;
+            push_joined(text, names_of(candidate))?;
+            place = place.saturating_add(1);
         }
+        rest /= 2;
     }
-    Ok(names)
+    text.push_str("]")
 }
 
-/// All names that one of the names enables.
-fn enabled_by<'a>(
+fn push_joined(text: &mut String, names: &str) -> Result<(), AllocError> {
+    for (place, name) in names.split('|').enumerate() {
+        push_between(text, place, ",")?;
+        text.push_str(name)?;
+    }
+    Ok(())
+}
+
+fn push_list(text: &mut String, plain: &Plain<'_>, listed: u64) -> Result<(), AllocError> {
+    let mut rest = listed;
+    for set in 0..64 {
+        if rest % 2 == 1 {
+            push_space(text)?;
+            push_names(text, plain.candidates, set)?;
+        }
+        rest /= 2;
+    }
+    text.push_str("\n")
+}
+
+/// Puts the places of the members behind the text, such as `[0,2]`.
+fn push_places(text: &mut String, alloc: Global, set: u64) -> Result<(), AllocError> {
+    let places = positions_of(alloc, set)?;
+    push_numbers(text, places.as_slice())
+}
+
+fn push_sets(text: &mut String, alloc: Global, listed: u64) -> Result<(), AllocError> {
+    let mut rest = listed;
+    for set in 0..64 {
+        if rest % 2 == 1 {
+            push_space(text)?;
+            push_places(text, alloc, set)?;
+        }
+        rest /= 2;
+    }
+    text.push_str("\n")
+}
+
+/// Puts what covers each set behind the text: `none` where the set isn't wanted.
+fn push_covers(
+    text: &mut String,
     alloc: Global,
-    case: &'a Case,
-    names: &[&'a str],
-) -> Result<Vec<&'a str>, AllocError> {
-    let mut all = Vec::new(alloc);
-    for name in names {
-        for other in leads_to(alloc, &case.map, *name, Values::Whole)? {
-            if !has(all.as_slice(), other) {
-                all.push(other)?;
-            }
+    plain: &Plain<'_>,
+    judged: Judged,
+) -> Result<(), AllocError> {
+    let mut rest = judged.wanted;
+    for set in 0..plain.count() {
+        text.push_str(" ")?;
+        if rest % 2 == 1 {
+            push_places(text, alloc, cover(plain, judged.listed, set))?;
+        } else {
+            text.push_str("none")?;
         }
+        rest /= 2;
     }
-    Ok(all)
+    Ok(())
 }
 
-/// Whether the name is a key that differs from all of the others and enables them.
-fn spares(alloc: Global, case: &Case, name: &str, others: &[String]) -> Result<bool, AllocError> {
-    if !case.map.contains_key(name) {
-        return Ok(false);
-    }
-    let enabled = leads_to(alloc, &case.map, name, Values::Whole)?;
-    Ok(others.iter().all(|other| other.as_str() != name && has(enabled.as_slice(), other.as_str())))
-}
-
-/// Whether a name of the set spares one of its members.
-fn is_redundant(alloc: Global, case: &Case, set: &[usize]) -> Result<bool, AllocError> {
-    for name in names_in(alloc, case, set)? {
-        for p in set {
-            if spares(alloc, case, name, names_at(case, *p))? {
-                return Ok(true);
-            }
-        }
-    }
-    Ok(false)
-}
-
-/// Whether one of the names found is a name of the group.
-fn meets(found: &[&str], group: &[String]) -> bool {
-    group.iter().any(|name| has(found, name.as_str()))
-}
-
-/// Whether at most one of the names reaches the group.
-fn is_exclusive_for(
-    alloc: Global,
-    case: &Case,
-    names: &[&str],
-    group: &[String],
-) -> Result<bool, AllocError> {
-    let mut is_met = false;
-    for name in names {
-        let found = leads_to(alloc, &case.map, *name, Values::Cut)?;
-        if meets(found.as_slice(), group) {
-            if is_met {
-                return Ok(false);
-            }
-            is_met = true;
-        }
-    }
-    Ok(true)
-}
-
-fn is_exclusive(alloc: Global, case: &Case, names: &[&str]) -> Result<bool, AllocError> {
-    for (group, lifted) in case.exclusive.names.iter().zip(case.lifted.iter()) {
-        if !*lifted && !is_exclusive_for(alloc, case, names, group.as_slice())? {
-            return Ok(false);
-        }
-    }
-    Ok(true)
-}
-
-/// Whether one of the names is a key that enables a name of the group.
-fn serves(
-    alloc: Global,
-    case: &Case,
-    names: &[&str],
-    group: &[String],
-) -> Result<bool, AllocError> {
-    for name in names {
-        let enabled = leads_to(alloc, &case.map, *name, Values::Whole)?;
-        if case.map.contains_key(*name) && meets(enabled.as_slice(), group) {
-            return Ok(true);
-        }
-    }
-    Ok(false)
-}
-
-fn is_required(alloc: Global, case: &Case, names: &[&str]) -> Result<bool, AllocError> {
-    let keys: Vec<&str> = case.map.keys().map(|key| key.as_str()).collect(alloc)?;
-    for group in case.at_least_one_of.names.as_slice() {
-        if serves(alloc, case, keys.as_slice(), group.as_slice())?
-            && !serves(alloc, case, names, group.as_slice())?
-        {
-            return Ok(false);
-        }
-    }
-    Ok(true)
-}
-
-fn is_within(depth: Option<usize>, set: &[usize]) -> bool {
-    match depth {
-        None => true,
-        Some(most) => set.len() <= most,
-    }
-}
-
-/// A set, and what the rules say of it.
-#[derive(Drop)]
-pub(crate) struct Judged<'a> {
-    pub set: Vec<usize>,
-    /// It is not empty, within the depth, exclusive and required.
-    pub is_wanted: bool,
-    /// It is also not redundant.
-    pub is_listed: bool,
-    enabled: Vec<&'a str>,
-}
-
-fn judge<'a>(alloc: Global, case: &'a Case, set: Vec<usize>) -> Result<Judged<'a>, AllocError> {
-    let names = names_in(alloc, case, set.as_slice())?;
-    let is_wanted = !set.is_empty()
-        && is_within(case.depth, set.as_slice())
-        && is_exclusive(alloc, case, names.as_slice())?
-        && is_required(alloc, case, names.as_slice())?;
-    let is_listed = is_wanted && !is_redundant(alloc, case, set.as_slice())?;
-    Ok(Judged {
-        enabled: enabled_by(alloc, case, names.as_slice())?,
-        set,
-        is_wanted,
-        is_listed,
-    })
-}
-
-/// All sets of candidates. As binary numbers they rise, so of two sets the one that has the greatest position that is
-/// in just one of them comes later.
-pub(crate) fn all_sets<'a>(alloc: Global, case: &'a Case) -> Result<Vec<Judged<'a>>, AllocError> {
-    let n = case.candidates.names.len();
-    let mut count = 1usize;
-    for _ in 0..n {
-        count = count.saturating_mul(2);
-    }
-    let mut sets = Vec::new(alloc);
-    for mask in 0..count {
-        sets.push(judge(alloc, case, positions(alloc, mask, n)?)?)?;
-    }
-    Ok(sets)
-}
-
-fn is_inside(set: &[usize], other: &[usize]) -> bool {
-    set.iter().all(|p| other.contains(p))
-}
-
-fn are_the_same(names: &[&str], others: &[&str]) -> bool {
-    names.iter().all(|name| has(others, *name)) && others.iter().all(|name| has(names, *name))
-}
-
-/// The first listed set inside this one that enables the same names, where the set has to be covered.
-pub(crate) fn cover<'b>(sets: &'b [Judged<'_>], of: &Judged<'_>) -> Option<&'b [usize]> {
-    if !of.is_wanted {
-        return None;
-    }
-    for it in sets {
-        if it.is_listed
-            && is_inside(it.set.as_slice(), of.set.as_slice())
-            && are_the_same(it.enabled.as_slice(), of.enabled.as_slice())
-        {
-            return Some(it.set.as_slice());
-        }
-    }
-    None
+/// What the question `all` is to answer on a scene with these rules. As numbers the sets rise, so of
+/// two sets the one that has the greatest position that is in just one of them comes later.
+pub fn all(alloc: Global, scene: &str, rules: &str) -> Result<String, AllocError> {
+    let plain = Plain::of(scene, rules);
+    let judged = plain.judged();
+    let mut text = String::new(alloc);
+    push_list(&mut text, &plain, judged.listed)?;
+    push_sets(&mut text, alloc, judged.listed)?;
+    push_covers(&mut text, alloc, &plain, judged)?;
+    Ok(text)
 }

@@ -43,11 +43,15 @@ loaded-later tells b c y z env (Err e) whole h = tt
 -- and was there before
 pub follows-earlier : (tells : Type 0) (args : Args) (env : Env) (a b : Contents) (x y z : ℕ) (m : Metadata) (mid new : List Call) (r : Result Loaded ContextFault) → tells → Whole tells a b x y
     → Follows args env b y z m mid new r → Follows args env a x z m mid new r
-follows-earlier tells args env a b x y z m mid new (Ok l) t whole h = (h.0, h.1, record {
-  cargo = h.2.cargo;
-  folder = h.2.folder;
-  manifests = each-earlier (Unit {0}) (Unit {0}) a b (λ u. u) (λ _. whole.1 t) (metadata_view l.metadata) (map place_at l.metadata.workspace_members.items) l.manifests.items h.2.manifests;
-})
+follows-earlier tells args env a b x y z m mid new (Ok l) t whole h = (
+  h.0,
+  h.1,
+  record {
+    cargo = h.2.cargo;
+    folder = h.2.folder;
+    manifests = each-earlier (Unit {0}) (Unit {0}) a b (λ u. u) (λ _. whole.1 t) (metadata_view l.metadata) (map place_at l.metadata.workspace_members.items) l.manifests.items h.2.manifests;
+  },
+)
 follows-earlier tells args env a b x y z m mid new (Err e) t whole (inl h) =
     inl (h.0, member-fault-earlier (Unit {0}) (Unit {0}) a b (λ u. u) (λ _. whole.1 t) (metadata_view m) x y z whole.0 e h.1)
 follows-earlier tells args env a b x y z m mid new (Err e) t whole (inr h) =

@@ -1,13 +1,38 @@
-//! Tests of whole calls: words and answers in; status, calls, files and both streams out.
+//! Tests of whole calls: words and answers in; status, calls, files and both streams out. Beside
+//! them tests of sessions, and of manifests that are edited for a call and come back.
 #![tactic(auto)]
 
 #[cfg(test)]
+mod asked;
+#[cfg(test)]
+mod edits;
+#[cfg(test)]
+mod failing;
+#[cfg(test)]
 mod faults;
 #[cfg(test)]
-mod given;
+mod journaled;
+#[cfg(test)]
+mod listed;
 #[cfg(test)]
 mod lists;
 #[cfg(test)]
+mod manifests;
+#[cfg(test)]
 mod runs;
 #[cfg(test)]
+mod scene;
+#[cfg(test)]
+mod sessions;
+#[cfg(test)]
+mod shown;
+#[cfg(test)]
+mod steps;
+#[cfg(test)]
+mod toolchains;
+#[cfg(test)]
 mod words;
+#[cfg(test)]
+mod world;
+#[cfg(test)]
+mod worlds;

@@ -6,12 +6,15 @@ use Rattle.hack_load.proofs.AskLemmas.{locate-told}
 use Rattle.hack_load.proofs.answers.load_behind.Goals as goal
 
 pub returns-clause-asked : goal.returns-clause-asked
-returns-clause-asked g c = λ called told.
-    (refl, search rules, record {
-      cargo = search rules;
-      folder = search rules;
-      manifests = members-told g.F.Files.tells (g.F.Files.bytes_at c.args.files.now) c.args.metadata c.in-Ok.manifests.items told c.in-Ok.ensures.ok;
-    })
+returns-clause-asked g c = λ called told. (
+  refl,
+  search rules,
+  record {
+    cargo = search rules;
+    folder = search rules;
+    manifests = members-told g.F.Files.tells (g.F.Files.bytes_at c.args.files.now) c.args.metadata c.in-Ok.manifests.items told c.in-Ok.ensures.ok;
+  },
+)
 
 pub returns-in-Err-clause-asked : goal.returns-in-Err-clause-asked
 returns-in-Err-clause-asked g c = λ called told.

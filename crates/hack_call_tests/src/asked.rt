@@ -1,0 +1,151 @@
+//! Calls in workspaces as questions: the words behind `hack`. Before ` $ ` stands what isn't as in
+//! the other rows: `members` and these, `in` and the package that the call stands in, `cargo` and
+//! its minor version, `stable` and the fault of asking for its version, or a `piece` of the plan.
+
+use crate::given::{Given, context_of, reason};
+use crate::packages::{package_names, package_runs};
+use crate::plans::{commands, counts, last, piece, runs, sets, versions};
+use hack_base::notice::Notice;
+use hack_calls::fault::PlanFault;
+use hack_calls::plan::{Plan, plan_of};
+use hack_holds::{Ask, Wrong, hold};
+use hack_load::context::Context;
+use hack_versions::version::Version;
+use std::alloc::{AllocError, Global};
+
+/// What is shown of a call.
+#[derive(Clone, Copy)]
+pub enum Show {
+    /// The packages that it runs on, and the notices.
+    Packages,
+    /// The runs of each member, as one of several packages, and the notices.
+    EachOfSeveral,
+    /// The same, as the only package.
+    EachAlone,
+    /// The number of runs, each in its short text with its package, and the notices.
+    Runs,
+    Counts,
+    Last,
+    Sets,
+    Versions,
+    Commands,
+    /// The number of runs, and the places that the piece has of them.
+    Piece,
+    /// Nothing but that there is a plan.
+    Fault,
+}
+
+/// What calls are made over where a question doesn't say it.
+#[derive(Clone, Copy)]
+pub struct Asked<'a> {
+    pub show: Show,
+    pub members: &'a str,
+}
+
+/// The call of a question, with what is shown of it.
+#[derive(Clone, Copy)]
+struct Call<'a> {
+    show: Show,
+    given: Given<'a>,
+    /// The fault of asking for the version of the toolchain `stable`, which is 1.66 without it.
+    stable: Option<&'a str>,
+    piece: &'a str,
+}
+
+/// The call of these words as in most rows: in the package `p`, under cargo 1.90.
+fn usual<'a>(asked: Asked<'a>, words: &'a str) -> Call<'a> {
+    Call {
+        show: asked.show,
+        given: Given {
+            members: asked.members,
+            current: "p",
+            minor: Some(90),
+            words,
+        },
+        stable: None,
+        piece: "",
+    }
+}
+
+fn call_of<'a>(asked: Asked<'a>, question: &'a str) -> Call<'a> {
+    let (front, words) = question.split_once(" $ ").unwrap_or(("", question));
+    let mut call = usual(asked, words);
+    let (kind, value) = front.split_once(' ').unwrap_or((front, ""));
+    match kind {
+        "members" => call.given.members = value,
+        "in" => call.given.current = value,
+        "cargo" => call.given.minor = value.parse::<u32>().ok(),
+        "stable" => call.stable = Some(value),
+        "piece" => call.piece = value,
+        _ => {}
+    }
+    call
+}
+
+fn planned(
+    alloc: Global,
+    cx: &Context,
+    stable: Option<&str>,
+) -> Result<(Plan, Vec<Notice>), PlanFault> {
+    let latest = Version {
+        major: 1,
+        minor: 66,
+        patch: None,
+    };
+    match stable {
+        None => plan_of(alloc, cx, "/bin/rustup", Ok(Some(latest))),
+        Some(fault) => {
+            let fault = String::from_str(alloc, fault)?;
+            plan_of(alloc, cx, "/bin/rustup", Err(fault))
+        }
+    }
+}
+
+fn shown(
+    alloc: Global,
+    call: Call<'_>,
+    plan: &Plan,
+    notices: &[Notice],
+) -> Result<String, AllocError> {
+    match call.show {
+        Show::Runs => runs(alloc, plan, notices),
+        Show::Counts => counts(alloc, plan, notices),
+        Show::Last => last(alloc, plan),
+        Show::Sets => sets(alloc, plan),
+        Show::Versions => versions(alloc, plan, notices),
+        Show::Commands => commands(alloc, plan),
+        Show::Piece => piece(alloc, call.piece, plan.len() as u64),
+        _ => String::from_str(alloc, "a plan"),
+    }
+}
+
+fn shown_plan(alloc: Global, call: Call<'_>, cx: &Context) -> Result<String, AllocError> {
+    match planned(alloc, cx, call.stable) {
+        Ok((plan, notices)) => shown(alloc, call, &plan, notices.as_slice()),
+        Err(fault) => format!(in alloc; "{fault}"),
+    }
+}
+
+fn answered(alloc: Global, call: Call<'_>, cx: &Context) -> Result<String, AllocError> {
+    match call.show {
+        Show::Packages => package_names(alloc, cx),
+        Show::EachOfSeveral => package_runs(alloc, cx, false),
+        Show::EachAlone => package_runs(alloc, cx, true),
+        _ => shown_plan(alloc, call, cx),
+    }
+}
+
+impl Ask for Asked<'_> {
+    fn answer(&mut self, alloc: Global, question: &str) -> Result<String, AllocError> {
+        let call = call_of(*self, question);
+        match context_of(alloc, call.given) {
+            Ok(cx) => answered(alloc, call, &cx),
+            Err(why) => reason(alloc, why),
+        }
+    }
+}
+
+/// Holds rows on these members.
+pub fn on(alloc: Global, show: Show, members: &str, rows: &str) -> Result<(), Wrong> {
+    hold(alloc, &mut Asked { show, members }, rows)
+}

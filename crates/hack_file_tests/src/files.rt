@@ -1,0 +1,179 @@
+//! Files by questions, which any files are asked.
+//!
+//! `read PATH`, `write PATH TEXT`, `exists PATH`, `remove PATH` and `failures` are their own calls.
+//! `bytes PATH`, `text PATH` and `put PATH TEXT` read and write over them with faults that tell the
+//! path, and `fault PATH` tells whether such a fault of reading is the one of this path. `held PATH
+//! ..` shows what the paths hold, each after its name, and `-` where nothing can be read.
+
+mod disk;
+mod failing;
+mod faults;
+pub mod memory;
+mod restore;
+mod short;
+
+use crate::files::faults::{bytes, is_of_path, put, whole_text};
+use crate::text::{number, plain, push_plain, push_quoted, quoted};
+use hack_files::fs::{FileFault, Files};
+use hack_holds::{Ask, Wrong, hold};
+use std::alloc::{AllocError, Global};
+
+/// Files that are asked.
+#[derive(Drop)]
+struct Asked<F: Files + Drop> {
+    files: F,
+}
+
+impl<F: Files + Drop> Ask for Asked<F> {
+    fn answer(&mut self, alloc: Global, question: &str) -> Result<String, AllocError> {
+        answer(alloc, &mut self.files, "", question)
+    }
+}
+
+/// Holds rows over files.
+fn hold_over<F: Files + Drop>(alloc: Global, files: F, rows: &str) -> Result<(), Wrong> {
+    let mut asked = Asked { files };
+    hold(alloc, &mut asked, rows)
+}
+
+/// The path of a name in a folder.
+fn path_of(alloc: Global, folder: &str, name: &str) -> Result<String, AllocError> {
+    let mut path = String::from_str(alloc, folder)?;
+    push_plain(&mut path, name)?;
+    Ok(path)
+}
+
+/// Answers a question about files in a folder.
+pub fn answer<F: Files>(
+    alloc: Global,
+    files: &mut F,
+    folder: &str,
+    question: &str,
+) -> Result<String, AllocError> {
+    let (kind, rest) = question.split_once(' ').unwrap_or((question, ""));
+    let (name, text) = rest.split_once(' ').unwrap_or((rest, ""));
+    let path = path_of(alloc, folder, name)?;
+    let path = path.as_str();
+    match kind {
+        "read" => read(alloc, files, path),
+        "write" => write(alloc, files, path, text),
+        "exists" => truth(alloc, files.exists(path)),
+        "remove" => done(alloc, files.remove(path)),
+        "failures" => number(alloc, files.failures()),
+        "held" => held(alloc, files, rest),
+        "bytes" => bytes(alloc, files, path),
+        "text" => whole_text(alloc, files, path),
+        "put" => put(alloc, files, path, text),
+        "fault" => is_of_path(alloc, files, path),
+        _ => String::from_str(alloc, "no such question"),
+    }
+}
+
+fn read<F: Files>(alloc: Global, files: &mut F, path: &str) -> Result<String, AllocError> {
+    match files.read(alloc, path) {
+        Ok(bytes) => quoted(alloc, bytes.as_slice()),
+        Err(fault) => String::from_str(alloc, name_of(fault)),
+    }
+}
+
+fn write<F: Files>(
+    alloc: Global,
+    files: &mut F,
+    path: &str,
+    shown: &str,
+) -> Result<String, AllocError> {
+    let text = plain(alloc, shown)?;
+    done(alloc, files.write(path, text.as_bytes()))
+}
+
+fn name_of(fault: FileFault) -> &'static str {
+    match fault {
+        FileFault::Memory => "memory",
+        FileFault::Device => "device",
+    }
+}
+
+fn done(alloc: Global, outcome: Result<(), FileFault>) -> Result<String, AllocError> {
+    let text = match outcome {
+        Ok(()) => "ok",
+        Err(fault) => name_of(fault),
+    };
+    String::from_str(alloc, text)
+}
+
+/// `true`, `false` or the fault.
+pub fn truth(alloc: Global, outcome: Result<bool, FileFault>) -> Result<String, AllocError> {
+    let text = match outcome {
+        Ok(true) => "true",
+        Ok(false) => "false",
+        Err(fault) => name_of(fault),
+    };
+    String::from_str(alloc, text)
+}
+
+/// What the paths hold.
+pub fn held<F: Files>(alloc: Global, files: &mut F, paths: &str) -> Result<String, AllocError> {
+    let mut text = String::new(alloc);
+    for path in paths.split(' ') {
+        push_held(&mut text, alloc, files, path)?;
+    }
+    let _ = text.pop();
+    Ok(text)
+}
+
+fn push_held<F: Files>(
+    text: &mut String,
+    alloc: Global,
+    files: &mut F,
+    path: &str,
+) -> Result<(), AllocError> {
+    text.push_str(path)?;
+    text.push(' ')?;
+    match files.read(alloc, path) {
+        Ok(bytes) => push_quoted(text, alloc, bytes.as_slice())?,
+        Err(_) => text.push('-')?,
+    }
+    text.push(' ')
+}
+
+/// Calls with the answers that any files give which are empty at first. Two of them fail.
+static CALLS: &str = r"
+    > exists a
+    | false
+    > read a
+    | device
+    > write a one
+    | ok
+    > read a
+    | 'one'
+    > exists a
+    | true
+    > write b two\n
+    | ok
+    > write a
+    | ok
+    > read a
+    | ''
+    > exists a
+    | true
+    > write a longer than before
+    | ok
+    > read a
+    | 'longer than before'
+    > remove a
+    | ok
+    > read a
+    | device
+    > exists a
+    | false
+    > remove a
+    | ok
+    > write c\nd x
+    | ok
+    > read c\nd
+    | 'x'
+    > read b
+    | 'two\n'
+    > failures
+    | 2
+";

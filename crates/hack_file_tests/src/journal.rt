@@ -1,0 +1,153 @@
+//! A call that edits files over a journal, which stands at `j`, and the next call, which puts back
+//! what it had edited.
+//!
+//! A question about files is one of files in memory, or `recover`, and begins with their place:
+//!
+//! - `below: ..`: those under the journal, before the call and behind it.
+//! - `lockfiles: ..`: those of the lockfiles, which stand apart.
+//! - `apart: ..`: both together, where all but the lockfiles stand over the journal.
+//! - `front: ..`: those that some of the changes leave.
+//!
+//! With no place it is about the files over the journal. `begin` takes the files below into a
+//! call, `finish` tells whether no journal is left, and `end` gives the files below back. `cut N`
+//! makes the front of their first N changes, and `front N` recovers it too: it tells how many files
+//! were put back, or the fault, and what the paths hold. The modules below have more questions.
+
+mod apart;
+mod failing;
+mod fronts;
+mod spelled;
+
+use crate::files::memory::in_memory;
+use crate::files::{answer, held, truth};
+use crate::journal::failing::left;
+use crate::journal::spelled::{entries, spelled, torn};
+use crate::text::number;
+use hack_files::fs::{FileFault, Files, MemoryFiles, Step};
+use hack_holds::{Ask, Wrong, hold};
+use hack_journal::apart::Apart;
+use hack_journal::journaled::Journaled;
+use hack_journal::recover::recover;
+use std::alloc::{AllocError, Global};
+use std::mem;
+
+/// These files with a journal over them.
+fn journaled<F: Files + Drop>(alloc: Global, files: F) -> Result<Journaled<F>, AllocError> {
+    let journal = String::from_str(alloc, "j")?;
+    Ok(Journaled::new(alloc, files, journal))
+}
+
+/// The files that these steps make.
+fn replayed(alloc: Global, steps: &[Step]) -> Result<MemoryFiles, FileFault> {
+    let mut files = MemoryFiles::new(alloc);
+    for step in steps {
+        match &step.bytes {
+            Some(bytes) => files.write(&step.path, bytes)?,
+            None => files.remove(&step.path)?,
+        }
+    }
+    Ok(files)
+}
+
+/// The count of files that were put back, or the fault.
+fn recovered<F: Files>(alloc: Global, files: &mut F) -> Result<String, AllocError> {
+    match recover(alloc, files, "j") {
+        Ok(count) => number(alloc, count),
+        Err(fault) => format!(in alloc; "{fault}"),
+    }
+}
+
+/// Answers a question about files in memory or their recovery.
+fn memory(alloc: Global, files: &mut MemoryFiles, question: &str) -> Result<String, AllocError> {
+    match question {
+        "recover" => recovered(alloc, files),
+        _ => in_memory(alloc, files, question),
+    }
+}
+
+#[derive(Drop)]
+struct Call {
+    over: Apart<Journaled<MemoryFiles>, MemoryFiles>,
+    below: MemoryFiles,
+    front: MemoryFiles,
+}
+
+impl Call {
+    fn begin(&mut self, alloc: Global) -> Result<String, AllocError> {
+        let below = mem::replace(&mut self.below, MemoryFiles::new(alloc));
+        let files = journaled(alloc, below)?;
+        let lockfiles = mem::replace(&mut self.over.lockfiles, MemoryFiles::new(alloc));
+        self.over = Apart::new(files, lockfiles);
+        String::from_str(alloc, "ok")
+    }
+
+    fn end(&mut self, alloc: Global) -> Result<String, AllocError> {
+        let none = journaled(alloc, MemoryFiles::new(alloc))?;
+        self.below = mem::replace(&mut self.over.files, none).into_inner();
+        String::from_str(alloc, "ok")
+    }
+
+    fn cut(&mut self, alloc: Global, count: &str) -> Result<String, AllocError> {
+        let count = count.parse::<usize>().unwrap_or(0);
+        let steps = self.below.steps().get(..count).unwrap_or(&[]);
+        match replayed(alloc, steps) {
+            Ok(files) => {
+                self.front = files;
+                String::from_str(alloc, "ok")
+            }
+            Err(_) => String::from_str(alloc, "memory"),
+        }
+    }
+
+    fn front(&mut self, alloc: Global, count: &str) -> Result<String, AllocError> {
+        self.cut(alloc, count)?;
+        let told = recovered(alloc, &mut self.front)?;
+        let held = held(alloc, &mut self.front, "a b c j")?;
+        format!(in alloc; "{told}\n{held}")
+    }
+
+    /// Answers a question that begins with no place.
+    fn step(&mut self, alloc: Global, question: &str) -> Result<String, AllocError> {
+        let (kind, rest) = question.split_once(' ').unwrap_or((question, ""));
+        match kind {
+            "begin" => self.begin(alloc),
+            "finish" => truth(alloc, self.over.files.finish()),
+            "end" => self.end(alloc),
+            "cut" => self.cut(alloc, rest),
+            "front" => self.front(alloc, rest),
+            "edit" => left(alloc, rest),
+            "spell" => spelled(alloc, rest),
+            "entries" => entries(alloc, rest),
+            "torn" => torn(alloc, rest),
+            _ => answer(alloc, &mut self.over.files, "", question),
+        }
+    }
+}
+
+impl Ask for Call {
+    fn answer(&mut self, alloc: Global, question: &str) -> Result<String, AllocError> {
+        match question.split_once(": ") {
+            Some(("below", rest)) => memory(alloc, &mut self.below, rest),
+            Some(("front", rest)) => memory(alloc, &mut self.front, rest),
+            Some(("lockfiles", rest)) => memory(alloc, &mut self.over.lockfiles, rest),
+            Some(("apart", rest)) => answer(alloc, &mut self.over, "", rest),
+            _ => self.step(alloc, question),
+        }
+    }
+}
+
+/// Holds the parts of a script in turn, with no files at first.
+fn on(alloc: Global, parts: &[&str]) -> Result<(), Wrong> {
+    let mut call = Call {
+        over: Apart::new(
+            journaled(alloc, MemoryFiles::new(alloc))?,
+            MemoryFiles::new(alloc),
+        ),
+        below: MemoryFiles::new(alloc),
+        front: MemoryFiles::new(alloc),
+    };
+    for rows in parts {
+        hold(alloc, &mut call, rows)?;
+    }
+    Ok(())
+}

@@ -1,0 +1,37 @@
+//! Manifests by questions. A text stands as a row shows it.
+//!
+//! `cut TEXT` are the pieces of a text. `package MINOR TEXT` is what a manifest says of its package
+//! where cargo has that minor version: `publish` and `rust-version`. `features TEXT` are its
+//! features with their values, as `a=b,c,;`, and `text TEXT` is the text that it keeps. The answer
+//! to each may be a fault; `fault of memory` is the one of memory.
+
+mod cuts;
+mod reads;
+
+use crate::manifest::cuts::cut;
+use crate::manifest::reads::{features, kept, package, told};
+use hack_holds::{Ask, Wrong, hold};
+use hack_manifest::manifest::ManifestFault;
+use std::alloc::{AllocError, Global};
+
+#[derive(Drop)]
+struct Manifests {}
+
+impl Ask for Manifests {
+    fn answer(&mut self, alloc: Global, question: &str) -> Result<String, AllocError> {
+        let (kind, rest) = question.split_once(' ').unwrap_or((question, ""));
+        match kind {
+            "cut" => cut(alloc, rest),
+            "package" => package(alloc, rest),
+            "features" => features(alloc, rest),
+            "text" => kept(alloc, rest),
+            "fault" => told(alloc, &ManifestFault::Memory),
+            _ => String::from_str(alloc, "no such question"),
+        }
+    }
+}
+
+/// Holds rows over manifests.
+fn on(alloc: Global, rows: &str) -> Result<(), Wrong> {
+    hold(alloc, &mut Manifests {}, rows)
+}

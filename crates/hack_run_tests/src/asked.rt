@@ -1,0 +1,75 @@
+//! Calls as questions: what is shown, the words, and behind each `;` what is given besides the
+//! world of the test, as in `err changes: hack check; fails 1 cargo check`.
+//!
+//! Of a whole call the sections of `shown` are shown, where none is named the calls, both streams
+//! and the changes of files; at last comes its status. The other questions are those of the modules
+//! `edits`, `journaled`, `listed`, `sessions`, `steps` and `toolchains`.
+
+use crate::edits::edits;
+use crate::journaled::journaled;
+use crate::listed::{cuts, list};
+use crate::scene::{scene_of, told};
+use crate::sessions::session;
+use crate::shown::push_sections;
+use crate::steps::steps;
+use crate::toolchains::toolchain;
+use crate::world::world_of;
+use hack_holds::{Ask, Wrong, hold};
+use hack_run::run::run;
+use std::alloc::{AllocError, Global};
+
+/// The sections of a whole call where none is named.
+const ALL: &str = "calls err out changes";
+
+/// The world that questions are asked of.
+#[derive(Clone, Copy)]
+struct Asked<'a> {
+    world: &'a str,
+}
+
+impl Ask for Asked<'_> {
+    fn answer(&mut self, alloc: Global, question: &str) -> Result<String, AllocError> {
+        let (asked, givens) = question.split_once("; ").unwrap_or((question, ""));
+        let world = world_of(alloc, givens, self.world)?;
+        let (kind, words) = asked.split_once(": ").unwrap_or((ALL, asked));
+        answered(alloc, kind, world.as_str(), words)
+    }
+}
+
+fn answered(alloc: Global, kind: &str, world: &str, words: &str) -> Result<String, AllocError> {
+    match kind {
+        "journal" => journaled(alloc, world, words),
+        "edits" => told(alloc, edits(alloc, world, words)),
+        "session" => told(alloc, session(alloc, world, words, false)),
+        "context" => told(alloc, session(alloc, world, words, true)),
+        "list" => told(alloc, list(alloc, world, words)),
+        "cuts" => told(alloc, cuts(alloc, world, words)),
+        "steps" => told(alloc, steps(alloc, world, words)),
+        "toolchain" => toolchain(alloc, world, words),
+        sections => called(alloc, world, words, sections),
+    }
+}
+
+/// A whole call: the sections, and its status.
+fn called(alloc: Global, world: &str, words: &str, sections: &str) -> Result<String, AllocError> {
+    let mut scene = scene_of(alloc, world, words)?;
+    let status = run(
+        alloc,
+        scene.words.as_slice(),
+        &scene.env,
+        &mut scene.term,
+        &mut scene.files,
+        &mut scene.caller,
+        &mut scene.out,
+        &mut scene.err,
+    );
+    let mut text = String::new(alloc);
+    push_sections(&mut text, alloc, &scene, sections)?;
+    format!(in alloc; "{text}status {status}")
+}
+
+/// Holds rows on a world.
+pub fn on(alloc: Global, world: &str, rows: &str) -> Result<(), Wrong> {
+    let mut asked = Asked { world };
+    hold(alloc, &mut asked, rows)
+}

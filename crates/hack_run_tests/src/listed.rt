@@ -1,0 +1,197 @@
+//! Steps that are listed: `list` with words answers the lines, how many steps were handed out, and
+//! how many lines failed. `cuts` lets each write of the list fail in turn, and answers the same of
+//! each one, once where it is the same as before: how many line feeds were written, and whether that
+//! is a front of the list. At last comes whether a list has many writes.
+
+use crate::asked::on;
+use crate::scene::{Off, context_of, scene_of};
+use crate::sessions::driven;
+use crate::worlds::PLAIN;
+use hack_files::fs::FailingWriter;
+use hack_holds::Wrong;
+use hack_load::context::Context;
+use hack_process::process::{End, FakeCaller};
+use hack_run::drive::Teller;
+use hack_session::session::{LineWriter, Lines, Lister, Starter};
+use hack_term::term::{Coloring, LogGroup, Term};
+use std::alloc::{AllocError, Global};
+use std::io;
+use std::io::Write;
+
+/// Lists a plan on lines, and sends what isn't listed to a runner; how many steps were handed out.
+fn list_over<W: Lines, R: Teller>(
+    alloc: Global,
+    cx: &Context,
+    out: &mut W,
+    runner: &mut R,
+) -> Result<usize, Off> {
+    let mut lister = Lister {
+        alloc,
+        out,
+        runner,
+        refused: 0,
+    };
+    let session = driven(alloc, cx, &mut lister)?;
+    Ok(session.handed().len())
+}
+
+/// Lists a plan on a writer; how many steps were handed out, and how many lines failed.
+fn list_on<W: Write>(alloc: Global, cx: &Context, list: &mut W) -> Result<(usize, u64), Off> {
+    let mut caller = FakeCaller::new(alloc, End::Status(0));
+    let mut term = Term::new(Coloring::Never, false);
+    let mut fault = None;
+    let mut starter = Starter {
+        alloc,
+        caller: &mut caller,
+        term: &mut term,
+        out: &mut io::sink(),
+        err: &mut io::sink(),
+        log_group: LogGroup::None,
+        keep_going: cx.args().keep_going,
+        fault: &mut fault,
+        refused: 0,
+    };
+    let mut lines = LineWriter {
+        out: list,
+        failed: 0,
+    };
+    let handed = list_over(alloc, cx, &mut lines, &mut starter)?;
+    Ok((handed, lines.failed))
+}
+
+/// What is left of a list.
+#[derive(Drop)]
+struct Listed {
+    text: String,
+    handed: usize,
+    failed: u64,
+}
+
+/// Lists a plan on a writer that fails at this write.
+fn cut_at(alloc: Global, cx: &Context, failing: u64) -> Result<Listed, Off> {
+    let mut list = FailingWriter::new(Vec::new(alloc), failing);
+    let (handed, failed) = list_on(alloc, cx, &mut list)?;
+    let text = String::from_utf8_lossy(alloc, list.inner().as_slice())?;
+    Ok(Listed {
+        text,
+        handed,
+        failed,
+    })
+}
+
+pub fn list(alloc: Global, world: &str, words: &str) -> Result<String, Off> {
+    let mut scene = scene_of(alloc, world, words)?;
+    let cx = context_of(alloc, &mut scene)?;
+    let whole = cut_at(alloc, &cx, 0)?;
+    let (text, handed, failed) = (whole.text.as_str(), whole.handed, whole.failed);
+    Ok(format!(in alloc; "{text}{handed} steps, {failed} failed")?)
+}
+
+fn line_feeds(text: &str) -> usize {
+    let mut found = 0_usize;
+    for byte in text.as_bytes() {
+        if *byte == b'\n' {
+            found = found.saturating_add(1);
+        }
+    }
+    found
+}
+
+fn front_of(text: &str, whole: &str) -> &'static str {
+    if text == whole {
+        "the whole"
+    } else if whole.starts_with(text) {
+        "a front"
+    } else {
+        "no front"
+    }
+}
+
+/// What is left of a list that was cut short, beside the whole one.
+fn cut_line(alloc: Global, cut: &Listed, whole: &str) -> Result<String, AllocError> {
+    let text = cut.text.as_str();
+    let front = front_of(text, whole);
+    let (handed, failed, feeds) = (cut.handed, cut.failed, line_feeds(text));
+    format!(in alloc; "{handed} steps, {failed} failed, {feeds} line feeds, {front}\n")
+}
+
+/// Puts the line of a cut behind the text, unless it is the last one already.
+fn push_cut(text: &mut String, alloc: Global, cut: &Listed, whole: &str) -> Result<(), AllocError> {
+    let line = cut_line(alloc, cut, whole)?;
+    if text.as_str().ends_with(line.as_str()) {
+        return Ok(());
+    }
+    text.push_str(line.as_str())
+}
+
+/// Puts what is left by each write that fails behind the text, up to the first that isn't made; how
+/// many are made.
+fn push_cuts(text: &mut String, alloc: Global, cx: &Context, whole: &str) -> Result<u64, Off> {
+    for failing in 1..=100_u64 {
+        let cut = cut_at(alloc, cx, failing)?;
+        push_cut(text, alloc, &cut, whole)?;
+        if cut.failed == 0 {
+            return Ok(failing.saturating_sub(1));
+        }
+    }
+    Ok(100)
+}
+
+pub fn cuts(alloc: Global, world: &str, words: &str) -> Result<String, Off> {
+    let mut scene = scene_of(alloc, world, words)?;
+    let cx = context_of(alloc, &mut scene)?;
+    let whole = cut_at(alloc, &cx, 0)?;
+    let mut text = String::new(alloc);
+    let writes = push_cuts(&mut text, alloc, &cx, whole.text.as_str())?;
+    let many = 8 <= writes && writes < 100;
+    text.push_str(if many { "many writes" } else { "few writes" })?;
+    Ok(text)
+}
+
+#[test]
+fn lists(rt: HostRuntime) -> Result<(), Wrong> {
+    on(
+        rt.alloc(),
+        PLAIN,
+        r#"
+            > list: hack check --each-feature --partition 2/3 --clean-per-run; features a d
+            | cargo clean --package p
+            | cargo check --manifest-path Cargo.toml --no-default-features --features a
+            | cargo clean --package p
+            | cargo check --manifest-path Cargo.toml --no-default-features --features d
+            | 4 steps, 0 failed
+
+            > list: hack check --each-feature; features a d
+            | cargo check --manifest-path Cargo.toml --all-features
+            | cargo check --manifest-path Cargo.toml --no-default-features
+            | cargo check --manifest-path Cargo.toml --no-default-features --features a
+            | cargo check --manifest-path Cargo.toml --no-default-features --features d
+            | 4 steps, 0 failed
+        "#,
+    )
+}
+
+// A list ends at the first line that fails, and goes on behind it where runs go on.
+#[test]
+fn each_write_of_a_list_fails(rt: HostRuntime) -> Result<(), Wrong> {
+    on(
+        rt.alloc(),
+        PLAIN,
+        r#"
+            > cuts: hack check --each-feature; features a d
+            | 1 steps, 1 failed, 0 line feeds, a front
+            | 2 steps, 1 failed, 1 line feeds, a front
+            | 3 steps, 1 failed, 2 line feeds, a front
+            | 4 steps, 1 failed, 3 line feeds, a front
+            | 4 steps, 0 failed, 4 line feeds, the whole
+            | many writes
+
+            # A front is left where the last line fails.
+            > cuts: hack check --each-feature --keep-going; features a d
+            | 4 steps, 1 failed, 3 line feeds, no front
+            | 4 steps, 1 failed, 3 line feeds, a front
+            | 4 steps, 0 failed, 4 line feeds, the whole
+            | many writes
+        "#,
+    )
+}

@@ -1,0 +1,243 @@
+//! Manifests that are edited for a call: what is told, and then what is written, in order.
+
+use crate::asked::on;
+use crate::worlds::{ROOT, VIRTUAL};
+use hack_holds::Wrong;
+
+#[test]
+fn development_dependencies(rt: HostRuntime) -> Result<(), Wrong> {
+    on(
+        rt.alloc(),
+        ROOT,
+        r#"
+            > err changes: hack check --no-dev-deps
+            | err
+            | info: --no-dev-deps modifies real `Cargo.toml` while cargo-hack is running and restores it when finished
+            | info: running `cargo check` on p (1/1)
+            | /w/Cargo.toml:
+            | [package]
+            | name = "p"
+            |
+            | [features]
+            | f = []
+            | /w/Cargo.toml:
+            | [package]
+            | name = "p"
+            |
+            | [features]
+            | f = ["d/g"]
+            |
+            | [dev-dependencies]
+            | d = "1"
+            | /w/Cargo.lock:
+            | # lock
+            | status 0
+
+            > err changes: hack check --no-dev-deps; fails 101 cargo check --manifest-path Cargo.toml
+            | err
+            | info: --no-dev-deps modifies real `Cargo.toml` while cargo-hack is running and restores it when finished
+            | info: running `cargo check` on p (1/1)
+            | error: process didn't exit successfully: `cargo check --manifest-path Cargo.toml` (exit status: 101)
+            | /w/Cargo.toml:
+            | [package]
+            | name = "p"
+            |
+            | [features]
+            | f = []
+            | /w/Cargo.toml:
+            | [package]
+            | name = "p"
+            |
+            | [features]
+            | f = ["d/g"]
+            |
+            | [dev-dependencies]
+            | d = "1"
+            | /w/Cargo.lock:
+            | # lock
+            | status 1
+
+            > err changes: hack --remove-dev-deps
+            | /w/Cargo.toml:
+            | [package]
+            | name = "p"
+            |
+            | [features]
+            | f = []
+            | status 0
+
+            > err changes: hack check --no-dev-deps --partition 2/2 -v
+            | err
+            | info: --no-dev-deps modifies real `Cargo.toml` while cargo-hack is running and restores it when finished
+            | info: removing dev-dependencies from /w/Cargo.toml
+            | info: skipping `cargo check --manifest-path Cargo.toml` (1/1)
+            | info: restoring /w/Cargo.toml
+            | info: restoring /w/Cargo.lock
+            | /w/Cargo.toml:
+            | [package]
+            | name = "p"
+            |
+            | [features]
+            | f = []
+            | /w/Cargo.toml:
+            | [package]
+            | name = "p"
+            |
+            | [features]
+            | f = ["d/g"]
+            |
+            | [dev-dependencies]
+            | d = "1"
+            | /w/Cargo.lock:
+            | # lock
+            | status 0
+        "#,
+    )
+}
+
+#[test]
+fn private_members(rt: HostRuntime) -> Result<(), Wrong> {
+    on(
+        rt.alloc(),
+        VIRTUAL,
+        r#"
+            > err changes: hack check --no-private --workspace
+            | err
+            | info: --no-private modifies real `Cargo.toml` while cargo-hack is running and restores it when finished
+            | info: skipped running on private package `q`
+            | info: running `cargo check` on p (1/1)
+            | /w/Cargo.toml:
+            | [workspace]
+            | members = ["p"]
+            | /w/Cargo.toml:
+            | [workspace]
+            | members = ["p", "q"]
+            | status 0
+
+            > err changes: hack check --no-private --no-dev-deps --workspace
+            | err
+            | info: --no-dev-deps and --no-private modify real `Cargo.toml` while cargo-hack is running and restores it when finished
+            | info: skipped running on private package `q`
+            | info: running `cargo check` on p (1/1)
+            | /w/p/Cargo.toml:
+            | [package]
+            | name = "p"
+            | /w/Cargo.toml:
+            | [workspace]
+            | members = ["p"]
+            | /w/p/Cargo.toml:
+            | [package]
+            | name = "p"
+            | [dev-dependencies]
+            | d = "1"
+            | /w/Cargo.toml:
+            | [workspace]
+            | members = ["p", "q"]
+            | status 0
+        "#,
+    )
+}
+
+#[test]
+fn a_private_root(rt: HostRuntime) -> Result<(), Wrong> {
+    on(
+        rt.alloc(),
+        ROOT,
+        r#"
+            > err changes: hack check --no-private; members p! /w/Cargo.toml
+            | err
+            | info: --no-private modifies real `Cargo.toml` while cargo-hack is running and restores it when finished
+            | error: --no-private is not supported yet with workspace with private root crate
+            | status 1
+        "#,
+    )
+}
+
+/// No text names the private member, and there is no header behind which its folder could be
+/// excluded.
+const UNPLACED: &str = r#"
+    members p /w/p/Cargo.toml, q! /w/q/Cargo.toml
+    file: /w/Cargo.toml
+    | workspace.members = ["*"]
+    file: /w/p/Cargo.toml
+    | [package]
+    file: /w/q/Cargo.toml
+    | [package]
+"#;
+
+/// No text names the private member, and among the excluded folders stands what is no text.
+const NUMBERED: &str = r#"
+    members p /w/p/Cargo.toml, q! /w/q/Cargo.toml
+    file: /w/Cargo.toml
+    | [workspace]
+    | members = ["*"]
+    | exclude = [1]
+    file: /w/p/Cargo.toml
+    | [package]
+    file: /w/q/Cargo.toml
+    | [package]
+"#;
+
+/// A member's development dependencies are in an inline table.
+const INLINE: &str = r#"
+    members p /w/p/Cargo.toml, q /w/q/Cargo.toml
+    file: /w/Cargo.toml
+    | [workspace]
+    | members = ["p", "q"]
+    file: /w/p/Cargo.toml
+    | [package]
+    | [dev-dependencies]
+    file: /w/q/Cargo.toml
+    | target = { x = { dev-dependencies = {} } }
+    | [package]
+"#;
+
+#[test]
+fn a_member_that_no_text_names(rt: HostRuntime) -> Result<(), Wrong> {
+    on(
+        rt.alloc(),
+        UNPLACED,
+        r#"
+            > err changes: hack check --no-private --workspace
+            | err
+            | info: --no-private modifies real `Cargo.toml` while cargo-hack is running and restores it when finished
+            | error: unsupported form of manifest `/w/Cargo.toml`
+            | status 1
+        "#,
+    )
+}
+
+#[test]
+fn an_excluded_folder_that_is_no_text(rt: HostRuntime) -> Result<(), Wrong> {
+    on(
+        rt.alloc(),
+        NUMBERED,
+        r#"
+            > err changes: hack check --no-private --workspace
+            | err
+            | info: --no-private modifies real `Cargo.toml` while cargo-hack is running and restores it when finished
+            | error: failed to edit manifest `/w/Cargo.toml`
+            | status 1
+        "#,
+    )
+}
+
+#[test]
+fn an_inline_table(rt: HostRuntime) -> Result<(), Wrong> {
+    on(
+        rt.alloc(),
+        INLINE,
+        r#"
+            > err changes: hack check --no-dev-deps --workspace
+            | err
+            | info: --no-dev-deps modifies real `Cargo.toml` while cargo-hack is running and restores it when finished
+            | error: unsupported form of manifest `/w/q/Cargo.toml`
+            | /w/p/Cargo.toml:
+            | [package]
+            | /w/p/Cargo.toml:
+            | [package]
+            | [dev-dependencies]
+            | status 1
+        "#,
+    )
+}

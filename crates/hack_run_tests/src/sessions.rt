@@ -1,0 +1,274 @@
+//! Sessions: `session` drives the plan of the words by a starter, and `context` the whole context,
+//! whose notices it tells. The answer is the fault that stopped it, the report where runs failed,
+//! the calls, both streams, and how many steps want of memory cut short.
+
+use crate::asked::on;
+use crate::scene::{Off, Scene, context_of, scene_of};
+use crate::shown::push_sections;
+use crate::worlds::PLAIN;
+use hack_calls::plan::{Plan, plan_of};
+use hack_holds::Wrong;
+use hack_load::context::Context;
+use hack_process::process::ProcessFault;
+use hack_run::drive::{Teller, drive_context};
+use hack_session::session::{Session, Starter, drive_plan};
+use hack_versions::version::Version;
+use std::alloc::{AllocError, Global};
+
+/// The version of the toolchain `stable`.
+const STABLE: Version = Version {
+    major: 1,
+    minor: 90,
+    patch: None,
+};
+
+/// The plan of a context.
+pub fn planned(alloc: Global, cx: &Context) -> Result<Plan, Off> {
+    match plan_of(alloc, cx, "rustup", Ok(Some(STABLE))) {
+        Ok((plan, _)) => Ok(plan),
+        Err(_) => Err(Off::Plan),
+    }
+}
+
+/// Drives the plan of a context.
+pub fn driven<R: Teller>(alloc: Global, cx: &Context, runner: &mut R) -> Result<Session, Off> {
+    let plan = planned(alloc, cx)?;
+    let args = cx.args();
+    Ok(drive_plan(alloc, plan, args.partition, args.keep_going, runner)?)
+}
+
+/// Drives a context, and tells its notices.
+fn driven_whole<R: Teller>(alloc: Global, cx: &Context, runner: &mut R) -> Result<Session, Off> {
+    match drive_context(alloc, cx, "rustup", Ok(Some(STABLE)), runner) {
+        Ok(session) => Ok(session),
+        Err(_) => Err(Off::Plan),
+    }
+}
+
+/// What is left of a session.
+#[derive(Drop)]
+struct Left {
+    session: Session,
+    fault: Option<ProcessFault>,
+    refused: u64,
+}
+
+fn performed(alloc: Global, cx: &Context, scene: &mut Scene, is_whole: bool) -> Result<Left, Off> {
+    let mut fault = None;
+    let mut starter = Starter {
+        alloc,
+        caller: &mut scene.caller,
+        term: &mut scene.term,
+        out: &mut scene.out,
+        err: &mut scene.err,
+        log_group: cx.args().log_group,
+        keep_going: cx.args().keep_going,
+        fault: &mut fault,
+        refused: 0,
+    };
+    let session = if is_whole {
+        driven_whole(alloc, cx, &mut starter)?
+    } else {
+        driven(alloc, cx, &mut starter)?
+    };
+    let refused = starter.refused;
+    Ok(Left {
+        session,
+        fault,
+        refused,
+    })
+}
+
+/// Why it stopped.
+fn push_fault(
+    text: &mut String,
+    alloc: Global,
+    fault: &Option<ProcessFault>,
+) -> Result<(), AllocError> {
+    match fault {
+        Some(fault) => text.push_str(format!(in alloc; "fault {fault}\n")?.as_str()),
+        None => Ok(()),
+    }
+}
+
+/// The report, where something failed.
+fn push_report(text: &mut String, alloc: Global, session: &Session) -> Result<(), AllocError> {
+    let report = session.report(alloc)?;
+    if report.count == 0 {
+        return Ok(());
+    }
+    text.push_str(format!(in alloc; "{report}")?.as_str())
+}
+
+fn left_text(alloc: Global, scene: &Scene, left: &Left) -> Result<String, AllocError> {
+    let mut text = String::new(alloc);
+    push_fault(&mut text, alloc, &left.fault)?;
+    push_report(&mut text, alloc, &left.session)?;
+    push_sections(&mut text, alloc, scene, "calls err out")?;
+    let refused = left.refused;
+    format!(in alloc; "{text}refused {refused}")
+}
+
+pub fn session(alloc: Global, world: &str, words: &str, is_whole: bool) -> Result<String, Off> {
+    let mut scene = scene_of(alloc, world, words)?;
+    let cx = context_of(alloc, &mut scene)?;
+    let left = performed(alloc, &cx, &mut scene, is_whole)?;
+    Ok(left_text(alloc, &scene, &left)?)
+}
+
+#[test]
+fn pieces(rt: HostRuntime) -> Result<(), Wrong> {
+    on(
+        rt.alloc(),
+        PLAIN,
+        r#"
+            > session: hack check --each-feature --partition 2/3; features a d
+            | asked
+            | cargo check --manifest-path Cargo.toml --no-default-features --features a
+            | cargo check --manifest-path Cargo.toml --no-default-features --features d
+            | err
+            | info: skipping `cargo check --all-features` on p (1/4)
+            |
+            | info: skipping `cargo check --no-default-features` on p (2/4)
+            |
+            | info: running `cargo check --no-default-features --features a` on p (3/4)
+            |
+            | info: running `cargo check --no-default-features --features d` on p (4/4)
+            | refused 0
+
+            > session: hack check --each-feature --partition 2/3 --partition-kind turn; features a d
+            | asked
+            | cargo check --manifest-path Cargo.toml --no-default-features
+            | err
+            | info: skipping `cargo check --all-features` on p (1/4)
+            |
+            | info: running `cargo check --no-default-features` on p (2/4)
+            |
+            | info: skipping `cargo check --no-default-features --features a` on p (3/4)
+            |
+            | info: skipping `cargo check --no-default-features --features d` on p (4/4)
+            | refused 0
+
+            > session: hack check --version-range 1.60..=1.61 --partition 2/2
+            | asked
+            | rustup run 1.60 cargo --version
+            | rustup run 1.61 cargo --version
+            | rustup run 1.61 cargo check --manifest-path Cargo.toml
+            | err
+            | info: skipping `rustup run 1.60 cargo check` on p (1/2)
+            |
+            | info: running `rustup run 1.61 cargo check` on p (2/2)
+            | refused 0
+        "#,
+    )
+}
+
+#[test]
+fn failures(rt: HostRuntime) -> Result<(), Wrong> {
+    on(
+        rt.alloc(),
+        PLAIN,
+        r#"
+            > session: hack check --each-feature --exclude-no-default-features; features a b; fails 101 cargo check --manifest-path Cargo.toml --no-default-features --features a
+            | fault process didn't exit successfully: `cargo check --manifest-path Cargo.toml --no-default-features --features a` (exit status: 101)
+            | asked
+            | cargo check --manifest-path Cargo.toml --all-features
+            | cargo check --manifest-path Cargo.toml --no-default-features --features a
+            | err
+            | info: running `cargo check --all-features` on p (1/3)
+            |
+            | info: running `cargo check --no-default-features --features a` on p (2/3)
+            | refused 0
+
+            > session: hack check --each-feature --exclude-no-default-features --keep-going; features a b; fails 101 cargo check --manifest-path Cargo.toml --no-default-features --features a
+            | failed to run 1 commands
+            |
+            | failed commands:
+            |     p:
+            |         `cargo check --manifest-path Cargo.toml --no-default-features --features a`
+            | asked
+            | cargo check --manifest-path Cargo.toml --all-features
+            | cargo check --manifest-path Cargo.toml --no-default-features --features a
+            | cargo check --manifest-path Cargo.toml --no-default-features --features b
+            | err
+            | info: running `cargo check --all-features` on p (1/3)
+            |
+            | info: running `cargo check --no-default-features --features a` on p (2/3)
+            | error: process didn't exit successfully: `cargo check --manifest-path Cargo.toml --no-default-features --features a` (exit status: 101)
+            |
+            | info: running `cargo check --no-default-features --features b` on p (3/3)
+            | refused 0
+
+            > session: hack check --version-range 1.60..=1.61 --keep-going; fails 101 rustup run 1.60 cargo --version; fails 101 rustup toolchain add 1.60 --no-self-update
+            | fault process didn't exit successfully: `rustup toolchain add 1.60 --no-self-update` (exit status: 101)
+            | asked
+            | rustup run 1.60 cargo --version
+            | rustup toolchain add 1.60 --no-self-update
+            | err
+            | info: running `rustup toolchain add 1.60 --no-self-update`
+            | refused 0
+        "#,
+    )
+}
+
+#[test]
+fn groups(rt: HostRuntime) -> Result<(), Wrong> {
+    on(
+        rt.alloc(),
+        PLAIN,
+        r#"
+            > session: hack check --each-feature --exclude-no-default-features --partition 1/3 --clean-per-run; features a b; on github
+            | asked
+            | cargo clean --package p
+            | cargo check --manifest-path Cargo.toml --all-features
+            | out
+            | ::group::running `cargo check --all-features` on p (1/3)
+            | ::endgroup::
+            | ::group::skipping `cargo check --no-default-features --features a` on p (2/3)
+            | ::endgroup::
+            | ::group::skipping `cargo check --no-default-features --features b` on p (3/3)
+            | ::endgroup::
+            | refused 0
+        "#,
+    )
+}
+
+// What the plan tells comes first.
+#[test]
+fn contexts(rt: HostRuntime) -> Result<(), Wrong> {
+    on(
+        rt.alloc(),
+        PLAIN,
+        r#"
+            > context: hack check --workspace --exclude y
+            | asked
+            | cargo check --manifest-path Cargo.toml
+            | err
+            | warning: excluded package(s) `y` not found in workspace `/w`
+            | info: running `cargo check` on p (1/1)
+            | refused 0
+
+            > context: hack check --each-feature --exclude-no-default-features --keep-going; features a b; fails 101 cargo check --manifest-path Cargo.toml --no-default-features --features a
+            | failed to run 1 commands
+            |
+            | failed commands:
+            |     p:
+            |         `cargo check --manifest-path Cargo.toml --no-default-features --features a`
+            | asked
+            | cargo check --manifest-path Cargo.toml --all-features
+            | cargo check --manifest-path Cargo.toml --no-default-features --features a
+            | cargo check --manifest-path Cargo.toml --no-default-features --features b
+            | err
+            | info: running `cargo check --all-features` on p (1/3)
+            |
+            | info: running `cargo check --no-default-features --features a` on p (2/3)
+            | error: process didn't exit successfully: `cargo check --manifest-path Cargo.toml --no-default-features --features a` (exit status: 101)
+            |
+            | info: running `cargo check --no-default-features --features b` on p (3/3)
+            | refused 0
+
+            > context: hack check --package x
+            | no plan
+        "#,
+    )
+}
