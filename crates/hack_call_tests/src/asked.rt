@@ -35,51 +35,34 @@ pub enum Show {
     Fault,
 }
 
-/// What calls are made over where a question doesn't say it.
+/// Calls on members, where a question doesn't name others.
 #[derive(Clone, Copy)]
 pub struct Asked<'a> {
     pub show: Show,
     pub members: &'a str,
 }
 
-/// The call of a question, with what is shown of it.
-#[derive(Clone, Copy)]
-struct Call<'a> {
-    show: Show,
-    given: Given<'a>,
-    /// The fault of asking for the version of the toolchain `stable`, which is 1.66 without it.
-    stable: Option<&'a str>,
-    piece: &'a str,
-}
-
-/// The call of these words as in most rows: in the package `p`, under cargo 1.90.
-fn usual<'a>(asked: Asked<'a>, words: &'a str) -> Call<'a> {
-    Call {
-        show: asked.show,
-        given: Given {
-            members: asked.members,
-            current: "p",
-            minor: Some(90),
-            words,
-        },
+/// The call of a question. Where it doesn't say else, it stands in the package `p` under cargo 1.90.
+fn given_of<'a>(members: &'a str, question: &'a str) -> Given<'a> {
+    let (front, words) = question.split_once(" $ ").unwrap_or(("", question));
+    let mut given = Given {
+        members,
+        current: "p",
+        minor: Some(90),
         stable: None,
         piece: "",
-    }
-}
-
-fn call_of<'a>(asked: Asked<'a>, question: &'a str) -> Call<'a> {
-    let (front, words) = question.split_once(" $ ").unwrap_or(("", question));
-    let mut call = usual(asked, words);
+        words,
+    };
     let (kind, value) = front.split_once(' ').unwrap_or((front, ""));
     match kind {
-        "members" => call.given.members = value,
-        "in" => call.given.current = value,
-        "cargo" => call.given.minor = value.parse::<u32>().ok(),
-        "stable" => call.stable = Some(value),
-        "piece" => call.piece = value,
+        "members" => given.members = value,
+        "in" => given.current = value,
+        "cargo" => given.minor = value.parse::<u32>().ok(),
+        "stable" => given.stable = Some(value),
+        "piece" => given.piece = value,
         _ => {}
     }
-    call
+    given
 }
 
 fn planned(
@@ -103,43 +86,54 @@ fn planned(
 
 fn shown(
     alloc: Global,
-    call: Call<'_>,
+    show: Show,
+    given: Given<'_>,
     plan: &Plan,
     notices: &[Notice],
 ) -> Result<String, AllocError> {
-    match call.show {
+    match show {
         Show::Runs => runs(alloc, plan, notices),
         Show::Counts => counts(alloc, plan, notices),
         Show::Last => last(alloc, plan),
         Show::Sets => sets(alloc, plan),
         Show::Versions => versions(alloc, plan, notices),
         Show::Commands => commands(alloc, plan),
-        Show::Piece => piece(alloc, call.piece, plan.len() as u64),
+        Show::Piece => piece(alloc, given.piece, plan.len() as u64),
         _ => String::from_str(alloc, "a plan"),
     }
 }
 
-fn shown_plan(alloc: Global, call: Call<'_>, cx: &Context) -> Result<String, AllocError> {
-    match planned(alloc, cx, call.stable) {
-        Ok((plan, notices)) => shown(alloc, call, &plan, notices.as_slice()),
+fn shown_plan(
+    alloc: Global,
+    show: Show,
+    given: Given<'_>,
+    cx: &Context,
+) -> Result<String, AllocError> {
+    match planned(alloc, cx, given.stable) {
+        Ok((plan, notices)) => shown(alloc, show, given, &plan, notices.as_slice()),
         Err(fault) => format!(in alloc; "{fault}"),
     }
 }
 
-fn answered(alloc: Global, call: Call<'_>, cx: &Context) -> Result<String, AllocError> {
-    match call.show {
+fn answered(
+    alloc: Global,
+    show: Show,
+    given: Given<'_>,
+    cx: &Context,
+) -> Result<String, AllocError> {
+    match show {
         Show::Packages => package_names(alloc, cx),
         Show::EachOfSeveral => package_runs(alloc, cx, false),
         Show::EachAlone => package_runs(alloc, cx, true),
-        _ => shown_plan(alloc, call, cx),
+        _ => shown_plan(alloc, show, given, cx),
     }
 }
 
 impl Ask for Asked<'_> {
     fn answer(&mut self, alloc: Global, question: &str) -> Result<String, AllocError> {
-        let call = call_of(*self, question);
-        match context_of(alloc, call.given) {
-            Ok(cx) => answered(alloc, call, &cx),
+        let given = given_of(self.members, question);
+        match context_of(alloc, given) {
+            Ok(cx) => answered(alloc, self.show, given, &cx),
             Err(why) => reason(alloc, why),
         }
     }

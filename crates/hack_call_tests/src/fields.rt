@@ -3,7 +3,6 @@
 //! `@close` are 200 brackets. The answer is `read`, or the fault.
 
 use crate::given::read;
-use crate::workspace::push_all;
 use hack_holds::{Ask, Wrong, hold};
 use std::alloc::{AllocError, Global};
 
@@ -55,7 +54,9 @@ impl Around {
             return filled(alloc, text);
         }
         let mut whole = String::new(alloc);
-        push_all(&mut whole, &[self.front, text, self.behind])?;
+        whole.push_str(self.front)?;
+        whole.push_str(text)?;
+        whole.push_str(self.behind)?;
         Ok(whole)
     }
 }

@@ -132,6 +132,10 @@ pub struct Given<'a> {
     pub current: &'a str,
     /// Cargo's own minor version; none where it is unknown.
     pub minor: Option<u32>,
+    /// The fault of asking for the version of the toolchain `stable`, which is 1.66 without it.
+    pub stable: Option<&'a str>,
+    /// The piece of the plan that runs.
+    pub piece: &'a str,
     /// The words behind `hack`.
     pub words: &'a str,
 }
