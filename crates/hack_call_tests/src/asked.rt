@@ -42,7 +42,7 @@ pub struct Asked<'a> {
     pub members: &'a str,
 }
 
-/// The call of a question. Where it doesn't say else, it stands in the package `p` under cargo 1.90.
+/// The call of a question: in the package `p` and under cargo 1.90, where it doesn't say else.
 fn given_of<'a>(members: &'a str, question: &'a str) -> Given<'a> {
     let (front, words) = question.split_once(" $ ").unwrap_or(("", question));
     let mut given = Given {
