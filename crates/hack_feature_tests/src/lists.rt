@@ -277,6 +277,14 @@ fn of_streams(alloc: Global, map: &str, question: &str) -> Result<String, AllocE
     }
 }
 
+/// What is given, and the input after `<`: the map, where a question has none.
+fn given_and_input<'x>(rest: &'x str, map: &'x str) -> (&'x str, &'x str) {
+    match rest.split_once('<') {
+        Some(parts) => parts,
+        None => (rest, map),
+    }
+}
+
 /// A map of which lists are asked for.
 #[derive(Drop)]
 struct Lists<'a> {
@@ -286,7 +294,7 @@ struct Lists<'a> {
 impl Ask for Lists<'_> {
     fn answer(&mut self, alloc: Global, question: &str) -> Result<String, AllocError> {
         let (kind, rest) = question.split_once(' ').unwrap_or((question, ""));
-        let (given, input) = rest.split_once('<').unwrap_or((rest, self.map));
+        let (given, input) = given_and_input(rest, self.map);
         match kind {
             "list" => list(alloc, given, input.as_bytes()),
             "call" => call(alloc, given, input),

@@ -35,14 +35,16 @@ impl Read for Source<'_> {
         if self.interrupts {
             return Err(io::Error::from(ErrorKind::Interrupted));
         }
-        match (self.bytes.get(self.at), self.fault) {
-            (Some(byte), _) if !buf.is_empty() => {
+        match self.bytes.get(self.at) {
+            Some(byte) if !buf.is_empty() => {
                 buf[0] = *byte;
                 self.at = self.at.saturating_add(1);
                 Ok(1)
             }
-            (_, Some(kind)) => Err(io::Error::from(kind)),
-            (_, None) => Ok(0),
+            _ => match self.fault {
+                Some(kind) => Err(io::Error::from(kind)),
+                None => Ok(0),
+            },
         }
     }
 }
