@@ -1,5 +1,5 @@
-//! Toolchains that rustup adds: `toolchain` with a name and targets answers the calls, both streams,
-//! and the fault or `ok`. `tell nothing` keeps quiet.
+//! Toolchains that rustup adds: `toolchain` with a name and targets answers the calls, and the fault
+//! or `ok`. What is printed goes nowhere here: whole calls show it.
 
 use crate::asked::on;
 use crate::scene::{Scene, scene_of, words_of};
@@ -12,6 +12,7 @@ use hack_session::rustup::install_toolchain;
 use hack_session::session::Screen;
 use hack_term::term::LogGroup;
 use std::alloc::{AllocError, Global};
+use std::io;
 
 /// Installs a toolchain for these targets.
 fn install(
@@ -23,9 +24,9 @@ fn install(
 ) -> Result<(), ProcessFault> {
     let mut screen = Screen {
         term: &scene.term,
-        out: &mut scene.out,
-        err: &mut scene.err,
-        log_group: LogGroup::auto(scene.env.github_actions),
+        out: &mut io::sink(),
+        err: &mut io::sink(),
+        log_group: LogGroup::None,
     };
     install_toolchain(
         alloc,
@@ -57,7 +58,7 @@ pub fn toolchain(alloc: Global, world: &str, words: &str) -> Result<String, Allo
     let is_told = given(world, "tell") != "nothing";
     let end = install(alloc, &mut scene, name, targets.as_slice(), is_told);
     let mut text = String::new(alloc);
-    push_sections(&mut text, alloc, &scene, "calls err out")?;
+    push_sections(&mut text, alloc, &scene, "calls")?;
     push_end(&mut text, alloc, end)?;
     Ok(text)
 }
@@ -83,8 +84,6 @@ fn toolchains_that_are_tried(rt: HostRuntime) -> Result<(), Wrong> {
             > toolchain: 1.60; fails 1 rustup run 1.60 cargo --version
             | rustup run 1.60 cargo --version
             | rustup toolchain add 1.60 --no-self-update
-            | err
-            | info: running `rustup toolchain add 1.60 --no-self-update`
             | ok
 
             > toolchain: 1.60; fails 1 rustup run 1.60 cargo --version; tell nothing
@@ -92,19 +91,9 @@ fn toolchains_that_are_tried(rt: HostRuntime) -> Result<(), Wrong> {
             | rustup toolchain add 1.60 --no-self-update
             | ok
 
-            > toolchain: 1.60; fails 1 rustup run 1.60 cargo --version; on github
-            | rustup run 1.60 cargo --version
-            | rustup toolchain add 1.60 --no-self-update
-            | out
-            | ::group::running `rustup toolchain add 1.60 --no-self-update`
-            | ::endgroup::
-            | ok
-
             > toolchain: 1.60; fails 1 rustup run 1.60 cargo --version; fails 1 rustup toolchain add 1.60 --no-self-update
             | rustup run 1.60 cargo --version
             | rustup toolchain add 1.60 --no-self-update
-            | err
-            | info: running `rustup toolchain add 1.60 --no-self-update`
             | process didn't exit successfully: `rustup toolchain add 1.60 --no-self-update` (exit status: 1)
         "#,
     )
@@ -119,8 +108,6 @@ fn toolchains_with_targets(rt: HostRuntime) -> Result<(), Wrong> {
         r#"
             > toolchain: +1.60 x y
             | rustup toolchain add 1.60 --no-self-update --target x,y
-            | err
-            | info: running `rustup toolchain add 1.60 --no-self-update --target x,y`
             | ok
 
             > toolchain: 1.60 x; missing rustup toolchain add 1.60 --no-self-update --target x; tell nothing
