@@ -1,7 +1,10 @@
--- The sets that an enumeration by questions finds, and how many questions it may ask.
-use Rattle.std.specs.Prelude.{◌≡◌, ◌≢◌, ℕ, ◌*◌, ◌≤◌, ◌<◌, All, List, [], ◌∷◌, ◌++◌, map, filter, drop, length, Bool, IsTrue, ◌&&◌, ◌==◌, not}
+-- The sets that an enumeration by questions finds, how many questions it may ask, and why it finds none.
+use Rattle.std.specs.Prelude.{◌≡◌, ◌≢◌, ℕ, ◌*◌, ◌^◌, ◌≤◌, ◌<◌, ◌⊎◌, All, List, [], ◌∷◌, ◌++◌, map, filter, drop, length, Bool, IsTrue, ◌&&◌, ◌==◌, not}
 use Rattle.std.specs.List.{slice_index_or}
-use Rattle.hack_features.specs.Sets.{IsListing}
+use Rattle.hack_features.specs.Sets.{IsListing, IsSelection, IsBefore, Pairwise, IsWithin}
+use Rattle.hack_features.specs.declared.fault.SetsFault.{SetsFault}
+use Rattle.hack_features.specs.declared.fault.SetsFault.TheVariants.{Memory, TooMany}
+use Rattle.hack_features.specs.declared.questions.Limits.{Limits}
 
 -- a nonempty set that passes both tests
 pub record IsWhole (may complete : List ℕ → Bool) (s : List ℕ) : Type 0 where
@@ -36,3 +39,23 @@ pub record AreOpen (may : List ℕ → Bool) (sets : List (List ℕ)) (places : 
   pub inside : All (λ p. p < length sets) places
   pub few : length places ≤ length sets
   pub same : (next : ℕ) → with_next may next (map (λ p. slice_index_or sets p []) places) ≡ with_next may next sets
+
+-- more than 4294967295 selections below n for which P holds, beside the empty one
+pub record AreMany (n : ℕ) (P : List ℕ → Type 0) : Type 0 where
+  pub sets : List (List ℕ)
+  pub ordered : Pairwise IsBefore sets
+  pub sound : All (λ s. IsSelection n s × P s) sets
+  pub many : 2 ^ 32 < length sets
+
+-- too many for a number each: more than 4294967295 positions, or as many sets of them for which P holds beside the empty one
+abbrev pub AreTooMany : ℕ → (List ℕ → Type 0) → Type 0
+AreTooMany n P = (2 ^ 32 ≤ n) ⊎ AreMany n P
+
+-- why there are no sets: memory was refused, or there are too many
+abbrev pub IsRefusal : Type 0 → SetsFault → Type 0
+IsRefusal too_many e = (e ≡ Memory) ⊎ ((e ≡ TooMany) × too_many)
+
+-- what is known before any question: how many positions a permitted set has at most, and whether both tests pass each set
+pub record AreLimits (may complete : List ℕ → Bool) (limits : Limits) : Type 0 where
+  pub within : (s : List ℕ) → IsTrue (may s) → IsWithin limits.most s
+  pub free : IsTrue limits.free → IsFree may complete

@@ -1,9 +1,9 @@
 -- What a loaded call says of packages, and of their features.
-use Rattle.std.specs.Prelude.{ℕ, List, Bool, Option, option_map, option_and_then}
+use Rattle.std.specs.Prelude.{◌≡◌, ℕ, List, Bool, Option, Some, option_map, option_and_then}
 use Rattle.std.specs.List.{filter_map}
 use Rattle.hack_base.specs.Names.{Name}
 use Rattle.hack_features.specs.Feature.{groups_of}
-use Rattle.hack_load.specs.Contexts.{ContextRecord, package_at, is_private_at}
+use Rattle.hack_load.specs.Contexts.{ContextRecord, package_at, features_at, is_private_at}
 use Rattle.hack_load.specs.declared.features.Features.{Features}
 use Rattle.hack_metadata.specs.Records.{PackageRecord}
 use Rattle.hack_base.specs.Notes.{Note}
@@ -12,6 +12,8 @@ use Rattle.hack_packages.specs.Members.{Member, Choosing, IsPackageList}
 use Rattle.hack_packages.specs.MembersView.{choosing_of}
 use Rattle.hack_packages.specs.PackagesView.{IsListFault}
 use Rattle.hack_packages.specs.Candidates.{Known}
+use Rattle.hack_packages.specs.CandidatesView.{wishes}
+use Rattle.hack_packages.specs.Kinds.{HasTooManySets}
 
 -- the package at a place, as a member
 abbrev pub member_at : ContextRecord → ℕ → Option Member
@@ -40,3 +42,11 @@ IsChoiceFault cx e = IsListFault (choosing_of cx.args (current_name cx)) (member
 -- what is known of a package of the metadata that has these features
 abbrev pub known_as : PackageRecord → Features → Known
 known_as p features = record { name = p.name; map = p.features; normal = groups_of features.normal.items; optional = groups_of features.optional_deps.items; of_deps = groups_of features.deps_features.items }
+
+-- the package at a place has too many sets for a number each
+pub record HasManyAt (cx : ContextRecord) (id : ℕ) : Type 0 where
+  pub pkg : PackageRecord
+  pub features : Features
+  pub known : package_at cx id ≡ Some pkg
+  pub loaded : features_at cx id ≡ Some features
+  pub many : HasTooManySets (wishes cx.args) (known_as pkg features)

@@ -1,9 +1,10 @@
 -- Which runs a package has.
-use Rattle.std.specs.Prelude.{◌≡◌, ◌==◌, ◌⊎◌, ℕ, List, [], ◌∷◌, Bool, true, false, not, ◌||◌, Option, None, Some, length, Contains}
+use Rattle.std.specs.Prelude.{◌≡◌, ◌==◌, ◌⊎◌, ◌≤◌, ◌^◌, ℕ, List, [], ◌∷◌, Bool, true, false, not, ◌||◌, Option, None, Some, length, Contains}
 use Rattle.std.specs.List.{flat_map, slice_index_or}
 use Rattle.hack_base.specs.Names.{Name}
 use Rattle.hack_features.specs.Sets.{IsListing, IsSelection, singles}
-use Rattle.hack_features.specs.Rules.{Choice, IsListed, IsWanted, Covers, unlifted_groups}
+use Rattle.hack_features.specs.Rules.{Choice, IsListed, IsPermitted, IsWanted, Covers, unlifted_groups}
+use Rattle.hack_features.specs.Questions.{AreTooMany}
 use Rattle.hack_plan.specs.declared.runs.RunOptions.{RunOptions}
 use Rattle.hack_plan.specs.Runs.{PackageRun, Plain, Set, is_plain, runs_from}
 use Rattle.hack_packages.specs.Candidates.{Names, Wishes, Known, candidates, is_bare, lifted_for}
@@ -41,6 +42,13 @@ pub record AreSetRuns (w : Wishes) (p : Known) (runs : List PackageRun) : Type 0
   pub are_sets : AreSets w.powerset w p sets
   pub made : runs ≡ runs_from (options_of w p) sets
 
+-- the runs are those of the package's sets, and no plain run stands for no set
+pub record HasSetRuns (w : Wishes) (p : Known) (runs : List PackageRun) : Type 0 where
+  pub sets : List (List ℕ)
+  pub are_sets : AreSets w.powerset w p sets
+  pub made : runs ≡ runs_from (options_of w p) sets
+  pub some : is_plain (options_of w p) sets ≡ false
+
 -- the call asks for combinations of features
 abbrev pub asks : Wishes → Bool
 asks w = w.each || w.powerset
@@ -59,6 +67,16 @@ pub record HasPlainRun (w : Wishes) (p : Known) : Type 0 where
   pub sets : List (List ℕ)
   pub are_sets : asks w ≡ true → AreSets w.powerset w p sets
   pub plain : asks w ≡ true → is_plain (options_of w p) sets ≡ true
+
+-- the sets are too many for a number each: under a powerset those that are permitted, else the candidates
+abbrev pub AreManySets : Bool → Wishes → Known → Type 0
+AreManySets true w p = AreTooMany (length (candidates w p)) (IsPermitted (choice_of w p))
+AreManySets false w p = 2 ^ 32 ≤ length (candidates w p)
+
+-- combinations are asked for, and the package has too many sets
+pub record HasTooManySets (w : Wishes) (p : Known) : Type 0 where
+  pub asked : asks w ≡ true
+  pub many : AreManySets w.powerset w p
 
 -- each set that has to be covered has a run whose set lies in it and enables the same names
 abbrev pub AreCovering : Wishes → Known → List PackageRun → Type 0

@@ -15,12 +15,15 @@ ghost use Rattle.hack_packages.specs.KindsView.{IsKind, runs_of};
 ghost use Rattle.hack_packages.specs.ContextMembers.{member_at, members_in, name_at as named_at};
 ghost use Rattle.hack_packages.specs.ContextMembers.{current_name as current_called};
 ghost use Rattle.hack_packages.specs.ContextMembers.{AreChosen, IsChoiceFault, known_as};
+ghost use Rattle.hack_packages.specs.ContextMembers.{HasManyAt};
+ghost use Rattle.hack_features.specs.Questions.{IsRefusal};
 
 use crate::fault::PackagesFault;
 use crate::kind::{PackageRuns, determine_runs};
 use crate::member::Member;
 use crate::packages::{PackageList, choose_packages};
 use hack_base::notice::Notice;
+use hack_features::SetsFault;
 use hack_load::context::Context;
 use hack_metadata::metadata::PackageId;
 use std::alloc::{AllocError, Global};
@@ -96,9 +99,13 @@ pub fn determine_kind(
     context: &Context,
     id: PackageId,
     single: bool,
-) -> Result<(PackageRuns, Vec<Notice>), AllocError>
+) -> Result<(PackageRuns, Vec<Notice>), SetsFault>
     requires { Contains (context_view context.now).metadata.workspace_members id.index }
     ensures id { IfOk result (λ answer. answer.0.id ≡ id) }
+
+    // A package is refused where it has too many sets, and else only for want of memory.
+    ensures never { IfOk result (λ _. ¬ HasManyAt (context_view context.now) id.index) }
+    ensures err { IfErr result (IsRefusal (HasManyAt (context_view context.now) id.index)) }
     ensures kind { (p : PackageRecord) (features : Loaded)
         → package_at (context_view context.now) id.index ≡ Some p
         → features_at (context_view context.now) id.index ≡ Some features

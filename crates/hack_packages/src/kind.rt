@@ -1,11 +1,12 @@
 //! The runs of a package, and its candidates.
 
-ghost use Rattle.std.specs.Prelude.{◌≡◌, ◌<◌, ◌++◌, [], IfOk};
+ghost use Rattle.std.specs.Prelude.{◌≡◌, ◌<◌, ◌++◌, [], IfOk, IfErr};
 ghost use Rattle.std.specs.Prelude.{OnOk, Some, length, map, slice_get, true};
 ghost use Rattle.std.specs.List.{slice_index_or};
 ghost use Rattle.hack_features.specs.Feature.{groups_of, candidates_of};
 ghost use Rattle.hack_features.specs.Forest.{sets_in};
 ghost use Rattle.hack_features.specs.Rules.{AreCovers};
+ghost use Rattle.hack_features.specs.Questions.{IsRefusal};
 ghost use Rattle.hack_base.specs.Names.{names_of, names_behind};
 ghost use Rattle.hack_load.specs.declared.features.Features.{Features as Loaded};
 ghost use Rattle.hack_plan.specs.Runs.{run_of};
@@ -15,12 +16,13 @@ ghost use Rattle.hack_packages.specs.CandidatesView.{wishes, known_of_package};
 ghost use Rattle.hack_packages.specs.Kinds.{AreSets, AreRuns, options_of};
 ghost use Rattle.hack_packages.specs.Kinds.{takes_all as all_taken, names_at};
 ghost use Rattle.hack_packages.specs.Kinds.{AreCovering, choice_of, IsDepthOne, as_each};
+ghost use Rattle.hack_packages.specs.Kinds.{AreManySets, HasTooManySets};
 ghost use Rattle.hack_packages.specs.KindsView.{IsKind, runs_of, candidates_in};
 
 use crate::candidates::{candidates, is_bare, notes_on};
 use crate::lifts::lifted_groups;
 use hack_base::notice::Notice;
-use hack_features::{Feature, FeatureSets, Rules};
+use hack_features::{Feature, FeatureSets, Rules, SetsFault};
 use hack_load::features::Features;
 use hack_metadata::metadata::{Package, PackageId};
 use hack_plan::runs::{Run, RunOptions, Runs};
@@ -161,7 +163,7 @@ fn listed_sets(
     args: &Args,
     pkg: &Package,
     candidates: &[Feature],
-) -> Result<FeatureSets, AllocError>
+) -> Result<FeatureSets, SetsFault>
     ensures sets { (features : Loaded)
         → groups_of candidates.now ≡ are_candidates (wishes args.now)
         (known_of_package pkg.now features)
@@ -175,6 +177,16 @@ fn listed_sets(
         (known_of_package pkg.now features))
         (length (are_candidates (wishes args.now) (known_of_package pkg.now features)))
         (sets_in sets)) }
+    ensures never { (features : Loaded)
+        → groups_of candidates.now ≡ are_candidates (wishes args.now)
+        (known_of_package pkg.now features)
+        → IfOk result (λ _. ¬ AreManySets true (wishes args.now)
+        (known_of_package pkg.now features)) }
+    ensures err { (features : Loaded)
+        → groups_of candidates.now ≡ are_candidates (wishes args.now)
+        (known_of_package pkg.now features)
+        → IfErr result (IsRefusal (AreManySets true (wishes args.now)
+        (known_of_package pkg.now features))) }
 {
     let lifted = lifted_groups(alloc, args, pkg.name.as_str())?;
     let all = all_of(alloc, candidates)?;
@@ -197,7 +209,7 @@ fn sets_of(
     args: &Args,
     pkg: &Package,
     candidates: &[Feature],
-) -> Result<FeatureSets, AllocError>
+) -> Result<FeatureSets, SetsFault>
     ensures sets { (features : Loaded)
         → groups_of candidates.now ≡ are_candidates (wishes args.now)
         (known_of_package pkg.now features)
@@ -211,6 +223,16 @@ fn sets_of(
         (known_of_package pkg.now features))
         (length (are_candidates (wishes args.now) (known_of_package pkg.now features)))
         (sets_in sets)) }
+    ensures never { (features : Loaded)
+        → groups_of candidates.now ≡ are_candidates (wishes args.now)
+        (known_of_package pkg.now features)
+        → IfOk result (λ _. ¬ AreManySets args.now.feature_powerset (wishes args.now)
+        (known_of_package pkg.now features)) }
+    ensures err { (features : Loaded)
+        → groups_of candidates.now ≡ are_candidates (wishes args.now)
+        (known_of_package pkg.now features)
+        → IfErr result (IsRefusal (AreManySets args.now.feature_powerset (wishes args.now)
+        (known_of_package pkg.now features))) }
 {
     if args.feature_powerset {
         listed_sets(alloc, args, pkg, candidates)
@@ -252,8 +274,12 @@ fn kind_of(
     args: &Args,
     pkg: &Package,
     features: &Features,
-) -> Result<Kind, AllocError>
+) -> Result<Kind, SetsFault>
     ensures kind { IfOk result (IsKind (wishes args.now) (known_of_package pkg.now features.now)) }
+    ensures never { IfOk result (λ _.
+        ¬ HasTooManySets (wishes args.now) (known_of_package pkg.now features.now)) }
+    ensures err { IfErr result (IsRefusal
+        (HasTooManySets (wishes args.now) (known_of_package pkg.now features.now))) }
     ensures covered { IfOk result (λ kind. args.now.feature_powerset ≡ true
         → AreCovering (wishes args.now) (known_of_package pkg.now features.now) (runs_of kind)) }
 {
@@ -283,8 +309,14 @@ pub fn determine_runs(
     pkg: &Package,
     features: &Features,
     single: bool,
-) -> Result<(PackageRuns, Vec<Notice>), AllocError>
+) -> Result<(PackageRuns, Vec<Notice>), SetsFault>
     ensures id { IfOk result (λ answer. answer.0.id ≡ id) }
+
+    // A package is refused where it has too many sets, and else only for want of memory.
+    ensures never { IfOk result (λ _.
+        ¬ HasTooManySets (wishes args.now) (known_of_package pkg.now features.now)) }
+    ensures err { IfErr result (IsRefusal
+        (HasTooManySets (wishes args.now) (known_of_package pkg.now features.now))) }
     ensures kind { IfOk result (λ answer.
         IsKind (wishes args.now) (known_of_package pkg.now features.now) answer.0.kind) }
     ensures runs { IfOk result (λ answer.

@@ -4,6 +4,8 @@ use Rattle.hack_features.specs.Forest.{sets_of}
 use Rattle.hack_features.specs.Questions.{AreComplete}
 use Rattle.hack_features.proofs.Listing.{selection_up, selection_push}
 use Rattle.hack_features.proofs.Permitted.{complete-push}
+use Rattle.std.proofs.lemmas.Result.{err_from_is_err_and}
+use Rattle.hack_features.proofs.Many.{refusal-as, one-more}
 use Rattle.hack_features.proofs.questions.extend_one.Goals as goal
 
 pub complete-requires : goal.complete-requires
@@ -26,5 +28,14 @@ returns-then-may_extend-clause-complete g c = λ before yes'.
     c.as_slice-then-may_extend.ensures.value ∙ c.in_ok-push-2.ensures.items ∙ ap (λ l. l ++ next ∷ []) c.requires.read in
     let answer : whole (set ++ next ∷ []) ≡ true =
     ap whole (sym is) ∙ ap (λ t. t c.as_slice-then-may_extend.result.now) (sym c.may_extend.ensures.same_whole) ∙ sym c.complete.ensures ∙ yes' in
-    subst (AreComplete whole) (sym c.in_ok-push.ensures)
+    subst (AreComplete whole) (sym c.in_ok-push.ensures.ok)
     (complete-push whole all set next (omega (arith, c.requires.inside)) answer (before c.if-not-all.false))
+
+pub returns-in_err-push-clause-err : goal.returns-in_err-push-clause-err
+returns-in_err-push-clause-err g c =
+    let may : List ℕ → Bool = g.Q.Questions.may c.args.questions.now in
+    let next : ℕ = c.args.next in
+    let set : List ℕ = c.args.set.now.items in
+    let answer : may (set ++ next ∷ []) ≡ true = ap (λ s. may (s ++ next ∷ [])) (sym c.as_slice.ensures.value) ∙ sym c.may_extend.ensures.answer ∙ c.if-may_extend.true in
+    let p = err_from_is_err_and c.from_residual.result c.from_residual.ensures.1 in
+    rw (p.1, p.2) (refusal-as (one-more may next (sets_of c.args.sets.now) set answer) c.in_err-push.ensures.err)

@@ -1,5 +1,8 @@
-use Rattle.std.proofs.Common.{◌≡◌, ◌∙◌, ◌<◌, length, IfOk, Some, map, sym, ap, subst, true}
-use Rattle.std.proofs.lemmas.Result.{IfOk-weaker}
+use Rattle.std.proofs.Common.{◌≡◌, ◌∙◌, ◌<◌, length, IfOk, IfErr, Some, map, sym, ap, subst, true}
+use Rattle.std.proofs.lemmas.Result.{IfOk-weaker, IfErr-weaker}
+use Rattle.hack_features.proofs.Many.{refusal-as}
+use Rattle.hack_packages.specs.Kinds.{HasTooManySets}
+use Rattle.hack_packages.specs.CandidatesView.{known_of_package}
 use Rattle.hack_load.specs.ContextView.{context_view}
 use Rattle.hack_load.specs.declared.features.Features.{Features}
 use Rattle.hack_metadata.specs.Records.{PackageRecord}
@@ -10,7 +13,7 @@ use Rattle.hack_packages.specs.Candidates.{candidate_notes}
 use Rattle.hack_packages.specs.CandidatesView.{wishes}
 use Rattle.hack_packages.specs.Kinds.{AreRuns, AreCovering, IsDepthOne, as_each}
 use Rattle.hack_packages.specs.KindsView.{IsKind, runs_of}
-use Rattle.hack_packages.specs.ContextMembers.{known_as}
+use Rattle.hack_packages.specs.ContextMembers.{known_as, HasManyAt}
 use Rattle.hack_packages.proofs.determine.determine_kind.Goals as goal
 
 pub packages-pkg-requires : goal.packages-pkg-requires
@@ -49,3 +52,21 @@ pub returns-clause-depth_one : goal.returns-clause-depth_one
 returns-clause-depth_one c = λ (p : PackageRecord) (f : Features) ep ef.
     moved (λ (args : Args) (q : PackageRecord) (g : Features). IfOk c.determine_runs.result (λ answer. IsDepthOne (wishes args) → 0 < length (known_as q g).optional → AreRuns (as_each (wishes args)) (known_as q g) (runs_of answer.0.kind))) _ _ _ _ _ _
     c.args-2.ensures (sym ep ∙ c.packages-pkg.ensures) (sym ef ∙ c.pkg_features-features.ensures) c.determine_runs.ensures.depth_one
+
+pub returns-clause-never : goal.returns-clause-never
+returns-clause-never c =
+    IfOk-weaker c.determine_runs.result _ (λ _. ¬ HasManyAt (context_view c.args.context.now) c.args.id.index)
+    (λ answer none (many : HasManyAt (context_view c.args.context.now) c.args.id.index).
+    none (moved (λ (args : Args) (q : PackageRecord) (g : Features). HasTooManySets (wishes args) (known_as q g)) _ _ _ _ _ _
+    (sym c.args-2.ensures) (sym c.packages-pkg.ensures ∙ many.known) (sym c.pkg_features-features.ensures ∙ many.loaded) many.many)) c.determine_runs.ensures.never
+
+pub returns-clause-err : goal.returns-clause-err
+returns-clause-err c =
+    IfErr-weaker c.determine_runs.result _ _
+    (λ e. refusal-as (λ many. record {
+      pkg = package_view c.packages-pkg.result.now;
+      features = c.pkg_features-features.result.now;
+      known = c.packages-pkg.ensures;
+      loaded = c.pkg_features-features.ensures;
+      many = subst (λ (args : Args). HasTooManySets (wishes args) (known_as (package_view c.packages-pkg.result.now) c.pkg_features-features.result.now)) c.args-2.ensures many;
+    })) c.determine_runs.ensures.err

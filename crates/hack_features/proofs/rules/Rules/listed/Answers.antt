@@ -1,28 +1,41 @@
 use Rattle.std.proofs.Common.{IsTrue}
-use Rattle.std.proofs.lemmas.Result.{IfOk-weaker}
+use Rattle.std.proofs.lemmas.Result.{IfOk-weaker, IfErr-weaker}
 use Rattle.hack_features.specs.declared.forest.Pruned.{Pruned}
 use Rattle.hack_features.specs.Sets.{IsListing}
 use Rattle.hack_features.specs.Forest.{sets_in}
 use Rattle.hack_features.specs.Rules.{IsListed, IsPermitted, AreCovers}
-use Rattle.hack_features.specs.Questions.{IsWhole, IsCheap}
+use Rattle.hack_features.specs.Questions.{IsWhole, IsCheap, IsRefusal, AreTooMany}
+use Rattle.hack_features.proofs.Many.{refusal-as, too-many-as}
 use Rattle.hack_features.specs.View.{choice_of, size_of, may_of, whole_of}
-use Rattle.hack_features.proofs.RuleLemmas.{tables_of, listing_of, covers_of, cheap_of}
+use Rattle.hack_features.proofs.RuleLemmas.{tables_of, listing_of, covers_of, cheap_of, permitted_iff}
 use Rattle.hack_features.proofs.rules.Rules.listed.Goals as goal
 
 pub returns-clause-sets : goal.returns-clause-sets
 returns-clause-sets c =
     let r = c.args.self.now in
-    IfOk-weaker c.pruned.result (λ (p : Pruned). IsListing (size_of r) (IsWhole (may_of r) (whole_of r)) (sets_in p.sets)) (λ (p : Pruned). IsListing (size_of r) (IsListed (choice_of r)) (sets_in p.sets))
-    (λ (p : Pruned). listing_of r (tables_of r) (sets_in p.sets)) c.pruned.ensures.sets
+    IfOk-weaker c.pruned_within.result (λ (p : Pruned). IsListing (size_of r) (IsWhole (may_of r) (whole_of r)) (sets_in p.sets)) (λ (p : Pruned). IsListing (size_of r) (IsListed (choice_of r)) (sets_in p.sets))
+    (λ (p : Pruned). listing_of r (tables_of r) (sets_in p.sets)) c.pruned_within.ensures.sets
 
 pub returns-clause-few : goal.returns-clause-few
 returns-clause-few c =
     let r = c.args.self.now in
-    IfOk-weaker c.pruned.result (λ (p : Pruned). IsCheap (λ s. IsTrue (may_of r s)) (size_of r) p.asked) (λ (p : Pruned). IsCheap (IsPermitted (choice_of r)) (size_of r) p.asked)
-    (λ (p : Pruned). cheap_of r (tables_of r) p.asked) c.pruned.ensures.few
+    IfOk-weaker c.pruned_within.result (λ (p : Pruned). IsCheap (λ s. IsTrue (may_of r s)) (size_of r) p.asked) (λ (p : Pruned). IsCheap (IsPermitted (choice_of r)) (size_of r) p.asked)
+    (λ (p : Pruned). cheap_of r (tables_of r) p.asked) c.pruned_within.ensures.few
 
 pub returns-clause-covered : goal.returns-clause-covered
 returns-clause-covered c =
     let r = c.args.self.now in
-    IfOk-weaker c.pruned.result (λ (p : Pruned). IsListing (size_of r) (IsWhole (may_of r) (whole_of r)) (sets_in p.sets)) (λ (p : Pruned). AreCovers (choice_of r) (size_of r) (sets_in p.sets))
-    (λ (p : Pruned) (l : IsListing (size_of r) (IsWhole (may_of r) (whole_of r)) (sets_in p.sets)). covers_of r (tables_of r) (sets_in p.sets) (listing_of r (tables_of r) (sets_in p.sets) l)) c.pruned.ensures.sets
+    IfOk-weaker c.pruned_within.result (λ (p : Pruned). IsListing (size_of r) (IsWhole (may_of r) (whole_of r)) (sets_in p.sets)) (λ (p : Pruned). AreCovers (choice_of r) (size_of r) (sets_in p.sets))
+    (λ (p : Pruned) (l : IsListing (size_of r) (IsWhole (may_of r) (whole_of r)) (sets_in p.sets)). covers_of r (tables_of r) (sets_in p.sets) (listing_of r (tables_of r) (sets_in p.sets) l)) c.pruned_within.ensures.sets
+
+pub returns-clause-never : goal.returns-clause-never
+returns-clause-never c =
+    let r = c.args.self.now in
+    IfOk-weaker c.pruned_within.result (λ (p : Pruned). ¬ AreTooMany (size_of r) (λ s. IsTrue (may_of r s))) (λ (p : Pruned). ¬ AreTooMany (size_of r) (IsPermitted (choice_of r)))
+    (λ (p : Pruned) none many. none (too-many-as (size_of r) (IsPermitted (choice_of r)) (λ s. IsTrue (may_of r s)) (λ s sel. (permitted_iff r (tables_of r) s sel).1) many)) c.pruned_within.ensures.never
+
+pub returns-clause-err : goal.returns-clause-err
+returns-clause-err c =
+    let r = c.args.self.now in
+    IfErr-weaker c.pruned_within.result (IsRefusal (AreTooMany (size_of r) (λ s. IsTrue (may_of r s)))) (IsRefusal (AreTooMany (size_of r) (IsPermitted (choice_of r))))
+    (λ e. refusal-as (too-many-as (size_of r) (λ s. IsTrue (may_of r s)) (IsPermitted (choice_of r)) (λ s sel. (permitted_iff r (tables_of r) s sel).0))) c.pruned_within.ensures.err
