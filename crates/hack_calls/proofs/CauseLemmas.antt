@@ -3,6 +3,9 @@ use Rattle.std.proofs.Common.{◌≡◌, refl, sym, ap, subst, ◌∙◌, ◌⊎
 use Rattle.std.proofs.lemmas.List.{map-append}
 use Rattle.hack_load.specs.Contexts.{ContextRecord}
 use Rattle.hack_packages.specs.ContextMembers.{AreChosen}
+use Rattle.hack_features.specs.Questions.{IsRefusal}
+use Rattle.hack_features.specs.declared.fault.SetsFault.{SetsFault}
+use Rattle.hack_features.specs.declared.fault.SetsFault.TheVariants as sets
 use Rattle.hack_plan.specs.Quads.{HasTooMany}
 use Rattle.hack_plan.specs.declared.places.PlacesFault.{PlacesFault}
 use Rattle.hack_plan.specs.declared.places.PlacesFault.TheVariants as places
@@ -13,9 +16,9 @@ use Rattle.hack_runs.specs.declared.parts.PlanPackage.{PlanPackage}
 use Rattle.hack_base.specs.Notes.{Note, note_of}
 use Rattle.hack_base.specs.declared.notice.Notice.{Notice}
 use Rattle.hack_versions.specs.declared.version.Version.{Version}
-use Rattle.hack_calls.specs.Calls.{ArePlanned, IsSceneOf}
+use Rattle.hack_calls.specs.Calls.{ArePlanned, IsSceneOf, HaveMany}
 use Rattle.hack_calls.specs.Made.{IsCause, IsRangeFault, run_counts}
-use Rattle.hack_calls.specs.Turned.{of_places}
+use Rattle.hack_calls.specs.Turned.{of_places, of_sets}
 use Rattle.hack_calls.specs.declared.fault.PlanFault.{PlanFault}
 use Rattle.hack_calls.specs.declared.fault.PlanFault.TheVariants as fault
 
@@ -44,7 +47,7 @@ pub places-cause : (cx : ContextRecord) (ids : List ℕ) (single : Bool) (notes 
     → ArePlanned cx single ids (map package_view packages) on_features → stable ≡ latest → (e ≡ places.Memory) ⊎ ((e ≡ places.TooManyRuns) × HasTooMany s (counts_in packages) stable) → (of_places e ≡ fault.Memory) ⊎ IsCause cx latest (of_places e)
 places-cause cx ids single notes s stable latest packages on_features places.Memory chosen of_call planned newest h = inl refl
 places-cause cx ids single notes s stable latest packages on_features places.TooManyRuns chosen of_call planned newest (inl e) = absurd (cc)
-places-cause cx ids single notes s stable latest packages on_features places.TooManyRuns chosen of_call planned newest (inr h) = inr (record {
+places-cause cx ids single notes s stable latest packages on_features places.TooManyRuns chosen of_call planned newest (inr h) = inr (inl (record {
   ids = ids;
   single = single;
   notes = notes;
@@ -55,7 +58,13 @@ places-cause cx ids single notes s stable latest packages on_features places.Too
   of_call = of_call;
   planned = planned;
   many = subst (λ counts. HasTooMany s counts latest) (sym (counts-same packages)) (subst (HasTooMany s (counts_in packages)) newest h.1);
-})
+}))
+
+-- too many sets of a package are a cause
+pub sets-cause : (cx : ContextRecord) (ids : List ℕ) (single : Bool) (notes : List Note) (latest : Option Version) (e : SetsFault) → AreChosen cx ids single notes → IsRefusal (HaveMany cx ids) e → (of_sets e ≡ fault.Memory) ⊎ IsCause cx latest (of_sets e)
+sets-cause cx ids single notes latest sets.Memory chosen h = inl refl
+sets-cause cx ids single notes latest sets.TooMany chosen (inl e) = absurd (cc)
+sets-cause cx ids single notes latest sets.TooMany chosen (inr h) = inr (inr (record { ids = ids; single = single; notes = notes; chosen = chosen; many = h.1 }))
 
 -- notices in the order of the parts
 pub all-told : (old features range left n1 n2 n3 : List Notice) (notes : List Note) → n1 ≡ old ++ features → n2 ≡ n1 ++ range → n3 ≡ n2 ++ left → map note_of left ≡ notes

@@ -11,12 +11,12 @@ use Rattle.hack_load.specs.Contexts.{ContextRecord, package_at, is_private_at, r
 use Rattle.hack_metadata.specs.Records.{PackageRecord}
 use Rattle.hack_metadata.specs.View.{place_at}
 use Rattle.hack_metadata.specs.declared.resolve.PackageId.{PackageId}
-use Rattle.hack_packages.specs.ContextMembers.{member_at, AreChosen}
+use Rattle.hack_packages.specs.ContextMembers.{member_at, AreChosen, HasManyAt}
 use Rattle.hack_packages.specs.Members.{Member, Choosing, taken, left, ends, Keeps, IsMatched, IsAbout, members_without_names, first_called}
 use Rattle.hack_base.specs.Notes.{Note}
 use Rattle.hack_versions.specs.declared.version.VersionFault.{VersionFault}
 use Rattle.hack_versions.specs.declared.group.PackageVersion.{PackageVersion}
-use Rattle.hack_calls.specs.Calls.{IsMember, AreMembers, grows, IsPlanned, ArePlanned, adds, IsBadOwn, HasBadOwn}
+use Rattle.hack_calls.specs.Calls.{IsMember, AreMembers, grows, IsPlanned, ArePlanned, begins, adds, HaveMany, IsBadOwn, HasBadOwn}
 use Rattle.hack_runs.specs.View.{PackageView}
 
 -- one id more
@@ -32,6 +32,19 @@ members-more cx ids i d lt members member is before = subst (λ ps. AreMembers c
 pub planned-more : (cx : ContextRecord) (single : Bool) (ids : List PackageId) (i : ℕ) (d : PackageId) → i < length ids → (packages : List PackageView) (k : PackageView) (notes more : List Note) → IsPlanned cx single (get_or ids i d).index k more
     → ArePlanned cx single (map place_at (take i ids)) packages notes → ArePlanned cx single (map place_at (take (i + 1) ids)) (packages ++ k ∷ []) (notes ++ more)
 planned-more cx single ids i d lt packages k notes more is before = subst (λ ps. ArePlanned cx single ps (packages ++ k ∷ []) (notes ++ more)) (sym (id-more ids i d lt)) (adds before is)
+
+-- a package that has too many sets is one of them
+pub many-at : (cx : ContextRecord) (ids : List PackageId) (i : ℕ) (d : PackageId) → i < length ids → HasManyAt cx (get_or ids i d).index → HaveMany cx (map place_at ids)
+many-at cx ids i d lt many = ((get_or ids i d).index, Contains-map place_at ids (get_or ids i d) (i, lt, get_or_default ids i (get_or ids i d) d lt), many)
+
+-- none of the planned packages has too many sets
+pub few-planned : (cx : ContextRecord) (single : Bool) (ids : List ℕ) (packages : List PackageView) (notes : List Note) → ArePlanned cx single ids packages notes → (id : ℕ) → Contains ids id → HasManyAt cx id → ⊥
+few-planned cx single ids packages notes begins id c many = Contains-nil id c
+few-planned cx single _ _ _ (adds {ids} {packages} {notes} {id = last} {k} {more} before is) id c many =
+    elim (Contains-push_cases ids last id c) [
+      | inl w ↦ few-planned cx single ids packages notes before id w many
+      | inr e ↦ is.few (subst (λ p. HasManyAt cx p) e many)
+    ]
 
 -- a package whose own version can't be read is one of them
 pub bad-at : (cx : ContextRecord) (ids : List PackageId) (i : ℕ) (d : PackageId) → i < length ids → (e : VersionFault) → IsBadOwn cx.args.version_range (rust_version_at cx (get_or ids i d).index) e → HasBadOwn cx (map place_at ids) e

@@ -1,5 +1,5 @@
 -- A plan leaves no cause: what a cause says of some choice, scene and runs, it would say of the plan's own.
-use Rattle.std.proofs.Common.{◌≡◌, subst, List, ℕ, Bool, Option, Some, None, Result, Ok, String, Global}
+use Rattle.std.proofs.Common.{◌≡◌, inl, inr, Contains, subst, List, ℕ, Bool, Option, Some, None, Result, Ok, String, Global}
 use Rattle.hack_load.specs.Contexts.{ContextRecord}
 use Rattle.hack_packages.specs.ContextMembers.{AreChosen, IsChoiceFault}
 use Rattle.hack_packages.specs.declared.fault.PackagesFault.{PackagesFault}
@@ -15,6 +15,7 @@ use Rattle.hack_calls.specs.Calls.{ArePlanned, HasBadOwn, IsSceneOf}
 use Rattle.hack_calls.specs.Made.{IsCause, IsCauseBy, IsCauseOf, run_counts}
 use Rattle.hack_calls.specs.declared.fault.PlanFault.{PlanFault}
 use Rattle.hack_calls.specs.declared.fault.PlanFault.TheVariants as fault
+use Rattle.hack_calls.proofs.ChosenLemmas.{few-planned}
 use Rattle.hack_calls.proofs.OnceLemmas.{chosen-once, counts-once, scenes-agree}
 use Rattle.hack_calls.proofs.SceneLemmas.{fault-same, many-same}
 
@@ -44,7 +45,10 @@ no-cause cx latest h (fault.Range e) bad =
     let ids = chosen-once cx bad.ids h.ids bad.single h.single bad.notes h.notes bad.chosen h.chosen in
     let agree = scenes-agree cx h.ids bad.scene h.scene (subst (λ l. IsSceneOf cx l bad.scene) ids bad.of_call) h.of_call in
     h.in_range e (fault-same bad.scene h.scene agree latest e bad.bad)
-no-cause cx latest h fault.TooManyRuns bad =
+no-cause cx latest h fault.TooManyRuns (inr bad) =
+    let ids = chosen-once cx bad.ids h.ids bad.single h.single bad.notes h.notes bad.chosen h.chosen in
+    few-planned cx h.single h.ids h.packages h.on_features h.planned bad.many.0 (subst (λ l. Contains l bad.many.0) ids bad.many.1) bad.many.2
+no-cause cx latest h fault.TooManyRuns (inl bad) =
     let ids = chosen-once cx bad.ids h.ids bad.single h.single bad.notes h.notes bad.chosen h.chosen in
     let agree = scenes-agree cx h.ids bad.scene h.scene (subst (λ l. IsSceneOf cx l bad.scene) ids bad.of_call) h.of_call in
     let planned = subst (λ l. ArePlanned cx bad.single l bad.packages bad.on_features) ids bad.planned in

@@ -17,7 +17,7 @@ use Rattle.hack_versions.specs.VersionTexts.{IsVersionText, IsVersionFault}
 use Rattle.hack_uses.specs.declared.behavior.WorkspaceBehavior.TheVariants.{Cargo}
 use Rattle.hack_packages.specs.Candidates.{candidates, candidate_notes}
 use Rattle.hack_packages.specs.CandidatesView.{wishes}
-use Rattle.hack_packages.specs.ContextMembers.{known_as}
+use Rattle.hack_packages.specs.ContextMembers.{known_as, HasManyAt}
 use Rattle.hack_packages.specs.Kinds.{AreRuns, AreCovering}
 use Rattle.hack_plan.specs.Runs.{Plain}
 use Rattle.hack_plan.specs.Scenes.{slots_of}
@@ -116,7 +116,12 @@ pub record IsPlanned (cx : ContextRecord) (single : Bool) (id : ℕ) (k : Packag
   pub candidates : (k.candidates ≡ candidates (wishes cx.args) (known_as pkg features)) ⊎ (k.runs ≡ Plain ∷ [])
   pub runs : AreRuns (wishes cx.args) (known_as pkg features) k.runs
   pub covered : cx.args.feature_powerset ≡ true → AreCovering (wishes cx.args) (known_as pkg features) k.runs
+  pub few : ¬ HasManyAt cx id
   pub told : notes ≡ candidate_notes single (wishes cx.args) (known_as pkg features)
+
+-- one of the packages has too many sets for a number each
+abbrev pub HaveMany : ContextRecord → List ℕ → Type 0
+HaveMany cx ids = (id : ℕ) × Contains ids id × HasManyAt cx id
 
 -- the chosen packages, in order, and what the user is told of their features
 pub data ArePlanned (cx : ContextRecord) (single : Bool) : List ℕ → List PackageView → List Note → Type 0 where

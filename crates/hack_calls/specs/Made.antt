@@ -1,5 +1,5 @@
 -- The plan of a call, and why there is none.
-use Rattle.std.specs.Prelude.{ℕ, ◌≡◌, ◌++◌, List, [], map, length, Bool, Option, Some, None, Result, Ok, Err}
+use Rattle.std.specs.Prelude.{ℕ, ◌≡◌, ◌⊎◌, ◌++◌, List, [], map, length, Bool, Option, Some, None, Result, Ok, Err}
 use Rattle.std.specs.declared.string.String.{String}
 use Rattle.std.specs.declared.alloc.Global.{Global}
 use Rattle.hack_base.specs.Names.{Name}
@@ -14,7 +14,7 @@ use Rattle.hack_plan.specs.Scenes.{AreVersions, AreNotices, IsVersionsFault}
 use Rattle.hack_plan.specs.Spans.{versions_of}
 use Rattle.hack_plan.specs.declared.versions.Scene.{Scene}
 use Rattle.hack_plan.specs.declared.versions.Versions.{Versions}
-use Rattle.hack_calls.specs.Calls.{IsSceneOf, ArePlanned, HasBadOwn, call_of, left_out_notes}
+use Rattle.hack_calls.specs.Calls.{IsSceneOf, ArePlanned, HasBadOwn, HaveMany, call_of, left_out_notes}
 use Rattle.hack_runs.specs.Plans.{AreLaid}
 use Rattle.hack_runs.specs.Prepared.{ArePrepared}
 use Rattle.hack_runs.specs.View.{PackageView, PlanView}
@@ -99,6 +99,14 @@ pub record AreTooManyRuns (cx : ContextRecord) (latest : Option Version) : Type 
   pub planned : ArePlanned cx single ids packages on_features
   pub many : HasTooMany scene (run_counts packages) latest
 
+-- a chosen package has more than 4294967295 sets of features
+pub record HaveTooManySets (cx : ContextRecord) : Type 0 where
+  pub ids : List ℕ
+  pub single : Bool
+  pub notes : List Note
+  pub chosen : AreChosen cx ids single notes
+  pub many : HaveMany cx ids
+
 -- why a call with a subcommand has no plan, where `stable` is this version
 abbrev pub IsCause : ContextRecord → Option Version → PlanFault → Type 0
 IsCause cx latest fault.Memory = ⊥
@@ -106,7 +114,7 @@ IsCause cx latest (fault.Stable text) = ⊥
 IsCause cx latest (fault.Packages e) = IsChoiceFault cx e
 IsCause cx latest (fault.Version e) = IsBadVersion cx e
 IsCause cx latest (fault.Range e) = IsBadRange cx latest e
-IsCause cx latest fault.TooManyRuns = AreTooManyRuns cx latest
+IsCause cx latest fault.TooManyRuns = AreTooManyRuns cx latest ⊎ HaveTooManySets cx
 
 -- why it has none, by what was answered of `stable`: its fault, or one of these causes
 abbrev pub IsCauseBy : Result (Option Version) (String Global) → ContextRecord → PlanFault → Type 0

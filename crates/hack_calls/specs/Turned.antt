@@ -1,4 +1,6 @@
 -- Faults of a plan's parts as faults of the plan.
+use Rattle.hack_features.specs.declared.fault.SetsFault.{SetsFault}
+use Rattle.hack_features.specs.declared.fault.SetsFault.TheVariants as sets
 use Rattle.hack_packages.specs.declared.fault.PackagesFault.{PackagesFault}
 use Rattle.hack_packages.specs.declared.fault.PackagesFault.TheVariants as packages
 use Rattle.hack_plan.specs.declared.places.PlacesFault.{PlacesFault}
@@ -35,3 +37,8 @@ of_range range.Memory = fault.Memory
 abbrev pub of_places : PlacesFault → PlanFault
 of_places places.TooManyRuns = fault.TooManyRuns
 of_places places.Memory = fault.Memory
+
+-- that a package has too many sets
+abbrev pub of_sets : SetsFault → PlanFault
+of_sets sets.TooMany = fault.TooManyRuns
+of_sets sets.Memory = fault.Memory

@@ -1,20 +1,22 @@
 //! The chosen packages as a plan has them.
 
-ghost use Rattle.std.specs.Prelude.{◌≡◌, All, Contains, IfOk, map};
+ghost use Rattle.std.specs.Prelude.{◌≡◌, All, Contains, IfOk, IfErr, map};
 ghost use Rattle.hack_features.specs.Feature.{groups_of};
 ghost use Rattle.hack_base.specs.Names.{names_of, names_behind};
+ghost use Rattle.hack_features.specs.Questions.{IsRefusal};
+ghost use Rattle.hack_packages.specs.ContextMembers.{HasManyAt};
 ghost use Rattle.hack_packages.specs.KindsView.{candidates_in, runs_of};
 ghost use Rattle.hack_plan.specs.RunsView.{runs_in};
 ghost use Rattle.hack_metadata.specs.View.{place_at};
 ghost use Rattle.hack_load.specs.ContextView.{context_view};
 ghost use Rattle.hack_base.specs.Notes.{note_of};
 ghost use Rattle.hack_runs.specs.View.{package_view};
-ghost use Rattle.hack_calls.specs.Calls.{IsPlanned, ArePlanned};
+ghost use Rattle.hack_calls.specs.Calls.{IsPlanned, ArePlanned, HaveMany};
 
 use crate::words::given_path;
 use hack_base::copies::copies;
 use hack_base::notice::Notice;
-use hack_features::Feature;
+use hack_features::{Feature, SetsFault};
 use hack_load::context::Context;
 use hack_load::process::features_for;
 use hack_metadata::metadata::PackageId;
@@ -42,9 +44,10 @@ fn chosen_package(
     cx: &Context,
     id: PackageId,
     single: bool,
-) -> Result<(PlanPackage, Vec<Notice>), AllocError>
+) -> Result<(PlanPackage, Vec<Notice>), SetsFault>
     requires { Contains (context_view cx.now).metadata.workspace_members id.index }
-    ensures { IfOk result (λ answer. IsPlanned (context_view cx.now) single id.index
+    ensures err { IfErr result (IsRefusal (HasManyAt (context_view cx.now) id.index)) }
+    ensures ok { IfOk result (λ answer. IsPlanned (context_view cx.now) single id.index
         (package_view answer.0) (map note_of answer.1.items)) }
 {
     let _ = cx.workspace_members();
@@ -72,10 +75,12 @@ pub(crate) fn chosen_packages(
     cx: &Context,
     ids: &[PackageId],
     single: bool,
-) -> Result<(Vec<PlanPackage>, Vec<Notice>), AllocError>
+) -> Result<(Vec<PlanPackage>, Vec<Notice>), SetsFault>
     requires { All (λ id. Contains (context_view cx.now).metadata.workspace_members id.index)
         ids.now }
-    ensures { IfOk result (λ answer. ArePlanned (context_view cx.now) single (map place_at ids.now)
+    ensures err { IfErr result
+        (IsRefusal (HaveMany (context_view cx.now) (map place_at ids.now))) }
+    ensures ok { IfOk result (λ answer. ArePlanned (context_view cx.now) single (map place_at ids.now)
         (map package_view answer.0.items) (map note_of answer.1.items)) }
 {
     let mut packages = Vec::with_capacity(alloc, ids.len())?;

@@ -3,6 +3,7 @@
 ghost use Rattle.std.specs.Prelude.{◌≡◌};
 ghost use Rattle.hack_calls.specs.Turned.{of_packages, of_version, of_range, of_places};
 
+use hack_features::SetsFault;
 use hack_packages::fault::PackagesFault;
 use hack_plan::places::PlacesFault;
 use hack_versions::rustup::RangeFault;
@@ -27,7 +28,7 @@ pub enum PlanFault {
     /// The range is refused, or a package under it.
     #[error("{0}")]
     Range(RangeFault),
-    /// There are more than 4294967295 places.
+    /// There are more than 4294967295 places, or a chosen package has as many sets of features.
     #[error("too many runs")]
     TooManyRuns,
 }
@@ -51,6 +52,20 @@ impl<T: Drop> From<AllocFailed<T>> for PlanFault {
 
     fn from(_: AllocFailed<T>) -> PlanFault {
         PlanFault::Memory
+    }
+}
+
+impl From<SetsFault> for PlanFault {
+    ghost use Rattle.std.specs.Prelude.{◌≡◌};
+    ghost use Rattle.hack_calls.specs.Turned.{of_sets};
+
+    ghost from_gives = { λ fault e. e ≡ of_sets fault };
+
+    fn from(fault: SetsFault) -> PlanFault {
+        match fault {
+            SetsFault::TooMany => PlanFault::TooManyRuns,
+            SetsFault::Memory => PlanFault::Memory,
+        }
     }
 }
 

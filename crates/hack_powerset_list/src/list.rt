@@ -68,14 +68,14 @@ pub fn powerset_list<R: Read, W: Write>(
     };
     let features = features_of(alloc, &map)?;
     let candidates = all_of(alloc, features.as_slice())?;
-    let rules = rules_for(
+    let mut rules = rules_for(
         alloc,
         &wishes,
         features.as_slice(),
         candidates.as_slice(),
         &map,
     )?;
-    match write_lines(alloc, &wishes, features.as_slice(), &rules, out) {
+    match write_lines(alloc, &wishes, features.as_slice(), &mut rules, out) {
         Ok(()) => Ok(()),
         Err(error) => Err(ListFault::of_error(&error, ListFault::Write)),
     }

@@ -5,7 +5,7 @@ ghost use Rattle.std.specs.Prelude.{length, IfOk, OnOk, OnErr, IsTrue, MatchOpti
 ghost use Rattle.std.specs.Prelude.{string_bytes};
 ghost use Rattle.hack_features.specs.Feature.{name_of};
 ghost use Rattle.hack_features.specs.Sets.{IsSelection, items_at};
-ghost use Rattle.hack_features.specs.View.{may_of, size_of};
+ghost use Rattle.hack_features.specs.View.{may_of, size_of, whole_of};
 ghost use Rattle.hack_base.specs.Writes.{AppendsFront};
 ghost use Rattle.hack_plan.specs.Runs.{Set};
 ghost use Rattle.hack_powerset_list.specs.Lines.{run_line};
@@ -36,19 +36,22 @@ fn is_full(rules: &Rules, positions: usize) -> bool
 /// The last listed set that is made of the set in the room and positions below `limit`.
 pub fn last_below(
     alloc: Global,
-    rules: &Rules,
+    rules: &mut Rules<'_>,
     room: &mut SetRoom,
     limit: usize,
 ) -> Result<Option<Vec<usize>>, AllocError>
-    requires room { most_in room.old ≡ size_of rules.now }
-    requires set { IsSelection (size_of rules.now) (set_in room.old) }
+    requires room { most_in room.old ≡ size_of rules.old }
+    requires set { IsSelection (size_of rules.old) (set_in room.old) }
     requires above { All (λ p. limit ≤ p) (set_in room.old) }
-    requires limit { limit ≤ size_of rules.now }
+    requires limit { limit ≤ size_of rules.old }
     ensures last { IfOk result (λ last.
-        MatchOption last (listed_below rules.now limit (set_in room.old) ≡ [])
-        (λ set. EndsIn (listed_below rules.now limit (set_in room.old)) set.items)) }
+        MatchOption last (listed_below rules.old limit (set_in room.old) ≡ [])
+        (λ set. EndsIn (listed_below rules.old limit (set_in room.old)) set.items)) }
     ensures kept { OnOk result (set_in room.new ≡ set_in room.old) }
     ensures room { most_in room.new ≡ most_in room.old }
+    ensures same_size { size_of rules.new ≡ size_of rules.old }
+    ensures same_may { may_of rules.new ≡ may_of rules.old }
+    ensures same_whole { whole_of rules.new ≡ whole_of rules.old }
 {
     if is_full(rules, room.set().len()) {
         return Ok(None);
@@ -74,9 +77,8 @@ pub fn last_below(
 
 /// What the lines of sets are printed from.
 #[derive(Drop)]
-pub struct SetLines<'a, 'f> {
+pub struct SetLines<'a> {
     pub features: &'a [Feature],
-    pub rules: &'a Rules<'f>,
     pub texts: &'a Texts,
     /// The set whose line stands elsewhere.
     pub last: &'a [usize],
@@ -112,7 +114,8 @@ fn print_set<W: Write>(
 
 /// Prints the line of the set of `least` and others, where it is listed and isn't the last one.
 fn print_other<W: Write>(
-    lines: &SetLines<'_, '_>,
+    lines: &SetLines<'_>,
+    rules: &Rules<'_>,
     set: &[usize],
     least: usize,
     others: &str,
@@ -121,20 +124,20 @@ fn print_other<W: Write>(
 ) -> io::Result<()>
     requires texts { AreTexts (map name_of lines.now.features.now) lines.now.texts.now }
     requires least { least < length lines.now.features.now }
-    requires set { IsSelection (size_of lines.now.rules.now) set.now }
+    requires set { IsSelection (size_of rules.now) set.now }
     ensures ok { (s : List ℕ) → set.now ≡ least ∷ s
         → others.now ≡ others_text (items_at (map name_of lines.now.features.now) s)
         → OnOk result (Prints (W.contents out.old) (W.contents out.new)
         (string_bytes page.old) (string_bytes page.new)
         (set_lines (map name_of lines.now.features.now)
-        (filter (is_other lines.now.rules.now lines.now.last.now) (set.now ∷ [])))) }
+        (filter (is_other rules.now lines.now.last.now) (set.now ∷ [])))) }
     ensures err { (s : List ℕ) → set.now ≡ least ∷ s
         → others.now ≡ others_text (items_at (map name_of lines.now.features.now) s)
         → OnErr result (AppendsFront (W.contents out.old) (W.contents out.new)
         (string_bytes page.old ++ set_lines (map name_of lines.now.features.now)
-        (filter (is_other lines.now.rules.now lines.now.last.now) (set.now ∷ [])))) }
+        (filter (is_other rules.now lines.now.last.now) (set.now ∷ [])))) }
 {
-    if lines.rules.complete(set) && set != lines.last {
+    if rules.complete(set) && set != lines.last {
         print_set(lines.features, lines.texts, least, others, page, out)
     } else {
         Ok(())
@@ -166,7 +169,8 @@ fn longer(
 /// and positions below `limit`. The names of that set stand in `others`.
 pub fn print_below<W: Write>(
     alloc: Global,
-    lines: &SetLines<'_, '_>,
+    lines: &SetLines<'_>,
+    rules: &mut Rules<'_>,
     room: &mut SetRoom,
     others: &str,
     limit: usize,
@@ -174,34 +178,37 @@ pub fn print_below<W: Write>(
     out: &mut W,
 ) -> io::Result<()>
     requires texts { AreTexts (map name_of lines.now.features.now) lines.now.texts.now }
-    requires size { size_of lines.now.rules.now ≡ length lines.now.features.now }
-    requires room { most_in room.old ≡ size_of lines.now.rules.now }
-    requires set { IsSelection (size_of lines.now.rules.now) (set_in room.old) }
+    requires size { size_of rules.old ≡ length lines.now.features.now }
+    requires room { most_in room.old ≡ size_of rules.old }
+    requires set { IsSelection (size_of rules.old) (set_in room.old) }
     requires above { All (λ p. limit ≤ p) (set_in room.old) }
-    requires limit { limit ≤ size_of lines.now.rules.now }
+    requires limit { limit ≤ size_of rules.old }
     requires others { others.now
         ≡ others_text (items_at (map name_of lines.now.features.now) (set_in room.old)) }
     ensures ok { OnOk result (Prints (W.contents out.old) (W.contents out.new)
         (string_bytes page.old) (string_bytes page.new)
         (set_lines (map name_of lines.now.features.now)
-        (filter (is_other lines.now.rules.now lines.now.last.now)
-        (below (may_of lines.now.rules.now) limit (set_in room.old))))) }
+        (filter (is_other rules.old lines.now.last.now)
+        (below (may_of rules.old) limit (set_in room.old))))) }
     ensures err { OnErr result (AppendsFront (W.contents out.old) (W.contents out.new)
         (string_bytes page.old ++ set_lines (map name_of lines.now.features.now)
-        (filter (is_other lines.now.rules.now lines.now.last.now)
-        (below (may_of lines.now.rules.now) limit (set_in room.old))))) }
+        (filter (is_other rules.old lines.now.last.now)
+        (below (may_of rules.old) limit (set_in room.old))))) }
     ensures kept { OnOk result (set_in room.new ≡ set_in room.old) }
     ensures room { most_in room.new ≡ most_in room.old }
+    ensures same_size { size_of rules.new ≡ size_of rules.old }
+    ensures same_may { may_of rules.new ≡ may_of rules.old }
+    ensures same_whole { whole_of rules.new ≡ whole_of rules.old }
 {
     for p in 0..limit {
-        if !lines.rules.may_begin(p, room.set()) {
+        if !rules.may_begin(p, room.set()) {
             continue;
         }
         room.put(p);
-        print_other(lines, room.set(), p, others, page, out)?;
-        if p > 0 && !is_full(lines.rules, room.set().len()) {
+        print_other(lines, rules, room.set(), p, others, page, out)?;
+        if p > 0 && !is_full(rules, room.set().len()) {
             let longer = longer(alloc, lines.features, lines.texts, p, others)?;
-            print_below(alloc, lines, room, longer.as_str(), p, page, out)?;
+            print_below(alloc, lines, rules, room, longer.as_str(), p, page, out)?;
         }
         room.take();
     }

@@ -12,8 +12,8 @@ use Rattle.hack_calls.specs.Calls.{given_path}
 use Rattle.hack_calls.proofs.PlanLemmas.{of-kind}
 use Rattle.hack_calls.proofs.chosen.chosen_package.Goals as goal
 
-pub returns : goal.returns
-returns c =
+pub returns-clause-ok : goal.returns-clause-ok
+returns-clause-ok c =
     let cx = context_view c.args.cx.now in
     let pkg = package_view c.packages-pkg.result.now in
     let features = c.pkg_features.result.now in
@@ -34,5 +34,6 @@ returns c =
       candidates = of-kind (wishes cx.args) (known_as pkg features) c.in_ok-found.found.kind (groups_of c.in_ok-candidates.candidates.items) (runs_in c.in_ok-candidates.runs) parts.candidates parts.runs (found.kind pkg features known loaded);
       runs = subst (AreRuns (wishes cx.args) (known_as pkg features)) (sym parts.runs) (found.runs pkg features known loaded);
       covered = λ powerset. subst (AreCovering (wishes cx.args) (known_as pkg features)) (sym parts.runs) (found.covered pkg features known loaded powerset);
+      few = found.never;
       told = found.notices pkg features known loaded;
     }

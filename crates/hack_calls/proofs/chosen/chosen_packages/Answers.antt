@@ -1,11 +1,13 @@
 use Rattle.std.proofs.Common.{◌∙◌, ◌+◌, ◌++◌, [], ◌∷◌, sym, ap, subst, take, map}
 use Rattle.std.proofs.lemmas.List.{map-append}
+use Rattle.std.proofs.lemmas.Result.{err_from_is_err_and}
+use Rattle.hack_features.proofs.Many.{refusal-as}
 use Rattle.hack_load.specs.ContextView.{context_view}
 use Rattle.hack_metadata.specs.View.{place_at}
 use Rattle.hack_runs.specs.View.{package_view}
 use Rattle.hack_base.specs.Notes.{note_of}
 use Rattle.hack_calls.specs.Calls.{ArePlanned, begins}
-use Rattle.hack_calls.proofs.ChosenLemmas.{planned-more}
+use Rattle.hack_calls.proofs.ChosenLemmas.{planned-more, many-at}
 use Rattle.hack_calls.proofs.chosen.chosen_packages.Goals as goal
 
 pub loop-id-init : goal.loop-id-init
@@ -23,4 +25,9 @@ loop-id-preserved c =
     let notices = ap (map note_of) c.in_ok-append.ensures.items ∙ map-append note_of c.loop-id.notices.items c.in_ok-package.told.items in
     subst (λ ps. ArePlanned cx c.args.single (map place_at (take (i + 1) ids)) ps (map note_of c.append.new.self.items)) (sym packages)
     (subst (λ ns. ArePlanned cx c.args.single (map place_at (take (i + 1) ids)) (map package_view c.loop-id.packages.items ++ package_view c.in_ok-package.package ∷ []) ns) (sym notices)
-    (planned-more cx c.args.single ids i _ c.loop-id-test.true (map package_view c.loop-id.packages.items) (package_view c.in_ok-package.package) (map note_of c.loop-id.notices.items) (map note_of c.in_ok-package.told.items) c.in_ok-package.ensures c.loop-id.invariant))
+    (planned-more cx c.args.single ids i _ c.loop-id-test.true (map package_view c.loop-id.packages.items) (package_view c.in_ok-package.package) (map note_of c.loop-id.notices.items) (map note_of c.in_ok-package.told.items) c.in_ok-package.ensures.ok c.loop-id.invariant))
+
+pub returns-in_err-package-clause-err : goal.returns-in_err-package-clause-err
+returns-in_err-package-clause-err c =
+    let p = err_from_is_err_and c.from_residual-in_err-package.result c.from_residual-in_err-package.ensures.1 in
+    rw (p.1, p.2) (refusal-as (many-at (context_view c.args.cx.now) c.args.ids.now c.loop-id.id-index _ c.loop-id-test.true) c.in_err-package.ensures.err)

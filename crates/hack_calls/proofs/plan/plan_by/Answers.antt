@@ -4,15 +4,16 @@ use Rattle.std.proofs.lemmas.Result.{err_from_is_err_and}
 use Rattle.hack_load.specs.ContextView.{context_view}
 use Rattle.hack_metadata.specs.View.{place_at}
 use Rattle.hack_metadata.specs.declared.resolve.PackageId.{PackageId}
+use Rattle.hack_features.specs.Questions.{IsRefusal}
 use Rattle.hack_plan.specs.Quads.{ArePlaces, HasTooMany}
 use Rattle.hack_runs.specs.Plans.{counts_in}
 use Rattle.hack_runs.specs.Prepared.{ArePrepared}
 use Rattle.hack_runs.specs.View.{CallView, package_view}
 use Rattle.hack_base.specs.Notes.{note_of}
 use Rattle.hack_versions.specs.declared.version.VersionFault.{VersionFault}
-use Rattle.hack_calls.specs.Calls.{IsSceneOf, ArePlanned, HasBadOwn, left_out_notes}
+use Rattle.hack_calls.specs.Calls.{IsSceneOf, ArePlanned, HasBadOwn, HaveMany, left_out_notes}
 use Rattle.hack_calls.specs.Made.{run_counts}
-use Rattle.hack_calls.proofs.CauseLemmas.{range-cause, places-cause, counts-same, all-told}
+use Rattle.hack_calls.proofs.CauseLemmas.{range-cause, places-cause, sets-cause, counts-same, all-told}
 use Rattle.hack_calls.proofs.NeverLemmas.{no-cause}
 use Rattle.hack_calls.proofs.PlanLemmas.{members-length, planned-length, covers}
 use Rattle.hack_calls.proofs.plan.plan_by.Goals as goal
@@ -29,6 +30,14 @@ pub chosen_packages-requires : goal.chosen_packages-requires
 chosen_packages-requires c =
     subst (λ l. All (λ (id : PackageId). Contains (context_view c.args.cx.now).metadata.workspace_members id.index) l) (sym c.as_slice-ids.ensures.value) c.in_ok-list.ensures.members
 
+pub returns-in_err-packages-clause-err : goal.returns-in_err-packages-clause-err
+returns-in_err-packages-clause-err c =
+    let cx = context_view c.args.cx.now in
+    let ids = c.in_ok-list.list.ids.items in
+    let p = err_from_is_err_and c.from_residual-in_err-packages.result c.from_residual-in_err-packages.ensures.1 in
+    let many = subst (λ l. IsRefusal (HaveMany cx (map place_at l)) c.in_err-packages.field-0) c.as_slice-ids.ensures.value c.in_err-packages.ensures.err in
+    rw (p.1, p.2) (sets-cause cx (map place_at ids) c.in_ok-list.list.is_single (map note_of c.in_ok-list.notices.items) c.args.latest _ c.in_ok-list.ensures.ok many)
+
 pub left_out-requires : goal.left_out-requires
 left_out-requires c =
     subst (λ l. All (λ (id : PackageId). Contains (context_view c.args.cx.now).metadata.workspace_members id.index) l) (sym c.as_slice-ids.ensures.value) c.in_ok-list.ensures.members
@@ -38,7 +47,7 @@ of_scene-requires-clause-packages c =
     let cx = context_view c.args.cx.now in
     let ids = c.in_ok-list.list.ids.items in
     let of_call = subst (λ l. IsSceneOf cx (map place_at l) c.in_ok-scene.scene) c.as_slice.ensures.value c.in_ok-scene.ensures.ok in
-    let planned = subst (λ l. ArePlanned cx c.in_ok-list.list.is_single (map place_at l) (map package_view c.in_ok-packages.packages.items) (map note_of c.in_ok-packages.on_features.items)) c.as_slice-ids.ensures.value c.in_ok-packages.ensures in
+    let planned = subst (λ l. ArePlanned cx c.in_ok-list.list.is_single (map place_at l) (map package_view c.in_ok-packages.packages.items) (map note_of c.in_ok-packages.on_features.items)) c.as_slice-ids.ensures.value c.in_ok-packages.ensures.ok in
     sym (length-map c.in_ok-packages.packages.items package_view)
     ∙ sym (planned-length cx c.in_ok-list.list.is_single (map place_at ids) _ _ planned)
     ∙ members-length cx (map place_at ids) c.in_ok-scene.scene.packages.items of_call.members
@@ -48,7 +57,7 @@ returns-in-Err-clause-err c =
     let cx = context_view c.args.cx.now in
     let ids = c.in_ok-list.list.ids.items in
     let of_call = subst (λ l. IsSceneOf cx (map place_at l) c.in_ok-scene.scene) c.as_slice.ensures.value c.in_ok-scene.ensures.ok in
-    let planned = subst (λ l. ArePlanned cx c.in_ok-list.list.is_single (map place_at l) (map package_view c.in_ok-packages.packages.items) (map note_of c.in_ok-packages.on_features.items)) c.as_slice-ids.ensures.value c.in_ok-packages.ensures in
+    let planned = subst (λ l. ArePlanned cx c.in_ok-list.list.is_single (map place_at l) (map package_view c.in_ok-packages.packages.items) (map note_of c.in_ok-packages.on_features.items)) c.as_slice-ids.ensures.value c.in_ok-packages.ensures.ok in
     rw c.of_places.ensures (places-cause cx (map place_at ids) c.in_ok-list.list.is_single (map note_of c.in_ok-list.notices.items) c.in_ok-scene.scene c.in_ok-versions.versions.stable c.args.latest c.in_ok-packages.packages.items (map note_of c.in_ok-packages.on_features.items) c.in-Err.fault c.in_ok-list.ensures.ok of_call planned c.in_ok-versions.ensures.stable c.in-Err.ensures.err)
 
 pub returns-clause-ok : goal.returns-clause-ok
@@ -61,7 +70,7 @@ returns-clause-ok c = λ rustup call.
     let packages = c.in_ok-packages.packages.items in
     let on_features = map note_of c.in_ok-packages.on_features.items in
     let counts = ap run_counts c.in-Ok.ensures.packages ∙ counts-same packages in
-    let planned = subst (λ l. ArePlanned cx single (map place_at l) (map package_view packages) on_features) c.as_slice-ids.ensures.value c.in_ok-packages.ensures in
+    let planned = subst (λ l. ArePlanned cx single (map place_at l) (map package_view packages) on_features) c.as_slice-ids.ensures.value c.in_ok-packages.ensures.ok in
     record {
       ids = map place_at ids;
       single = single;
@@ -110,7 +119,7 @@ returns-clause-never c =
       on_features = on_features;
       chosen = c.in_ok-list.ensures.ok;
       of_call = subst (λ l. IsSceneOf cx (map place_at l) scene) c.as_slice.ensures.value c.in_ok-scene.ensures.ok;
-      planned = subst (λ l. ArePlanned cx single (map place_at l) (map package_view packages) on_features) c.as_slice-ids.ensures.value c.in_ok-packages.ensures;
+      planned = subst (λ l. ArePlanned cx single (map place_at l) (map package_view packages) on_features) c.as_slice-ids.ensures.value c.in_ok-packages.ensures.ok;
       known = c.in_ok-list.ensures.never;
       readable = subst (λ (l : List PackageId). (e : VersionFault) → ¬ HasBadOwn cx (map place_at l) e) c.as_slice.ensures.value c.in_ok-scene.ensures.never;
       in_range = c.in_ok-versions.ensures.never;

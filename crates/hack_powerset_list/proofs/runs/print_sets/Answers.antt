@@ -15,14 +15,14 @@ use Rattle.hack_powerset_list.proofs.runs.print_sets.Goals as goal
 
 pub print_whole-requires-clause-below : goal.print_whole-requires-clause-below
 print_whole-requires-clause-below g c =
-    λ k d lt. subst (λ n. get_or c.args.lines.now.last.now k d < n) c.requires.size ((last-selection c.args.lines.now.rules.now c.args.lines.now.last.now c.requires.last).below k d lt)
+    λ k d lt. subst (λ n. get_or c.args.lines.now.last.now k d < n) c.requires.size ((last-selection c.args.rules.now c.args.lines.now.last.now c.requires.last).below k d lt)
 
 pub print_whole-requires-clause-some : goal.print_whole-requires-clause-some
-print_whole-requires-clause-some g c = last-some c.args.lines.now.rules.now c.args.lines.now.last.now c.requires.last
+print_whole-requires-clause-some g c = last-some c.args.rules.now c.args.lines.now.last.now c.requires.last
 
 pub returns-in_err-print_whole-clause-err : goal.returns-in_err-print_whole-clause-err
 returns-in_err-print_whole-clause-err g c =
-    let r = c.args.lines.now.rules.now in
+    let r = c.args.rules.now in
     let names : List Name = map name_of c.args.lines.now.features.now in
     let last : List ℕ = c.args.lines.now.last.now in
     let sets : List (List ℕ) = listed_in r in
@@ -38,7 +38,7 @@ returns-in_err-print_whole-clause-err g c =
 
 pub returns-in_err-print_below-clause-err : goal.returns-in_err-print_below-clause-err
 returns-in_err-print_below-clause-err g c =
-    let r = c.args.lines.now.rules.now in
+    let r = c.args.rules.now in
     let names : List Name = map name_of c.args.lines.now.features.now in
     let last : List ℕ = c.args.lines.now.last.now in
     let sets : List (List ℕ) = listed_in r in
@@ -55,14 +55,14 @@ returns-in_err-print_below-clause-err g c =
 
 pub print_whole-requires-else-last_first-clause-below : goal.print_whole-requires-else-last_first-clause-below
 print_whole-requires-else-last_first-clause-below g c =
-    λ k d lt. subst (λ n. get_or c.args.lines.now.last.now k d < n) c.requires.size ((last-selection c.args.lines.now.rules.now c.args.lines.now.last.now c.requires.last).below k d lt)
+    λ k d lt. subst (λ n. get_or c.args.lines.now.last.now k d < n) c.requires.size ((last-selection c.args.rules.now c.args.lines.now.last.now c.requires.last).below k d lt)
 
 pub print_whole-requires-else-last_first-clause-some : goal.print_whole-requires-else-last_first-clause-some
-print_whole-requires-else-last_first-clause-some g c = last-some c.args.lines.now.rules.now c.args.lines.now.last.now c.requires.last
+print_whole-requires-else-last_first-clause-some g c = last-some c.args.rules.now c.args.lines.now.last.now c.requires.last
 
 pub returns-in_ok-print_whole-clause-ok : goal.returns-in_ok-print_whole-clause-ok
 returns-in_ok-print_whole-clause-ok g c =
-    let r = c.args.lines.now.rules.now in
+    let r = c.args.rules.now in
     let names : List Name = map name_of c.args.lines.now.features.now in
     let last : List ℕ = c.args.lines.now.last.now in
     let sets : List (List ℕ) = listed_in r in
@@ -80,7 +80,7 @@ returns-in_ok-print_whole-clause-ok g c =
 
 pub returns-in_ok-print_whole-clause-err : goal.returns-in_ok-print_whole-clause-err
 returns-in_ok-print_whole-clause-err g c =
-    let r = c.args.lines.now.rules.now in
+    let r = c.args.rules.now in
     let names : List Name = map name_of c.args.lines.now.features.now in
     let last : List ℕ = c.args.lines.now.last.now in
     let sets : List (List ℕ) = listed_in r in
@@ -98,7 +98,7 @@ returns-in_ok-print_whole-clause-err g c =
 
 pub returns-in_ok-print_below-clause-ok : goal.returns-in_ok-print_below-clause-ok
 returns-in_ok-print_below-clause-ok g c =
-    let r = c.args.lines.now.rules.now in
+    let r = c.args.rules.now in
     let names : List Name = map name_of c.args.lines.now.features.now in
     let last : List ℕ = c.args.lines.now.last.now in
     let sets : List (List ℕ) = listed_in r in
@@ -116,7 +116,7 @@ returns-in_ok-print_below-clause-ok g c =
 
 pub returns-in_ok-print_below-clause-err : goal.returns-in_ok-print_below-clause-err
 returns-in_ok-print_below-clause-err g c =
-    let r = c.args.lines.now.rules.now in
+    let r = c.args.rules.now in
     let names : List Name = map name_of c.args.lines.now.features.now in
     let last : List ℕ = c.args.lines.now.last.now in
     let sets : List (List ℕ) = listed_in r in

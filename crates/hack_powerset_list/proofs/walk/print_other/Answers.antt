@@ -16,7 +16,7 @@ use Rattle.hack_powerset_list.proofs.walk.print_other.Goals as goal
 
 pub returns-then-ne-clause-err : goal.returns-then-ne-clause-err
 returns-then-ne-clause-err g c = λ s set others.
-    let r = c.args.lines.now.rules.now in
+    let r = c.args.rules.now in
     let x : List ℕ = c.args.set.now in
     let last : List ℕ = c.args.lines.now.last.now in
     let names : List Name = map name_of c.args.lines.now.features.now in

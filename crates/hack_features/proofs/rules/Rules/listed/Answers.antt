@@ -1,4 +1,4 @@
-use Rattle.std.proofs.Common.{IsTrue}
+use Rattle.std.proofs.Common.{IsTrue, IfOk, IfErr, subst}
 use Rattle.std.proofs.lemmas.Result.{IfOk-weaker, IfErr-weaker}
 use Rattle.hack_features.specs.declared.forest.Pruned.{Pruned}
 use Rattle.hack_features.specs.Sets.{IsListing}
@@ -14,28 +14,28 @@ pub returns-clause-sets : goal.returns-clause-sets
 returns-clause-sets c =
     let r = c.args.self.now in
     IfOk-weaker c.pruned_within.result (λ (p : Pruned). IsListing (size_of r) (IsWhole (may_of r) (whole_of r)) (sets_in p.sets)) (λ (p : Pruned). IsListing (size_of r) (IsListed (choice_of r)) (sets_in p.sets))
-    (λ (p : Pruned). listing_of r (tables_of r) (sets_in p.sets)) c.pruned_within.ensures.sets
+    (λ (p : Pruned). listing_of r (tables_of r) (sets_in p.sets)) (subst (λ n. IfOk c.pruned_within.result (λ (p : Pruned). IsListing n (IsWhole (may_of r) (whole_of r)) (sets_in p.sets))) c.size-n.ensures c.pruned_within.ensures.sets)
 
 pub returns-clause-few : goal.returns-clause-few
 returns-clause-few c =
     let r = c.args.self.now in
     IfOk-weaker c.pruned_within.result (λ (p : Pruned). IsCheap (λ s. IsTrue (may_of r s)) (size_of r) p.asked) (λ (p : Pruned). IsCheap (IsPermitted (choice_of r)) (size_of r) p.asked)
-    (λ (p : Pruned). cheap_of r (tables_of r) p.asked) c.pruned_within.ensures.few
+    (λ (p : Pruned). cheap_of r (tables_of r) p.asked) (subst (λ n. IfOk c.pruned_within.result (λ (p : Pruned). IsCheap (λ s. IsTrue (may_of r s)) n p.asked)) c.size-n.ensures c.pruned_within.ensures.few)
 
 pub returns-clause-covered : goal.returns-clause-covered
 returns-clause-covered c =
     let r = c.args.self.now in
     IfOk-weaker c.pruned_within.result (λ (p : Pruned). IsListing (size_of r) (IsWhole (may_of r) (whole_of r)) (sets_in p.sets)) (λ (p : Pruned). AreCovers (choice_of r) (size_of r) (sets_in p.sets))
-    (λ (p : Pruned) (l : IsListing (size_of r) (IsWhole (may_of r) (whole_of r)) (sets_in p.sets)). covers_of r (tables_of r) (sets_in p.sets) (listing_of r (tables_of r) (sets_in p.sets) l)) c.pruned_within.ensures.sets
+    (λ (p : Pruned) (l : IsListing (size_of r) (IsWhole (may_of r) (whole_of r)) (sets_in p.sets)). covers_of r (tables_of r) (sets_in p.sets) (listing_of r (tables_of r) (sets_in p.sets) l)) (subst (λ n. IfOk c.pruned_within.result (λ (p : Pruned). IsListing n (IsWhole (may_of r) (whole_of r)) (sets_in p.sets))) c.size-n.ensures c.pruned_within.ensures.sets)
 
 pub returns-clause-never : goal.returns-clause-never
 returns-clause-never c =
     let r = c.args.self.now in
     IfOk-weaker c.pruned_within.result (λ (p : Pruned). ¬ AreTooMany (size_of r) (λ s. IsTrue (may_of r s))) (λ (p : Pruned). ¬ AreTooMany (size_of r) (IsPermitted (choice_of r)))
-    (λ (p : Pruned) none many. none (too-many-as (size_of r) (IsPermitted (choice_of r)) (λ s. IsTrue (may_of r s)) (λ s sel. (permitted_iff r (tables_of r) s sel).1) many)) c.pruned_within.ensures.never
+    (λ (p : Pruned) none many. none (too-many-as (size_of r) (IsPermitted (choice_of r)) (λ s. IsTrue (may_of r s)) (λ s sel. (permitted_iff r (tables_of r) s sel).1) many)) (subst (λ n. IfOk c.pruned_within.result (λ (p : Pruned). ¬ AreTooMany n (λ s. IsTrue (may_of r s)))) c.size-n.ensures c.pruned_within.ensures.never)
 
 pub returns-clause-err : goal.returns-clause-err
 returns-clause-err c =
     let r = c.args.self.now in
     IfErr-weaker c.pruned_within.result (IsRefusal (AreTooMany (size_of r) (λ s. IsTrue (may_of r s)))) (IsRefusal (AreTooMany (size_of r) (IsPermitted (choice_of r))))
-    (λ e. refusal-as (too-many-as (size_of r) (λ s. IsTrue (may_of r s)) (IsPermitted (choice_of r)) (λ s sel. (permitted_iff r (tables_of r) s sel).0))) c.pruned_within.ensures.err
+    (λ e. refusal-as (too-many-as (size_of r) (λ s. IsTrue (may_of r s)) (IsPermitted (choice_of r)) (λ s sel. (permitted_iff r (tables_of r) s sel).0))) (subst (λ n. IfErr c.pruned_within.result (IsRefusal (AreTooMany n (λ s. IsTrue (may_of r s))))) c.size-n.ensures c.pruned_within.ensures.err)
