@@ -5,7 +5,9 @@ ghost use Rattle.hack_features.specs.Sets.{IsSelection};
 ghost use Rattle.hack_features.specs.View.{size_of};
 
 use crate::given::Case;
-use hack_features::{Feature, Pruned, Questions, Rules, compare_sets, feature_powerset, pruned};
+use hack_features::{
+    Feature, Pruned, Questions, Rules, SetsFault, compare_sets, feature_powerset, pruned,
+};
 use std::alloc::{AllocError, Global};
 use std::cmp::Ordering;
 
@@ -33,7 +35,7 @@ fn set_text(alloc: Global, set: &[&Feature]) -> Result<String, AllocError> {
 }
 
 /// The sets that `feature_powerset` lists, such as `[a] [b] [a,b]`.
-pub(crate) fn listed(alloc: Global, case: &Case) -> Result<String, AllocError> {
+pub(crate) fn listed(alloc: Global, case: &Case) -> Result<String, SetsFault> {
     let refs = case.candidates.refs(alloc)?;
     let sets = feature_powerset(
         alloc,
@@ -74,7 +76,7 @@ fn rules_of<'a>(
 }
 
 /// What `pruned` answers over the rules of a case, and the count of the rules behind it.
-pub(crate) fn enumerated(alloc: Global, case: &Case) -> Result<(Pruned, u128), AllocError> {
+pub(crate) fn enumerated(alloc: Global, case: &Case) -> Result<(Pruned, u128), SetsFault> {
     let refs = case.candidates.refs(alloc)?;
     let mut rules = rules_of(alloc, case, refs.as_slice())?;
     let found = pruned(alloc, &mut rules, refs.len())?;
@@ -82,7 +84,7 @@ pub(crate) fn enumerated(alloc: Global, case: &Case) -> Result<(Pruned, u128), A
 }
 
 /// How many sets `Rules::listed` finds for a case, and how many questions it asks.
-pub(crate) fn listed_by_rules(alloc: Global, case: &Case) -> Result<(usize, u128), AllocError> {
+pub(crate) fn listed_by_rules(alloc: Global, case: &Case) -> Result<(usize, u128), SetsFault> {
     let refs = case.candidates.refs(alloc)?;
     let mut rules = rules_of(alloc, case, refs.as_slice())?;
     let found = rules.listed(alloc)?;

@@ -2,6 +2,7 @@
 
 use crate::calls::{enumerated, listed, listed_by_rules, questions};
 use crate::given::Case;
+use hack_features::SetsFault;
 use std::alloc::{AllocError, Global};
 use std::process::Abort;
 use std::test::Fail;
@@ -15,7 +16,7 @@ fn four(alloc: Global) -> Result<Case, AllocError> {
 }
 
 /// How many sets `pruned` finds, how many `feature_powerset` lists, the questions asked, and the count of the rules.
-fn sizes(alloc: Global, case: &Case) -> Result<(usize, usize, u128, u128), AllocError> {
+fn sizes(alloc: Global, case: &Case) -> Result<(usize, usize, u128, u128), SetsFault> {
     let (found, count) = enumerated(alloc, case)?;
     let text = listed(alloc, case)?;
     let lists = text.bytes().filter(|byte| *byte == b'[').count();
@@ -30,11 +31,13 @@ fn finds<R: Abort>(
     case: &Case,
     sets: usize,
     most: u128,
-) -> Result<(), AllocError> {
+) -> Result<(), SetsFault> {
     let (found, lists, asked, count) = sizes(alloc, case)?;
     assert_eq!(rt; found, sets);
     assert_eq!(rt; lists, sets);
-    assert_eq!(rt; listed_by_rules(alloc, case)?, (sets, asked));
+    let (by_rules, asked_by_rules) = listed_by_rules(alloc, case)?;
+    assert_eq!(rt; by_rules, sets);
+    assert!(rt; asked_by_rules <= asked, "{asked_by_rules} questions");
     assert!(rt; asked <= most, "{asked} questions");
     assert!(rt;
         asked > 0 && asked == count,

@@ -2,7 +2,7 @@
 
 use crate::calls::{compared, covering, listed};
 use crate::given::Case;
-use hack_features::powerset;
+use hack_features::{SetsFault, powerset};
 use std::alloc::{AllocError, Global};
 use std::cmp::Ordering;
 use std::process::Abort;
@@ -65,7 +65,7 @@ impl<'a> Row<'a> {
 }
 
 /// Asserts what is listed for the row.
-fn lists<R: Abort>(rt: &R, alloc: Global, row: Row<'_>, wanted: &str) -> Result<(), AllocError> {
+fn lists<R: Abort>(rt: &R, alloc: Global, row: Row<'_>, wanted: &str) -> Result<(), SetsFault> {
     let case = row.case(alloc)?;
     let text = listed(alloc, &case)?;
     assert_eq!(rt; text.as_str(), wanted);
@@ -274,7 +274,7 @@ fn lists_lifted<R: Abort>(
     alloc: Global,
     lifted: &[bool],
     wanted: &str,
-) -> Result<(), AllocError> {
+) -> Result<(), SetsFault> {
     let row = Row::new(&RUNTIMES, &RUNTIME_NAMES);
     let case = row
         .excluding(&["tokio,async-std", "async-std,tokio"])

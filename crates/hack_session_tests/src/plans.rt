@@ -3,7 +3,7 @@
 ghost use Rattle.std.specs.Prelude.{IfOk};
 ghost use Rattle.hack_plan.specs.Scenes.{AreVersions};
 
-use hack_features::{Feature, FeatureSets, Rules, pruned};
+use hack_features::{Feature, FeatureSets, Rules, SetsFault, pruned};
 use hack_plan::runs::{RunOptions, Runs};
 use hack_plan::versions::{Scene, Versions};
 use hack_runs::parts::{CallWords, PlanPackage};
@@ -68,7 +68,7 @@ fn candidates_of(alloc: Global, names: &str) -> Result<Vec<Feature>, AllocError>
 }
 
 /// Each candidate alone.
-fn sets_of(alloc: Global, candidates: &[Feature]) -> Result<FeatureSets, AllocError> {
+fn sets_of(alloc: Global, candidates: &[Feature]) -> Result<FeatureSets, SetsFault> {
     let mut features = Vec::new(alloc);
     for candidate in candidates {
         features.push(candidate)?;
@@ -78,7 +78,7 @@ fn sets_of(alloc: Global, candidates: &[Feature]) -> Result<FeatureSets, AllocEr
     Ok(pruned(alloc, &mut rules, features.len())?.sets)
 }
 
-fn package_of(alloc: Global, row: Row<'_>) -> Result<PlanPackage, AllocError> {
+fn package_of(alloc: Global, row: Row<'_>) -> Result<PlanPackage, SetsFault> {
     let candidates = candidates_of(alloc, row.features)?;
     let options = RunOptions {
         powerset: false,

@@ -10,7 +10,7 @@ use Rattle.hack_powerset_list.specs.ListRuns.{options_from}
 use Rattle.hack_powerset_list.specs.Room.{set_in}
 use Rattle.hack_powerset_list.specs.Walks.{EndsIn, listed_below, listed_in, set_lines}
 use Rattle.hack_powerset_list.proofs.PageLemmas.{prints-none, prints-then, prints-front, prints-stopped, on_ok-same, on_err-same, on_err-any, on_ok-then, on_err-then}
-use Rattle.hack_powerset_list.proofs.ListedLemmas.{Ends}
+use Rattle.hack_powerset_list.proofs.ListedLemmas.{Ends, listed-in-same}
 use Rattle.hack_powerset_list.proofs.RunsLemmas.{runs-none, runs-some}
 use Rattle.hack_powerset_list.proofs.runs.print_runs.Goals as goal
 
@@ -127,8 +127,10 @@ returns-clause-ok g c =
     let is : all ≡ front ++ lines =
     runs-some w fs sets ends.front last ends.same names
     ∙ ap (λ b. run_lines names (run_if b NoDefaultFeatures) ++ lines) (sym bare) in
-    let shown : set_lines (map name_of c.args.features.now) (with_last_first c.fits_two-last_first.result sets) ≡ lines =
-    ap (λ b. set_lines names (with_last_first b sets)) c.fits_two-last_first.ensures in
+    let asked = c.last_below.new.rules in
+    let shown : set_lines (map name_of c.args.features.now) (with_last_first c.fits_two-last_first.result (listed_in asked)) ≡ lines =
+    ap (λ l. set_lines names (with_last_first c.fits_two-last_first.result l)) (listed-in-same r asked c.in_ok-last.ensures.same_size c.in_ok-last.ensures.same_may c.in_ok-last.ensures.same_whole)
+    ∙ ap (λ b. set_lines names (with_last_first b sets)) c.fits_two-last_first.ensures in
     on_ok-then c.print_sets.result _ _
     (λ h. subst (Prints (g.W.Write.contents c.args.out.now) (g.W.Write.contents c.print_sets.new.out) page (string_bytes c.print_sets.new.page)) (sym is)
     (prints-then _ _ _ page (string_bytes c.print_front-2.new.page) (string_bytes c.print_sets.new.page) front lines c.in_ok-print_front.ensures.ok
@@ -156,8 +158,10 @@ returns-clause-err g c =
     let is : all ≡ front ++ lines =
     runs-some w fs sets ends.front last ends.same names
     ∙ ap (λ b. run_lines names (run_if b NoDefaultFeatures) ++ lines) (sym bare) in
-    let shown : set_lines (map name_of c.args.features.now) (with_last_first c.fits_two-last_first.result sets) ≡ lines =
-    ap (λ b. set_lines names (with_last_first b sets)) c.fits_two-last_first.ensures in
+    let asked = c.last_below.new.rules in
+    let shown : set_lines (map name_of c.args.features.now) (with_last_first c.fits_two-last_first.result (listed_in asked)) ≡ lines =
+    ap (λ l. set_lines names (with_last_first c.fits_two-last_first.result l)) (listed-in-same r asked c.in_ok-last.ensures.same_size c.in_ok-last.ensures.same_may c.in_ok-last.ensures.same_whole)
+    ∙ ap (λ b. set_lines names (with_last_first b sets)) c.fits_two-last_first.ensures in
     on_err-then c.print_sets.result _ _
     (λ h. prints-stopped _ _ _ page (string_bytes c.print_front-2.new.page) front lines [] all c.in_ok-print_front.ensures.ok
     (subst (λ l. AppendsFront (g.W.Write.contents c.print_front-2.new.out) (g.W.Write.contents c.print_sets.new.out) (string_bytes c.print_front-2.new.page ++ l)) shown h)
