@@ -4,4 +4,5 @@ mod HeadlineLemmas
 mod JournalLemmas
 mod MadeLemmas
 mod RunLemmas
+mod ToldLemmas
 mod WholeLemmas

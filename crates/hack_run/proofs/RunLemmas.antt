@@ -1,20 +1,24 @@
 -- The calls of a whole schedule.
-use Rattle.std.proofs.Common.{◌≡◌, ◌⊎◌, inl, inr, refl, arith, ap, zero, suc, Result, Ok, ℕ, ◌+◌, List, [], ◌∷◌, map, filter, All, Bool, Option, Some, None, IsSome, ◌∙◌, sym, subst, true, false}
-use Rattle.std.specs.Prelude.{cond, count_by, nat_lt}
+use Rattle.std.proofs.Common.{◌≡◌, ◌⊎◌, inl, inr, refl, arith, ap, zero, suc, Result, Ok, ℕ, List, [], ◌∷◌, ◌++◌, map, filter, All, Bool, Option, Some, None, IsSome, ◌∙◌, sym, subst, true, false}
+use Rattle.std.specs.Prelude.{◌≤◌, ◌<◌, ◌^◌, nat_lt}
+use Rattle.std.specs.List.{flat_map}
+use Rattle.std.specs.Io.KnownBytes.{Appends}
+use Rattle.std.proofs.KnownBytes.{Appends-nil, Appends-trans}
 use Rattle.std.proofs.lemmas.List.Elements.{All-cons, All-head, All-tail}
 use Rattle.std.proofs.lemmas.Bool.{lt-ltb}
-use Rattle.std.proofs.lemmas.List.Sums.{sum_by-cons}
 use Rattle.hack_process.specs.Calls.{Call}
 use Rattle.hack_process.specs.declared.fault.ProcessFault.{ProcessFault}
 use Rattle.hack_term.specs.declared.term.Term.{Term}
 use Rattle.hack_term.specs.declared.partition.Partition.{Partition}
 use Rattle.hack_runs.specs.View.{PlanView}
 use Rattle.hack_session.specs.Histories.{HasPassed, passed_step}
-use Rattle.hack_session.specs.Lists.{HasListed, IsListed, has_failed, is_sent, is_sent_step, is_unlisted}
-use Rattle.hack_session.specs.Performs.{Exactly, GrowsBy, HasPerformed, HasTold, Performs, PerformsAll}
+use Rattle.hack_session.specs.Lists.{IsListed, Lists, ListsAll, Page, has_failed, is_sent, is_sent_step, lines_listed, step_lines}
+use Rattle.hack_session.specs.Performs.{Exactly, HasPerformed, HasTold, Performs, PerformsAll}
 use Rattle.hack_session.specs.Schedules.{IsSchedule}
 use Rattle.hack_session.specs.declared.step.Handed.{Handed}
+use Rattle.hack_runs.specs.declared.parts.Preparation.TheVariants.{Toolchain, Lockfile, Clean}
 use Rattle.hack_session.specs.declared.step.Step.{Step}
+use Rattle.hack_session.specs.declared.step.Step.TheVariants.{Prepare, Skip, Run}
 use Rattle.hack_session.specs.declared.step.Outcome.{Outcome}
 use Rattle.hack_session.specs.declared.step.Outcome.TheVariants.{Passed, Failed}
 use Rattle.hack_run.specs.Runs.{PassesAll, RunsAll, SendsAll}
@@ -53,31 +57,69 @@ runs_all plan piece schedule handed old new before now term fault scheduled whol
   };
 }
 
--- a count that began at nothing and is nothing has grown by nothing
-no_growth : (k : ℕ) → GrowsBy k 0 0 → k ≡ 0
-no_growth k grows = let e : 0 ≡ 0 + k = grows (omega arith) in omega (arith, e)
-
--- steps of a list of which none failed are all listed
-none_unlisted : (steps : List Handed) → count_by is_unlisted steps ≡ 0 → All IsListed steps
-none_unlisted [] e = λ k d lt. absurd (omega arith)
-none_unlisted (h ∷ steps) e = go (is_unlisted h) refl (none_unlisted steps)
-  where
-    count : count_by is_unlisted (h ∷ steps) ≡ cond (is_unlisted h) 1 0 + count_by is_unlisted steps
-    count = sum_by-cons (λ y. cond (is_unlisted y) 1 0) h steps
-
-    go : (b : Bool) → is_unlisted h ≡ b → (count_by is_unlisted steps ≡ 0 → All IsListed steps) → All IsListed (h ∷ steps)
-    go true is rest = let one : ◌≡◌ {A = ℕ} (cond (is_unlisted h) 1 0) 1 = rw is refl in absurd (omega (arith, e, count, one))
-    go false is rest = let zero : ◌≡◌ {A = ℕ} (cond (is_unlisted h) 1 0) 0 = rw is refl in All-cons IsListed h steps is (rest (omega (arith, e, count, zero)))
-
 -- a count of refusals that is told as none is nothing
 pub none_refused : {E : Type 0} (n : ℕ) → ◌≡◌ {A = Result Bool E} (Ok (nat_lt 0 n)) (Ok false) → n ≡ 0
 none_refused zero e = refl
 none_refused (suc n) e = let some : nat_lt 0 (suc n) ≡ true = lt-ltb 0 (suc n) (omega arith) in absurd (cc)
 
--- where no line failed and no memory was refused, all steps of a list are listed
-pub all_listed : (plan : PlanView) (steps : List Handed) (a b : Option (List ℕ)) (before now refused refusals : ℕ) → before ≡ 0 → now ≡ 0 → refused ≡ 0 → refusals ≡ 0 → HasListed plan steps a b before now refused refusals → All IsListed steps
-all_listed plan steps a b before now refused refusals e f g h l =
-    none_unlisted steps (omega (arith, l.each, no_growth l.broken (rw (e, f) at l.failed), no_growth l.cut (rw (g, h) at l.short)))
+-- counts of 64 bits
+Small : Page → Type 0
+Small page = (page.failed < 2 ^ 64) × (page.refused < 2 ^ 64)
+
+-- no count goes down
+record Rises (old new : Page) : Type 0 where
+  small : Small new
+  failed : old.failed ≤ new.failed
+  refused : old.refused ≤ new.refused
+
+rises_one : (b : Bool) (plan : PlanView) (h : Handed) (old new : Page) → Small old → Lists b plan h old new → Rises old new
+rises_one true plan h old new low same = subst (λ (p : Page). Rises old p) (sym same) (record { small = low; failed = omega arith; refused = omega arith })
+rises_one false plan h old new low (inl w) = let f = w.counted low.0 in record { small = (omega (arith, f), omega (arith, w.kept, low.1)); failed = omega (arith, f, low.0); refused = omega (arith, w.kept) }
+rises_one false plan h old new low (inr (inl m)) = let f = m.counted low.0 in record { small = (omega (arith, f), omega (arith, m.kept, low.1)); failed = omega (arith, f, low.0); refused = omega (arith, m.kept) }
+rises_one false plan h old new low (inr (inr r)) = let f = r.counted low.1 in record { small = (omega (arith, r.kept.1, low.0), omega (arith, f)); failed = omega (arith, r.kept.1); refused = omega (arith, f, low.1) }
+
+rises : (plan : PlanView) (steps : List Handed) (old new : Page) → Small old → ListsAll plan steps old new → Rises old new
+rises plan [] old new low same = subst (λ (p : Page). Rises old p) (sym same) (record { small = low; failed = omega arith; refused = omega arith })
+rises plan (h ∷ steps) old new low l =
+    let one = rises_one (is_sent h) plan h old l.0 low l.1 in
+    let more = rises plan steps l.0 new one.small l.2 in
+    record { small = more.small; failed = omega (arith, one.failed, more.failed); refused = omega (arith, one.refused, more.refused) }
+
+-- a step that is performed has no lines
+sent_lines : (plan : PlanView) (step : Step) → is_sent_step step ≡ true → step_lines plan step ≡ []
+sent_lines plan (Prepare (Toolchain v)) e = refl
+sent_lines plan (Prepare (Lockfile v)) e = refl
+sent_lines plan (Prepare (Clean v)) e = absurd (cc)
+sent_lines plan (Skip place) e = absurd (cc)
+sent_lines plan (Run place) e = absurd (cc)
+
+-- steps of a list that leave no count: all are listed, and their lines are written
+pub record IsWritten (plan : PlanView) (steps : List Handed) (old new : Page) : Type 0 where
+  pub listed : All IsListed steps
+  pub written : Appends old.contents new.contents (flat_map (lines_listed plan) steps)
+
+one_written : (b : Bool) (plan : PlanView) (h : Handed) (old new : Page) → is_sent_step h.step ≡ b → old.failed ≡ 0 → old.refused ≡ 0 → new.failed ≡ 0 → new.refused ≡ 0 → Lists b plan h old new
+    → IsListed h × Appends old.contents new.contents (lines_listed plan h)
+one_written true plan h old new is f r g s same = (rw is refl, subst (λ (p : Page). Appends old.contents p.contents (lines_listed plan h)) (sym same) (subst (Appends old.contents old.contents) (sym (sent_lines plan h.step is)) (Appends-nil old.contents)))
+one_written false plan h old new is f r g s (inl w) = (rw is (ap has_failed w.passes), w.written)
+one_written false plan h old new is f r g s (inr (inl m)) = let e = m.counted (omega (arith, f)) in absurd (omega (arith, e, f, g))
+one_written false plan h old new is f r g s (inr (inr m)) = let e = m.counted (omega (arith, r)) in absurd (omega (arith, e, r, s))
+
+-- where no line failed and no memory was refused, all steps of a list are listed, and their lines written
+pub all_written : (plan : PlanView) (steps : List Handed) (old new : Page) → old.failed ≡ 0 → old.refused ≡ 0 → new.failed ≡ 0 → new.refused ≡ 0 → ListsAll plan steps old new → IsWritten plan steps old new
+all_written plan [] old new f r g s same = record { listed = λ k d lt. absurd (omega arith); written = subst (λ (p : Page). Appends old.contents p.contents []) (sym same) (Appends-nil old.contents) }
+all_written plan (h ∷ steps) old new f r g s l =
+    let low : Small old = (omega (arith, f), omega (arith, r)) in
+    let one = rises_one (is_sent h) plan h old l.0 low l.1 in
+    let more = rises plan steps l.0 new one.small l.2 in
+    let mf : l.0.failed ≡ 0 = omega (arith, more.failed, g) in
+    let mr : l.0.refused ≡ 0 = omega (arith, more.refused, s) in
+    let here = one_written (is_sent h) plan h old l.0 refl f r mf mr l.1 in
+    let rest = all_written plan steps l.0 new mf mr g s l.2 in
+    record {
+      listed = All-cons IsListed h steps here.0 rest.listed;
+      written = Appends-trans old.contents l.0.contents new.contents (lines_listed plan h) (flat_map (lines_listed plan) steps) here.1 rest.written;
+    }
 
 -- a listed step passed, unless it is one that isn't listed
 passed_by : (h : Handed) → is_sent_step h.step ≡ false → IsListed h → HasPassed h
@@ -104,11 +146,15 @@ sent_passed (step ∷ steps) = go (is_sent_step step) refl (sent_passed steps)
     go true is rest = rw is (ap (λ (l : List Handed). passed_step step ∷ l) rest)
     go false is rest = rw is rest
 
--- then just the toolchains and lockfiles of the whole schedule were made
-pub sends_all : (plan : PlanView) (piece : Option Partition) (schedule : List Step) (handed : List Handed) (old new : List Call) (before now : ℕ) (term : Term) (fault : Option ProcessFault)
+lines_passed : (plan : PlanView) (steps : List Step) → flat_map (lines_listed plan) (map passed_step steps) ≡ flat_map (step_lines plan) steps
+lines_passed plan [] = refl
+lines_passed plan (step ∷ steps) = ap (λ (bytes : List ℕ). step_lines plan step ++ bytes) (lines_passed plan steps)
+
+-- then just the toolchains and lockfiles of the whole schedule were made, and its lines written
+pub sends_all : (plan : PlanView) (piece : Option Partition) (schedule : List Step) (handed : List Handed) (old new : List Call) (before now : ℕ) (term : Term) (fault : Option ProcessFault) (out grown : Option (List ℕ))
     → IsSchedule piece plan schedule → (All HasPassed handed → handed ≡ map passed_step schedule) → HasPerformed plan (filter is_sent handed) old new before now
-    → (All HasPassed (filter is_sent handed) ⊎ HasTold term fault) → All IsListed handed → fault ≡ None → term.error ≡ false → SendsAll plan piece old new
-sends_all plan piece schedule handed old new before now term fault scheduled whole performed told listed none quiet = record {
+    → (All HasPassed (filter is_sent handed) ⊎ HasTold term fault) → All IsListed handed → Appends out grown (flat_map (lines_listed plan) handed) → fault ≡ None → term.error ≡ false → SendsAll out grown plan piece old new
+sends_all plan piece schedule handed old new before now term fault out grown scheduled whole performed told listed written none quiet = record {
   schedule = schedule;
   scheduled = scheduled;
   sent = record {
@@ -116,6 +162,7 @@ sends_all plan piece schedule handed old new before now term fault scheduled who
     grown = performed.grown;
     such = passes plan (filter is_sent_step schedule) performed.made performed.cut (subst (λ hs. PerformsAll plan hs performed.made performed.cut) (ap (filter is_sent) all ∙ sent_passed schedule) performed.performed);
   };
+  written = subst (Appends out grown) (ap (flat_map (lines_listed plan)) all ∙ lines_passed plan schedule) written;
 }
   where
     all : handed ≡ map passed_step schedule

@@ -9,6 +9,7 @@ ghost use Rattle.hack_run.specs.Journals.{contents_seen};
 ghost use Rattle.hack_run.specs.Made.{MadeOnce};
 ghost use Rattle.hack_run.specs.Questions.{rustup_asked};
 ghost use Rattle.hack_run.specs.Restores.{RestoresEdits};
+ghost use Rattle.hack_run.specs.Told.{seen_of};
 ghost use Rattle.hack_run.specs.Whole.{AreRefused, IsDone};
 
 use crate::run::run;
@@ -51,6 +52,7 @@ pub fn run_journaled<F: Files, L: Files, C: Caller, O: Write, E: Write>(
         → IsDone (names_of words.now) env.now
         (contents_seen (string_bytes journal) (F.bytes_at files) (L.bytes_at lockfiles))
         (contents_seen (string_bytes journal) (F.bytes_at result.1) (L.bytes_at result.2)) 0
+        (seen_of term.new (O.contents out.old) (O.contents out.new))
         (C.calls runner.old) (C.calls runner.new) }
     ensures made { C.tells → F.tells → L.tells → MadeOnce (names_of words.now) env.now
         (contents_seen (string_bytes journal) (F.bytes_at files) (L.bytes_at lockfiles)) 0

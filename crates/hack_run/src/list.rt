@@ -1,23 +1,26 @@
 //! The command list of a plan.
 
 ghost use Rattle.std.specs.Prelude.{◌≡◌, None, Ok, OnOk, false, true};
+ghost use Rattle.std.specs.Io.KnownBytes.{append_known};
 ghost use Rattle.hack_load.specs.ContextView.{context_view};
 ghost use Rattle.hack_run.specs.Made.{HandsOverAtMostOne, PerformsAtMostOne};
 ghost use Rattle.hack_run.specs.Questions.{IsAnswered};
 ghost use Rattle.hack_run.specs.Runs.{DoesPlan, ListsOver, SendsAll};
+ghost use Rattle.hack_run.specs.Told.{KeepsWarning};
 
 use crate::drive::{Teller, drive_context};
 use crate::fault::RunFault;
+use crate::gathered::{gather_on, room, write_last};
 use crate::start::starter;
 use hack_calls::fault::PlanFault;
 use hack_load::context::Context;
 use hack_process::process::{Caller, ProcessFault};
-use hack_session::session::{LineWriter, Lines, Lister};
+use hack_session::session::{Lines, Lister};
 use hack_term::term::{LogGroup, Term};
 use hack_versions::version::Version;
 use std::alloc::Global;
 use std::io;
-use std::io::{BufWriter, Write};
+use std::io::Write;
 
 /// What came of listing.
 #[derive(Drop)]
@@ -44,17 +47,25 @@ pub(crate) fn list<C: Caller, O: Write, E: Write>(
 ) -> Result<(), RunFault>
     requires { IsAnswered (context_view cx.now).args stable }
     ensures done { OnOk result (term.new.error ≡ false → C.tells
-        → DoesPlan SendsAll (context_view cx.now) stable rustup.now
-        (C.calls caller.old) (C.calls caller.new)) }
+        → DoesPlan (SendsAll (O.contents out.old) (O.contents out.new)) (context_view cx.now)
+        stable rustup.now (C.calls caller.old) (C.calls caller.new) term.new.warn) }
+    ensures warned { OnOk result (KeepsWarning term.old term.new) }
     ensures made { C.tells → PerformsAtMostOne true (context_view cx.now) stable rustup.now
         (C.calls caller.old) (C.calls caller.new) }
 {
-    let mut buffer = match BufWriter::new(alloc, out) {
-        Ok(buffer) => buffer,
-        Err(_) => return Err(RunFault::Memory),
-    };
-    let came = hand_to_lister(alloc, cx, rustup, stable, term, caller, &mut buffer, err);
-    let flushed = buffer.flush().is_ok();
+    let mut gathered = room(alloc)?;
+    let came = hand_to_lister(
+        alloc,
+        cx,
+        rustup,
+        stable,
+        term,
+        caller,
+        out,
+        &mut gathered,
+        err,
+    );
+    let flushed = write_last(out, &mut gathered);
     end_of_list(came, flushed)
 }
 
@@ -67,13 +78,17 @@ fn hand_to_lister<C: Caller, O: Write, E: Write>(
     term: &mut Term,
     caller: &mut C,
     out: &mut O,
+    gathered: &mut Vec<u8>,
     err: &mut E,
 ) -> Listed
     requires { IsAnswered (context_view cx.now).args stable }
     ensures done { result.refused ≡ Ok false → result.fault ≡ None → result.failed ≡ 0
         → term.new.error ≡ false → C.tells
-        → DoesPlan SendsAll (context_view cx.now) stable rustup.now
-        (C.calls caller.old) (C.calls caller.new) }
+        → DoesPlan (SendsAll (append_known (O.contents out.old) gathered.old.items)
+        (append_known (O.contents out.new) gathered.new.items)) (context_view cx.now)
+        stable rustup.now (C.calls caller.old) (C.calls caller.new) term.new.warn }
+    ensures warned { result.refused ≡ Ok false → result.failed ≡ 0
+        → KeepsWarning term.old term.new }
     ensures made { C.tells → PerformsAtMostOne true (context_view cx.now) stable rustup.now
         (C.calls caller.old) (C.calls caller.new) }
 {
@@ -81,15 +96,15 @@ fn hand_to_lister<C: Caller, O: Write, E: Write>(
     let mut fault = None;
     let mut starter = starter(
         alloc,
-        LogGroup::None,
-        false,
+        cx.args(),
         &mut fault,
         term,
         caller,
         &mut nothing,
         err,
     );
-    let mut lines = LineWriter { out, failed: 0 };
+    starter.log_group = LogGroup::None;
+    let mut lines = gather_on(out, gathered);
     let refused = list_over(alloc, cx, rustup, stable, &mut lines, &mut starter);
     Listed {
         refused,
@@ -109,7 +124,9 @@ fn list_over<'a, W: Lines, R: Teller>(
 ) -> Result<bool, PlanFault>
     requires { IsAnswered (context_view cx.now).args stable }
     ensures done { result ≡ Ok false → W.failed out.old ≡ 0 → W.failed out.new ≡ 0
-        → ListsOver R.told R.ran (context_view cx.now) stable rustup.now runner.old runner.new }
+        → ListsOver (W.contents out.old) (W.contents out.new) R.told R.ran (context_view cx.now)
+        stable rustup.now runner.old runner.new }
+    ensures stays { result ≡ Ok false → W.stays out.old out.new }
     ensures made { HandsOverAtMostOne R.told R.ran (context_view cx.now) stable rustup.now
         runner.old runner.new }
 {
@@ -126,7 +143,7 @@ fn list_over<'a, W: Lines, R: Teller>(
 /// How the list ends, where its end was written or not.
 fn end_of_list(listed: Listed, flushed: bool) -> Result<(), RunFault>
     ensures { OnOk result ((listed.refused ≡ Ok false) × (listed.fault ≡ None)
-        × (listed.failed ≡ 0)) }
+        × (listed.failed ≡ 0) × (flushed ≡ true)) }
 {
     let Listed {
         refused,

@@ -1,14 +1,17 @@
 //! A whole call of `cargo hack`: what its words ask for is done, and told on the way.
 
 ghost use Rattle.std.specs.Prelude.{◌≡◌, ◌↔◌, ◌⊎◌, ◌≤◌, IsErr, IsTrue, OnOk, false, true};
-ghost use Rattle.std.specs.Prelude.{string_bytes};
+ghost use Rattle.std.specs.Prelude.{map, string_bytes};
+ghost use Rattle.std.specs.Io.KnownBytes.{Appends};
 ghost use Rattle.hack_base.specs.Names.{names_of};
+ghost use Rattle.hack_base.specs.Notes.{note_of};
 ghost use Rattle.hack_load.specs.LeavesFew.{LeavesFew};
 ghost use Rattle.hack_process.specs.Calls.{MayAdd};
 ghost use Rattle.hack_run.specs.Made.{MadeOnce, TriesOnce, listing_asked};
 ghost use Rattle.hack_run.specs.Questions.{rustup_asked};
 ghost use Rattle.hack_run.specs.Restores.{ComesBack, IsClean, RestoresEdits};
-ghost use Rattle.hack_run.specs.Whole.{AreRefused, IsDone, ListsCommands, Obeys};
+ghost use Rattle.hack_run.specs.Told.{seen_of};
+ghost use Rattle.hack_run.specs.Whole.{AreRefused, IsDone, ListsCommands, Obeys, WarnsOf};
 
 use crate::ask::rustup_for;
 use crate::fault::RunFault;
@@ -49,10 +52,12 @@ pub fn run<F: Files, C: Caller, O: Write, E: Write>(
         (C.calls runner.old) (C.calls runner.new)) }
 
     // Where no error was told, what the words ask for was done: the calls end with those of the
-    // whole schedule of the plan, for what was told and read in this call. Under
-    // `--remove-dev-deps` each manifest that is edited holds its edit, and all else what it held.
+    // whole schedule of the plan, for what was told and read in this call. A list wrote just the
+    // lines of that schedule, and each warning that was due is noted. Under `--remove-dev-deps`
+    // each manifest that is edited holds its edit, and all else what it held.
     ensures done { term.new.error ≡ false → C.tells → F.tells → IsDone (names_of words.now)
         env.now (F.bytes_at files.old) (F.bytes_at files.new) (F.failed files.old)
+        (seen_of term.new (O.contents out.old) (O.contents out.new))
         (C.calls runner.old) (C.calls runner.new) }
 
     // Whatever comes of the call: behind its questions the steps of one history of the plan made
@@ -94,7 +99,8 @@ fn read<F: Files, C: Caller, O: Write, E: Write>(
         (C.calls runner.old) (C.calls runner.new)) }
     ensures done { OnOk result (term.new.error ≡ false → C.tells → F.tells
         → IsDone (names_of words.now) env.now (F.bytes_at files.old) (F.bytes_at files.new)
-        (F.failed files.old) (C.calls runner.old) (C.calls runner.new)) }
+        (F.failed files.old) (seen_of term.new (O.contents out.old) (O.contents out.new))
+        (C.calls runner.old) (C.calls runner.new)) }
     ensures made { C.tells → F.tells → MadeOnce (names_of words.now) env.now
         (F.bytes_at files.old) (F.failed files.old) (C.calls runner.old) (C.calls runner.new) }
     ensures back { RestoresEdits env.now (names_of words.now) → F.tells → LeavesFew (Unit {0})
@@ -139,7 +145,9 @@ fn obey<F: Files, C: Caller, O: Write, E: Write>(
     ensures stays { F.stays files.old files.new }
     ensures done { OnOk result (term.new.error ≡ false → C.tells → F.tells
         → Obeys parsed env.now (F.bytes_at files.old) (F.bytes_at files.new)
-        (F.failed files.old) (C.calls runner.old) (C.calls runner.new)) }
+        (F.failed files.old) (seen_of term.new (O.contents out.old) (O.contents out.new))
+        (C.calls runner.old) (C.calls runner.new)) }
+    ensures warned { OnOk result (WarnsOf parsed (map note_of notices.now) term.new.warn) }
     ensures made { C.tells → F.tells → TriesOnce parsed env.now (F.bytes_at files.old)
         (F.failed files.old) (C.calls runner.old) (C.calls runner.new) }
     ensures back { ComesBack parsed → F.tells → LeavesFew (Unit {0})
@@ -163,7 +171,11 @@ fn obey<F: Files, C: Caller, O: Write, E: Write>(
 }
 
 /// Colours lines as the arguments say, and tells as much as they say.
-fn dress(term: &mut Term, args: &Args) {
+fn dress(term: &mut Term, args: &Args)
+    ensures error { term.new.error ≡ term.old.error }
+    ensures warn { term.new.warn ≡ term.old.warn }
+    ensures verbose { term.new.verbose ≡ args.now.verbose }
+{
     term.verbose = args.verbose;
     if args.coloring != Coloring::Auto {
         term.coloring = args.coloring;
@@ -171,7 +183,9 @@ fn dress(term: &mut Term, args: &Args) {
 }
 
 /// Prints a text.
-fn print<O: Write>(text: &str, out: &mut O) -> Result<(), RunFault> {
+fn print<O: Write>(text: &str, out: &mut O) -> Result<(), RunFault>
+    ensures { OnOk result (Appends (O.contents out.old) (O.contents out.new) text.now) }
+{
     match out.write_all(text.as_bytes()) {
         Ok(()) => Ok(()),
         Err(_) => Err(RunFault::Unprinted),

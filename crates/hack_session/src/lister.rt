@@ -1,14 +1,15 @@
 //! Who lists the commands of steps.
 
-ghost use Rattle.std.specs.Prelude.{◌≡◌, ◌<◌, ◌++◌, None, OnOk, filter, length, false, slice_get};
+ghost use Rattle.std.specs.Prelude.{◌≡◌, ◌≢◌, ◌<◌, ◌++◌, Err, None, OnOk, filter, length, false};
+ghost use Rattle.std.specs.Prelude.{slice_get};
 ghost use Rattle.std.specs.Io.KnownBytes.{Appends};
 ghost use Rattle.std.proofs.Common.{◌∙◌, refl};
 ghost use Rattle.hack_process.specs.Commands.{command_of};
 ghost use Rattle.hack_runs.specs.Commands.{clean_command};
 ghost use Rattle.hack_session.specs.Histories.{IsStepOf};
-ghost use Rattle.hack_session.specs.Lists.{CountsLines, HasListed, is_sent, is_sent_step, line_of};
-ghost use Rattle.hack_session.specs.Lists.{run_lines, step_lines};
-ghost use Rattle.hack_session.specs.Joins.{listed_none, listed_more, sent_more};
+ghost use Rattle.hack_session.specs.Lists.{CountsLines, ListsAll, is_sent, is_sent_step, line_of};
+ghost use Rattle.hack_session.specs.Lists.{page_of, run_lines, step_lines};
+ghost use Rattle.hack_session.specs.Joins.{listed_more, sent_more};
 
 use crate::lines::{LineFault, Lines};
 use crate::runner::Runner;
@@ -33,23 +34,26 @@ impl<W: Lines, R: Runner> Runner for Lister<'_, W, R> {
     ghost ran = { λ plan steps a b. (a.out.ghost_name ≡ b.out.ghost_name)
         × (a.runner.ghost_name ≡ b.runner.ghost_name)
         × R.ran plan (filter is_sent steps) a.runner.now b.runner.now
-        × HasListed plan steps (W.contents a.out.now) (W.contents b.out.now)
-        (W.failed a.out.now) (W.failed b.out.now) a.refused b.refused };
+        × ListsAll plan steps (page_of (W.contents a.out.now) (W.failed a.out.now) a.refused)
+        (page_of (W.contents b.out.now) (W.failed b.out.now) b.refused)
+        × W.stays a.out.now b.out.now };
 
     ghost ran_none = { λ plan a. (
       refl,
       refl,
       R.ran_none plan a.runner.now,
-      listed_none plan (W.contents a.out.now) (W.failed a.out.now) a.refused,
+      refl,
+      W.stays_none a.out.now,
     ) };
 
     ghost ran_more = { λ plan steps more a b c p q. (
       p.0 ∙ q.0,
       p.1 ∙ q.1,
       sent_more plan steps more R.ran a.runner.now b.runner.now c.runner.now R.ran_more p.2 q.2,
-      listed_more plan steps more (W.contents a.out.now) (W.contents b.out.now)
-          (W.contents c.out.now) (W.failed a.out.now) (W.failed b.out.now) (W.failed c.out.now)
-          a.refused b.refused c.refused p.3 q.3,
+      listed_more plan steps more (page_of (W.contents a.out.now) (W.failed a.out.now) a.refused)
+          (page_of (W.contents b.out.now) (W.failed b.out.now) b.refused)
+          (page_of (W.contents c.out.now) (W.failed c.out.now) c.refused) p.3 q.3,
+      W.stays_more a.out.now b.out.now c.out.now p.4 q.4,
     ) };
 
     fn step(&mut self, plan: &Plan, step: Step) -> Outcome {
@@ -84,6 +88,8 @@ fn list<W: Lines>(alloc: Global, out: &mut W, plan: &Plan, step: Step) -> Result
     ensures written { OnOk result (Appends (W.contents out.old) (W.contents out.new)
         (step_lines plan.now step)) }
     ensures counted { CountsLines (W.failed out.old) (W.failed out.new) result }
+    ensures kept { result ≡ Err LineFault.Memory → out.new ≡ out.old }
+    ensures stays { W.stays out.old out.new }
 {
     match step {
         Step::Prepare(_) => list_cleaning(alloc, out, plan),
@@ -97,6 +103,8 @@ fn list_cleaning<W: Lines>(alloc: Global, out: &mut W, plan: &Plan) -> Result<()
     ensures written { OnOk result (Appends (W.contents out.old) (W.contents out.new)
         (line_of plan.now.call.dir (clean_command plan.now.call None))) }
     ensures counted { CountsLines (W.failed out.old) (W.failed out.new) result }
+    ensures kept { result ≡ Err LineFault.Memory → out.new ≡ out.old }
+    ensures stays { W.stays out.old out.new }
 {
     let command = plan.cleaning(alloc)?;
     put(out, &command, plan.dir())
@@ -113,6 +121,8 @@ fn list_run<W: Lines>(
     ensures written { OnOk result (Appends (W.contents out.old) (W.contents out.new)
         (run_lines plan.now (slice_get plan.now.quads place))) }
     ensures counted { CountsLines (W.failed out.old) (W.failed out.new) result }
+    ensures kept { result ≡ Err LineFault.Memory → out.new ≡ out.old }
+    ensures stays { W.stays out.old out.new }
 {
     let run = plan.run(alloc, place)?;
     if !plan.cleans_per_run() {
@@ -130,6 +140,8 @@ fn put<W: Lines>(out: &mut W, command: &ProcessBuilder<'_>, dir: &str) -> Result
     ensures written { OnOk result (Appends (W.contents out.old) (W.contents out.new)
         (line_of dir.now (command_of command.now))) }
     ensures counted { CountsLines (W.failed out.old) (W.failed out.new) result }
+    ensures never { result ≢ Err LineFault.Memory }
+    ensures stays { W.stays out.old out.new }
 {
     match out.line(command.listed(dir)) {
         Ok(()) => Ok(()),

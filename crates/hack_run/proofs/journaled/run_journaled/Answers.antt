@@ -4,6 +4,7 @@ use Rattle.hack_files.specs.Files.{Contents, KeepsAll}
 use Rattle.hack_journal.specs.Journal.{edits_of}
 use Rattle.hack_journal.specs.SafeLaws.{stays_join}
 use Rattle.hack_run.specs.Journals.{contents_seen}
+use Rattle.hack_run.specs.Told.{seen_of}
 use Rattle.hack_run.specs.Whole.{IsDone}
 use Rattle.hack_run.proofs.JournalLemmas.{seen_same}
 use Rattle.hack_run.proofs.journaled.run_journaled.Goals as goal
@@ -14,7 +15,7 @@ returns-clause-done g c = λ quiet t files lockfiles.
     let bytes = g.F.Files.bytes_at in
     let ran = rw (c.new-files.ensures.files, c.new.ensures.journal) at c.run-status.ensures.stays in
     let did = rw (c.new-files.ensures.files, c.new-files.ensures.lockfiles, c.new-files.ensures.failures, c.new.ensures.journal, c.new.ensures.files) at (c.run-status.ensures.done quiet t (files, lockfiles)) in
-    subst (λ (last : Contents). IsDone (names_of c.args.words.now) c.args.env.now (contents_seen (string_bytes c.args.journal) (bytes c.args.files) (g.L.Files.bytes_at c.args.lockfiles)) last 0 (g.C.Caller.calls c.args.runner.now) (g.C.Caller.calls c.run-status.new.runner))
+    subst (λ (last : Contents). IsDone (names_of c.args.words.now) c.args.env.now (contents_seen (string_bytes c.args.journal) (bytes c.args.files) (g.L.Files.bytes_at c.args.lockfiles)) last 0 (seen_of c.run-status.new.term (g.O.Write.contents c.args.out.now) (g.O.Write.contents c.run-status.new.out)) (g.C.Caller.calls c.args.runner.now) (g.C.Caller.calls c.run-status.new.runner))
     (seen_same (string_bytes c.args.journal) (string_bytes mid.files.journal) (bytes mid.files.files) (bytes c.finish.new.self.files) (bytes c.into_inner.result) (g.L.Files.bytes_at mid.lockfiles) ran.0.0 (c.finish.ensures.others files) (rw c.into_inner.ensures refl)) did
 
 pub returns-clause-made : goal.returns-clause-made

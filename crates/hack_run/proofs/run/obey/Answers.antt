@@ -1,6 +1,7 @@
 use Rattle.std.proofs.Common.{◌≡◌, OnOk, false, subst, sym}
 use Rattle.hack_words.specs.declared.cli.parse.Parsed.{Parsed}
 use Rattle.hack_run.specs.Restores.{ComesBack, IsClean}
+use Rattle.hack_run.specs.Told.{seen_of}
 use Rattle.hack_run.proofs.BackLemmas.{clean_rest}
 use Rattle.hack_run.proofs.WholeLemmas.{obeys}
 use Rattle.hack_run.proofs.run.obey.Goals as goal
@@ -8,7 +9,7 @@ use Rattle.hack_run.proofs.run.obey.Goals as goal
 pub returns-in-Args-clause-done : goal.returns-in-Args-clause-done
 returns-in-Args-clause-done g c =
     obeys g.C.Caller.tells g.F.Files.tells (c.perform.new.term.error ≡ false) c.perform.result c.in-Args.args c.args.parsed c.args.env.now (g.F.Files.bytes_at c.args.files.now) (g.F.Files.bytes_at c.perform.new.files)
-    (g.F.Files.failed c.args.files.now) (g.C.Caller.calls c.args.runner.now) (g.C.Caller.calls c.perform.new.caller) c.in-Args.is c.perform.ensures.done
+    (g.F.Files.failed c.args.files.now) (seen_of c.perform.new.term (g.O.Write.contents c.args.out.now) (g.O.Write.contents c.perform.new.out)) (g.C.Caller.calls c.args.runner.now) (g.C.Caller.calls c.perform.new.caller) c.in-Args.is c.perform.ensures.done
 
 pub returns-in-Args-clause-clean : goal.returns-in-Args-clause-clean
 returns-in-Args-clause-clean g c =
