@@ -1,5 +1,6 @@
 mod BackLemmas
 mod CallLemmas
+mod GatherLemmas
 mod HeadlineLemmas
 mod JournalLemmas
 mod MadeLemmas

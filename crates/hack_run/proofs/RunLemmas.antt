@@ -1,9 +1,9 @@
 -- The calls of a whole schedule.
-use Rattle.std.proofs.Common.{◌≡◌, ◌⊎◌, inl, inr, refl, arith, ap, zero, suc, Result, Ok, ℕ, List, [], ◌∷◌, ◌++◌, map, filter, All, Bool, Option, Some, None, IsSome, ◌∙◌, sym, subst, true, false}
+use Rattle.std.proofs.Common.{◌≡◌, ◌⊎◌, inl, inr, refl, arith, ap, zero, suc, Result, Ok, Err, OnOk, ℕ, Global, String, List, [], ◌∷◌, ◌++◌, map, filter, All, Bool, Option, Some, None, IsSome, ◌∙◌, sym, subst, true, false}
 use Rattle.std.specs.Prelude.{◌≤◌, ◌<◌, ◌^◌, nat_lt}
 use Rattle.std.specs.List.{flat_map}
-use Rattle.std.specs.Io.KnownBytes.{Appends}
-use Rattle.std.proofs.KnownBytes.{Appends-nil, Appends-trans}
+use Rattle.std.specs.Io.KnownBytes.{Appends, Keeps, append_known}
+use Rattle.std.proofs.KnownBytes.{Appends-kept, Appends-nil, Appends-trans}
 use Rattle.std.proofs.lemmas.List.Elements.{All-cons, All-head, All-tail}
 use Rattle.std.proofs.lemmas.Bool.{lt-ltb}
 use Rattle.hack_process.specs.Calls.{Call}
@@ -21,7 +21,11 @@ use Rattle.hack_session.specs.declared.step.Step.{Step}
 use Rattle.hack_session.specs.declared.step.Step.TheVariants.{Prepare, Skip, Run}
 use Rattle.hack_session.specs.declared.step.Outcome.{Outcome}
 use Rattle.hack_session.specs.declared.step.Outcome.TheVariants.{Passed, Failed}
-use Rattle.hack_run.specs.Runs.{PassesAll, RunsAll, SendsAll}
+use Rattle.hack_base.specs.Names.{Name}
+use Rattle.hack_load.specs.Contexts.{ContextRecord}
+use Rattle.hack_versions.specs.declared.version.Version.{Version}
+use Rattle.hack_run.specs.Runs.{DoesPlan, PassesAll, RunsAll, SendsAll}
+use Rattle.hack_run.proofs.GatherLemmas.{known-none}
 
 -- a step that passed wasn't cut short
 exactly : (plan : PlanView) (step : Step) (calls : List Call) (cut : ℕ) → Performs plan (passed_step step) calls cut → Exactly plan step calls Passed
@@ -167,3 +171,29 @@ sends_all plan piece schedule handed old new before now term fault out grown sch
   where
     all : handed ≡ map passed_step schedule
     all = whole (all_handed handed (all_passed (filter is_sent handed) term fault told none quiet) listed)
+
+-- a list whose end was written: its output grew by its lines
+pub list_ends : {T E : Type 0} (r : Result T E) (refused none short flushed quiet tells : Type 0) (cx : ContextRecord) (stable : Result (Option Version) (String Global)) (rustup : Name) (a b c : Option (List ℕ)) (begun : List ℕ) (old new : List Call) (warn : Bool)
+    → begun ≡ [] → OnOk r (refused × none × short × flushed) → (refused → none → short → quiet → tells → DoesPlan (SendsAll (append_known a begun) b) cx stable rustup old new warn) → (flushed → Keeps b c)
+    → OnOk r (quiet → tells → DoesPlan (SendsAll a c) cx stable rustup old new warn)
+list_ends (Err e) refused none short flushed quiet tells cx stable rustup a b c begun old new warn empty came done kept = tt
+list_ends (Ok v) refused none short flushed quiet tells cx stable rustup a b c begun old new warn empty came done kept = λ q t.
+    let d = done came.0 came.1 came.2 q t in
+    let start : append_known a begun ≡ a = ap (append_known a) empty ∙ known-none a in
+    record {
+      plan = d.plan;
+      notes = d.notes;
+      planned = d.planned;
+      done = record {
+        schedule = d.done.schedule;
+        scheduled = d.done.scheduled;
+        sent = d.done.sent;
+        written = subst (λ (x : Option (List ℕ)). Appends x c (flat_map (step_lines d.plan) d.done.schedule)) start (Appends-kept (append_known a begun) b c (flat_map (step_lines d.plan) d.done.schedule) d.done.written (kept came.3));
+      };
+      warned = d.warned;
+    }
+
+-- what holds where two of its conditions do
+pub list_keeps : {T E : Type 0} (r : Result T E) (refused none short flushed P : Type 0) → OnOk r (refused × none × short × flushed) → (refused → short → P) → OnOk r P
+list_keeps (Err e) refused none short flushed P came keeps = tt
+list_keeps (Ok v) refused none short flushed P came keeps = keeps came.0 came.2

@@ -18,21 +18,21 @@ or_right false b h = h
 
 -- one notice more
 pub told_one : (term : Term) (note : Note) (notes : List Note) → after_notes (after_notice term note.kind) notes ≡ after_notes term (note ∷ notes)
-told_one term note notes = go note.kind term.warn refl
+told_one term note notes = go note.kind (have_warning notes) refl
   where
-    go : (kind : NoticeKind) (warn : Bool) → term.warn ≡ warn → after_notes (after_notice term kind) notes ≡ after_notes term (record { kind = kind; text = note.text } ∷ notes)
-    go Info warn e = refl
-    go QuietWarn warn e = refl
+    go : (kind : NoticeKind) (more : Bool) → have_warning notes ≡ more → after_notes (after_notice term kind) notes ≡ after_notes term (record { kind = kind; text = note.text } ∷ notes)
+    go Info more e = refl
+    go QuietWarn more e = refl
     go Warn true e = rw e refl
     go Warn false e = rw e refl
 
 -- a warning that was noted stays behind notices
 pub kept_told : (old new : Term) (notes : List Note) → new ≡ after_notes old notes → KeepsWarning old new
-kept_told old new notes e = λ h. subst (λ (k : Term). IsTrue k.warn) (sym e) (or_left old.warn (have_warning notes) h)
+kept_told old new notes e = λ h. subst (λ (k : Term). IsTrue k.warn) (sym e) (or_right (have_warning notes) old.warn h)
 
 -- a warning among them is noted
 pub warned_told : (old new : Term) (notes : List Note) → new ≡ after_notes old notes → Warned notes new.warn
-warned_told old new notes e = λ h. subst (λ (k : Term). IsTrue k.warn) (sym e) (or_right old.warn (have_warning notes) h)
+warned_told old new notes e = λ h. subst (λ (k : Term). IsTrue k.warn) (sym e) (or_left (have_warning notes) old.warn h)
 
 -- behind the notices of what is loaded and of its edits
 pub kept_through : {T E : Type 0} (r : Result T E) (a b c d : Term) (first second : List Note) → b ≡ after_notes a first → c ≡ after_notes b second → OnOk r (KeepsWarning c d) → OnOk r (KeepsWarning a d)

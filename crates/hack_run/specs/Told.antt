@@ -22,7 +22,7 @@ have_warning notes = list_any is_warning notes
 
 -- what told notes leave: a warning is noted where one was before or some of them counts as one, and all else stays
 abbrev pub after_notes : Term → List Note → Term
-after_notes term notes = record term { warn = term.warn || have_warning notes }
+after_notes term notes = record term { warn = have_warning notes || term.warn }
 
 -- where some of the notes counts as a warning, one is noted
 abbrev pub Warned : List Note → Bool → Type 0
@@ -41,3 +41,7 @@ pub record Seen : Type 0 where
 -- what is seen of a terminal and an output
 abbrev pub seen_of : Term → Option (List ℕ) → Option (List ℕ) → Seen
 seen_of term before now = record { warn = term.warn; before = before; now = now }
+
+-- two values in one
+abbrev pub both : {A B : Type 0} → A → B → A × B
+both a b = (a, b)

@@ -4,6 +4,7 @@ ghost use Rattle.std.specs.Prelude.{◌≡◌, ◌≤◌, ◌++◌, [], IfOk, If
 ghost use Rattle.std.specs.Prelude.{true, vec_len};
 ghost use Rattle.std.specs.Fmt.{with_newline};
 ghost use Rattle.std.specs.Io.KnownBytes.{Appends, Keeps, append_known};
+ghost use Rattle.hack_run.specs.Told.{both};
 
 use hack_session::session::Lines;
 use std::alloc::{AllocError, Global};
@@ -88,6 +89,7 @@ fn put_line<O: Write, D: fmt::Display + Drop>(
 }
 
 /// Gathers the parts of a text.
+#[derive(Drop)]
 struct Gatherer<'a, O: Write> {
     out: &'a mut O,
     gathered: &'a mut Vec<u8>,
@@ -95,8 +97,8 @@ struct Gatherer<'a, O: Write> {
 
 impl<O: Write> fmt::Write for Gatherer<'_, O> {
 
-    ghost write_str_gives = { λ a text b. (b.out.ghost_name ≡ a.out.ghost_name)
-        × (b.gathered.ghost_name ≡ a.gathered.ghost_name)
+    ghost write_str_gives = { λ a text b.
+        (both b.out.ghost_name b.gathered.ghost_name ≡ both a.out.ghost_name a.gathered.ghost_name)
         × Appends (append_known (O.contents a.out.now) a.gathered.now.items)
         (append_known (O.contents b.out.now) b.gathered.now.items) text };
 
