@@ -179,17 +179,17 @@ unchanged tells a x = (λ low. omega (arith, low), λ t q. refl)
 
 -- a fault that leaves nothing behind
 pub whole-left : (path : Name) (tells : Type 0) (a b : Contents) (x y : ℕ) (e : AskFault) → IsNoFileFault e → Whole tells a b x y → LeftBy path tells a b x y e
-whole-left path tells a b x y fault.Memory no h = inl h
-whole-left path tells a b x y fault.NoHost no h = h
-whole-left path tells a b x y (fault.Process e) no h = h
-whole-left path tells a b x y (fault.Files e) no h = absurd no
-whole-left path tells a b x y (fault.Output text) no h = h
-whole-left path tells a b x y (fault.Field name) no h = h
+whole-left path tells a b x y fault.Memory spares h = inl h
+whole-left path tells a b x y fault.NoHost spares h = h
+whole-left path tells a b x y (fault.Process e) spares h = h
+whole-left path tells a b x y (fault.Files e) spares h = absurd spares
+whole-left path tells a b x y (fault.Output text) spares h = h
+whole-left path tells a b x y (fault.Field name) spares h = h
 
 -- an answer that leaves nothing behind
 pub whole-leaves : {X : Type 0} (path : Name) (tells : Type 0) (a b : Contents) (x y : ℕ) (r : Result X AskFault) → IfErr r IsNoFileFault → Whole tells a b x y → Leaves path tells a b x y r
-whole-leaves path tells a b x y (Ok v) no h = h
-whole-leaves path tells a b x y (Err e) no h = whole-left path tells a b x y e no h
+whole-leaves path tells a b x y (Ok v) spares h = h
+whole-leaves path tells a b x y (Err e) spares h = whole-left path tells a b x y e spares h
 
 -- a text that isn't read as it should be is no fault of the files
 pub text-spares : {A : Type 0} (f : Members → Field A) (text shown : Name) (e : AskFault) → IsTextFault f text shown e → IsNoFileFault e
