@@ -1,4 +1,5 @@
 -- Calls that a question makes, and what is made of its answer.
+use Rattle.std.specs.Str.{IsUtf8}
 use Rattle.std.proofs.Common.{◌≡◌, refl, inl, inr, List, Option, Some, None, Result, Ok, Err, IfOk, IfErr, OnOk, IsSome, Bool, true, false, sym, subst, ◌^◌, ◌-◌, Global, String}
 use Rattle.hack_base.specs.Names.{Name}
 use Rattle.hack_process.specs.Calls.{Answer, Asked, Call, IsSuccess, MayAdd}
@@ -62,11 +63,11 @@ installed tells Ended Cut old new (Err e) h = tt
 
 -- the answer that was read tells the version
 pub reads : (tells : Type 0) (rustup answer : Name) (c : Command) (old new : List Call) → c ≡ stable_command rustup
-    → (tells → Had (λ told. IsSuccess told.end × (answer ≡ without_line_ends told.stdout)) (asked_of true c) old new)
+    → (tells → Had (λ told. IsSuccess told.end × IsUtf8 told.stdout × (answer ≡ without_line_ends told.stdout)) (asked_of true c) old new)
     → (v : Version) → TellsRelease (release_part answer) v → tells → ReadsStable rustup v old new
 reads tells rustup answer c old new is had v told t = record {
   answer = answer;
-  read = subst (λ k. Had (λ told. IsSuccess told.end × (answer ≡ without_line_ends told.stdout)) (asked_of true k) old new) is (had t);
+  read = subst (λ k. Had (λ told. IsSuccess told.end × IsUtf8 told.stdout × (answer ≡ without_line_ends told.stdout)) (asked_of true k) old new) is (had t);
   told = told;
 }
 
@@ -84,11 +85,11 @@ is_known P (Err e) p = tt
 
 -- rustup was asked, and its answer read
 pub asks_rustup : {E : Type 0} (tells : Type 0) (wants : Bool) (rustup answer : Name) (c : Command) (old new : List Call) (r : Result Rustup E) → wants ≡ true → c ≡ rustup_command rustup
-    → (tells → Had (λ told. IsSuccess told.end × (answer ≡ without_line_ends told.stdout)) (asked_of true c) old new) → IfOk r (TellsMinor answer) → IfOk r (λ known. tells → AsksRustup wants rustup known old new)
+    → (tells → Had (λ told. IsSuccess told.end × IsUtf8 told.stdout × (answer ≡ without_line_ends told.stdout)) (asked_of true c) old new) → IfOk r (TellsMinor answer) → IfOk r (λ known. tells → AsksRustup wants rustup known old new)
 asks_rustup tells wants rustup answer c old new (Ok known) is same had told = λ t.
     subst (λ b. AsksRustup b rustup known old new) (sym is) (inl (record {
       answer = answer;
-      read = subst (λ k. Had (λ told. IsSuccess told.end × (answer ≡ without_line_ends told.stdout)) (asked_of true k) old new) same (had t);
+      read = subst (λ k. Had (λ told. IsSuccess told.end × IsUtf8 told.stdout × (answer ≡ without_line_ends told.stdout)) (asked_of true k) old new) same (had t);
       told = told;
     }))
 asks_rustup tells wants rustup answer c old new (Err e) is same had told = tt

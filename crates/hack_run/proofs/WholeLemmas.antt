@@ -71,18 +71,18 @@ moved args answers rustup first asked prepared last old new same stay f = record
 
 -- behind the answers, what followed them
 pub performs : {T E : Type 0} (tells told holds X : Type 0) (r : Result T E) (args : Args) (env : Env) (first asked prepared last : Contents) (before later : ℕ) (old mid new : List Call) (answers : Answers) (mute now : Bool)
-    → (tells → told → AreAnswers args env first before later old mid answers)
+    → (tells → AreAnswers told args env first before later old mid answers)
     → (IsTrue mute ⊎ X → IsTrue now)
     → (told → holds) → OnOk answers.loaded (told → KeepsAll first asked) → (told → args.remove_dev_deps ≡ true → KeepsAll prepared last)
     → OnOk r (mute ≡ false → tells → holds → Follows args answers (string_bytes env.rustup) asked prepared mid new)
-    → OnOk r (now ≡ false → tells → told → Performs args env first last before old new)
+    → OnOk r (now ≡ false → tells → told → Performs told args env first last before old new)
 performs tells told holds X r args env first asked prepared last before later old mid new answers mute now answered noted held whole stay follows =
     on_ok (mute ≡ false → tells → holds → Follows args answers (string_bytes env.rustup) asked prepared mid new)
-    (now ≡ false → tells → told → Performs args env first last before old new) r
+    (now ≡ false → tells → told → Performs told args env first last before old new) r
     (λ f quiet t u.
     let g = f (quiet_before X mute now noted quiet) t (held u) in
     let same : KeepsAll first asked = subst (λ (a : Result Loaded ContextFault). OnOk a (told → KeepsAll first asked)) g.context.1 whole u in
-    record { answers = answers; now = later; mid = mid; asked = answered t u; follows = moved args answers (string_bytes env.rustup) first asked prepared last mid new same (stay u) g }) follows
+    record { answers = answers; now = later; mid = mid; asked = answered t; follows = moved args answers (string_bytes env.rustup) first asked prepared last mid new same (stay u) g }) follows
 
 -- a call that told no error in the end came to no fault
 pub comes : {T E : Type 0} (X : Type 0) (r : Result T E) (before now : Term) → OnOk r (before.error ≡ false → X) → OnOk r (now ≡ before) → OnErr r (now.error ≡ true) → now.error ≡ false → X
@@ -96,16 +96,16 @@ told_fault (Err e) now told is = told
 
 -- what arguments ask for was done
 pub obeys : {T E : Type 0} (tells told quiet : Type 0) (r : Result T E) (args : Args) (answer : Parsed) (env : Env) (held last : Contents) (before : ℕ) (old new : List Call) → answer ≡ parsed.Args args
-    → OnOk r (quiet → tells → told → Performs args env held last before old new)
-    → OnOk r (quiet → tells → told → Obeys answer env held last before old new)
+    → OnOk r (quiet → tells → told → Performs told args env held last before old new)
+    → OnOk r (quiet → tells → told → Obeys told answer env held last before old new)
 obeys tells told quiet r args answer env held last before old new is performed =
-    subst (λ (a : Parsed). OnOk r (quiet → tells → told → Obeys a env held last before old new)) (sym is) performed
+    subst (λ (a : Parsed). OnOk r (quiet → tells → told → Obeys told a env held last before old new)) (sym is) performed
 
 -- the words were read, and what they ask for was done
 pub done : {T E : Type 0} (tells told quiet : Type 0) (r : Result T E) (words : List Name) (env : Env) (held last : Contents) (before : ℕ) (old mid new : List Call) (rustup : Rustup) (answer : Parsed) (notes : List Note)
     → IsAnswer (around_of env rustup) (ComesTo (around_of env rustup) words) answer notes → (tells → AsksRustup (wants_rustup words) (string_bytes env.rustup) rustup old mid)
-    → OnOk r (quiet → tells → told → Obeys answer env held last before mid new)
-    → OnOk r (quiet → tells → told → IsDone words env held last before old new)
+    → OnOk r (quiet → tells → told → Obeys told answer env held last before mid new)
+    → OnOk r (quiet → tells → told → IsDone told words env held last before old new)
 done tells told quiet r words env held last before old mid new rustup answer notes read asked obeyed =
-    on_ok (quiet → tells → told → Obeys answer env held last before mid new) (quiet → tells → told → IsDone words env held last before old new) r
+    on_ok (quiet → tells → told → Obeys told answer env held last before mid new) (quiet → tells → told → IsDone told words env held last before old new) r
     (λ f q t u. record { rustup = rustup; answer = answer; notes = notes; mid = mid; asked = asked t; read = read; obeyed = f q t u }) obeyed

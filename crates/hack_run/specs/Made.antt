@@ -83,11 +83,11 @@ abbrev pub AfterAnswers : Args → Answers → Name → List Call → List Call 
 AfterAnswers args answers rustup old new = (new ≡ old) ⊎ ((cx : ContextRecord) × IsContextFrom args answers cx × GoesOn cx rustup old new)
 
 -- the questions of these arguments were asked in their order, up to one that ended them, and then that was gone on with
-pub record MakesOnce (args : Args) (env : Env) (held : Contents) (before : ℕ) (old new : List Call) : Type 0 where
+pub record MakesOnce (tells : Type 0) (args : Args) (env : Env) (held : Contents) (before : ℕ) (old new : List Call) : Type 0 where
   pub answers : Answers
   pub now : ℕ
   pub mid : List Call
-  pub asked : AreAnswers args env held before now old mid answers
+  pub asked : AreAnswers tells args env held before now old mid answers
   pub behind : AfterAnswers args answers (string_bytes env.rustup) mid new
 
 -- cargo is asked to list its commands, as a caller is asked
@@ -95,23 +95,23 @@ abbrev pub listing_asked : Name → Asked
 listing_asked cargo = asked_of false (plain_command cargo [] (codes "--list" ∷ []))
 
 -- what words ask for was tried once: a history was performed, a text was printed, or cargo was called for its commands
-abbrev pub TriesOnce : Parsed → Env → Contents → ℕ → List Call → List Call → Type 0
-TriesOnce (parsed.Args args) env held before old new = MakesOnce args env held before old new
-TriesOnce (parsed.Print text) env held before old new = new ≡ old
-TriesOnce parsed.List env held before old new = MayAdd (listing_asked (string_bytes env.cargo)) old new
+abbrev pub TriesOnce : Type 0 → Parsed → Env → Contents → ℕ → List Call → List Call → Type 0
+TriesOnce tells (parsed.Args args) env held before old new = MakesOnce tells args env held before old new
+TriesOnce tells (parsed.Print text) env held before old new = new ≡ old
+TriesOnce tells parsed.List env held before old new = MayAdd (listing_asked (string_bytes env.cargo)) old new
 
 -- the words were read, behind what was asked of rustup for them, and what they ask for was tried once
-pub record TriesRead (words : List Name) (env : Env) (held : Contents) (before : ℕ) (old mid new : List Call) : Type 0 where
+pub record TriesRead (tells : Type 0) (words : List Name) (env : Env) (held : Contents) (before : ℕ) (old mid new : List Call) : Type 0 where
   pub rustup : Rustup
   pub answer : Parsed
   pub notes : List Note
   pub told : AsksRustup (wants_rustup words) (string_bytes env.rustup) rustup old mid
   pub read : IsAnswer (around_of env rustup) (ComesTo (around_of env rustup) words) answer notes
-  pub tried : TriesOnce answer env held before mid new
+  pub tried : TriesOnce tells answer env held before mid new
 
 -- rustup was asked for its version at most, where a word needs it; behind it nothing was called, or what the words ask for was tried once
-pub record MadeOnce (words : List Name) (env : Env) (held : Contents) (before : ℕ) (old new : List Call) : Type 0 where
+pub record MadeOnce (tells : Type 0) (words : List Name) (env : Env) (held : Contents) (before : ℕ) (old new : List Call) : Type 0 where
   pub mid : List Call
   pub asked : MayAdd (rustup_asked (string_bytes env.rustup)) old mid
   pub needed : wants_rustup words ≡ false → mid ≡ old
-  pub behind : (new ≡ mid) ⊎ TriesRead words env held before old mid new
+  pub behind : (new ≡ mid) ⊎ TriesRead tells words env held before old mid new

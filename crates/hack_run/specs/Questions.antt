@@ -1,5 +1,6 @@
 -- What rustup is asked before there is a plan.
 use Rattle.std.specs.Prelude.{◌≡◌, ◌⊎◌, ◌∷◌, ◌^◌, ◌-◌, [], Bool, List, Option, Some, None, Result, Ok, Err, IfOk, IfSome, IsSome, IsSomeAnd, codes, false, true}
+use Rattle.std.specs.Str.{IsUtf8}
 use Rattle.std.proofs.Common.{Global, String}
 use Rattle.hack_base.specs.Names.{Name}
 use Rattle.hack_process.specs.Calls.{Asked, Call, IsSuccess, MayAdd}
@@ -39,7 +40,7 @@ IsUnknown (Unknown text) = Unit {0}
 -- rustup was asked, and its answer tells this minor version
 pub record ReadsRustup (rustup : Name) (known : Rustup) (old new : List Call) : Type 0 where
   pub answer : Name
-  pub read : Had (λ told. IsSuccess told.end × (answer ≡ without_line_ends told.stdout)) (rustup_asked rustup) old new
+  pub read : Had (λ told. IsSuccess told.end × IsUtf8 told.stdout × (answer ≡ without_line_ends told.stdout)) (rustup_asked rustup) old new
   pub told : TellsMinor answer known
 
 -- where a word needs it, rustup was asked, and what is known of it is what it told; where asking failed it isn't known. Where no
@@ -60,7 +61,7 @@ InstallsStable rustup old new =
 -- stable's cargo told this version
 pub record ReadsStable (rustup : Name) (v : Version) (old new : List Call) : Type 0 where
   pub answer : Name
-  pub read : Had (λ told. IsSuccess told.end × (answer ≡ without_line_ends told.stdout)) (asked_of true (stable_command rustup)) old new
+  pub read : Had (λ told. IsSuccess told.end × IsUtf8 told.stdout × (answer ≡ without_line_ends told.stdout)) (asked_of true (stable_command rustup)) old new
   pub told : TellsRelease (release_part answer) v
 
 -- the toolchain was made sure of, and then its cargo told this version

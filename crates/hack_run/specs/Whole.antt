@@ -53,11 +53,11 @@ pub record Follows (args : Args) (answers : Answers) (rustup : Name) (held last 
   pub edited : args.remove_dev_deps ≡ true → IsPrepared (wanted_in cx) (members_in cx) held last
 
 -- for these arguments the answers were told or read, and then followed
-pub record Performs (args : Args) (env : Env) (held last : Contents) (before : ℕ) (old new : List Call) : Type 0 where
+pub record Performs (tells : Type 0) (args : Args) (env : Env) (held last : Contents) (before : ℕ) (old new : List Call) : Type 0 where
   pub answers : Answers
   pub now : ℕ
   pub mid : List Call
-  pub asked : AreAnswers args env held before now old mid answers
+  pub asked : AreAnswers tells args env held before now old mid answers
   pub follows : Follows args answers (string_bytes env.rustup) held last mid new
 
 -- cargo listed its commands
@@ -65,17 +65,17 @@ abbrev pub ListsCommands : Name → List Call → List Call → Type 0
 ListsCommands cargo old new = Had (λ answer. IsSuccess answer.end) (asked_of false (plain_command cargo [] (codes "--list" ∷ []))) old new
 
 -- what words ask for was done: the schedule was run or listed, a text was printed, or cargo listed its commands
-abbrev pub Obeys : Parsed → Env → Contents → Contents → ℕ → List Call → List Call → Type 0
-Obeys (parsed.Args args) env held last before old new = Performs args env held last before old new
-Obeys (parsed.Print text) env held last before old new = new ≡ old
-Obeys parsed.List env held last before old new = ListsCommands (string_bytes env.cargo) old new
+abbrev pub Obeys : Type 0 → Parsed → Env → Contents → Contents → ℕ → List Call → List Call → Type 0
+Obeys tells (parsed.Args args) env held last before old new = Performs tells args env held last before old new
+Obeys tells (parsed.Print text) env held last before old new = new ≡ old
+Obeys tells parsed.List env held last before old new = ListsCommands (string_bytes env.cargo) old new
 
 -- the words were read, behind what was asked of rustup for them, and what they ask for was done
-pub record IsDone (words : List Name) (env : Env) (held last : Contents) (before : ℕ) (old new : List Call) : Type 0 where
+pub record IsDone (tells : Type 0) (words : List Name) (env : Env) (held last : Contents) (before : ℕ) (old new : List Call) : Type 0 where
   pub rustup : Rustup
   pub answer : Parsed
   pub notes : List Note
   pub mid : List Call
   pub asked : AsksRustup (wants_rustup words) (string_bytes env.rustup) rustup old mid
   pub read : IsAnswer (around_of env rustup) (ComesTo (around_of env rustup) words) answer notes
-  pub obeyed : Obeys answer env held last before mid new
+  pub obeyed : Obeys tells answer env held last before mid new

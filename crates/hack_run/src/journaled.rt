@@ -48,11 +48,11 @@ pub fn run_journaled<F: Files, L: Files, C: Caller, O: Write, E: Write>(
         × (C.tells → MayAdd (rustup_asked (string_bytes env.now.rustup))
         (C.calls runner.old) (C.calls runner.new)) }
     ensures done { term.new.error ≡ false → C.tells → F.tells → L.tells
-        → IsDone (names_of words.now) env.now
+        → IsDone (F.tells × L.tells) (names_of words.now) env.now
         (contents_seen (string_bytes journal) (F.bytes_at files) (L.bytes_at lockfiles))
         (contents_seen (string_bytes journal) (F.bytes_at result.1) (L.bytes_at result.2)) 0
         (C.calls runner.old) (C.calls runner.new) }
-    ensures made { C.tells → F.tells → L.tells → MadeOnce (names_of words.now) env.now
+    ensures made { C.tells → MadeOnce (F.tells × L.tells) (names_of words.now) env.now
         (contents_seen (string_bytes journal) (F.bytes_at files) (L.bytes_at lockfiles)) 0
         (C.calls runner.old) (C.calls runner.new) }
     ensures clean { term.new.error ≡ false → RestoresEdits env.now (names_of words.now)

@@ -51,13 +51,13 @@ pub fn run<F: Files, C: Caller, O: Write, E: Write>(
     // Where no error was told, what the words ask for was done: the calls end with those of the
     // whole schedule of the plan, for what was told and read in this call. Under
     // `--remove-dev-deps` each manifest that is edited holds its edit, and all else what it held.
-    ensures done { term.new.error ≡ false → C.tells → F.tells → IsDone (names_of words.now)
-        env.now (F.bytes_at files.old) (F.bytes_at files.new) (F.failed files.old)
+    ensures done { term.new.error ≡ false → C.tells → F.tells → IsDone F.tells
+        (names_of words.now) env.now (F.bytes_at files.old) (F.bytes_at files.new) (F.failed files.old)
         (C.calls runner.old) (C.calls runner.new) }
 
     // Whatever comes of the call: behind its questions the steps of one history of the plan made
     // just their calls, or no step did.
-    ensures made { C.tells → F.tells → MadeOnce (names_of words.now) env.now
+    ensures made { C.tells → MadeOnce F.tells (names_of words.now) env.now
         (F.bytes_at files.old) (F.failed files.old) (C.calls runner.old) (C.calls runner.new) }
 
     // Files come back: unless the words ask for edits that stay, each path holds what it held, but
@@ -93,9 +93,9 @@ fn read<F: Files, C: Caller, O: Write, E: Write>(
         × (C.tells → MayAdd (rustup_asked (string_bytes env.now.rustup))
         (C.calls runner.old) (C.calls runner.new)) }
     ensures done { OnOk result (term.new.error ≡ false → C.tells → F.tells
-        → IsDone (names_of words.now) env.now (F.bytes_at files.old) (F.bytes_at files.new)
-        (F.failed files.old) (C.calls runner.old) (C.calls runner.new)) }
-    ensures made { C.tells → F.tells → MadeOnce (names_of words.now) env.now
+        → IsDone F.tells (names_of words.now) env.now (F.bytes_at files.old)
+        (F.bytes_at files.new) (F.failed files.old) (C.calls runner.old) (C.calls runner.new)) }
+    ensures made { C.tells → MadeOnce F.tells (names_of words.now) env.now
         (F.bytes_at files.old) (F.failed files.old) (C.calls runner.old) (C.calls runner.new) }
     ensures back { RestoresEdits env.now (names_of words.now) → F.tells → LeavesFew (Unit {0})
         (F.bytes_at files.old) (F.bytes_at files.new) (F.failed files.old) (F.failed files.new) }
@@ -138,9 +138,9 @@ fn obey<F: Files, C: Caller, O: Write, E: Write>(
 ) -> Result<(), RunFault>
     ensures stays { F.stays files.old files.new }
     ensures done { OnOk result (term.new.error ≡ false → C.tells → F.tells
-        → Obeys parsed env.now (F.bytes_at files.old) (F.bytes_at files.new)
+        → Obeys F.tells parsed env.now (F.bytes_at files.old) (F.bytes_at files.new)
         (F.failed files.old) (C.calls runner.old) (C.calls runner.new)) }
-    ensures made { C.tells → F.tells → TriesOnce parsed env.now (F.bytes_at files.old)
+    ensures made { C.tells → TriesOnce F.tells parsed env.now (F.bytes_at files.old)
         (F.failed files.old) (C.calls runner.old) (C.calls runner.new) }
     ensures back { ComesBack parsed → F.tells → LeavesFew (Unit {0})
         (F.bytes_at files.old) (F.bytes_at files.new) (F.failed files.old) (F.failed files.new) }

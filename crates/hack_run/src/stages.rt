@@ -45,9 +45,9 @@ pub(crate) fn perform<F: Files, C: Caller, O: Write, E: Write>(
 ) -> Result<(), RunFault>
     ensures stays { F.stays files.old files.new }
     ensures done { OnOk result (term.new.error ≡ false → C.tells → F.tells
-        → Performs args env.now (F.bytes_at files.old) (F.bytes_at files.new)
+        → Performs F.tells args env.now (F.bytes_at files.old) (F.bytes_at files.new)
         (F.failed files.old) (C.calls caller.old) (C.calls caller.new)) }
-    ensures made { C.tells → F.tells → MakesOnce args env.now (F.bytes_at files.old)
+    ensures made { C.tells → MakesOnce F.tells args env.now (F.bytes_at files.old)
         (F.failed files.old) (C.calls caller.old) (C.calls caller.new) }
     ensures back { args.remove_dev_deps ≡ false → F.tells → LeavesFew (Unit {0})
         (F.bytes_at files.old) (F.bytes_at files.new) (F.failed files.old) (F.failed files.new) }

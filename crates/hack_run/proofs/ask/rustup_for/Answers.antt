@@ -1,3 +1,4 @@
+use Rattle.std.specs.Str.{IsUtf8}
 use Rattle.std.proofs.Common.{◌≡◌, subst, sym, true, string_bytes}
 use Rattle.hack_base.specs.Names.{names_of}
 use Rattle.hack_words.specs.Start.{wants_rustup}
@@ -12,7 +13,7 @@ use Rattle.hack_run.proofs.ask.rustup_for.Goals as goal
 pub returns-clause-may : goal.returns-clause-may
 returns-clause-may g c = λ t.
     subst (λ k. MayAdd (asked_of true k) (g.C.Caller.calls c.args.caller.now) (g.C.Caller.calls c.read.new.caller)) c.in_ok-asked.ensures
-    (read_may g.C.Caller.tells (λ text answer. IsSuccess answer.end × (string_bytes text ≡ without_line_ends answer.stdout)) (asked_of true (command_of c.in_ok-asked.asked)) (text_of true c.as_str.result.now (command_of c.in_ok-asked.asked)) (g.C.Caller.calls c.args.caller.now) (g.C.Caller.calls c.read.new.caller) c.read.result c.read.ensures.ok c.read.ensures.err t)
+    (read_may g.C.Caller.tells (λ text answer. IsSuccess answer.end × IsUtf8 answer.stdout × (string_bytes text ≡ without_line_ends answer.stdout)) (asked_of true (command_of c.in_ok-asked.asked)) (text_of true c.as_str.result.now (command_of c.in_ok-asked.asked)) (g.C.Caller.calls c.args.caller.now) (g.C.Caller.calls c.read.new.caller) c.read.result c.read.ensures.ok c.read.ensures.err t)
 
 pub returns-clause-asked : goal.returns-clause-asked
 returns-clause-asked g c =

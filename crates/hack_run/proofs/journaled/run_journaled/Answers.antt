@@ -14,12 +14,12 @@ returns-clause-done g c = λ quiet t files lockfiles.
     let bytes = g.F.Files.bytes_at in
     let ran = rw (c.new-files.ensures.files, c.new.ensures.journal) at c.run-status.ensures.stays in
     let did = rw (c.new-files.ensures.files, c.new-files.ensures.lockfiles, c.new-files.ensures.failures, c.new.ensures.journal, c.new.ensures.files) at (c.run-status.ensures.done quiet t (files, lockfiles)) in
-    subst (λ (last : Contents). IsDone (names_of c.args.words.now) c.args.env.now (contents_seen (string_bytes c.args.journal) (bytes c.args.files) (g.L.Files.bytes_at c.args.lockfiles)) last 0 (g.C.Caller.calls c.args.runner.now) (g.C.Caller.calls c.run-status.new.runner))
+    subst (λ (last : Contents). IsDone (g.F.Files.tells × g.L.Files.tells) (names_of c.args.words.now) c.args.env.now (contents_seen (string_bytes c.args.journal) (bytes c.args.files) (g.L.Files.bytes_at c.args.lockfiles)) last 0 (g.C.Caller.calls c.args.runner.now) (g.C.Caller.calls c.run-status.new.runner))
     (seen_same (string_bytes c.args.journal) (string_bytes mid.files.journal) (bytes mid.files.files) (bytes c.finish.new.self.files) (bytes c.into_inner.result) (g.L.Files.bytes_at mid.lockfiles) ran.0.0 (c.finish.ensures.others files) (rw c.into_inner.ensures refl)) did
 
 pub returns-clause-made : goal.returns-clause-made
-returns-clause-made g c = λ t files lockfiles.
-    rw (c.new-files.ensures.files, c.new-files.ensures.lockfiles, c.new-files.ensures.failures, c.new.ensures.journal, c.new.ensures.files) at (c.run-status.ensures.made t (files, lockfiles))
+returns-clause-made g c = λ t.
+    rw (c.new-files.ensures.files, c.new-files.ensures.lockfiles, c.new-files.ensures.failures, c.new.ensures.journal, c.new.ensures.files) at (c.run-status.ensures.made t)
 
 pub returns-clause-clean : goal.returns-clause-clean
 returns-clause-clean g c = λ quiet back files lockfiles.

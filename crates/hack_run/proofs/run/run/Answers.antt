@@ -9,7 +9,7 @@ returns-clause-refused g c = λ refused. let h = c.read-came.ensures.refused ref
 
 pub returns-clause-done : goal.returns-clause-done
 returns-clause-done g c =
-    comes (g.C.Caller.tells → g.F.Files.tells → IsDone (names_of c.args.words.now) c.args.env.now (g.F.Files.bytes_at c.args.files.now) (g.F.Files.bytes_at c.read-came.new.files) (g.F.Files.failed c.args.files.now) (g.C.Caller.calls c.args.runner.now) (g.C.Caller.calls c.read-came.new.runner))
+    comes (g.C.Caller.tells → g.F.Files.tells → IsDone g.F.Files.tells (names_of c.args.words.now) c.args.env.now (g.F.Files.bytes_at c.args.files.now) (g.F.Files.bytes_at c.read-came.new.files) (g.F.Files.failed c.args.files.now) (g.C.Caller.calls c.args.runner.now) (g.C.Caller.calls c.read-came.new.runner))
     c.read-came.result c.read-came.new.term c.tell_end.new.term c.read-came.ensures.done c.tell_end.ensures.ok c.tell_end.ensures.err
 
 pub returns-clause-clean : goal.returns-clause-clean
