@@ -52,8 +52,8 @@ pub fn run<F: Files, C: Caller, O: Write, E: Write>(
     // whole schedule of the plan, for what was told and read in this call. Under
     // `--remove-dev-deps` each manifest that is edited holds its edit, and all else what it held.
     ensures done { term.new.error ≡ false → C.tells → F.tells → IsDone F.tells
-        (names_of words.now) env.now (F.bytes_at files.old) (F.bytes_at files.new) (F.failed files.old)
-        (C.calls runner.old) (C.calls runner.new) }
+        (names_of words.now) env.now (F.bytes_at files.old) (F.bytes_at files.new)
+        (F.failed files.old) (C.calls runner.old) (C.calls runner.new) }
 
     // Whatever comes of the call: behind its questions the steps of one history of the plan made
     // just their calls, or no step did.
