@@ -1,7 +1,7 @@
 //! The chosen packages as a plan has them.
 
 ghost use Rattle.std.specs.Prelude.{◌≡◌, All, Contains, IfOk, map};
-ghost use Rattle.hack_features.specs.Feature.{groups_of};
+ghost use Rattle.hack_feature_map.specs.Feature.{groups_of};
 ghost use Rattle.hack_base.specs.Names.{names_of, names_behind};
 ghost use Rattle.hack_packages.specs.KindsView.{candidates_in, runs_of};
 ghost use Rattle.hack_plan.specs.RunsView.{runs_in};
@@ -14,7 +14,7 @@ ghost use Rattle.hack_calls.specs.Calls.{IsPlanned, ArePlanned};
 use crate::words::given_path;
 use hack_base::copies::copies;
 use hack_base::notice::Notice;
-use hack_features::Feature;
+use hack_feature_map::Feature;
 use hack_load::context::Context;
 use hack_load::process::features_for;
 use hack_metadata::metadata::PackageId;

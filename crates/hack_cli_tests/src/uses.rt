@@ -1,6 +1,6 @@
 //! Options as they were written, and names as features.
 
-use hack_features::Feature;
+use hack_feature_map::Feature;
 use hack_lexopt::Arg;
 use hack_options::Opt;
 use hack_rules::named::{names, normals};

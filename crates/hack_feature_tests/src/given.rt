@@ -1,6 +1,6 @@
 //! Feature maps, features and whole choices, made from short texts.
 
-use hack_features::Feature;
+use hack_feature_map::Feature;
 use std::alloc::{AllocError, Global};
 use std::collections::BTreeMap;
 

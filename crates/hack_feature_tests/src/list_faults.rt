@@ -2,7 +2,7 @@
 //! and what is told of it.
 
 use crate::given::words;
-use hack_features::Feature;
+use hack_feature_map::Feature;
 use hack_plan::runs::Run;
 use hack_powerset_list::{Ending, ListFault, call_powerset_list, command, powerset_list};
 use hack_process::process::ProcessBuilder;

@@ -3,8 +3,8 @@ use Rattle.std.proofs.Common.{◌≡◌, ℕ, zero, suc, ◌<◌, ◌≤◌, ari
 use Rattle.std.specs.Prelude.{not}
 use Rattle.std.proofs.lemmas.List.{get_or-map, length-map}
 use Rattle.std.specs.Borrow.{Bor}
-use Rattle.hack_features.specs.declared.feature.Feature.{Feature}
-use Rattle.hack_features.specs.Feature.{group_of, candidates_of}
+use Rattle.hack_feature_map.specs.declared.feature.Feature.{Feature}
+use Rattle.hack_feature_map.specs.Feature.{group_of, candidates_of}
 use Rattle.hack_features.specs.Tables.{cell}
 
 -- a table has no entry past its rows

@@ -15,12 +15,13 @@ use Rattle.std.proofs.lemmas.List.{take_more, get_or-map, length-map}
 use Rattle.std.proofs.Math.Seq.{take-length}
 use Rattle.hack_base.proofs.Members.{Contains-head, Contains-tail, Contains-nil, Contains-cons_cases}
 use Rattle.hack_base.proofs.NameLemmas.{same_text, differ}
-use Rattle.hack_features.proofs.NameSetLemmas.{has-more, has_just-nil}
+use Rattle.hack_feature_map.proofs.NameSetLemmas.{has-more, has_just-nil}
 use Rattle.hack_base.specs.Names.{Name, names_of}
-use Rattle.hack_features.specs.FeatureMap.{FeatureMap, IsKey, Enables, here}
-use Rattle.hack_features.specs.Deps.{NameSet, has_name, get_at, IsDepsOf, AreDepsOf, AreServers, IsServedBy, ServeGroups, dropped, kept}
-use Rattle.hack_features.specs.Feature.{group_of, groups_of}
-use Rattle.hack_features.specs.declared.feature.Feature.{Feature}
+use Rattle.hack_feature_map.specs.FeatureMap.{FeatureMap, IsKey, Enables, here}
+use Rattle.hack_feature_map.specs.NameSets.{NameSet, has_name, get_at}
+use Rattle.hack_features.specs.Deps.{IsDepsOf, AreDepsOf, AreServers, IsServedBy, ServeGroups, dropped, kept}
+use Rattle.hack_feature_map.specs.Feature.{group_of, groups_of}
+use Rattle.hack_feature_map.specs.declared.feature.Feature.{Feature}
 
 -- ---- the keys of a map
 

@@ -11,26 +11,18 @@ use Rattle.std.proofs.lemmas.List.{get_or_default}
 use Rattle.hack_base.proofs.Members.{lt_or_same, Contains-map, Contains-map_from}
 use Rattle.hack_features.proofs.TableLemmas.{filter_map_from, filter_map_has}
 use Rattle.hack_base.proofs.NameLemmas.{length-le_from_distinct}
-use Rattle.hack_features.proofs.ReachLemmas.{all_targets, target_listed, lookup-feature_map, edge-from_target, target-from_edge}
+use Rattle.hack_feature_map.proofs.ReachLemmas.{all_targets, target_listed, lookup-feature_map, edge-from_target, target-from_edge}
 use Rattle.hack_features.proofs.PlaceLemmas.{name_at-front, at-front, one_place}
 use Rattle.hack_base.specs.Names.{Name, names_of}
-use Rattle.hack_features.specs.FeatureMap.{FeatureMap, feature_map, values_at, IsKey, Chain, here, step}
-use Rattle.hack_features.specs.Search.{edge_of, target_of, IsTarget, Adds}
+use Rattle.hack_feature_map.specs.FeatureMap.{FeatureMap, feature_map, values_at, IsKey, Chain, here, step}
+use Rattle.hack_feature_map.specs.Search.{edge_of, target_of, IsTarget, Adds}
 use Rattle.hack_features.specs.Tables.{bit}
 use Rattle.hack_features.specs.Places.{name_at, targets_of, AreAt, HasPlaces, AreRows, IsGrown, Leads, leads, AreRoutes}
-use Rattle.hack_features.specs.declared.reach.Edges.{Edges}
+use Rattle.hack_feature_map.specs.declared.reach.Edges.{Edges}
 
 pub at_last : {X : Type 0} (xs : List X) (x d : X) → get_or (xs ++ x ∷ []) (length xs) d ≡ x
 at_last [] x d = refl
 at_last (y ∷ xs) x d = at_last xs x d
-
-is_some-map : {A B : Type 0} (f : A → B) (o : Option A) → is_some (option_map f o) ≡ is_some o
-is_some-map f None = refl
-is_some-map f (Some a) = refl
-
--- a name is a key of what the map says where the map has it
-pub key_at : {Y Z : Type 0} (m : BTreeMap (String Y) (Vec (String Y) Z)) (x : Name) → is_some (get_by_text m x) ≡ is_some (lookup (bytes_eq x) (feature_map m))
-key_at {Y} {Z} m x = sym (ap is_some (lookup-feature_map x m.entries) ∙ is_some-map (λ (vs : Vec (String Y) Z). names_of vs.items) (get_by_text m x))
 
 -- one more row
 pub rows-next : (edges : Edges) (m : FeatureMap) (old new more : List Name) → new ≡ old ++ more → (keys : List Bool) (rows : List (List ℕ)) (x : Name) (row : List ℕ) (key : Bool) → AreRows edges m old keys rows

@@ -10,7 +10,7 @@ use Rattle.hack_features.specs.View.{choice_of, size_of, may_of, whole_of, AreTa
 use Rattle.hack_features.specs.Questions.{IsWhole, IsCheap}
 use Rattle.hack_features.specs.Routed.{names_in}
 use Rattle.hack_features.specs.PlacedView.{IsPlaced}
-use Rattle.hack_features.specs.declared.reach.Edges.TheVariants.{Enabling}
+use Rattle.hack_feature_map.specs.declared.reach.Edges.TheVariants.{Enabling}
 use Rattle.hack_features.proofs.Decided.{are_tables, are_placed}
 use Rattle.hack_base.proofs.Members.{Contains-map}
 use Rattle.hack_features.proofs.CandidateLemmas.{length-candidates_of}

@@ -13,12 +13,12 @@ use Rattle.hack_base.proofs.Passes.{all_pass, each_passes, some_passes, any_pass
 use Rattle.hack_features.proofs.Coverage.{named_in}
 use Rattle.hack_features.proofs.Single.{member_of}
 use Rattle.hack_base.specs.Names.{Name}
-use Rattle.hack_features.specs.FeatureMap.{FeatureMap, IsKey, Chain, Enables, Reaches, EnablesOneOf}
-use Rattle.hack_features.specs.Search.{edge_of}
+use Rattle.hack_feature_map.specs.FeatureMap.{FeatureMap, IsKey, Chain, Enables, Reaches, EnablesOneOf}
+use Rattle.hack_feature_map.specs.Search.{edge_of}
 use Rattle.hack_features.specs.Deps.{IsDropped}
 use Rattle.hack_features.specs.Places.{name_at, AreAt, AreRoutes, ArePlaced}
-use Rattle.hack_features.specs.declared.reach.Edges.{Edges}
-use Rattle.hack_features.specs.declared.reach.Edges.TheVariants.{Enabling, Reaching}
+use Rattle.hack_feature_map.specs.declared.reach.Edges.{Edges}
+use Rattle.hack_feature_map.specs.declared.reach.Edges.TheVariants.{Enabling, Reaching}
 use Rattle.hack_features.specs.Sets.{IsSelection, Pairwise}
 use Rattle.hack_features.specs.Rules.{Choice, unlifted_groups, names_at, names_in, SparesNames, Spares, IsRedundant, NotBothReach, IsExclusive, Serves, IsRequired}
 use Rattle.hack_features.specs.Tables.{bit, count_at, cell, leads, is_lean, is_exclusive, is_required, spares_test, serves_test, Counts, Matched, CountsHits, SaysServers, RowsServe}

@@ -1,12 +1,12 @@
 -- What links show.
 use Rattle.std.specs.Prelude.{◌≡◌, ◌≤◌, List, length}
 use Rattle.hack_base.specs.Names.{Name}
-use Rattle.hack_features.specs.FeatureMap.{FeatureMap}
+use Rattle.hack_feature_map.specs.FeatureMap.{FeatureMap}
 use Rattle.hack_features.specs.Sets.{rows_of}
 use Rattle.hack_features.specs.Places.{HasPlaces, AreRows}
 use Rattle.hack_features.specs.Table.{table}
 use Rattle.hack_features.specs.declared.links.Links.{Links}
-use Rattle.hack_features.specs.declared.reach.Edges.{Edges}
+use Rattle.hack_feature_map.specs.declared.reach.Edges.{Edges}
 
 -- the names of links, by place
 abbrev pub table_of : Links → List Name

@@ -1,12 +1,12 @@
 -- What placed candidates and groups show.
 use Rattle.std.specs.Prelude.{List}
 use Rattle.hack_base.specs.Names.{Name}
-use Rattle.hack_features.specs.FeatureMap.{FeatureMap}
+use Rattle.hack_feature_map.specs.FeatureMap.{FeatureMap}
 use Rattle.hack_features.specs.Sets.{rows_of}
 use Rattle.hack_features.specs.Places.{ArePlaced}
 use Rattle.hack_features.specs.Routed.{names_in}
 use Rattle.hack_features.specs.declared.placed.Placed.{Placed}
-use Rattle.hack_features.specs.declared.reach.Edges.{Edges}
+use Rattle.hack_feature_map.specs.declared.reach.Edges.{Edges}
 
 -- what is placed tells what the map says of these candidates and groups
 abbrev pub IsPlaced : Edges → FeatureMap → List (List Name) → List (List Name) → Placed → Type 0

@@ -6,12 +6,12 @@ use Rattle.std.specs.BTreeMap.{BTreeMap}
 use Rattle.std.specs.Map.{lookup}
 use Rattle.std.specs.Str.{bytes_eq}
 use Rattle.hack_base.specs.Names.{Name}
-use Rattle.hack_features.specs.FeatureMap.{FeatureMap, values_at, IsKey, Chain}
-use Rattle.hack_features.specs.Deps.{get_at}
-use Rattle.hack_features.specs.Search.{target_of, edge_of}
+use Rattle.hack_feature_map.specs.FeatureMap.{FeatureMap, values_at, IsKey, Chain}
+use Rattle.hack_feature_map.specs.NameSets.{get_at}
+use Rattle.hack_feature_map.specs.Search.{target_of, edge_of}
 use Rattle.hack_features.specs.Tables.{bit}
 pub use Rattle.hack_features.specs.Tables.{leads}
-use Rattle.hack_features.specs.declared.reach.Edges.{Edges}
+use Rattle.hack_feature_map.specs.declared.reach.Edges.{Edges}
 
 -- the name at a place
 abbrev pub name_at : List Name → ℕ → Name

@@ -1,11 +1,11 @@
 -- What routes show.
 use Rattle.std.specs.Prelude.{List}
 use Rattle.hack_base.specs.Names.{Name, names_behind}
-use Rattle.hack_features.specs.FeatureMap.{FeatureMap}
+use Rattle.hack_feature_map.specs.FeatureMap.{FeatureMap}
 use Rattle.hack_features.specs.Sets.{rows_of}
 use Rattle.hack_features.specs.Places.{AreRoutes}
 use Rattle.hack_features.specs.declared.routes.Routes.{Routes}
-use Rattle.hack_features.specs.declared.reach.Edges.{Edges}
+use Rattle.hack_feature_map.specs.declared.reach.Edges.{Edges}
 
 -- the names of routes, by place
 abbrev pub names_in : Routes → List Name

@@ -2,7 +2,7 @@
 use Rattle.std.specs.Prelude.{◌≡◌, ◌≢◌, ◌<◌, ℕ, List, [], ◌∷◌, flat_map, length, Option, All, Contains, ◌↔◌, ◌⊎◌, Bool, cond}
 use Rattle.std.specs.List.{slice_index_or}
 use Rattle.hack_base.specs.Names.{Name}
-use Rattle.hack_features.specs.FeatureMap.{FeatureMap, IsKey, Enables, Reaches, EnablesOneOf}
+use Rattle.hack_feature_map.specs.FeatureMap.{FeatureMap, IsKey, Enables, Reaches, EnablesOneOf}
 use Rattle.hack_features.specs.Sets.{IsSelection, IsBefore, IsWithin, Pairwise}
 
 -- what the sets of a package are chosen from, and by which rules; a candidate is the names that it stands for

@@ -2,7 +2,7 @@
 use Rattle.std.specs.Prelude.{◌<◌, ◌+◌, ℕ, List, [], ◌∷◌, ◌++◌, Bool, false, true, not, nat_le, sum_by, length, Option, None, Some, IsTrue, Contains, ◌↔◌, ◌&&◌, ◌||◌, ◌==◌}
 use Rattle.std.specs.List.{slice_index_or, list_all, list_any}
 use Rattle.hack_base.specs.Names.{Name}
-use Rattle.hack_features.specs.FeatureMap.{FeatureMap, Reaches, EnablesOneOf}
+use Rattle.hack_feature_map.specs.FeatureMap.{FeatureMap, Reaches, EnablesOneOf}
 use Rattle.hack_features.specs.Deps.{IsDropped}
 use Rattle.hack_features.specs.Sets.{IsSelection}
 use Rattle.hack_features.specs.Rules.{Choice, Spares, IsExclusive, IsRequired}

@@ -8,7 +8,7 @@ ghost use Rattle.hack_features.specs.Rules.{Choice, IsFirstCover, IsWanted};
 ghost use Rattle.hack_features.specs.Tables.{leads};
 ghost use Rattle.hack_features.specs.PlacedView.{IsPlaced};
 ghost use Rattle.hack_features.specs.Cover.{set_enables_test, covers_test};
-ghost use Rattle.hack_features.specs.declared.reach.Edges.TheVariants.{Enabling};
+ghost use Rattle.hack_feature_map.specs.declared.reach.Edges.TheVariants.{Enabling};
 
 use crate::marks::row_at;
 use crate::placed::Placed;

@@ -1,17 +1,17 @@
 //! What each key of a feature map enables, and which keys serve an at-least-one group.
 
 ghost use Rattle.std.specs.Prelude.{◌<◌, ◌↔◌, length, IsTrue, IfOk};
-ghost use Rattle.hack_features.specs.FeatureMap.{FeatureMap, feature_map};
+ghost use Rattle.hack_feature_map.specs.FeatureMap.{FeatureMap, feature_map};
 ghost use Rattle.hack_features.specs.Deps.{AreDepsOf, AreServers, IsDepsOf, IsServedBy};
 ghost use Rattle.hack_features.specs.Deps.{ServeGroups};
-ghost use Rattle.hack_features.specs.Feature.{group_of, groups_of};
+ghost use Rattle.hack_feature_map.specs.Feature.{group_of, groups_of};
 ghost use Rattle.hack_features.specs.Places.{name_at};
 ghost use Rattle.hack_features.specs.Routed.{names_in, AreRoutesOf};
-ghost use Rattle.hack_features.specs.declared.reach.Edges.TheVariants.{Enabling};
+ghost use Rattle.hack_feature_map.specs.declared.reach.Edges.TheVariants.{Enabling};
 
-use crate::feature::Feature;
+use hack_feature_map::feature::Feature;
 use crate::names::Names;
-use crate::reach::Edges;
+use hack_feature_map::reach::Edges;
 use crate::routes::Routes;
 use std::alloc::{AllocError, Global};
 use std::collections::{BTreeMap, BTreeSet};

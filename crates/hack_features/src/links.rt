@@ -2,10 +2,10 @@
 
 ghost use Rattle.std.specs.Prelude.{◌≡◌, ◌<◌, ◌++◌, ◌+◌, List, length, IfOk, OnOk};
 ghost use Rattle.hack_base.specs.Names.{Name};
-ghost use Rattle.hack_features.specs.FeatureMap.{feature_map};
+ghost use Rattle.hack_feature_map.specs.FeatureMap.{feature_map};
 
 use crate::names::Names;
-use crate::reach::Edges;
+use hack_feature_map::reach::Edges;
 use std::alloc::{AllocError, Global};
 use std::collections::BTreeMap;
 

@@ -3,11 +3,11 @@
 
 ghost use Rattle.std.specs.Prelude.{◌≡◌, ◌<◌, length, IfOk, OnOk, MatchOption, Contains};
 ghost use Rattle.hack_base.specs.Names.{Name, names_of};
-ghost use Rattle.hack_features.specs.FeatureMap.{feature_map, values_at, IsKey};
-ghost use Rattle.hack_features.specs.Search.{Adds, IsTarget};
+ghost use Rattle.hack_feature_map.specs.FeatureMap.{feature_map, values_at, IsKey};
+ghost use Rattle.hack_feature_map.specs.Search.{Adds, IsTarget};
 ghost use Rattle.hack_features.specs.Places.{name_at, targets_of, AreAt, IsMore};
 
-use crate::reach::Edges;
+use hack_feature_map::reach::Edges;
 use std::alloc::{AllocError, Global};
 use std::collections::BTreeMap;
 

@@ -1,15 +1,15 @@
 //! The candidates of a package and groups of names, as places in one table of names.
 
 ghost use Rattle.std.specs.Prelude.{IfOk, OnOk};
-ghost use Rattle.hack_features.specs.FeatureMap.{feature_map};
-ghost use Rattle.hack_features.specs.Feature.{groups_of, candidates_of};
+ghost use Rattle.hack_feature_map.specs.FeatureMap.{feature_map};
+ghost use Rattle.hack_feature_map.specs.Feature.{groups_of, candidates_of};
 ghost use Rattle.hack_features.specs.Sets.{rows_of};
 ghost use Rattle.hack_features.specs.Places.{AreAllAt, IsMore};
 ghost use Rattle.hack_features.specs.Table.{table, IsInStep};
 
-use crate::feature::Feature;
+use hack_feature_map::feature::Feature;
 use crate::names::Names;
-use crate::reach::Edges;
+use hack_feature_map::reach::Edges;
 use crate::routes::Routes;
 use std::alloc::{AllocError, Global};
 use std::collections::BTreeMap;

@@ -5,7 +5,7 @@ ghost use Rattle.std.specs.Prelude.{◌≡◌, ◌==◌, ◌&&◌, ◌++◌, [],
 ghost use Rattle.std.specs.Prelude.{Contains};
 ghost use Rattle.std.specs.List.{slice_index_or};
 ghost use Rattle.hack_base.specs.Names.{Name};
-ghost use Rattle.hack_features.specs.FeatureMap.{FeatureMap, feature_map};
+ghost use Rattle.hack_feature_map.specs.FeatureMap.{FeatureMap, feature_map};
 ghost use Rattle.hack_features.specs.Sets.{rows_of};
 ghost use Rattle.hack_features.specs.Tables.{bit, cell};
 ghost use Rattle.hack_features.specs.Places.{leads};
@@ -13,7 +13,7 @@ ghost use Rattle.hack_features.specs.Places.{leads};
 use crate::links::Links;
 use crate::marks::all_marks;
 use crate::names::Names;
-use crate::reach::Edges;
+use hack_feature_map::reach::Edges;
 use std::alloc::{AllocError, Global};
 use std::collections::BTreeMap;
 
@@ -39,7 +39,7 @@ pub(crate) struct Routes<'a> {
 
 impl<'a> Routes<'a> {
     ghost use Rattle.std.specs.Prelude.{◌↔◌};
-    ghost use Rattle.hack_features.specs.FeatureMap.{IsKey};
+    ghost use Rattle.hack_feature_map.specs.FeatureMap.{IsKey};
     ghost use Rattle.hack_features.specs.Table.{table, IsInStep};
     ghost use Rattle.hack_features.specs.Routed.{names_in, AreRoutesOf};
 

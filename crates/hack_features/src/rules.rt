@@ -9,14 +9,14 @@ ghost use Rattle.hack_features.specs.Tables.{keeps_depth as depth_test, wanted_t
 ghost use Rattle.hack_features.specs.Tables.{AreTables};
 ghost use Rattle.hack_features.specs.Given.{choice, choice_in};
 ghost use Rattle.hack_features.specs.PlacedView.{IsPlaced};
-ghost use Rattle.hack_features.specs.declared.reach.Edges.TheVariants.{Enabling};
+ghost use Rattle.hack_feature_map.specs.declared.reach.Edges.TheVariants.{Enabling};
 
 use crate::cover::first_cover;
-use crate::feature::Feature;
+use hack_feature_map::feature::Feature;
 use crate::forest::Pruned;
 use crate::placed::Placed;
 use crate::questions::{Questions, pruned};
-use crate::reach::Edges;
+use hack_feature_map::reach::Edges;
 use crate::tables::{Given, Tables};
 use std::alloc::{AllocError, Global};
 use std::collections::BTreeMap;

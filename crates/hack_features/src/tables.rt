@@ -5,8 +5,8 @@ ghost use Rattle.std.specs.Prelude.{◌≡◌, ◌<◌, ◌++◌, ◌∷◌, ◌
 ghost use Rattle.std.specs.Prelude.{nat_le, sum_by, IfOk, IsTrue, false};
 ghost use Rattle.std.specs.List.{list_all, list_any, slice_index_or};
 ghost use Rattle.hack_base.specs.Names.{Name};
-ghost use Rattle.hack_features.specs.FeatureMap.{feature_map, FeatureMap};
-ghost use Rattle.hack_features.specs.Feature.{groups_of, candidates_of};
+ghost use Rattle.hack_feature_map.specs.FeatureMap.{feature_map, FeatureMap};
+ghost use Rattle.hack_feature_map.specs.Feature.{groups_of, candidates_of};
 ghost use Rattle.hack_features.specs.Sets.{rows_of};
 ghost use Rattle.hack_features.specs.Rules.{unlifted_groups};
 ghost use Rattle.hack_features.specs.Places.{leads};
@@ -14,12 +14,12 @@ ghost use Rattle.hack_features.specs.PlacedView.{IsPlaced};
 ghost use Rattle.hack_features.specs.Tables.{bit, count_at, cell, is_lean, is_exclusive};
 ghost use Rattle.hack_features.specs.Tables.{is_required, spares_test, serves_test, Counts};
 ghost use Rattle.hack_features.specs.Tables.{Matched, CountsHits, RowsServe};
-ghost use Rattle.hack_features.specs.declared.reach.Edges.TheVariants.{Enabling};
+ghost use Rattle.hack_feature_map.specs.declared.reach.Edges.TheVariants.{Enabling};
 
-use crate::feature::Feature;
+use hack_feature_map::feature::Feature;
 use crate::marks::row_at;
 use crate::placed::Placed;
-use crate::reach::Edges;
+use hack_feature_map::reach::Edges;
 use crate::routes::{Routes, bit};
 use std::alloc::{AllocError, Global};
 use std::collections::BTreeMap;

@@ -14,10 +14,10 @@ use Rattle.std.proofs.lemmas.List.Folds.{list_any-append}
 use Rattle.std.proofs.lemmas.Slice.Eq.{bytes_eq-Decides}
 use Rattle.std.specs.Bool.{Decides}
 use Rattle.hack_base.specs.Names.{Name, names_of}
-use Rattle.hack_features.specs.FeatureMap.{FeatureMap}
-use Rattle.hack_features.specs.Feature.{IsNormal, IsPath, name_of}
-use Rattle.hack_features.specs.declared.feature.Feature.{Feature}
-use Rattle.hack_features.specs.declared.feature.Feature.TheVariants.{Normal, Group, Path}
+use Rattle.hack_feature_map.specs.FeatureMap.{FeatureMap}
+use Rattle.hack_feature_map.specs.Feature.{IsNormal, IsPath, name_of}
+use Rattle.hack_feature_map.specs.declared.feature.Feature.{Feature}
+use Rattle.hack_feature_map.specs.declared.feature.Feature.TheVariants.{Normal, Group, Path}
 use Rattle.hack_metadata.specs.Optional.{feature_of, optional_in}
 use Rattle.hack_metadata.specs.Records.{DependencyRecord}
 use Rattle.hack_metadata.specs.View.{dependency_view, kind_view, node_dep_view, package_view}

@@ -6,9 +6,9 @@ use Rattle.std.specs.List.Sorted.{IsStrictlySortedBy}
 use Rattle.std.specs.Map.{keys_of}
 use Rattle.std.specs.Ordering.{nat_cmp}
 use Rattle.hack_base.specs.Names.{Name}
-use Rattle.hack_features.specs.FeatureMap.{FeatureMap}
-use Rattle.hack_features.specs.Feature.{IsNormal, IsPath, name_of}
-use Rattle.hack_features.specs.declared.feature.Feature.{Feature}
+use Rattle.hack_feature_map.specs.FeatureMap.{FeatureMap}
+use Rattle.hack_feature_map.specs.Feature.{IsNormal, IsPath, name_of}
+use Rattle.hack_feature_map.specs.declared.feature.Feature.{Feature}
 use Rattle.hack_metadata.specs.Records.{MetadataRecord}
 use Rattle.hack_load.specs.Candidates.{Path, MissesNode, dependencies_at, optional_names, paths_at}
 use Rattle.hack_metadata.specs.declared.fault.MetadataFault.{MetadataFault}

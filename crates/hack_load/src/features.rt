@@ -6,7 +6,7 @@ ghost use Rattle.std.specs.Prelude.{option_copied};
 ghost use Rattle.std.specs.List.{list_any};
 ghost use Rattle.std.specs.Map.{keys_of};
 ghost use Rattle.std.specs.Str.{bytes_eq};
-ghost use Rattle.hack_features.specs.FeatureMap.{feature_map};
+ghost use Rattle.hack_feature_map.specs.FeatureMap.{feature_map};
 ghost use Rattle.hack_base.specs.Names.{names_of};
 ghost use Rattle.hack_load.specs.Candidates.{MissesNode, names_dep, is_named, is_implicit};
 ghost use Rattle.hack_load.specs.Candidates.{optional_names, is_normal, name_in, known_as};
@@ -20,7 +20,7 @@ ghost use Rattle.hack_metadata.specs.View.{dependency_view, kind_view, node_dep_
 ghost use Rattle.hack_metadata.specs.View.{package_view};
 ghost use Rattle.hack_metadata.specs.Whole.{metadata_view};
 
-use hack_features::feature::Feature;
+use hack_feature_map::feature::Feature;
 use hack_manifest::manifest::Manifest;
 use hack_metadata::metadata::{
     DepKindInfo, Dependency, Metadata, MetadataFault, Node, NodeDep, Package, PackageId,

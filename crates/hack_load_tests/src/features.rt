@@ -2,7 +2,7 @@
 //! its node, and the candidates: the package's features, optional dependencies, and features of
 //! dependencies, each behind its variant and, for the last, the place of the slash.
 
-use hack_features::feature::Feature;
+use hack_feature_map::feature::Feature;
 use hack_load::features::Features;
 use hack_manifest::manifest::Manifest;
 use hack_metadata::metadata::{Metadata, object_of};

@@ -3,7 +3,7 @@
 ghost use Rattle.std.specs.Prelude.{◌<◌, Contains, length};
 ghost use Rattle.hack_load.specs.ContextView.{context_view};
 
-use hack_features::feature::Feature;
+use hack_feature_map::feature::Feature;
 use hack_files::fs::{Files, MemoryFiles};
 use hack_files::restore::Manager;
 use hack_load::context::{Answers, Context};

@@ -10,7 +10,7 @@ use Rattle.toml.specs.Data.{Items, as_array}
 use Rattle.toml.specs.View.{view, members_view}
 use Rattle.toml.specs.declared.value.Value.{Value}
 use Rattle.hack_base.specs.Names.{Name, names_of}
-use Rattle.hack_features.specs.FeatureMap.{FeatureMap, feature_map}
+use Rattle.hack_feature_map.specs.FeatureMap.{FeatureMap, feature_map}
 use Rattle.hack_manifest.specs.Manifest.{by_bytes, texts_in, members_in}
 
 abbrev pub Entry : Type 0

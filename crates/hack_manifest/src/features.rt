@@ -4,7 +4,7 @@ ghost use Rattle.std.specs.Prelude.{◌≡◌, IfOk, OnOk, option_map};
 ghost use Rattle.std.specs.BTreeMap.{insert_entry};
 ghost use Rattle.toml.specs.View.{table_view, array_view};
 ghost use Rattle.hack_base.specs.Names.{names_of};
-ghost use Rattle.hack_features.specs.FeatureMap.{feature_map};
+ghost use Rattle.hack_feature_map.specs.FeatureMap.{feature_map};
 ghost use Rattle.hack_manifest.specs.Manifest.{by_bytes, texts_in, members_in, features_in};
 ghost use Rattle.hack_manifest.specs.Reads.{Gives};
 

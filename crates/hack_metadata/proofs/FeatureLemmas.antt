@@ -12,7 +12,7 @@ use Rattle.serde_json.specs.Find.{as_array}
 use Rattle.serde_json.specs.View.{view, items_view, members_view}
 use Rattle.serde_json.specs.declared.value.Value.{Value}
 use Rattle.hack_base.specs.Names.{names_of}
-use Rattle.hack_features.specs.FeatureMap.{FeatureMap, feature_map}
+use Rattle.hack_feature_map.specs.FeatureMap.{FeatureMap, feature_map}
 use Rattle.hack_metadata.specs.Read.{has_items, texts_of, features_of}
 
 -- an array has items where its list isn't empty

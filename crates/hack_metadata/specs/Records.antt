@@ -2,7 +2,7 @@
 use Rattle.std.specs.Prelude.{ℕ, ◌==◌, Bool, List, Option}
 use Rattle.std.specs.Map.{lookup}
 use Rattle.hack_base.specs.Names.{Name}
-use Rattle.hack_features.specs.FeatureMap.{FeatureMap}
+use Rattle.hack_feature_map.specs.FeatureMap.{FeatureMap}
 
 -- a dependency as a manifest names it
 pub record DependencyRecord : Type 0 where

@@ -5,7 +5,7 @@ use Rattle.std.specs.declared.string.String.{String}
 use Rattle.std.specs.declared.alloc.Global.{Global}
 use Rattle.std.specs.Hash.{HashWrites, usize}
 use Rattle.hack_base.specs.Names.{Name, optional_text}
-use Rattle.hack_features.specs.FeatureMap.{feature_map}
+use Rattle.hack_feature_map.specs.FeatureMap.{feature_map}
 use Rattle.hack_metadata.specs.Records.{DependencyRecord, PackageRecord, KindRecord, NodeDepRecord, NodeRecord, Nodes}
 use Rattle.hack_metadata.specs.declared.package.Dependency.{Dependency}
 use Rattle.hack_metadata.specs.declared.package.Package.{Package}

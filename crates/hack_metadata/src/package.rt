@@ -5,7 +5,7 @@ ghost use Rattle.std.specs.Prelude.{option_copied};
 ghost use Rattle.serde_json.specs.Find.{as_array};
 ghost use Rattle.serde_json.specs.View.{view, items_view, members_view};
 ghost use Rattle.hack_base.specs.Names.{names_of, optional_text};
-ghost use Rattle.hack_features.specs.FeatureMap.{feature_map};
+ghost use Rattle.hack_feature_map.specs.FeatureMap.{feature_map};
 ghost use Rattle.hack_metadata.specs.Fields.{read_all, KeepsOthers};
 ghost use Rattle.hack_metadata.specs.Gives.{Gives};
 ghost use Rattle.hack_metadata.specs.Read.{read_dependency, read_package, features_in};

@@ -7,7 +7,7 @@ use Rattle.std.proofs.lemmas.List.FromFn.{get_or-map-range_with_len, length-map-
 use Rattle.hack_base.specs.Names.{Name}
 use Rattle.hack_features.specs.Sets.{IsSelection, IsBefore, IsListing, IsWithin, Pairwise, singles}
 use Rattle.hack_features.specs.Rules.{Choice, IsListed, IsRedundant, NotBothReach, Serves, names_at, names_in, unlifted_groups}
-use Rattle.hack_features.specs.FeatureMap.{EnablesOneOf}
+use Rattle.hack_feature_map.specs.FeatureMap.{EnablesOneOf}
 use Rattle.hack_base.proofs.Members.{Contains-cons_cases}
 use Rattle.hack_features.proofs.Listing.{selection_none, selection_push, selection_up}
 use Rattle.hack_features.proofs.CoverLemmas.{before_trans}

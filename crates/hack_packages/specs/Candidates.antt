@@ -3,7 +3,7 @@ use Rattle.std.specs.Prelude.{◌==◌, ◌++◌, ℕ, List, [], ◌∷◌, Bool
 use Rattle.std.specs.List.{list_any, list_all}
 use Rattle.std.specs.Str.{bytes_eq}
 use Rattle.hack_base.specs.Names.{Name}
-use Rattle.hack_features.specs.FeatureMap.{FeatureMap}
+use Rattle.hack_feature_map.specs.FeatureMap.{FeatureMap}
 use Rattle.hack_base.specs.Notes.{Note}
 use Rattle.hack_rules.specs.CliLists.{same_names}
 use Rattle.hack_packages.specs.Texts.{feature_text, dependency_text, group_text}

@@ -3,9 +3,9 @@ use Rattle.std.specs.Prelude.{List, map, option_map, string_bytes}
 use Rattle.std.specs.declared.string.String.{String}
 use Rattle.std.specs.declared.alloc.Global.{Global}
 use Rattle.hack_base.specs.Names.{names_of}
-use Rattle.hack_features.specs.Feature.{group_of, groups_of}
-use Rattle.hack_features.specs.FeatureMap.{feature_map}
-use Rattle.hack_features.specs.declared.feature.Feature.{Feature}
+use Rattle.hack_feature_map.specs.Feature.{group_of, groups_of}
+use Rattle.hack_feature_map.specs.FeatureMap.{feature_map}
+use Rattle.hack_feature_map.specs.declared.feature.Feature.{Feature}
 use Rattle.hack_load.specs.declared.features.Features.{Features}
 use Rattle.hack_metadata.specs.declared.package.Package.{Package}
 use Rattle.hack_words.specs.declared.cli.args.Args.{Args}

@@ -2,7 +2,7 @@
 use Rattle.std.specs.Prelude.{ℕ, List, Bool, Option, option_map, option_and_then}
 use Rattle.std.specs.List.{filter_map}
 use Rattle.hack_base.specs.Names.{Name}
-use Rattle.hack_features.specs.Feature.{groups_of}
+use Rattle.hack_feature_map.specs.Feature.{groups_of}
 use Rattle.hack_load.specs.Contexts.{ContextRecord, package_at, is_private_at}
 use Rattle.hack_load.specs.declared.features.Features.{Features}
 use Rattle.hack_metadata.specs.Records.{PackageRecord}

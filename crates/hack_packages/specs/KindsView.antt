@@ -1,6 +1,6 @@
 -- Kinds of the code, as definitions see them.
 use Rattle.std.specs.Prelude.{◌≡◌, List, [], ◌∷◌, true, false}
-use Rattle.hack_features.specs.Feature.{groups_of}
+use Rattle.hack_feature_map.specs.Feature.{groups_of}
 use Rattle.hack_plan.specs.Runs.{PackageRun, Plain, is_plain}
 use Rattle.hack_plan.specs.RunsView.{runs_in}
 use Rattle.hack_packages.specs.declared.kind.Kind.{Kind}

@@ -4,7 +4,7 @@ ghost use Rattle.std.specs.Prelude.{◌≡◌, ◌==◌, ◌++◌, ◌∷◌, []
 ghost use Rattle.std.specs.Prelude.{filter, map, not, option_map, length, if◌then◌else◌};
 ghost use Rattle.std.specs.List.{list_all, list_any};
 ghost use Rattle.hack_base.specs.Names.{names_of};
-ghost use Rattle.hack_features.specs.Feature.{group_of, groups_of};
+ghost use Rattle.hack_feature_map.specs.Feature.{group_of, groups_of};
 ghost use Rattle.hack_base.specs.Notes.{note_of};
 ghost use Rattle.hack_packages.specs.Texts.{feature_text as missing_feature};
 ghost use Rattle.hack_packages.specs.Texts.{dependency_text as missing_dependency};
@@ -24,7 +24,7 @@ ghost use Rattle.hack_packages.specs.CandidatesView.{wishes, known_of_package};
 use crate::notes::{dependency_text, feature_text, group_text};
 use hack_base::copies::copies;
 use hack_base::notice::{Notice, NoticeKind, tell};
-use hack_features::Feature;
+use hack_feature_map::Feature;
 use hack_load::features::Features;
 use hack_metadata::metadata::Package;
 use hack_words::cli::Args;

@@ -3,7 +3,7 @@
 ghost use Rattle.std.specs.Prelude.{◌≡◌, ◌<◌, ◌++◌, [], IfOk};
 ghost use Rattle.std.specs.Prelude.{OnOk, Some, length, map, slice_get, true};
 ghost use Rattle.std.specs.List.{slice_index_or};
-ghost use Rattle.hack_features.specs.Feature.{groups_of, candidates_of};
+ghost use Rattle.hack_feature_map.specs.Feature.{groups_of, candidates_of};
 ghost use Rattle.hack_features.specs.Forest.{sets_in};
 ghost use Rattle.hack_features.specs.Rules.{AreCovers};
 ghost use Rattle.hack_base.specs.Names.{names_of, names_behind};
@@ -20,7 +20,8 @@ ghost use Rattle.hack_packages.specs.KindsView.{IsKind, runs_of, candidates_in};
 use crate::candidates::{candidates, is_bare, notes_on};
 use crate::lifts::lifted_groups;
 use hack_base::notice::Notice;
-use hack_features::{Feature, FeatureSets, Rules};
+use hack_feature_map::Feature;
+use hack_features::{FeatureSets, Rules};
 use hack_load::features::Features;
 use hack_metadata::metadata::{Package, PackageId};
 use hack_plan::runs::{Run, RunOptions, Runs};

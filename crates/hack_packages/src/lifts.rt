@@ -3,12 +3,12 @@
 ghost use Rattle.std.specs.Prelude.{◌≡◌, ◌&&◌, IfOk};
 ghost use Rattle.std.specs.List.{list_any};
 ghost use Rattle.std.specs.Str.{bytes_eq};
-ghost use Rattle.hack_features.specs.Feature.{group_of};
+ghost use Rattle.hack_feature_map.specs.Feature.{group_of};
 ghost use Rattle.hack_rules.specs.CliLists.{same_names};
 ghost use Rattle.hack_packages.specs.Candidates.{lifted_for};
 ghost use Rattle.hack_packages.specs.CandidatesView.{wishes, lift_view};
 
-use hack_features::Feature;
+use hack_feature_map::Feature;
 use hack_words::cli::Args;
 use std::alloc::{AllocError, Global};
 

@@ -15,7 +15,7 @@ use crate::fault::PackagesFault;
 use crate::member::{Member, is_called, is_matched, matches_some};
 use crate::notes::{exclusion_text, lift_text, private_text};
 use hack_base::notice::{Notice, NoticeKind, tell};
-use hack_features::Feature;
+use hack_feature_map::Feature;
 use hack_metadata::metadata::PackageId;
 use std::alloc::{AllocError, Global};
 

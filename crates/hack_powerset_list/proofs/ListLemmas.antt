@@ -3,9 +3,9 @@ use Rattle.std.proofs.Common.{Option, inr, if◌then◌else◌, ◌≡◌, ◌�
 use Rattle.std.specs.declared.io.ErrorKind.{ErrorKind}
 use Rattle.std.proofs.lemmas.List.{length-map}
 use Rattle.hack_base.specs.Names.{Name}
-use Rattle.hack_features.specs.declared.feature.Feature.{Feature}
-use Rattle.hack_features.specs.Feature.{name_of, group_of, groups_of}
-use Rattle.hack_features.specs.FeatureMap.{FeatureMap}
+use Rattle.hack_feature_map.specs.declared.feature.Feature.{Feature}
+use Rattle.hack_feature_map.specs.Feature.{name_of, group_of, groups_of}
+use Rattle.hack_feature_map.specs.FeatureMap.{FeatureMap}
 use Rattle.hack_features.specs.Sets.{IsListing}
 use Rattle.hack_features.specs.Rules.{Choice, IsListed, unlifted_groups}
 use Rattle.hack_plan.specs.declared.runs.RunOptions.{RunOptions}

@@ -4,7 +4,7 @@ use Rattle.std.specs.Prelude.{not, ◌&&◌, ◌||◌, ◌==◌}
 use Rattle.std.proofs.lemmas.Bool.{lt-ltb}
 use Rattle.std.proofs.lemmas.Grind.{flat_map-append}
 use Rattle.hack_base.specs.Names.{Name}
-use Rattle.hack_features.specs.declared.feature.Feature.{Feature}
+use Rattle.hack_feature_map.specs.declared.feature.Feature.{Feature}
 use Rattle.hack_features.proofs.Permitted.{nonzero}
 use Rattle.hack_plan.specs.declared.runs.RunOptions.{RunOptions}
 use Rattle.hack_plan.specs.Runs.{Plain, AllFeatures, NoDefaultFeatures, Set, run_if, keeps_all, is_plain, in_turn, with_last_first, last_first, allows_two, runs_from}

@@ -2,8 +2,8 @@
 use Rattle.std.proofs.Common.{◌≡◌, true, [], ◌∷◌, List, length, refl, subst}
 use Rattle.hack_features.specs.declared.rules.Rules.{Rules}
 use Rattle.hack_features.specs.Questions.{is_whole, IsWhole}
-use Rattle.hack_features.specs.declared.feature.Feature.{Feature}
-use Rattle.hack_features.specs.FeatureMap.{FeatureMap}
+use Rattle.hack_feature_map.specs.declared.feature.Feature.{Feature}
+use Rattle.hack_feature_map.specs.FeatureMap.{FeatureMap}
 use Rattle.hack_features.specs.Rules.{Choice, IsListed}
 use Rattle.hack_features.specs.Sets.{IsListing}
 use Rattle.hack_features.specs.View.{may_of, size_of, whole_of, choice_of}

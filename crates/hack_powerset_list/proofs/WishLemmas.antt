@@ -6,9 +6,9 @@ use Rattle.std.proofs.Math.Seq.{take-length}
 use Rattle.std.proofs.lemmas.List.{map-append, take-map, get_or_default}
 use Rattle.std.proofs.lemmas.List.Elements.{All-push}
 use Rattle.hack_base.specs.Names.{Name, names_of, names_behind}
-use Rattle.hack_features.specs.Feature.{group_of, groups_of, IsGroup}
-use Rattle.hack_features.specs.declared.feature.Feature.{Feature}
-use Rattle.hack_features.specs.declared.feature.Feature.TheVariants.{Normal, Group as Grouped, Path}
+use Rattle.hack_feature_map.specs.Feature.{group_of, groups_of, IsGroup}
+use Rattle.hack_feature_map.specs.declared.feature.Feature.{Feature}
+use Rattle.hack_feature_map.specs.declared.feature.Feature.TheVariants.{Normal, Group as Grouped, Path}
 use Rattle.hack_base.proofs.Members.{Contains-map}
 use Rattle.hack_base.proofs.NameLemmas.{shown-more}
 use Rattle.hack_base.specs.Lists.{HasSeparator, group_names}

@@ -1,8 +1,8 @@
 -- The runs of a command list, from what is asked for and a package's features.
 use Rattle.std.specs.Prelude.{◌≡◌, ℕ, List, length, nat_lt, true, false}
-use Rattle.hack_features.specs.declared.feature.Feature.{Feature}
-use Rattle.hack_features.specs.Feature.{groups_of}
-use Rattle.hack_features.specs.FeatureMap.{FeatureMap}
+use Rattle.hack_feature_map.specs.declared.feature.Feature.{Feature}
+use Rattle.hack_feature_map.specs.Feature.{groups_of}
+use Rattle.hack_feature_map.specs.FeatureMap.{FeatureMap}
 use Rattle.hack_features.specs.Sets.{IsListing}
 use Rattle.hack_features.specs.Rules.{Choice, IsListed}
 use Rattle.hack_plan.specs.declared.runs.RunOptions.{RunOptions}

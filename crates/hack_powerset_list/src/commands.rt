@@ -2,14 +2,14 @@
 
 ghost use Rattle.std.specs.Prelude.{◌≡◌, [], ◌∷◌, codes, map, string_bytes, IfOk};
 ghost use Rattle.hack_base.specs.Names.{names_behind};
-ghost use Rattle.hack_features.specs.Feature.{name_of};
+ghost use Rattle.hack_feature_map.specs.Feature.{name_of};
 ghost use Rattle.hack_features.specs.Sets.{items_at};
 ghost use Rattle.hack_process.specs.CommandTexts.{listed_of};
 ghost use Rattle.hack_process.specs.Commands.{command_of};
 ghost use Rattle.hack_plan.specs.Runs.{run_of};
 ghost use Rattle.hack_powerset_list.specs.Lines.{run_text, run_command};
 
-use hack_features::Feature;
+use hack_feature_map::Feature;
 use hack_plan::runs::Run;
 use hack_process::process::ProcessBuilder;
 use std::alloc::{AllocError, Global};

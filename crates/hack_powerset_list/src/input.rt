@@ -3,12 +3,12 @@
 ghost use Rattle.std.specs.Prelude.{◌≡◌, [], ◌∷◌, map, IfOk, MatchOption, option_map};
 ghost use Rattle.serde_json.specs.View.{view};
 ghost use Rattle.hack_base.specs.Names.{names_of};
-ghost use Rattle.hack_features.specs.Feature.{groups_of, candidates_of, name_of};
-ghost use Rattle.hack_features.specs.FeatureMap.{feature_map};
+ghost use Rattle.hack_feature_map.specs.Feature.{groups_of, candidates_of, name_of};
+ghost use Rattle.hack_feature_map.specs.FeatureMap.{feature_map};
 ghost use Rattle.hack_powerset_list.specs.Input.{values_in, IsMapText, IsNoMapText, keys_of};
 ghost use Rattle.hack_powerset_list.specs.CommandList.{IsInput};
 
-use hack_features::Feature;
+use hack_feature_map::Feature;
 use serde_json::Value;
 use std::alloc::{AllocError, Global};
 use std::collections::BTreeMap;

@@ -4,14 +4,14 @@ ghost use Rattle.std.specs.Prelude.{◌≡◌, ◌<◌, ◌++◌, [], ◌∷◌,
 ghost use Rattle.std.specs.Prelude.{IfOk, OnOk, OnErr};
 ghost use Rattle.std.specs.Io.KnownBytes.{Appends};
 ghost use Rattle.hack_base.specs.Names.{names_behind, names_of};
-ghost use Rattle.hack_features.specs.Feature.{name_of};
+ghost use Rattle.hack_feature_map.specs.Feature.{name_of};
 ghost use Rattle.hack_process.specs.CommandTexts.{listed_of};
 ghost use Rattle.hack_process.specs.Commands.{command_of};
 ghost use Rattle.hack_base.specs.Writes.{AppendsFront};
 ghost use Rattle.hack_powerset_list.specs.LineWords.{bare_command, Prints, TurnsPage};
 
 use hack_base::writes::write_front;
-use hack_features::Feature;
+use hack_feature_map::Feature;
 use hack_process::process::ProcessBuilder;
 use std::alloc::{AllocError, Global};
 use std::io;

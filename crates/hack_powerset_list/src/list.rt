@@ -1,8 +1,8 @@
 //! The list of commands of a package's feature powerset, from the bytes of its feature map.
 
 ghost use Rattle.std.specs.Prelude.{◌≡◌, length, map, string_bytes, OnOk, IfOk, IfErr};
-ghost use Rattle.hack_features.specs.Feature.{candidates_of, groups_of};
-ghost use Rattle.hack_features.specs.FeatureMap.{feature_map};
+ghost use Rattle.hack_feature_map.specs.Feature.{candidates_of, groups_of};
+ghost use Rattle.hack_feature_map.specs.FeatureMap.{feature_map};
 ghost use Rattle.hack_features.specs.View.{choice_of, size_of};
 ghost use Rattle.hack_powerset_list.specs.CommandList.{WritesList, RefusesList};
 ghost use Rattle.hack_powerset_list.specs.ListRuns.{chosen_from};
@@ -11,7 +11,8 @@ use crate::fault::ListFault;
 use crate::input::{all_of, bytes_of, features_of, map_of};
 use crate::runs::write_lines;
 use crate::wishes::Wishes;
-use hack_features::{Feature, Rules};
+use hack_feature_map::Feature;
+use hack_features::Rules;
 use std::alloc::{AllocError, Global};
 use std::collections::BTreeMap;
 use std::io::{Read, Write};

@@ -3,7 +3,7 @@
 ghost use Rattle.std.specs.Prelude.{◌≡◌, ◌++◌, [], ◌∷◌, length, map, string_bytes, OnOk, OnErr};
 ghost use Rattle.std.specs.Prelude.{if◌then◌else◌};
 ghost use Rattle.std.specs.Io.KnownBytes.{Appends};
-ghost use Rattle.hack_features.specs.Feature.{name_of};
+ghost use Rattle.hack_feature_map.specs.Feature.{name_of};
 ghost use Rattle.hack_features.specs.View.{size_of};
 ghost use Rattle.hack_base.specs.Writes.{AppendsFront};
 ghost use Rattle.hack_plan.specs.Runs.{Plain, NoDefaultFeatures, run_if, runs_from};
@@ -20,7 +20,8 @@ use crate::room::SetRoom;
 use crate::walk::{SetLines, last_below, print_below, print_whole};
 use crate::wishes::Wishes;
 use hack_base::writes::write_front;
-use hack_features::{Feature, Rules};
+use hack_feature_map::Feature;
+use hack_features::Rules;
 use hack_plan::runs::fits_two;
 use std::alloc::Global;
 use std::io;

@@ -3,7 +3,7 @@
 ghost use Rattle.std.specs.Prelude.{◌≡◌, ◌<◌, ◌≤◌, ◌++◌, ◌∷◌, [], ℕ, List, All, filter, map};
 ghost use Rattle.std.specs.Prelude.{length, IfOk, OnOk, OnErr, IsTrue, MatchOption, false};
 ghost use Rattle.std.specs.Prelude.{string_bytes};
-ghost use Rattle.hack_features.specs.Feature.{name_of};
+ghost use Rattle.hack_feature_map.specs.Feature.{name_of};
 ghost use Rattle.hack_features.specs.Sets.{IsSelection, items_at};
 ghost use Rattle.hack_features.specs.View.{may_of, size_of};
 ghost use Rattle.hack_base.specs.Writes.{AppendsFront};
@@ -17,7 +17,8 @@ ghost use Rattle.hack_powerset_list.specs.Walks.{EndsIn, is_other, listed_below,
 
 use crate::lines::{Texts, print_line};
 use crate::room::SetRoom;
-use hack_features::{Feature, Questions, Rules};
+use hack_feature_map::Feature;
+use hack_features::{Questions, Rules};
 use std::alloc::{AllocError, Global};
 use std::io;
 use std::io::Write;

@@ -3,14 +3,14 @@
 ghost use Rattle.std.specs.Prelude.{◌≡◌, IfOk, IfErr, Some, None, option_map};
 ghost use Rattle.std.specs.Prelude.{MatchBool, MatchOption};
 ghost use Rattle.hack_base.specs.Names.{names_of, names_behind};
-ghost use Rattle.hack_features.specs.Feature.{groups_of as names_in_groups};
+ghost use Rattle.hack_feature_map.specs.Feature.{groups_of as names_in_groups};
 ghost use Rattle.hack_powerset_list.specs.Words.{none_written, with_value, with_words, Asks};
 ghost use Rattle.hack_powerset_list.specs.Words.{RefusesWords, IsDepth, IsNoDepth, AreGroups};
 ghost use Rattle.hack_powerset_list.specs.Words.{LacksSeparator};
 ghost use Rattle.hack_powerset_list.specs.WishesView.{shown_text, written_in};
 
 use crate::fault::ListFault;
-use hack_features::Feature;
+use hack_feature_map::Feature;
 use hack_words::lists::{has_separator, split_group};
 use std::alloc::{AllocError, Global};
 

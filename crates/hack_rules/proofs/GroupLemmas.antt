@@ -5,9 +5,9 @@ use Rattle.std.specs.List.{filter_map}
 use Rattle.std.specs.Str.{bytes_eq}
 use Rattle.std.proofs.lemmas.List.{map-append}
 use Rattle.std.proofs.lemmas.List.Elements.{filter_map-append}
-use Rattle.hack_features.specs.declared.feature.Feature.{Feature}
-use Rattle.hack_features.specs.declared.feature.Feature.TheVariants.{Normal, Group, Path}
-use Rattle.hack_features.specs.Feature.{IsGroup, IsNormal, group_of}
+use Rattle.hack_feature_map.specs.declared.feature.Feature.{Feature}
+use Rattle.hack_feature_map.specs.declared.feature.Feature.TheVariants.{Normal, Group, Path}
+use Rattle.hack_feature_map.specs.Feature.{IsGroup, IsNormal, group_of}
 use Rattle.hack_base.specs.Names.{names_of}
 use Rattle.hack_base.specs.Lists.{group_names}
 use Rattle.hack_rules.specs.CliGroups.{AreGroupsOf, AreNormalsOf, AreLifts, AreReadAs, lift_in}

@@ -1,7 +1,7 @@
 -- The features that texts of options name.
 use Rattle.std.specs.Prelude.{◌≡◌, ℕ, List, [], ◌∷◌, Some, String, map, string_bytes}
-use Rattle.hack_features.specs.declared.feature.Feature.{Feature}
-use Rattle.hack_features.specs.Feature.{IsGroup, IsNormal, group_of}
+use Rattle.hack_feature_map.specs.declared.feature.Feature.{Feature}
+use Rattle.hack_feature_map.specs.Feature.{IsGroup, IsNormal, group_of}
 use Rattle.hack_rules.specs.CliLists.{Lift, lift_of}
 use Rattle.hack_base.specs.Lists.{group_names}
 

@@ -1,6 +1,6 @@
 -- The lists of the code, as rules look at them.
 use Rattle.std.specs.Prelude.{option_map}
-use Rattle.hack_features.specs.Feature.{groups_of}
+use Rattle.hack_feature_map.specs.Feature.{groups_of}
 use Rattle.hack_base.specs.Names.{names_of}
 use Rattle.hack_rules.specs.Listed.{Listed}
 use Rattle.hack_rules.specs.declared.listed.Lists.{Lists}

@@ -2,7 +2,7 @@
 //! is broken gives the fault.
 
 ghost use Rattle.std.specs.Prelude.{◌≡◌, IfOk, option_map};
-ghost use Rattle.hack_features.specs.Feature.{groups_of};
+ghost use Rattle.hack_feature_map.specs.Feature.{groups_of};
 ghost use Rattle.hack_base.specs.Names.{names_of, optional_text_ref};
 ghost use Rattle.hack_uses.specs.Passed.{leading_of};
 ghost use Rattle.hack_uses.specs.Uses.{views, is_given, subcommand_of};
@@ -27,7 +27,7 @@ use crate::fault::{Beside, CliFault};
 use crate::listed::Lists;
 use crate::values;
 use hack_base::lists::has_separator;
-use hack_features::Feature;
+use hack_feature_map::Feature;
 use hack_options::Opt;
 use hack_term::term::Coloring;
 use hack_uses::{Use, WorkspaceBehavior, given, subcommand, value};

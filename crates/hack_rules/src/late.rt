@@ -22,7 +22,7 @@ use crate::checks::{clash, needs};
 use crate::fault::{Beside, CliFault};
 use crate::listed::Lists;
 use crate::{named, values};
-use hack_features::Feature;
+use hack_feature_map::Feature;
 use hack_options::Opt;
 use hack_term::partition::{Partition, PartitionKind};
 use hack_term::term::LogGroup;

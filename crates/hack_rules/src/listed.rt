@@ -5,7 +5,7 @@ ghost use Rattle.hack_uses.specs.Uses.{views};
 ghost use Rattle.hack_uses.specs.Values.{values_given};
 
 use crate::named;
-use hack_features::Feature;
+use hack_feature_map::Feature;
 use hack_options::Opt;
 use hack_uses::Use;
 use std::alloc::{AllocError, Global};

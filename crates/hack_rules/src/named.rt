@@ -11,13 +11,13 @@ ghost use Rattle.hack_rules.specs.CliLists.{names_given, names_or_none, optional
 ghost use Rattle.hack_rules.specs.CliLists.{lifts_given, is_lift, lifts_one_of, same_names};
 ghost use Rattle.hack_rules.specs.CliLists.{first_failing, first_fault_of, lift_form, lift_group};
 ghost use Rattle.hack_rules.specs.CliTargets.{AreRising, AreSame, put_all};
-ghost use Rattle.hack_features.specs.Feature.{IsGroup, group_of};
+ghost use Rattle.hack_feature_map.specs.Feature.{IsGroup, group_of};
 ghost use Rattle.hack_base.specs.Lists.{group_names};
 ghost use Rattle.hack_rules.specs.CliGroups.{AreGroupsOf, AreNormalsOf, AreLifts, AreReadAs};
 
 use crate::fault::CliFault;
 use hack_base::lists::{has_separator, split_group, split_names, unquoted};
-use hack_features::Feature;
+use hack_feature_map::Feature;
 use hack_options::Opt;
 use hack_uses::{Use, given, value, values};
 use std::alloc::{AllocError, Global};

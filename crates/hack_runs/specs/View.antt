@@ -1,7 +1,7 @@
 -- A plan as plain data.
 use Rattle.std.specs.Prelude.{ℕ, Bool, List, Option, string_bytes, map}
 use Rattle.hack_base.specs.Names.{optional_text}
-use Rattle.hack_features.specs.Feature.{groups_of}
+use Rattle.hack_feature_map.specs.Feature.{groups_of}
 use Rattle.hack_plan.specs.Runs.{PackageRun}
 use Rattle.hack_plan.specs.RunsView.{runs_in}
 use Rattle.hack_plan.specs.declared.places.Quad.{Quad}

@@ -4,7 +4,7 @@ ghost use Rattle.std.specs.Prelude.{◌≡◌, ◌++◌, ◌∷◌, [], Some, No
 ghost use Rattle.std.specs.Prelude.{List, ℕ, take, drop, string_bytes, codes};
 ghost use Rattle.std.specs.List.{flat_map, slice_index_or};
 ghost use Rattle.hack_base.specs.Names.{optional_text};
-ghost use Rattle.hack_features.specs.Feature.{groups_of};
+ghost use Rattle.hack_feature_map.specs.Feature.{groups_of};
 ghost use Rattle.hack_plan.specs.Runs.{run_of};
 ghost use Rattle.hack_process.specs.Commands.{command_of};
 ghost use Rattle.hack_process.specs.CommandTexts.{with_names};
@@ -16,7 +16,7 @@ ghost use Rattle.hack_runs.specs.Commands.{run_command, plain_command, locked_wo
 ghost use Rattle.hack_runs.specs.Commands.{clean_command, lockfile_command};
 
 use crate::parts::{CallWords, PlanPackage};
-use hack_features::Feature;
+use hack_feature_map::Feature;
 use hack_plan::runs::Run;
 use hack_process::process::ProcessBuilder;
 use hack_versions::version::Version;

@@ -1,6 +1,6 @@
 //! What a plan's commands are made of.
 
-use hack_features::Feature;
+use hack_feature_map::Feature;
 use hack_plan::runs::Runs;
 use hack_versions::version::Version;
 

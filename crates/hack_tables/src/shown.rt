@@ -1,6 +1,6 @@
 //! Notices and arguments as texts.
 
-use hack_features::Feature;
+use hack_feature_map::Feature;
 use hack_words::cli::{Args, WorkspaceBehavior};
 use hack_words::partition::PartitionKind;
 use hack_words::term::{Coloring, LogGroup, Notice, NoticeKind};

@@ -2,7 +2,7 @@
 
 use crate::answers::{joined, or_none, word, yes};
 use crate::table::Group;
-use hack_features::Feature;
+use hack_feature_map::Feature;
 use hack_lexopt::{Next, Parser};
 use hack_options::{Opt, Usage, long};
 use hack_rules::named::{groups, lifts, names, optional_names, targets};

@@ -8,7 +8,7 @@ mod start;
 
 pub use args::Args;
 pub use env::Env;
-pub use hack_features::Feature;
+pub use hack_feature_map::Feature;
 pub use hack_options::{Help, Opt};
 pub use hack_rules::fault::{Beside, CliFault};
 pub use hack_uses::{CutFault, OwnedFlag, WorkspaceBehavior};

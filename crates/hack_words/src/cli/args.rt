@@ -11,7 +11,7 @@ ghost use Rattle.hack_rules.specs.Asked.{ignores_private as private_ignored};
 ghost use Rattle.hack_rules.specs.ListsView.{listed_in};
 
 use hack_base::copies::{copy_of, push_copies};
-use hack_features::Feature;
+use hack_feature_map::Feature;
 use hack_options::Opt;
 use hack_rules::checks::has_some;
 use hack_rules::early::Early;

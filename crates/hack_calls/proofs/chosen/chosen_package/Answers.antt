@@ -1,5 +1,5 @@
 use Rattle.std.proofs.Common.{◌∙◌, sym, ap, subst, Some}
-use Rattle.hack_features.specs.Feature.{groups_of}
+use Rattle.hack_feature_map.specs.Feature.{groups_of}
 use Rattle.hack_base.specs.Names.{names_behind}
 use Rattle.hack_load.specs.ContextView.{context_view}
 use Rattle.hack_metadata.specs.View.{package_view}

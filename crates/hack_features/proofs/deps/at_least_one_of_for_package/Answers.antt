@@ -1,5 +1,5 @@
 use Rattle.std.proofs.Common.{◌∷◌, ◌++◌, [], ◌∙◌, sym, ap, subst, take}
-use Rattle.hack_features.specs.Feature.{group_of, groups_of}
+use Rattle.hack_feature_map.specs.Feature.{group_of, groups_of}
 use Rattle.hack_features.specs.Deps.{none}
 use Rattle.hack_base.proofs.Members.{not_from}
 use Rattle.hack_features.proofs.DepsLemmas.{ServeSoFar, serve-kept, serve-dropped, groups-more}

@@ -1,5 +1,5 @@
 use Rattle.std.proofs.Common.{take}
-use Rattle.hack_features.specs.Feature.{groups_of}
+use Rattle.hack_feature_map.specs.Feature.{groups_of}
 use Rattle.hack_features.proofs.DepsLemmas.{ServeSoFar}
 use Rattle.hack_features.proofs.deps.at_least_one_of_for_package.Given as goal
 

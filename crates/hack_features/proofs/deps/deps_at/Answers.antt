@@ -2,7 +2,7 @@ use Rattle.std.proofs.Common.{◌≡◌, ◌+◌, ◌∙◌, ◌≤◌, ℕ, sym
 use Rattle.std.specs.Prelude.{◌==◌, ◌&&◌, not}
 use Rattle.std.specs.Cmp.Lexicographic.{slice_cmp}
 use Rattle.std.specs.Ordering.{nat_cmp, is_eq}
-use Rattle.hack_features.specs.Deps.{has_name}
+use Rattle.hack_feature_map.specs.NameSets.{has_name}
 use Rattle.hack_features.specs.Sets.{rows_of}
 use Rattle.hack_features.specs.Tables.{cell}
 use Rattle.hack_features.specs.Routed.{names_in}

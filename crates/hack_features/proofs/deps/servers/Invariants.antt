@@ -1,4 +1,4 @@
-use Rattle.hack_features.specs.Feature.{group_of}
+use Rattle.hack_feature_map.specs.Feature.{group_of}
 use Rattle.hack_features.proofs.DepsLemmas.{Serving}
 use Rattle.hack_features.proofs.deps.servers.Given as goal
 

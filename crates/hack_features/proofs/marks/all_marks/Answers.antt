@@ -1,6 +1,6 @@
 use Rattle.std.proofs.Common.{◌↔◌, ◌==◌, ◌||◌, ℕ, List, Bool, [], IsTrue, ◌∙◌, arith}
 use Rattle.std.proofs.lemmas.List.{length-map, map-append}
-use Rattle.hack_features.specs.FeatureMap.{Chain}
+use Rattle.hack_feature_map.specs.FeatureMap.{Chain}
 use Rattle.hack_features.specs.Sets.{rows_of}
 use Rattle.hack_features.specs.Tables.{bit}
 use Rattle.hack_features.specs.Places.{Leads}

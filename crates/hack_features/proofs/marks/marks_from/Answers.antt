@@ -1,5 +1,5 @@
 use Rattle.std.proofs.Common.{◌≡◌, ◌↔◌, ◌==◌, ◌||◌, ℕ, List, Bool, [], IsTrue, length, sym, ◌∙◌, subst, eqb-true}
-use Rattle.hack_features.specs.FeatureMap.{Chain}
+use Rattle.hack_feature_map.specs.FeatureMap.{Chain}
 use Rattle.hack_features.specs.Sets.{rows_of}
 use Rattle.hack_features.specs.Tables.{bit}
 use Rattle.hack_features.specs.Places.{Leads}

@@ -1,7 +1,7 @@
 use Rattle.std.proofs.Common.{◌+◌, ◌++◌, ◌∷◌, [], ◌∙◌, ◌≤◌, take, length, sym, ap, subst, arith}
 use Rattle.std.proofs.lemmas.List.{map-append, take_all, length-map}
 use Rattle.hack_features.specs.Sets.{rows_of}
-use Rattle.hack_features.specs.Feature.{group_of, groups_of}
+use Rattle.hack_feature_map.specs.Feature.{group_of, groups_of}
 use Rattle.hack_features.specs.Places.{AreAllAt, AreAt}
 use Rattle.hack_features.specs.Table.{table}
 use Rattle.hack_base.proofs.Steps.{seen-next, row_items}

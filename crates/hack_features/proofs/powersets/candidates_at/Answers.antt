@@ -6,7 +6,7 @@ use Rattle.std.proofs.lemmas.Bool.{ltb-true, ltb-false}
 use Rattle.std.proofs.lemmas.List.{take_more}
 use Rattle.std.proofs.lemmas.List.Elements.{filter_map-append}
 use Rattle.std.proofs.lemmas.Option.{slice_get_read, slice_get_past}
-use Rattle.hack_features.specs.declared.feature.Feature.{Feature}
+use Rattle.hack_feature_map.specs.declared.feature.Feature.{Feature}
 use Rattle.hack_features.specs.Sets.{items_at}
 use Rattle.hack_base.proofs.Steps.{filter_map-found, filter_map-missed}
 use Rattle.hack_features.proofs.powersets.candidates_at.Goals as goal

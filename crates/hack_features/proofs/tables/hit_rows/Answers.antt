@@ -1,8 +1,8 @@
 use Rattle.std.proofs.Common.{◌≡◌, ◌<◌, ◌≤◌, ◌+◌, ◌∷◌, [], arith, List, ℕ, take, length, get_or, subst, sym, ap, ◌∙◌, eqb-true}
 use Rattle.std.proofs.lemmas.List.{map-append, take_all, take_more, length-map}
 use Rattle.hack_base.specs.Names.{Name}
-use Rattle.hack_features.specs.FeatureMap.{feature_map}
-use Rattle.hack_features.specs.Feature.{candidates_of, groups_of, group_of}
+use Rattle.hack_feature_map.specs.FeatureMap.{feature_map}
+use Rattle.hack_feature_map.specs.Feature.{candidates_of, groups_of, group_of}
 use Rattle.hack_features.specs.Rules.{unlifted_groups}
 use Rattle.hack_features.specs.Sets.{rows_of}
 use Rattle.hack_features.specs.Routed.{names_in}

@@ -1,6 +1,6 @@
 use Rattle.std.proofs.Common.{take}
-use Rattle.hack_features.specs.FeatureMap.{feature_map}
-use Rattle.hack_features.specs.Feature.{candidates_of, groups_of}
+use Rattle.hack_feature_map.specs.FeatureMap.{feature_map}
+use Rattle.hack_feature_map.specs.Feature.{candidates_of, groups_of}
 use Rattle.hack_features.specs.Rules.{unlifted_groups}
 use Rattle.hack_features.specs.Sets.{rows_of}
 use Rattle.hack_features.specs.Tables.{Matched, CountsHits}

@@ -1,6 +1,6 @@
 use Rattle.std.proofs.Common.{◌≡◌}
 use Rattle.std.specs.List.{list_any}
-use Rattle.hack_features.specs.FeatureMap.{feature_map}
+use Rattle.hack_feature_map.specs.FeatureMap.{feature_map}
 use Rattle.hack_base.specs.Names.{names_of}
 use Rattle.hack_load.specs.Candidates.{names_dep, is_named}
 use Rattle.hack_load.proofs.features.is_named.Given as goal

@@ -3,8 +3,8 @@ use Rattle.std.specs.Map.{keys_of}
 use Rattle.std.specs.Map.Iter.{deref}
 use Rattle.std.proofs.lemmas.Map.Iter.{rest_more}
 use Rattle.hack_base.specs.Names.{Name, names_of}
-use Rattle.hack_features.specs.Feature.{IsNormal}
-use Rattle.hack_features.specs.declared.feature.Feature.{Feature}
+use Rattle.hack_feature_map.specs.Feature.{IsNormal}
+use Rattle.hack_feature_map.specs.declared.feature.Feature.{Feature}
 use Rattle.hack_load.specs.Features.{AreNormals, IsRising, texts_of}
 use Rattle.hack_load.proofs.FeatureLemmas.{keys-shown, normals-push, rising-names, texts-pushed}
 use Rattle.hack_load.proofs.features.normals.Goals as goal

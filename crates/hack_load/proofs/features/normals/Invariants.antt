@@ -1,6 +1,6 @@
 use Rattle.std.proofs.Common.{◌≡◌, ◌++◌}
 use Rattle.std.specs.Map.{keys_of}
-use Rattle.hack_features.specs.FeatureMap.{feature_map}
+use Rattle.hack_feature_map.specs.FeatureMap.{feature_map}
 use Rattle.hack_base.specs.Names.{names_of}
 use Rattle.hack_load.specs.Features.{AreNormals, texts_of}
 use Rattle.hack_load.proofs.features.normals.Given as goal

@@ -1,6 +1,6 @@
 use Rattle.std.proofs.Common.{◌+◌, ◌∙◌, ap, sym, subst, map, drop, List, ◌∷◌}
-use Rattle.hack_features.specs.FeatureMap.{feature_map}
-use Rattle.hack_features.specs.declared.feature.Feature.{Feature}
+use Rattle.hack_feature_map.specs.FeatureMap.{feature_map}
+use Rattle.hack_feature_map.specs.declared.feature.Feature.{Feature}
 use Rattle.hack_metadata.specs.Records.{DependencyRecord}
 use Rattle.hack_metadata.specs.View.{dependency_view}
 use Rattle.hack_load.specs.Features.{texts_of}

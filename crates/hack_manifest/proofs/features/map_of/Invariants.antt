@@ -1,5 +1,5 @@
 use Rattle.toml.specs.View.{table_view}
-use Rattle.hack_features.specs.FeatureMap.{feature_map}
+use Rattle.hack_feature_map.specs.FeatureMap.{feature_map}
 use Rattle.hack_manifest.specs.Manifest.{members_in}
 use Rattle.hack_manifest.proofs.FeatureLemmas.{IsSoFar}
 use Rattle.hack_manifest.proofs.features.map_of.Given as goal

@@ -1,4 +1,4 @@
-use Rattle.hack_features.specs.Feature.{group_of}
+use Rattle.hack_feature_map.specs.Feature.{group_of}
 use Rattle.hack_packages.specs.Candidates.{applies}
 use Rattle.hack_packages.specs.CandidatesView.{wishes, known_of_package}
 use Rattle.hack_packages.proofs.Growth.{filter-next}

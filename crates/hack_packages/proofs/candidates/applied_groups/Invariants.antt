@@ -1,6 +1,6 @@
 use Rattle.std.proofs.Common.{◌≡◌, take}
 use Rattle.std.specs.Prelude.{filter}
-use Rattle.hack_features.specs.Feature.{groups_of}
+use Rattle.hack_feature_map.specs.Feature.{groups_of}
 use Rattle.hack_packages.specs.Candidates.{applies}
 use Rattle.hack_packages.specs.CandidatesView.{wishes, known_of_package}
 use Rattle.hack_packages.proofs.candidates.applied_groups.Given as goal

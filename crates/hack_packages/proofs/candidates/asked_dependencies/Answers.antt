@@ -1,5 +1,5 @@
 use Rattle.std.specs.Prelude.{◌&&◌}
-use Rattle.hack_features.specs.Feature.{group_of}
+use Rattle.hack_feature_map.specs.Feature.{group_of}
 use Rattle.hack_packages.specs.Candidates.{stays, is_asked}
 use Rattle.hack_packages.specs.CandidatesView.{wishes}
 use Rattle.hack_packages.proofs.Growth.{filter-next}

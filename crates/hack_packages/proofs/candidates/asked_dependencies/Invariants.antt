@@ -1,6 +1,6 @@
 use Rattle.std.proofs.Common.{◌≡◌, take}
 use Rattle.std.specs.Prelude.{filter, ◌&&◌}
-use Rattle.hack_features.specs.Feature.{groups_of}
+use Rattle.hack_feature_map.specs.Feature.{groups_of}
 use Rattle.hack_packages.specs.Candidates.{stays, is_asked}
 use Rattle.hack_packages.specs.CandidatesView.{wishes}
 use Rattle.hack_packages.proofs.candidates.asked_dependencies.Given as goal

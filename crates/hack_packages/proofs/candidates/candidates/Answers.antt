@@ -1,7 +1,7 @@
 use Rattle.std.proofs.Common.{◌≡◌, ◌∙◌, ◌++◌, List, true, false, not, ap, sym}
 use Rattle.std.proofs.lemmas.List.{map-append}
 use Rattle.std.specs.Prelude.{filter, ◌&&◌}
-use Rattle.hack_features.specs.Feature.{group_of, groups_of}
+use Rattle.hack_feature_map.specs.Feature.{group_of, groups_of}
 use Rattle.hack_packages.specs.Candidates.{Names, stays, is_asked, is_bare}
 use Rattle.hack_packages.specs.CandidatesView.{wishes, known_of_package}
 use Rattle.hack_packages.proofs.CandidateLemmas.{four-lists}

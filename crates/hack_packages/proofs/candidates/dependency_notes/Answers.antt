@@ -1,6 +1,6 @@
 use Rattle.std.proofs.Common.{◌∙◌, ap, not, string_bytes}
 use Rattle.hack_base.specs.declared.notice.NoticeKind.TheVariants.{Warn}
-use Rattle.hack_features.specs.Feature.{groups_of}
+use Rattle.hack_feature_map.specs.Feature.{groups_of}
 use Rattle.hack_packages.specs.Texts.{dependency_text}
 use Rattle.hack_packages.specs.Candidates.{one_has}
 use Rattle.hack_packages.specs.CandidatesView.{known_of_package}

@@ -1,6 +1,6 @@
 use Rattle.std.proofs.Common.{◌∙◌, ap, not, string_bytes}
 use Rattle.hack_base.specs.declared.notice.NoticeKind.TheVariants.{Info}
-use Rattle.hack_features.specs.Feature.{group_of}
+use Rattle.hack_feature_map.specs.Feature.{group_of}
 use Rattle.hack_base.specs.Names.{names_of}
 use Rattle.hack_packages.specs.Texts.{group_text}
 use Rattle.hack_packages.specs.Candidates.{applies}

@@ -1,7 +1,7 @@
 use Rattle.std.proofs.Common.{◌≡◌, map, take, not, string_bytes}
 use Rattle.std.specs.Prelude.{filter}
 use Rattle.hack_base.specs.Notes.{note_of}
-use Rattle.hack_features.specs.Feature.{groups_of}
+use Rattle.hack_feature_map.specs.Feature.{groups_of}
 use Rattle.hack_packages.specs.Texts.{group_text}
 use Rattle.hack_packages.specs.Members.{info_note}
 use Rattle.hack_packages.specs.Candidates.{applies}

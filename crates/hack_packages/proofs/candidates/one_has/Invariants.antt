@@ -1,5 +1,5 @@
 use Rattle.std.proofs.Common.{◌≡◌, drop}
-use Rattle.hack_features.specs.Feature.{groups_of}
+use Rattle.hack_feature_map.specs.Feature.{groups_of}
 use Rattle.hack_packages.specs.Candidates.{one_has}
 use Rattle.hack_packages.proofs.candidates.one_has.Given as goal
 

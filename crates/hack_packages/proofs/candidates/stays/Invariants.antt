@@ -1,6 +1,6 @@
 use Rattle.std.proofs.Common.{◌≡◌, drop}
 use Rattle.hack_base.specs.Names.{names_of}
-use Rattle.hack_features.specs.Feature.{group_of}
+use Rattle.hack_feature_map.specs.Feature.{group_of}
 use Rattle.hack_packages.specs.Candidates.{stays}
 use Rattle.hack_packages.specs.CandidatesView.{wishes}
 use Rattle.hack_packages.proofs.candidates.stays.Given as goal

@@ -1,5 +1,5 @@
 use Rattle.std.proofs.Common.{◌≡◌, ◌∙◌, List, ℕ, false, sym, ap}
-use Rattle.hack_features.specs.Feature.{groups_of}
+use Rattle.hack_feature_map.specs.Feature.{groups_of}
 use Rattle.hack_features.specs.Forest.{sets_in}
 use Rattle.hack_plan.specs.Runs.{is_plain, runs_from}
 use Rattle.hack_packages.specs.Candidates.{Wishes, Known}

@@ -2,8 +2,8 @@ use Rattle.std.proofs.Common.{◌≡◌, ◌∙◌, List, Bool, length, map, sym
 use Rattle.std.proofs.lemmas.List.{length-map}
 use Rattle.hack_base.specs.Names.{Name}
 use Rattle.hack_features.specs.declared.rules.Rules.{Rules}
-use Rattle.hack_features.specs.Feature.{groups_of}
-use Rattle.hack_features.specs.FeatureMap.{FeatureMap, feature_map}
+use Rattle.hack_feature_map.specs.Feature.{groups_of}
+use Rattle.hack_feature_map.specs.FeatureMap.{FeatureMap, feature_map}
 use Rattle.hack_features.specs.Sets.{IsListing}
 use Rattle.hack_features.specs.Forest.{sets_in}
 use Rattle.hack_features.specs.Rules.{Choice, IsListed, AreCovers, unlifted_groups}

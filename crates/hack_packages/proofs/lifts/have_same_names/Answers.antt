@@ -1,7 +1,7 @@
 use Rattle.std.proofs.Common.{ap, ◌∙◌}
 use Rattle.hack_rules.specs.CliLists.{same_names}
 use Rattle.hack_base.specs.Names.{names_of}
-use Rattle.hack_features.specs.Feature.{group_of}
+use Rattle.hack_feature_map.specs.Feature.{group_of}
 use Rattle.hack_rules.proofs.GroupLemmas.{same-names}
 use Rattle.hack_packages.proofs.lifts.have_same_names.Goals as goal
 

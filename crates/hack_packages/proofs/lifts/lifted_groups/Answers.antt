@@ -2,7 +2,7 @@ use Rattle.std.proofs.Common.{◌∙◌, ◌++◌, ◌∷◌, [], ap, List}
 use Rattle.std.specs.Prelude.{◌&&◌}
 use Rattle.std.specs.List.{list_any}
 use Rattle.std.specs.Str.{bytes_eq}
-use Rattle.hack_features.specs.Feature.{group_of}
+use Rattle.hack_feature_map.specs.Feature.{group_of}
 use Rattle.hack_base.specs.Names.{Name}
 use Rattle.hack_rules.specs.CliLists.{same_names}
 use Rattle.hack_packages.specs.Candidates.{Lift}

@@ -3,7 +3,7 @@ use Rattle.std.specs.Prelude.{filter, ◌&&◌, ◌==◌, length, option_copied}
 use Rattle.std.specs.declared.string.String.{String}
 use Rattle.std.specs.declared.alloc.Global.{Global}
 use Rattle.hack_base.specs.Names.{Name, names_of}
-use Rattle.hack_features.specs.declared.feature.Feature.{Feature}
+use Rattle.hack_feature_map.specs.declared.feature.Feature.{Feature}
 use Rattle.hack_base.specs.Notes.{Note, note_of}
 use Rattle.hack_packages.specs.Texts.{exclusion_text, lift_text, private_text}
 use Rattle.hack_packages.specs.Members.{Choosing, Keeps, Collects, IsMatched, MatchesSome, is_called, is_skipped, warning_note, info_note}

@@ -1,5 +1,5 @@
 use Rattle.std.proofs.Common.{◌≡◌, take}
-use Rattle.hack_features.specs.Feature.{candidates_of, groups_of}
+use Rattle.hack_feature_map.specs.Feature.{candidates_of, groups_of}
 use Rattle.hack_powerset_list.proofs.input.all_of.Given as goal
 
 abbrev pub invariant-loop-feature : goal.invariant-loop-feature

@@ -1,6 +1,6 @@
 use Rattle.std.proofs.Common.{◌++◌, [], ◌∷◌, map, sym, ap, ◌∙◌}
 use Rattle.hack_base.specs.Names.{names_of}
-use Rattle.hack_features.specs.Feature.{groups_of, name_of}
+use Rattle.hack_feature_map.specs.Feature.{groups_of, name_of}
 use Rattle.hack_powerset_list.proofs.InputLemmas.{names-keys}
 use Rattle.hack_powerset_list.proofs.input.features_of.Goals as goal
 

@@ -1,6 +1,6 @@
 use Rattle.std.proofs.Common.{◌≡◌, ◌++◌, map, take}
 use Rattle.hack_base.specs.Names.{names_of}
-use Rattle.hack_features.specs.Feature.{name_of}
+use Rattle.hack_feature_map.specs.Feature.{name_of}
 use Rattle.hack_powerset_list.proofs.lines.names_behind.Given as goal
 
 abbrev pub invariant-loop-feature : goal.invariant-loop-feature

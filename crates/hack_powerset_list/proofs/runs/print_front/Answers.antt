@@ -2,7 +2,7 @@ use Rattle.std.proofs.Common.{◌≡◌, ◌++◌, ◌∷◌, [], List, ℕ, map
 use Rattle.std.specs.Prelude.{if◌then◌else◌}
 use Rattle.hack_base.specs.Writes.{AppendsFront}
 use Rattle.hack_base.specs.Names.{Name}
-use Rattle.hack_features.specs.Feature.{name_of}
+use Rattle.hack_feature_map.specs.Feature.{name_of}
 use Rattle.hack_plan.specs.Runs.{PackageRun, Plain, NoDefaultFeatures, run_if}
 use Rattle.hack_powerset_list.specs.Lines.{run_line, run_lines}
 use Rattle.hack_powerset_list.proofs.PageLemmas.{on_err-same}

@@ -2,7 +2,7 @@ use Rattle.std.proofs.Common.{◌≡◌, ◌++◌, ◌∷◌, [], List, ℕ, map
 use Rattle.std.specs.Prelude.{◌==◌, if◌then◌else◌, vec_len}
 use Rattle.hack_base.specs.Writes.{AppendsFront}
 use Rattle.hack_base.specs.Names.{Name}
-use Rattle.hack_features.specs.Feature.{name_of}
+use Rattle.hack_feature_map.specs.Feature.{name_of}
 use Rattle.hack_plan.specs.Runs.{Plain, NoDefaultFeatures, allows_two, run_if, runs_from, with_last_first}
 use Rattle.hack_powerset_list.specs.Lines.{run_lines}
 use Rattle.hack_powerset_list.specs.LineWords.{Prints}

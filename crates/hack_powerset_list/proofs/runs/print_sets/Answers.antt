@@ -1,7 +1,7 @@
 use Rattle.std.proofs.Common.{◌≡◌, ◌<◌, ◌++◌, [], List, ℕ, map, length, get_or, ap, ◌∙◌, sym, subst, filter, string_bytes, append-nil}
 use Rattle.hack_base.specs.Writes.{AppendsFront}
 use Rattle.hack_base.specs.Names.{Name}
-use Rattle.hack_features.specs.Feature.{name_of}
+use Rattle.hack_feature_map.specs.Feature.{name_of}
 use Rattle.hack_features.specs.View.{may_of}
 use Rattle.hack_plan.specs.Runs.{Set, with_last_first}
 use Rattle.hack_powerset_list.specs.Lines.{run_line}

@@ -1,7 +1,7 @@
 use Rattle.std.proofs.Common.{[], List, ℕ, map, subst, string_bytes}
 use Rattle.hack_base.specs.Writes.{AppendsFront}
 use Rattle.hack_base.proofs.WriteLemmas.{Appends-kept}
-use Rattle.hack_features.specs.Feature.{name_of}
+use Rattle.hack_feature_map.specs.Feature.{name_of}
 use Rattle.hack_plan.specs.Runs.{runs_from}
 use Rattle.hack_powerset_list.specs.Lines.{run_lines}
 use Rattle.hack_powerset_list.specs.LineWords.{Prints}

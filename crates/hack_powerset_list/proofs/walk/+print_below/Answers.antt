@@ -1,7 +1,7 @@
 use Rattle.std.proofs.Common.{◌≡◌, ◌∙◌, ◌<◌, ◌≤◌, ◌+◌, ◌++◌, ◌∷◌, [], ℕ, zero, List, Bool, length, filter, map, true, false, ap, sym, subst, arith, drop, append_assoc, string_bytes, All}
 use Rattle.hack_base.specs.Writes.{AppendsFront}
 use Rattle.hack_base.specs.Names.{Name}
-use Rattle.hack_features.specs.Feature.{name_of}
+use Rattle.hack_feature_map.specs.Feature.{name_of}
 use Rattle.hack_features.specs.Sets.{IsSelection, items_at}
 use Rattle.hack_features.specs.View.{may_of, size_of}
 use Rattle.hack_powerset_list.specs.LineWords.{Prints, others_text}

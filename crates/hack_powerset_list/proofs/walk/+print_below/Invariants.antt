@@ -1,5 +1,5 @@
 use Rattle.std.proofs.Common.{◌≡◌, map, filter, string_bytes}
-use Rattle.hack_features.specs.Feature.{name_of}
+use Rattle.hack_feature_map.specs.Feature.{name_of}
 use Rattle.hack_features.specs.View.{may_of}
 use Rattle.hack_powerset_list.specs.LineWords.{Prints}
 use Rattle.hack_powerset_list.specs.Room.{set_in, most_in}

@@ -1,7 +1,7 @@
 use Rattle.std.proofs.Common.{◌<◌, ◌++◌, List, ℕ, map, length, get_or, ap, ◌∙◌, arith, codes, string_bytes}
 use Rattle.std.proofs.lemmas.List.{length-map, get_or_default}
 use Rattle.hack_base.specs.Names.{Name}
-use Rattle.hack_features.specs.Feature.{name_of}
+use Rattle.hack_feature_map.specs.Feature.{name_of}
 use Rattle.hack_powerset_list.proofs.WalkLemmas.{text-at, others-more}
 use Rattle.hack_powerset_list.proofs.walk.names_behind_another.Goals as goal
 

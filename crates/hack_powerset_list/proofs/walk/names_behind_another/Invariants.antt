@@ -1,5 +1,5 @@
 use Rattle.std.proofs.Common.{◌≡◌, map, take, string_bytes}
-use Rattle.hack_features.specs.Feature.{name_of}
+use Rattle.hack_feature_map.specs.Feature.{name_of}
 use Rattle.hack_features.specs.Sets.{items_at}
 use Rattle.hack_powerset_list.specs.LineWords.{others_text}
 use Rattle.hack_powerset_list.proofs.walk.names_behind_another.Given as goal

@@ -3,7 +3,7 @@ use Rattle.std.specs.Prelude.{not, bytes_eq}
 use Rattle.std.proofs.lemmas.Bool.{and_from}
 use Rattle.hack_base.specs.Writes.{AppendsFront}
 use Rattle.hack_base.specs.Names.{Name}
-use Rattle.hack_features.specs.Feature.{name_of}
+use Rattle.hack_feature_map.specs.Feature.{name_of}
 use Rattle.hack_features.specs.Questions.{is_whole}
 use Rattle.hack_features.specs.View.{whole_of}
 use Rattle.hack_features.proofs.Permitted.{whole-cons}

@@ -2,7 +2,7 @@ use Rattle.std.proofs.Common.{◌≡◌, ◌<◌, ◌++◌, ◌∷◌, List, map
 use Rattle.std.proofs.lemmas.List.{length-map}
 use Rattle.hack_base.specs.Writes.{AppendsFront}
 use Rattle.hack_base.specs.Names.{Name}
-use Rattle.hack_features.specs.Feature.{name_of}
+use Rattle.hack_feature_map.specs.Feature.{name_of}
 use Rattle.hack_plan.specs.Runs.{Set}
 use Rattle.hack_powerset_list.specs.Lines.{run_line}
 use Rattle.hack_powerset_list.specs.LineWords.{Prints}

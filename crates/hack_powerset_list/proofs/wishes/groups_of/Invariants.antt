@@ -1,6 +1,6 @@
 use Rattle.std.proofs.Common.{take}
 use Rattle.hack_base.specs.Names.{names_behind}
-use Rattle.hack_features.specs.Feature.{groups_of as names_in_groups}
+use Rattle.hack_feature_map.specs.Feature.{groups_of as names_in_groups}
 use Rattle.hack_powerset_list.specs.Words.{AreGroups}
 use Rattle.hack_powerset_list.proofs.wishes.groups_of.Given as goal
 

@@ -1,5 +1,5 @@
 use Rattle.std.proofs.Common.{◌≡◌, drop}
-use Rattle.hack_features.specs.Feature.{groups_of}
+use Rattle.hack_feature_map.specs.Feature.{groups_of}
 use Rattle.hack_rules.specs.Early.{is_in_group}
 use Rattle.hack_rules.proofs.early.group_has.Given as goal
 

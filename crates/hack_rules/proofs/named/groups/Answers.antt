@@ -1,7 +1,7 @@
 use Rattle.std.proofs.Common.{rules, ◌≡◌, ◌++◌, ◌∷◌, [], ◌∙◌, ap, sym, subst, take, List, ℕ, map, string_bytes}
 use Rattle.std.proofs.lemmas.List.{map-append, take_more}
-use Rattle.hack_features.specs.declared.feature.Feature.{Feature}
-use Rattle.hack_features.specs.Feature.{IsGroup}
+use Rattle.hack_feature_map.specs.declared.feature.Feature.{Feature}
+use Rattle.hack_feature_map.specs.Feature.{IsGroup}
 use Rattle.hack_base.specs.Lists.{group_names}
 use Rattle.hack_rules.specs.CliGroups.{AreGroupsOf}
 use Rattle.hack_rules.proofs.GroupLemmas.{AreGroupsOf-more}

@@ -1,6 +1,6 @@
 use Rattle.std.proofs.Common.{◌≡◌, drop, map}
 use Rattle.std.specs.List.{list_any}
-use Rattle.hack_features.specs.Feature.{group_of}
+use Rattle.hack_feature_map.specs.Feature.{group_of}
 use Rattle.hack_base.specs.Names.{names_of}
 use Rattle.hack_rules.specs.CliLists.{same_names}
 use Rattle.hack_rules.proofs.named.has_names.Given as goal

@@ -1,6 +1,6 @@
 use Rattle.std.proofs.Common.{rules, ◌≡◌, ◌+◌, ◌++◌, ◌∷◌, [], ◌∙◌, ap, sym, drop, map, take, string_bytes, Some}
 use Rattle.std.proofs.lemmas.List.{drop_more, take_more}
-use Rattle.hack_features.specs.Feature.{IsGroup}
+use Rattle.hack_feature_map.specs.Feature.{IsGroup}
 use Rattle.hack_rules.specs.CliLists.{first_failing, is_lift, lift_of}
 use Rattle.hack_base.specs.Lists.{group_names}
 use Rattle.hack_rules.proofs.GroupLemmas.{lift-passes, lift-read, lift-some, read-more}

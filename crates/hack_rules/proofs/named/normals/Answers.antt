@@ -1,8 +1,8 @@
 use Rattle.std.proofs.Common.{rules, ◌≡◌, ◌++◌, ◌∷◌, [], ◌∙◌, ap, sym, subst, take, List, string_bytes}
 use Rattle.std.proofs.lemmas.List.{map-append, take_more}
 use Rattle.hack_base.specs.Names.{Name, names_of}
-use Rattle.hack_features.specs.declared.feature.Feature.{Feature}
-use Rattle.hack_features.specs.Feature.{IsNormal}
+use Rattle.hack_feature_map.specs.declared.feature.Feature.{Feature}
+use Rattle.hack_feature_map.specs.Feature.{IsNormal}
 use Rattle.hack_rules.specs.CliGroups.{AreNormalsOf}
 use Rattle.hack_rules.proofs.GroupLemmas.{AreNormalsOf-more}
 use Rattle.hack_rules.proofs.named.normals.Goals as goal

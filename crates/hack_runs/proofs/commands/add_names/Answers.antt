@@ -1,5 +1,5 @@
 use Rattle.std.proofs.Common.{◌∙◌, ap, map, take, string_bytes, ℕ, List, Option}
-use Rattle.hack_features.specs.Feature.{groups_of}
+use Rattle.hack_feature_map.specs.Feature.{groups_of}
 use Rattle.hack_process.specs.CommandTexts.{Command, with_names}
 use Rattle.hack_process.specs.Commands.{command_of}
 use Rattle.hack_runs.specs.Commands.{names_at}

@@ -1,13 +1,14 @@
 use Rattle.std.proofs.Common.{◌≡◌, ◌++◌, ◌∷◌, [], ◌<◌, ◌∙◌, length, length-append, sym, ap, subst, arith, ℕ, List}
 use Rattle.std.proofs.lemmas.List.{get_or_default, map-append, length-map}
-use Rattle.hack_features.specs.FeatureMap.{feature_map}
+use Rattle.hack_feature_map.specs.FeatureMap.{feature_map}
 use Rattle.hack_features.specs.Places.{AreRows, name_at}
 use Rattle.hack_features.specs.Sets.{rows_of}
 use Rattle.hack_features.specs.Table.{table}
 use Rattle.hack_features.specs.Linked.{table_of}
 use Rattle.hack_base.proofs.NameLemmas.{shown-at, length-shown}
 use Rattle.hack_base.proofs.Steps.{row_items}
-use Rattle.hack_features.proofs.LinkLemmas.{rows-next, key_at, grown-targets}
+use Rattle.hack_feature_map.proofs.ReachLemmas.{key_at}
+use Rattle.hack_features.proofs.LinkLemmas.{rows-next, grown-targets}
 use Rattle.hack_features.proofs.links.Links.add_row.Goals as goal
 
 pub returns-clause-links : goal.returns-clause-links

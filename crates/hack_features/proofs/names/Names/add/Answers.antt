@@ -3,7 +3,7 @@ use Rattle.std.specs.Map.{update}
 use Rattle.std.specs.Str.{bytes_eq}
 use Rattle.std.proofs.lemmas.Map.Text.{btree_map_updates_str}
 use Rattle.hack_base.specs.Names.{Name, names_behind}
-use Rattle.hack_features.specs.Deps.{get_at}
+use Rattle.hack_feature_map.specs.NameSets.{get_at}
 use Rattle.hack_features.specs.Places.{HasPlaces}
 use Rattle.hack_features.specs.Table.{table}
 use Rattle.hack_base.proofs.NameLemmas.{shown-push, length-shown}

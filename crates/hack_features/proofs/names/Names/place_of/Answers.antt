@@ -1,7 +1,7 @@
 use Rattle.std.proofs.Common.{◌≡◌, sym, subst}
-use Rattle.hack_features.specs.Search.{Adds}
+use Rattle.hack_feature_map.specs.Search.{Adds}
 use Rattle.hack_features.specs.Table.{table}
-use Rattle.hack_features.proofs.ReachLemmas.{adds-one, adds-there}
+use Rattle.hack_feature_map.proofs.ReachLemmas.{adds-one, adds-there}
 use Rattle.hack_features.proofs.PlaceLemmas.{placed-there}
 use Rattle.hack_features.proofs.names.Names.place_of.Goals as goal
 

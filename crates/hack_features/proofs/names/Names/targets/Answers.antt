@@ -1,10 +1,10 @@
 use Rattle.std.proofs.Common.{◌≡◌, ◌++◌, ◌∷◌, [], take, ◌+◌, ◌∙◌, sym, ap, subst}
 use Rattle.hack_base.specs.Names.{names_of}
-use Rattle.hack_features.specs.Search.{Adds, IsTarget}
+use Rattle.hack_feature_map.specs.Search.{Adds, IsTarget}
 use Rattle.hack_features.specs.Places.{AreAt, targets_of}
 use Rattle.hack_features.specs.Table.{table, IsInStep}
 use Rattle.hack_base.proofs.NameLemmas.{names-more}
-use Rattle.hack_features.proofs.ReachLemmas.{adds-target, adds-no_target}
+use Rattle.hack_feature_map.proofs.ReachLemmas.{adds-target, adds-no_target}
 use Rattle.hack_features.proofs.PlaceLemmas.{at-front, at-push, targets-found, targets-missed}
 use Rattle.hack_features.proofs.names.Names.targets.Goals as goal
 use Rattle.hack_features.proofs.names.Names.targets.Goals.{in-Some+in_ok-place_of+in_ok-push, in_default}

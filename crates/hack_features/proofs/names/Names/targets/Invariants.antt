@@ -1,6 +1,6 @@
 use Rattle.std.proofs.Common.{take}
 use Rattle.hack_base.specs.Names.{names_of}
-use Rattle.hack_features.specs.Search.{Adds, IsTarget}
+use Rattle.hack_feature_map.specs.Search.{Adds, IsTarget}
 use Rattle.hack_features.specs.Places.{AreAt, targets_of}
 use Rattle.hack_features.specs.Table.{table, IsInStep}
 use Rattle.hack_features.proofs.names.Names.targets.Given as goal

@@ -2,7 +2,7 @@ use Rattle.std.proofs.Common.{sym, subst, Contains}
 use Rattle.std.proofs.lemmas.List.Elements.{Contains-append_left}
 use Rattle.hack_features.specs.Places.{IsMore}
 use Rattle.hack_features.specs.Sets.{rows_of}
-use Rattle.hack_features.specs.Feature.{groups_of, candidates_of}
+use Rattle.hack_feature_map.specs.Feature.{groups_of, candidates_of}
 use Rattle.hack_features.specs.Table.{table}
 use Rattle.hack_features.specs.Routed.{names_in}
 use Rattle.hack_features.proofs.PlaceLemmas.{all_at-front, more-then}

@@ -1,7 +1,7 @@
 use Rattle.std.proofs.Common.{◌≡◌, ◌<◌, ◌∙◌, ◌↔◌, ℕ, List, Bool, IsTrue, All, Contains, length, sym, subst, arith}
 use Rattle.std.proofs.lemmas.List.{length-map}
 use Rattle.std.proofs.lemmas.List.Elements.{Contains-append_left}
-use Rattle.hack_features.specs.FeatureMap.{feature_map, Chain}
+use Rattle.hack_feature_map.specs.FeatureMap.{feature_map, Chain}
 use Rattle.hack_features.specs.Places.{Leads, leads}
 use Rattle.hack_features.specs.Sets.{rows_of}
 use Rattle.hack_features.specs.Table.{table}

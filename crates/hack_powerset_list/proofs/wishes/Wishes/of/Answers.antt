@@ -1,8 +1,8 @@
 use Rattle.std.proofs.Common.{List, Option, ◌∙◌, ap, refl, subst, inr, MatchOption, option_map, Vec, Global}
 use Rattle.std.specs.Borrow.{Bor}
 use Rattle.hack_base.specs.Names.{Name, names_behind}
-use Rattle.hack_features.specs.declared.feature.Feature.{Feature}
-use Rattle.hack_features.specs.Feature.{groups_of as names_in_groups}
+use Rattle.hack_feature_map.specs.declared.feature.Feature.{Feature}
+use Rattle.hack_feature_map.specs.Feature.{groups_of as names_in_groups}
 use Rattle.hack_powerset_list.specs.Words.{AreGroups, LacksSeparator}
 use Rattle.hack_powerset_list.specs.WishesView.{written_in}
 use Rattle.hack_powerset_list.proofs.wishes.Wishes.of.Goals as goal

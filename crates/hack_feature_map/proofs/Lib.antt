@@ -1,0 +1,2 @@
+pub mod NameSetLemmas
+pub mod ReachLemmas

@@ -1,0 +1,51 @@
+-- What a feature is: its text, and the names that it stands for.
+use Rattle.std.specs.Prelude.{◌≡◌, ℕ, List, [], ◌∷◌, ◌++◌, length, string_bytes, map}
+use Rattle.std.specs.List.{join_with_byte}
+use Rattle.std.specs.Borrow.{Bor}
+use Rattle.hack_base.specs.Names.{Name, names_of}
+use Rattle.hack_feature_map.specs.declared.feature.Feature.{Feature}
+use Rattle.hack_feature_map.specs.declared.feature.Feature.TheVariants.{Normal, Group, Path}
+
+-- the text of a feature
+abbrev pub name_of : Feature → Name
+name_of (Normal name) = string_bytes name
+name_of (Group name list) = string_bytes name
+name_of (Path name slash) = string_bytes name
+
+-- the names that a feature stands for
+abbrev pub group_of : Feature → List Name
+group_of (Normal name) = string_bytes name ∷ []
+group_of (Group name list) = names_of list.items
+group_of (Path name slash) = string_bytes name ∷ []
+
+-- the names that each of a list of features stands for
+abbrev pub groups_of : List Feature → List (List Name)
+groups_of features = map group_of features
+
+-- the same of features behind references
+abbrev pub candidates_of : List (Bor Feature) → List (List Name)
+candidates_of features = map (λ feature. group_of feature.now) features
+
+-- a feature as it is shown: a group in brackets
+abbrev pub shown_as : Feature → List ℕ
+shown_as (Normal name) = string_bytes name
+shown_as (Group name list) = (91 ∷ string_bytes name) ++ 93 ∷ []
+shown_as (Path name slash) = string_bytes name
+
+-- a feature of that name
+abbrev pub IsNormal : Name → Feature → Type 0
+IsNormal text (Normal name) = string_bytes name ≡ text
+IsNormal text (Group name list) = ⊥
+IsNormal text (Path name slash) = ⊥
+
+-- a group of these names, whose text is the names joined by commas
+abbrev pub IsGroup : List Name → Feature → Type 0
+IsGroup names (Normal name) = ⊥
+IsGroup names (Group name list) = (string_bytes name ≡ join_with_byte 44 names) × (names_of list.items ≡ names)
+IsGroup names (Path name slash) = ⊥
+
+-- the feature of a dependency, whose text joins both names by a slash at the stated place
+abbrev pub IsPath : Name → Name → Feature → Type 0
+IsPath parent text (Normal name) = ⊥
+IsPath parent text (Group name list) = ⊥
+IsPath parent text (Path name slash) = (string_bytes name ≡ parent ++ (47 ∷ text)) × (slash ≡ length parent)

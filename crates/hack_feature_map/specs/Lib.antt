@@ -1,0 +1,5 @@
+pub mod FeatureMap
+pub mod NameSets
+pub mod Search
+pub mod Feature
+pub mod FeatureOrder

@@ -1,0 +1,161 @@
+//! A feature of a package: one name, several that go together, or one of a dependency.
+
+ghost use Rattle.std.specs.Prelude.{◌≡◌, ◌↔◌, ◌∷◌, [], ◌++◌, length, Some, IsTrue, IfOk, Any};
+ghost use Rattle.std.specs.Prelude.{Contains, string_bytes};
+ghost use Rattle.std.specs.List.{join_with_byte};
+ghost use Rattle.hack_base.specs.Names.{names_of};
+ghost use Rattle.hack_feature_map.specs.FeatureMap.{feature_map, Reaches};
+ghost use Rattle.std.specs.Cmp.{IsTotalOrder};
+ghost use Rattle.std.specs.Ordering.{is_eq};
+ghost use Rattle.hack_feature_map.specs.FeatureOrder.{feature_order, AreSame};
+
+use crate::reach::{Edges, names_from};
+use std::alloc::{AllocError, Global};
+use std::cmp::Ordering;
+use std::collections::BTreeMap;
+use std::fmt::Write;
+use std::{fmt, slice};
+
+/// What may stand as one element in a set of features. Features are ordered by variant, in the
+/// order below, and then by their fields.
+#[derive(PartialEq, Eq, PartialOrd, Ord, Drop)]
+pub enum Feature {
+    /// A feature of the package itself; its name is not divided any further.
+    Normal { name: String },
+    /// Features that go together; `name` is theirs, joined by commas.
+    Group { name: String, list: Vec<String> },
+    /// A feature of a dependency, as `dependency/feature`; `_slash` is the place of the slash that
+    /// joins them, in bytes.
+    Path { name: String, _slash: usize },
+}
+
+impl Feature {
+    ghost use Rattle.hack_feature_map.specs.Feature.{name_of, group_of, IsNormal, IsGroup, IsPath};
+
+    /// A feature of the package itself.
+    pub fn normal(alloc: Global, name: &str) -> Result<Feature, AllocError>
+        ensures { IfOk result (IsNormal name.now) }
+    {
+        Ok(Feature::Normal {
+            name: String::from_str(alloc, name)?,
+        })
+    }
+
+    /// Features that go together, in the order given; names may repeat or be empty.
+    pub fn group(alloc: Global, names: Vec<String>) -> Result<Feature, AllocError>
+        ensures { IfOk result (IsGroup (names_of names.items)) }
+    {
+        let mut name = String::new(alloc);
+        for (place, part) in names.iter().enumerate() {
+            if place > 0 {
+                name.push_str(",")?;
+            }
+            name.push_str(part.as_str())?;
+        }
+        Ok(Feature::Group { name, list: names })
+    }
+
+    /// The feature `name` of the dependency `parent`.
+    pub fn path(alloc: Global, parent: &str, name: &str) -> Result<Feature, AllocError>
+        ensures { IfOk result (IsPath parent.now name.now) }
+    {
+        let slash = parent.len();
+        let mut text = String::from_str(alloc, parent)?;
+        text.push_str("/")?;
+        text.push_str(name)?;
+        Ok(Feature::Path {
+            name: text,
+            _slash: slash,
+        })
+    }
+
+    /// The text of the feature, as `--features` takes it.
+    pub fn name(&self) -> &str
+        ensures { result.now ≡ name_of self.now }
+    {
+        match self {
+            Feature::Normal { name } => name.as_str(),
+            Feature::Group { name, .. } => name.as_str(),
+            Feature::Path { name, .. } => name.as_str(),
+        }
+    }
+
+    /// The names that the feature stands for: those of a group, else its own.
+    pub fn as_group(&self) -> &[String]
+        ensures { names_of result.now ≡ group_of self.now }
+    {
+        match self {
+            Feature::Normal { name } => slice::from_ref(name),
+            Feature::Group { list, .. } => list.as_slice(),
+            Feature::Path { name, .. } => slice::from_ref(name),
+        }
+    }
+
+    /// Whether `s` is one of the names that the feature stands for.
+    pub fn matches(&self, s: &str) -> bool
+        ensures { IsTrue result ↔ Contains (group_of self.now) s.now }
+    {
+        for name in self.as_group() {
+            if name.as_str() == s {
+                return true;
+            }
+        }
+        false
+    }
+
+    /// Whether a chain of values leads from `s` to one of the names that the feature stands for.
+    /// Values are cut before their first `/`, and those that begin with `dep:` are kept.
+    pub fn matches_recursive(
+        &self,
+        alloc: Global,
+        s: &str,
+        map: &BTreeMap<String, Vec<String>>,
+    ) -> Result<bool, AllocError>
+        ensures { IfOk result (λ matches. IsTrue matches
+            ↔ Reaches (feature_map map.now) (group_of self.now) s.now) }
+    {
+        let found = names_from(alloc, map, s, Edges::Reaching)?;
+        Ok(self.matches_one_of(found.as_slice()))
+    }
+
+    /// Whether one of these is a name that the feature stands for.
+    fn matches_one_of(&self, names: &[&str]) -> bool
+        ensures { IsTrue result ↔ Any (λ name. Contains (group_of self.now) name.now) names.now }
+    {
+        names.iter().any(|name| self.matches(*name))
+    }
+}
+
+/// Which of two features stands first in their order: by variant, `Normal` before `Group` before
+/// `Path`, and then by name, by the list of a group, and by the place of a slash. Texts are ordered
+/// by their bytes.
+pub fn compare_features(first: &Feature, second: &Feature) -> Ordering
+    ensures order { result ≡ feature_order first.now second.now }
+
+    // Total and strict: two features stand one way or the other or are the same, and what is before
+    // a feature is before all that is behind it.
+    ensures total { IsTotalOrder feature_order }
+
+    // Neither stands first just where they have the same variant and fields.
+    ensures same { IsTrue (is_eq result) ↔ AreSame first.now second.now }
+{
+    first.cmp(second)
+}
+
+impl fmt::Debug for Feature {
+    ghost use Rattle.hack_feature_map.specs.Feature.{shown_as};
+
+    ghost debug_output = { λ feature. Some (shown_as feature) };
+
+    fn fmt<W: fmt::Write>(&self, f: &mut fmt::Formatter<W>) -> fmt::Result {
+        match self {
+            Feature::Normal { name } => f.write_str(name.as_str()),
+            Feature::Path { name, .. } => f.write_str(name.as_str()),
+            Feature::Group { name, .. } => {
+                f.write_str("[")?;
+                f.write_str(name.as_str())?;
+                f.write_str("]")
+            }
+        }
+    }
+}
