@@ -26,14 +26,14 @@ run:
 	@cd crates/sample_calls && rt try < stdin
 
 test:
-	@tests/gate
+	@tests/gate.py
 
 quick:
-	@tests/quick '$(CRATE)'
+	@tests/quick_check '$(CRATE)'
 
 # Each edit is a wrong body that the prover has to refuse.
 planted:
-	@tests/planted $(CRATE)
+	@tests/planted_edits.py $(CRATE)
 
 # Proves powerset-list and what it stands on, as far as that is not done yet, and leaves it at POWERSET_LIST.
 program:
@@ -68,10 +68,10 @@ manual: programs
 bench: program
 	@cd crates/hack_rows && rt run < stdin > /dev/null
 	@cd crates/sample_calls && rt run < stdin > /dev/null
-	@tests/bench $(POWERSET_LIST) crates/hack_rows/out/hack_rows crates/sample_calls/out/sample_calls
+	@tests/bench.py $(POWERSET_LIST) crates/hack_rows/out/hack_rows crates/sample_calls/out/sample_calls
 
 faults: program
-	@tests/faults $(POWERSET_LIST)
+	@tests/powerset_list_refusals.py $(POWERSET_LIST)
 
 stand-ins:
-	@tests/stand_ins
+	@tests/stand_ins.py

@@ -2,7 +2,7 @@
 """Runs `cargo hack` with the machine's own cargo on a copy of examples/workspace, and compares commands, status, status
 lines and report with what is written here; calls that edit manifests have to leave every file as it was, byte for byte.
 
-usage: tests/real_cargo PROGRAM      PROGRAM: cargo-hack
+usage: tests/real_cargo.py PROGRAM      PROGRAM: cargo-hack
 
 Where the machine has no cargo and compiler that tell their versions, it says so and tries nothing. The last line is
 `N passed, M failed, K skipped`, and the status is 1 where one failed. What the compiler itself prints is not compared.

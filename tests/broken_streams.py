@@ -1,7 +1,7 @@
 #!/usr/bin/env python3
 """Calls the built programs where what they call or write to fails, and looks at how they end and at every file.
 
-usage: tests/failing CARGO_HACK POWERSET_LIST
+usage: tests/broken_streams.py CARGO_HACK POWERSET_LIST
 
 Standard output is a full disk or a closed pipe, standard error a full disk; cargo is missing, killed, answers what is no
 text or never ends to answer; a toolchain or a lockfile can't be made, also where runs go on. Each call has to end within

@@ -2,7 +2,7 @@
 """The gate: `rt ci` proves and tests everything from nothing, and then the scripts beside this one try the programs that it
 built.
 
-usage: tests/gate
+usage: tests/gate.py
 
 Prints what they print. The last line is `N passed, M failed` over all of them, with `, K skipped` behind it where
 something was left out, which a line before tells. The status is 0 where nothing failed.
@@ -23,17 +23,17 @@ def built(name):
 
 # Each script with its words.
 SCRIPTS = [
-    ["tests/documents", built("cargo_hack_program")],
-    ["tests/faults", built("powerset_list")],
-    ["tests/stand_ins", "--built"],
-    ["tests/whole_calls", built("cargo_hack_program"), built("stand_cargo"), built("stand_rustup")],
-    ["tests/dist", built("cargo_hack_program"), built("powerset_list")],
-    ["tests/real_cargo", built("cargo_hack_program")],
-    ["tests/refused_memory", "--every", "5", built("cargo_hack_program"), built("powerset_list")],
-    ["tests/failing", built("cargo_hack_program"), built("powerset_list")],
-    ["tests/killed", "--every", "3", built("cargo_hack_program")],
-    ["tests/slow_plan", built("cargo_hack_program"), "--cases", "200", "--counts", "1"],
-    ["tests/fuzz", built("cargo_hack_program"), built("powerset_list"), "--cases", "500"],
+    ["tests/documents.py", built("cargo_hack_program")],
+    ["tests/powerset_list_refusals.py", built("powerset_list")],
+    ["tests/stand_ins.py", "--built"],
+    ["tests/whole_calls.py", built("cargo_hack_program"), built("stand_cargo"), built("stand_rustup")],
+    ["tests/dist_archive.py", built("cargo_hack_program"), built("powerset_list")],
+    ["tests/real_cargo.py", built("cargo_hack_program")],
+    ["tests/refused_memory.py", "--every", "5", built("cargo_hack_program"), built("powerset_list")],
+    ["tests/broken_streams.py", built("cargo_hack_program"), built("powerset_list")],
+    ["tests/kill_points.py", "--every", "3", built("cargo_hack_program")],
+    ["tests/lists_by_definition.py", built("cargo_hack_program"), "--cases", "200", "--counts", "1"],
+    ["tests/odd_calls.py", built("cargo_hack_program"), built("powerset_list"), "--cases", "500"],
 ]
 
 

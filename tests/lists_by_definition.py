@@ -3,7 +3,7 @@
 that is computed here from the definitions alone, slowly: chains by closure, filters over all lists of positions, a set
 of quadruples that is sorted.
 
-usage: tests/slow_plan PROGRAM [--cases N] [--seed S] [--counts K]      PROGRAM: cargo-hack
+usage: tests/lists_by_definition.py PROGRAM [--cases N] [--seed S] [--counts K]      PROGRAM: cargo-hack
 
 For each of N workspaces (300) and words it also asks for the pieces 1/n to n/n, by block and by turn, for K of the
 numbers n from 1 to 7 (all): each is compared with the piece of the definitions, and joined they have to be the list.

@@ -1,7 +1,7 @@
 #!/usr/bin/env python3
 """Runs powerset-list on calls that it refuses, and on some that it doesn't, and compares status, output and error line.
 
-usage: tests/faults PROGRAM
+usage: tests/powerset_list_refusals.py PROGRAM
 
 The last line is `N passed, M failed`, of calls. The status is 1 where one failed.
 """
@@ -50,7 +50,7 @@ def called(program, words, **streams):
 
 def main():
     if len(sys.argv) != 2:
-        sys.exit("usage: tests/faults PROGRAM")
+        sys.exit("usage: tests/powerset_list_refusals.py PROGRAM")
     program = os.path.abspath(sys.argv[1])
     good = bad = 0
 

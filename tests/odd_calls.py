@@ -1,7 +1,7 @@
 #!/usr/bin/env python3
 """Hands odd input to the built programs: words, answers of cargo and rustup, manifests and feature maps, at random.
 
-usage: tests/fuzz CARGO_HACK POWERSET_LIST [--cases N] [--seed S] [--only I]
+usage: tests/odd_calls.py CARGO_HACK POWERSET_LIST [--cases N] [--seed S] [--only I]
 
 Each of N cases (500) has to end within ten seconds, by no signal, with status 0 and no error line, or with status 1 and
 one error line behind which nothing else is told (a line more for each run that failed under --keep-going; none where

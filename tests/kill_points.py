@@ -1,7 +1,7 @@
 #!/usr/bin/env python3
 """Kills the built `cargo-hack` at each of its calls that change files, and looks at what the next call brings back.
 
-usage: tests/killed [--every K] CARGO_HACK
+usage: tests/kill_points.py [--every K] CARGO_HACK
 
 A small library, built by the machine's C compiler and loaded before the program, kills it in front of its n-th call that
 opens a file for writing, flushes, renames or removes one, for n from 1 (with K: 1, K + 1, ..) until a run ends by itself.

@@ -3,7 +3,7 @@
 a file, man pages and completions are what tools/manual.py writes, and the example outputs of the README are lines that the
 sample calls print.
 
-usage: tests/documents CARGO_HACK
+usage: tests/documents.py CARGO_HACK
 
 The last line is `N passed, M failed`, and the status is 1 where one failed.
 """

@@ -2,7 +2,7 @@
 """Packs the built programs as `make dist` does, unpacks the archive in an empty folder, and calls what is there with
 no variable of the environment but the path of the system's programs.
 
-usage: tests/dist CARGO_HACK POWERSET_LIST
+usage: tests/dist_archive.py CARGO_HACK POWERSET_LIST
 
 The last line is `N passed, M failed`, and the status is 1 where one failed.
 """

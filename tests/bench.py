@@ -2,7 +2,7 @@
 """Prints the wall time, the peak memory and the number of lines of powerset-list on growing feature maps, and the times
 of packages grouped by version, of a large answer of cargo read, and of whole calls over a cargo and files in memory.
 
-usage: tests/bench PROGRAM [ROWS [CALLS]]      PROGRAM: powerset-list; ROWS, CALLS: the built hack_rows and sample_calls
+usage: tests/bench.py PROGRAM [ROWS [CALLS]]      PROGRAM: powerset-list; ROWS, CALLS: the built hack_rows and sample_calls
 
 Nothing here passes or fails by its time. The time is the least of three runs whose output goes nowhere, and beside it
 stands how often `cat` takes as long for the same bytes, since machines differ. The memory is the program's own, by GNU
@@ -178,7 +178,7 @@ def lines_of(path):
 
 def main():
     if len(sys.argv) not in (2, 3, 4):
-        sys.exit("usage: tests/bench PROGRAM [ROWS [CALLS]]")
+        sys.exit("usage: tests/bench.py PROGRAM [ROWS [CALLS]]")
     program = os.path.abspath(sys.argv[1])
     print(f"{'map':48}{'seconds':>9}{'of cat':>8}{'MiB':>9}{'lines':>12}")
     with tempfile.TemporaryDirectory() as folder:

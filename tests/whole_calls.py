@@ -2,7 +2,7 @@
 """Calls the built cargo-hack over the programs that stand in for cargo and rustup, and compares its status, both of its
 outputs, what the stand-ins were asked to run, and the files of the workspace behind it.
 
-usage: tests/whole_calls CARGO_HACK STAND_CARGO STAND_RUSTUP
+usage: tests/whole_calls.py CARGO_HACK STAND_CARGO STAND_RUSTUP
 
 The last line is `N passed, M failed`; the status is 1 where one failed.
 """

@@ -1,8 +1,8 @@
 #!/usr/bin/env python3
 """Runs the gate and writes its processor time, by part and crate, into docs/GATE.md.
 
-usage: tests/gate_time LOG      runs `make test`, writes what it prints and the times to LOG, and then the table
-       tests/gate_time --of LOG writes the table of an earlier run
+usage: tests/gate_time.py LOG      runs `make test`, writes what it prints and the times to LOG, and then the table
+       tests/gate_time.py --of LOG writes the table of an earlier run
 
 Processor time is user and system time together, of all processes. The whole is exact; the parts are looked up in
 /proc five times a second, so that each process may lack its last fifth of a second. `proof` is the check of a crate
@@ -20,7 +20,7 @@ import time
 ROOT = os.path.dirname(os.path.dirname(os.path.realpath(__file__)))
 TICKS = os.sysconf("SC_CLK_TCK")
 PARTS = ("proof", "tests", "edits")
-BEGIN = "<!-- written by tests/gate_time -->"
+BEGIN = re.compile(r"<!-- written by tests/gate_time(?:\.py)? -->")
 END = "<!-- up to here -->"
 
 
@@ -109,12 +109,13 @@ def write(lines):
     """Puts the lines between the two marks of docs/GATE.md."""
     path = f"{ROOT}/docs/GATE.md"
     with open(path, encoding="utf-8") as it:
-        before, begin, rest = it.read().partition(BEGIN)
-    _, end, after = rest.partition(END)
-    if not begin or not end:
-        sys.exit(f"docs/GATE.md lacks the marks {BEGIN} and {END}")
+        text = it.read()
+    begin = BEGIN.search(text)
+    _, end, after = text[begin.end() if begin else len(text) :].partition(END)
+    if not end:
+        sys.exit(f"docs/GATE.md lacks the marks {BEGIN.pattern} and {END}")
     with open(path, "w", encoding="utf-8") as it:
-        it.write("\n".join([before + begin, *lines, end + after]))
+        it.write("\n".join([text[: begin.end()], *lines, end + after]))
     print("\n".join(lines))
 
 

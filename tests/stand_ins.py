@@ -2,7 +2,7 @@
 """Proves and builds stand_cargo and stand_rustup, and tries them in temporary folders, by themselves and as commands
 that child_rows runs.
 
-usage: tests/stand_ins [--built]     --built: as they were built last, by the gate
+usage: tests/stand_ins.py [--built]     --built: as they were built last, by the gate
 
 The last line is `N passed, M failed`, of calls and of what they left in the folders. The status is 1 where one failed.
 """

@@ -1,7 +1,7 @@
 #!/usr/bin/env python3
 """Refuses the growths of memory of the built programs, one after the other, and looks at what they do then.
 
-usage: tests/refused_memory [--every K] CARGO_HACK [POWERSET_LIST]
+usage: tests/refused_memory.py [--every K] CARGO_HACK [POWERSET_LIST]
 
 A small allocator, built by the machine's C compiler and loaded before the program, refuses its n-th call, or that one and
 all behind it, for n from 1 (with K: 1, K + 1, ..) until a run meets no refusal. Each run has to end with status 0 and the
