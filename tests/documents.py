@@ -28,7 +28,7 @@ STRICT = {"README.md", "PROVED.md", "DEFINITIONS.md", "LIBRARY.md"}
 FOREIGN = {"serde_json", "toml", "thiserror", "rustup", "cargo", "main", "unwrap", "optional"}
 MOST_WORDS, MOST_LINES = 20000, {"README.md": 150, "GATE.md": 30}
 COUNTED = r"(?:tests|rows|edits|functions|crates|definitions|contracts|lemmas)"
-COUNT = re.compile(rf"\b\d[\d,]* (?:\w+ )?{COUNTED}\b|\b\d[\d,]* (?:passed|refused|pass)\b")
+COUNT = re.compile(rf"\b\d(?:[\d,]*\d)? (?:(?!of|for)\w+ )?{COUNTED}\b|\b\d[\d,]* pass\b")
 
 TYPE = re.compile(r"pub (?:struct|enum|trait|type|union) (\w+)")
 BLOCK = re.compile(r"(?:pub )?(?:trait (\w+)|impl\b(.*))")
@@ -85,7 +85,7 @@ class Sources:
         *before, name = path.split("::")
         if before and before[-1][0].isupper():
             return name in self.methods.get(before[-1], ()) and any(before[-1] in self.names[it] for it in crates)
-        return any(name in self.functions[it] for it in crates)
+        return any(name in self.functions[it] or name[0].isupper() and name in self.names[it] for it in crates)
 
     def has(self, path):
         """Whether there is what a path of names leads to: each in the crate that comes first, or else in any."""
@@ -104,7 +104,7 @@ def links(document):
 
 def paths(document):
     """The paths that a document names between backquotes; `*` stands for any name."""
-    for text in re.findall(r"`([\w./*-]+)`", read(document)):
+    for text in re.findall(r"`([\w./*-]+)(?: [^`\n]*)?`", read(document)):
         edit = re.fullmatch(r"(hack_\w+/(?:must-fail|planted)/\w+)(?:\.edit)?", text)
         if edit:
             yield text, (ROOT / "crates" / f"{edit[1]}.edit").is_file()
@@ -145,14 +145,14 @@ def promises(sources):
     """The functions with which the promises of PROVED.md begin."""
     for crates, body in sections(read(ROOT / "docs" / "PROVED.md")):
         for start in re.findall(r"(?m)^- ((?:`[^`\n]+`(?:,\s+(?:and )?| and )?)+)", body) if crates else []:
-            for name in (it for quoted in re.findall(r"`([^`]+)`", start) for it in spread(quoted)):
+            for name in (it for quoted in re.findall(r"`([^`(]+)[^`]*`", start) for it in spread(quoted)):
                 yield name, sources.is_public(crates, name)
 
 
 def definitions():
     """The definitions of DEFINITIONS.md, each looked for in the file that is named beside it."""
     for crates, body in sections(read(ROOT / "docs" / "DEFINITIONS.md")):
-        for names, files in re.findall(r"(?m)^\| ([\w, ]+) \((.*?)\) \|", body):
+        for names, files in re.findall(r"(?m)^\| ([\w, ]+) \((.*?)\)(?: \||$)", body):
             folders = re.findall(r" of `(hack_\w+)`", files) or crates
             found = [ROOT / "crates" / crate / "specs" / f"{it}.antt" for crate in folders for it in re.findall(r"`(\w+)`", files)]
             text = " ".join(read(it) for it in found if it.is_file())

@@ -1,4 +1,4 @@
-"""Odd input for the script fuzz: words, JSON, answers of tools, and manifests, all at random."""
+"""Odd input for the script odd_calls.py: words, JSON, answers of tools, and manifests, all at random."""
 import json
 import re
 

@@ -1,5 +1,5 @@
 """Random small workspaces, words for `cargo-hack` that break no rule, and what stands in for cargo and rustup: for the
-scripts slow_plan and fuzz.
+scripts lists_by_definition.py and odd_calls.py.
 """
 import json
 import os

@@ -1,5 +1,5 @@
 """A small workspace with a private member, what stands in for cargo there, and libraries that are loaded before a program: for
-the scripts refused_memory and killed.
+the scripts refused_memory.py, kill_points.py, broken_streams.py and whole_calls.py.
 """
 import os
 import subprocess
