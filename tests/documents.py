@@ -152,7 +152,7 @@ def promises(sources):
 def definitions():
     """The definitions of DEFINITIONS.md, each looked for in the file that is named beside it."""
     for crates, body in sections(read(ROOT / "docs" / "DEFINITIONS.md")):
-        for names, files in re.findall(r"(?m)^\| ([\w, ]+) \((.*?)\)(?: \||$)", body):
+        for names, files in re.findall(r"(?m)^- \*\*([\w, ]+)\*\* \((`.*?)\):", body):
             folders = re.findall(r" of `(hack_\w+)`", files) or crates
             found = [ROOT / "crates" / crate / "specs" / f"{it}.antt" for crate in folders for it in re.findall(r"`(\w+)`", files)]
             text = " ".join(read(it) for it in found if it.is_file())
