@@ -79,7 +79,7 @@ def run(log):
 
 
 def table(log):
-    """The lines that docs/GATE.md has of a run: its sums, and three crates a row, the dearest first."""
+    """The lines that docs/GATE.md has of a run: its sums, and four crates a row, the dearest first."""
     with open(log, encoding="utf-8", errors="replace") as it:
         text = it.read()
     sums = {}
@@ -94,14 +94,14 @@ def table(log):
         f"`{counts[0]}` in **{int(used) / 60:.0f} processor minutes** ({shares}) and {int(clock) / 60:.0f} of the clock,",
         f"on {len(os.sched_getaffinity(0))} processors. Seconds by crate: its proof alone, and with its tests and edits.",
         "",
-        "| crate | proof | all | crate | proof | all | crate | proof | all |",
-        "|---|---|---|---|---|---|---|---|---|",
+        "| crate | s | crate | s | crate | s | crate | s |",
+        "|---|---|---|---|---|---|---|---|",
     ]
-    cells = [f"`{name}` | {row['proof']} | {sum(row.values())}" for name, row in sums.items()]
-    cells.sort(key=lambda it: -int(it.rpartition("|")[2]))
-    third = -(-len(cells) // 3)
-    for row in range(third):
-        lines.append(f"| {' | '.join(cells[row::third])} |")
+    dearest = sorted(sums.items(), key=lambda it: -sum(it[1].values()))
+    cells = [f"`{name}` | {row['proof']}/{sum(row.values())}" for name, row in dearest]
+    quarter = -(-len(cells) // 4)
+    for row in range(quarter):
+        lines.append(f"| {' | '.join(cells[row::quarter])} |")
     return lines
 
 
