@@ -12,14 +12,14 @@ help:
 	@echo 'make run      calls cargo hack on the workspace in examples/, over a cargo in memory, by a trial build without proofs'
 	@echo 'make manual   writes the man pages and completions from the table of options of the built cargo-hack'
 	@echo 'make test     proves and tests everything from nothing: the gate'
-	@echo 'make quick    lays out and checks CRATE=NAME and what stands on it, and the rows, over what is kept'
+	@echo 'make quick    lays out and checks CRATE=NAME and all that use it, and the rows, over what is kept'
 	@echo 'make planted  tries the edits that the gate leaves out, of all crates or of CRATE=NAME'
 	@echo 'make install  proves and builds cargo-hack and powerset-list, and installs them in PREFIX/bin (PREFIX=$(PREFIX))'
 	@echo 'make uninstall  removes what make install put there'
 	@echo 'make dist     proves and builds both, and packs them with a sum of each file for machines without the kit'
 	@echo 'make bench    proves and builds powerset-list, and prints its times, memory and lines'
-	@echo 'make faults   proves and builds powerset-list, and compares what it tells of refused calls'
-	@echo 'make stand-ins proves and builds the programs that stand in for cargo and rustup in tests, and tries them'
+	@echo 'make faults   proves and builds powerset-list, and tries calls that it refuses'
+	@echo 'make stand-ins proves and builds the programs that answer as cargo and rustup in tests, and tries them'
 
 # A trial build proves nothing, and so is ready in less than two minutes.
 run:
@@ -35,7 +35,7 @@ quick:
 planted:
 	@tests/planted_edits.py $(CRATE)
 
-# Proves powerset-list and what it stands on, as far as that is not done yet, and leaves it at POWERSET_LIST.
+# Proves powerset-list and what it uses, as far as that is not done yet, and leaves it at POWERSET_LIST.
 program:
 	@tools/build_programs.py powerset_list
 

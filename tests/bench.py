@@ -59,7 +59,7 @@ CASES += [
 
 
 def told_by_cargo(packages, features):
-    """What `cargo metadata` tells of a workspace of so many packages with so many features each."""
+    """What `cargo metadata` prints of a workspace of so many packages with so many features each."""
     ids = [f"path+file:///w/p{i}#1.0.0" for i in range(packages)]
     told = {"workspace_members": ids, "resolve": None, "workspace_root": "/w"}
     told["packages"] = [

@@ -3,10 +3,10 @@
 
 usage: tests/broken_streams.py CARGO_HACK POWERSET_LIST
 
-Standard output is a full disk or a closed pipe, standard error a full disk; cargo is missing, killed, answers what is no
-text or never ends to answer; a toolchain or a lockfile can't be made, also where runs go on. Each call has to end within
+Standard output is a full disk or a closed pipe, standard error a full disk; cargo is missing, is killed, prints what is
+no text or never ends; a toolchain or a lockfile can't be made, also where runs go on. Each call has to end within
 a minute by no signal, with the status and the last line that are wanted, after no other commands than these, and the
-workspace holds its bytes behind it. The last line is `N passed, M failed`; the status is 1 where one failed.
+workspace holds its bytes afterwards. The last line is `N passed, M failed`; the status is 1 where one failed.
 """
 import os
 import resource
@@ -17,7 +17,7 @@ import tempfile
 sys.dont_write_bytecode = True
 from small_workspace import FILES, stand_in, write, write_files  # noqa: E402
 
-# What stands in for cargo and rustup: it notes its words, answers from files, and fails as the variable ODD says.
+# The stand-in for cargo and rustup: it notes its arguments, answers from files, and fails as the variable ODD says.
 STAND_IN = r"""#!/bin/sh
 echo "$*" >> "$0.asked"
 case "$ODD:$*" in
@@ -45,7 +45,7 @@ UNWRITTEN = "error: failed to write the command list"
 ENDED = "error: process didn't exit successfully: `{cargo} "
 FAILED = "        `{cargo} check --manifest-path p/Cargo.toml --no-default-features --features b`"
 
-# Each call: how it is odd, its words, the status, how its last line begins and ends, and how many runs of `check` are begun.
+# Each call: how it is odd, its arguments, the status, how its last line begins and ends, and how many runs of `check` are begun.
 CALLS = {
     "nothing fails": ("", EACH, 0, "info: running", "(4/4)", 4),
     "a list to a full disk": ("full", LIST, 1, UNWRITTEN, "", 0),
@@ -83,7 +83,7 @@ def closed_pipe():
 
 
 def call(program, words, folder, odd, **more):
-    """What a call ends with, and the last line that it tells."""
+    """What a call ends with, and the last line that it prints."""
     cargo = "/nowhere/cargo" if odd == "missing" else f"{folder}/tools/cargo"
     environment = {"PATH": os.environ["PATH"], "CARGO": cargo, "CARGO_HACK_RUSTUP": f"{folder}/tools/cargo", "ODD": odd}
     full = os.open("/dev/full", os.O_WRONLY)

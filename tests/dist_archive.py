@@ -42,7 +42,7 @@ def rows(folder, programs):
     yield "each sum is its file's", all(hashlib.sha256((folder / name).read_bytes()).hexdigest() == sum for sum, name in sums)
     yield "licences and README are there", {"LICENSE-APACHE", "LICENSE-MIT", "README.md"} <= files
     status, text = called([folder / "cargo-hack", "hack", "--version"])
-    yield "cargo-hack tells its version, which the folder is called by", (status, text) == (0, f"cargo-hack {folder.name.split('-')[2]}\n")
+    yield "cargo-hack prints its version, by which the folder is called", (status, text) == (0, f"cargo-hack {folder.name.split('-')[2]}\n")
     status, text = called([folder / "powerset-list"], '{"a": [], "b": ["a"]}')
     yield "powerset-list lists the sets of a map", (status, text.count("\n"), "--features b" in text) == (0, 3, True)
     libraries = called(["ldd", folder / "cargo-hack"])[1] + called(["ldd", folder / "powerset-list"])[1]

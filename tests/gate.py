@@ -4,8 +4,8 @@ built.
 
 usage: tests/gate.py
 
-Prints what they print. The last line is `N passed, M failed` over all of them, with `, K skipped` behind it where
-something was left out, which a line before tells. The status is 0 where nothing failed.
+Prints what they print. The last line is `N passed, M failed` over all of them, followed by `, K skipped` where
+something was left out, which a line before says. The status is 0 where nothing failed.
 """
 import os
 import re
@@ -21,7 +21,7 @@ def built(name):
     return f"{ROOT}/crates/{name}/out/{name}"
 
 
-# Each script with its words.
+# Each script with its arguments.
 SCRIPTS = [
     ["tests/documents.py", built("cargo_hack_program")],
     ["tests/powerset_list_refusals.py", built("powerset_list")],
@@ -38,7 +38,7 @@ SCRIPTS = [
 
 
 def run(words):
-    """Runs a command, whose output is passed on as it comes, and answers its status and its last line."""
+    """Runs a command, whose output is passed on as it comes, and returns its status and its last line."""
     last = ""
     with subprocess.Popen(words, cwd=ROOT, stdout=subprocess.PIPE, text=True, errors="replace") as command:
         for line in command.stdout:
@@ -49,10 +49,10 @@ def run(words):
 
 
 def counts(words, status, last):
-    """How many passed, failed and were skipped. A command that doesn't tell, or tells no failure and fails, is one failure."""
+    """How many passed, failed and were skipped. A command that prints no numbers, or no failure and fails, is one failure."""
     told = COUNTS.fullmatch(last)
     if told is None:
-        print(f"{words[0]} told no numbers, and ended with status {status}")
+        print(f"{words[0]} printed no numbers, and ended with status {status}")
         return 0, 1, 0
     passed, failed, skipped = (int(it or 0) for it in told.groups())
     if status != 0 and failed == 0:

@@ -3,15 +3,15 @@
 
 usage: tests/kill_points.py [--every K] CARGO_HACK
 
-A small library, built by the machine's C compiler and loaded before the program, kills it in front of its n-th call that
+A small library, built by the machine's C compiler and loaded before the program, kills it before its n-th call that
 opens a file for writing, flushes, renames or removes one, for n from 1 (with K: 1, K + 1, ..) until a run ends by itself.
-Behind each killed run a call without edits follows: in the end every file of the workspace has to hold its bytes, no file
-may be left but such as stand beside a manifest under a name of their own. The second call is itself killed at each of its
+After each killed run a call without edits follows: in the end every file of the workspace has to hold its bytes, no file
+may be left but such as are beside a manifest under a name of their own. The second call is itself killed at each of its
 changes too, and followed by a third.
 
 Other calls kill the program from the command that it runs, by signal 9 and by that of Ctrl-C to its group; change a manifest
-by hand between the two calls; tear the journal; let cargo change the lockfile; edit for good; copy
-the workspace with its journal; and make two calls at once.
+by hand between the two calls; tear the journal; let cargo change the lockfile; edit permanently;
+copy the workspace with its journal; and make two calls at once.
 
 Prints a line for each. The last line is `N passed, M failed, K skipped`; the status is 1 where one failed.
 """
@@ -27,7 +27,7 @@ from small_workspace import FILES, library, stand_in, write, write_files
 
 JOURNAL = ".cargo-hack-journal"
 
-# Kills programs of this name in front of the call of that number.
+# Kills programs of this name before the call of that number.
 LIBRARY = r"""
 #define _GNU_SOURCE
 #include <dlfcn.h>
@@ -85,7 +85,7 @@ int unlink(const char *path) {
 }
 """
 
-# What stands in for cargo: it answers from files, and where a file `do` stands beside it, it does that for other words.
+# The stand-in for cargo: it answers from files, and where a file `do` is beside it, it does that for other arguments.
 STAND_IN = """#!/bin/sh
 case "$*" in
     -vV) exec cat "$0.version";;
@@ -164,7 +164,7 @@ class Place:
 
 
 def at_each_change(place, words, every):
-    """Kills a call in front of each change, and then the call behind it; how many were killed, and the first fault."""
+    """Kills a call before each change, and then the call after it; how many were killed, and the first failure."""
     killed, at = 0, 1
     while True:
         place.lay_out()
@@ -201,7 +201,7 @@ def by_a_command(place, number):
 
 
 def from_elsewhere(place):
-    """A killed call from another folder, which names a manifest by the letter; the next call is made by a package that stands
+    """A killed call from another folder, which names a manifest by the letter; the next call is made by a package that is
     elsewhere and names its workspace."""
     place.lay_out()
     place.does("kill -9 $PPID; sleep 1\n")
@@ -328,7 +328,7 @@ def main():
         every, words = int(words[1]), words[2:]
     if len(words) != 1:
         sys.exit(__doc__)
-    # What is started behind `&` ignores Ctrl-C's signal, and so do the programs that it starts.
+    # What is started by `&` ignores Ctrl-C's signal, and so do the programs that it starts.
     signal.signal(signal.SIGINT, signal.default_int_handler)
     has_compiler = shutil.which("cc") is not None
     passed, faults = 0, []

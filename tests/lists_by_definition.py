@@ -5,10 +5,10 @@ of quadruples that is sorted.
 
 usage: tests/lists_by_definition.py PROGRAM [--cases N] [--seed S] [--counts K]      PROGRAM: cargo-hack
 
-For each of N workspaces (300) and words it also asks for the pieces 1/n to n/n, by block and by turn, for K of the
+For each of N workspaces (300) and arguments it also asks for the pieces 1/n to n/n, by block and by turn, for K of the
 numbers n from 1 to 7 (all): each is compared with the piece of the definitions, and joined they have to be the list.
-Where the definitions have no plan, status 1, no list and one of the faults that hold are wanted. Cargo and rustup are
-shell scripts with stored answers. Where a case fails, its words, its workspace and both lists are printed.
+Where the definitions have no plan, status 1, no list and one of the errors that hold are wanted. Cargo and rustup are
+shell scripts with stored answers. Where a case fails, its arguments, its workspace and both lists are printed.
 The last line is `N passed, M failed`, of cases, and the status is 1 where one failed.
 """
 import argparse
@@ -38,7 +38,7 @@ def closure(name, edges):
 
 
 class Choice:
-    """What sets are chosen from: a feature map, candidates (each the names that it stands for), and the rules."""
+    """What sets are chosen from: a feature map, candidates (each its names), and the rules."""
 
     def __init__(self, features, candidates, depth, required, exclusive):
         self.features, self.candidates, self.depth = features, candidates, depth
@@ -157,7 +157,7 @@ class Asked:
         return [parts(it) for it in self.values(name)]
 
     def passed(self):
-        """The words that are passed on."""
+        """The arguments that are passed on."""
         words = []
         for it in self.uses:
             if it.name in PASSED:
@@ -453,7 +453,7 @@ def refusal(causes, ran):
 def joined_fault(plan, kind, pieces):
     """What is wrong with pieces that should be the plan when they are joined, each place once."""
     if plan.asked.has("--clean-per-version"):
-        # Each of them tells of the cleanings.
+        # Each of them reports the cleanings.
         return None
     size = 2 if plan.asked.has("--clean-per-run") else 1
     if kind == "turn":

@@ -1,13 +1,13 @@
 #!/usr/bin/env python3
-"""Hands odd input to the built programs: words, answers of cargo and rustup, manifests and feature maps, at random.
+"""Hands odd input to the built programs: arguments, answers of cargo and rustup, manifests and feature maps, at random.
 
 usage: tests/odd_calls.py CARGO_HACK POWERSET_LIST [--cases N] [--seed S] [--only I]
 
 Each of N cases (500) has to end within ten seconds, by no signal, with status 0 and no error line, or with status 1 and
-one error line behind which nothing else is told (a line more for each run that failed under --keep-going; none where
-warnings count as errors). There is memory for all of it, so `out of memory` is a fault. Every file has to hold its
-bytes afterwards and none may be new; words that ask for edits that stay may change manifests, and nothing else. Cargo
-and rustup are a shell script with stored answers. A case that fails prints its words and its input, and is tried alone
+one error line after which nothing else is printed (a line more for each run that failed under --keep-going; none where
+warnings count as errors). There is memory for all of it, so `out of memory` is a failure. Every file has to hold its
+bytes afterwards and none may be new; arguments that ask for edits that stay may change manifests, and nothing else. Cargo
+and rustup are a shell script with stored answers. A case that fails prints its arguments and its input, and is tried alone
 by --only I. The last line is `N passed, M failed`; the status is 1 where one failed.
 """
 import argparse
@@ -38,7 +38,7 @@ case "$*" in
 esac
 """
 
-# ---- Cases. Each answers its words, and the odd input beside them.
+# ---- Cases. Each returns its arguments, and the odd input beside them.
 
 
 def fitting_words(rng, workspace):
@@ -98,7 +98,7 @@ def manifests_case(rng, tools, workspace):
 
 
 def map_case(rng):
-    """The words and the standard input of powerset-list."""
+    """The arguments and the standard input of powerset-list."""
     names = ["a", "b", "c", "default", "std", "", "é", "a b", "dep:a", "a/b", "-x", "\n", "\""]
     names = rng.sample(names, rng.randint(0, 7))
     given = odd_json(rng, random_map(rng, names))
@@ -184,7 +184,7 @@ def end_fault(status, err, may_warn):
         return None if may_warn and any(it.startswith("warning: ") for it in told) else "status 1 without an error"
     report = re.fullmatch(r"error: failed to run (\d+) commands", errors[-1])
     behind = told[len(told) - told[::-1].index(errors[-1]):]
-    # Manifests come back behind the report, and before any other error.
+    # Manifests come back after the report, and before any other error.
     if behind and not (report and all(it.startswith("info: restoring ") for it in behind)):
         return "something is told behind the error"
     if not all(RUN_FAULT.match(it) for it in errors[:-1]):

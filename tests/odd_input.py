@@ -1,8 +1,8 @@
-"""Odd input for the script odd_calls.py: words, JSON, answers of tools, and manifests, all at random."""
+"""Odd input for the script odd_calls.py: arguments, JSON, answers of tools, and manifests, all at random."""
 import json
 import re
 
-# ---- Odd words.
+# ---- Odd arguments.
 
 FLAGS = [
     "--all", "--workspace", "--each-feature", "--feature-powerset", "--optional-deps", "--exclude-no-default-features",
@@ -163,7 +163,7 @@ def odd_json(rng, value):
         text = rng.choice(["", " ", "null", "1", "[]", "{}", "\"\"", "{} {}", text + text, text + "\n\n x",
                            "\ufeff" + text])
     elif which < 0.28:
-        # A key that stands twice.
+        # A key that is there twice.
         text = re.sub(r"\{(\"[^\"]*\": ([^\[\]{},]*))", r"{\1, \1", text)
     elif which < 0.31:
         text = text.replace("\n", "\r\n").replace(", ", ",\r\n\t")
@@ -175,7 +175,7 @@ def odd_json(rng, value):
 
 
 def odd_answer(rng, tool):
-    """What a tool tells of its version."""
+    """What a tool prints of its version."""
     minor = rng.choice(["90", "60", "38", "0", "4294967295", "4294967296", "x", ""])
     return rng.choice([
         f"{tool} 1.{minor}.0 (x)\nrelease: 1.{minor}.0\nhost: h\n", f"{tool} 1.{minor}\nrelease: 1.{minor}\n",

@@ -10,7 +10,7 @@ those functions alone: a body is proved against the contracts of what it calls, 
 and the check shows the place of each goal that it could not prove. An edit whose own function did not fail so is tried
 by itself, and over the whole crate before it is said not to be refused.
 
-A line tells of each edit what refused it. The last line is 'N refused, M not'; the status is 1 where M isn't 0.
+A line says of each edit what refused it. The last line is 'N refused, M not'; the status is 1 where M isn't 0.
 """
 
 import argparse
@@ -45,7 +45,7 @@ def planted(crate):
 
 
 class Edit:
-    """An edit of one crate: its pairs, each with its file and line, and the function that they stand in."""
+    """An edit of one crate: its pairs, each with its file and line, and the function that they are in."""
 
     def __init__(self, crate, name):
         self.crate, self.name = crate, f"{crate}/{name}"
@@ -65,7 +65,7 @@ class Edit:
         self.function, *self.span = spans.pop() if len(spans) == 1 else ("", "", 0, 0)
 
     def add(self, texts, file, old, new):
-        """Adds a pair, and returns the name of the function that it stands in, its file and its lines."""
+        """Adds a pair, and returns the name of the function that it is in, its file and its lines."""
         if texts[file].count(old) != 1:
             self.verdict = f"BAD EDIT: an 'old:' text is in {file} {texts[file].count(old)} times, and not once"
             return "", "", 0, 0
@@ -125,7 +125,7 @@ def crates():
 
 
 def furnish(room, names, uses):
-    """Copies the crates, and those that they stand on, into the room."""
+    """Copies the crates, and those that they use, into the room."""
     needed = list(names)
     for crate in needed:
         needed += [it for it in uses[crate] if it in uses and it not in needed]
@@ -259,7 +259,7 @@ def try_crate(edits, copy, tell):
 def options():
     parser = argparse.ArgumentParser(description=__doc__, formatter_class=argparse.RawDescriptionHelpFormatter)
     parser.add_argument("--jobs", metavar="N", type=int, default=2, help="jobs of each check (2)")
-    parser.add_argument("--proved", action="store_true", help="the crates are proved: check none as it stands")
+    parser.add_argument("--proved", action="store_true", help="the crates are proved: check none as it is")
     said = "add the lines to FILE, and pass over what it shows as refused by an earlier run over the same files"
     parser.add_argument("--verdicts", metavar="FILE", default="", help=said)
     parser.add_argument("crate", nargs="*", metavar="CRATE")

@@ -43,7 +43,7 @@ ROWS = [
 
 
 def called(program, words, **streams):
-    """The status and what stands on standard error."""
+    """The status and what is on standard error."""
     ended = subprocess.run([program, *words], stderr=subprocess.PIPE, check=False, **streams)
     return ended.returncode, ended.stderr
 
@@ -81,7 +81,7 @@ def main():
     judge("full", found, (1, b"error: failed to write the command list\n"))
 
     def limited(features, limit):
-        """The call with no room beyond the limit: its status, how many lines it wrote, and what it told."""
+        """The call with no room beyond the limit: its status, how many lines it wrote, and what it reported."""
         ended = subprocess.run(
             [program],
             input=features,

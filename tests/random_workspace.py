@@ -1,4 +1,4 @@
-"""Random small workspaces, words for `cargo-hack` that break no rule, and what stands in for cargo and rustup: for the
+"""Random small workspaces, arguments for `cargo-hack` that break no rule, and stand-ins for cargo and rustup: for the
 scripts lists_by_definition.py and odd_calls.py.
 """
 import json
@@ -6,7 +6,7 @@ import os
 import subprocess
 from collections import namedtuple
 
-# A use of an option: its name, its value, and how both were written: the words, and what of them is passed on.
+# A use of an option: its name, its value, and how both were written: the arguments, and what of them is passed on.
 Use = namedtuple("Use", "name value words written")
 
 
@@ -46,7 +46,7 @@ def random_package(rng, name, folder, most):
         dependencies.append({"name": it, "optional": rng.random() < 0.7, "rename": rename})
         if rng.random() < 0.1:
             dependencies.append(dict(dependencies[-1], optional=rng.random() < 0.5))
-    # Newer cargos tell of an optional dependency that is a feature by itself as of a feature.
+    # Newer cargos print an optional dependency that is a feature by itself as a feature.
     record = dict(manifest)
     if rng.random() < 0.7:
         for it in dependencies:
@@ -100,7 +100,7 @@ def random_workspace(rng, root, most=5):
 
 
 def names_near(rng, workspace):
-    """A few names that words may speak of: features, dependencies, values of features, their fronts."""
+    """A few names that arguments may have: features, dependencies, values of features, their fronts."""
     names = set()
     for it in workspace["packages"]:
         values = [value for values in it["manifest"].values() for value in values]
@@ -277,7 +277,7 @@ class Words:
 
 
 def random_words(rng, workspace):
-    """Words that break no rule: the uses in their order, and the words behind `--`."""
+    """Arguments that break no rule: the uses in their order, and the arguments after `--`."""
     words = Words(rng, workspace)
     sub = rng.choice(["check", "check", "build", "clippy"])
     words.uses.append(Use("subcommand", None, [sub], [sub]))
@@ -332,7 +332,7 @@ def newest_of(workspace):
 
 
 def metadata(workspace):
-    """What cargo tells, as old as it is."""
+    """What cargo prints, as old as it is."""
     newest = newest_of(workspace)
     packages = []
     for it in workspace["packages"]:
@@ -371,7 +371,7 @@ def write(path, text):
 
 
 def lay_out(workspace, tools):
-    """The files of a workspace, and what stands in for cargo and rustup."""
+    """The files of a workspace, and the stand-ins for cargo and rustup."""
     root = workspace["root"]
     members = [it for it in workspace["packages"] if it["id"] in workspace["members"]]
     write(f"{root}/Cargo.toml", "")

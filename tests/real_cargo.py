@@ -4,7 +4,7 @@ lines and report with what is written here; calls that edit manifests have to le
 
 usage: tests/real_cargo.py PROGRAM      PROGRAM: cargo-hack
 
-Where the machine has no cargo and compiler that tell their versions, it says so and tries nothing. The last line is
+Where the machine has no cargo and compiler that print their versions, it says so and tries nothing. The last line is
 `N passed, M failed, K skipped`, and the status is 1 where one failed. What the compiler itself prints is not compared.
 """
 import os
@@ -37,7 +37,7 @@ POWERSET = ["", "compact,json,trace", "binary", "compact", "binary,compact", "js
 SETS = ["check", "--feature-powerset", "--ignore-private", "--exclude-features", "default",
         "--mutually-exclusive-features", "binary,json"]
 
-# What is asked, the status, and the lines that `cargo hack` itself tells, in order.
+# What is asked, the status, and the lines that `cargo hack` itself prints, in order.
 CALLS = {
     "each feature of both packages": (
         ["check", "--each-feature", "--exclude-all-features"],
@@ -69,7 +69,7 @@ FAILED = ["compact,json,trace", "compact,trace", "binary,compact,trace"]
 
 
 def to_the_end():
-    """What the third call tells: each run, a fault behind a failed one, and the report."""
+    """What the third call prints: each run, an error after a failed one, and the report."""
     told = ["info: skipped running on private package `tool`"]
     for line, features in zip(lines(12, [(it, "codec") for it in POWERSET]), POWERSET):
         told.append(line)
@@ -86,7 +86,7 @@ REPORT = ["", "failed commands:", "    codec:"] + [
     f"        `cargo check --no-default-features --features {features}`" for features in FAILED
 ] + [""]
 
-# Calls that edit manifests, with their status, and which of these lines they tell.
+# Calls that edit manifests, with their status, and which of these lines they print.
 MODIFIES = "info: {} modifies real `Cargo.toml` while cargo-hack is running and restores it when finished"
 EDITS = {
     "development dependencies, which come back": (
@@ -118,7 +118,7 @@ LIST = [
 
 
 def own_lines(err):
-    """The lines that `cargo hack` tells, without the compiler's."""
+    """The lines that `cargo hack` prints, without the compiler's."""
     starts = ("info: ", "warning: skipped", "error: process", "error: failed to run")
     return [it for it in err.splitlines() if it.startswith(starts)]
 
@@ -160,14 +160,14 @@ def edit_fault(program, folder, words, status, wanted):
 
 
 def has_cargo():
-    """Whether the machine's cargo and its compiler tell their versions."""
+    """Whether the machine's cargo and its compiler print their versions."""
     for tool in ("cargo", "rustc"):
         if shutil.which(tool) is None or subprocess.run([tool, "-vV"], capture_output=True, check=False).returncode != 0:
             return False
     return True
 
 
-# The variables that would change what is run or told.
+# The variables that would change what is run or printed.
 UNSET = ("CARGO", "CARGO_BUILD_TARGET", "CARGO_TARGET_DIR", "GITHUB_ACTIONS", "RUSTFLAGS")
 
 

@@ -4,7 +4,7 @@
 usage: tests/refused_memory.py [--every K] CARGO_HACK [POWERSET_LIST]
 
 A small allocator, built by the machine's C compiler and loaded before the program, refuses its n-th call, or that one and
-all behind it, for n from 1 (with K: 1, K + 1, ..) until a run meets no refusal. Each run has to end with status 0 and the
+all after it, for n from 1 (with K: 1, K + 1, ..) until a run meets no refusal. Each run has to end with status 0 and the
 bytes of a run with ample memory, or with status 1 and the last line `error: out of memory` or that of such a run, never by
 a signal; and every file of the workspace has to hold its bytes at the end.
 
@@ -60,7 +60,7 @@ void *realloc(void *old, size_t size) {
 }
 """
 
-# What stands in for cargo and rustup: it answers from files, fails where features `b` are asked for, and else is content.
+# The stand-in for cargo and rustup: it answers from files, fails where features `b` are asked for, and else is content.
 STAND_IN = """#!/bin/sh
 case "$*" in
     *" -vV"|-vV) exec cat "$0.version";;
@@ -71,7 +71,7 @@ case "$*" in
 esac
 """
 
-# The calls, each with its words.
+# The calls, each with its arguments.
 CALLS = {
     "a list": ["check", "--feature-powerset", "--workspace", "--print-command-list"],
     "each feature, to the end": ["check", "--each-feature", "--workspace", "--keep-going"],
@@ -89,7 +89,7 @@ MAPS = {
 
 
 def lay_out(folder):
-    """The workspace, and the stand-in beside it, whose path is answered."""
+    """The workspace, and the stand-in beside it, whose path is returned."""
     workspace, cargo = f"{folder}/w", f"{folder}/tools/cargo"
     write_files(workspace)
     stand_in(cargo, STAND_IN, workspace)
@@ -129,7 +129,7 @@ def fault_of(ended, ample, workspace):
 
 
 def try_call(name, words, places, preload, every, given=""):
-    """Tries a call at each number; answers how many, and what was wrong first."""
+    """Tries a call at each number; returns how many, and what was wrong first."""
     workspace, cargo = places
     ample = run(words, workspace, cargo, given)
     tried = 0

@@ -1,4 +1,4 @@
-"""A small workspace with a private member, what stands in for cargo there, and libraries that are loaded before a program: for
+"""A small workspace with a private member, the stand-in for cargo there, and libraries that are loaded before a program: for
 the scripts refused_memory.py, kill_points.py, broken_streams.py and whole_calls.py.
 """
 import os
@@ -19,7 +19,7 @@ PACKAGE = (
 
 
 def write(path, text, mode=0o644):
-    """Writes a file, and the folders that it stands in."""
+    """Writes a file, and the folders that it is in."""
     os.makedirs(os.path.dirname(path), exist_ok=True)
     with open(path, "w", encoding="utf-8") as it:
         it.write(text)

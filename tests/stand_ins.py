@@ -22,7 +22,7 @@ FILES = {
     "fail": b"check --package b\r\ntest a\n",
 }
 
-# The program, its words, its output, and its status. All of them in one folder, in this order.
+# The program, its arguments, its output, and its status. All of them in one folder, in this order.
 ANSWERS = [
     ("cargo", ["-vV"], FILES["version"], 0),
     ("rustup", ["-vV"], FILES["stable"], 0),
@@ -45,7 +45,7 @@ ANSWERS = [
     ("cargo", [], b"", 0),
 ]
 
-# The words of stand_cargo, as a command that child_rows reads, and what that prints; `{}` is the program's path.
+# The arguments of stand_cargo, as a command that child_rows reads, and what that prints; `{}` is the program's path.
 READ = [
     (["-vV"], '"cargo 1.60.0\\nrelease: 1.60.0"'),
     (["metadata", "--format-version=1"], '"{{\\"packages\\":[]}}"'),
@@ -67,7 +67,7 @@ b
 check --package b
 """
 
-# The program, its words, the folder (None: the variable is not set; else below the temporary one, which has an empty
+# The program, its arguments, the folder (None: the variable is not set; else below the temporary one, which has an empty
 # folder `empty` and a folder `bad` whose file `fail` is no text), and the line on standard error. Each has status 2.
 REFUSALS = [
     ("cargo", ["-vV"], None, "error: STAND_DIR is not set"),

@@ -1,6 +1,6 @@
 #!/usr/bin/env python3
-"""Calls the built cargo-hack over the programs that stand in for cargo and rustup, and compares its status, both of its
-outputs, what the stand-ins were asked to run, and the files of the workspace behind it.
+"""Calls the built cargo-hack over the stand-ins for cargo and rustup, and compares its status, both of its
+outputs, what the stand-ins were asked to run, and the files of the workspace afterwards.
 
 usage: tests/whole_calls.py CARGO_HACK STAND_CARGO STAND_RUSTUP
 
@@ -21,7 +21,7 @@ SET = f"{RUN} --no-default-features --features"
 ENDED = f"error: process didn't exit successfully: `{{cargo}} {SET} a` (exit status: 101)\n"
 REPORT = f"\nerror: failed to run 1 commands\n\nfailed commands:\n    p:\n        `{{cargo}} {SET} a`\n\n"
 
-# Each call: the package's features and optional dependencies, the words that fail, the words behind `hack`, the status,
+# Each call: the package's features and optional dependencies, the commands that fail, the arguments after `hack`, the status,
 # what is written on standard error and on standard output, and what the stand-ins were asked to run, a line each.
 # `{cargo}` is the path of the one for cargo.
 CALLS = {
@@ -105,7 +105,7 @@ CALLS = {
 
 
 def package(workspace, features, optional):
-    """What cargo tells of the one package."""
+    """What cargo prints of the one package."""
     return {
         "id": "p",
         "name": "p",

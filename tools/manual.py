@@ -4,7 +4,7 @@
 usage: tools/manual.py CARGO_HACK           writes man/ and completions/
        tools/manual.py --check CARGO_HACK   writes nothing, and says which of them isn't what it would write
 
-The options that the help leaves out, as cargo-hack's does, stand in HIDDEN below. The status is 1 where a file is stale.
+The options that the help leaves out, as cargo-hack's does, are in HIDDEN below. The status is 1 where a file is stale.
 """
 
 import pathlib
