@@ -5,9 +5,9 @@ usage: tests/documents.py CARGO_HACK
 
 It checks that each link, path, edit, function and type that a document names exists; that each function that PROVED.md
 names at the start of a promise is public in a crate of its heading; that each definition of DEFINITIONS.md is in the file
-named beside it; that the README's example is what the sample calls print; that no document counts tests, rows, edits or
-functions; that no document is too long; that each script has its line in tests/README.md; and that man pages and
-completions are what tools/manual.py writes.
+named beside it; that ARCHITECTURE.md has each crate, after those that it uses; that the README's example is what the sample
+calls print; that no document counts tests, rows, edits or functions, or is too long; that tests/README.md has each script,
+and what the gate tries of it; and that man pages and completions are what tools/manual.py writes.
 
 The last line is `N passed, M failed`, and the status is 1 where one failed.
 """
@@ -26,6 +26,7 @@ FREE = {"ADDING.md", "PROOF_NOTES.md", "CHANGELOG.md"}
 STRICT = {"README.md", "PROVED.md", "DEFINITIONS.md", "LIBRARY.md"}
 # Names of other tools and of the language that the strict documents mention.
 FOREIGN = {"serde_json", "toml", "thiserror", "rustup", "cargo", "main", "unwrap", "optional"}
+ORDINALS = {"2": "second", "3": "third", "4": "fourth", "5": "fifth", "10": "tenth"}
 MOST_WORDS, MOST_LINES = 20000, {"README.md": 150, "GATE.md": 30}
 COUNTED = r"(?:tests|rows|edits|functions|crates|definitions|contracts|lemmas)"
 COUNT = re.compile(rf"\b\d(?:[\d,]*\d)? (?:(?!of|for)\w+ )?{COUNTED}\b|\b\d[\d,]* pass\b")
@@ -160,6 +161,15 @@ def definitions():
                 yield name, bool(re.search(rf"\b{name}\b", text))
 
 
+def order():
+    """ARCHITECTURE.md has each crate of crates.txt, after those that it uses."""
+    lines = re.findall(r"(?m)^- ((?:`\w+`(?:, )?)+): ", read(ROOT / "docs" / "ARCHITECTURE.md"))
+    listed = [name for line in lines for name in re.findall(r"`(\w+)`", line)]
+    for name, uses in re.findall(r"(?m)^(\w+):(.*)$", read(ROOT / "crates.txt")):
+        before = listed[: listed.index(name)] if name in listed else []
+        yield name, name in listed and all(it in before for it in uses.split() if it in listed)
+
+
 def example():
     """The README's first example: its blocks of lines, between `..`, stand in this order in what the sample calls print."""
     printed = read(ROOT / "crates" / "sample_calls" / "stdout")
@@ -193,11 +203,16 @@ def counts(document):
 
 
 def scripts():
-    """Each script of tests/ has a line in the README there, and each line a script."""
-    listed = set(re.findall(r"(?m)^\| `([\w.]+)` \|", read(ROOT / "tests" / "README.md")))
+    """Each script of tests/ has a row in the README there, whose last cell says what of it the gate tries."""
+    rows = dict(re.findall(r"(?m)^\| `([\w.]+)` \| .* \| ?(.*?) ?\|$", read(ROOT / "tests" / "README.md")))
     there = {it.name for it in (ROOT / "tests").iterdir() if it.is_file() and it.name != "README.md"}
-    for name in sorted(listed | there):
-        yield name, name in listed and name in there
+    gate = dict(re.findall(r'(?m)^    \["tests/([\w.]+)"(.*)\],$', read(ROOT / "tests" / "gate.py")))
+    for name in sorted({*rows, *there, *gate}):
+        every = re.search(r'"--every", "(\d+)"', gate.get(name, ""))
+        cases = re.search(r'"--cases", "(\d+)"', gate.get(name, ""))
+        wanted = f"each {ORDINALS[every[1]]}" if every else cases[1] if cases else "all" if name in gate else ""
+        cell = rows.get(name, "?").removeprefix("none")
+        yield name, name in there and (cell.split(" ")[0] == wanted if cases else cell == wanted)
 
 
 def main(words):
@@ -207,8 +222,9 @@ def main(words):
     for it in documents():
         about = [*links(it), *paths(it), *identifiers(it, sources), *counts(it)]
         found += [(f"{it.name}: {name}", holds) for name, holds in about]
-    found += [(f"PROVED.md: {name} is no public function of its heading's crates", holds) for name, holds in promises(sources)]
+    found += [(f"PROVED.md: {name} is not public in its heading's crates", holds) for name, holds in promises(sources)]
     found += [(f"DEFINITIONS.md: {name} is not in its file", holds) for name, holds in definitions()]
+    found += [(f"ARCHITECTURE.md: {name} is missing, or before a crate that it uses", holds) for name, holds in order()]
     found += [*lengths(), *((f"tests/README.md: {name}", holds) for name, holds in scripts())]
     found.append(("README.md: its example is not what the sample calls print", example()))
     manual = subprocess.run([ROOT / "tools" / "manual.py", "--check", os.path.abspath(words[0])], check=False)

@@ -23,7 +23,8 @@ import sys
 import tempfile
 import time
 
-from small_workspace import FILES, library, stand_in, write, write_files
+sys.dont_write_bytecode = True
+from small_workspace import FILES, library, stand_in, write, write_files  # noqa: E402
 
 JOURNAL = ".cargo-hack-journal"
 

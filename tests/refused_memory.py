@@ -16,7 +16,8 @@ import subprocess
 import sys
 import tempfile
 
-from small_workspace import FILES, library, stand_in, write_files
+sys.dont_write_bytecode = True
+from small_workspace import FILES, library, stand_in, write_files  # noqa: E402
 
 # Refuses the call of that number in programs of this name, and says so by a file.
 ALLOCATOR = r"""
