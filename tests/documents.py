@@ -4,10 +4,11 @@
 usage: tests/documents.py CARGO_HACK
 
 It checks that each link, path, edit, function and type that a document names exists; that each function that PROVED.md
-names at the start of a promise is public in a crate of its heading; that each definition of DEFINITIONS.md is in the file
-named beside it; that ARCHITECTURE.md has each crate, after those that it uses; that the README's example is what the sample
-calls print; that no document counts tests, rows, edits or functions, or is too long; that tests/README.md has each script,
-and what the gate tries of it; and that man pages and completions are what tools/manual.py writes.
+names at the start of a promise is public in a crate of its heading; that each definition of DEFINITIONS.md is in the
+file named beside it; that ARCHITECTURE.md has each crate, after those that it uses; that rows have the errors of
+RULES.md; that the README's example is what the sample calls print; that no document counts tests, rows, edits or
+functions, or is too long; that tests/README.md has each script, and what the gate tries of it; and that man pages and
+completions are what tools/manual.py writes.
 
 The last line is `N passed, M failed`, and the status is 1 where one failed.
 """
@@ -170,6 +171,17 @@ def order():
         yield name, name in listed and all(it in before for it in uses.split() if it in listed)
 
 
+def errors():
+    """The errors that RULES.md shows are answers of rows; a name in braces is any text, and so is `..`."""
+    rows = "\n".join(re.findall(r"(?m)^\| (.*)", read(ROOT / "crates" / "hack_rows" / "stdin")))
+    text = " ".join(read(ROOT / "docs" / "RULES.md").split())
+    for found in re.findall(r"``(.+?)``(?!`)|(?<!`)`([^`]+)`(?!`)", text):
+        error = "".join(found).strip()
+        shape = re.sub(r"\\\{.*?\\\}", ".+", re.escape(error)).replace(r"\.\.", ".*")
+        if " " in error:
+            yield error, bool(re.search(shape, rows))
+
+
 def example():
     """The README's first example: its blocks of lines, between `..`, stand in this order in what the sample calls print."""
     printed = read(ROOT / "crates" / "sample_calls" / "stdout")
@@ -225,6 +237,7 @@ def main(words):
     found += [(f"PROVED.md: {name} is not public in its heading's crates", holds) for name, holds in promises(sources)]
     found += [(f"DEFINITIONS.md: {name} is not in its file", holds) for name, holds in definitions()]
     found += [(f"ARCHITECTURE.md: {name} is missing, or before a crate that it uses", holds) for name, holds in order()]
+    found += [(f"RULES.md: no row has the error {name}", holds) for name, holds in errors()]
     found += [*lengths(), *((f"tests/README.md: {name}", holds) for name, holds in scripts())]
     found.append(("README.md: its example is not what the sample calls print", example()))
     manual = subprocess.run([ROOT / "tools" / "manual.py", "--check", os.path.abspath(words[0])], check=False)
