@@ -1,0 +1,14 @@
+use Rattle.std.proofs.Common.{◌≡◌}
+use Rattle.hack_samples.specs.Sets.{IsInside, IsSuited}
+use Rattle.hack_samples.specs.Questions.{StaysWithin}
+use Rattle.hack_samples.proofs.greedy.pack.Given as goal
+
+abbrev pub invariant-loop : goal.invariant-loop
+invariant-loop g l = record {
+  suited : IsSuited (g.A.Allowed.may l.fn.allowed) (g.A.Allowed.size l.fn.allowed) l.banned l.best.set.items;
+  inside : IsInside l.set l.best.set.items;
+  within : StaysWithin l.wanted.end (g.A.Allowed.count l.fn.allowed) (g.A.Allowed.count l.allowed);
+  same_size : g.A.Allowed.size l.allowed ≡ g.A.Allowed.size l.fn.allowed;
+  same_may : g.A.Allowed.may l.allowed ≡ g.A.Allowed.may l.fn.allowed;
+  stays : (first : _) → g.A.Allowed.stays first l.fn.allowed → g.A.Allowed.stays first l.allowed;
+}

@@ -1,0 +1,5 @@
+pub mod Sets
+pub mod Samples
+pub mod Questions
+pub mod Order
+pub mod Descends

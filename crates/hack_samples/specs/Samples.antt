@@ -1,0 +1,35 @@
+-- What a sample of sets covers.
+use Rattle.std.specs.Prelude.{◌≡◌, ◌≤◌, ℕ, List, Bool, true, All, AllPairs, Contains, length}
+use Rattle.hack_samples.specs.Sets.{is_on, has_each, Meets}
+use Rattle.hack_samples.specs.Order.{IsBefore}
+use Rattle.hack_samples.specs.declared.sets.Setting.{Setting}
+
+-- the set shows the pattern: each of its candidates is on or off in it as the pattern says
+abbrev pub Shows : List (List (List ℕ)) → List Setting → List Bool → Type 0
+Shows providers pattern s = All (λ setting. is_on providers s setting.candidate ≡ setting.on) pattern
+
+-- the set is listed: it is over n positions, allowed, and has one of each required group
+pub record IsListed (may : List Bool → Bool) (n : ℕ) (required : List (List ℕ)) (s : List Bool) : Type 0 where
+  pub size : length s ≡ n
+  pub allowed : may s ≡ true
+  pub met : has_each s required ≡ true
+
+-- one of the sets shows the pattern
+pub record SomeShows (providers : List (List (List ℕ))) (pattern : List Setting) (sets : List (List Bool)) : Type 0 where
+  pub by : List Bool
+  pub chosen : Contains sets by
+  pub shows : Shows providers pattern by
+
+-- each pattern of at most t candidates that some listed set shows is shown by one of the sets
+abbrev pub Covers : (List Bool → Bool) → ℕ → List (List ℕ) → List (List (List ℕ)) → ℕ → List (List Bool) → Type 0
+Covers may n required providers t sets =
+    (pattern : List Setting) → length pattern ≤ t → (s : List Bool) → IsListed may n required s → Shows providers pattern s → SomeShows providers pattern sets
+
+-- the sets are listed, and each is before all later ones
+pub record IsSample (may : List Bool → Bool) (n : ℕ) (required : List (List ℕ)) (sets : List (List Bool)) : Type 0 where
+  pub listed : All (IsListed may n required) sets
+  pub ordered : AllPairs IsBefore sets
+
+-- no set that meets the groups shows the pattern
+abbrev pub NoneShows : (List Bool → Bool) → ℕ → List (List ℕ) → List Bool → List (List (List ℕ)) → List Setting → Type 0
+NoneShows may n groups banned providers pattern = (s : List Bool) → Meets may n groups banned s → Shows providers pattern s → ⊥

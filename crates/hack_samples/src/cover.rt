@@ -1,0 +1,301 @@
+//! A sample of sets that shows each pattern of a few candidates that some listed set shows.
+
+ghost use Rattle.std.specs.Prelude.{◌≡◌, ◌<◌, ◌≤◌, ◌+◌, ◌-◌, ◌^◌, ◌++◌, ◌∷◌, [], ℕ, List, Bool};
+ghost use Rattle.std.specs.Prelude.{true, false, length, min, IsTrue, IfOk, IfErr, OnOk, MatchBool};
+ghost use Rattle.std.specs.Prelude.{Contains, ◌⊎◌};
+ghost use Rattle.hack_samples.specs.Sets.{rows_of, tables_of};
+ghost use Rattle.hack_samples.specs.Samples.{IsListed, IsSample, Shows, SomeShows, Covers};
+ghost use Rattle.hack_samples.specs.Descends.{CoversBelow, IsPossible, AreKept};
+ghost use Rattle.hack_samples.specs.Questions.{IsTired, StaysWithin};
+
+use crate::allowed::Allowed;
+use crate::demands::Wanted;
+use crate::fault::SampleFault;
+use crate::greedy::Columns;
+use crate::guide::has_rows;
+use crate::order::put;
+use crate::search::pick;
+use crate::sets::{Setting, is_on};
+use std::alloc::{AllocError, Global};
+
+/// Whether the set shows the pattern.
+fn shows(providers: &[Vec<Vec<usize>>], set: &[bool], pattern: &[Setting]) -> bool
+    ensures { MatchBool result (Shows (tables_of providers.now) pattern.now set.now)
+        (Shows (tables_of providers.now) pattern.now set.now → ⊥) }
+{
+    for setting in pattern {
+        if is_on(providers, set, setting.candidate) != setting.on {
+            return false;
+        }
+    }
+    true
+}
+
+/// Whether one of the sets shows the pattern.
+fn some_shows(providers: &[Vec<Vec<usize>>], sets: &[Vec<bool>], pattern: &[Setting]) -> bool
+    ensures { MatchBool result (SomeShows (tables_of providers.now) pattern.now (rows_of sets.now))
+        (SomeShows (tables_of providers.now) pattern.now (rows_of sets.now) → ⊥) }
+{
+    for set in sets {
+        if shows(providers, set.as_slice(), pattern) {
+            return true;
+        }
+    }
+    false
+}
+
+/// The pattern with one more setting.
+fn with(alloc: Global, pattern: &[Setting], setting: Setting) -> Result<Vec<Setting>, AllocError>
+    ensures { IfOk result (λ more. more.items ≡ pattern.now ++ setting ∷ []) }
+{
+    let mut more = Vec::from_slice(alloc, pattern)?;
+    more.push(setting)?;
+    Ok(more)
+}
+
+/// The sets so far, in the order of sets.
+#[derive(Drop)]
+struct Chosen {
+    sets: Vec<Vec<bool>>,
+    columns: Columns,
+}
+
+/// Sees to it that a set shows the pattern. False where no listed set shows it.
+fn show<A: Allowed>(
+    alloc: Global,
+    allowed: &mut A,
+    wanted: &Wanted<'_>,
+    chosen: &mut Chosen,
+    pattern: &[Setting],
+) -> Result<bool, SampleFault>
+    requires { IsSample (A.may allowed.old) (A.size allowed.old)
+        (rows_of wanted.now.required.now) (rows_of chosen.old.sets.items) }
+    ensures sample { OnOk result (IsSample (A.may allowed.old) (A.size allowed.old)
+        (rows_of wanted.now.required.now) (rows_of chosen.new.sets.items)) }
+    ensures kept { OnOk result (AreKept (rows_of chosen.old.sets.items)
+        (rows_of chosen.new.sets.items)) }
+    ensures shown { IfOk result (λ possible. MatchBool possible
+        (SomeShows (tables_of wanted.now.providers.now) pattern.now
+        (rows_of chosen.new.sets.items))
+        (IsPossible (A.may allowed.old) (A.size allowed.old) (rows_of wanted.now.required.now)
+        (tables_of wanted.now.providers.now) pattern.now → ⊥)) }
+    ensures tired { IfErr result (IsTired wanted.now.end (A.count allowed.new)) }
+    ensures within { StaysWithin wanted.now.end (A.count allowed.old) (A.count allowed.new) }
+    ensures same_size { A.size allowed.new ≡ A.size allowed.old }
+    ensures same_may { A.may allowed.new ≡ A.may allowed.old }
+    ensures stays { (first : A) → A.stays first allowed.old → A.stays first allowed.new }
+{
+    if some_shows(wanted.providers, chosen.sets.as_slice(), pattern) {
+        return Ok(true);
+    }
+    let picked = pick(alloc, allowed, wanted, &mut chosen.columns, pattern, None)?;
+    let Some(set) = picked else {
+        return Ok(false);
+    };
+    chosen.columns.add(wanted.providers, set.as_slice());
+    put(&mut chosen.sets, set)?;
+    Ok(true)
+}
+
+/// Sees to it that the sets show the pattern, and each that has up to `more` settings of candidates
+/// below `limit` behind it, in descending order.
+fn cover<A: Allowed>(
+    alloc: Global,
+    allowed: &mut A,
+    wanted: &Wanted<'_>,
+    chosen: &mut Chosen,
+    pattern: &[Setting],
+    limit: usize,
+    more: usize,
+) -> Result<(), SampleFault>
+    requires { IsSample (A.may allowed.old) (A.size allowed.old)
+        (rows_of wanted.now.required.now) (rows_of chosen.old.sets.items) }
+    ensures sample { OnOk result (IsSample (A.may allowed.old) (A.size allowed.old)
+        (rows_of wanted.now.required.now) (rows_of chosen.new.sets.items)) }
+    ensures kept { OnOk result (AreKept (rows_of chosen.old.sets.items)
+        (rows_of chosen.new.sets.items)) }
+    ensures covered { OnOk result (CoversBelow (A.may allowed.old) (A.size allowed.old)
+        (rows_of wanted.now.required.now) (tables_of wanted.now.providers.now) pattern.now limit
+        more (rows_of chosen.new.sets.items)) }
+    ensures tired { IfErr result (IsTired wanted.now.end (A.count allowed.new)) }
+    ensures within { StaysWithin wanted.now.end (A.count allowed.old) (A.count allowed.new) }
+    ensures same_size { A.size allowed.new ≡ A.size allowed.old }
+    ensures same_may { A.may allowed.new ≡ A.may allowed.old }
+    ensures stays { (first : A) → A.stays first allowed.old → A.stays first allowed.new }
+{
+    let possible = show(alloc, allowed, wanted, chosen, pattern)?;
+    if !possible {
+        return Ok(());
+    }
+    if more == 0 {
+        return Ok(());
+    }
+    for candidate in 0..limit {
+        let on = with(
+            alloc,
+            pattern,
+            Setting {
+                candidate,
+                on: true,
+            },
+        )?;
+        let next = on.as_slice();
+        cover(alloc, allowed, wanted, chosen, next, candidate, more - 1)?;
+        let off = with(
+            alloc,
+            pattern,
+            Setting {
+                candidate,
+                on: false,
+            },
+        )?;
+        let next = off.as_slice();
+        cover(alloc, allowed, wanted, chosen, next, candidate, more - 1)?;
+    }
+    Ok(())
+}
+
+/// What is on and off in the set.
+fn settings_of(
+    alloc: Global,
+    providers: &[Vec<Vec<usize>>],
+    set: &[bool],
+) -> Result<Vec<Setting>, AllocError> {
+    let mut settings = Vec::new(alloc);
+    for candidate in 0..providers.len() {
+        settings.push(Setting {
+            candidate,
+            on: is_on(providers, set, candidate),
+        })?;
+    }
+    Ok(settings)
+}
+
+/// Adds the set that a row of the guide leads to, unless in one of the others the same is on.
+fn follow<A: Allowed>(
+    alloc: Global,
+    allowed: &mut A,
+    wanted: &Wanted<'_>,
+    chosen: &mut Chosen,
+    row: u32,
+) -> Result<(), SampleFault>
+    requires { IsSample (A.may allowed.old) (A.size allowed.old)
+        (rows_of wanted.now.required.now) (rows_of chosen.old.sets.items) }
+    ensures sample { OnOk result (IsSample (A.may allowed.old) (A.size allowed.old)
+        (rows_of wanted.now.required.now) (rows_of chosen.new.sets.items)) }
+    ensures tired { IfErr result (IsTired wanted.now.end (A.count allowed.new)) }
+    ensures within { StaysWithin wanted.now.end (A.count allowed.old) (A.count allowed.new) }
+    ensures same_size { A.size allowed.new ≡ A.size allowed.old }
+    ensures same_may { A.may allowed.new ≡ A.may allowed.old }
+    ensures stays { (first : A) → A.stays first allowed.old → A.stays first allowed.new }
+{
+    let picked = pick(alloc, allowed, wanted, &mut chosen.columns, &[], Some(row))?;
+    let Some(set) = picked else {
+        return Ok(());
+    };
+    let settings = settings_of(alloc, wanted.providers, set.as_slice())?;
+    if some_shows(
+        wanted.providers,
+        chosen.sets.as_slice(),
+        settings.as_slice(),
+    ) {
+        return Ok(());
+    }
+    chosen.columns.add(wanted.providers, set.as_slice());
+    put(&mut chosen.sets, set)?;
+    Ok(())
+}
+
+/// Such a sample, begun with rows of the guide where `guided` is true.
+fn sample_by<A: Allowed>(
+    alloc: Global,
+    allowed: &mut A,
+    wanted: &Wanted<'_>,
+    guided: bool,
+) -> Result<Vec<Vec<bool>>, SampleFault>
+    ensures sample { IfOk result (λ sets. IsSample (A.may allowed.old) (A.size allowed.old)
+        (rows_of wanted.now.required.now) (rows_of sets.items)) }
+    ensures covers { IfOk result (λ sets. Covers (A.may allowed.old) (A.size allowed.old)
+        (rows_of wanted.now.required.now) (tables_of wanted.now.providers.now)
+        wanted.now.strength (rows_of sets.items)) }
+    ensures tired { IfErr result (IsTired wanted.now.end (A.count allowed.new)) }
+    ensures within { StaysWithin wanted.now.end (A.count allowed.old) (A.count allowed.new) }
+    ensures same_size { A.size allowed.new ≡ A.size allowed.old }
+    ensures same_may { A.may allowed.new ≡ A.may allowed.old }
+    ensures stays { (first : A) → A.stays first allowed.old → A.stays first allowed.new }
+{
+    let candidates = wanted.providers.len();
+    let columns = Columns::new(alloc, candidates, wanted.strength)?;
+    let rows = if guided { columns.rows() } else { 0 };
+    let mut chosen = Chosen {
+        sets: Vec::new(alloc),
+        columns,
+    };
+    for row in 0..rows {
+        follow(alloc, allowed, wanted, &mut chosen, row)?;
+    }
+    let none = [];
+    let strength = wanted.strength;
+    cover(
+        alloc,
+        allowed,
+        wanted,
+        &mut chosen,
+        &none,
+        candidates,
+        strength,
+    )?;
+    Ok(chosen.sets)
+}
+
+/// A few of the listed sets that show each pattern of at most `strength` candidates that some
+/// listed set shows, in the order of sets, each once.
+///
+/// `providers` has for each candidate a row for each of its names, with the positions that enable
+/// it: the candidate is on in a set that has a member of each row. A listed set is an allowed one
+/// that has one of each required group. The same arguments give the same sample. The search is
+/// exact, and so takes long where many groups and many forbidden sets go together: it asks at most
+/// `most_questions` questions.
+pub fn sample<A: Allowed>(
+    alloc: Global,
+    allowed: &mut A,
+    providers: &[Vec<Vec<usize>>],
+    required: &[Vec<usize>],
+    strength: usize,
+    most_questions: u64,
+) -> Result<Vec<Vec<bool>>, SampleFault>
+    ensures sample { IfOk result (λ sets. IsSample (A.may allowed.old) (A.size allowed.old)
+        (rows_of required.now) (rows_of sets.items)) }
+    ensures covers { IfOk result (λ sets. Covers (A.may allowed.old) (A.size allowed.old)
+        (rows_of required.now) (tables_of providers.now) strength (rows_of sets.items)) }
+    ensures tired { IfErr result (IsTired (min (A.count allowed.old + most_questions)
+        (2 ^ 128 - 1)) (A.count allowed.new)) }
+    ensures within { A.count allowed.new ≤ A.count allowed.old + most_questions }
+    ensures same_size { A.size allowed.new ≡ A.size allowed.old }
+    ensures same_may { A.may allowed.new ≡ A.may allowed.old }
+    ensures stays { A.stays allowed.old allowed.new }
+{
+    let end = allowed.asked().saturating_add(u128::from(most_questions));
+    let wanted = Wanted {
+        providers,
+        required,
+        strength,
+        end,
+    };
+    let guided = sample_by(alloc, allowed, &wanted, true)?;
+    if !has_rows(strength) {
+        return Ok(guided);
+    }
+    match sample_by(alloc, allowed, &wanted, false) {
+        Ok(greedy) => Ok(smaller(guided, greedy)),
+        Err(SampleFault::TooManyQuestions) => Ok(guided),
+        Err(SampleFault::Memory) => Err(SampleFault::Memory),
+    }
+}
+
+/// The one that has fewer sets.
+fn smaller(one: Vec<Vec<bool>>, other: Vec<Vec<bool>>) -> Vec<Vec<bool>>
+    ensures { result ≡ one ⊎ result ≡ other }
+{
+    if other.len() < one.len() { other } else { one }
+}

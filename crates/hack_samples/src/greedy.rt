@@ -1,0 +1,386 @@
+//! Makes a set show as many new patterns as a greedy rule finds.
+//!
+//! What it chooses is advice: its clauses say only that the set stays allowed, keeps its members
+//! and has no position that is held off.
+
+ghost use Rattle.std.specs.Prelude.{◌≡◌, ◌<◌, ℕ, List, Bool, true, false, length, slice_set};
+ghost use Rattle.std.specs.Prelude.{IsTrue, IfOk, IfErr, OnOk};
+ghost use Rattle.hack_samples.specs.Sets.{has_each, may_join, rows_of};
+ghost use Rattle.hack_samples.specs.Sets.{IsClear, IsInside, IsSuited};
+ghost use Rattle.hack_samples.specs.Questions.{IsTired, StaysWithin};
+
+use crate::allowed::{Allowed, ask};
+use crate::demands::{Wanted, ban};
+use crate::fault::SampleFault;
+use crate::guide::Guide;
+use crate::sets::{add, has, has_each, has_one_of, is_on, rows_at};
+use std::alloc::{AllocError, Global};
+
+/// Which of the sets so far turn each candidate on, and which off, a bit a set. Sets past the 128th
+/// aren't recorded.
+#[derive(Drop)]
+pub(crate) struct Columns {
+    on: Vec<u128>,
+    off: Vec<u128>,
+    bit: u128,
+    random: u64,
+    guide: Guide,
+}
+
+impl Columns {
+    pub(crate) fn new(
+        alloc: Global,
+        candidates: usize,
+        strength: usize,
+    ) -> Result<Columns, AllocError> {
+        Ok(Columns {
+            on: vec![in alloc; 0; candidates]?,
+            off: vec![in alloc; 0; candidates]?,
+            bit: 1,
+            random: 0x9e37_79b9_7f4a_7c15,
+            guide: Guide::new(alloc, candidates, strength)?,
+        })
+    }
+
+    /// Records one more set.
+    pub(crate) fn add(&mut self, providers: &[Vec<Vec<usize>>], set: &[bool]) {
+        let bit = self.bit;
+        for (candidate, column) in self.on.iter_mut().enumerate() {
+            if is_on(providers, set, candidate) {
+                *column |= bit;
+            }
+        }
+        for (candidate, column) in self.off.iter_mut().enumerate() {
+            if !is_on(providers, set, candidate) {
+                *column |= bit;
+            }
+        }
+        self.bit = bit << 1;
+    }
+
+    /// The sets that turn the candidate on, or off.
+    fn column(&self, candidate: usize, on: bool) -> u128 {
+        let columns = if on { &self.on } else { &self.off };
+        columns.get(candidate).copied().unwrap_or(0)
+    }
+
+    /// How many rows the guide has.
+    pub(crate) fn rows(&self) -> u32 {
+        self.guide.rows()
+    }
+
+    /// Whether to turn the candidate on, which would gain `on`, and `off` otherwise.
+    fn asks(&mut self, candidate: usize, row: Option<u32>, on: usize, off: usize) -> bool {
+        match row {
+            Some(row) => self.guide.is_on(candidate, row),
+            None => on > off || on == off && self.random() % 2 == 0,
+        }
+    }
+
+    /// The positions to try first: those that enable no name of a candidate that is off in the row,
+    /// or with no row any.
+    pub(crate) fn liked(
+        &mut self,
+        alloc: Global,
+        providers: &[Vec<Vec<usize>>],
+        positions: usize,
+        row: Option<u32>,
+    ) -> Result<Vec<bool>, AllocError> {
+        let mut liked = Vec::new(alloc);
+        for _ in 0..positions {
+            liked.push(row.is_some() || self.random() % 2 == 0)?;
+        }
+        let Some(row) = row else {
+            return Ok(liked);
+        };
+        for (candidate, rows) in providers.iter().enumerate() {
+            if !self.guide.is_on(candidate, row) {
+                dislike(&mut liked, rows.as_slice());
+            }
+        }
+        Ok(liked)
+    }
+
+    /// The next number of a fixed sequence.
+    fn random(&mut self) -> u64 {
+        let mut x = self.random;
+        x ^= x << 13;
+        x ^= x >> 7;
+        x ^= x << 17;
+        self.random = x;
+        x
+    }
+}
+
+/// Takes the positions of the rows away from those that are liked.
+fn dislike(liked: &mut [bool], rows: &[Vec<usize>]) {
+    for row in rows {
+        for position in row.as_slice() {
+            if *position < liked.len() {
+                liked[*position] = false;
+            }
+        }
+    }
+}
+
+/// How many choices of so many columns less one have no set in common with each other and `sets`.
+fn fresh(columns: &[u128], sets: u128, choose: usize) -> usize {
+    if choose <= 1 {
+        return if sets == 0 { 1 } else { 0 };
+    }
+    let mut count: usize = 0;
+    for (i, column) in columns.iter().enumerate() {
+        count = count.saturating_add(fresh(&columns[..i], sets & *column, choose - 1));
+    }
+    count
+}
+
+/// The candidates in the order of a fixed sequence of numbers.
+fn shuffled(
+    alloc: Global,
+    columns: &mut Columns,
+    candidates: usize,
+) -> Result<Vec<usize>, AllocError> {
+    let mut order = Vec::new(alloc);
+    for candidate in 0..candidates {
+        order.push(candidate)?;
+    }
+    for i in 0..order.len() {
+        let j = i + (columns.random() % (order.len() - i) as u64) as usize;
+        order.swap(i, j);
+    }
+    Ok(order)
+}
+
+/// Whether the position is new to a suited set, which is suited with it too.
+pub(crate) fn may_join<A: Allowed>(
+    allowed: &mut A,
+    end: u128,
+    banned: &[bool],
+    set: &[bool],
+    position: usize,
+) -> Result<bool, SampleFault>
+    requires { IsSuited (A.may allowed.old) (A.size allowed.old) banned.now set.now }
+    ensures joins { IfOk result (λ joins. joins
+        ≡ may_join (A.may allowed.old) banned.now set.now position) }
+    ensures tired { IfErr result (IsTired end (A.count allowed.new)) }
+    ensures within { StaysWithin end (A.count allowed.old) (A.count allowed.new) }
+    ensures same_size { A.size allowed.new ≡ A.size allowed.old }
+    ensures same_may { A.may allowed.new ≡ A.may allowed.old }
+    ensures stays { (first : A) → A.stays first allowed.old → A.stays first allowed.new }
+{
+    if has(banned, position) {
+        return Ok(false);
+    }
+    if has(set, position) {
+        return Ok(false);
+    }
+    if position >= set.len() {
+        return Ok(false);
+    }
+    ask(allowed, end, set, position)
+}
+
+/// Adds the first of these positions that may join, unless the set has one of them.
+fn add_one_of<A: Allowed>(
+    allowed: &mut A,
+    end: u128,
+    banned: &[bool],
+    set: &mut Vec<bool>,
+    group: &[usize],
+) -> Result<(), SampleFault>
+    requires { IsSuited (A.may allowed.old) (A.size allowed.old) banned.now set.old.items }
+    ensures suited { OnOk result (IsSuited (A.may allowed.old) (A.size allowed.old) banned.now
+        set.new.items) }
+    ensures inside { OnOk result (IsInside set.old.items set.new.items) }
+    ensures tired { IfErr result (IsTired end (A.count allowed.new)) }
+    ensures within { StaysWithin end (A.count allowed.old) (A.count allowed.new) }
+    ensures same_size { A.size allowed.new ≡ A.size allowed.old }
+    ensures same_may { A.may allowed.new ≡ A.may allowed.old }
+    ensures stays { (first : A) → A.stays first allowed.old → A.stays first allowed.new }
+{
+    if has_one_of(set.as_slice(), group) {
+        return Ok(());
+    }
+    for position in group {
+        if may_join(allowed, end, banned, set.as_slice(), *position)? {
+            add(set, *position);
+            return Ok(());
+        }
+    }
+    Ok(())
+}
+
+/// Adds one of each row that the set has none of, where it may join.
+fn add_one_of_each<A: Allowed>(
+    allowed: &mut A,
+    end: u128,
+    banned: &[bool],
+    set: &mut Vec<bool>,
+    rows: &[Vec<usize>],
+) -> Result<(), SampleFault>
+    requires { IsSuited (A.may allowed.old) (A.size allowed.old) banned.now set.old.items }
+    ensures suited { OnOk result (IsSuited (A.may allowed.old) (A.size allowed.old) banned.now
+        set.new.items) }
+    ensures inside { OnOk result (IsInside set.old.items set.new.items) }
+    ensures tired { IfErr result (IsTired end (A.count allowed.new)) }
+    ensures within { StaysWithin end (A.count allowed.old) (A.count allowed.new) }
+    ensures same_size { A.size allowed.new ≡ A.size allowed.old }
+    ensures same_may { A.may allowed.new ≡ A.may allowed.old }
+    ensures stays { (first : A) → A.stays first allowed.old → A.stays first allowed.new }
+{
+    for row in rows {
+        add_one_of(allowed, end, banned, set, row.as_slice())?;
+    }
+    Ok(())
+}
+
+/// Bans the first of the rows that the set has none of, so that no larger set has one of each.
+pub(crate) fn hold_off(held: &mut Vec<bool>, set: &[bool], rows: &[Vec<usize>])
+    requires { length set.now ≡ length held.old.items }
+    ensures size { length held.new.items ≡ length held.old.items }
+    ensures clear { IsClear held.old.items set.now → IsClear held.new.items set.now }
+    ensures more { (s : List Bool) → length s ≡ length held.old.items
+        → IsClear held.new.items s → IsClear held.old.items s }
+    ensures off { has_each set.now (rows_of rows.now) ≡ false → (s : List Bool)
+        → length s ≡ length held.old.items → IsClear held.new.items s
+        → has_each s (rows_of rows.now) ≡ false }
+{
+    for row in rows {
+        if !has_one_of(set, row.as_slice()) {
+            ban(held, row.as_slice());
+            return;
+        }
+    }
+}
+
+/// Turns the candidate of these rows on where that is asked for and allowed, and else sees to it
+/// that no later member turns it on.
+fn turn<A: Allowed>(
+    allowed: &mut A,
+    end: u128,
+    held: &mut Vec<bool>,
+    set: &mut Vec<bool>,
+    rows: &[Vec<usize>],
+    on: bool,
+) -> Result<(), SampleFault>
+    requires size { length held.old.items ≡ A.size allowed.old }
+    requires suited { IsSuited (A.may allowed.old) (A.size allowed.old) held.old.items
+        set.old.items }
+    ensures size { OnOk result (length held.new.items ≡ A.size allowed.old) }
+    ensures suited { OnOk result (IsSuited (A.may allowed.old) (A.size allowed.old) held.new.items
+        set.new.items) }
+    ensures inside { OnOk result (IsInside set.old.items set.new.items) }
+    ensures more { OnOk result ((s : List Bool) → length s ≡ A.size allowed.old
+        → IsClear held.new.items s → IsClear held.old.items s) }
+    ensures tired { IfErr result (IsTired end (A.count allowed.new)) }
+    ensures within { StaysWithin end (A.count allowed.old) (A.count allowed.new) }
+    ensures same_size { A.size allowed.new ≡ A.size allowed.old }
+    ensures same_may { A.may allowed.new ≡ A.may allowed.old }
+    ensures stays { (first : A) → A.stays first allowed.old → A.stays first allowed.new }
+{
+    if !on {
+        hold_off(held, set.as_slice(), rows);
+        return Ok(());
+    }
+    add_one_of_each(allowed, end, held.as_slice(), set, rows)?;
+    hold_off(held, set.as_slice(), rows);
+    Ok(())
+}
+
+/// A set with more members, and how many patterns of so many candidates it shows that were not
+/// shown.
+#[derive(Drop)]
+struct Packed {
+    set: Vec<bool>,
+    gain: usize,
+}
+
+/// Turns each candidate on or off, in the order of a fixed sequence: as the row of the guide says,
+/// or with no row as shows more new patterns with those before it, where that is allowed.
+fn pack_once<A: Allowed>(
+    alloc: Global,
+    allowed: &mut A,
+    wanted: &Wanted<'_>,
+    columns: &mut Columns,
+    banned: &[bool],
+    set: &[bool],
+    row: Option<u32>,
+) -> Result<Packed, SampleFault>
+    requires size { length banned.now ≡ A.size allowed.old }
+    requires suited { IsSuited (A.may allowed.old) (A.size allowed.old) banned.now set.now }
+    ensures suited { IfOk result (λ packed.
+        IsSuited (A.may allowed.old) (A.size allowed.old) banned.now packed.set.items) }
+    ensures inside { IfOk result (λ packed. IsInside set.now packed.set.items) }
+    ensures tired { IfErr result (IsTired wanted.now.end (A.count allowed.new)) }
+    ensures within { StaysWithin wanted.now.end (A.count allowed.old) (A.count allowed.new) }
+    ensures same_size { A.size allowed.new ≡ A.size allowed.old }
+    ensures same_may { A.may allowed.new ≡ A.may allowed.old }
+    ensures stays { (first : A) → A.stays first allowed.old → A.stays first allowed.new }
+{
+    let order = shuffled(alloc, columns, wanted.providers.len())?;
+    let mut set = Vec::from_slice(alloc, set)?;
+    let mut held = Vec::from_slice(alloc, banned)?;
+    let mut decided = Vec::new(alloc);
+    let mut gain: usize = 0;
+    for candidate in order.as_slice() {
+        let rows = rows_at(wanted.providers, *candidate);
+        let on = fresh(
+            decided.as_slice(),
+            columns.column(*candidate, true),
+            wanted.strength,
+        );
+        let off = fresh(
+            decided.as_slice(),
+            columns.column(*candidate, false),
+            wanted.strength,
+        );
+        let asked = columns.asks(*candidate, row, on, off);
+        turn(allowed, wanted.end, &mut held, &mut set, rows, asked)?;
+        let is_on = has_each(set.as_slice(), rows);
+        gain = gain.saturating_add(gained(is_on, on, off));
+        decided.push(columns.column(*candidate, is_on))?;
+    }
+    Ok(Packed { set, gain })
+}
+
+/// What the candidate gains.
+fn gained(is_on: bool, on: usize, off: usize) -> usize {
+    if is_on { on } else { off }
+}
+
+/// How many sets are tried for each that is taken.
+const TRIES: usize = 30;
+
+/// The set that a row of the guide makes of this one, or with no row the best of several that a
+/// greedy rule makes of it.
+pub(crate) fn pack<A: Allowed>(
+    alloc: Global,
+    allowed: &mut A,
+    wanted: &Wanted<'_>,
+    columns: &mut Columns,
+    banned: &[bool],
+    set: &[bool],
+    row: Option<u32>,
+) -> Result<Vec<bool>, SampleFault>
+    requires size { length banned.now ≡ A.size allowed.old }
+    requires suited { IsSuited (A.may allowed.old) (A.size allowed.old) banned.now set.now }
+    ensures suited { IfOk result (λ packed.
+        IsSuited (A.may allowed.old) (A.size allowed.old) banned.now packed.items) }
+    ensures inside { IfOk result (λ packed. IsInside set.now packed.items) }
+    ensures tired { IfErr result (IsTired wanted.now.end (A.count allowed.new)) }
+    ensures within { StaysWithin wanted.now.end (A.count allowed.old) (A.count allowed.new) }
+    ensures same_size { A.size allowed.new ≡ A.size allowed.old }
+    ensures same_may { A.may allowed.new ≡ A.may allowed.old }
+    ensures stays { (first : A) → A.stays first allowed.old → A.stays first allowed.new }
+{
+    let mut best = pack_once(alloc, allowed, wanted, columns, banned, set, row)?;
+    let tries = if row.is_some() { 1 } else { TRIES };
+    for _ in 1..tries {
+        let next = pack_once(alloc, allowed, wanted, columns, banned, set, row)?;
+        if next.gain > best.gain {
+            best = next;
+        }
+    }
+    Ok(best.set)
+}
