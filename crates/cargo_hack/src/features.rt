@@ -1,7 +1,8 @@
 //! Features, the sets of them that a powerset lists, and a package's candidates.
 
 pub use hack_features::{
-    Feature, FeatureSets, Pruned, Questions, Rules, at_least_one_of_for_package, compare_features,
-    compare_sets, feature_deps, feature_powerset, powerset, pruned,
+    Feature, FeatureSets, Pruned, Questions, Rules, SampleFault, Setting,
+    at_least_one_of_for_package, compare_features, compare_sets, feature_deps, feature_powerset,
+    powerset, pruned,
 };
 pub use hack_load::features::Features;

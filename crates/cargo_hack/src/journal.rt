@@ -1,5 +1,4 @@
-//! Files that keep in a journal what they replace, and what brings it back after an interrupted
-//! call.
+//! Files that keep in a journal what they replace, and the restoration after an interrupted call.
 
 pub use hack_journal::apart::{Apart, is_lockfile};
 pub use hack_journal::journal::{Entry, JournalFault, read_back, spell};

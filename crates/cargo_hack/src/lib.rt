@@ -1,5 +1,6 @@
-//! cargo-hack as a library: all that its crates give out, under one name. The modules are called as
-//! those of cargo-hack, where it has them; what each item promises is told by its own crate.
+//! cargo-hack as a library: everything that its crates export, under one name. Modules have the
+//! names that they have in cargo-hack, if they exist there; each item is documented in its own
+//! crate.
 #![tactic(auto)]
 
 pub mod features;

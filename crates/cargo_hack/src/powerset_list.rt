@@ -1,3 +1,5 @@
 //! The command list of a feature map's powerset.
 
-pub use hack_powerset_list::{Ending, ListFault, call_powerset_list, command, powerset_list};
+pub use hack_powerset_list::{
+    Counted, Ending, ListFault, Sink, Source, call_powerset_list, command, powerset_list,
+};

@@ -1,4 +1,4 @@
-//! A whole call of `cargo hack`, and the plan of a loaded one handed out to a runner.
+//! A whole call of `cargo hack`, and the plan of a loaded call, given to a runner.
 
 pub use hack_run::drive::{Teller, drive_context};
 pub use hack_run::journaled::run_journaled;

@@ -1,4 +1,5 @@
-//! Versions of Rust: the steps of a range, which package uses which, and rustup's toolchains.
+//! Versions of Rust: the steps of a range, which package uses which version, and rustup's
+//! toolchains.
 
 pub use hack_session::rustup::install_toolchain;
 pub use hack_versions::rustup::{

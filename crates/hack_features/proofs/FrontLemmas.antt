@@ -25,7 +25,7 @@ and-swap false false = refl
 all-front : (f : ℕ → Bool) (s : List ℕ) (p : ℕ) → list_all f (p ∷ s) ≡ list_all f (s ++ p ∷ [])
 all-front f s p = and-swap (f p) (list_all f s) ∙ sym (list_all-append f s (p ∷ []))
 
-all-same : {X : Type 0} (f g : X → Bool) (xs : List X) → ((x : X) → f x ≡ g x) → list_all f xs ≡ list_all g xs
+pub all-same : {X : Type 0} (f g : X → Bool) (xs : List X) → ((x : X) → f x ≡ g x) → list_all f xs ≡ list_all g xs
 all-same f g [] h = refl
 all-same f g (x ∷ xs) h = ap (λ b. b && list_all f xs) (h x) ∙ ap (λ b. g x && b) (all-same f g xs h)
 

@@ -1,7 +1,8 @@
 -- The sets that an enumeration by questions finds, and how many questions it may ask.
 use Rattle.std.specs.Prelude.{◌≡◌, ◌≢◌, ℕ, ◌*◌, ◌≤◌, ◌<◌, All, List, [], ◌∷◌, ◌++◌, map, filter, drop, length, Bool, IsTrue, ◌&&◌, ◌==◌, not}
 use Rattle.std.specs.List.{slice_index_or}
-use Rattle.hack_features.specs.Sets.{IsListing}
+use Rattle.hack_features.specs.Sets.{IsListing, IsWithin}
+use Rattle.hack_features.specs.declared.questions.Limits.{Limits}
 
 -- a nonempty set that passes both tests
 pub record IsWhole (may complete : List ℕ → Bool) (s : List ℕ) : Type 0 where
@@ -36,3 +37,8 @@ pub record AreOpen (may : List ℕ → Bool) (sets : List (List ℕ)) (places : 
   pub inside : All (λ p. p < length sets) places
   pub few : length places ≤ length sets
   pub same : (next : ℕ) → with_next may next (map (λ p. slice_index_or sets p []) places) ≡ with_next may next sets
+
+-- what is known before any question: how many positions a permitted set has at most, and whether both tests pass each set
+pub record AreLimits (may complete : List ℕ → Bool) (limits : Limits) : Type 0 where
+  pub within : (s : List ℕ) → IsTrue (may s) → IsWithin limits.most s
+  pub free : IsTrue limits.free → IsFree may complete

@@ -1,10 +1,10 @@
 //! The rules by which sets of features are listed, which answer questions on them.
 
 ghost use Rattle.std.specs.Prelude.{◌≡◌, ◌≤◌, ◌+◌, ◌-◌, ◌^◌, ℕ, List, [], length};
-ghost use Rattle.std.specs.Prelude.{IsTrue, IfOk, MatchOption};
+ghost use Rattle.std.specs.Prelude.{IsTrue, IfOk, MatchOption, true};
 ghost use Rattle.hack_features.specs.Sets.{IsSelection, rows_of};
-ghost use Rattle.hack_features.specs.Rules.{Choice, IsListed, IsPermitted, IsRequired};
-ghost use Rattle.hack_features.specs.Rules.{IsFirstCover, IsWanted, AreCovers};
+ghost use Rattle.hack_features.specs.Rules.{Choice, IsPermitted, IsRequired};
+ghost use Rattle.hack_features.specs.Rules.{IsFirstCover, IsWanted};
 ghost use Rattle.hack_features.specs.Tables.{keeps_depth as depth_test, wanted_test};
 ghost use Rattle.hack_features.specs.Tables.{AreTables};
 ghost use Rattle.hack_features.specs.Given.{choice, choice_in};
@@ -13,9 +13,9 @@ ghost use Rattle.hack_features.specs.declared.reach.Edges.TheVariants.{Enabling}
 
 use crate::cover::first_cover;
 use crate::feature::Feature;
-use crate::forest::Pruned;
+use crate::members::count_members;
 use crate::placed::Placed;
-use crate::questions::{Questions, pruned};
+use crate::questions::{Limits, Questions};
 use crate::reach::Edges;
 use crate::tables::{Given, Tables};
 use std::alloc::{AllocError, Global};
@@ -37,11 +37,11 @@ pub struct Rules<'a> {
 }
 
 impl<'a> Rules<'a> {
-    ghost use Rattle.std.specs.Prelude.{◌↔◌, ◌++◌, ◌∷◌};
-    ghost use Rattle.hack_features.specs.Forest.{sets_in};
-    ghost use Rattle.hack_features.specs.Sets.{IsListing};
-    ghost use Rattle.hack_features.specs.Questions.{IsCheap};
+    ghost use Rattle.std.specs.Prelude.{◌↔◌, ◌++◌, ◌∷◌, min};
+    ghost use Rattle.hack_features.specs.Sets.{IsWithin};
+    ghost use Rattle.hack_features.specs.Questions.{AreLimits, IsFree};
     ghost use Rattle.hack_features.specs.View.{choice_of, size_of, asked_of, may_of, whole_of};
+    ghost use Rattle.hack_features.specs.Samples.{positions_of};
 
     /// The rules for the candidates `features` of a package with the feature map `map`: at most
     /// `depth` of them in a set, for each group of `at_least_one_of` one that enables a name of it,
@@ -102,34 +102,48 @@ impl<'a> Rules<'a> {
         })
     }
 
-    /// The sets that are listed, in the order of sets, and by how much the count of questions rose.
-    pub fn listed(&mut self, alloc: Global) -> Result<Pruned, AllocError>
-        ensures sets { IfOk result (λ pruned.
-            IsListing (size_of self.old) (IsListed (choice_of self.old)) (sets_in pruned.sets)) }
-
-        // For each set that has to be covered there is a listed one inside it that enables the same
-        // names.
-        ensures covered { IfOk result (λ pruned.
-            AreCovers (choice_of self.old) (size_of self.old) (sets_in pruned.sets)) }
-        ensures asked { IfOk result (λ pruned. asked_of self.new
-            ≡ asked_of self.old + pruned.asked) }
-
-        // At most one question for each permitted set and each candidate.
-        ensures few { IfOk result (λ pruned.
-            IsCheap (IsPermitted (choice_of self.old)) (size_of self.old) pruned.asked) }
-        ensures risen { asked_of self.old ≤ asked_of self.new }
-        ensures same_choice { choice_of self.new ≡ choice_of self.old }
-        ensures same_size { size_of self.new ≡ size_of self.old }
+    /// How many candidates there are.
+    pub(crate) fn size(&self) -> usize
+        ensures { result ≡ size_of self.now }
     {
-        let n = self.given.features.len();
-        pruned(alloc, self, n)
+        self.given.features.len()
+    }
+
+    /// How many positions a permitted set has at most, where a depth is given.
+    pub fn most(&self) -> Option<usize>
+        ensures { (s : List ℕ) → IsTrue (may_of self.now s) → IsWithin result s }
+    {
+        self.given.depth
+    }
+
+    /// Whether there is no rule, so that each set is permitted and complete.
+    fn is_free(&self) -> bool
+        ensures { IsTrue result → IsFree (may_of self.now) (whole_of self.now) }
+    {
+        self.given.depth.is_none() && self.tables.are_bare()
+    }
+
+    /// What the rules say of all sets, so that no question has to be asked for it.
+    pub(crate) fn limits(&self) -> Limits
+        ensures { AreLimits (may_of self.now) (whole_of self.now) result }
+    {
+        Limits {
+            most: self.most(),
+            free: self.is_free(),
+        }
     }
 
     /// Whether the set of `positions` and `next` keeps the depth, and is exclusive and not
-    /// redundant.
-    fn permits(&self, positions: &[usize], next: usize) -> bool
-        ensures { result ≡ may_of self.now (positions.now ++ next ∷ []) }
+    /// redundant. It is counted as a question.
+    fn permits(&mut self, positions: &[usize], next: usize) -> bool
+        ensures answer { result ≡ may_of self.old (positions.now ++ next ∷ []) }
+        ensures counted { asked_of self.new ≡ min (asked_of self.old + 1) (2 ^ 128 - 1) }
+        ensures same_choice { choice_of self.new ≡ choice_of self.old }
+        ensures same_size { size_of self.new ≡ size_of self.old }
+        ensures same_may { may_of self.new ≡ may_of self.old }
+        ensures same_whole { whole_of self.new ≡ whole_of self.old }
     {
+        self.asked = self.asked.saturating_add(1);
         if !keeps_depth(self.given.depth, positions.len() + 1) {
             return false;
         }
@@ -139,12 +153,60 @@ impl<'a> Rules<'a> {
         self.tables.is_lean(positions, next)
     }
 
-    /// Whether the set of `least` and the greater `positions` is permitted. No question is counted.
-    pub fn may_begin(&self, least: usize, positions: &[usize]) -> bool
-        requires { IsSelection (size_of self.now) (least ∷ positions.now) }
-        ensures answer { result ≡ may_of self.now (least ∷ positions.now) }
+    /// Whether the permitted set, with the position besides, is permitted. It is counted as a
+    /// question.
+    pub(crate) fn permits_in(&mut self, set: &[bool], position: usize) -> bool
+        requires { may_of self.old (positions_of set.now) ≡ true }
+        ensures answer { result ≡ may_of self.old (positions_of set.now ++ position ∷ []) }
+        ensures counted { asked_of self.new ≡ min (asked_of self.old + 1) (2 ^ 128 - 1) }
+        ensures same_choice { choice_of self.new ≡ choice_of self.old }
+        ensures same_size { size_of self.new ≡ size_of self.old }
+        ensures same_may { may_of self.new ≡ may_of self.old }
+        ensures same_whole { whole_of self.new ≡ whole_of self.old }
+    {
+        self.asked = self.asked.saturating_add(1);
+        if !keeps_depth(self.given.depth, count_members(set) + 1) {
+            return false;
+        }
+        if !self.tables.is_exclusive_in(set, position) {
+            return false;
+        }
+        self.tables.stays_lean(set, position)
+    }
+
+    /// How many questions were asked.
+    pub(crate) fn questions(&self) -> u128
+        ensures { result ≡ asked_of self.now }
+    {
+        self.asked
+    }
+
+    /// What the names of candidates and at-least-one groups enable.
+    pub(crate) fn enabled(&self) -> &Placed<'a>
+        ensures { result.now ≡ self.now.enabled }
+    {
+        &self.enabled
+    }
+
+    /// For each at-least-one group that some key serves, which candidates serve it.
+    pub(crate) fn serves(&self) -> &[Vec<bool>]
+        ensures { result.now ≡ self.now.tables.serves.items }
+    {
+        self.tables.serves.as_slice()
+    }
+
+    /// Whether the set of `least` and the greater `positions` is permitted. It is counted as a call
+    /// of `may_extend` is.
+    pub fn may_begin(&mut self, least: usize, positions: &[usize]) -> bool
+        requires { IsSelection (size_of self.old) (least ∷ positions.now) }
+        ensures answer { result ≡ may_of self.old (least ∷ positions.now) }
         ensures permitted { IsTrue result
-            ↔ IsPermitted (choice_of self.now) (least ∷ positions.now) }
+            ↔ IsPermitted (choice_of self.old) (least ∷ positions.now) }
+        ensures counted { asked_of self.new ≡ min (asked_of self.old + 1) (2 ^ 128 - 1) }
+        ensures same_choice { choice_of self.new ≡ choice_of self.old }
+        ensures same_size { size_of self.new ≡ size_of self.old }
+        ensures same_may { may_of self.new ≡ may_of self.old }
+        ensures same_whole { whole_of self.new ≡ whole_of self.old }
     {
         self.permits(positions, least)
     }
@@ -225,7 +287,6 @@ impl Questions for Rules<'_> {
         ensures same_may { may_of self.new ≡ may_of self.old }
         ensures same_whole { whole_of self.new ≡ whole_of self.old }
     {
-        self.asked = self.asked.saturating_add(1);
         self.permits(positions, next)
     }
 
@@ -235,14 +296,6 @@ impl Questions for Rules<'_> {
         ensures required { IsTrue result ↔ IsRequired (choice_of self.now) positions.now }
     {
         self.tables.is_required(positions)
-    }
-
-    fn is_free(&self) -> bool {
-        self.given.depth.is_none() && self.tables.are_bare()
-    }
-
-    fn most(&self) -> Option<usize> {
-        self.given.depth
     }
 
     fn asked(&self) -> u128 {

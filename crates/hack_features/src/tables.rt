@@ -18,6 +18,7 @@ ghost use Rattle.hack_features.specs.declared.reach.Edges.TheVariants.{Enabling}
 
 use crate::feature::Feature;
 use crate::marks::row_at;
+use crate::members::{at_most_one_in, is_clear};
 use crate::placed::Placed;
 use crate::reach::Edges;
 use crate::routes::{Routes, bit};
@@ -283,7 +284,7 @@ fn serve_rows(alloc: Global, placed: &Placed) -> Result<Vec<Vec<bool>>, AllocErr
 }
 
 /// The entry of a row, 0 past its end.
-fn count(row: &[usize], place: usize) -> usize
+pub(crate) fn count(row: &[usize], place: usize) -> usize
     ensures { result ≡ count_at row.now place }
 {
     match row.get(place) {
@@ -349,6 +350,8 @@ fn has_some(row: &[bool], positions: &[usize]) -> bool
 impl Tables {
     ghost use Rattle.hack_features.specs.Tables.{AreTables};
     ghost use Rattle.hack_features.specs.Given.{choice_in};
+    ghost use Rattle.hack_features.specs.Samples.{positions_of};
+    ghost use Rattle.std.specs.Prelude.{true};
 
     /// The tables of what is given, from what the names of candidates and at-least-one groups
     /// enable.
@@ -403,6 +406,30 @@ impl Tables {
             }
         }
         true
+    }
+
+    /// Whether of each exclusion group at most one name of the set's members and of `last` reaches
+    /// it.
+    pub(crate) fn is_exclusive_in(&self, set: &[bool], last: usize) -> bool
+        ensures { result ≡ is_exclusive (rows_of self.now.hits.items)
+            (positions_of set.now ++ last ∷ []) }
+    {
+        for row in self.hits.as_slice() {
+            if !at_most_one_in(row.as_slice(), set, last) {
+                return false;
+            }
+        }
+        true
+    }
+
+    /// Whether `last` spares no member of the set, none of which spares another, nor itself, and no
+    /// member spares `last`.
+    pub(crate) fn stays_lean(&self, set: &[bool], last: usize) -> bool
+        requires { is_lean (rows_of self.now.spares.items) (positions_of set.now) ≡ true }
+        ensures { result ≡ is_lean (rows_of self.now.spares.items)
+            (positions_of set.now ++ last ∷ []) }
+    {
+        is_clear(self.spares.as_slice(), set, last)
     }
 
     /// Whether there is nothing to ask: no candidate spares another, and there is no group.

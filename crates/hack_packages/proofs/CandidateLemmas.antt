@@ -1,5 +1,5 @@
 -- The candidates of a package, put together.
-use Rattle.std.proofs.Common.{◌≡◌, ◌∙◌, List, ◌++◌, Bool, true, false, not, sym, ap, subst, append_assoc, if◌then◌else◌}
+use Rattle.std.proofs.Common.{◌≡◌, ◌∙◌, List, ◌++◌, true, sym, ap, subst, append_assoc, if◌then◌else◌}
 use Rattle.std.specs.Prelude.{filter, ◌&&◌}
 use Rattle.hack_packages.specs.Candidates.{Names, Wishes, Known, stays, is_asked, applies, is_bare, candidates}
 

@@ -1,5 +1,5 @@
 -- Sets of one candidate: those that a powerset lists are each candidate alone, and their runs are those of each feature.
-use Rattle.std.proofs.Common.{◌≡◌, ◌∙◌, ◌≢◌, ℕ, zero, suc, ◌+◌, ◌<◌, ◌≤◌, List, [], ◌∷◌, ◌++◌, length, get_or, map, Contains, All, Option, Some, IfSome, Bool, true, false, not, inl, inr, refl, ap, sym, subst, arith}
+use Rattle.std.proofs.Common.{◌≡◌, ◌∙◌, ◌≢◌, ℕ, zero, suc, ◌+◌, ◌<◌, ◌≤◌, List, [], ◌∷◌, ◌++◌, length, map, Contains, All, Option, Some, Bool, true, false, not, inl, inr, refl, ap, sym, subst, arith}
 use Rattle.std.specs.Prelude.{nat_lt, ◌&&◌, ◌||◌, if◌then◌else◌}
 use Rattle.std.specs.List.{range_with_len}
 use Rattle.std.proofs.lemmas.Bool.{lt-ltb}
@@ -11,8 +11,7 @@ use Rattle.hack_features.specs.FeatureMap.{EnablesOneOf}
 use Rattle.hack_base.proofs.Members.{Contains-cons_cases}
 use Rattle.hack_features.proofs.Listing.{selection_none, selection_push, selection_up}
 use Rattle.hack_features.proofs.CoverLemmas.{before_trans}
-use Rattle.hack_plan.specs.declared.runs.RunOptions.{RunOptions}
-use Rattle.hack_plan.specs.Runs.{PackageRun, Plain, AllFeatures, NoDefaultFeatures, Set, is_plain, keeps_all, run_if, with_last_first, in_turn, allows_two, is_unlimited, runs_from}
+use Rattle.hack_plan.specs.Runs.{PackageRun, Plain, AllFeatures, NoDefaultFeatures, Set, is_plain, keeps_all, run_if, with_last_first, in_turn, allows_two, is_unlimited}
 use Rattle.hack_packages.specs.Candidates.{Wishes, Known, candidates, lifted_for}
 use Rattle.hack_packages.specs.Kinds.{AreSetRuns, AreRuns, AreSets, RunsBy, IsDepthOne, as_each, asks, choice_of, options_of}
 

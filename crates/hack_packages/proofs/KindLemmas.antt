@@ -13,7 +13,7 @@ use Rattle.hack_plan.specs.Runs.{PackageRun, Plain, AllFeatures, NoDefaultFeatur
 use Rattle.hack_packages.specs.declared.kind.Kind.{Kind}
 use Rattle.hack_packages.specs.declared.kind.Kind.TheVariants.{Normal, Each, Powerset}
 use Rattle.hack_packages.specs.Candidates.{Wishes, Known, candidates}
-use Rattle.hack_packages.specs.Kinds.{AreSets, AreSetRuns, RunsBy, AreRuns, HasPlainRun, AreCovering, asks, choice_of, options_of}
+use Rattle.hack_packages.specs.Kinds.{AreSetRuns, RunsBy, AreRuns, HasPlainRun, HasSetRuns, AreCovering, asks, choice_of, options_of}
 use Rattle.hack_packages.specs.KindsView.{IsKind, runs_of}
 
 -- one reference more
@@ -80,8 +80,11 @@ plain-by w p true is h = record {
   made = ap (λ (b : Bool). if b then Plain ∷ [] else (run_if (keeps_all (options_of w p)) AllFeatures ++ run_if (not w.exclude_no_default_features) NoDefaultFeatures) ++ map Set (in_turn (options_of w p) h.sets)) (sym (h.plain is));
 }
 
+set-runs : (w : Wishes) (p : Known) (runs : List PackageRun) → HasSetRuns w p runs → AreSetRuns w p runs
+set-runs w p runs h = record { sets = h.sets; are_sets = h.are_sets; made = h.made }
+
 -- the runs of a kind are the package's
 pub runs-of_kind : (w : Wishes) (p : Known) (kind : Kind) → IsKind w p kind → AreRuns w p (runs_of kind)
 runs-of_kind w p Normal h = plain-by w p (asks w) refl h
-runs-of_kind w p (Each list runs) h = subst (λ b. RunsBy b w p (runs_of (Each list runs))) (sym (ap (λ b. b || w.powerset) h.0)) h.3
-runs-of_kind w p (Powerset list runs) h = subst (λ b. RunsBy b w p (runs_of (Powerset list runs))) (sym (ap (λ b. w.each || b) h.0 ∙ or-true w.each)) h.2
+runs-of_kind w p (Each list runs) h = subst (λ b. RunsBy b w p (runs_of (Each list runs))) (sym (ap (λ b. b || w.powerset) h.0)) (set-runs w p (runs_of (Each list runs)) h.3)
+runs-of_kind w p (Powerset list runs) h = subst (λ b. RunsBy b w p (runs_of (Powerset list runs))) (sym (ap (λ b. w.each || b) h.0 ∙ or-true w.each)) (set-runs w p (runs_of (Powerset list runs)) h.2)

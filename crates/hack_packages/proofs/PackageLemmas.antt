@@ -1,5 +1,5 @@
 -- Which packages a call runs on, put together.
-use Rattle.std.proofs.Common.{◌≡◌, ◌∙◌, ℕ, List, ◌++◌, ◌∷◌, Contains, true, false, refl, sym, ap, subst, arith, string_bytes, append_assoc, map}
+use Rattle.std.proofs.Common.{◌≡◌, ◌∙◌, List, ◌++◌, ◌∷◌, Contains, true, false, refl, sym, ap, subst, arith, string_bytes, append_assoc, map}
 use Rattle.std.proofs.lemmas.List.{map-append}
 use Rattle.std.proofs.lemmas.List.Elements.{Contains-append_right}
 use Rattle.hack_base.specs.Names.{Name}
@@ -7,7 +7,7 @@ use Rattle.hack_base.specs.declared.notice.Notice.{Notice}
 use Rattle.hack_base.specs.Notes.{Note, note_of}
 use Rattle.hack_packages.specs.declared.fault.PackagesFault.{PackagesFault}
 use Rattle.hack_packages.specs.declared.fault.PackagesFault.TheVariants.{Memory, Unmatched}
-use Rattle.hack_packages.specs.Members.{Member, Choosing, AllMatch, IsAbout, names_some}
+use Rattle.hack_packages.specs.Members.{Member, Choosing, AllMatch, names_some}
 use Rattle.hack_packages.specs.ListingView.{IsNamedFault}
 use Rattle.hack_packages.specs.PackagesView.{IsListFault}
 

@@ -1,5 +1,5 @@
 -- Arguments and features of the code as plain data.
-use Rattle.std.specs.Prelude.{List, map, option_map, string_bytes}
+use Rattle.std.specs.Prelude.{map, option_map, string_bytes}
 use Rattle.std.specs.declared.string.String.{String}
 use Rattle.std.specs.declared.alloc.Global.{Global}
 use Rattle.hack_base.specs.Names.{names_of}

@@ -8,7 +8,7 @@ use Rattle.hack_load.specs.declared.features.Features.{Features}
 use Rattle.hack_metadata.specs.Records.{PackageRecord}
 use Rattle.hack_base.specs.Notes.{Note}
 use Rattle.hack_packages.specs.declared.fault.PackagesFault.{PackagesFault}
-use Rattle.hack_packages.specs.Members.{Member, Choosing, IsPackageList}
+use Rattle.hack_packages.specs.Members.{Member, IsPackageList}
 use Rattle.hack_packages.specs.MembersView.{choosing_of}
 use Rattle.hack_packages.specs.PackagesView.{IsListFault}
 use Rattle.hack_packages.specs.Candidates.{Known}

@@ -1,5 +1,5 @@
 -- Which runs a package has.
-use Rattle.std.specs.Prelude.{◌≡◌, ◌==◌, ◌⊎◌, ℕ, List, [], ◌∷◌, Bool, true, false, not, ◌||◌, Option, None, Some, length, Contains}
+use Rattle.std.specs.Prelude.{◌≡◌, ℕ, List, [], ◌∷◌, Bool, true, false, not, ◌||◌, Option, None, Some, length, Contains}
 use Rattle.std.specs.List.{flat_map, slice_index_or}
 use Rattle.hack_base.specs.Names.{Name}
 use Rattle.hack_features.specs.Sets.{IsListing, IsSelection, singles}
@@ -40,6 +40,13 @@ pub record AreSetRuns (w : Wishes) (p : Known) (runs : List PackageRun) : Type 0
   pub sets : List (List ℕ)
   pub are_sets : AreSets w.powerset w p sets
   pub made : runs ≡ runs_from (options_of w p) sets
+
+-- the runs are those of the package's sets, and no plain run stands for no set
+pub record HasSetRuns (w : Wishes) (p : Known) (runs : List PackageRun) : Type 0 where
+  pub sets : List (List ℕ)
+  pub are_sets : AreSets w.powerset w p sets
+  pub made : runs ≡ runs_from (options_of w p) sets
+  pub some : is_plain (options_of w p) sets ≡ false
 
 -- the call asks for combinations of features
 abbrev pub asks : Wishes → Bool

@@ -1,12 +1,12 @@
 -- Kinds of the code, as definitions see them.
 use Rattle.std.specs.Prelude.{◌≡◌, List, [], ◌∷◌, true, false}
 use Rattle.hack_features.specs.Feature.{groups_of}
-use Rattle.hack_plan.specs.Runs.{PackageRun, Plain, is_plain}
+use Rattle.hack_plan.specs.Runs.{PackageRun, Plain}
 use Rattle.hack_plan.specs.RunsView.{runs_in}
 use Rattle.hack_packages.specs.declared.kind.Kind.{Kind}
 use Rattle.hack_packages.specs.declared.kind.Kind.TheVariants.{Normal, Each, Powerset}
 use Rattle.hack_packages.specs.Candidates.{Names, Wishes, Known, candidates}
-use Rattle.hack_packages.specs.Kinds.{HasPlainRun, AreSetRuns}
+use Rattle.hack_packages.specs.Kinds.{HasPlainRun, HasSetRuns}
 
 -- the runs of a kind, by rank
 abbrev pub runs_of : Kind → List PackageRun
@@ -23,5 +23,5 @@ candidates_in (Powerset list runs) = groups_of list.items
 -- the kind of a package: its plain run alone, each candidate, or sets of them
 abbrev pub IsKind : Wishes → Known → Kind → Type 0
 IsKind w p Normal = HasPlainRun w p
-IsKind w p (Each list runs) = (w.each ≡ true) × (w.powerset ≡ false) × (groups_of list.items ≡ candidates w p) × AreSetRuns w p (runs_in runs)
-IsKind w p (Powerset list runs) = (w.powerset ≡ true) × (groups_of list.items ≡ candidates w p) × AreSetRuns w p (runs_in runs)
+IsKind w p (Each list runs) = (w.each ≡ true) × (w.powerset ≡ false) × (groups_of list.items ≡ candidates w p) × HasSetRuns w p (runs_in runs)
+IsKind w p (Powerset list runs) = (w.powerset ≡ true) × (groups_of list.items ≡ candidates w p) × HasSetRuns w p (runs_in runs)

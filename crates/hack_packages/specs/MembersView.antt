@@ -1,5 +1,5 @@
 -- Members and arguments of the code as plain data.
-use Rattle.std.specs.Prelude.{List, Option, map, string_bytes}
+use Rattle.std.specs.Prelude.{Option, map, string_bytes}
 use Rattle.hack_base.specs.Names.{Name, names_of}
 use Rattle.hack_metadata.specs.View.{package_view}
 use Rattle.hack_words.specs.declared.cli.args.Args.{Args}

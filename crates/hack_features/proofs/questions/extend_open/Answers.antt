@@ -5,7 +5,7 @@ use Rattle.hack_features.specs.Forest.{sets_of}
 use Rattle.hack_features.specs.Questions.{with_next, AreComplete, AreOpen}
 use Rattle.hack_features.proofs.OpenLemmas.{at, open-asked, open-gone_in, next-place}
 use Rattle.hack_features.proofs.questions.extend_open.Goals as goal
-use Rattle.hack_features.proofs.questions.extend_open.Goals.{then-has_room+then-len-new+in_ok-narrow+in_ok-push, else-has_room, else-has_room-via-then-has_room+else-len-new, else-has_room-via-else-has_room}
+use Rattle.hack_features.proofs.questions.extend_open.Goals.{then-has_room+then-len-new+in_ok-push, else-has_room, else-has_room-via-then-has_room+else-len-new, else-has_room-via-else-has_room}
 
 -- what stands in front keeps its places
 in_front : {X : Type 0} (front more all : List X) (k : ℕ) (d : X) → k < length front → all ≡ front ++ more → get_or all k d ≡ get_or front k d
@@ -16,10 +16,10 @@ extend_one-requires-clause-below g c =
     let old : List (List ℕ) = sets_of c.args.sets.now in
     let places : List ℕ = c.args.places.now.items in
     let k : ℕ = c.loop-rank.rank in
-    let place : ℕ = c.index.result.now in
+    let place : ℕ = c.index-place.result.now in
     let more = c.loop-rank.invariant.kept in
     let lt : k < length places = omega (arith, c.loop-rank-test.true, c.len-rank-end.ensures) in
-    let here : place ≡ get_or places k place = c.index.ensures ∙ in_front places more.0 c.loop-rank.places.items k place lt more.1 in
+    let here : place ≡ get_or places k place = c.index-place.ensures ∙ in_front places more.0 c.loop-rank.places.items k place lt more.1 in
     let inside : place < length old = subst (λ p. p < length old) (sym here) (c.requires.places.inside k place lt) in
     let set : c.read.new.set.items ≡ at old place = c.in_ok-read.ensures ∙ in_front old _ (sets_of c.loop-rank.sets) place [] inside c.loop-rank.invariant.sets in
     subst (IsSelection c.args.next) (sym set) (c.requires.below place [] inside)
@@ -34,11 +34,11 @@ loop-rank-preserved g c =
     let all : List ℕ = c.loop-rank.places.items in
     let next : ℕ = c.args.next in
     let k : ℕ = c.loop-rank.rank in
-    let place : ℕ = c.index.result.now in
+    let place : ℕ = c.index-place.result.now in
     let s : List ℕ = c.read.new.set.items in
     let more = c.loop-rank.invariant.kept in
     let lt : k < length places = omega (arith, c.loop-rank-test.true, c.len-rank-end.ensures) in
-    let here : place ≡ get_or places k place = c.index.ensures ∙ in_front places more.0 all k place lt more.1 in
+    let here : place ≡ get_or places k place = c.index-place.ensures ∙ in_front places more.0 all k place lt more.1 in
     let inside : place < length old = subst (λ p. p < length old) (sym here) (c.requires.places.inside k place lt) in
     let set : s ≡ at old place = c.in_ok-read.ensures ∙ in_front old _ sets place [] inside c.loop-rank.invariant.sets in
     let pushed : new ≡ sets ++ with_next may next (s ∷ []) =
@@ -46,17 +46,17 @@ loop-rank-preserved g c =
     record {
       sets = next-place may old sets new next places k place s lt here set c.loop-rank.invariant.sets pushed;
       kept = elim c.if-has_room.branch [
-        | then-has_room+then-len-new+in_ok-narrow+in_ok-push w ↦ (
+        | then-has_room+then-len-new+in_ok-push w ↦ (
           more.0 ++ c.len-new.result ∷ [],
-          ap (λ v. v.items) w.places-is ∙ w.in_ok-push.ensures.items ∙ ap (λ n. all ++ n ∷ []) w.in_ok-narrow.ensures
+          ap (λ v. v.items) w.places-is ∙ w.in_ok-push.ensures.items
               ∙ ap (λ l. l ++ c.len-new.result ∷ []) more.1 ∙ append_assoc places more.0 (c.len-new.result ∷ []),
         )
         | else-has_room w ↦ (more.0, ap (λ v. v.items) w.places-is ∙ more.1)
       ];
       open_ones = elim c.if-has_room.branch [
-        | then-has_room+then-len-new+in_ok-narrow+in_ok-push w ↦
+        | then-has_room+then-len-new+in_ok-push w ↦
             subst (AreOpen may new)
-            (sym (ap (λ v. v.items) w.places-is ∙ w.in_ok-push.ensures.items ∙ ap (λ n. all ++ n ∷ []) (w.in_ok-narrow.ensures ∙ c.len-new.ensures.same)))
+            (sym (ap (λ v. v.items) w.places-is ∙ w.in_ok-push.ensures.items ∙ ap (λ n. all ++ n ∷ []) c.len-new.ensures.same))
             (open-gone_in may sets new all s next pushed (omega (arith, w.if-len-new.true, w.len-then-has_room.ensures.same, c.len-new.ensures.same)) c.loop-rank.invariant.open_ones)
         | else-has_room w ↦
             subst (AreOpen may new) (sym (ap (λ v. v.items) w.places-is))

@@ -1,5 +1,6 @@
 use Rattle.std.proofs.Common.{◌≡◌, ap, ◌∙◌, sym, subst, arith, All, IsTrue}
 use Rattle.hack_features.specs.Sets.{IsSelection, IsListing}
+use Rattle.hack_features.specs.Questions.{AreLimits}
 use Rattle.hack_features.proofs.Permitted.{permitted_below, permitted_listing, all_selections}
 use Rattle.hack_features.proofs.questions.permitted_sets.Goals as goal
 
@@ -8,9 +9,10 @@ extend-requires-clause-below g c =
     subst (λ ls. All (IsSelection c.loop-next.next) ls) (sym c.loop-next.invariant.sets)
     (all_selections (g.Q.Questions.may c.args.questions.now) (g.met.Q.Questions.empty c.args.questions.now) (g.met.Q.Questions.closed c.args.questions.now) c.loop-next.next)
 
-pub extend-requires-clause-most : goal.extend-requires-clause-most
-extend-requires-clause-most g c = λ s may.
-    c.most-most.ensures s (subst (λ m. IsTrue (m s)) c.loop-next.invariant.same_may may)
+pub extend-requires-clause-limits : goal.extend-requires-clause-limits
+extend-requires-clause-limits g c =
+    subst (λ m. AreLimits m (g.Q.Questions.whole c.loop-next.questions) c.args.limits) (sym c.loop-next.invariant.same_may)
+    (subst (λ w. AreLimits (g.Q.Questions.may c.args.questions.now) w c.args.limits) (sym c.loop-next.invariant.same_whole) c.requires.limits)
 
 pub returns-clause-sets : goal.returns-clause-sets
 returns-clause-sets g c =

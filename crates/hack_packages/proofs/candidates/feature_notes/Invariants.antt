@@ -5,7 +5,7 @@ use Rattle.hack_base.specs.Names.{names_of}
 use Rattle.hack_packages.specs.Texts.{feature_text}
 use Rattle.hack_packages.specs.Members.{warning_note}
 use Rattle.hack_packages.specs.Candidates.{is_found}
-use Rattle.hack_packages.specs.CandidatesView.{wishes, known_of_package}
+use Rattle.hack_packages.specs.CandidatesView.{known_of_package}
 use Rattle.hack_packages.proofs.candidates.feature_notes.Given as goal
 
 -- those on the names so far

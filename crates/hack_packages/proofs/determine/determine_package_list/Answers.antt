@@ -1,11 +1,9 @@
-use Rattle.std.proofs.Common.{◌≡◌, ◌∙◌, ◌⊎◌, IfOk, IfErr, List, ℕ, map, ap, subst, Option}
+use Rattle.std.proofs.Common.{◌≡◌, ◌∙◌, ◌⊎◌, IfOk, IfErr, List, map, ap, subst, Option}
 use Rattle.std.specs.Prelude.{option_copied}
 use Rattle.hack_base.specs.Names.{Name}
 use Rattle.hack_load.specs.ContextView.{context_view}
 use Rattle.hack_metadata.specs.declared.resolve.PackageId.{PackageId}
 use Rattle.hack_base.specs.Notes.{note_of}
-use Rattle.hack_base.specs.declared.notice.Notice.{Notice}
-use Rattle.std.proofs.Common.{Vec}
 use Rattle.hack_words.specs.declared.cli.args.Args.{Args}
 use Rattle.hack_packages.specs.declared.fault.PackagesFault.{PackagesFault}
 use Rattle.hack_packages.specs.declared.fault.PackagesFault.TheVariants.{Memory}

@@ -1,4 +1,4 @@
-use Rattle.std.proofs.Common.{◌≡◌, ◌≤◌, ◌∙◌, [], ◌∷◌, get_or, List, ℕ, length, map, ap, sym, subst, Contains, arith}
+use Rattle.std.proofs.Common.{◌≤◌, ◌∙◌, [], ◌∷◌, get_or, List, ℕ, length, map, ap, subst, Contains, arith}
 use Rattle.std.specs.List.{filter_map}
 use Rattle.std.proofs.lemmas.List.{get_or_default, map-append}
 use Rattle.hack_load.specs.ContextView.{context_view}

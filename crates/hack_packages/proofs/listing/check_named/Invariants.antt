@@ -1,6 +1,6 @@
-use Rattle.std.proofs.Common.{take, map, Contains}
-use Rattle.hack_base.specs.Names.{Name, names_of}
-use Rattle.hack_packages.specs.Members.{MatchesSome, AllMatch}
+use Rattle.std.proofs.Common.{take, map}
+use Rattle.hack_base.specs.Names.{names_of}
+use Rattle.hack_packages.specs.Members.{AllMatch}
 use Rattle.hack_packages.specs.MembersView.{member_view}
 use Rattle.hack_packages.proofs.listing.check_named.Given as goal
 

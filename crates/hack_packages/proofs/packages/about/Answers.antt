@@ -1,6 +1,6 @@
 use Rattle.std.proofs.Common.{◌≡◌, ◌∙◌, true, false, List, map, inl, inr, sym, ap, subst}
 use Rattle.std.specs.Prelude.{option_copied}
-use Rattle.hack_base.specs.Names.{Name, names_of}
+use Rattle.hack_base.specs.Names.{names_of}
 use Rattle.hack_packages.specs.Members.{Choosing, IsAbout, Keeps, IsMatched, AllMatch, names_some}
 use Rattle.hack_packages.specs.Members as plain
 use Rattle.hack_packages.specs.MembersView.{member_view, choosing_of}

@@ -1,10 +1,10 @@
-use Rattle.std.proofs.Common.{◌≡◌, ◌∙◌, ◌++◌, ℕ, List, map, not, ap, subst, string_bytes}
-use Rattle.std.specs.Prelude.{filter, ◌&&◌, ◌==◌, length, option_copied}
+use Rattle.std.proofs.Common.{◌∙◌, List, map, not, ap, subst, string_bytes}
+use Rattle.std.specs.Prelude.{filter, ◌==◌, length, option_copied}
 use Rattle.std.specs.declared.string.String.{String}
 use Rattle.std.specs.declared.alloc.Global.{Global}
 use Rattle.hack_base.specs.Names.{Name, names_of}
 use Rattle.hack_features.specs.declared.feature.Feature.{Feature}
-use Rattle.hack_base.specs.Notes.{Note, note_of}
+use Rattle.hack_base.specs.Notes.{note_of}
 use Rattle.hack_packages.specs.Texts.{exclusion_text, lift_text, private_text}
 use Rattle.hack_packages.specs.Members.{Choosing, Keeps, Collects, IsMatched, MatchesSome, is_called, is_skipped, warning_note, info_note}
 use Rattle.hack_packages.specs.Members as plain

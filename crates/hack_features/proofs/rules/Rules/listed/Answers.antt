@@ -1,4 +1,4 @@
-use Rattle.std.proofs.Common.{IsTrue}
+use Rattle.std.proofs.Common.{IsTrue, IfOk, subst}
 use Rattle.std.proofs.lemmas.Result.{IfOk-weaker}
 use Rattle.hack_features.specs.declared.forest.Pruned.{Pruned}
 use Rattle.hack_features.specs.Sets.{IsListing}
@@ -12,17 +12,17 @@ use Rattle.hack_features.proofs.rules.Rules.listed.Goals as goal
 pub returns-clause-sets : goal.returns-clause-sets
 returns-clause-sets c =
     let r = c.args.self.now in
-    IfOk-weaker c.pruned.result (λ (p : Pruned). IsListing (size_of r) (IsWhole (may_of r) (whole_of r)) (sets_in p.sets)) (λ (p : Pruned). IsListing (size_of r) (IsListed (choice_of r)) (sets_in p.sets))
-    (λ (p : Pruned). listing_of r (tables_of r) (sets_in p.sets)) c.pruned.ensures.sets
+    IfOk-weaker c.pruned_within.result (λ (p : Pruned). IsListing (size_of r) (IsWhole (may_of r) (whole_of r)) (sets_in p.sets)) (λ (p : Pruned). IsListing (size_of r) (IsListed (choice_of r)) (sets_in p.sets))
+    (λ (p : Pruned). listing_of r (tables_of r) (sets_in p.sets)) (subst (λ n. IfOk c.pruned_within.result (λ (p : Pruned). IsListing n (IsWhole (may_of r) (whole_of r)) (sets_in p.sets))) c.size-n.ensures c.pruned_within.ensures.sets)
 
 pub returns-clause-few : goal.returns-clause-few
 returns-clause-few c =
     let r = c.args.self.now in
-    IfOk-weaker c.pruned.result (λ (p : Pruned). IsCheap (λ s. IsTrue (may_of r s)) (size_of r) p.asked) (λ (p : Pruned). IsCheap (IsPermitted (choice_of r)) (size_of r) p.asked)
-    (λ (p : Pruned). cheap_of r (tables_of r) p.asked) c.pruned.ensures.few
+    IfOk-weaker c.pruned_within.result (λ (p : Pruned). IsCheap (λ s. IsTrue (may_of r s)) (size_of r) p.asked) (λ (p : Pruned). IsCheap (IsPermitted (choice_of r)) (size_of r) p.asked)
+    (λ (p : Pruned). cheap_of r (tables_of r) p.asked) (subst (λ n. IfOk c.pruned_within.result (λ (p : Pruned). IsCheap (λ s. IsTrue (may_of r s)) n p.asked)) c.size-n.ensures c.pruned_within.ensures.few)
 
 pub returns-clause-covered : goal.returns-clause-covered
 returns-clause-covered c =
     let r = c.args.self.now in
-    IfOk-weaker c.pruned.result (λ (p : Pruned). IsListing (size_of r) (IsWhole (may_of r) (whole_of r)) (sets_in p.sets)) (λ (p : Pruned). AreCovers (choice_of r) (size_of r) (sets_in p.sets))
-    (λ (p : Pruned) (l : IsListing (size_of r) (IsWhole (may_of r) (whole_of r)) (sets_in p.sets)). covers_of r (tables_of r) (sets_in p.sets) (listing_of r (tables_of r) (sets_in p.sets) l)) c.pruned.ensures.sets
+    IfOk-weaker c.pruned_within.result (λ (p : Pruned). IsListing (size_of r) (IsWhole (may_of r) (whole_of r)) (sets_in p.sets)) (λ (p : Pruned). AreCovers (choice_of r) (size_of r) (sets_in p.sets))
+    (λ (p : Pruned) (l : IsListing (size_of r) (IsWhole (may_of r) (whole_of r)) (sets_in p.sets)). covers_of r (tables_of r) (sets_in p.sets) (listing_of r (tables_of r) (sets_in p.sets) l)) (subst (λ n. IfOk c.pruned_within.result (λ (p : Pruned). IsListing n (IsWhole (may_of r) (whole_of r)) (sets_in p.sets))) c.size-n.ensures c.pruned_within.ensures.sets)

@@ -9,5 +9,5 @@ pub returns-clause-permitted : goal.returns-clause-permitted
 returns-clause-permitted c =
     let r = c.args.self.now in
     let s : List ℕ = c.args.positions.now ++ c.args.next ∷ [] in
-    subst (λ b. IsTrue b ↔ IsPermitted (choice_of r) s) (sym c.permits.ensures)
+    subst (λ b. IsTrue b ↔ IsPermitted (choice_of r) s) (sym c.permits.ensures.answer)
     (permitted_iff r (tables_of r) s (selection_up _ (size_of r) s (omega arith) (selection_push c.args.next c.args.positions.now c.requires.below)))

@@ -1,7 +1,7 @@
 use Rattle.std.proofs.lemmas.Bool.{and_parts}
 use Rattle.hack_features.specs.Tables.{keeps_depth}
 use Rattle.hack_features.proofs.RuleLemmas.{depth_iff}
-use Rattle.hack_features.proofs.rules.RulesQuestions.most.Goals as goal
+use Rattle.hack_features.proofs.rules.Rules.most.Goals as goal
 
 pub returns : goal.returns
 returns c = λ s permitted.

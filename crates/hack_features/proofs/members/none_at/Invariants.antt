@@ -1,0 +1,10 @@
+use Rattle.std.proofs.Common.{◌≡◌, take, true}
+use Rattle.std.specs.Prelude.{not}
+use Rattle.std.specs.List.{list_all}
+use Rattle.hack_features.specs.Sets.{rows_of}
+use Rattle.hack_features.specs.Tables.{cell}
+use Rattle.hack_features.specs.Samples.{positions_of}
+use Rattle.hack_features.proofs.members.none_at.Given as goal
+
+abbrev pub invariant-loop-place : goal.invariant-loop-place
+invariant-loop-place l = list_all (λ p. not (cell (rows_of l.rows) p l.last)) (positions_of (take l.place l.set)) ≡ true

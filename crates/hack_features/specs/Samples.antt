@@ -1,0 +1,62 @@
+-- What a sample of a package's sets shows. A pattern is a list of candidates, each on or off.
+use Rattle.std.specs.Prelude.{◌≡◌, ◌≤◌, ◌+◌, ℕ, List, [], ◌∷◌, Bool, cond, map, IsTrue, All, Contains, length, ◌↔◌}
+use Rattle.std.specs.List.{list_any}
+use Rattle.hack_samples.specs.declared.sets.Setting.{Setting}
+use Rattle.hack_features.specs.declared.rules.Rules.{Rules}
+use Rattle.hack_features.specs.Sets.{IsSelection, IsBefore, Pairwise}
+use Rattle.hack_features.specs.Rules.{Choice, names_at, IsEnabledBy, IsListed}
+use Rattle.hack_features.specs.Tables.{leads}
+use Rattle.hack_features.specs.View.{choice_of, size_of, may_of, whole_of}
+
+-- the candidate is on in the set: the set enables each of its names
+abbrev pub IsOn : Choice → List ℕ → ℕ → Type 0
+IsOn c s p = All (IsEnabledBy c s) (names_at c p)
+
+-- the set shows the pattern: each of its candidates is on exactly where the pattern says so
+abbrev pub Shows : Choice → List Setting → List ℕ → Type 0
+Shows c pattern s = All (λ setting. IsOn c s setting.candidate ↔ IsTrue setting.on) pattern
+
+-- one of the sets shows the pattern
+pub record SomeShows (c : Choice) (pattern : List Setting) (sets : List (List ℕ)) : Type 0 where
+  pub by : List ℕ
+  pub chosen : Contains sets by
+  pub shows : Shows c pattern by
+
+-- each pattern of at most t candidates that some listed set shows is shown by one of the sets
+abbrev pub CoversPatterns : Choice → ℕ → ℕ → List (List ℕ) → Type 0
+CoversPatterns c n t sets =
+    (pattern : List Setting) → length pattern ≤ t → (s : List ℕ) → IsSelection n s → IsListed c s → Shows c pattern s → SomeShows c pattern sets
+
+-- the sets are listed, and each is before all later ones
+pub record IsSample (c : Choice) (n : ℕ) (sets : List (List ℕ)) : Type 0 where
+  pub selections : All (IsSelection n) sets
+  pub listed : All (IsListed c) sets
+  pub ordered : Pairwise IsBefore sets
+
+-- the places of what is true, counted from k
+abbrev pub positions_from : ℕ → List Bool → List ℕ
+positions_from k [] = []
+positions_from k (b ∷ s) = cond b (k ∷ positions_from (k + 1) s) (positions_from (k + 1) s)
+
+-- the places of what is true
+abbrev pub positions_of : List Bool → List ℕ
+positions_of s = positions_from 0 s
+
+-- one of the names leads to y
+abbrev pub one_leads : List (List Bool) → ℕ → List ℕ → Bool
+one_leads marks y names = list_any (λ x. leads marks x y) names
+
+-- the candidates a name of which leads to y
+abbrev pub providers_of : List (List Bool) → List (List ℕ) → ℕ → List ℕ
+providers_of marks candidates y = positions_of (map (one_leads marks y) candidates)
+
+-- for each name of each candidate those that provide it
+abbrev pub all_providers : List (List Bool) → List (List ℕ) → List (List (List ℕ))
+all_providers marks candidates = map (map (providers_of marks candidates)) candidates
+
+-- questions alone lie between the rules
+pub record IsSame (earlier later : Rules) : Type 0 where
+  pub choice : choice_of later ≡ choice_of earlier
+  pub size : size_of later ≡ size_of earlier
+  pub may : may_of later ≡ may_of earlier
+  pub whole : whole_of later ≡ whole_of earlier

@@ -1,0 +1,41 @@
+//! The sets that the rules of a package list. It stands apart from the rules, so that it can learn
+//! of a set by questions alone, each of which is counted.
+
+ghost use Rattle.std.specs.Prelude.{◌≡◌, ◌≤◌, ◌+◌, IfOk};
+
+use crate::forest::Pruned;
+use crate::questions::pruned_within;
+use crate::rules::Rules;
+use std::alloc::{AllocError, Global};
+
+impl Rules<'_> {
+    ghost use Rattle.hack_features.specs.Forest.{sets_in};
+    ghost use Rattle.hack_features.specs.Sets.{IsListing};
+    ghost use Rattle.hack_features.specs.Questions.{IsCheap};
+    ghost use Rattle.hack_features.specs.Rules.{IsListed, IsPermitted, AreCovers};
+    ghost use Rattle.hack_features.specs.View.{choice_of, size_of, asked_of};
+
+    /// The sets that are listed, in the order of sets, and by how much the count of questions rose.
+    pub fn listed(&mut self, alloc: Global) -> Result<Pruned, AllocError>
+        ensures sets { IfOk result (λ pruned.
+            IsListing (size_of self.old) (IsListed (choice_of self.old)) (sets_in pruned.sets)) }
+
+        // For each set that has to be covered there is a listed one inside it that enables the same
+        // names.
+        ensures covered { IfOk result (λ pruned.
+            AreCovers (choice_of self.old) (size_of self.old) (sets_in pruned.sets)) }
+        ensures asked { IfOk result (λ pruned. asked_of self.new
+            ≡ asked_of self.old + pruned.asked) }
+
+        // At most one question for each permitted set and each candidate.
+        ensures few { IfOk result (λ pruned.
+            IsCheap (IsPermitted (choice_of self.old)) (size_of self.old) pruned.asked) }
+        ensures risen { asked_of self.old ≤ asked_of self.new }
+        ensures same_choice { choice_of self.new ≡ choice_of self.old }
+        ensures same_size { size_of self.new ≡ size_of self.old }
+    {
+        let n = self.size();
+        let limits = self.limits();
+        pruned_within(alloc, self, n, limits)
+    }
+}

@@ -1,0 +1,124 @@
+//! Sets that say of each position whether it is a member, and what tables answer on them: each
+//! question goes over the set once a table.
+
+ghost use Rattle.std.specs.Prelude.{◌≡◌, ◌≤◌, ◌++◌, ◌∷◌, ◌&&◌, [], length, cond, not, nat_le};
+ghost use Rattle.std.specs.Prelude.{sum_by, IfOk};
+ghost use Rattle.std.specs.List.{list_all, slice_index_or};
+ghost use Rattle.hack_features.specs.Sets.{rows_of};
+ghost use Rattle.hack_features.specs.Tables.{bit, count_at, cell};
+ghost use Rattle.hack_features.specs.Samples.{positions_of};
+
+use crate::routes::bit;
+use crate::tables::count;
+use std::alloc::{AllocError, Global};
+
+/// How many members the set has.
+pub(crate) fn count_members(set: &[bool]) -> usize
+    ensures same { result ≡ length (positions_of set.now) }
+    ensures few { result ≤ length set.now }
+{
+    let mut members = 0;
+    for place in 0..set.len() {
+        if bit(set, place) {
+            members += 1;
+        }
+    }
+    members
+}
+
+/// The members of the set, in increasing order.
+pub(crate) fn members_of(alloc: Global, set: &[bool]) -> Result<Vec<usize>, AllocError>
+    ensures { IfOk result (λ members. members.items ≡ positions_of set.now) }
+{
+    let mut members = Vec::new(alloc);
+    for place in 0..set.len() {
+        if bit(set, place) {
+            members.push(place)?;
+        }
+    }
+    Ok(members)
+}
+
+/// The row at the place, none past the last.
+fn bits_at(rows: &[Vec<bool>], place: usize) -> &[bool]
+    ensures { result.now ≡ slice_index_or (rows_of rows.now) place [] }
+{
+    match rows.get(place) {
+        Some(row) => row.as_slice(),
+        None => &[],
+    }
+}
+
+/// Whether the place is a member of the set and has an entry in the row.
+fn is_both(set: &[bool], row: &[bool], place: usize) -> bool
+    ensures { result ≡ (bit set.now place && bit row.now place) }
+{
+    bit(set, place) && bit(row, place)
+}
+
+/// Whether no entry of the row stands at a member of the set.
+fn none_in(row: &[bool], set: &[bool]) -> bool
+    ensures { result ≡ list_all (λ q. not (bit row.now q)) (positions_of set.now) }
+{
+    for place in 0..set.len() {
+        if is_both(set, row, place) {
+            return false;
+        }
+    }
+    true
+}
+
+/// Whether the place is a member of the set, and its row has an entry at `last`.
+fn is_with(rows: &[Vec<bool>], set: &[bool], place: usize, last: usize) -> bool
+    ensures { result ≡ (bit set.now place && cell (rows_of rows.now) place last) }
+{
+    bit(set, place) && bit(bits_at(rows, place), last)
+}
+
+/// Whether no row of a member of the set has an entry at `last`.
+fn none_at(rows: &[Vec<bool>], set: &[bool], last: usize) -> bool
+    ensures { result ≡ list_all (λ p. not (cell (rows_of rows.now) p last)) (positions_of set.now) }
+{
+    for place in 0..set.len() {
+        if is_with(rows, set, place, last) {
+            return false;
+        }
+    }
+    true
+}
+
+/// Whether the row of `last` has no entry at itself nor at a member of the set, and no member's row
+/// has one at `last`.
+pub(crate) fn is_clear(rows: &[Vec<bool>], set: &[bool], last: usize) -> bool
+    ensures { result ≡ ((not (cell (rows_of rows.now) last last)
+        && list_all (λ q. not (cell (rows_of rows.now) last q)) (positions_of set.now))
+        && list_all (λ p. not (cell (rows_of rows.now) p last)) (positions_of set.now)) }
+{
+    let row = bits_at(rows, last);
+    !bit(row, last) && none_in(row, set) && none_at(rows, set, last)
+}
+
+/// The entry of the row at a member of the set, 0 at any other place.
+fn entry_at(row: &[usize], set: &[bool], place: usize) -> usize
+    ensures { result ≡ cond (bit set.now place) (count_at row.now place) 0 }
+{
+    if bit(set, place) {
+        return count(row, place);
+    }
+    0
+}
+
+/// Whether the entries at the members of the set and at `last` are at most 1 in sum.
+pub(crate) fn at_most_one_in(row: &[usize], set: &[bool], last: usize) -> bool
+    ensures { result ≡ nat_le (sum_by (count_at row.now) (positions_of set.now ++ last ∷ [])) 1 }
+{
+    let mut seen = 0;
+    for place in 0..set.len() {
+        let more = entry_at(row, set, place);
+        if more > 1 - seen {
+            return false;
+        }
+        seen += more;
+    }
+    count(row, last) <= 1 - seen
+}
