@@ -1,6 +1,6 @@
 -- The listed sets of a walk, one position more at a time.
 use Rattle.std.proofs.Common.{◌≡◌, ℕ, zero, suc, ◌+◌, ◌<◌, ◌≤◌, List, [], ◌∷◌, ◌++◌, refl, sym, ◌∙◌, ap, subst, arith, Bool, true, false, cond, filter, append-nil, append_assoc, Option, Some, None, inl, inr}
-use Rattle.std.specs.Prelude.{Vec, if◌then◌else◌, is_some, MatchOption}
+use Rattle.std.specs.Prelude.{Vec, if◌then◌else◌, is_some, MatchOption, ◌&&◌, not, bytes_eq}
 use Rattle.std.proofs.lemmas.List.Elements.{filter-append}
 use Rattle.std.proofs.lemmas.Grind.{flat_map-append}
 use Rattle.hack_base.specs.Names.{Name}
@@ -8,7 +8,21 @@ use Rattle.hack_features.proofs.Listing.{below_or_same}
 use Rattle.hack_plan.specs.Runs.{Set}
 use Rattle.hack_powerset_list.specs.Lines.{run_line}
 use Rattle.hack_features.specs.Walk.{below}
-use Rattle.hack_powerset_list.specs.Walks.{EndsIn, set_lines}
+use Rattle.hack_features.specs.declared.rules.Rules.{Rules}
+use Rattle.hack_features.specs.Questions.{is_whole}
+use Rattle.hack_features.specs.View.{may_of, size_of, whole_of}
+use Rattle.hack_powerset_list.specs.Walks.{EndsIn, is_other, listed_below, listed_in, set_lines}
+
+-- rules of which more was asked say the same of sets
+
+pub other-same : (r s : Rules) (last : List ℕ) → whole_of s ≡ whole_of r → is_other s last ≡ is_other r last
+other-same r s last whole = ap (λ f (x : List ℕ). is_whole f x && not (bytes_eq x last)) whole
+
+pub listed-same : (r s : Rules) (p : ℕ) (x : List ℕ) → may_of s ≡ may_of r → whole_of s ≡ whole_of r → listed_below s p x ≡ listed_below r p x
+listed-same r s p x may whole = ap (λ f. filter (is_whole f) (below (may_of s) p x)) whole ∙ ap (λ f. filter (is_whole (whole_of r)) (below f p x)) may
+
+pub listed-in-same : (r s : Rules) → size_of s ≡ size_of r → may_of s ≡ may_of r → whole_of s ≡ whole_of r → listed_in s ≡ listed_in r
+listed-in-same r s size may whole = ap (λ n. listed_below s n []) size ∙ listed-same r s (size_of r) [] may whole
 
 module _ (test : List ℕ → Bool) (may : List ℕ → Bool) (q : ℕ) (s : List ℕ) where
   -- a position that is refused adds nothing

@@ -37,10 +37,11 @@ pub record IsDone (arguments : Arguments) (left old new err_old err_new : Option
   pub list : WritesForCall arguments left old new
   pub untold : err_new ≡ err_old
 
--- there is a fault, whose line was told, or a front of it where a write failed
-pub record IsRefused (arguments : Arguments) (left old new err_old err_new : Option (List ℕ)) (ending : Ending) : Type 0 where
+-- there is a fault of which this holds, and whose line was told, or a front of it where a write failed
+pub record IsRefused (arguments : Arguments) (left old new : Option (List ℕ)) (IsTold : ListFault → Type 0) (err_old err_new : Option (List ℕ)) (ending : Ending) : Type 0 where
   pub status : ending.status ≡ 1
   pub fault : ListFault
   pub why : RefusesCall arguments left old new fault
+  pub told : IsTold fault
   pub line : IsTrue ending.told → Appends err_old err_new (fault_line fault)
   pub front : AppendsFront err_old err_new (fault_line fault)

@@ -3,13 +3,15 @@
 ghost use Rattle.std.specs.Prelude.{◌≡◌, ◌⊎◌, drop, OnOk, IfOk, IfErr};
 ghost use Rattle.std.specs.Vec.Iter.{into_iter_items};
 ghost use Rattle.hack_powerset_list.specs.Endings.{IsDone, IsRefused, RefusesCall, WritesForCall};
+ghost use Rattle.hack_powerset_list.specs.Streams.{IsCounted};
 
 use crate::fault::ListFault;
 use crate::list::powerset_list;
+use crate::streams::{Sink, Source};
 use std::alloc::{AllocError, Global};
 use std::env::Args;
 use std::io;
-use std::io::{Read, Write};
+use std::io::Write;
 
 /// How a call ends.
 #[derive(Clone, Copy, Debug)]
@@ -28,7 +30,7 @@ fn words_of(alloc: Global, arguments: Args) -> Result<Vec<String>, AllocError>
 }
 
 /// The list for the arguments, or why there is none.
-fn list_for<R: Read, W: Write>(
+fn list_for<R: Source, W: Sink>(
     alloc: Global,
     arguments: io::Result<Args>,
     input: &mut R,
@@ -38,6 +40,8 @@ fn list_for<R: Read, W: Write>(
         (R.remaining input.old) (W.contents out.old) (W.contents out.new)) }
     ensures err { IfErr result (RefusesCall arguments
         (R.remaining input.old) (W.contents out.old) (W.contents out.new)) }
+    ensures counted { IfErr result (IsCounted (R.failed input.old) (R.failed input.new)
+        (W.failed out.old) (W.failed out.new)) }
 {
     match arguments {
         Ok(all) => {
@@ -50,7 +54,7 @@ fn list_for<R: Read, W: Write>(
 
 /// What the program `powerset-list` does: `powerset_list` for the words behind the first of the
 /// arguments, which are handed in as `env::args` answers them. A fault is told by a line on `err`.
-pub fn call_powerset_list<R: Read, W: Write, E: Write>(
+pub fn call_powerset_list<R: Source, W: Sink, E: Write>(
     alloc: Global,
     arguments: io::Result<Args>,
     input: &mut R,
@@ -60,6 +64,7 @@ pub fn call_powerset_list<R: Read, W: Write, E: Write>(
     ensures { IsDone arguments (R.remaining input.old) (W.contents out.old) (W.contents out.new)
         (E.contents err.old) (E.contents err.new) result
         ⊎ IsRefused arguments (R.remaining input.old) (W.contents out.old) (W.contents out.new)
+        (IsCounted (R.failed input.old) (R.failed input.new) (W.failed out.old) (W.failed out.new))
         (E.contents err.old) (E.contents err.new) result }
 {
     match list_for(alloc, arguments, input, out) {

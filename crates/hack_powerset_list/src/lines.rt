@@ -9,13 +9,13 @@ ghost use Rattle.hack_process.specs.CommandTexts.{listed_of};
 ghost use Rattle.hack_process.specs.Commands.{command_of};
 ghost use Rattle.hack_base.specs.Writes.{AppendsFront};
 ghost use Rattle.hack_powerset_list.specs.LineWords.{bare_command, Prints, TurnsPage};
+ghost use Rattle.hack_powerset_list.specs.Streams.{Stops};
 
-use hack_base::writes::write_front;
+use crate::streams::Sink;
 use hack_features::Feature;
 use hack_process::process::ProcessBuilder;
 use std::alloc::{AllocError, Global};
 use std::io;
-use std::io::Write;
 
 /// What lines are made of, as texts that are made once. Each feature has two.
 #[derive(Drop)]
@@ -89,16 +89,17 @@ pub fn empty_page(alloc: Global) -> Result<String, AllocError>
 }
 
 /// Writes the page where it is full, and empties it then.
-fn turn_full_page<W: Write>(page: &mut String, out: &mut W) -> io::Result<()>
+fn turn_full_page<W: Sink>(page: &mut String, out: &mut W) -> io::Result<()>
     ensures ok { OnOk result (TurnsPage (W.contents out.old) (W.contents out.new)
         (string_bytes page.old) (string_bytes page.new)) }
     ensures err { OnErr result (AppendsFront (W.contents out.old) (W.contents out.new)
         (string_bytes page.old)) }
+    ensures counted { Stops (W.failed out.old) (W.failed out.new) result }
 {
     if page.len() < FULL {
         return Ok(());
     }
-    write_front(page.as_str(), out)?;
+    out.put_text(page.as_str())?;
     page.clear();
     Ok(())
 }
@@ -117,7 +118,7 @@ fn push_line(command: &str, first: &str, others: &str, page: &mut String) -> Res
 
 /// Prints a line of three texts: it is put on the page, which is written where it is full then. Of
 /// what stood on the page a front is written where memory runs out or a write fails.
-pub fn print_line<W: Write>(
+pub fn print_line<W: Sink>(
     command: &str,
     first: &str,
     others: &str,
@@ -129,6 +130,7 @@ pub fn print_line<W: Write>(
         (command.now ++ first.now ++ others.now ++ codes "\n")) }
     ensures err { OnErr result (AppendsFront (W.contents out.old) (W.contents out.new)
         (string_bytes page.old ++ (command.now ++ first.now ++ others.now ++ codes "\n"))) }
+    ensures counted { Stops (W.failed out.old) (W.failed out.new) result }
 {
     push_line(command, first, others, page)?;
     turn_full_page(page, out)

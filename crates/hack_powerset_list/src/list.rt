@@ -6,15 +6,16 @@ ghost use Rattle.hack_features.specs.FeatureMap.{feature_map};
 ghost use Rattle.hack_features.specs.View.{choice_of, size_of};
 ghost use Rattle.hack_powerset_list.specs.CommandList.{WritesList, RefusesList};
 ghost use Rattle.hack_powerset_list.specs.ListRuns.{chosen_from};
+ghost use Rattle.hack_powerset_list.specs.Streams.{IsCounted};
 
 use crate::fault::ListFault;
-use crate::input::{all_of, bytes_of, features_of, map_of};
+use crate::input::{all_of, features_of, map_of};
 use crate::runs::write_lines;
+use crate::streams::{Sink, Source};
 use crate::wishes::Wishes;
 use hack_features::{Feature, Rules};
 use std::alloc::{AllocError, Global};
 use std::collections::BTreeMap;
-use std::io::{Read, Write};
 
 /// The rules by which sets of the candidates are listed: references to all features.
 fn rules_for<'a>(
@@ -47,7 +48,7 @@ fn rules_for<'a>(
 /// dependencies. The words are `--depth N`, `--at-least-one-of LIST` and
 /// `--mutually-exclusive-features LIST`, each value a word of its own. Words are judged first and
 /// then the input, and where one is at fault nothing is written.
-pub fn powerset_list<R: Read, W: Write>(
+pub fn powerset_list<R: Source, W: Sink>(
     alloc: Global,
     words: &[String],
     input: &mut R,
@@ -57,9 +58,11 @@ pub fn powerset_list<R: Read, W: Write>(
         (R.remaining input.old) (W.contents out.old) (W.contents out.new)) }
     ensures err { IfErr result (RefusesList (map string_bytes words.now)
         (R.remaining input.old) (W.contents out.old) (W.contents out.new)) }
+    ensures counted { IfErr result (IsCounted (R.failed input.old) (R.failed input.new)
+        (W.failed out.old) (W.failed out.new)) }
 {
     let wishes = Wishes::of(alloc, words)?;
-    let bytes = match bytes_of(alloc, input) {
+    let bytes = match input.read_whole(alloc) {
         Ok(bytes) => bytes,
         Err(error) => return Err(ListFault::of_error(&error, ListFault::Read)),
     };
@@ -68,14 +71,14 @@ pub fn powerset_list<R: Read, W: Write>(
     };
     let features = features_of(alloc, &map)?;
     let candidates = all_of(alloc, features.as_slice())?;
-    let rules = rules_for(
+    let mut rules = rules_for(
         alloc,
         &wishes,
         features.as_slice(),
         candidates.as_slice(),
         &map,
     )?;
-    match write_lines(alloc, &wishes, features.as_slice(), &rules, out) {
+    match write_lines(alloc, &wishes, features.as_slice(), &mut rules, out) {
         Ok(()) => Ok(()),
         Err(error) => Err(ListFault::of_error(&error, ListFault::Write)),
     }

@@ -14,21 +14,21 @@ ghost use Rattle.hack_powerset_list.specs.LinesView.{AreTexts};
 ghost use Rattle.hack_powerset_list.specs.ListRuns.{options_from};
 ghost use Rattle.hack_powerset_list.specs.Room.{set_in, most_in};
 ghost use Rattle.hack_powerset_list.specs.Walks.{EndsIn, listed_in, set_lines};
+ghost use Rattle.hack_powerset_list.specs.Streams.{Stops};
 
 use crate::lines::{Texts, empty_page, print_line};
 use crate::room::SetRoom;
+use crate::streams::Sink;
 use crate::walk::{SetLines, last_below, print_below, print_whole};
 use crate::wishes::Wishes;
-use hack_base::writes::write_front;
 use hack_features::{Feature, Rules};
 use hack_plan::runs::fits_two;
 use std::alloc::Global;
 use std::io;
-use std::io::Write;
 
 /// Prints the line of the run before those of sets: a plain one, or one without default features,
 /// unless these are wanted.
-fn print_front<W: Write>(
+fn print_front<W: Sink>(
     features: &[Feature],
     texts: &Texts,
     plain: bool,
@@ -43,6 +43,7 @@ fn print_front<W: Write>(
     ensures err { OnErr result (AppendsFront (W.contents out.old) (W.contents out.new)
         (string_bytes page.old ++ run_lines (map name_of features.now)
         (if plain then Plain ∷ [] else run_if bare NoDefaultFeatures))) }
+    ensures counted { Stops (W.failed out.old) (W.failed out.new) result }
 {
     if plain {
         print_line(texts.plain.as_str(), "", "", page, out)
@@ -54,53 +55,56 @@ fn print_front<W: Write>(
 }
 
 /// Prints the lines of the listed sets, that of the last one before the others or behind them.
-fn print_sets<W: Write>(
+fn print_sets<W: Sink>(
     alloc: Global,
-    lines: &SetLines<'_, '_>,
+    lines: &SetLines<'_>,
+    rules: &mut Rules<'_>,
     last_first: bool,
     room: &mut SetRoom,
     page: &mut String,
     out: &mut W,
 ) -> io::Result<()>
     requires texts { AreTexts (map name_of lines.now.features.now) lines.now.texts.now }
-    requires size { size_of lines.now.rules.now ≡ length lines.now.features.now }
-    requires room { most_in room.old ≡ size_of lines.now.rules.now }
+    requires size { size_of rules.old ≡ length lines.now.features.now }
+    requires room { most_in room.old ≡ size_of rules.old }
     requires none { set_in room.old ≡ [] }
-    requires last { EndsIn (listed_in lines.now.rules.now) lines.now.last.now }
+    requires last { EndsIn (listed_in rules.old) lines.now.last.now }
     ensures ok { OnOk result (Prints (W.contents out.old) (W.contents out.new)
         (string_bytes page.old) (string_bytes page.new)
         (set_lines (map name_of lines.now.features.now)
-        (with_last_first last_first (listed_in lines.now.rules.now)))) }
+        (with_last_first last_first (listed_in rules.old)))) }
     ensures err { OnErr result (AppendsFront (W.contents out.old) (W.contents out.new)
         (string_bytes page.old ++ set_lines (map name_of lines.now.features.now)
-        (with_last_first last_first (listed_in lines.now.rules.now)))) }
+        (with_last_first last_first (listed_in rules.old)))) }
+    ensures counted { Stops (W.failed out.old) (W.failed out.new) result }
 {
     let n = lines.features.len();
     if last_first {
         print_whole(alloc, lines.features, lines.texts, lines.last, page, out)?;
-        print_below(alloc, lines, room, "", n, page, out)
+        print_below(alloc, lines, rules, room, "", n, page, out)
     } else {
-        print_below(alloc, lines, room, "", n, page, out)?;
+        print_below(alloc, lines, rules, room, "", n, page, out)?;
         print_whole(alloc, lines.features, lines.texts, lines.last, page, out)
     }
 }
 
 /// Prints the lines of all runs.
-fn print_runs<W: Write>(
+fn print_runs<W: Sink>(
     alloc: Global,
     wishes: &Wishes,
     features: &[Feature],
-    rules: &Rules,
+    rules: &mut Rules<'_>,
     page: &mut String,
     out: &mut W,
 ) -> io::Result<()>
-    requires { size_of rules.now ≡ length features.now }
+    requires { size_of rules.old ≡ length features.now }
     ensures ok { OnOk result (Prints (W.contents out.old) (W.contents out.new)
         (string_bytes page.old) (string_bytes page.new) (run_lines (map name_of features.now)
-        (runs_from (options_from wishes.now features.now) (listed_in rules.now)))) }
+        (runs_from (options_from wishes.now features.now) (listed_in rules.old)))) }
     ensures err { OnErr result (AppendsFront (W.contents out.old) (W.contents out.new)
         (string_bytes page.old ++ run_lines (map name_of features.now)
-        (runs_from (options_from wishes.now features.now) (listed_in rules.now)))) }
+        (runs_from (options_from wishes.now features.now) (listed_in rules.old)))) }
+    ensures counted { Stops (W.failed out.old) (W.failed out.new) result }
 {
     let texts = Texts::of_check(alloc, features)?;
     let mut room = SetRoom::new(alloc, features.len())?;
@@ -112,33 +116,33 @@ fn print_runs<W: Write>(
     print_front(features, &texts, false, bare, page, out)?;
     let lines = SetLines {
         features,
-        rules,
         texts: &texts,
         last: last.as_slice(),
     };
     let last_first = fits_two(wishes.depth);
-    print_sets(alloc, &lines, last_first, &mut room, page, out)
+    print_sets(alloc, &lines, rules, last_first, &mut room, page, out)
 }
 
 /// Writes the lines of all runs, one after the other, or a front of them where memory runs out or a
 /// write fails. They are put on a page, which is written whenever it is full.
-pub fn write_lines<W: Write>(
+pub fn write_lines<W: Sink>(
     alloc: Global,
     wishes: &Wishes,
     features: &[Feature],
-    rules: &Rules,
+    rules: &mut Rules<'_>,
     out: &mut W,
 ) -> io::Result<()>
-    requires { size_of rules.now ≡ length features.now }
+    requires { size_of rules.old ≡ length features.now }
     ensures all { OnOk result (Appends (W.contents out.old) (W.contents out.new)
         (run_lines (map name_of features.now)
-        (runs_from (options_from wishes.now features.now) (listed_in rules.now)))) }
+        (runs_from (options_from wishes.now features.now) (listed_in rules.old)))) }
     ensures front { AppendsFront (W.contents out.old) (W.contents out.new)
         (run_lines (map name_of features.now)
-        (runs_from (options_from wishes.now features.now) (listed_in rules.now))) }
+        (runs_from (options_from wishes.now features.now) (listed_in rules.old))) }
+    ensures counted { Stops (W.failed out.old) (W.failed out.new) result }
 {
     let mut page = empty_page(alloc)?;
     print_runs(alloc, wishes, features, rules, &mut page, out)?;
-    write_front(page.as_str(), out)?;
-    out.flush()
+    out.put_text(page.as_str())?;
+    out.finish()
 }

@@ -5,7 +5,7 @@ ghost use Rattle.std.specs.Prelude.{length, IfOk, OnOk, OnErr, IsTrue, MatchOpti
 ghost use Rattle.std.specs.Prelude.{string_bytes};
 ghost use Rattle.hack_features.specs.Feature.{name_of};
 ghost use Rattle.hack_features.specs.Sets.{IsSelection, items_at};
-ghost use Rattle.hack_features.specs.View.{may_of, size_of};
+ghost use Rattle.hack_features.specs.View.{may_of, size_of, whole_of};
 ghost use Rattle.hack_base.specs.Writes.{AppendsFront};
 ghost use Rattle.hack_plan.specs.Runs.{Set};
 ghost use Rattle.hack_powerset_list.specs.Lines.{run_line};
@@ -14,13 +14,14 @@ ghost use Rattle.hack_powerset_list.specs.LinesView.{AreTexts};
 ghost use Rattle.hack_powerset_list.specs.Room.{set_in, most_in};
 ghost use Rattle.hack_features.specs.Walk.{below};
 ghost use Rattle.hack_powerset_list.specs.Walks.{EndsIn, is_other, listed_below, set_lines};
+ghost use Rattle.hack_powerset_list.specs.Streams.{Stops};
 
 use crate::lines::{Texts, print_line};
 use crate::room::SetRoom;
+use crate::streams::Sink;
 use hack_features::{Feature, Questions, Rules};
 use std::alloc::{AllocError, Global};
 use std::io;
-use std::io::Write;
 
 /// Whether no position may be put in front of a permitted set of so many.
 fn is_full(rules: &Rules, positions: usize) -> bool
@@ -36,19 +37,22 @@ fn is_full(rules: &Rules, positions: usize) -> bool
 /// The last listed set that is made of the set in the room and positions below `limit`.
 pub fn last_below(
     alloc: Global,
-    rules: &Rules,
+    rules: &mut Rules<'_>,
     room: &mut SetRoom,
     limit: usize,
 ) -> Result<Option<Vec<usize>>, AllocError>
-    requires room { most_in room.old ≡ size_of rules.now }
-    requires set { IsSelection (size_of rules.now) (set_in room.old) }
+    requires room { most_in room.old ≡ size_of rules.old }
+    requires set { IsSelection (size_of rules.old) (set_in room.old) }
     requires above { All (λ p. limit ≤ p) (set_in room.old) }
-    requires limit { limit ≤ size_of rules.now }
+    requires limit { limit ≤ size_of rules.old }
     ensures last { IfOk result (λ last.
-        MatchOption last (listed_below rules.now limit (set_in room.old) ≡ [])
-        (λ set. EndsIn (listed_below rules.now limit (set_in room.old)) set.items)) }
+        MatchOption last (listed_below rules.old limit (set_in room.old) ≡ [])
+        (λ set. EndsIn (listed_below rules.old limit (set_in room.old)) set.items)) }
     ensures kept { OnOk result (set_in room.new ≡ set_in room.old) }
     ensures room { most_in room.new ≡ most_in room.old }
+    ensures same_size { size_of rules.new ≡ size_of rules.old }
+    ensures same_may { may_of rules.new ≡ may_of rules.old }
+    ensures same_whole { whole_of rules.new ≡ whole_of rules.old }
 {
     if is_full(rules, room.set().len()) {
         return Ok(None);
@@ -74,16 +78,15 @@ pub fn last_below(
 
 /// What the lines of sets are printed from.
 #[derive(Drop)]
-pub struct SetLines<'a, 'f> {
+pub struct SetLines<'a> {
     pub features: &'a [Feature],
-    pub rules: &'a Rules<'f>,
     pub texts: &'a Texts,
     /// The set whose line stands elsewhere.
     pub last: &'a [usize],
 }
 
 /// Prints the line of the set of `least` and others, whose names stand in `others`.
-fn print_set<W: Write>(
+fn print_set<W: Sink>(
     features: &[Feature],
     texts: &Texts,
     least: usize,
@@ -100,6 +103,7 @@ fn print_set<W: Write>(
     ensures err { (s : List ℕ) → others.now ≡ others_text (items_at (map name_of features.now) s)
         → OnErr result (AppendsFront (W.contents out.old) (W.contents out.new)
         (string_bytes page.old ++ run_line (map name_of features.now) (Set (least ∷ s)))) }
+    ensures counted { Stops (W.failed out.old) (W.failed out.new) result }
 {
     print_line(
         texts.bare.as_str(),
@@ -111,8 +115,9 @@ fn print_set<W: Write>(
 }
 
 /// Prints the line of the set of `least` and others, where it is listed and isn't the last one.
-fn print_other<W: Write>(
-    lines: &SetLines<'_, '_>,
+fn print_other<W: Sink>(
+    lines: &SetLines<'_>,
+    rules: &Rules<'_>,
     set: &[usize],
     least: usize,
     others: &str,
@@ -121,20 +126,21 @@ fn print_other<W: Write>(
 ) -> io::Result<()>
     requires texts { AreTexts (map name_of lines.now.features.now) lines.now.texts.now }
     requires least { least < length lines.now.features.now }
-    requires set { IsSelection (size_of lines.now.rules.now) set.now }
+    requires set { IsSelection (size_of rules.now) set.now }
     ensures ok { (s : List ℕ) → set.now ≡ least ∷ s
         → others.now ≡ others_text (items_at (map name_of lines.now.features.now) s)
         → OnOk result (Prints (W.contents out.old) (W.contents out.new)
         (string_bytes page.old) (string_bytes page.new)
         (set_lines (map name_of lines.now.features.now)
-        (filter (is_other lines.now.rules.now lines.now.last.now) (set.now ∷ [])))) }
+        (filter (is_other rules.now lines.now.last.now) (set.now ∷ [])))) }
     ensures err { (s : List ℕ) → set.now ≡ least ∷ s
         → others.now ≡ others_text (items_at (map name_of lines.now.features.now) s)
         → OnErr result (AppendsFront (W.contents out.old) (W.contents out.new)
         (string_bytes page.old ++ set_lines (map name_of lines.now.features.now)
-        (filter (is_other lines.now.rules.now lines.now.last.now) (set.now ∷ [])))) }
+        (filter (is_other rules.now lines.now.last.now) (set.now ∷ [])))) }
+    ensures counted { Stops (W.failed out.old) (W.failed out.new) result }
 {
-    if lines.rules.complete(set) && set != lines.last {
+    if rules.complete(set) && set != lines.last {
         print_set(lines.features, lines.texts, least, others, page, out)
     } else {
         Ok(())
@@ -164,9 +170,10 @@ fn longer(
 
 /// Prints the lines of the listed sets, but of the last one, that are made of the set in the room
 /// and positions below `limit`. The names of that set stand in `others`.
-pub fn print_below<W: Write>(
+pub fn print_below<W: Sink>(
     alloc: Global,
-    lines: &SetLines<'_, '_>,
+    lines: &SetLines<'_>,
+    rules: &mut Rules<'_>,
     room: &mut SetRoom,
     others: &str,
     limit: usize,
@@ -174,34 +181,38 @@ pub fn print_below<W: Write>(
     out: &mut W,
 ) -> io::Result<()>
     requires texts { AreTexts (map name_of lines.now.features.now) lines.now.texts.now }
-    requires size { size_of lines.now.rules.now ≡ length lines.now.features.now }
-    requires room { most_in room.old ≡ size_of lines.now.rules.now }
-    requires set { IsSelection (size_of lines.now.rules.now) (set_in room.old) }
+    requires size { size_of rules.old ≡ length lines.now.features.now }
+    requires room { most_in room.old ≡ size_of rules.old }
+    requires set { IsSelection (size_of rules.old) (set_in room.old) }
     requires above { All (λ p. limit ≤ p) (set_in room.old) }
-    requires limit { limit ≤ size_of lines.now.rules.now }
+    requires limit { limit ≤ size_of rules.old }
     requires others { others.now
         ≡ others_text (items_at (map name_of lines.now.features.now) (set_in room.old)) }
     ensures ok { OnOk result (Prints (W.contents out.old) (W.contents out.new)
         (string_bytes page.old) (string_bytes page.new)
         (set_lines (map name_of lines.now.features.now)
-        (filter (is_other lines.now.rules.now lines.now.last.now)
-        (below (may_of lines.now.rules.now) limit (set_in room.old))))) }
+        (filter (is_other rules.old lines.now.last.now)
+        (below (may_of rules.old) limit (set_in room.old))))) }
     ensures err { OnErr result (AppendsFront (W.contents out.old) (W.contents out.new)
         (string_bytes page.old ++ set_lines (map name_of lines.now.features.now)
-        (filter (is_other lines.now.rules.now lines.now.last.now)
-        (below (may_of lines.now.rules.now) limit (set_in room.old))))) }
+        (filter (is_other rules.old lines.now.last.now)
+        (below (may_of rules.old) limit (set_in room.old))))) }
     ensures kept { OnOk result (set_in room.new ≡ set_in room.old) }
     ensures room { most_in room.new ≡ most_in room.old }
+    ensures same_size { size_of rules.new ≡ size_of rules.old }
+    ensures same_may { may_of rules.new ≡ may_of rules.old }
+    ensures same_whole { whole_of rules.new ≡ whole_of rules.old }
+    ensures counted { Stops (W.failed out.old) (W.failed out.new) result }
 {
     for p in 0..limit {
-        if !lines.rules.may_begin(p, room.set()) {
+        if !rules.may_begin(p, room.set()) {
             continue;
         }
         room.put(p);
-        print_other(lines, room.set(), p, others, page, out)?;
-        if p > 0 && !is_full(lines.rules, room.set().len()) {
+        print_other(lines, rules, room.set(), p, others, page, out)?;
+        if p > 0 && !is_full(rules, room.set().len()) {
             let longer = longer(alloc, lines.features, lines.texts, p, others)?;
-            print_below(alloc, lines, room, longer.as_str(), p, page, out)?;
+            print_below(alloc, lines, rules, room, longer.as_str(), p, page, out)?;
         }
         room.take();
     }
@@ -228,7 +239,7 @@ fn names_behind_another(
 }
 
 /// Prints the line of a set that isn't empty.
-pub fn print_whole<W: Write>(
+pub fn print_whole<W: Sink>(
     alloc: Global,
     features: &[Feature],
     texts: &Texts,
@@ -244,6 +255,7 @@ pub fn print_whole<W: Write>(
         (run_line (map name_of features.now) (Set set.now))) }
     ensures err { OnErr result (AppendsFront (W.contents out.old) (W.contents out.new)
         (string_bytes page.old ++ run_line (map name_of features.now) (Set set.now))) }
+    ensures counted { Stops (W.failed out.old) (W.failed out.new) result }
 {
     let Some((least, rest)) = set.split_first() else {
         return Ok(());

@@ -15,7 +15,7 @@ alone names run text command is line = ap (λ l. l ++ [] ++ [] ++ codes "\n") is
 pub returns-then-plain-clause-err : goal.returns-then-plain-clause-err
 returns-then-plain-clause-err g c =
     let names : List Name = map name_of c.args.features.now in
-    on_err-same c.print_line.result (λ l. AppendsFront (g.W.Write.contents c.args.out.now) (g.W.Write.contents c.print_line.new.out) (string_bytes c.args.page.now ++ l)) _ _
+    on_err-same c.print_line.result (λ l. AppendsFront (g.W.Sink.contents c.args.out.now) (g.W.Sink.contents c.print_line.new.out) (string_bytes c.args.page.now ++ l)) _ _
     (alone names Plain c.as_str.result.now (codes "cargo check") (c.as_str.ensures.value ∙ c.requires.texts.plain) refl
     ∙ ap (λ b. run_lines names (if b then Plain ∷ [] else run_if c.args.bare NoDefaultFeatures)) (sym c.if-plain.true))
     c.print_line.ensures.err
@@ -23,7 +23,7 @@ returns-then-plain-clause-err g c =
 pub returns-then-bare-clause-err : goal.returns-then-bare-clause-err
 returns-then-bare-clause-err g c =
     let names : List Name = map name_of c.args.features.now in
-    on_err-same c.print_line-then-bare.result (λ l. AppendsFront (g.W.Write.contents c.args.out.now) (g.W.Write.contents c.print_line-then-bare.new.out) (string_bytes c.args.page.now ++ l)) _ _
+    on_err-same c.print_line-then-bare.result (λ l. AppendsFront (g.W.Sink.contents c.args.out.now) (g.W.Sink.contents c.print_line-then-bare.new.out) (string_bytes c.args.page.now ++ l)) _ _
     (alone names NoDefaultFeatures c.as_str-then-bare.result.now (codes "cargo check --no-default-features") (c.as_str-then-bare.ensures.value ∙ c.requires.texts.bare) refl
     ∙ ap (λ b. run_lines names (run_if b NoDefaultFeatures)) (sym c.if-bare.true)
     ∙ ap (λ b. run_lines names (if b then Plain ∷ [] else run_if c.args.bare NoDefaultFeatures)) (sym c.if-plain.false))

@@ -10,7 +10,7 @@ use Rattle.hack_powerset_list.specs.ListRuns.{options_from}
 use Rattle.hack_powerset_list.specs.Room.{set_in}
 use Rattle.hack_powerset_list.specs.Walks.{EndsIn, listed_below, listed_in, set_lines}
 use Rattle.hack_powerset_list.proofs.PageLemmas.{prints-none, prints-then, prints-front, prints-stopped, on_ok-same, on_err-same, on_err-any, on_ok-then, on_err-then}
-use Rattle.hack_powerset_list.proofs.ListedLemmas.{Ends}
+use Rattle.hack_powerset_list.proofs.ListedLemmas.{Ends, listed-in-same}
 use Rattle.hack_powerset_list.proofs.RunsLemmas.{runs-none, runs-some}
 use Rattle.hack_powerset_list.proofs.runs.print_runs.Goals as goal
 
@@ -24,7 +24,7 @@ returns-in_err-room-clause-err g c =
     let sets : List (List ℕ) = listed_in r in
     let all : List ℕ = run_lines names (runs_from (options_from w fs) sets) in
     on_err-any c.from_residual-in_err-room.result _
-    (prints-front _ _ page page [] all all (prints-none (g.W.Write.contents c.args.out.now) page) refl)
+    (prints-front _ _ page page [] all all (prints-none (g.W.Sink.contents c.args.out.now) page) refl)
 
 pub returns-in_err-last-clause-err : goal.returns-in_err-last-clause-err
 returns-in_err-last-clause-err g c =
@@ -36,7 +36,7 @@ returns-in_err-last-clause-err g c =
     let sets : List (List ℕ) = listed_in r in
     let all : List ℕ = run_lines names (runs_from (options_from w fs) sets) in
     on_err-any c.from_residual-in_err-last.result _
-    (prints-front _ _ page page [] all all (prints-none (g.W.Write.contents c.args.out.now) page) refl)
+    (prints-front _ _ page page [] all all (prints-none (g.W.Sink.contents c.args.out.now) page) refl)
 
 pub returns-in_default-clause-ok : goal.returns-in_default-clause-ok
 returns-in_default-clause-ok g c =
@@ -58,7 +58,7 @@ returns-in_default-clause-ok g c =
     ∙ ap (λ b. run_lines names (if length fs == 0 then Plain ∷ [] else run_if b NoDefaultFeatures)) bare
     ∙ ap (run_lines names) (sym (runs-none w fs))
     ∙ ap (λ l. run_lines names (runs_from (options_from w fs) l)) (sym none) in
-    on_ok-same c.print_front.result (λ l. Prints (g.W.Write.contents c.args.out.now) (g.W.Write.contents c.print_front.new.out) page (string_bytes c.print_front.new.page) l) _ _ is c.print_front.ensures.ok
+    on_ok-same c.print_front.result (λ l. Prints (g.W.Sink.contents c.args.out.now) (g.W.Sink.contents c.print_front.new.out) page (string_bytes c.print_front.new.page) l) _ _ is c.print_front.ensures.ok
 
 pub returns-in_default-clause-err : goal.returns-in_default-clause-err
 returns-in_default-clause-err g c =
@@ -80,7 +80,7 @@ returns-in_default-clause-err g c =
     ∙ ap (λ b. run_lines names (if length fs == 0 then Plain ∷ [] else run_if b NoDefaultFeatures)) bare
     ∙ ap (run_lines names) (sym (runs-none w fs))
     ∙ ap (λ l. run_lines names (runs_from (options_from w fs) l)) (sym none) in
-    on_err-same c.print_front.result (λ l. AppendsFront (g.W.Write.contents c.args.out.now) (g.W.Write.contents c.print_front.new.out) (page ++ l)) _ _ is c.print_front.ensures.err
+    on_err-same c.print_front.result (λ l. AppendsFront (g.W.Sink.contents c.args.out.now) (g.W.Sink.contents c.print_front.new.out) (page ++ l)) _ _ is c.print_front.ensures.err
 
 pub returns-in_err-print_front-clause-err : goal.returns-in_err-print_front-clause-err
 returns-in_err-print_front-clause-err g c =
@@ -104,7 +104,7 @@ returns-in_err-print_front-clause-err g c =
     runs-some w fs sets ends.front last ends.same names
     ∙ ap (λ b. run_lines names (run_if b NoDefaultFeatures) ++ lines) (sym bare) in
     on_err-any c.from_residual-in_err-print_front.result _
-    (prints-stopped _ _ (g.W.Write.contents c.print_front-2.new.out) page page [] front lines all (prints-none (g.W.Write.contents c.args.out.now) page) c.in_err-print_front.ensures.err is)
+    (prints-stopped _ _ (g.W.Sink.contents c.print_front-2.new.out) page page [] front lines all (prints-none (g.W.Sink.contents c.args.out.now) page) c.in_err-print_front.ensures.err is)
 
 pub returns-clause-ok : goal.returns-clause-ok
 returns-clause-ok g c =
@@ -127,12 +127,14 @@ returns-clause-ok g c =
     let is : all ≡ front ++ lines =
     runs-some w fs sets ends.front last ends.same names
     ∙ ap (λ b. run_lines names (run_if b NoDefaultFeatures) ++ lines) (sym bare) in
-    let shown : set_lines (map name_of c.args.features.now) (with_last_first c.fits_two-last_first.result sets) ≡ lines =
-    ap (λ b. set_lines names (with_last_first b sets)) c.fits_two-last_first.ensures in
+    let asked = c.last_below.new.rules in
+    let shown : set_lines (map name_of c.args.features.now) (with_last_first c.fits_two-last_first.result (listed_in asked)) ≡ lines =
+    ap (λ l. set_lines names (with_last_first c.fits_two-last_first.result l)) (listed-in-same r asked c.in_ok-last.ensures.same_size c.in_ok-last.ensures.same_may c.in_ok-last.ensures.same_whole)
+    ∙ ap (λ b. set_lines names (with_last_first b sets)) c.fits_two-last_first.ensures in
     on_ok-then c.print_sets.result _ _
-    (λ h. subst (Prints (g.W.Write.contents c.args.out.now) (g.W.Write.contents c.print_sets.new.out) page (string_bytes c.print_sets.new.page)) (sym is)
+    (λ h. subst (Prints (g.W.Sink.contents c.args.out.now) (g.W.Sink.contents c.print_sets.new.out) page (string_bytes c.print_sets.new.page)) (sym is)
     (prints-then _ _ _ page (string_bytes c.print_front-2.new.page) (string_bytes c.print_sets.new.page) front lines c.in_ok-print_front.ensures.ok
-    (subst (Prints (g.W.Write.contents c.print_front-2.new.out) (g.W.Write.contents c.print_sets.new.out) (string_bytes c.print_front-2.new.page) (string_bytes c.print_sets.new.page)) shown h)))
+    (subst (Prints (g.W.Sink.contents c.print_front-2.new.out) (g.W.Sink.contents c.print_sets.new.out) (string_bytes c.print_front-2.new.page) (string_bytes c.print_sets.new.page)) shown h)))
     c.print_sets.ensures.ok
 
 pub returns-clause-err : goal.returns-clause-err
@@ -156,10 +158,12 @@ returns-clause-err g c =
     let is : all ≡ front ++ lines =
     runs-some w fs sets ends.front last ends.same names
     ∙ ap (λ b. run_lines names (run_if b NoDefaultFeatures) ++ lines) (sym bare) in
-    let shown : set_lines (map name_of c.args.features.now) (with_last_first c.fits_two-last_first.result sets) ≡ lines =
-    ap (λ b. set_lines names (with_last_first b sets)) c.fits_two-last_first.ensures in
+    let asked = c.last_below.new.rules in
+    let shown : set_lines (map name_of c.args.features.now) (with_last_first c.fits_two-last_first.result (listed_in asked)) ≡ lines =
+    ap (λ l. set_lines names (with_last_first c.fits_two-last_first.result l)) (listed-in-same r asked c.in_ok-last.ensures.same_size c.in_ok-last.ensures.same_may c.in_ok-last.ensures.same_whole)
+    ∙ ap (λ b. set_lines names (with_last_first b sets)) c.fits_two-last_first.ensures in
     on_err-then c.print_sets.result _ _
     (λ h. prints-stopped _ _ _ page (string_bytes c.print_front-2.new.page) front lines [] all c.in_ok-print_front.ensures.ok
-    (subst (λ l. AppendsFront (g.W.Write.contents c.print_front-2.new.out) (g.W.Write.contents c.print_sets.new.out) (string_bytes c.print_front-2.new.page ++ l)) shown h)
+    (subst (λ l. AppendsFront (g.W.Sink.contents c.print_front-2.new.out) (g.W.Sink.contents c.print_sets.new.out) (string_bytes c.print_front-2.new.page ++ l)) shown h)
     (is ∙ ap (λ l. front ++ l) (sym (append-nil lines))))
     c.print_sets.ensures.err

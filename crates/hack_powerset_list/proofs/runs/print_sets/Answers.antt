@@ -15,14 +15,14 @@ use Rattle.hack_powerset_list.proofs.runs.print_sets.Goals as goal
 
 pub print_whole-requires-clause-below : goal.print_whole-requires-clause-below
 print_whole-requires-clause-below g c =
-    λ k d lt. subst (λ n. get_or c.args.lines.now.last.now k d < n) c.requires.size ((last-selection c.args.lines.now.rules.now c.args.lines.now.last.now c.requires.last).below k d lt)
+    λ k d lt. subst (λ n. get_or c.args.lines.now.last.now k d < n) c.requires.size ((last-selection c.args.rules.now c.args.lines.now.last.now c.requires.last).below k d lt)
 
 pub print_whole-requires-clause-some : goal.print_whole-requires-clause-some
-print_whole-requires-clause-some g c = last-some c.args.lines.now.rules.now c.args.lines.now.last.now c.requires.last
+print_whole-requires-clause-some g c = last-some c.args.rules.now c.args.lines.now.last.now c.requires.last
 
 pub returns-in_err-print_whole-clause-err : goal.returns-in_err-print_whole-clause-err
 returns-in_err-print_whole-clause-err g c =
-    let r = c.args.lines.now.rules.now in
+    let r = c.args.rules.now in
     let names : List Name = map name_of c.args.lines.now.features.now in
     let last : List ℕ = c.args.lines.now.last.now in
     let sets : List (List ℕ) = listed_in r in
@@ -33,12 +33,12 @@ returns-in_err-print_whole-clause-err g c =
     let all : List ℕ = set_lines names (with_last_first c.args.last_first sets) in
     let is : all ≡ run_line names (Set last) ++ set_lines names front = first-text names sets front last c.requires.last.same c.args.last_first c.if-last_first.true in
     on_err-any c.from_residual.result _
-    (prints-stopped _ _ (g.W.Write.contents c.print_whole.new.out) page page [] (run_line names (Set last)) (set_lines names front) all
-    (prints-none (g.W.Write.contents c.args.out.now) page) c.in_err-print_whole.ensures.err is)
+    (prints-stopped _ _ (g.W.Sink.contents c.print_whole.new.out) page page [] (run_line names (Set last)) (set_lines names front) all
+    (prints-none (g.W.Sink.contents c.args.out.now) page) c.in_err-print_whole.ensures.err is)
 
 pub returns-in_err-print_below-clause-err : goal.returns-in_err-print_below-clause-err
 returns-in_err-print_below-clause-err g c =
-    let r = c.args.lines.now.rules.now in
+    let r = c.args.rules.now in
     let names : List Name = map name_of c.args.lines.now.features.now in
     let last : List ℕ = c.args.lines.now.last.now in
     let sets : List (List ℕ) = listed_in r in
@@ -49,20 +49,20 @@ returns-in_err-print_below-clause-err g c =
     let all : List ℕ = set_lines names (with_last_first c.args.last_first sets) in
     let is : all ≡ set_lines names front ++ run_line names (Set last) = behind-text names sets front last c.requires.last.same c.args.last_first c.if-last_first.false in
     on_err-any c.from_residual-in_err-print_below.result _
-    (prints-stopped _ _ (g.W.Write.contents c.print_below-else-last_first.new.out) page page [] (set_lines names front) (run_line names (Set last)) all
-    (prints-none (g.W.Write.contents c.args.out.now) page)
-    (subst (λ l. AppendsFront (g.W.Write.contents c.args.out.now) (g.W.Write.contents c.print_below-else-last_first.new.out) (page ++ l)) others c.in_err-print_below.ensures.err) is)
+    (prints-stopped _ _ (g.W.Sink.contents c.print_below-else-last_first.new.out) page page [] (set_lines names front) (run_line names (Set last)) all
+    (prints-none (g.W.Sink.contents c.args.out.now) page)
+    (subst (λ l. AppendsFront (g.W.Sink.contents c.args.out.now) (g.W.Sink.contents c.print_below-else-last_first.new.out) (page ++ l)) others c.in_err-print_below.ensures.err) is)
 
 pub print_whole-requires-else-last_first-clause-below : goal.print_whole-requires-else-last_first-clause-below
 print_whole-requires-else-last_first-clause-below g c =
-    λ k d lt. subst (λ n. get_or c.args.lines.now.last.now k d < n) c.requires.size ((last-selection c.args.lines.now.rules.now c.args.lines.now.last.now c.requires.last).below k d lt)
+    λ k d lt. subst (λ n. get_or c.args.lines.now.last.now k d < n) c.requires.size ((last-selection c.args.rules.now c.args.lines.now.last.now c.requires.last).below k d lt)
 
 pub print_whole-requires-else-last_first-clause-some : goal.print_whole-requires-else-last_first-clause-some
-print_whole-requires-else-last_first-clause-some g c = last-some c.args.lines.now.rules.now c.args.lines.now.last.now c.requires.last
+print_whole-requires-else-last_first-clause-some g c = last-some c.args.rules.now c.args.lines.now.last.now c.requires.last
 
 pub returns-in_ok-print_whole-clause-ok : goal.returns-in_ok-print_whole-clause-ok
 returns-in_ok-print_whole-clause-ok g c =
-    let r = c.args.lines.now.rules.now in
+    let r = c.args.rules.now in
     let names : List Name = map name_of c.args.lines.now.features.now in
     let last : List ℕ = c.args.lines.now.last.now in
     let sets : List (List ℕ) = listed_in r in
@@ -73,14 +73,14 @@ returns-in_ok-print_whole-clause-ok g c =
     let all : List ℕ = set_lines names (with_last_first c.args.last_first sets) in
     let is : all ≡ run_line names (Set last) ++ set_lines names front = first-text names sets front last c.requires.last.same c.args.last_first c.if-last_first.true in
     on_ok-then c.print_below.result _ _
-    (λ h. subst (Prints (g.W.Write.contents c.args.out.now) (g.W.Write.contents c.print_below.new.out) page (string_bytes c.print_below.new.page)) (sym is)
+    (λ h. subst (Prints (g.W.Sink.contents c.args.out.now) (g.W.Sink.contents c.print_below.new.out) page (string_bytes c.print_below.new.page)) (sym is)
     (prints-then _ _ _ page (string_bytes c.print_whole.new.page) (string_bytes c.print_below.new.page) (run_line names (Set last)) (set_lines names front) c.in_ok-print_whole.ensures.ok
-    (subst (Prints (g.W.Write.contents c.print_whole.new.out) (g.W.Write.contents c.print_below.new.out) (string_bytes c.print_whole.new.page) (string_bytes c.print_below.new.page)) others h)))
+    (subst (Prints (g.W.Sink.contents c.print_whole.new.out) (g.W.Sink.contents c.print_below.new.out) (string_bytes c.print_whole.new.page) (string_bytes c.print_below.new.page)) others h)))
     c.print_below.ensures.ok
 
 pub returns-in_ok-print_whole-clause-err : goal.returns-in_ok-print_whole-clause-err
 returns-in_ok-print_whole-clause-err g c =
-    let r = c.args.lines.now.rules.now in
+    let r = c.args.rules.now in
     let names : List Name = map name_of c.args.lines.now.features.now in
     let last : List ℕ = c.args.lines.now.last.now in
     let sets : List (List ℕ) = listed_in r in
@@ -92,13 +92,13 @@ returns-in_ok-print_whole-clause-err g c =
     let is : all ≡ run_line names (Set last) ++ set_lines names front = first-text names sets front last c.requires.last.same c.args.last_first c.if-last_first.true in
     on_err-then c.print_below.result _ _
     (λ h. prints-stopped _ _ _ page (string_bytes c.print_whole.new.page) (run_line names (Set last)) (set_lines names front) [] all c.in_ok-print_whole.ensures.ok
-    (subst (λ l. AppendsFront (g.W.Write.contents c.print_whole.new.out) (g.W.Write.contents c.print_below.new.out) (string_bytes c.print_whole.new.page ++ l)) others h)
+    (subst (λ l. AppendsFront (g.W.Sink.contents c.print_whole.new.out) (g.W.Sink.contents c.print_below.new.out) (string_bytes c.print_whole.new.page ++ l)) others h)
     (is ∙ ap (λ l. run_line names (Set last) ++ l) (sym (append-nil (set_lines names front)))))
     c.print_below.ensures.err
 
 pub returns-in_ok-print_below-clause-ok : goal.returns-in_ok-print_below-clause-ok
 returns-in_ok-print_below-clause-ok g c =
-    let r = c.args.lines.now.rules.now in
+    let r = c.args.rules.now in
     let names : List Name = map name_of c.args.lines.now.features.now in
     let last : List ℕ = c.args.lines.now.last.now in
     let sets : List (List ℕ) = listed_in r in
@@ -109,14 +109,14 @@ returns-in_ok-print_below-clause-ok g c =
     let all : List ℕ = set_lines names (with_last_first c.args.last_first sets) in
     let is : all ≡ set_lines names front ++ run_line names (Set last) = behind-text names sets front last c.requires.last.same c.args.last_first c.if-last_first.false in
     on_ok-then c.print_whole-else-last_first.result _ _
-    (λ h. subst (Prints (g.W.Write.contents c.args.out.now) (g.W.Write.contents c.print_whole-else-last_first.new.out) page (string_bytes c.print_whole-else-last_first.new.page)) (sym is)
+    (λ h. subst (Prints (g.W.Sink.contents c.args.out.now) (g.W.Sink.contents c.print_whole-else-last_first.new.out) page (string_bytes c.print_whole-else-last_first.new.page)) (sym is)
     (prints-then _ _ _ page (string_bytes c.print_below-else-last_first.new.page) (string_bytes c.print_whole-else-last_first.new.page) (set_lines names front) (run_line names (Set last))
-    (subst (Prints (g.W.Write.contents c.args.out.now) (g.W.Write.contents c.print_below-else-last_first.new.out) page (string_bytes c.print_below-else-last_first.new.page)) others c.in_ok-print_below.ensures.ok) h))
+    (subst (Prints (g.W.Sink.contents c.args.out.now) (g.W.Sink.contents c.print_below-else-last_first.new.out) page (string_bytes c.print_below-else-last_first.new.page)) others c.in_ok-print_below.ensures.ok) h))
     c.print_whole-else-last_first.ensures.ok
 
 pub returns-in_ok-print_below-clause-err : goal.returns-in_ok-print_below-clause-err
 returns-in_ok-print_below-clause-err g c =
-    let r = c.args.lines.now.rules.now in
+    let r = c.args.rules.now in
     let names : List Name = map name_of c.args.lines.now.features.now in
     let last : List ℕ = c.args.lines.now.last.now in
     let sets : List (List ℕ) = listed_in r in
@@ -128,6 +128,6 @@ returns-in_ok-print_below-clause-err g c =
     let is : all ≡ set_lines names front ++ run_line names (Set last) = behind-text names sets front last c.requires.last.same c.args.last_first c.if-last_first.false in
     on_err-then c.print_whole-else-last_first.result _ _
     (λ h. prints-stopped _ _ _ page (string_bytes c.print_below-else-last_first.new.page) (set_lines names front) (run_line names (Set last)) [] all
-    (subst (Prints (g.W.Write.contents c.args.out.now) (g.W.Write.contents c.print_below-else-last_first.new.out) page (string_bytes c.print_below-else-last_first.new.page)) others c.in_ok-print_below.ensures.ok) h
+    (subst (Prints (g.W.Sink.contents c.args.out.now) (g.W.Sink.contents c.print_below-else-last_first.new.out) page (string_bytes c.print_below-else-last_first.new.page)) others c.in_ok-print_below.ensures.ok) h
     (is ∙ ap (λ l. set_lines names front ++ l) (sym (append-nil (run_line names (Set last))))))
     c.print_whole-else-last_first.ensures.err

@@ -3,21 +3,21 @@ use Rattle.hack_base.specs.Writes.{AppendsFront}
 use Rattle.hack_base.specs.Names.{Name}
 use Rattle.hack_features.specs.Feature.{name_of}
 use Rattle.hack_features.specs.Sets.{IsSelection, items_at}
-use Rattle.hack_features.specs.View.{may_of, size_of}
+use Rattle.hack_features.specs.View.{may_of, size_of, whole_of}
 use Rattle.hack_powerset_list.specs.LineWords.{Prints, others_text}
 use Rattle.hack_powerset_list.specs.Room.{set_in, most_in}
 use Rattle.hack_features.specs.Walk.{below}
 use Rattle.hack_powerset_list.specs.Walks.{is_other, set_lines}
 use Rattle.hack_powerset_list.proofs.PageLemmas.{prints-none, prints-then, prints-front, prints-stopped, on_err-any}
 use Rattle.hack_powerset_list.proofs.WalkLemmas.{selection-front, selection-short, above-front, above-cons}
-use Rattle.hack_powerset_list.proofs.ListedLemmas.{below-full, lines_below, line_at, lines_under, text-step, text-skip, text-all}
+use Rattle.hack_powerset_list.proofs.ListedLemmas.{other-same, below-full, lines_below, line_at, lines_under, text-step, text-skip, text-all}
 use Rattle.hack_powerset_list.proofs.walk.+print_below.Goals as goal
 use Rattle.hack_powerset_list.proofs.walk.+print_below.Goals.{then-p-gt0+then-not-is_full+in_ok-longer+in_ok-print_below, else-p-gt0, else-p-gt0-via-then-p-gt0+else-not-is_full, else-p-gt0-via-else-p-gt0}
 
 pub may_begin-requires : goal.may_begin-requires
 may_begin-requires g t c =
     let asked = c.requires.1.1.1 in
-    let r = c.args.lines.now.rules.now in
+    let r = c.args.rules.now in
     let n : ℕ = size_of r in
     let may : List ℕ → Bool = may_of r in
     let test : List ℕ → Bool = is_other r c.args.lines.now.last.now in
@@ -27,12 +27,12 @@ may_begin-requires g t c =
     let lt : p < c.args.limit = c.loop-p-test.true in
     let selection : IsSelection n (p ∷ s) =
     selection-front n p s (omega (arith, lt, asked.1.1.1.1.1.0)) (above-front c.args.limit p s lt asked.1.1.1.1.0) asked.1.1.1.0 in
-    subst (λ l. IsSelection n (p ∷ l)) (sym (c.set.ensures ∙ c.loop-p.invariant.kept)) selection
+    subst (λ m. IsSelection m (p ∷ c.set.result.now)) (sym c.loop-p.invariant.same_size) (subst (λ l. IsSelection n (p ∷ l)) (sym (c.set.ensures ∙ c.loop-p.invariant.kept)) selection)
 
 pub loop-p-preserved-then-not-may_begin : goal.loop-p-preserved-then-not-may_begin
 loop-p-preserved-then-not-may_begin g t c =
     let asked = c.requires.1.1.1 in
-    let r = c.args.lines.now.rules.now in
+    let r = c.args.rules.now in
     let n : ℕ = size_of r in
     let may : List ℕ → Bool = may_of r in
     let test : List ℕ → Bool = is_other r c.args.lines.now.last.now in
@@ -40,18 +40,22 @@ loop-p-preserved-then-not-may_begin g t c =
     let s : List ℕ = set_in c.args.room.now in
     let p : ℕ = c.loop-p.p in
     let refused : may (p ∷ s) ≡ false =
-    ap (λ l. may (p ∷ l)) (sym (c.set.ensures ∙ c.loop-p.invariant.kept)) ∙ sym c.may_begin.ensures.answer ∙ c.if-not-may_begin.true in
+    ap (λ l. may (p ∷ l)) (sym (c.set.ensures ∙ c.loop-p.invariant.kept)) ∙ sym (c.may_begin.ensures.answer ∙ ap (λ f. f (p ∷ c.set.result.now)) c.loop-p.invariant.same_may) ∙ c.if-not-may_begin.true in
     record {
-      printed = subst (Prints (g.W.Write.contents c.args.out.now) (g.W.Write.contents c.loop-p.out) (string_bytes c.args.page.now) (string_bytes c.loop-p.page))
+      printed = subst (Prints (g.W.Sink.contents c.args.out.now) (g.W.Sink.contents c.loop-p.out) (string_bytes c.args.page.now) (string_bytes c.loop-p.page))
           (sym (text-skip names test may s p refused)) c.loop-p.invariant.printed;
+      same_count = c.loop-p.invariant.same_count;
       kept = c.loop-p.invariant.kept;
       room = c.loop-p.invariant.room;
+      same_size = c.may_begin.ensures.same_size ∙ c.loop-p.invariant.same_size;
+      same_may = c.may_begin.ensures.same_may ∙ c.loop-p.invariant.same_may;
+      same_whole = c.may_begin.ensures.same_whole ∙ c.loop-p.invariant.same_whole;
     }
 
 pub put-requires : goal.put-requires
 put-requires g t c =
     let asked = c.requires.1.1.1 in
-    let r = c.args.lines.now.rules.now in
+    let r = c.args.rules.now in
     let n : ℕ = size_of r in
     let may : List ℕ → Bool = may_of r in
     let test : List ℕ → Bool = is_other r c.args.lines.now.last.now in
@@ -66,7 +70,7 @@ put-requires g t c =
 pub print_other-requires-clause-set : goal.print_other-requires-clause-set
 print_other-requires-clause-set g t c =
     let asked = c.requires.1.1.1 in
-    let r = c.args.lines.now.rules.now in
+    let r = c.args.rules.now in
     let n : ℕ = size_of r in
     let may : List ℕ → Bool = may_of r in
     let test : List ℕ → Bool = is_other r c.args.lines.now.last.now in
@@ -76,12 +80,12 @@ print_other-requires-clause-set g t c =
     let lt : p < c.args.limit = c.loop-p-test.true in
     let selection : IsSelection n (p ∷ s) =
     selection-front n p s (omega (arith, lt, asked.1.1.1.1.1.0)) (above-front c.args.limit p s lt asked.1.1.1.1.0) asked.1.1.1.0 in
-    subst (IsSelection n) (sym (c.set-in-loop-p.ensures ∙ c.put.ensures.set ∙ ap (λ l. p ∷ l) c.loop-p.invariant.kept)) selection
+    subst (λ m. IsSelection m c.set-in-loop-p.result.now) (sym (c.may_begin.ensures.same_size ∙ c.loop-p.invariant.same_size)) (subst (IsSelection n) (sym (c.set-in-loop-p.ensures ∙ c.put.ensures.set ∙ ap (λ l. p ∷ l) c.loop-p.invariant.kept)) selection)
 
 pub returns-in_err-print_other-clause-err : goal.returns-in_err-print_other-clause-err
 returns-in_err-print_other-clause-err g t c =
     let asked = c.requires.1.1.1 in
-    let r = c.args.lines.now.rules.now in
+    let r = c.args.rules.now in
     let n : ℕ = size_of r in
     let may : List ℕ → Bool = may_of r in
     let test : List ℕ → Bool = is_other r c.args.lines.now.last.now in
@@ -92,14 +96,15 @@ returns-in_err-print_other-clause-err g t c =
     let selection : IsSelection n (p ∷ s) =
     selection-front n p s (omega (arith, lt, asked.1.1.1.1.1.0)) (above-front c.args.limit p s lt asked.1.1.1.1.0) asked.1.1.1.0 in
     let permitted : may (p ∷ s) ≡ true =
-    ap (λ l. may (p ∷ l)) (sym (c.set.ensures ∙ c.loop-p.invariant.kept)) ∙ sym c.may_begin.ensures.answer ∙ c.if-not-may_begin.false in
+    ap (λ l. may (p ∷ l)) (sym (c.set.ensures ∙ c.loop-p.invariant.kept)) ∙ sym (c.may_begin.ensures.answer ∙ ap (λ f. f (p ∷ c.set.result.now)) c.loop-p.invariant.same_may) ∙ c.if-not-may_begin.false in
     let stood : set_in c.put.new.self ≡ p ∷ s = c.put.ensures.set ∙ ap (λ l. p ∷ l) c.loop-p.invariant.kept in
     let set : c.set-in-loop-p.result.now ≡ p ∷ s = c.set-in-loop-p.ensures ∙ stood in
+    let back : is_other c.may_begin.new.self c.args.lines.now.last.now ≡ test = other-same r c.may_begin.new.self c.args.lines.now.last.now (c.may_begin.ensures.same_whole ∙ c.loop-p.invariant.same_whole) in
     let others : c.args.others.now ≡ others_text (items_at names s) = asked.1.1.1.1.1.1 in
     let all = text-all names test may s p c.args.limit lt permitted in
-    let stopped : AppendsFront (g.W.Write.contents c.loop-p.out) (g.W.Write.contents c.print_other.new.out) (string_bytes c.loop-p.page ++ line_at names test may s p) =
-    subst (λ x. AppendsFront (g.W.Write.contents c.loop-p.out) (g.W.Write.contents c.print_other.new.out) (string_bytes c.loop-p.page ++ set_lines names (filter test (x ∷ []))))
-    set (c.in_err-print_other.ensures.err s set others) in
+    let stopped : AppendsFront (g.W.Sink.contents c.loop-p.out) (g.W.Sink.contents c.print_other.new.out) (string_bytes c.loop-p.page ++ line_at names test may s p) =
+    subst (λ x. AppendsFront (g.W.Sink.contents c.loop-p.out) (g.W.Sink.contents c.print_other.new.out) (string_bytes c.loop-p.page ++ set_lines names (filter test (x ∷ []))))
+    set (subst (λ f. AppendsFront (g.W.Sink.contents c.loop-p.out) (g.W.Sink.contents c.print_other.new.out) (string_bytes c.loop-p.page ++ set_lines names (filter f (c.set-in-loop-p.result.now ∷ [])))) back (c.in_err-print_other.ensures.err s set others)) in
     on_err-any c.from_residual.result _
     (prints-stopped _ _ _ (string_bytes c.args.page.now) (string_bytes c.loop-p.page) (lines_below names test may s p) (line_at names test may s p) (lines_under names test may s p ++ all.0) (lines_below names test may s c.args.limit)
     c.loop-p.invariant.printed stopped all.1)
@@ -107,7 +112,7 @@ returns-in_err-print_other-clause-err g t c =
 pub returns-in_err-longer-clause-err : goal.returns-in_err-longer-clause-err
 returns-in_err-longer-clause-err g t c =
     let asked = c.requires.1.1.1 in
-    let r = c.args.lines.now.rules.now in
+    let r = c.args.rules.now in
     let n : ℕ = size_of r in
     let may : List ℕ → Bool = may_of r in
     let test : List ℕ → Bool = is_other r c.args.lines.now.last.now in
@@ -118,15 +123,16 @@ returns-in_err-longer-clause-err g t c =
     let selection : IsSelection n (p ∷ s) =
     selection-front n p s (omega (arith, lt, asked.1.1.1.1.1.0)) (above-front c.args.limit p s lt asked.1.1.1.1.0) asked.1.1.1.0 in
     let permitted : may (p ∷ s) ≡ true =
-    ap (λ l. may (p ∷ l)) (sym (c.set.ensures ∙ c.loop-p.invariant.kept)) ∙ sym c.may_begin.ensures.answer ∙ c.if-not-may_begin.false in
+    ap (λ l. may (p ∷ l)) (sym (c.set.ensures ∙ c.loop-p.invariant.kept)) ∙ sym (c.may_begin.ensures.answer ∙ ap (λ f. f (p ∷ c.set.result.now)) c.loop-p.invariant.same_may) ∙ c.if-not-may_begin.false in
     let stood : set_in c.put.new.self ≡ p ∷ s = c.put.ensures.set ∙ ap (λ l. p ∷ l) c.loop-p.invariant.kept in
     let set : c.set-in-loop-p.result.now ≡ p ∷ s = c.set-in-loop-p.ensures ∙ stood in
+    let back : is_other c.may_begin.new.self c.args.lines.now.last.now ≡ test = other-same r c.may_begin.new.self c.args.lines.now.last.now (c.may_begin.ensures.same_whole ∙ c.loop-p.invariant.same_whole) in
     let others : c.args.others.now ≡ others_text (items_at names s) = asked.1.1.1.1.1.1 in
     let all = text-all names test may s p c.args.limit lt permitted in
-    let line : Prints (g.W.Write.contents c.loop-p.out) (g.W.Write.contents c.print_other.new.out) (string_bytes c.loop-p.page) (string_bytes c.print_other.new.page) (line_at names test may s p) =
-    subst (λ x. Prints (g.W.Write.contents c.loop-p.out) (g.W.Write.contents c.print_other.new.out) (string_bytes c.loop-p.page) (string_bytes c.print_other.new.page) (set_lines names (filter test (x ∷ []))))
-    set (c.in_ok-print_other.ensures.ok s set others) in
-    let so_far : Prints (g.W.Write.contents c.args.out.now) (g.W.Write.contents c.print_other.new.out) (string_bytes c.args.page.now) (string_bytes c.print_other.new.page) (lines_below names test may s p ++ line_at names test may s p) =
+    let line : Prints (g.W.Sink.contents c.loop-p.out) (g.W.Sink.contents c.print_other.new.out) (string_bytes c.loop-p.page) (string_bytes c.print_other.new.page) (line_at names test may s p) =
+    subst (λ x. Prints (g.W.Sink.contents c.loop-p.out) (g.W.Sink.contents c.print_other.new.out) (string_bytes c.loop-p.page) (string_bytes c.print_other.new.page) (set_lines names (filter test (x ∷ []))))
+    set (subst (λ f. Prints (g.W.Sink.contents c.loop-p.out) (g.W.Sink.contents c.print_other.new.out) (string_bytes c.loop-p.page) (string_bytes c.print_other.new.page) (set_lines names (filter f (c.set-in-loop-p.result.now ∷ [])))) back (c.in_ok-print_other.ensures.ok s set others)) in
+    let so_far : Prints (g.W.Sink.contents c.args.out.now) (g.W.Sink.contents c.print_other.new.out) (string_bytes c.args.page.now) (string_bytes c.print_other.new.page) (lines_below names test may s p ++ line_at names test may s p) =
     prints-then _ _ _ (string_bytes c.args.page.now) (string_bytes c.loop-p.page) (string_bytes c.print_other.new.page) (lines_below names test may s p) (line_at names test may s p) c.loop-p.invariant.printed line in
     on_err-any c.from_residual-in_err-longer.result _
     (prints-front _ _ (string_bytes c.args.page.now) (string_bytes c.print_other.new.page) (lines_below names test may s p ++ line_at names test may s p) (lines_under names test may s p ++ all.0) (lines_below names test may s c.args.limit)
@@ -135,7 +141,7 @@ returns-in_err-longer-clause-err g t c =
 pub print_below-requires : goal.print_below-requires
 print_below-requires g t c κs within =
     let asked = c.requires.1.1.1 in
-    let r = c.args.lines.now.rules.now in
+    let r = c.args.rules.now in
     let n : ℕ = size_of r in
     let may : List ℕ → Bool = may_of r in
     let test : List ℕ → Bool = is_other r c.args.lines.now.last.now in
@@ -153,15 +159,15 @@ print_below-requires g t c κs within =
         (
           asked.0,
           (
-            asked.1.0,
+            c.may_begin.ensures.same_size ∙ c.loop-p.invariant.same_size ∙ asked.1.0,
             (
-              c.put.ensures.most ∙ c.loop-p.invariant.room ∙ asked.1.1.0,
+              c.put.ensures.most ∙ c.loop-p.invariant.room ∙ asked.1.1.0 ∙ sym (c.may_begin.ensures.same_size ∙ c.loop-p.invariant.same_size),
               (
-                subst (IsSelection n) (sym stood) selection,
+                subst (λ m. IsSelection m (set_in c.put.new.self)) (sym (c.may_begin.ensures.same_size ∙ c.loop-p.invariant.same_size)) (subst (IsSelection n) (sym stood) selection),
                 (
                   subst (All (λ q. p ≤ q)) (sym stood) (above-cons p s (above-front c.args.limit p s lt asked.1.1.1.1.0)),
                   (
-                    omega (arith, lt, asked.1.1.1.1.1.0),
+                    omega (arith, lt, asked.1.1.1.1.1.0, c.may_begin.ensures.same_size ∙ c.loop-p.invariant.same_size),
                     c.as_str.ensures.value ∙ c.in_ok-longer.ensures s others ∙ ap (λ l. others_text (items_at names l)) (sym stood),
                   ),
                 ),
@@ -175,7 +181,7 @@ print_below-requires g t c κs within =
 pub returns-in_err-print_below-clause-err : goal.returns-in_err-print_below-clause-err
 returns-in_err-print_below-clause-err g t c =
     let asked = c.requires.1.1.1 in
-    let r = c.args.lines.now.rules.now in
+    let r = c.args.rules.now in
     let n : ℕ = size_of r in
     let may : List ℕ → Bool = may_of r in
     let test : List ℕ → Bool = is_other r c.args.lines.now.last.now in
@@ -186,19 +192,23 @@ returns-in_err-print_below-clause-err g t c =
     let selection : IsSelection n (p ∷ s) =
     selection-front n p s (omega (arith, lt, asked.1.1.1.1.1.0)) (above-front c.args.limit p s lt asked.1.1.1.1.0) asked.1.1.1.0 in
     let permitted : may (p ∷ s) ≡ true =
-    ap (λ l. may (p ∷ l)) (sym (c.set.ensures ∙ c.loop-p.invariant.kept)) ∙ sym c.may_begin.ensures.answer ∙ c.if-not-may_begin.false in
+    ap (λ l. may (p ∷ l)) (sym (c.set.ensures ∙ c.loop-p.invariant.kept)) ∙ sym (c.may_begin.ensures.answer ∙ ap (λ f. f (p ∷ c.set.result.now)) c.loop-p.invariant.same_may) ∙ c.if-not-may_begin.false in
     let stood : set_in c.put.new.self ≡ p ∷ s = c.put.ensures.set ∙ ap (λ l. p ∷ l) c.loop-p.invariant.kept in
     let set : c.set-in-loop-p.result.now ≡ p ∷ s = c.set-in-loop-p.ensures ∙ stood in
+    let back : is_other c.may_begin.new.self c.args.lines.now.last.now ≡ test = other-same r c.may_begin.new.self c.args.lines.now.last.now (c.may_begin.ensures.same_whole ∙ c.loop-p.invariant.same_whole) in
     let others : c.args.others.now ≡ others_text (items_at names s) = asked.1.1.1.1.1.1 in
     let all = text-all names test may s p c.args.limit lt permitted in
-    let line : Prints (g.W.Write.contents c.loop-p.out) (g.W.Write.contents c.print_other.new.out) (string_bytes c.loop-p.page) (string_bytes c.print_other.new.page) (line_at names test may s p) =
-    subst (λ x. Prints (g.W.Write.contents c.loop-p.out) (g.W.Write.contents c.print_other.new.out) (string_bytes c.loop-p.page) (string_bytes c.print_other.new.page) (set_lines names (filter test (x ∷ []))))
-    set (c.in_ok-print_other.ensures.ok s set others) in
-    let so_far : Prints (g.W.Write.contents c.args.out.now) (g.W.Write.contents c.print_other.new.out) (string_bytes c.args.page.now) (string_bytes c.print_other.new.page) (lines_below names test may s p ++ line_at names test may s p) =
+    let line : Prints (g.W.Sink.contents c.loop-p.out) (g.W.Sink.contents c.print_other.new.out) (string_bytes c.loop-p.page) (string_bytes c.print_other.new.page) (line_at names test may s p) =
+    subst (λ x. Prints (g.W.Sink.contents c.loop-p.out) (g.W.Sink.contents c.print_other.new.out) (string_bytes c.loop-p.page) (string_bytes c.print_other.new.page) (set_lines names (filter test (x ∷ []))))
+    set (subst (λ f. Prints (g.W.Sink.contents c.loop-p.out) (g.W.Sink.contents c.print_other.new.out) (string_bytes c.loop-p.page) (string_bytes c.print_other.new.page) (set_lines names (filter f (c.set-in-loop-p.result.now ∷ [])))) back (c.in_ok-print_other.ensures.ok s set others)) in
+    let so_far : Prints (g.W.Sink.contents c.args.out.now) (g.W.Sink.contents c.print_other.new.out) (string_bytes c.args.page.now) (string_bytes c.print_other.new.page) (lines_below names test may s p ++ line_at names test may s p) =
     prints-then _ _ _ (string_bytes c.args.page.now) (string_bytes c.loop-p.page) (string_bytes c.print_other.new.page) (lines_below names test may s p) (line_at names test may s p) c.loop-p.invariant.printed line in
-    let under : lines_under names test may s p ≡ set_lines names (filter test (below may p (set_in c.put.new.self))) = ap (λ l. set_lines names (filter test (below may p l))) (sym stood) in
-    let stopped : AppendsFront (g.W.Write.contents c.print_other.new.out) (g.W.Write.contents c.print_below.new.out) (string_bytes c.print_other.new.page ++ lines_under names test may s p) =
-    subst (λ l. AppendsFront (g.W.Write.contents c.print_other.new.out) (g.W.Write.contents c.print_below.new.out) (string_bytes c.print_other.new.page ++ l)) (sym under) c.in_err-print_below.ensures.err in
+    let put : List ℕ = set_in c.put.new.self in
+    let under : lines_under names test may s p ≡ set_lines names (filter (is_other c.may_begin.new.self c.args.lines.now.last.now) (below (may_of c.may_begin.new.self) p put)) =
+    ap (λ l. set_lines names (filter test (below may p l))) (sym stood) ∙ ap (λ f. set_lines names (filter f (below may p put))) (sym back)
+    ∙ ap (λ m. set_lines names (filter (is_other c.may_begin.new.self c.args.lines.now.last.now) (below m p put))) (sym (c.may_begin.ensures.same_may ∙ c.loop-p.invariant.same_may)) in
+    let stopped : AppendsFront (g.W.Sink.contents c.print_other.new.out) (g.W.Sink.contents c.print_below.new.out) (string_bytes c.print_other.new.page ++ lines_under names test may s p) =
+    subst (λ l. AppendsFront (g.W.Sink.contents c.print_other.new.out) (g.W.Sink.contents c.print_below.new.out) (string_bytes c.print_other.new.page ++ l)) (sym under) c.in_err-print_below.ensures.err in
     on_err-any c.from_residual-in_err-print_below.result _
     (prints-stopped _ _ _ (string_bytes c.args.page.now) (string_bytes c.print_other.new.page) (lines_below names test may s p ++ line_at names test may s p) (lines_under names test may s p) all.0 (lines_below names test may s c.args.limit)
     so_far stopped (all.1 ∙ sym (append_assoc (lines_below names test may s p) (line_at names test may s p) (lines_under names test may s p ++ all.0))))
@@ -206,7 +216,7 @@ returns-in_err-print_below-clause-err g t c =
 pub loop-p-preserved : goal.loop-p-preserved
 loop-p-preserved g t c =
     let asked = c.requires.1.1.1 in
-    let r = c.args.lines.now.rules.now in
+    let r = c.args.rules.now in
     let n : ℕ = size_of r in
     let may : List ℕ → Bool = may_of r in
     let test : List ℕ → Bool = is_other r c.args.lines.now.last.now in
@@ -217,20 +227,24 @@ loop-p-preserved g t c =
     let selection : IsSelection n (p ∷ s) =
     selection-front n p s (omega (arith, lt, asked.1.1.1.1.1.0)) (above-front c.args.limit p s lt asked.1.1.1.1.0) asked.1.1.1.0 in
     let permitted : may (p ∷ s) ≡ true =
-    ap (λ l. may (p ∷ l)) (sym (c.set.ensures ∙ c.loop-p.invariant.kept)) ∙ sym c.may_begin.ensures.answer ∙ c.if-not-may_begin.false in
+    ap (λ l. may (p ∷ l)) (sym (c.set.ensures ∙ c.loop-p.invariant.kept)) ∙ sym (c.may_begin.ensures.answer ∙ ap (λ f. f (p ∷ c.set.result.now)) c.loop-p.invariant.same_may) ∙ c.if-not-may_begin.false in
     let stood : set_in c.put.new.self ≡ p ∷ s = c.put.ensures.set ∙ ap (λ l. p ∷ l) c.loop-p.invariant.kept in
     let set : c.set-in-loop-p.result.now ≡ p ∷ s = c.set-in-loop-p.ensures ∙ stood in
+    let back : is_other c.may_begin.new.self c.args.lines.now.last.now ≡ test = other-same r c.may_begin.new.self c.args.lines.now.last.now (c.may_begin.ensures.same_whole ∙ c.loop-p.invariant.same_whole) in
     let others : c.args.others.now ≡ others_text (items_at names s) = asked.1.1.1.1.1.1 in
     let all = text-all names test may s p c.args.limit lt permitted in
-    let line : Prints (g.W.Write.contents c.loop-p.out) (g.W.Write.contents c.print_other.new.out) (string_bytes c.loop-p.page) (string_bytes c.print_other.new.page) (line_at names test may s p) =
-    subst (λ x. Prints (g.W.Write.contents c.loop-p.out) (g.W.Write.contents c.print_other.new.out) (string_bytes c.loop-p.page) (string_bytes c.print_other.new.page) (set_lines names (filter test (x ∷ []))))
-    set (c.in_ok-print_other.ensures.ok s set others) in
-    let so_far : Prints (g.W.Write.contents c.args.out.now) (g.W.Write.contents c.print_other.new.out) (string_bytes c.args.page.now) (string_bytes c.print_other.new.page) (lines_below names test may s p ++ line_at names test may s p) =
+    let line : Prints (g.W.Sink.contents c.loop-p.out) (g.W.Sink.contents c.print_other.new.out) (string_bytes c.loop-p.page) (string_bytes c.print_other.new.page) (line_at names test may s p) =
+    subst (λ x. Prints (g.W.Sink.contents c.loop-p.out) (g.W.Sink.contents c.print_other.new.out) (string_bytes c.loop-p.page) (string_bytes c.print_other.new.page) (set_lines names (filter test (x ∷ []))))
+    set (subst (λ f. Prints (g.W.Sink.contents c.loop-p.out) (g.W.Sink.contents c.print_other.new.out) (string_bytes c.loop-p.page) (string_bytes c.print_other.new.page) (set_lines names (filter f (c.set-in-loop-p.result.now ∷ [])))) back (c.in_ok-print_other.ensures.ok s set others)) in
+    let so_far : Prints (g.W.Sink.contents c.args.out.now) (g.W.Sink.contents c.print_other.new.out) (string_bytes c.args.page.now) (string_bytes c.print_other.new.page) (lines_below names test may s p ++ line_at names test may s p) =
     prints-then _ _ _ (string_bytes c.args.page.now) (string_bytes c.loop-p.page) (string_bytes c.print_other.new.page) (lines_below names test may s p) (line_at names test may s p) c.loop-p.invariant.printed line in
-    let under : lines_under names test may s p ≡ set_lines names (filter test (below may p (set_in c.put.new.self))) = ap (λ l. set_lines names (filter test (below may p l))) (sym stood) in
+    let put : List ℕ = set_in c.put.new.self in
+    let under : lines_under names test may s p ≡ set_lines names (filter (is_other c.may_begin.new.self c.args.lines.now.last.now) (below (may_of c.may_begin.new.self) p put)) =
+    ap (λ l. set_lines names (filter test (below may p l))) (sym stood) ∙ ap (λ f. set_lines names (filter f (below may p put))) (sym back)
+    ∙ ap (λ m. set_lines names (filter (is_other c.may_begin.new.self c.args.lines.now.last.now) (below m p put))) (sym (c.may_begin.ensures.same_may ∙ c.loop-p.invariant.same_may)) in
     let next : lines_below names test may s (p + 1) ≡ (lines_below names test may s p ++ line_at names test may s p) ++ lines_under names test may s p =
     text-step names test may s p permitted ∙ sym (append_assoc (lines_below names test may s p) (line_at names test may s p) (lines_under names test may s p)) in
-    let out_new = g.W.Write.contents c.if-p-gt0.out in
+    let out_new = g.W.Sink.contents c.if-p-gt0.out in
     let page_new : List ℕ = string_bytes c.if-p-gt0.page in
     let kept : set_in c.if-p-gt0.room ≡ p ∷ s =
     elim c.if-p-gt0.branch [
@@ -242,41 +256,57 @@ loop-p-preserved g t c =
       | then-p-gt0+then-not-is_full+in_ok-longer+in_ok-print_below w ↦ ap most_in w.room-is ∙ w.in_ok-print_below.ensures.room ∙ c.put.ensures.most ∙ c.loop-p.invariant.room
       | else-p-gt0 w ↦ ap most_in w.room-is ∙ c.put.ensures.most ∙ c.loop-p.invariant.room
     ] in
-    let behind : Prints (g.W.Write.contents c.print_other.new.out) out_new (string_bytes c.print_other.new.page) page_new (lines_under names test may s p) =
+    let behind : Prints (g.W.Sink.contents c.print_other.new.out) out_new (string_bytes c.print_other.new.page) page_new (lines_under names test may s p) =
     elim c.if-p-gt0.branch [
       | then-p-gt0+then-not-is_full+in_ok-longer+in_ok-print_below w ↦
-          subst (λ o. Prints (g.W.Write.contents c.print_other.new.out) (g.W.Write.contents o) (string_bytes c.print_other.new.page) page_new (lines_under names test may s p)) (sym w.out-is)
-          (subst (λ b. Prints (g.W.Write.contents c.print_other.new.out) (g.W.Write.contents w.print_below.new.out) (string_bytes c.print_other.new.page) (string_bytes b) (lines_under names test may s p)) (sym w.page-is)
-          (subst (Prints (g.W.Write.contents c.print_other.new.out) (g.W.Write.contents w.print_below.new.out) (string_bytes c.print_other.new.page) (string_bytes w.print_below.new.page)) (sym under)
+          subst (λ o. Prints (g.W.Sink.contents c.print_other.new.out) (g.W.Sink.contents o) (string_bytes c.print_other.new.page) page_new (lines_under names test may s p)) (sym w.out-is)
+          (subst (λ b. Prints (g.W.Sink.contents c.print_other.new.out) (g.W.Sink.contents w.print_below.new.out) (string_bytes c.print_other.new.page) (string_bytes b) (lines_under names test may s p)) (sym w.page-is)
+          (subst (Prints (g.W.Sink.contents c.print_other.new.out) (g.W.Sink.contents w.print_below.new.out) (string_bytes c.print_other.new.page) (string_bytes w.print_below.new.page)) (sym under)
           w.in_ok-print_below.ensures.ok))
       | else-p-gt0 w ↦
           let none : lines_under names test may s p ≡ [] =
           elim w.else-p-gt0.branch [
             | else-p-gt0-via-then-p-gt0+else-not-is_full w' ↦
-                let full : (q : ℕ) → may (q ∷ p ∷ s) ≡ false = w'.is_full.ensures w'.if-not-is_full.false (p ∷ s) (ap length (sym (w'.set-then-p-gt0.ensures ∙ stood))) in
+                let full : (q : ℕ) → may (q ∷ p ∷ s) ≡ false = λ q. ap (λ f. f (q ∷ p ∷ s)) (sym (c.may_begin.ensures.same_may ∙ c.loop-p.invariant.same_may)) ∙ w'.is_full.ensures w'.if-not-is_full.false (p ∷ s) (ap length (sym (w'.set-then-p-gt0.ensures ∙ stood))) q in
                 ap (λ l. set_lines names (filter test l)) (below-full may (p ∷ s) p full)
             | else-p-gt0-via-else-p-gt0 w' ↦ let least : p ≡ zero = omega (arith, w'.if-p-gt0.false) in ap (lines_under names test may s) least
           ] in
-          subst (λ o. Prints (g.W.Write.contents c.print_other.new.out) (g.W.Write.contents o) (string_bytes c.print_other.new.page) page_new (lines_under names test may s p)) (sym w.out-is)
-          (subst (λ b. Prints (g.W.Write.contents c.print_other.new.out) (g.W.Write.contents c.print_other.new.out) (string_bytes c.print_other.new.page) (string_bytes b) (lines_under names test may s p)) (sym w.page-is)
-          (subst (Prints (g.W.Write.contents c.print_other.new.out) (g.W.Write.contents c.print_other.new.out) (string_bytes c.print_other.new.page) (string_bytes c.print_other.new.page)) (sym none)
-          (prints-none (g.W.Write.contents c.print_other.new.out) (string_bytes c.print_other.new.page))))
+          subst (λ o. Prints (g.W.Sink.contents c.print_other.new.out) (g.W.Sink.contents o) (string_bytes c.print_other.new.page) page_new (lines_under names test may s p)) (sym w.out-is)
+          (subst (λ b. Prints (g.W.Sink.contents c.print_other.new.out) (g.W.Sink.contents c.print_other.new.out) (string_bytes c.print_other.new.page) (string_bytes b) (lines_under names test may s p)) (sym w.page-is)
+          (subst (Prints (g.W.Sink.contents c.print_other.new.out) (g.W.Sink.contents c.print_other.new.out) (string_bytes c.print_other.new.page) (string_bytes c.print_other.new.page)) (sym none)
+          (prints-none (g.W.Sink.contents c.print_other.new.out) (string_bytes c.print_other.new.page))))
     ] in
     record {
-      printed = subst (Prints (g.W.Write.contents c.args.out.now) out_new (string_bytes c.args.page.now) page_new) (sym next)
+      printed = subst (Prints (g.W.Sink.contents c.args.out.now) out_new (string_bytes c.args.page.now) page_new) (sym next)
           (prints-then _ _ _ (string_bytes c.args.page.now) (string_bytes c.print_other.new.page) page_new (lines_below names test may s p ++ line_at names test may s p) (lines_under names test may s p) so_far behind);
+      same_count = elim c.if-p-gt0.branch [
+        | then-p-gt0+then-not-is_full+in_ok-longer+in_ok-print_below w ↦ ap g.W.Sink.failed w.out-is ∙ w.in_ok-print_below.ensures.counted ∙ c.in_ok-print_other.ensures.counted ∙ c.loop-p.invariant.same_count
+        | else-p-gt0 w ↦ ap g.W.Sink.failed w.out-is ∙ c.in_ok-print_other.ensures.counted ∙ c.loop-p.invariant.same_count
+      ];
       kept = c.take.ensures.set ∙ ap (drop 1) kept;
       room = c.take.ensures.most ∙ room;
+      same_size = elim c.if-p-gt0.branch [
+        | then-p-gt0+then-not-is_full+in_ok-longer+in_ok-print_below w ↦ ap size_of w.rules-is ∙ w.in_ok-print_below.ensures.same_size ∙ c.may_begin.ensures.same_size ∙ c.loop-p.invariant.same_size
+        | else-p-gt0 w ↦ ap size_of w.rules-is ∙ c.may_begin.ensures.same_size ∙ c.loop-p.invariant.same_size
+      ];
+      same_may = elim c.if-p-gt0.branch [
+        | then-p-gt0+then-not-is_full+in_ok-longer+in_ok-print_below w ↦ ap may_of w.rules-is ∙ w.in_ok-print_below.ensures.same_may ∙ c.may_begin.ensures.same_may ∙ c.loop-p.invariant.same_may
+        | else-p-gt0 w ↦ ap may_of w.rules-is ∙ c.may_begin.ensures.same_may ∙ c.loop-p.invariant.same_may
+      ];
+      same_whole = elim c.if-p-gt0.branch [
+        | then-p-gt0+then-not-is_full+in_ok-longer+in_ok-print_below w ↦ ap whole_of w.rules-is ∙ w.in_ok-print_below.ensures.same_whole ∙ c.may_begin.ensures.same_whole ∙ c.loop-p.invariant.same_whole
+        | else-p-gt0 w ↦ ap whole_of w.rules-is ∙ c.may_begin.ensures.same_whole ∙ c.loop-p.invariant.same_whole
+      ];
     }
 
 pub returns-clause-ok : goal.returns-clause-ok
 returns-clause-ok g t c =
     let asked = c.requires.1.1.1 in
-    let r = c.args.lines.now.rules.now in
+    let r = c.args.rules.now in
     let n : ℕ = size_of r in
     let may : List ℕ → Bool = may_of r in
     let test : List ℕ → Bool = is_other r c.args.lines.now.last.now in
     let names : List Name = map name_of c.args.lines.now.features.now in
     let s : List ℕ = set_in c.args.room.now in
     let ended : c.loop-p.p ≡ c.args.limit = omega (arith, c.loop-p-test.false) in
-    subst (λ k. Prints (g.W.Write.contents c.args.out.now) (g.W.Write.contents c.loop-p.out) (string_bytes c.args.page.now) (string_bytes c.loop-p.page) (lines_below names test may s k)) ended c.loop-p.invariant.printed
+    subst (λ k. Prints (g.W.Sink.contents c.args.out.now) (g.W.Sink.contents c.loop-p.out) (string_bytes c.args.page.now) (string_bytes c.loop-p.page) (lines_below names test may s k)) ended c.loop-p.invariant.printed

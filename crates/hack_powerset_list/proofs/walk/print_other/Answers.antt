@@ -16,7 +16,7 @@ use Rattle.hack_powerset_list.proofs.walk.print_other.Goals as goal
 
 pub returns-then-ne-clause-err : goal.returns-then-ne-clause-err
 returns-then-ne-clause-err g c = λ s set others.
-    let r = c.args.lines.now.rules.now in
+    let r = c.args.rules.now in
     let x : List ℕ = c.args.set.now in
     let last : List ℕ = c.args.lines.now.last.now in
     let names : List Name = map name_of c.args.lines.now.features.now in
@@ -26,4 +26,4 @@ returns-then-ne-clause-err g c = λ s set others.
     let passes : is_other r last x ≡ true = and_from (is_whole (whole_of r) x) (not (bytes_eq x last)) whole (sym c.ne.ensures ∙ c.if-ne.true) in
     let line : run_line names (Set (c.args.least ∷ s)) ≡ set_lines names (filter (is_other r last) (x ∷ [])) =
     ap (λ l. run_line names (Set l)) (sym set) ∙ sym (line-alone names (is_other r last) x passes) in
-    on_err-same c.print_set.result (λ l. AppendsFront (g.W.Write.contents c.args.out.now) (g.W.Write.contents c.print_set.new.out) (string_bytes c.args.page.now ++ l)) _ _ line (c.print_set.ensures.err s others)
+    on_err-same c.print_set.result (λ l. AppendsFront (g.W.Sink.contents c.args.out.now) (g.W.Sink.contents c.print_set.new.out) (string_bytes c.args.page.now ++ l)) _ _ line (c.print_set.ensures.err s others)

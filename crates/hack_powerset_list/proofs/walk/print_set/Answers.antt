@@ -17,7 +17,7 @@ returns-clause-ok g c = λ s is.
     let line : c.as_str.result.now ++ c.as_str-2.result.now ++ c.args.others.now ++ codes "\n" ≡ run_line names (Set (c.args.least ∷ s)) =
     line-of names c.args.least s _ _ _ inside (c.as_str.ensures.value ∙ c.requires.texts.bare)
     (c.as_str-2.ensures.value ∙ ap string_bytes c.index.ensures ∙ text-at names (codes " --features ") c.args.texts.now.first.items c.args.least _ c.requires.texts.first inside) is in
-    on_ok-same c.print_line.result (λ l. Prints (g.W.Write.contents c.args.out.now) (g.W.Write.contents c.print_line.new.out) (string_bytes c.args.page.now) (string_bytes c.print_line.new.page) l) _ _ line c.print_line.ensures.ok
+    on_ok-same c.print_line.result (λ l. Prints (g.W.Sink.contents c.args.out.now) (g.W.Sink.contents c.print_line.new.out) (string_bytes c.args.page.now) (string_bytes c.print_line.new.page) l) _ _ line c.print_line.ensures.ok
 
 pub returns-clause-err : goal.returns-clause-err
 returns-clause-err g c = λ s is.
@@ -26,4 +26,4 @@ returns-clause-err g c = λ s is.
     let line : c.as_str.result.now ++ c.as_str-2.result.now ++ c.args.others.now ++ codes "\n" ≡ run_line names (Set (c.args.least ∷ s)) =
     line-of names c.args.least s _ _ _ inside (c.as_str.ensures.value ∙ c.requires.texts.bare)
     (c.as_str-2.ensures.value ∙ ap string_bytes c.index.ensures ∙ text-at names (codes " --features ") c.args.texts.now.first.items c.args.least _ c.requires.texts.first inside) is in
-    on_err-same c.print_line.result (λ l. AppendsFront (g.W.Write.contents c.args.out.now) (g.W.Write.contents c.print_line.new.out) (string_bytes c.args.page.now ++ l)) _ _ line c.print_line.ensures.err
+    on_err-same c.print_line.result (λ l. AppendsFront (g.W.Sink.contents c.args.out.now) (g.W.Sink.contents c.print_line.new.out) (string_bytes c.args.page.now ++ l)) _ _ line c.print_line.ensures.err

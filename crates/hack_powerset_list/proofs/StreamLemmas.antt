@@ -1,0 +1,38 @@
+-- Faults of streams, and failures that are counted.
+use Rattle.std.proofs.Common.{◌≡◌, ◌∙◌, ◌<◌, ℕ, Option, Bool, true, false, if◌then◌else◌, sym, ap, subst, refl, arith}
+use Rattle.std.specs.Prelude.{MatchOption}
+use Rattle.std.specs.declared.io.ErrorKind.{ErrorKind}
+use Rattle.hack_powerset_list.specs.declared.fault.ListFault.TheVariants.{NotText, Read, Write, Memory}
+use Rattle.hack_powerset_list.specs.declared.wishes.WordsFault.{WordsFault}
+use Rattle.hack_powerset_list.specs.declared.wishes.WordsFault.TheVariants as said
+use Rattle.hack_powerset_list.specs.Faults.{is_memory, told_as}
+use Rattle.hack_powerset_list.specs.Words.{list_fault}
+use Rattle.hack_powerset_list.specs.Streams.{one_more, HasFailed, IsCounted}
+
+-- one failure more is a failure
+pub one-failed : (old new : Option ℕ) → new ≡ one_more old → HasFailed old new
+one-failed old new is = λ n at lt. subst (λ o. MatchOption o ⊥ (λ m. n < m)) (sym (is ∙ ap one_more at)) (omega (arith, lt))
+
+module _ (read_old read_new write_old write_new : Option ℕ) where
+  -- a fault of words is none of streams
+  pub counted-words : (fault : WordsFault) → IsCounted read_old read_new write_old write_new (list_fault fault)
+  counted-words said.Usage = tt
+  counted-words (said.Number text) = tt
+  counted-words (said.Group option) = tt
+  counted-words said.Memory = tt
+
+  -- nor is an error of arguments
+  pub counted-arguments : (kind : ErrorKind) → IsCounted read_old read_new write_old write_new (told_as kind NotText)
+  counted-arguments kind = elim (is_memory kind) as (λ b. IsCounted read_old read_new write_old write_new (if b then Memory else NotText)) [ true ↦ tt | false ↦ tt ]
+
+  -- an error of a reader that failed
+  pub counted-reading : (kind : ErrorKind) → HasFailed read_old read_new → IsCounted read_old read_new write_old write_new (told_as kind Read)
+  counted-reading kind failed = elim (is_memory kind) as (λ b. IsCounted read_old read_new write_old write_new (if b then Memory else Read)) [ true ↦ tt | false ↦ failed ]
+
+  -- an error of writing that counts a failure, but where memory runs out
+  pub counted-writing : (kind : ErrorKind) → (is_memory kind ≡ false → HasFailed write_old write_new) → IsCounted read_old read_new write_old write_new (told_as kind Write)
+  counted-writing kind failed = told (is_memory kind) refl
+    where
+      told : (b : Bool) → is_memory kind ≡ b → IsCounted read_old read_new write_old write_new (if b then Memory else Write)
+      told true is = tt
+      told false is = failed is
