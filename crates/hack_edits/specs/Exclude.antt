@@ -1,7 +1,10 @@
 -- The folders that are put into `workspace.exclude`.
-use Rattle.std.specs.Prelude.{◌≡◌, ◌==◌, ℕ, ◌-◌, ◌≤◌, ◌<◌, ◌&&◌, ◌||◌, Bool, false, not, if◌then◌else◌, List, [], ◌∷◌, ◌++◌, length, take, drop, slice_index, codes}
+use Rattle.std.specs.Prelude.{◌≡◌, ◌==◌, ℕ, ◌-◌, ◌≤◌, ◌<◌, ◌&&◌, ◌||◌, Bool, true, false, not, Option, Some, if◌then◌else◌, List, [], ◌∷◌, ◌++◌, length, take, drop, slice_index, codes}
+use Rattle.toml.specs.Data.{Members}
+use Rattle.toml.specs.Parse.{parse_document}
 use Rattle.hack_base.specs.Names.{Name}
 use Rattle.hack_edits.specs.Arrays.{IsArray}
+use Rattle.hack_edits.specs.Same.{same_members}
 
 -- a text with `\` before each `"` and `\`
 abbrev pub escaped_text : List ℕ → List ℕ
@@ -30,7 +33,31 @@ ends_in_feed text = not (length text == 0) && slice_index text (length text - 1)
 abbrev pub with_line : List Name → List ℕ → List ℕ
 with_line ts piece = (if ends_in_feed piece then piece else piece ++ 10 ∷ []) ++ (codes "exclude = [" ++ list_text ts ++ codes "]\n")
 
--- new is the piece with texts added between the brackets of its array, directly behind the first where it is empty
+-- the byte is a quote of a text
+abbrev pub is_quote : ℕ → Bool
+is_quote b = b == 34 || b == 39
+
+-- a text ends in one
+abbrev pub ends_in_quote : List ℕ → Bool
+ends_in_quote text = not (length text == 0) && is_quote (slice_index text (length text - 1))
+
+-- there are both trees, and they are the same
+abbrev pub are_alike : Option Members → Option Members → Bool
+are_alike (Some a) (Some b) = same_members a b
+are_alike _ _ = false
+
+-- two texts are read as the same tree
+abbrev pub reads_alike : List ℕ → List ℕ → Bool
+reads_alike a b = are_alike (parse_document a) (parse_document b)
+
+-- The last value of the array that closes with the first m bytes ends with the first k: these end in the quote of a text,
+-- and with a bracket behind them they are read as the whole array. (In a comment the bracket would be part of it.)
+pub record EndsLast (piece : List ℕ) (m k : ℕ) : Type 0 where
+  pub quote : ends_in_quote (take k piece) ≡ true
+  pub alike : reads_alike (take k piece ++ 93 ∷ []) (take m piece) ≡ true
+
+-- new is the piece with texts added between the brackets of its array: directly behind the first bracket where it is empty,
+-- and else directly behind the last value
 pub record IsAddedInside (filled : Bool) (ts : List Name) (piece new : List ℕ) : Type 0 where
   pub n : ℕ
   pub m : ℕ
@@ -39,6 +66,7 @@ pub record IsAddedInside (filled : Bool) (ts : List Name) (piece new : List ℕ)
   pub above : n ≤ k
   pub below : k < m
   pub place : filled ≡ false → k ≡ n
+  pub last : filled ≡ true → EndsLast piece m k
   pub result : new ≡ take k piece ++ (if filled then each_behind ts else list_text ts) ++ drop k piece
 
 -- there are texts to add

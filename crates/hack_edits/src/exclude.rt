@@ -1,14 +1,17 @@
 //! The folders of private crates put into `workspace.exclude`, in an array that is there or in a
 //! line of their own.
 
-ghost use Rattle.std.specs.Prelude.{◌≡◌, ◌≤◌, ◌++◌, map, length, IfOk, IfSome, OnOk};
+ghost use Rattle.std.specs.Prelude.{◌≡◌, ◌≤◌, ◌++◌, map, length, take, true, IfOk};
+ghost use Rattle.std.specs.Prelude.{IfSome, OnOk};
 ghost use Rattle.hack_base.specs.PathTexts.{parent_of};
 ghost use Rattle.hack_base.specs.Names.{names_behind};
 ghost use Rattle.hack_edits.specs.Exclude.{escaped_text, quoted_text, each_behind, list_text};
-ghost use Rattle.hack_edits.specs.Exclude.{with_line};
-ghost use Rattle.hack_edits.specs.Exclude.{ends_in_feed, IsAddedInside, adds};
+ghost use Rattle.hack_edits.specs.Exclude.{with_line, ends_in_feed, IsAddedInside, adds};
+ghost use Rattle.hack_edits.specs.Exclude.{EndsLast, ends_in_quote, is_quote, reads_alike};
 
 use crate::arrays::{comma_behind, first_front, text_len};
+use crate::same::same_table;
+use crate::tables::tree_of;
 use hack_base::paths::parent;
 use std::alloc::{AllocError, Global};
 
@@ -43,6 +46,9 @@ pub fn added_inside(
         return Ok(None);
     };
     if k < n || m <= k {
+        return Ok(None);
+    }
+    if !ends_last(alloc, piece, k, m)? {
         return Ok(None);
     }
     new.extend_from_slice(&bytes[..k])?;
@@ -95,6 +101,61 @@ fn last_end(alloc: Global, bytes: &[u8], n: usize, m: usize) -> Result<Option<us
         from = to + 1;
     }
     Ok(end)
+}
+
+/// Whether the last value of the array that the first m bytes hold ends with the first k: these end
+/// in a quote, and `toml` reads them as the same array where a bracket closes it there.
+fn ends_last(alloc: Global, piece: &str, k: usize, m: usize) -> Result<bool, AllocError>
+    ensures { IfOk result (λ b. b ≡ true → EndsLast piece.now m k) }
+{
+    let Some(front) = front_of(piece, k) else {
+        return Ok(false);
+    };
+    let Some(whole) = front_of(piece, m) else {
+        return Ok(false);
+    };
+    if !ends_quote(front) {
+        return Ok(false);
+    }
+    let mut closed = String::from_str(alloc, front)?;
+    closed.push_str("]")?;
+    reads_alike(alloc, closed.as_str(), whole)
+}
+
+/// The first n bytes, if there are some, and the last of them is ASCII.
+fn front_of(piece: &str, n: usize) -> Option<&str>
+    ensures { IfSome result (λ front. front.now ≡ take n piece.now) }
+{
+    if n == 0 || piece.len() < n || piece.as_bytes()[n - 1] >= 128 {
+        return None;
+    }
+    Some(&piece[..n])
+}
+
+/// Whether a text ends in a quote.
+fn ends_quote(text: &str) -> bool
+    ensures { result ≡ ends_in_quote text.now }
+{
+    text.len() != 0 && is_quote(text.as_bytes()[text.len() - 1])
+}
+
+fn is_quote(byte: u8) -> bool
+    ensures { result ≡ is_quote byte }
+{
+    byte == b'"' || byte == b'\''
+}
+
+/// Whether two texts are read as the same tree.
+fn reads_alike(alloc: Global, a: &str, b: &str) -> Result<bool, AllocError>
+    ensures { IfOk result (λ same. same ≡ reads_alike a.now b.now) }
+{
+    let Some(first) = tree_of(alloc, a)? else {
+        return Ok(false);
+    };
+    let Some(second) = tree_of(alloc, b)? else {
+        return Ok(false);
+    };
+    Ok(same_table(&first, &second))
 }
 
 /// Where an element ends: before its comma, or at the end.

@@ -1,3 +1,3 @@
-mod FilesLemmas
+pub mod FilesLemmas
 pub mod RestoreLemmas
 pub mod SafeLemmas

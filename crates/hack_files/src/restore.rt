@@ -125,6 +125,14 @@ impl Manager {
             registered_files self.old ≡ earlier ++ file ∷ [] → IfErr result (IsOfWrite file.path)
             × (F.tells → KeepsOthers file.path (F.bytes_at files.old) (F.bytes_at files.new)
             × OnOk result (F.bytes_at files.new file.path ≡ Some file.bytes)) }
+        ensures untraced { registered_files self.old ≡ [] → F.whole → Makes [] (F.trace files.old)
+            (F.trace files.new) (F.bytes_at files.old) (F.bytes_at files.new) }
+        ensures traced { OnOk result ((file : Kept) (earlier : List Kept) →
+            registered_files self.old ≡ earlier ++ file ∷ [] → F.whole → Makes (write_of file ∷ [])
+            (F.trace files.old) (F.trace files.new) (F.bytes_at files.old) (F.bytes_at files.new)) }
+        ensures refused { OnErr result ((file : Kept) (earlier : List Kept) →
+            registered_files self.old ≡ earlier ++ file ∷ [] → F.whole → MakesOrNot (write_of file)
+            (F.trace files.old) (F.trace files.new) (F.bytes_at files.old) (F.bytes_at files.new)) }
         ensures needs { self.new.needs_restore ≡ self.old.needs_restore }
     {
         let Some(file) = self.saved.pop() else {

@@ -7,9 +7,11 @@ use Rattle.std.proofs.Math.Path.{fun_ext}
 use Rattle.std.proofs.lemmas.Slice.Eq.{bytes_eq-Decides}
 use Rattle.std.proofs.lemmas.Bool.{cases_Bool}
 use Rattle.hack_files.specs.Files.{Change, Contents, after_change, after, Makes, MakesOrNot, KeepsAll, KeepsOthers}
+use Rattle.hack_files.specs.declared.fs.FsFault.{FsFault}
+use Rattle.hack_files.specs.declared.fs.FsFault.TheVariants as fs
 use Rattle.hack_journal.specs.Journal.{Edit, journal_text, HaveTextPaths}
 use Rattle.hack_journal.specs.Safe.{gives, Tells, KeepFirst, IsSafe, IsSafeBy, StaysSafe, AreBack, first_of, without}
-use Rattle.hack_journal.specs.Recover.{HasEntry, Agrees, AreOfCall, AreTold, backs, Differ, Restored, IsNoJournal, IsWhy, IsWhyUnread, IsWhyNotTold, NamesNoJournal, IsRefusal}
+use Rattle.hack_journal.specs.Recover.{HasEntry, Agrees, AreOfCall, AreTold, backs, Differ, Restored, IsNoJournal, IsWhy, IsWhyUnread, IsWhyNotTold, NamesNoJournal, IsRefusal, Names, FailsAt, IsTouched}
 use Rattle.hack_journal.specs.Recover.Differ.{in_none, in_one}
 use Rattle.hack_journal.specs.declared.recover.RecoverFault.{RecoverFault}
 use Rattle.hack_journal.specs.declared.recover.RecoverFault.TheVariants.{Memory, NotJournal, Changed, Files}
@@ -156,18 +158,58 @@ why_no_journal j tells m (NotJournal p) names unread = (names, unread)
 why_no_journal j tells m (Changed p q) names unread = absurd names
 why_no_journal j tells m (Files f) names unread = absurd names
 
+-- a fault that names such a path names one that the wider predicate allows
+pub names_wider : (P Q : List ℕ → Type 0) → ((p : List ℕ) → P p → Q p) → (f : FsFault) → Names P f → Names Q f
+names_wider P Q to (fs.Read p) h = to (string_bytes p) h
+names_wider P Q to (fs.Write p) h = to (string_bytes p) h
+names_wider P Q to (fs.NotText p) h = absurd h
+names_wider P Q to fs.Memory h = absurd h
+
+pub fails_wider : (P Q : List ℕ → Type 0) → ((p : List ℕ) → P p → Q p) → (fault : RecoverFault) → FailsAt P fault → FailsAt Q fault
+fails_wider P Q to Memory h = tt
+fails_wider P Q to (NotJournal j) h = absurd h
+fails_wider P Q to (Changed p j) h = absurd h
+fails_wider P Q to (Files f) h = names_wider P Q to f h
+
+-- a look that failed
+pub failed_unread : (j : List ℕ) (tells : Type 0) (m : Contents) (fault : RecoverFault) → FailsAt (λ p. p ≡ j) fault → IsWhyUnread j tells m fault
+failed_unread j tells m Memory h = tt
+failed_unread j tells m (NotJournal p) h = absurd h
+failed_unread j tells m (Changed p q) h = absurd h
+failed_unread j tells m (Files f) h = h
+
+pub failed_not_told : (j : List ℕ) (tells : Type 0) (all : List Edit) (e : Edit) (m : Contents) (fault : RecoverFault) → FailsAt (λ p. p ≡ e.path) fault → IsWhyNotTold j tells all (e ∷ []) m fault
+failed_not_told j tells all e m Memory h = tt
+failed_not_told j tells all e m (NotJournal p) h = absurd h
+failed_not_told j tells all e m (Changed p q) h = absurd h
+failed_not_told j tells all e m (Files f) h = names_wider (λ p. p ≡ e.path) (HasEntry (e ∷ [])) (λ p is. inl (sym is)) f h
+
+-- what isn't told of some entries isn't told of more
+pub more_not_told : (j : List ℕ) (tells : Type 0) (all es fs : List Edit) (m : Contents) (fault : RecoverFault) → ((p : List ℕ) → HasEntry es p → HasEntry fs p) → IsWhyNotTold j tells all es m fault → IsWhyNotTold j tells all fs m fault
+more_not_told j tells all es fs m Memory to h = tt
+more_not_told j tells all es fs m (NotJournal p) to h = absurd h
+more_not_told j tells all es fs m (Changed p q) to h = (h.0, to (string_bytes p) h.1, h.2)
+more_not_told j tells all es fs m (Files f) to h = names_wider (HasEntry es) (HasEntry fs) to f h
+
+-- what is put back failed, or the journal's removal
+pub why_failed : (j : List ℕ) (tells : Type 0) (es : List Edit) (m : Contents) (fault : RecoverFault) → (tells → m j ≡ Some (journal_text es)) → FailsAt (λ p. (p ≡ j) ⊎ HasEntry es p) fault → IsWhy j tells m fault
+why_failed j tells es m Memory text h = tt
+why_failed j tells es m (NotJournal p) text h = absurd h
+why_failed j tells es m (Changed p q) text h = absurd h
+why_failed j tells es m (Files f) text h = names_wider (λ p. (p ≡ j) ⊎ HasEntry es p) (IsTouched j tells m) (λ p at. elim at [ inl is ↦ inl is | inr has ↦ inr (λ t. (es, text t, has)) ]) f h
+
 pub why_unread : (j : List ℕ) (tells : Type 0) (m : Contents) (fault : RecoverFault) → IsWhyUnread j tells m fault → IsWhy j tells m fault
 why_unread j tells m Memory why = tt
 why_unread j tells m (NotJournal p) why = why
 why_unread j tells m (Changed p q) why = absurd why
-why_unread j tells m (Files f) why = tt
+why_unread j tells m (Files f) why = names_wider (λ p. p ≡ j) (IsTouched j tells m) (λ p is. inl is) f why
 
 -- a path that holds what no entry tells has changed
 pub why_not_told : (j : List ℕ) (tells : Type 0) (es : List Edit) (m n : Contents) (fault : RecoverFault) → (tells → m j ≡ Some (journal_text es)) → (tells → KeepsAll m n) → IsWhyNotTold j tells es es n fault → IsWhy j tells m fault
 why_not_told j tells es m n Memory text same why = tt
 why_not_told j tells es m n (NotJournal p) text same why = absurd why
 why_not_told j tells es m n (Changed p q) text same why = (why.0, λ t. (es, text t, why.1, subst (λ (x : Option (List ℕ)). ¬ Tells es (string_bytes p) x) (same t (string_bytes p)) (why.2 t)))
-why_not_told j tells es m n (Files f) text same why = tt
+why_not_told j tells es m n (Files f) text same why = names_wider (HasEntry es) (IsTouched j tells m) (λ p has. inr (λ t. (es, text t, has))) f why
 
 -- where files are safe, nothing is refused
 pub never_not_told : (j : List ℕ) (tells : Type 0) (es : List Edit) (m n : Contents) (fault : RecoverFault) → tells → KeepsAll m n → AreTold es es m → IsWhyNotTold j tells es es n fault → IsRefusal fault → ⊥
@@ -202,7 +244,7 @@ without_same j m n same = fun_ext λ q. elim (cases_Bool (bytes_eq j q)) [
   | inr f ↦ rw f (same q (λ e. let y : true ≡ false = sym ((bytes_eq-Decides j q).1 (sym e)) ∙ f in cc))
 ]
 
-without_at : (j : List ℕ) (m : Contents) (q : List ℕ) → q ≢ j → without j m q ≡ m q
+pub without_at : (j : List ℕ) (m : Contents) (q : List ℕ) → q ≢ j → without j m q ≡ m q
 without_at j m q ne = ap (λ b. cond b None (m q)) (bytes_differ j q (λ e. ne (sym e)))
 
 without_others : (j p : List ℕ) (m n : Contents) → KeepsOthers p m n → KeepsOthers p (without j m) (without j n)

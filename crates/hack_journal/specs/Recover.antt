@@ -2,6 +2,8 @@
 use Rattle.std.specs.Prelude.{◌≡◌, ◌≢◌, ◌⊎◌, ◌+◌, [], ◌∷◌, ℕ, List, Option, Some, None, Result, Ok, Err, string_bytes}
 use Rattle.std.specs.Str.{IsUtf8}
 use Rattle.hack_files.specs.Files.{Change, Contents, GrowsBy, KeepsAll, KeepsOthers}
+use Rattle.hack_files.specs.declared.fs.FsFault.{FsFault}
+use Rattle.hack_files.specs.declared.fs.FsFault.TheVariants as fs
 use Rattle.hack_journal.specs.Journal.{Edit, journal_text}
 use Rattle.hack_journal.specs.Safe.{Tells, AreBack, first_of, gives, without}
 use Rattle.hack_journal.specs.declared.recover.RecoverFault.{RecoverFault}
@@ -65,12 +67,31 @@ abbrev pub HasChanged : List ℕ → List ℕ → Contents → Type 0
 HasChanged journal path old =
     (edits : List Edit) × (old journal ≡ Some (journal_text edits)) × HasEntry edits path × (¬ Tells edits path (old path))
 
+-- the fault names such a path
+abbrev pub Names : (List ℕ → Type 0) → FsFault → Type 0
+Names P (fs.Read p) = P (string_bytes p)
+Names P (fs.Write p) = P (string_bytes p)
+Names P (fs.NotText p) = ⊥
+Names P fs.Memory = ⊥
+
+-- a file at such a path can't be read or written, or memory ran out
+abbrev pub FailsAt : (List ℕ → Type 0) → RecoverFault → Type 0
+FailsAt P Memory = Unit {0}
+FailsAt P (NotJournal j) = ⊥
+FailsAt P (Changed p j) = ⊥
+FailsAt P (Files f) = Names P f
+
+-- the journal's path, or one that it tells
+abbrev pub IsTouched : List ℕ → Type 0 → Contents → List ℕ → Type 0
+IsTouched journal tells old path =
+    (path ≡ journal) ⊎ (tells → (edits : List Edit) × (old journal ≡ Some (journal_text edits)) × HasEntry edits path)
+
 -- why nothing is put back, or not all
 abbrev pub IsWhy : List ℕ → Type 0 → Contents → RecoverFault → Type 0
 IsWhy journal tells old Memory = Unit {0}
 IsWhy journal tells old (NotJournal j) = (string_bytes j ≡ journal) × (tells → IsNoJournal journal old)
 IsWhy journal tells old (Changed p j) = (string_bytes j ≡ journal) × (tells → HasChanged journal (string_bytes p) old)
-IsWhy journal tells old (Files f) = Unit {0}
+IsWhy journal tells old (Files f) = Names (IsTouched journal tells old) f
 
 -- the fault says that this path holds no journal; or memory ran out
 abbrev pub NamesNoJournal : List ℕ → RecoverFault → Type 0
@@ -84,7 +105,7 @@ abbrev pub IsWhyUnread : List ℕ → Type 0 → Contents → RecoverFault → T
 IsWhyUnread journal tells old Memory = Unit {0}
 IsWhyUnread journal tells old (NotJournal j) = (string_bytes j ≡ journal) × (tells → IsNoJournal journal old)
 IsWhyUnread journal tells old (Changed p j) = ⊥
-IsWhyUnread journal tells old (Files f) = Unit {0}
+IsWhyUnread journal tells old (Files f) = Names (λ p. p ≡ journal) f
 
 -- why a look at the paths of these entries ends
 abbrev pub IsWhyNotTold : List ℕ → Type 0 → List Edit → List Edit → Contents → RecoverFault → Type 0
@@ -92,7 +113,7 @@ IsWhyNotTold journal tells all es old Memory = Unit {0}
 IsWhyNotTold journal tells all es old (NotJournal j) = ⊥
 IsWhyNotTold journal tells all es old (Changed p j) =
     (string_bytes j ≡ journal) × HasEntry es (string_bytes p) × (tells → ¬ Tells all (string_bytes p) (old (string_bytes p)))
-IsWhyNotTold journal tells all es old (Files f) = Unit {0}
+IsWhyNotTold journal tells all es old (Files f) = Names (HasEntry es) f
 
 -- the journal is refused: the fault is neither a file's nor want of memory
 abbrev pub IsRefusal : RecoverFault → Type 0

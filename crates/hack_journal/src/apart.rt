@@ -5,7 +5,7 @@
 
 ghost use Rattle.std.specs.Prelude.{◌≡◌, ◌↔◌, [], None, Some, IfOk, OnOk, IsTrue, IsSome};
 ghost use Rattle.hack_files.specs.Files.{Counts, KeepsOthers, KeepsAll};
-ghost use Rattle.hack_journal.specs.Apart.{is_lockfile, apart};
+ghost use Rattle.hack_journal.specs.Apart.{is_lockfile, apart, KeepsLockfiles};
 
 use crate::journaled::count_failure;
 use hack_files::fs::{FileFault, Files};
@@ -43,18 +43,23 @@ impl<A: Files, B: Files> Apart<A, B> {
 }
 
 impl<A: Files, B: Files> Files for Apart<A, B> {
+    ghost use Rattle.std.proofs.Common.{refl, ◌∙◌};
+
     ghost tells = { A.tells × B.tells };
 
     // The order of changes across the two is not told.
     ghost whole = { ⊥ };
 
-    ghost stays = { λ a b. A.stays a.files b.files × B.stays a.lockfiles b.lockfiles };
+    // Lockfiles are never those of `A`.
+    ghost stays = { λ a b. A.stays a.files b.files × B.stays a.lockfiles b.lockfiles
+        × (A.tells → KeepsLockfiles (A.bytes_at a.files) (A.bytes_at b.files)) };
 
-    ghost stays_none = { λ a. (A.stays_none a.files, B.stays_none a.lockfiles) };
+    ghost stays_none = { λ a. (A.stays_none a.files, B.stays_none a.lockfiles, λ t q lock. refl) };
 
     ghost stays_more = { λ a b c f g. (
       A.stays_more a.files b.files c.files f.0 g.0,
       B.stays_more a.lockfiles b.lockfiles c.lockfiles f.1 g.1,
+      λ t q lock. g.2 t q lock ∙ f.2 t q lock,
     ) };
 
     ghost bytes_at = { λ s. apart (A.bytes_at s.files) (B.bytes_at s.lockfiles) };
@@ -65,7 +70,8 @@ impl<A: Files, B: Files> Files for Apart<A, B> {
 
     fn read(&mut self, alloc: Global, path: &str) -> Result<Vec<u8>, FileFault>
         ensures stays { A.stays self.old.files self.new.files ×
-            B.stays self.old.lockfiles self.new.lockfiles }
+            B.stays self.old.lockfiles self.new.lockfiles ×
+            (A.tells → KeepsLockfiles (A.bytes_at self.old.files) (A.bytes_at self.new.files)) }
         ensures counted { Counts self.old.failures self.new.failures result }
         ensures bytes { IfOk result (λ bytes. A.tells × B.tells →
             apart (A.bytes_at self.old.files) (B.bytes_at self.old.lockfiles) path.now ≡
@@ -94,7 +100,8 @@ impl<A: Files, B: Files> Files for Apart<A, B> {
 
     fn write(&mut self, path: &str, bytes: &[u8]) -> Result<(), FileFault>
         ensures stays { A.stays self.old.files self.new.files ×
-            B.stays self.old.lockfiles self.new.lockfiles }
+            B.stays self.old.lockfiles self.new.lockfiles ×
+            (A.tells → KeepsLockfiles (A.bytes_at self.old.files) (A.bytes_at self.new.files)) }
         ensures counted { Counts self.old.failures self.new.failures result }
         ensures written { OnOk result (A.tells × B.tells →
             apart (A.bytes_at self.new.files) (B.bytes_at self.new.lockfiles) path.now ≡
@@ -123,7 +130,8 @@ impl<A: Files, B: Files> Files for Apart<A, B> {
 
     fn exists(&mut self, path: &str) -> Result<bool, FileFault>
         ensures stays { A.stays self.old.files self.new.files ×
-            B.stays self.old.lockfiles self.new.lockfiles }
+            B.stays self.old.lockfiles self.new.lockfiles ×
+            (A.tells → KeepsLockfiles (A.bytes_at self.old.files) (A.bytes_at self.new.files)) }
         ensures counted { Counts self.old.failures self.new.failures result }
         ensures there { IfOk result (λ there. A.tells × B.tells → IsTrue there ↔
             IsSome (apart (A.bytes_at self.old.files) (B.bytes_at self.old.lockfiles) path.now)) }
@@ -151,7 +159,8 @@ impl<A: Files, B: Files> Files for Apart<A, B> {
 
     fn remove(&mut self, path: &str) -> Result<(), FileFault>
         ensures stays { A.stays self.old.files self.new.files ×
-            B.stays self.old.lockfiles self.new.lockfiles }
+            B.stays self.old.lockfiles self.new.lockfiles ×
+            (A.tells → KeepsLockfiles (A.bytes_at self.old.files) (A.bytes_at self.new.files)) }
         ensures counted { Counts self.old.failures self.new.failures result }
         ensures removed { OnOk result (A.tells × B.tells →
             apart (A.bytes_at self.new.files) (B.bytes_at self.new.lockfiles) path.now ≡

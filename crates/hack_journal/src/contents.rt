@@ -18,6 +18,7 @@ pub fn look<F: Files>(
     files: &mut F,
     path: &str,
 ) -> Result<Option<Vec<u8>>, FileFault>
+    ensures stays { F.stays files.old files.new }
     ensures failures { Counts (F.failed files.old) (F.failed files.new) result }
     ensures held { IfOk result (λ held. F.tells →
         F.bytes_at files.old path.now ≡ option_map (λ bytes. bytes.items) held) }
@@ -34,6 +35,7 @@ pub fn look<F: Files>(
 
 /// Puts these bytes at a path, or removes what is there.
 pub fn put<F: Files>(files: &mut F, path: &str, bytes: Option<&[u8]>) -> Result<(), FileFault>
+    ensures stays { F.stays files.old files.new }
     ensures failures { Counts (F.failed files.old) (F.failed files.new) result }
     ensures put { OnOk result (F.tells →
         F.bytes_at files.new path.now ≡ option_map (λ bytes. bytes.now) bytes.entry) }
@@ -53,6 +55,7 @@ pub fn put<F: Files>(files: &mut F, path: &str, bytes: Option<&[u8]>) -> Result<
 
 // Whether the path of the entry holds what it held at first.
 fn is_back<F: Files>(alloc: Global, files: &mut F, entry: &Entry) -> Result<bool, FileFault>
+    ensures stays { F.stays files.old files.new }
     ensures failures { Counts (F.failed files.old) (F.failed files.new) result }
     ensures back { IfOk result (λ back. F.tells → IsTrue back ↔
         (F.bytes_at files.old (edit_of entry.now).path ≡ (edit_of entry.now).held)) }
@@ -71,6 +74,7 @@ pub fn are_back<F: Files>(
     files: &mut F,
     entries: &[Entry],
 ) -> Result<bool, FileFault>
+    ensures stays { F.stays files.old files.new }
     ensures failures { Counts (F.failed files.old) (F.failed files.new) result }
     ensures back { IfOk result (λ back. F.tells →
         IsTrue back ↔ AreBack (edits_of entries.now) (F.bytes_at files.old)) }

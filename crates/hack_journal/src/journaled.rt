@@ -66,6 +66,7 @@ impl<F: Files> Journaled<F> {
 
     // What the path held before its first edit.
     fn held_at_first(&mut self, path: &str) -> Result<Option<Vec<u8>>, FileFault>
+        ensures handed { F.stays self.old.files self.new.files }
         ensures rest { self.new ≡ record self.old { files = self.new.files } }
         ensures held { IfOk result (λ held. F.tells →
             IsHeld (first_of (edits_of self.old.entries.items) path.now)
@@ -86,6 +87,7 @@ impl<F: Files> Journaled<F> {
 
     // The entry of a path that is to hold these bytes.
     fn entry(&mut self, path: &str, bytes: Option<&[u8]>) -> Result<Entry, FileFault>
+        ensures handed { F.stays self.old.files self.new.files }
         ensures rest { self.new ≡ record self.old { files = self.new.files } }
         ensures path { IfOk result (λ entry. (edit_of entry).path ≡ path.now) }
         ensures wrote { IfOk result (λ entry.
@@ -110,6 +112,7 @@ impl<F: Files> Journaled<F> {
 
     // Writes the journal of the entries.
     fn write_journal(&mut self) -> Result<(), FileFault>
+        ensures handed { F.stays self.old.files self.new.files }
         ensures rest { self.new ≡ record self.old { files = self.new.files } }
         ensures others { F.tells → KeepsOthers (string_bytes self.old.journal)
             (F.bytes_at self.old.files) (F.bytes_at self.new.files) }
@@ -131,6 +134,7 @@ impl<F: Files> Journaled<F> {
 
     // Writes a journal with this entry at its end.
     fn append(&mut self, entry: Entry) -> Result<(), FileFault>
+        ensures handed { F.stays self.old.files self.new.files }
         ensures rest { self.new ≡
             record self.old { files = self.new.files; entries = self.new.entries } }
         ensures added { OnOk result (edits_of self.new.entries.items ≡
@@ -162,6 +166,7 @@ impl<F: Files> Journaled<F> {
 
     // Writes a journal with one more entry, of a path that is to hold these bytes.
     fn note(&mut self, path: &str, bytes: Option<&[u8]>) -> Result<(), FileFault>
+        ensures handed { F.stays self.old.files self.new.files }
         ensures rest { self.new ≡
             record self.old { files = self.new.files; entries = self.new.entries } }
         ensures told { OnOk result (Tells (edits_of self.new.entries.items) path.now
@@ -183,6 +188,7 @@ impl<F: Files> Journaled<F> {
 
     // Keeps what the path holds, unless an entry has these bytes.
     fn keep(&mut self, path: &str, bytes: Option<&[u8]>) -> Result<(), FileFault>
+        ensures handed { F.stays self.old.files self.new.files }
         ensures rest { self.new ≡
             record self.old { files = self.new.files; entries = self.new.entries } }
         ensures told { OnOk result (Tells (edits_of self.new.entries.items) path.now
@@ -206,6 +212,7 @@ impl<F: Files> Journaled<F> {
 
     // Keeps what the path holds, and then gives it these bytes, or removes what is there.
     fn change(&mut self, path: &str, bytes: Option<&[u8]>) -> Result<(), FileFault>
+        ensures handed { F.stays self.old.files self.new.files }
         ensures rest { self.new ≡
             record self.old { files = self.new.files; entries = self.new.entries } }
         ensures put { OnOk result (F.tells →
@@ -241,6 +248,7 @@ impl<F: Files> Journaled<F> {
     // Removes the journal where each entry's path is back, and says whether none is there.
     #[tactic(auto, using(crate::proofs::CountLemmas::grows_then))]
     fn close(&mut self) -> Result<bool, FileFault>
+        ensures handed { F.stays self.old.files self.new.files }
         ensures journal { self.new.journal ≡ self.old.journal }
         ensures below { Counts (F.failed self.old.files) (F.failed self.new.files) result }
         ensures failures { self.new.failures ≡ self.old.failures }
@@ -274,6 +282,7 @@ impl<F: Files> Journaled<F> {
     /// no journal is there: where it is false, a path holds something else. A fault leaves the
     /// journal, or has removed it where nothing was to be put back.
     pub fn finish(&mut self) -> Result<bool, FileFault>
+        ensures handed { F.stays self.old.files self.new.files }
         ensures journal { self.new.journal ≡ self.old.journal }
         ensures counted { Counts self.old.failures self.new.failures result }
 
@@ -315,12 +324,14 @@ impl<F: Files> Files for Journaled<F> {
     ghost stays = { λ a b. (string_bytes a.journal ≡ string_bytes b.journal) ×
         (F.tells → F.whole → Stays (string_bytes a.journal)
         (edits_of a.entries.items) (edits_of b.entries.items)
-        (F.trace a.files) (F.trace b.files) (F.bytes_at a.files) (F.bytes_at b.files)) };
+        (F.trace a.files) (F.trace b.files) (F.bytes_at a.files) (F.bytes_at b.files)) ×
+        F.stays a.files b.files };
 
     ghost stays_none = { λ a. (
       refl,
       λ _ _. stays_none _ _ _ _ _ _
           (makes_none (F.trace a.files) (F.bytes_at a.files)),
+      F.stays_none a.files,
     ) };
 
     ghost stays_more = { λ a b c f g. (
@@ -328,6 +339,7 @@ impl<F: Files> Files for Journaled<F> {
       λ tells whole.
           stays_join _ _ _ (edits_of b.entries.items) _ _ (F.trace b.files) _ _ (F.bytes_at b.files)
           _ f.0 (f.1 tells whole) (g.1 tells whole),
+      F.stays_more a.files b.files c.files f.2 g.2,
     ) };
 
     ghost bytes_at = { λ files. without (string_bytes files.journal) (F.bytes_at files.files) };
@@ -341,7 +353,8 @@ impl<F: Files> Files for Journaled<F> {
             (F.tells → F.whole → Stays (string_bytes self.old.journal)
             (edits_of self.old.entries.items) (edits_of self.new.entries.items)
             (F.trace self.old.files) (F.trace self.new.files)
-            (F.bytes_at self.old.files) (F.bytes_at self.new.files)) }
+            (F.bytes_at self.old.files) (F.bytes_at self.new.files)) ×
+            F.stays self.old.files self.new.files }
         ensures counted { Counts self.old.failures self.new.failures result }
         ensures bytes { IfOk result (λ bytes. F.tells → without (string_bytes self.old.journal)
             (F.bytes_at self.old.files) path.now ≡ Some bytes.items) }
@@ -385,7 +398,8 @@ impl<F: Files> Files for Journaled<F> {
             (F.tells → F.whole → Stays (string_bytes self.old.journal)
             (edits_of self.old.entries.items) (edits_of self.new.entries.items)
             (F.trace self.old.files) (F.trace self.new.files)
-            (F.bytes_at self.old.files) (F.bytes_at self.new.files)) }
+            (F.bytes_at self.old.files) (F.bytes_at self.new.files)) ×
+            F.stays self.old.files self.new.files }
         ensures counted { Counts self.old.failures self.new.failures result }
         ensures there { IfOk result (λ there. F.tells → IsTrue there ↔ IsSome
             (without (string_bytes self.old.journal) (F.bytes_at self.old.files) path.now)) }

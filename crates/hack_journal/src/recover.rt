@@ -1,6 +1,6 @@
 //! Brings back what a call had edited that ended before it could do so itself.
 
-ghost use Rattle.std.specs.Prelude.{◌≡◌, ◌≢◌, ◌↔◌, ◌≤◌, [], ◌∷◌, List, ℕ, Some, None, Vec};
+ghost use Rattle.std.specs.Prelude.{◌≡◌, ◌≢◌, ◌↔◌, ◌⊎◌, ◌≤◌, [], ◌∷◌, List, ℕ, Some, None, Vec};
 ghost use Rattle.std.specs.Prelude.{IfOk, IfErr, OnOk, false, length};
 ghost use Rattle.hack_files.specs.Files.{Contents, KeepsOthers, KeepsAll, Makes, MakesOrNot};
 ghost use Rattle.hack_files.specs.Files.{GrowsBy, after, after_change};
@@ -10,6 +10,7 @@ ghost use Rattle.hack_journal.specs.Safe.{gives, without};
 ghost use Rattle.hack_journal.specs.Recover.{AreOfCall, AreTold, backs, Differ, IsRestored};
 ghost use Rattle.hack_journal.specs.Recover.{IsWhy, IsWhyUnread, IsWhyNotTold};
 ghost use Rattle.hack_journal.specs.Recover.{IsRefusal, NamesNoJournal, CountsFault, IsCounted};
+ghost use Rattle.hack_journal.specs.Recover.{FailsAt, HasEntry};
 
 use crate::contents::{look, put};
 use crate::entries::{are_of_call, same, tells};
@@ -51,6 +52,7 @@ impl From<AllocError> for RecoverFault {
 fn read_fault(alloc: Global, path: &str, fault: FileFault) -> RecoverFault
     ensures failures { (old new : ℕ) → GrowsBy 1 old new → CountsFault old new result }
     ensures kind { ¬ IsRefusal result }
+    ensures named { FailsAt (λ p. p ≡ path.now) result }
 {
     match fault {
         FileFault::Memory => RecoverFault::Memory,
@@ -65,6 +67,7 @@ fn read_fault(alloc: Global, path: &str, fault: FileFault) -> RecoverFault
 fn write_fault(alloc: Global, path: &str, fault: FileFault) -> RecoverFault
     ensures failures { (old new : ℕ) → GrowsBy 1 old new → CountsFault old new result }
     ensures kind { ¬ IsRefusal result }
+    ensures named { FailsAt (λ p. p ≡ path.now) result }
 {
     match fault {
         FileFault::Memory => RecoverFault::Memory,
@@ -197,6 +200,7 @@ fn put_back<F: Files>(alloc: Global, files: &mut F, entry: &Entry) -> Result<boo
         (gives (edit_of entry.now).path (edit_of entry.now).held) (F.trace files.old)
         (F.trace files.new) (F.bytes_at files.old) (F.bytes_at files.new) }
     ensures fault { IfErr result (λ fault. ¬ IsRefusal fault) }
+    ensures named { IfErr result (FailsAt (λ p. p ≡ (edit_of entry.now).path)) }
 {
     let now = match look(alloc, files, &entry.path) {
         Ok(now) => now,
@@ -234,6 +238,7 @@ fn put_all_back<F: Files>(
         (F.bytes_at files.old) (F.bytes_at files.new) ×
         IsSafeBy journal first edits (F.bytes_at files.new) }
     ensures fault { IfErr result (λ fault. ¬ IsRefusal fault) }
+    ensures named { IfErr result (FailsAt (HasEntry (edits_of entries.now))) }
 {
     match entries.split_first() {
         None => Ok(0),
@@ -266,6 +271,8 @@ fn take_back<F: Files>(
         StaysSafe journal.now first (F.trace files.old) (F.trace files.new)
         (F.bytes_at files.old) (F.bytes_at files.new) }
     ensures fault { IfErr result (λ fault. ¬ IsRefusal fault) }
+    ensures named { IfErr result (FailsAt (λ p.
+        (p ≡ journal.now) ⊎ HasEntry (edits_of entries.now) p)) }
 {
     let count = put_all_back(alloc, files, entries)?;
     match files.remove(journal) {

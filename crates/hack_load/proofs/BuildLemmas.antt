@@ -1,12 +1,10 @@
 -- A context is put together.
-use Rattle.std.proofs.Common.{◌≡◌, ◌⊎◌, inl, inr, ◌<◌, ◌≤◌, ◌+◌, ℕ, zero, suc, Bool, List, [], ◌∷◌, ◌++◌, Option, Some, None, Ok, Err, Result, length, map, get_or, drop, refl, sym, ◌∙◌, ap, subst, arith, add-one, append_assoc, append-nil, string_bytes}
+use Rattle.std.proofs.Common.{◌≡◌, ◌⊎◌, inl, inr, ◌<◌, ◌≤◌, ◌+◌, ℕ, suc, Bool, List, [], ◌∷◌, ◌++◌, length, map, get_or, drop, refl, sym, ◌∙◌, ap, subst, arith, add-one, append_assoc, append-nil}
 use Rattle.std.specs.Prelude.{Contains}
 use Rattle.std.proofs.Math.Seq.{drop-cons}
 use Rattle.std.proofs.lemmas.Bool.{cases_lt}
 use Rattle.std.proofs.lemmas.List.{drop_all, get_or-map, get_or_default}
-use Rattle.hack_base.specs.Names.{Name}
 use Rattle.hack_features.specs.FeatureMap.{feature_map}
-use Rattle.hack_metadata.specs.Fields.{object_in_text}
 use Rattle.hack_metadata.specs.Records.{MetadataRecord}
 use Rattle.hack_metadata.specs.View.{place_at}
 use Rattle.hack_metadata.specs.declared.fault.MetadataFault.{MetadataFault}

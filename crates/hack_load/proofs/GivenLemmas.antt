@@ -1,11 +1,11 @@
 -- Features that a command gets, and those that are left out.
-use Rattle.std.proofs.Common.{◌≡◌, not, ℕ, ◌+◌, ◌<◌, ◌≤◌, get_or, take, Bool, true, false, cond, List, [], ◌∷◌, ◌++◌, ◌↔◌, Contains, IsTrue, map, length, Option, Some, refl, sym, ap, subst, ◌∙◌, inl, inr, string_bytes, String, Global}
+use Rattle.std.proofs.Common.{◌≡◌, not, ℕ, ◌+◌, ◌<◌, get_or, take, Bool, true, false, cond, List, [], ◌∷◌, ◌++◌, ◌↔◌, Contains, IsTrue, map, length, Option, Some, refl, sym, ap, subst, ◌∙◌, inl, inr, string_bytes, String, Global}
 use Rattle.std.specs.Prelude.{option_map, unwrap_or}
 use Rattle.std.specs.List.{filter, list_any}
 use Rattle.std.specs.Str.{bytes_eq}
 use Rattle.std.proofs.lemmas.Bool.{cases_Bool, true≢false}
 use Rattle.std.proofs.lemmas.Cmp.{nat_list_eq_equiv}
-use Rattle.std.proofs.lemmas.List.{map-append, take_all, take_more}
+use Rattle.std.proofs.lemmas.List.{map-append, take_more}
 use Rattle.std.proofs.lemmas.List.Elements.{filter-append}
 use Rattle.std.proofs.lemmas.Map.Views.{Contains-from_any, list_any-from_Contains}
 use Rattle.std.proofs.lemmas.Slice.Eq.{bytes_eq-Decides}

@@ -1,12 +1,13 @@
 -- What calls of files leave, one after the other.
-use Rattle.std.proofs.Common.{◌≡◌, ◌⊎◌, inl, inr, ℕ, List, [], ◌∷◌, Some, Result, Ok, Err, refl, sym, ◌∙◌, arith}
+use Rattle.std.proofs.Common.{inl, inr, ℕ, [], ◌∷◌, Result, Ok, Err, refl, sym, ◌∙◌, arith}
 use Rattle.hack_base.specs.Names.{Name}
 use Rattle.hack_files.specs.Files.{Contents, GrowsBy, KeepsAll}
 use Rattle.hack_files.specs.Faults.{IsOfText}
 use Rattle.hack_files.specs.declared.fs.FsFault.{FsFault}
 use Rattle.hack_files.specs.declared.fs.FsFault.TheVariants as fs
-use Rattle.hack_metadata.specs.Left.{Whole, Spoilt, Spares}
+use Rattle.hack_metadata.specs.Left.{Whole, Spoilt, LeftBy}
 use Rattle.hack_metadata.specs.declared.ask_fault.AskFault.{AskFault}
+use Rattle.hack_metadata.specs.declared.ask_fault.AskFault.TheVariants as ask
 use Rattle.hack_load.specs.LeavesFew.{LeavesFew, MayFail, ReadsOnly}
 
 -- nothing is done yet
@@ -33,10 +34,14 @@ pub few-spoilt : (path : Name) (tells : Type 0) (a b : Contents) (x y : ℕ) →
 few-spoilt path tells a b x y h = record { spoilt = path ∷ []; failed = h.0; others = λ t q no. h.1 t q (λ is. no (0, omega arith, sym is)) }
 
 -- what a question for metadata leaves
-pub few-spares : {X : Type 0} (path : Name) (tells : Type 0) (a b : Contents) (x y : ℕ) (r : Result X AskFault) → Spares path tells a b x y r → LeavesFew tells a b x y
-few-spares path tells a b x y (Ok v) h = few-whole tells a b x y h
-few-spares path tells a b x y (Err e) (inl h) = few-whole tells a b x y h
-few-spares path tells a b x y (Err e) (inr h) = few-spoilt path tells a b x y h
+pub few-left : (path : Name) (tells : Type 0) (a b : Contents) (x y : ℕ) (e : AskFault) → LeftBy path tells a b x y e → LeavesFew tells a b x y
+few-left path tells a b x y ask.Memory (inl h) = few-whole tells a b x y h
+few-left path tells a b x y ask.Memory (inr h) = few-spoilt path tells a b x y h
+few-left path tells a b x y ask.NoHost h = few-whole tells a b x y h
+few-left path tells a b x y (ask.Process p) h = few-whole tells a b x y h
+few-left path tells a b x y (ask.Files f) h = few-spoilt path tells a b x y h
+few-left path tells a b x y (ask.Output text) h = few-whole tells a b x y h
+few-left path tells a b x y (ask.Field name) h = few-whole tells a b x y h
 
 few-may : (tells : Type 0) (a b : Contents) (x y : ℕ) → MayFail tells a b x y → LeavesFew tells a b x y
 few-may tells a b x y (inl h) = few-whole tells a b x y h

@@ -1,6 +1,5 @@
 -- What came of all that is asked for a call.
 use Rattle.std.specs.Prelude.{◌≡◌, ◌⊎◌, ℕ, true, List, Option, Result, Ok, Err, string_bytes}
-use Rattle.std.proofs.Common.{Global, String}
 use Rattle.hack_base.specs.Names.{Name}
 use Rattle.hack_files.specs.Files.{Contents}
 use Rattle.hack_process.specs.Calls.{Call, MayAdd}
@@ -35,20 +34,20 @@ IsAskFault (ask.Files f) e = e ≡ faults.Asked (ask.Files f)
 IsAskFault (ask.Output text) e = e ≡ faults.Asked (ask.Output text)
 IsAskFault (ask.Field name) e = e ≡ faults.Asked (ask.Field name)
 
--- `held` is what the files held before, and so many of their calls had failed before and behind
-module _ (args : Args) (env : Env) (held : Contents) (before now : ℕ) where
+-- `held` is what the files held before, where they tell it, and so many of their calls had failed before and behind
+module _ (tells : Type 0) (args : Args) (env : Env) (held : Contents) (before now : ℕ) where
   -- after the metadata the manifests were read, and cargo told where the call stands, and just that was loaded; or a fault ended it
   abbrev pub Follows : Metadata → List Call → List Call → Result Loaded ContextFault → Type 0
-  Follows m mid new (Ok l) = (l.metadata ≡ m) × IsLocated args env mid new l.located × IsLoaded (Unit {0}) held env l
-  Follows m mid new (Err e) = ((new ≡ mid) × IsMemberFault (Unit {0}) held (metadata_view m) before now e)
-      ⊎ ((xs : List Manifest) × AreOfMembers (Unit {0}) held (metadata_view m) xs
+  Follows m mid new (Ok l) = (l.metadata ≡ m) × IsLocated args env mid new l.located × IsLoaded tells held env l
+  Follows m mid new (Err e) = ((new ≡ mid) × IsMemberFault tells held (metadata_view m) before now e)
+      ⊎ ((xs : List Manifest) × AreOfMembers tells held (metadata_view m) xs
       × FailsLocate (Unit {0}) (locate args env) (string_bytes env.current_dir) mid new e)
 
   -- the question for metadata ended in a fault, and nothing followed it
   pub record HasNone (minor : ℕ) (host : Option Name) (old new : List Call) (r : Result Loaded ContextFault) : Type 0 where
     pub asked : AskFault
     pub fault : ContextFault
-    pub ends : Ends (question args env minor host) held old new (Err asked)
+    pub ends : Ends tells (question args env minor host) held old new (Err asked)
     pub of : IsAskFault asked fault
     pub is : r ≡ Err fault
 
@@ -56,7 +55,7 @@ module _ (args : Args) (env : Env) (held : Contents) (before now : ℕ) where
   pub record HasSome (minor : ℕ) (host : Option Name) (old new : List Call) (r : Result Loaded ContextFault) : Type 0 where
     pub metadata : Metadata
     pub mid : List Call
-    pub ends : Ends (question args env minor host) held old mid (Ok metadata)
+    pub ends : Ends tells (question args env minor host) held old mid (Ok metadata)
     pub follows : Follows metadata mid new r
 
   -- the questions behind that on the version
@@ -64,14 +63,14 @@ module _ (args : Args) (env : Env) (held : Contents) (before now : ℕ) where
   LoadsTo minor host old new r = HasNone minor host old new r ⊎ HasSome minor host old new r
 
 -- the questions of a call in their order, with what came of each; none follows one that ended them
-pub record AreAsked (args : Args) (env : Env) (held : Contents) (before now : ℕ) (old new : List Call) (a : Answers) : Type 0 where
+pub record AreAsked (tells : Type 0) (args : Args) (env : Env) (held : Contents) (before now : ℕ) (old new : List Call) (a : Answers) : Type 0 where
   pub host : Option Name
   pub mid : List Call
   pub own : IsSelf args env (told_version a.cargo_version) host old mid
-  pub loads : LoadsTo args env held before now (minor_told (told_version a.cargo_version)) host mid new a.loaded
+  pub loads : LoadsTo tells args env held before now (minor_told (told_version a.cargo_version)) host mid new a.loaded
 
 -- the same; or memory ran out at the first question
-abbrev pub AreAnswers : Args → Env → Contents → ℕ → ℕ → List Call → List Call → Answers → Type 0
-AreAnswers args env held before now old new a =
-    AreAsked args env held before now old new a
+abbrev pub AreAnswers : Type 0 → Args → Env → Contents → ℕ → ℕ → List Call → List Call → Answers → Type 0
+AreAnswers tells args env held before now old new a =
+    AreAsked tells args env held before now old new a
     ⊎ ((a.loaded ≡ Err faults.Memory) × MayAdd (asked_of true (self_command (string_bytes env.cargo))) old new)

@@ -1,6 +1,5 @@
 -- The context that answers make, and why they make none.
-use Rattle.std.specs.Prelude.{◌≡◌, ◌≢◌, ◌⊎◌, ◌<◌, ◌∷◌, [], ℕ, Bool, true, List, Some, None, Result, Ok, Err, Contains, map, string_bytes}
-use Rattle.std.proofs.Common.{Global, String}
+use Rattle.std.specs.Prelude.{◌≡◌, ◌≢◌, ◌⊎◌, ◌<◌, ◌∷◌, [], ℕ, Bool, true, List, Some, None, Result, Ok, Err, Contains, string_bytes}
 use Rattle.hack_base.specs.Names.{Name}
 use Rattle.hack_features.specs.FeatureMap.{feature_map}
 use Rattle.hack_base.specs.Notes.{Note}
@@ -12,7 +11,6 @@ use Rattle.hack_metadata.specs.declared.fault.MetadataFault.{MetadataFault}
 use Rattle.hack_metadata.specs.declared.fault.MetadataFault.TheVariants as metadata
 use Rattle.hack_manifest.specs.declared.manifest.Manifest.{Manifest}
 use Rattle.hack_words.specs.declared.cli.args.Args.{Args}
-use Rattle.hack_load.specs.Candidates.{MissesNode}
 use Rattle.hack_load.specs.Contexts.{ContextRecord}
 use Rattle.hack_load.specs.Features.{AreCandidates, IsRefusal}
 use Rattle.hack_load.specs.Loads.{minor_told, told_version}

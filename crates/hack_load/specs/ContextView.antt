@@ -1,7 +1,6 @@
 -- The parts of a context as callers see them.
 use Rattle.std.specs.Prelude.{ℕ, List, Option, option_map, string_bytes}
 use Rattle.std.proofs.Common.{Global, String}
-use Rattle.hack_base.specs.Names.{Name}
 use Rattle.hack_words.specs.declared.cli.args.Args.{Args}
 use Rattle.hack_metadata.specs.View.{place_at}
 use Rattle.hack_metadata.specs.Whole.{metadata_view}

@@ -17,13 +17,9 @@ use Rattle.hack_process.specs.Commands.{asked_of}
 use Rattle.hack_process.specs.Faults.{IsReadFault, fault_text}
 use Rattle.hack_process.specs.declared.fault.ProcessFault.{ProcessFault}
 use Rattle.hack_process.specs.declared.fault.ProcessFault.TheVariants as process
-use Rattle.hack_metadata.specs.Asks.{Ends, Halts, Reads}
+use Rattle.hack_metadata.specs.Asks.{Reads}
 use Rattle.hack_metadata.specs.Records.{PackageRecord, MetadataRecord}
-use Rattle.hack_metadata.specs.Requests.{Question, command_line, path_words, question}
-use Rattle.hack_metadata.specs.Whole.{metadata_view}
-use Rattle.hack_metadata.specs.declared.ask_fault.AskFault.{AskFault}
-use Rattle.hack_metadata.specs.declared.ask_fault.AskFault.TheVariants as ask
-use Rattle.hack_metadata.specs.declared.metadata.Metadata.{Metadata}
+use Rattle.hack_metadata.specs.Requests.{command_line, path_words}
 use Rattle.hack_manifest.specs.Reads.{IsManifest, IsRefusal}
 use Rattle.hack_manifest.specs.declared.manifest.Manifest.{Manifest}
 use Rattle.hack_manifest.specs.declared.manifest.ManifestFault.{ManifestFault}

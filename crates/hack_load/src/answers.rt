@@ -48,7 +48,7 @@ impl Answers {
         ensures kept { registered_files manager.new ≡ registered_files manager.old }
         ensures needs { manager.new.needs_restore ≡ manager.old.needs_restore }
         ensures read { IfOk result.loaded (IsLoaded F.tells (F.bytes_at files.new) env.now) }
-        ensures asked { C.tells → F.tells → AreAnswers args.now env.now (F.bytes_at files.old)
+        ensures asked { C.tells → AreAnswers F.tells args.now env.now (F.bytes_at files.old)
             (F.failed files.old) (F.failed files.new) (C.calls caller.old) (C.calls caller.new)
             result }
     {
@@ -95,7 +95,7 @@ fn load<C: Caller, F: Files>(
     ensures kept { registered_files manager.new ≡ registered_files manager.old }
     ensures needs { manager.new.needs_restore ≡ manager.old.needs_restore }
     ensures read { IfOk result (IsLoaded F.tells (F.bytes_at files.new) env.now) }
-    ensures asked { C.tells → F.tells → LoadsTo args.now env.now (F.bytes_at files.old)
+    ensures asked { C.tells → LoadsTo F.tells args.now env.now (F.bytes_at files.old)
         (F.failed files.old) (F.failed files.new) minor (option_copied host.entry)
         (C.calls caller.old) (C.calls caller.new) result }
 {
@@ -118,7 +118,7 @@ fn load_behind<C: Caller, F: Files>(
     ensures left { ReadsOnly F.tells (F.bytes_at files.old) (F.bytes_at files.new)
         (F.failed files.old) (F.failed files.new) result }
     ensures read { IfOk result (IsLoaded F.tells (F.bytes_at files.old) env.now) }
-    ensures asked { C.tells → F.tells → Follows args.now env.now (F.bytes_at files.old)
+    ensures asked { C.tells → Follows F.tells args.now env.now (F.bytes_at files.old)
         (F.failed files.old) (F.failed files.new) metadata
         (C.calls caller.old) (C.calls caller.new) result }
 {

@@ -1,5 +1,5 @@
 -- Faults of commands, and what they end.
-use Rattle.std.proofs.Common.{◌≡◌, inl, inr, ℕ, List, [], ◌∷◌, ◌++◌, Some, None, refl, sym, ◌∙◌, ap, subst, true, string_bytes, codes, map}
+use Rattle.std.proofs.Common.{◌≡◌, inl, inr, ℕ, List, [], ◌∷◌, ◌++◌, Some, None, Ok, Err, refl, sym, ◌∙◌, ap, subst, true, string_bytes, codes, map}
 use Rattle.hack_base.specs.Names.{Name}
 use Rattle.hack_process.specs.Calls.{Asked, Call, MayAdd}
 use Rattle.hack_process.specs.CommandTexts.{Command}
@@ -7,7 +7,8 @@ use Rattle.hack_process.specs.Commands.{asked_of}
 use Rattle.hack_process.specs.Faults.{IsFault, IsReadFault}
 use Rattle.hack_process.specs.declared.fault.ProcessFault.{ProcessFault}
 use Rattle.hack_process.specs.declared.fault.ProcessFault.TheVariants as p
-use Rattle.std.specs.Prelude.{MatchOption, Option}
+use Rattle.std.specs.Prelude.{IfOk, MatchOption, OnErr, Option, Result}
+use Rattle.std.specs.declared.alloc.AllocError.{AllocError}
 use Rattle.std.proofs.Common.{Global, String}
 use Rattle.hack_metadata.specs.Asks.{Fails, Reads, MinorOf, TellsStable}
 use Rattle.hack_metadata.specs.Requests.{version_command, platform_words}
@@ -53,6 +54,13 @@ pub failed-stable : (tells : Type 0) (rustup : Name) (c : Command) (o : Option (
 failed-stable tells rustup c o old new asks is h told =
     let failed : Fails c old new = subst (λ x. MatchOption x (Fails c old new) (λ t. Reads c (string_bytes t) old new)) is (h told) in
     inr (subst (λ k. Fails k old new) asks failed, refl)
+
+-- what was read, or not, may have been called
+pub tried-may : (tells : Type 0) (c : Command) (old new : List Call) (r : Result (Option (String Global)) AllocError) → IfOk r (λ told. tells → MatchOption told (Fails c old new) (λ t. Reads c (string_bytes t) old new))
+    → OnErr r (tells → MayAdd (asked_of true c) old new) → tells → MayAdd (asked_of true c) old new
+tried-may tells c old new (Ok None) ok err t = elim (ok t) [ inl h ↦ inl h.1 | inr h ↦ inr (h.0, h.2) ]
+tried-may tells c old new (Ok (Some text)) ok err t = let h = ok t in inr (h.0, h.2)
+tried-may tells c old new (Err e) ok err t = err t
 
 -- one platform more
 pub platforms-more : (xs : List (String Global)) (i : ℕ) (x : String Global) → i < length xs → x ≡ get_or xs i x → platform_words (map string_bytes (take (i + 1) xs)) ≡ platform_words (map string_bytes (take i xs)) ++ (codes "--filter-platform" ∷ string_bytes x ∷ [])

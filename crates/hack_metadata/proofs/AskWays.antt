@@ -1,48 +1,64 @@
--- Where a question ends.
+-- How a question goes on, and where it ends.
 use Rattle.std.specs.Prelude.{IfOk, IfErr, Result}
 use Rattle.std.proofs.Common.{◌≡◌, ◌⊎◌, inl, inr, ℕ, List, Some, None, Ok, Err, refl, sym, true}
-use Rattle.serde_json.specs.Data.{Members}
-use Rattle.hack_base.specs.Names.{Name}
-use Rattle.hack_files.specs.Files.{Contents, GrowsBy, KeepsOthers}
-use Rattle.hack_files.specs.Restore.{Kept}
 use Rattle.std.proofs.Common.{◌++◌, ◌∷◌, [], ◌∙◌, ap, subst, arith}
 use Rattle.std.specs.Str.{bytes_eq}
 use Rattle.std.proofs.lemmas.Slice.Eq.{bytes_eq-Decides}
 use Rattle.std.proofs.lemmas.Bool.{cases_Bool, true≢false}
+use Rattle.std.proofs.lemmas.List.{append-nil}
+use Rattle.serde_json.specs.Data.{Members}
+use Rattle.hack_base.specs.Names.{Name}
+use Rattle.hack_files.specs.Faults.{IsOfRead, IsOfWrite}
+use Rattle.hack_files.specs.Files.{Change, Contents, GrowsBy, KeepsOthers, Makes, MakesOrNot, puts}
+use Rattle.hack_files.specs.Restore.{Kept, write_of}
+use Rattle.hack_files.specs.declared.fs.FsFault.{FsFault}
+use Rattle.hack_files.specs.declared.fs.FsFault.TheVariants as fs
+use Rattle.hack_files.proofs.FilesLemmas.{makes_more}
 use Rattle.hack_process.specs.Calls.{Asked, Call, MayAdd}
 use Rattle.hack_process.specs.CommandTexts.{Command, text_of}
 use Rattle.hack_process.specs.Commands.{asked_of}
 use Rattle.hack_process.specs.Faults.{IsFault, IsReadFault}
 use Rattle.hack_process.specs.declared.fault.ProcessFault.{ProcessFault}
 use Rattle.hack_process.specs.declared.fault.ProcessFault.TheVariants as p
-use Rattle.hack_metadata.specs.Asks.{Stage, taken, versioned, Way, Ends, MayAsk, Halts, IsAnswer, IsNext, Lacks, IsTextFault, TellsAs, FailsAs}
+use Rattle.hack_metadata.specs.Asks.{Stage, first, locked, newer, taken, to_cargo, versioned, Way, answers, tells_older, first_counts, asks_again}
+use Rattle.hack_metadata.specs.Asks.{AsksCargo, Counts, EndsSo, Fails, FailsFirst, FallsBack, IsAnswer, IsLockfile, IsNeeded, IsNext, IsTextFault, Lacks, PutsBack, Stops, TellsAs, FailsAs, Writes}
 use Rattle.hack_metadata.specs.Fields.{Field, object_in_text}
+use Rattle.hack_metadata.specs.FileFaults.{IsUnread, IsUnwritten}
 use Rattle.hack_metadata.specs.Read.{read_metadata}
-use Rattle.hack_metadata.specs.Requests.{Question}
-use Rattle.hack_metadata.specs.Left.{IsFileFault, Whole, Spoilt, Keeps, LeftBy, Spares}
+use Rattle.hack_metadata.specs.Requests.{Question, by_stable, command_line, first_command}
+use Rattle.hack_metadata.specs.Left.{FailsOver, IsFileFault, IsNoFileFault, IsOfFile, Keeps, LeftBy, Leaves, PutsHeld, Spoilt, Whole}
 use Rattle.hack_metadata.specs.Whole.{metadata_view}
 use Rattle.hack_metadata.specs.declared.metadata.Metadata.{Metadata}
 use Rattle.hack_metadata.specs.declared.ask_fault.AskFault.{AskFault}
 use Rattle.hack_metadata.specs.declared.ask_fault.AskFault.TheVariants as fault
 use Rattle.hack_metadata.proofs.AskLemmas.{fault-read}
 
--- a text that isn't read as it should be ends the question
-pub text-halts : {A : Type 0} (q : Question) (held : Contents) (old new : List Call) (stage : Stage) (c : Command) (text : Name) (f : Members → Field A) (e : AskFault)
-    → Way q held old stage new → IsAnswer q stage c text → ((name : Name) (ms : Members) → object_in_text text ≡ Some ms → f ms ≡ Err name → Lacks stage name)
-    → IsTextFault f text (text_of q.verbose q.dir c) e → Halts q held old new e
-text-halts q held old new stage c text f fault.Memory way is lacks h = (stage, new, way, inl refl)
-text-halts q held old new stage c text f fault.NoHost way is lacks h = absurd h
-text-halts q held old new stage c text f (fault.Process e) way is lacks h = absurd h
-text-halts q held old new stage c text f (fault.Files e) way is lacks h = absurd h
-text-halts q held old new stage c text f (fault.Output told) way is lacks h = (stage, new, way, (refl, (c, text, is, h.0, h.1)))
-text-halts q held old new stage c text f (fault.Field name) way is lacks h = (stage, new, way, (refl, lacks name.now h.0 h.1 h.2))
+-- ---- why a question ends
 
--- an answer that counts is read
-pub taken-ends : (q : Question) (held : Contents) (old new : List Call) (c : Command) (text : Name) (minor : ℕ) (r : Result Metadata AskFault)
-    → Way q held old (taken c text minor) new → IfOk r (λ m. TellsAs (read_metadata minor) text (metadata_view m))
-    → IfErr r (IsTextFault (read_metadata minor) text (text_of q.verbose q.dir c)) → Ends q held old new r
-taken-ends q held old new c text minor (Ok m) way ok err = (c, text, minor, way, ok)
-taken-ends q held old new c text minor (Err e) way ok err = text-halts q held old new (taken c text minor) c text (read_metadata minor) e way (refl, refl) (λ name ms o f. (ms, o, f)) err
+-- a text that isn't read as it should be ends the question
+pub text-stops : {A : Type 0} (q : Question) (now : List Call) (stage : Stage) (c : Command) (text : Name) (f : Members → Field A) (e : AskFault)
+    → IsAnswer q stage c text → ((name : Name) (ms : Members) → object_in_text text ≡ Some ms → f ms ≡ Err name → Lacks stage name)
+    → IsTextFault f text (text_of q.verbose q.dir c) e → Stops q stage now now e
+text-stops q now stage c text f fault.Memory is lacks h = inl refl
+text-stops q now stage c text f fault.NoHost is lacks h = absurd h
+text-stops q now stage c text f (fault.Process e) is lacks h = absurd h
+text-stops q now stage c text f (fault.Files e) is lacks h = absurd h
+text-stops q now stage c text f (fault.Output told) is lacks h = (refl, (c, text, is, h.0, h.1))
+text-stops q now stage c text f (fault.Field name) is lacks h = (refl, lacks name.now h.0 h.1 h.2)
+
+-- an answer that is read counts
+metadata-counts : (q : Question) (now : List Call) (c : Command) (text : Name) (minor : ℕ) (r : Result Metadata AskFault)
+    → IfOk r (λ m. TellsAs (read_metadata minor) text (metadata_view m)) → IfErr r (IsTextFault (read_metadata minor) text (text_of q.verbose q.dir c)) → Counts q c text minor now r
+metadata-counts q now c text minor (Ok m) ok err = ok
+metadata-counts q now c text minor (Err e) ok err = text-stops q now (taken c text minor) c text (read_metadata minor) e (refl, refl) (λ name ms o f. (ms, o, f)) err
+
+-- and is the one that was asked for
+pub asked-counts : (q : Question) (now : List Call) (c asked : Command) (text shown : Name) (minor : ℕ) (r : Result Metadata AskFault)
+    → asked ≡ c → shown ≡ text → IfOk r (λ m. TellsAs (read_metadata minor) shown (metadata_view m))
+    → IfErr r (IsTextFault (read_metadata minor) shown (text_of q.verbose q.dir asked)) → Counts q c text minor now r
+asked-counts q now c asked text shown minor r is same ok err =
+    metadata-counts q now c text minor r (subst (λ t. IfOk r (λ m. TellsAs (read_metadata minor) t (metadata_view m))) same ok)
+    (subst (λ k. IfErr r (IsTextFault (read_metadata minor) text (text_of q.verbose q.dir k))) is (subst (λ t. IfErr r (IsTextFault (read_metadata minor) t (text_of q.verbose q.dir asked))) same err))
 
 -- over a caller that tells
 told-fault : (tells : Type 0) (asked : Asked) (shown : Name) (old new : List Call) (e : ProcessFault) → tells → IsReadFault tells asked shown old new e → IsReadFault (Unit {0}) asked shown old new e
@@ -53,15 +69,15 @@ told-fault tells asked shown old new (p.Failed failure) t h = (h.0, h.1, h.2, λ
 told-fault tells asked shown old new (p.NotText text) t h = (h.0, h.1, λ _. h.2 t)
 
 -- the next command fails, and ends the question
-pub command-halts : (tells : Type 0) (q : Question) (held : Contents) (old mid new : List Call) (stage : Stage) (c : Command) (e : AskFault)
-    → tells → Way q held old stage mid → IsNext q stage c
-    → FailsAs (tells → MayAdd (asked_of true c) mid new) (IsReadFault tells (asked_of true c) (text_of true q.dir c) mid new) e → Halts q held old new e
-command-halts tells q held old mid new stage c fault.Memory t way next h = (stage, mid, way, inr (c, next, h t))
-command-halts tells q held old mid new stage c fault.NoHost t way next h = absurd h
-command-halts tells q held old mid new stage c (fault.Process e) t way next h = (stage, mid, way, (c, next, told-fault tells (asked_of true c) (text_of true q.dir c) mid new e t h))
-command-halts tells q held old mid new stage c (fault.Files e) t way next h = absurd h
-command-halts tells q held old mid new stage c (fault.Output text) t way next h = absurd h
-command-halts tells q held old mid new stage c (fault.Field name) t way next h = absurd h
+pub command-stops : (tells : Type 0) (q : Question) (mid new : List Call) (stage : Stage) (c : Command) (e : AskFault)
+    → tells → IsNeeded stage → IsNext q stage c
+    → FailsAs (tells → MayAdd (asked_of true c) mid new) (IsReadFault tells (asked_of true c) (text_of true q.dir c) mid new) e → Stops q stage mid new e
+command-stops tells q mid new stage c fault.Memory t needed next h = inr (c, next, h t)
+command-stops tells q mid new stage c fault.NoHost t needed next h = absurd h
+command-stops tells q mid new stage c (fault.Process e) t needed next h = (needed, (c, next, told-fault tells (asked_of true c) (text_of true q.dir c) mid new e t h))
+command-stops tells q mid new stage c (fault.Files e) t needed next h = absurd h
+command-stops tells q mid new stage c (fault.Output text) t needed next h = absurd h
+command-stops tells q mid new stage c (fault.Field name) t needed next h = absurd h
 
 -- a fault of running is one of reading
 pub run-fails : (M tells : Type 0) (asked : Asked) (shown : Name) (old new : List Call) (e : AskFault) → FailsAs M (IsFault tells asked shown old new) e → FailsAs M (IsReadFault tells asked shown old new) e
@@ -72,14 +88,64 @@ run-fails M tells asked shown old new (fault.Files e) h = h
 run-fails M tells asked shown old new (fault.Output text) h = h
 run-fails M tells asked shown old new (fault.Field name) h = h
 
--- the files end the question
-pub file-halts : (q : Question) (held : Contents) (old mid new : List Call) (stage : Stage) (e : AskFault) → Way q held old stage mid → MayAsk q stage mid new → IsFileFault e → Halts q held old new e
-file-halts q held old mid new stage fault.Memory way may h = (stage, mid, way, may)
-file-halts q held old mid new stage fault.NoHost way may h = absurd h
-file-halts q held old mid new stage (fault.Process e) way may h = absurd h
-file-halts q held old mid new stage (fault.Files e) way may h = (stage, mid, way, may)
-file-halts q held old mid new stage (fault.Output text) way may h = absurd h
-file-halts q held old mid new stage (fault.Field name) way may h = absurd h
+-- a question that can't be made
+pub question-stops : (q : Question) (now : List Call) (minor : ℕ) (e : AskFault) → (e ≡ fault.Memory) ⊎ ((e ≡ fault.NoHost) × (q.full ≡ None)) → Stops q (versioned minor) now now e
+question-stops q now minor e (inl is) = subst (λ x. Stops q (versioned minor) now now x) (sym is) (inl refl)
+question-stops q now minor e (inr h) = subst (λ x. Stops q (versioned minor) now now x) (sym h.0) (minor, refl, refl, h.1)
+
+-- ---- faults of the lockfile
+
+-- a read that failed
+pub of-read : (path : Name) (f : FsFault) (e : AskFault) → IsOfFile f e → IsOfRead path f → IsFileFault (IsUnread path) e
+of-read path fs.Memory e is h = subst (IsFileFault (IsUnread path)) (sym is) tt
+of-read path (fs.Read p) e is h = subst (IsFileFault (IsUnread path)) (sym is) h
+of-read path (fs.Write p) e is h = absurd h
+of-read path (fs.NotText p) e is h = absurd h
+
+-- a write that failed
+pub of-write : (path : Name) (f : FsFault) (e : AskFault) → IsOfFile f e → IsOfWrite path f → IsFileFault (IsUnwritten path) e
+of-write path fs.Memory e is h = subst (IsFileFault (IsUnwritten path)) (sym is) tt
+of-write path (fs.Read p) e is h = absurd h
+of-write path (fs.Write p) e is h = subst (IsFileFault (IsUnwritten path)) (sym is) h
+of-write path (fs.NotText p) e is h = absurd h
+
+pub unread-over : (path : Name) (still done : Type 0) (e : AskFault) → still → done → IsFileFault (IsUnread path) e → FailsOver path still done e
+unread-over path still done fault.Memory s d h = d
+unread-over path still done (fault.Files f) s d h = inl (s, h)
+unread-over path still done fault.NoHost s d h = absurd h
+unread-over path still done (fault.Process p) s d h = absurd h
+unread-over path still done (fault.Output text) s d h = absurd h
+unread-over path still done (fault.Field name) s d h = absurd h
+
+pub unwritten-over : (path : Name) (still done : Type 0) (e : AskFault) → done → IsFileFault (IsUnwritten path) e → FailsOver path still done e
+unwritten-over path still done fault.Memory d h = d
+unwritten-over path still done (fault.Files f) d h = inr (d, h)
+unwritten-over path still done fault.NoHost d h = absurd h
+unwritten-over path still done (fault.Process p) d h = absurd h
+unwritten-over path still done (fault.Output text) d h = absurd h
+unwritten-over path still done (fault.Field name) d h = absurd h
+
+-- the lockfile can't be looked for
+pub there-stops : (q : Question) (now : List Call) (minor : ℕ) (text path : Name) (e : AskFault) → IsLockfile text path → IsFileFault (IsUnread path) e → Stops q (first minor text) now now e
+there-stops q now minor text path fault.Memory lock h = inl refl
+there-stops q now minor text path (fault.Files f) lock h = (minor, text, path, lock, inl (refl, h, inl refl))
+there-stops q now minor text path fault.NoHost lock h = absurd h
+there-stops q now minor text path (fault.Process p) lock h = absurd h
+there-stops q now minor text path (fault.Output shown) lock h = absurd h
+there-stops q now minor text path (fault.Field name) lock h = absurd h
+
+-- it can't be kept, or not be put back
+pub over-stops : (tells : Type 0) (q : Question) (mid new : List Call) (minor : ℕ) (text path : Name) (c : Command) (e : AskFault) → tells → IsLockfile text path → IsNext q (locked minor text) c
+    → FailsOver path (tells → new ≡ mid) (tells → MayAdd (asked_of true c) mid new) e → Stops q (locked minor text) mid new e
+over-stops tells q mid new minor text path c fault.Memory t lock next h = inr (c, next, h t)
+over-stops tells q mid new minor text path c (fault.Files f) t lock next (inl h) = (minor, text, path, lock, inl (h.0 t, h.1, inr refl))
+over-stops tells q mid new minor text path c (fault.Files f) t lock next (inr h) = (minor, text, path, lock, inr (inr (c, next, h.0 t), h.1, refl))
+over-stops tells q mid new minor text path c fault.NoHost t lock next h = absurd h
+over-stops tells q mid new minor text path c (fault.Process p) t lock next h = absurd h
+over-stops tells q mid new minor text path c (fault.Output shown) t lock next h = absurd h
+over-stops tells q mid new minor text path c (fault.Field name) t lock next h = absurd h
+
+-- ---- what is left of the files
 
 -- counts that don't grow
 still : (x y z : ℕ) → GrowsBy 0 x y → GrowsBy 0 y z → GrowsBy 0 x z
@@ -88,6 +154,10 @@ still x y z f g = λ low. let first = f low in let second = g (omega (arith, fir
 -- nothing was done to the files, twice
 pub whole-more : (tells : Type 0) (a b c : Contents) (x y z : ℕ) → Whole tells a b x y → Whole tells b c y z → Whole tells a c x z
 whole-more tells a b c x y z f g = (still x y z f.0 g.0, λ t q. g.1 t q ∙ f.1 t q)
+
+-- the same behind a fault
+spoilt-more : (path : Name) (tells : Type 0) (a b c : Contents) (x y z : ℕ) → Whole tells a b x y → Spoilt path tells b c y z → Spoilt path tells a c x z
+spoilt-more path tells a b c x y z f g = ((λ low. let first = f.0 low in let second = g.0 (omega (arith, first)) in omega (arith, first, second)), λ t q ne. g.1 t q ne ∙ f.1 t q)
 
 -- what was kept is written back
 pub restored : (path : Name) (tells : Type 0) (a b c : Contents) (x y z : ℕ) (old mid : List Kept) → Whole tells a b x y → Keeps path tells a old mid
@@ -104,44 +174,97 @@ restored path tells a b c x y z old mid whole keeps back =
       ],
     )
 
--- an answer that counts is read, as it was asked
-pub metadata-ends : (q : Question) (held : Contents) (old new : List Call) (c asked : Command) (text shown : Name) (minor : ℕ) (r : Result Metadata AskFault)
-    → asked ≡ c → shown ≡ text → Way q held old (taken c text minor) new → IfOk r (λ m. TellsAs (read_metadata minor) shown (metadata_view m))
-    → IfErr r (IsTextFault (read_metadata minor) shown (text_of q.verbose q.dir asked)) → Ends q held old new r
-metadata-ends q held old new c asked text shown minor r is same way ok err =
-    taken-ends q held old new c text minor r way (subst (λ t. IfOk r (λ m. TellsAs (read_metadata minor) t (metadata_view m))) same ok)
-    (subst (λ k. IfErr r (IsTextFault (read_metadata minor) text (text_of q.verbose q.dir k))) is (subst (λ t. IfErr r (IsTextFault (read_metadata minor) t (text_of q.verbose q.dir asked))) same err))
-
--- an answer that leaves nothing behind
-pub whole-spares : {X : Type 0} (path : Name) (tells : Type 0) (a b : Contents) (x y : ℕ) (r : Result X AskFault) → Whole tells a b x y → Spares path tells a b x y r
-whole-spares path tells a b x y (Ok v) h = h
-whole-spares path tells a b x y (Err e) h = inl h
-
--- a fault that leaves the lockfile at most
-pub left-over : (path : Name) (tells : Type 0) (a b : Contents) (x y : ℕ) (e : AskFault) → LeftBy path tells a b x y e → Whole tells a b x y ⊎ Spoilt path tells a b x y
-left-over path tells a b x y fault.Memory h = h
-left-over path tells a b x y fault.NoHost h = inl h
-left-over path tells a b x y (fault.Process e) h = inl h
-left-over path tells a b x y (fault.Files e) h = inr h
-left-over path tells a b x y (fault.Output text) h = inl h
-left-over path tells a b x y (fault.Field name) h = inl h
-
--- the same behind calls that left nothing
-pub spoilt-more : (path : Name) (tells : Type 0) (a b c : Contents) (x y z : ℕ) → Whole tells a b x y → Whole tells b c y z ⊎ Spoilt path tells b c y z → Whole tells a c x z ⊎ Spoilt path tells a c x z
-spoilt-more path tells a b c x y z f (inl g) = inl (whole-more tells a b c x y z f g)
-spoilt-more path tells a b c x y z f (inr g) = inr (
-  (λ low. let first = f.0 low in let second = g.0 (omega (arith, first)) in omega (arith, first, second)),
-  λ t q ne. g.1 t q ne ∙ f.1 t q,
-)
-
 pub unchanged : (tells : Type 0) (a : Contents) (x : ℕ) → Whole tells a a x x
 unchanged tells a x = (λ low. omega (arith, low), λ t q. refl)
 
--- a question that can't be made
-pub question-halts : (q : Question) (held : Contents) (old new : List Call) (minor : ℕ) (e : AskFault) → Way q held old (versioned minor) new → (e ≡ fault.Memory) ⊎ ((e ≡ fault.NoHost) × (q.full ≡ None)) → Halts q held old new e
-question-halts q held old new minor e way (inl is) = subst (λ x. Halts q held old new x) (sym is) (versioned minor, new, way, inl refl)
-question-halts q held old new minor e way (inr h) = subst (λ x. Halts q held old new x) (sym h.0) (versioned minor, new, way, (refl, h.1))
+-- a fault that leaves nothing behind
+pub whole-left : (path : Name) (tells : Type 0) (a b : Contents) (x y : ℕ) (e : AskFault) → IsNoFileFault e → Whole tells a b x y → LeftBy path tells a b x y e
+whole-left path tells a b x y fault.Memory spares h = inl h
+whole-left path tells a b x y fault.NoHost spares h = h
+whole-left path tells a b x y (fault.Process e) spares h = h
+whole-left path tells a b x y (fault.Files e) spares h = absurd spares
+whole-left path tells a b x y (fault.Output text) spares h = h
+whole-left path tells a b x y (fault.Field name) spares h = h
 
--- the same of a result that is a fault
-pub err-spares : {X : Type 0} (path : Name) (tells : Type 0) (a b : Contents) (x y : ℕ) (r : Result X AskFault) (e : AskFault) → r ≡ Err e → Whole tells a b x y ⊎ Spoilt path tells a b x y → Spares path tells a b x y r
-err-spares path tells a b x y r e is h = subst (λ v. Spares path tells a b x y v) (sym is) h
+-- an answer that leaves nothing behind
+pub whole-leaves : {X : Type 0} (path : Name) (tells : Type 0) (a b : Contents) (x y : ℕ) (r : Result X AskFault) → IfErr r IsNoFileFault → Whole tells a b x y → Leaves path tells a b x y r
+whole-leaves path tells a b x y (Ok v) spares h = h
+whole-leaves path tells a b x y (Err e) spares h = whole-left path tells a b x y e spares h
+
+-- a text that isn't read as it should be is no fault of the files
+pub text-spares : {A : Type 0} (f : Members → Field A) (text shown : Name) (e : AskFault) → IsTextFault f text shown e → IsNoFileFault e
+text-spares f text shown fault.Memory h = tt
+text-spares f text shown fault.NoHost h = tt
+text-spares f text shown (fault.Process e) h = tt
+text-spares f text shown (fault.Files e) h = h
+text-spares f text shown (fault.Output told) h = tt
+text-spares f text shown (fault.Field name) h = tt
+
+-- a fault behind calls that left nothing
+pub left-more : (path : Name) (tells : Type 0) (a b c : Contents) (x y z : ℕ) (e : AskFault) → Whole tells a b x y → LeftBy path tells b c y z e → LeftBy path tells a c x z e
+left-more path tells a b c x y z fault.Memory f (inl g) = inl (whole-more tells a b c x y z f g)
+left-more path tells a b c x y z fault.Memory f (inr g) = inr (spoilt-more path tells a b c x y z f g)
+left-more path tells a b c x y z (fault.Files e) f g = spoilt-more path tells a b c x y z f g
+left-more path tells a b c x y z fault.NoHost f g = whole-more tells a b c x y z f g
+left-more path tells a b c x y z (fault.Process e) f g = whole-more tells a b c x y z f g
+left-more path tells a b c x y z (fault.Output text) f g = whole-more tells a b c x y z f g
+left-more path tells a b c x y z (fault.Field name) f g = whole-more tells a b c x y z f g
+
+-- ---- what is written
+
+pub wrote-none : (t : List Change) (a : Contents) → Makes [] t t a a
+wrote-none t a = record { traced = sym (append-nil t); holds = refl }
+
+module _ (tells whole : Type 0) (a b c : Contents) (s t u : List Change) (x y : ℕ) (path text : Name) (before : Whole tells a b x y) (lock : IsLockfile text path) (none : whole → Makes [] s t a b) where
+  -- bytes that were held are those that were held before
+  puts-back : (bytes : List ℕ) → (tells → b path ≡ Some bytes) → PutsBack tells a text (puts path bytes)
+  puts-back bytes kept = record { path = path; bytes = bytes; lockfile = lock; kept = λ told. sym (before.1 told path) ∙ kept told; is = refl }
+
+  -- the lockfile was put back
+  pub back-wrote : PutsHeld tells b path (λ put. whole → Makes (put ∷ []) t u b c) → (put : Change) × PutsBack tells a text put × (whole → Makes (put ∷ []) s u a c)
+  back-wrote h = (puts path h.0, puts-back h.0 h.1, λ w. makes_more [] (puts path h.0 ∷ []) s t u a b c (none w) (h.2 w))
+
+  -- or nothing was written, where a fault ended it
+  pub over-wrote : (minor : ℕ) → (whole → Makes [] t u b c ⊎ PutsHeld tells b path (λ put. Makes (put ∷ []) t u b c)) → Writes whole tells s u a c (locked minor text) []
+  over-wrote minor h = λ w. elim (h w) [
+    | inl m ↦ inl (makes_more [] [] s t u a b c (none w) m)
+    | inr p ↦ inr (puts path p.0, puts-back p.0 p.1, makes_more [] (puts path p.0 ∷ []) s t u a b c (none w) p.2)
+  ]
+
+-- the lockfile is kept, a command is asked, and it is put back
+module _ (tells whole : Type 0) (path : Name) (a b c : Contents) (s t u : List Change) (old mid : List Kept) (keeps : Keeps path tells a old mid) (none : whole → Makes [] s t a b) where
+  pub held-back : ((file : Kept) (earlier : List Kept) → mid ≡ earlier ++ file ∷ [] → whole → Makes (write_of file ∷ []) t u b c) → PutsHeld tells a path (λ put. whole → Makes (put ∷ []) s u a c)
+  held-back back = (keeps.0, keeps.2, λ w. makes_more [] (puts path keeps.0 ∷ []) s t u a b c (none w) (back (record { path = path; bytes = keeps.0 }) old keeps.1 w))
+
+  pub held-or : ((file : Kept) (earlier : List Kept) → mid ≡ earlier ++ file ∷ [] → whole → MakesOrNot (write_of file) t u b c) → whole → Makes [] s u a c ⊎ PutsHeld tells a path (λ put. Makes (put ∷ []) s u a c)
+  held-or back w = elim (back (record { path = path; bytes = keeps.0 }) old keeps.1 w) [
+    | inl m ↦ inl (makes_more [] [] s t u a b c (none w) m)
+    | inr m ↦ inr (keeps.0, keeps.2, makes_more [] (puts path keeps.0 ∷ []) s t u a b c (none w) m)
+  ]
+
+-- ---- where a question ends
+
+module _ (tells whole : Type 0) (q : Question) (held later : Contents) (before now : List Change) (start new : List Call) where
+  -- an answer counts
+  pub counts-ends : (c : Command) (text : Name) (minor : ℕ) (made : List Change) (r : Result Metadata AskFault) → Way tells q held start (taken c text minor) new made → (whole → Makes made before now held later)
+      → Counts q c text minor new r → EndsSo tells q held start new (Writes whole tells before now held later) r
+  counts-ends c text minor made (Ok m) way wrote h = (c, text, minor, made, way, wrote, h)
+  counts-ends c text minor made (Err e) way wrote h = (taken c text minor, new, made, way, h, wrote)
+
+  -- the first question to cargo failed
+  pub first-ends : (mid : List Call) (minor : ℕ) (e : AskFault) → Way tells q held start (newer minor) mid [] → (whole → Makes [] before now held later) → FailsFirst q minor mid new e → EndsSo tells q held start new (Writes whole tells before now held later) (Err e)
+  first-ends mid minor e way wrote (inl h) = (newer minor, mid, [], way, h, wrote)
+  first-ends mid minor e way wrote (inr h) = (first minor h.0, new, [], answers h.0 way h.1, h.2, wrote)
+
+  -- cargo is asked the full request
+  pub cargo-ends : (mid : List Call) (made : List Change) (r : Result Metadata AskFault) → Way tells q held start to_cargo mid made → (whole → Makes made before now held later)
+      → AsksCargo q mid new r → EndsSo tells q held start new (Writes whole tells before now held later) r
+  cargo-ends mid made r way wrote (inl h) = subst (EndsSo tells q held start new (Writes whole tells before now held later)) (sym h.1) (to_cargo, mid, made, way, h.2, wrote)
+  cargo-ends mid made r way wrote (inr h) = counts-ends (command_line q.cargo h.0) h.1 q.cargo_version made r (tells_older h.0 h.1 h.2 way h.3) wrote h.4
+
+  -- stable's cargo failed
+  pub fallen-ends : (mid old : List Call) (minor : ℕ) (text : Name) (words : List Name) (r : Result Metadata AskFault) → q.full ≡ Some words → Way tells q held start (locked minor text) mid [] → Fails (by_stable q words) mid old
+      → (put : Change) × PutsBack tells held text put × (whole → Makes (put ∷ []) before now held later) → FallsBack q text old new r → EndsSo tells q held start new (Writes whole tells before now held later) r
+  fallen-ends mid old minor text words r full way fails put (inl h) =
+      counts-ends (first_command q) text q.cargo_version (put.0 ∷ []) r (subst (λ n. Way tells q held start (taken (first_command q) text q.cargo_version) n (put.0 ∷ [])) (sym h.1) (first_counts words full way fails put.1 h.0)) put.2 h.2
+  fallen-ends mid old minor text words r full way fails put (inr h) = cargo-ends old (put.0 ∷ []) r (asks_again words full way fails put.1 h.0) put.2 h.1

@@ -1,9 +1,11 @@
 -- Which calls a question to cargo makes, and what counts as its answer.
-use Rattle.std.specs.Prelude.{◌≡◌, ◌⊎◌, ◌<◌, ◌≤◌, ℕ, true, false, List, [], Some, None, Result, Ok, Err, codes, string_bytes, IsSome}
+use Rattle.std.specs.Prelude.{◌≡◌, ◌⊎◌, ◌<◌, ◌≤◌, ◌++◌, ◌∷◌, ℕ, true, false, List, [], Some, None, Result, Ok, Err, codes, string_bytes, IsSome}
 use Rattle.std.specs.Str.{IsUtf8}
 use Rattle.serde_json.specs.Data.{Members}
 use Rattle.hack_base.specs.Names.{Name}
-use Rattle.hack_files.specs.Files.{Contents}
+use Rattle.hack_files.specs.Files.{Change, Contents, Makes, puts}
+use Rattle.hack_files.specs.declared.fs.FsFault.{FsFault}
+use Rattle.hack_metadata.specs.FileFaults.{IsUnread, IsUnwritten}
 use Rattle.hack_versions.specs.declared.version.Version.{Version}
 use Rattle.hack_versions.specs.declared.rustup.VersionTextFault.{VersionTextFault}
 use Rattle.hack_versions.specs.ToolTexts.{TellsRelease, IsAnswerFault}
@@ -26,9 +28,9 @@ use Rattle.hack_metadata.specs.declared.ask_fault.AskFault.TheVariants as fault
 abbrev pub Runs : Command → List Call → List Call → Type 0
 Runs c old new = Had (λ answer. IsSuccess answer.end) (asked_of true c) old new
 
--- just this command was called, ended well, and wrote this text
+-- just this command was called, ended well, and wrote bytes that are this text, but for line ends behind it
 abbrev pub Reads : Command → Name → List Call → List Call → Type 0
-Reads c text old new = Had (λ answer. IsSuccess answer.end × (text ≡ without_line_ends answer.stdout)) (asked_of true c) old new
+Reads c text old new = Had (λ answer. IsSuccess answer.end × IsUtf8 answer.stdout × (text ≡ without_line_ends answer.stdout)) (asked_of true c) old new
 
 -- the command has no name, and nothing was called; or just it was called, and didn't end well with a text
 abbrev pub Fails : Command → List Call → List Call → Type 0
@@ -71,21 +73,33 @@ pub data Stage : Type 0 where
   -- this command's answer counts, as that of a cargo of this minor
   taken : Command → Name → ℕ → Stage
 
--- `held` is what the files held before
-module _ (q : Question) (held : Contents) (old : List Call) where
-  -- these calls lead so far
-  pub data Way : Stage → List Call → Type 0 where
-    starts : Way begun old
-    tells_minor : {new : List Call} (minor : ℕ) → TellsStable q.rustup minor old new → Way (versioned minor) new
-    is_older : {new : List Call} {minor : ℕ} → Way (versioned minor) new → minor ≤ q.cargo_version → Way to_cargo new
-    is_newer : {new : List Call} {minor : ℕ} → Way (versioned minor) new → q.cargo_version < minor → Way (newer minor) new
-    answers : {mid new : List Call} {minor : ℕ} (text : Name) → Way (newer minor) mid → Reads (first_command q) text mid new → Way (first minor text) new
-    is_there : {mid : List Call} {minor : ℕ} {text : Name} (path : Name) → Way (first minor text) mid → IsLockfile text path → IsSome (held path) → Way (locked minor text) mid
-    is_made : {mid new : List Call} {minor : ℕ} {text : Name} (path : Name) → Way (first minor text) mid → IsLockfile text path → ¬ IsSome (held path) → Runs (lock_command q) mid new → Way (locked minor text) new
-    tells_newer : {mid new : List Call} {minor : ℕ} {text : Name} (words : List Name) (told : Name) → q.full ≡ Some words → Way (locked minor text) mid → Reads (by_stable q words) told mid new → Way (taken (by_stable q words) told minor) new
-    first_counts : {mid new : List Call} {minor : ℕ} {text : Name} (words : List Name) → q.full ≡ Some words → Way (locked minor text) mid → Fails (by_stable q words) mid new → q.deps ≡ false → Way (taken (first_command q) text q.cargo_version) new
-    asks_again : {mid new : List Call} {minor : ℕ} {text : Name} (words : List Name) → q.full ≡ Some words → Way (locked minor text) mid → Fails (by_stable q words) mid new → q.deps ≡ true → Way to_cargo new
-    tells_older : {mid new : List Call} (words : List Name) (text : Name) → q.full ≡ Some words → Way to_cargo mid → Reads (command_line q.cargo words) text mid new → Way (taken (command_line q.cargo words) text q.cargo_version) new
+-- the lockfile that an answer tells is written, with the bytes that it held where files tell
+pub record PutsBack (tells : Type 0) (held : Contents) (text : Name) (put : Change) : Type 0 where
+  pub path : Name
+  pub bytes : List ℕ
+  pub lockfile : IsLockfile text path
+  pub kept : tells → held path ≡ Some bytes
+  pub is : put ≡ puts path bytes
+
+-- `held` is what the files held before, where they tell it
+module _ (tells : Type 0) (q : Question) (held : Contents) (old : List Call) where
+  -- these calls and writes lead so far
+  pub data Way : Stage → List Call → List Change → Type 0 where
+    starts : Way begun old []
+    tells_minor : {new : List Call} (minor : ℕ) → TellsStable q.rustup minor old new → Way (versioned minor) new []
+    is_older : {new : List Call} {minor : ℕ} → Way (versioned minor) new [] → minor ≤ q.cargo_version → Way to_cargo new []
+    is_newer : {new : List Call} {minor : ℕ} → Way (versioned minor) new [] → q.cargo_version < minor → Way (newer minor) new []
+    answers : {mid new : List Call} {minor : ℕ} (text : Name) → Way (newer minor) mid [] → Reads (first_command q) text mid new → Way (first minor text) new []
+    is_there : {mid : List Call} {minor : ℕ} {text : Name} (path : Name) → Way (first minor text) mid [] → IsLockfile text path → (tells → IsSome (held path)) → Way (locked minor text) mid []
+    is_made : {mid new : List Call} {minor : ℕ} {text : Name} (path : Name) → Way (first minor text) mid [] → IsLockfile text path → (tells → ¬ IsSome (held path)) → Runs (lock_command q) mid new → Way (locked minor text) new []
+    tells_newer : {mid new : List Call} {minor : ℕ} {text : Name} {put : Change} (words : List Name) (told : Name) → q.full ≡ Some words → Way (locked minor text) mid [] → Reads (by_stable q words) told mid new → PutsBack tells held text put
+        → Way (taken (by_stable q words) told minor) new (put ∷ [])
+    first_counts : {mid new : List Call} {minor : ℕ} {text : Name} {put : Change} (words : List Name) → q.full ≡ Some words → Way (locked minor text) mid [] → Fails (by_stable q words) mid new → PutsBack tells held text put → q.deps ≡ false
+        → Way (taken (first_command q) text q.cargo_version) new (put ∷ [])
+    asks_again : {mid new : List Call} {minor : ℕ} {text : Name} {put : Change} (words : List Name) → q.full ≡ Some words → Way (locked minor text) mid [] → Fails (by_stable q words) mid new → PutsBack tells held text put → q.deps ≡ true
+        → Way to_cargo new (put ∷ [])
+    tells_older : {mid new : List Call} {made : List Change} (words : List Name) (text : Name) → q.full ≡ Some words → Way to_cargo mid made → Reads (command_line q.cargo words) text mid new
+        → Way (taken (command_line q.cargo words) text q.cargo_version) new made
 
 -- the command that may be called at a stage
 abbrev pub IsNext : Question → Stage → Command → Type 0
@@ -121,23 +135,76 @@ Lacks (first minor text) name = (ms : Members) × (object_in_text text ≡ Some 
 Lacks (locked minor text) name = ⊥
 Lacks (taken c text minor) name = (ms : Members) × (object_in_text text ≡ Some ms) × (read_metadata minor ms ≡ Err name)
 
+-- a command that fails ends the question; stable's cargo may fail
+abbrev pub IsNeeded : Stage → Type 0
+IsNeeded begun = ⊥
+IsNeeded (versioned minor) = ⊥
+IsNeeded to_cargo = Unit {0}
+IsNeeded (newer minor) = Unit {0}
+IsNeeded (first minor text) = Unit {0}
+IsNeeded (locked minor text) = ⊥
+IsNeeded (taken c text minor) = ⊥
+
+-- the lockfile can't be read before it is made or kept, or not be put back where stable's cargo is asked
+abbrev pub StopsAtFile : Question → Stage → List Call → List Call → FsFault → Type 0
+StopsAtFile q stage mid new f = (minor : ℕ) × (text : Name) × (path : Name) × IsLockfile text path
+    × (((new ≡ mid) × IsUnread path f × ((stage ≡ first minor text) ⊎ (stage ≡ locked minor text)))
+    ⊎ (MayAsk q stage mid new × IsUnwritten path f × (stage ≡ locked minor text)))
+
 -- why a question ends behind a stage; at most one call more was made
 abbrev pub Stops : Question → Stage → List Call → List Call → AskFault → Type 0
 Stops q stage mid new fault.Memory = MayAsk q stage mid new
-Stops q stage mid new fault.NoHost = (new ≡ mid) × (q.full ≡ None)
-Stops q stage mid new (fault.Process p) = (c : Command) × IsNext q stage c × IsReadFault (Unit {0}) (asked_of true c) (text_of true q.dir c) mid new p
-Stops q stage mid new (fault.Files f) = MayAsk q stage mid new
+Stops q stage mid new fault.NoHost = (minor : ℕ) × (stage ≡ versioned minor) × (new ≡ mid) × (q.full ≡ None)
+Stops q stage mid new (fault.Process p) = IsNeeded stage × ((c : Command) × IsNext q stage c × IsReadFault (Unit {0}) (asked_of true c) (text_of true q.dir c) mid new p)
+Stops q stage mid new (fault.Files f) = StopsAtFile q stage mid new f
 Stops q stage mid new (fault.Output shown) = (new ≡ mid) × ((c : Command) × (text : Name) × IsAnswer q stage c text × (object_in_text text ≡ None) × (string_bytes shown ≡ text_of q.verbose q.dir c))
 Stops q stage mid new (fault.Field name) = (new ≡ mid) × Lacks stage name.now
 
--- these calls lead to a stage, and this fault ends the question there
-abbrev pub Halts : Question → Contents → List Call → List Call → AskFault → Type 0
-Halts q held old new e = (stage : Stage) × (mid : List Call) × Way q held old stage mid × Stops q stage mid new e
+-- an answer counts: it tells this metadata, or a fault says why not
+abbrev pub Counts : Question → Command → Name → ℕ → List Call → Result Metadata AskFault → Type 0
+Counts q c text minor now (Ok m) = TellsAs (read_metadata minor) text (metadata_view m)
+Counts q c text minor now (Err e) = Stops q (taken c text minor) now now e
 
--- what came of a question: metadata that an answer tells which counts, or a fault that ended it
-abbrev pub Ends : Question → Contents → List Call → List Call → Result Metadata AskFault → Type 0
-Ends q held old new (Ok m) = (c : Command) × (text : Name) × (minor : ℕ) × Way q held old (taken c text minor) new × TellsAs (read_metadata minor) text (metadata_view m)
-Ends q held old new (Err e) = Halts q held old new e
+-- cargo was asked the full request, and its answer counts; or that ended the question
+abbrev pub AsksCargo : Question → List Call → List Call → Result Metadata AskFault → Type 0
+AsksCargo q old new r = ((e : AskFault) × (r ≡ Err e) × Stops q to_cargo old new e)
+    ⊎ ((words : List Name) × (text : Name) × (q.full ≡ Some words) × Reads (command_line q.cargo words) text old new × Counts q (command_line q.cargo words) text q.cargo_version new r)
+
+-- cargo's first answer, this text, counts; or it has no dependencies, which are wanted, and cargo was asked for them
+abbrev pub FallsBack : Question → Name → List Call → List Call → Result Metadata AskFault → Type 0
+FallsBack q text old new r = ((q.deps ≡ false) × (new ≡ old) × Counts q (first_command q) text q.cargo_version new r) ⊎ ((q.deps ≡ true) × AsksCargo q old new r)
+
+-- the first question ended behind stable's version, or behind its answer
+abbrev pub FailsFirst : Question → ℕ → List Call → List Call → AskFault → Type 0
+FailsFirst q minor old new e = Stops q (newer minor) old new e ⊎ ((text : Name) × Reads (first_command q) text old new × Stops q (first minor text) new new e)
+
+module _ (tells : Type 0) (q : Question) (held : Contents) (old new : List Call) where
+  -- these calls and writes lead to a stage, this fault ends the question there, and `W` is so of what was written
+  abbrev pub Halts : (Stage → List Change → Type 0) → AskFault → Type 0
+  Halts W e = (stage : Stage) × (mid : List Call) × (made : List Change) × Way tells q held old stage mid made × Stops q stage mid new e × W stage made
+
+  -- metadata that an answer tells which counts, or a fault that ended the question
+  abbrev pub EndsSo : (Stage → List Change → Type 0) → Result Metadata AskFault → Type 0
+  EndsSo W (Ok m) = (c : Command) × (text : Name) × (minor : ℕ) × (made : List Change) × Way tells q held old (taken c text minor) new made × W (taken c text minor) made × TellsAs (read_metadata minor) text (metadata_view m)
+  EndsSo W (Err e) = Halts W e
+
+  -- what came of a question, whatever was written
+  abbrev pub Ends : Result Metadata AskFault → Type 0
+  Ends r = EndsSo (λ stage made. Unit {0}) r
+
+-- just so much was written as led to a stage; or, where stable's cargo was asked, and a fault ended that, the lockfile was put back too
+abbrev pub Wrote : Type 0 → Contents → (List Change → Type 0) → Stage → List Change → Type 0
+Wrote tells held Made begun made = Made made
+Wrote tells held Made (versioned minor) made = Made made
+Wrote tells held Made to_cargo made = Made made
+Wrote tells held Made (newer minor) made = Made made
+Wrote tells held Made (first minor text) made = Made made
+Wrote tells held Made (locked minor text) made = Made made ⊎ ((put : Change) × PutsBack tells held text put × Made (made ++ put ∷ []))
+Wrote tells held Made (taken c text minor) made = Made made
+
+-- over files that tell their changes, these are all that were made
+abbrev pub Writes : Type 0 → Type 0 → List Change → List Change → Contents → Contents → Stage → List Change → Type 0
+Writes whole tells before now held later stage made = whole → Wrote tells held (λ cs. Makes cs before now held later) stage made
 
 -- why a text isn't read as f says
 abbrev pub IsTextFault : {A : Type 0} → (Members → Field A) → Name → Name → AskFault → Type 0

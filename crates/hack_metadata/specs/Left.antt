@@ -1,10 +1,11 @@
 -- What a question to cargo leaves of the files.
 use Rattle.std.specs.Prelude.{◌≡◌, ◌⊎◌, ◌++◌, ◌∷◌, [], ℕ, List, Some, Result, Ok, Err}
 use Rattle.hack_base.specs.Names.{Name}
-use Rattle.hack_files.specs.Files.{Contents, GrowsBy, KeepsAll, KeepsOthers}
+use Rattle.hack_files.specs.Files.{Change, Contents, GrowsBy, KeepsAll, KeepsOthers, puts}
 use Rattle.hack_files.specs.Restore.{Kept}
 use Rattle.hack_files.specs.declared.fs.FsFault.{FsFault}
 use Rattle.hack_files.specs.declared.fs.FsFault.TheVariants as fs
+use Rattle.hack_metadata.specs.FileFaults.{IsUnread, IsUnwritten}
 use Rattle.hack_metadata.specs.declared.ask_fault.AskFault.{AskFault}
 use Rattle.hack_metadata.specs.declared.ask_fault.AskFault.TheVariants as fault
 
@@ -16,14 +17,32 @@ Whole tells old new before now = GrowsBy 0 before now × (tells → KeepsAll old
 abbrev pub Spoilt : Name → Type 0 → Contents → Contents → ℕ → ℕ → Type 0
 Spoilt path tells old new before now = GrowsBy 1 before now × (tells → KeepsOthers path old new)
 
--- memory is out, or the files failed
-abbrev pub IsFileFault : AskFault → Type 0
-IsFileFault fault.Memory = Unit {0}
-IsFileFault (fault.Files f) = Unit {0}
-IsFileFault fault.NoHost = ⊥
-IsFileFault (fault.Process p) = ⊥
-IsFileFault (fault.Output text) = ⊥
-IsFileFault (fault.Field name) = ⊥
+-- memory is out, or the files failed so
+abbrev pub IsFileFault : (FsFault → Type 0) → AskFault → Type 0
+IsFileFault P fault.Memory = Unit {0}
+IsFileFault P (fault.Files f) = P f
+IsFileFault P fault.NoHost = ⊥
+IsFileFault P (fault.Process p) = ⊥
+IsFileFault P (fault.Output text) = ⊥
+IsFileFault P (fault.Field name) = ⊥
+
+-- the files aren't at fault
+abbrev pub IsNoFileFault : AskFault → Type 0
+IsNoFileFault fault.Memory = Unit {0}
+IsNoFileFault fault.NoHost = Unit {0}
+IsNoFileFault (fault.Process p) = Unit {0}
+IsNoFileFault (fault.Files f) = ⊥
+IsNoFileFault (fault.Output text) = Unit {0}
+IsNoFileFault (fault.Field name) = Unit {0}
+
+-- the path can't be read, and nothing is done yet; or it can't be put back behind what is done, or memory is out
+abbrev pub FailsOver : Name → Type 0 → Type 0 → AskFault → Type 0
+FailsOver path still done fault.Memory = done
+FailsOver path still done (fault.Files f) = (still × IsUnread path f) ⊎ (done × IsUnwritten path f)
+FailsOver path still done fault.NoHost = ⊥
+FailsOver path still done (fault.Process p) = ⊥
+FailsOver path still done (fault.Output text) = ⊥
+FailsOver path still done (fault.Field name) = ⊥
 
 -- what a fault leaves: just where the files themselves failed, the path may hold something else
 abbrev pub LeftBy : Name → Type 0 → Contents → Contents → ℕ → ℕ → AskFault → Type 0
@@ -46,7 +65,7 @@ Keeps path tells held old new = (bytes : List ℕ) × (new ≡ old ++ record { p
 -- a file is written back, or else its path may hold something else
 abbrev pub Restores : {X : Type 0} → Kept → Type 0 → Contents → Contents → ℕ → ℕ → Result X AskFault → Type 0
 Restores file tells old new before now (Ok x) = GrowsBy 0 before now × (tells → KeepsOthers file.path old new × (new file.path ≡ Some file.bytes))
-Restores file tells old new before now (Err e) = (IsFileFault e) × Spoilt file.path tells old new before now
+Restores file tells old new before now (Err e) = IsFileFault (IsUnwritten file.path) e × Spoilt file.path tells old new before now
 
 -- a fault of a file as one of the question
 abbrev pub IsOfFile : FsFault → AskFault → Type 0
@@ -55,7 +74,6 @@ IsOfFile (fs.Read path) e = e ≡ fault.Files (fs.Read path)
 IsOfFile (fs.Write path) e = e ≡ fault.Files (fs.Write path)
 IsOfFile (fs.NotText path) e = e ≡ fault.Files (fs.NotText path)
 
--- nothing is left behind; or, behind a fault, one call of the files failed, and this path alone may hold something else
-abbrev pub Spares : {X : Type 0} → Name → Type 0 → Contents → Contents → ℕ → ℕ → Result X AskFault → Type 0
-Spares path tells old new before now (Ok x) = Whole tells old new before now
-Spares path tells old new before now (Err e) = Whole tells old new before now ⊎ Spoilt path tells old new before now
+-- the path is written so, with the bytes that it held where files tell
+abbrev pub PutsHeld : Type 0 → Contents → Name → (Change → Type 0) → Type 0
+PutsHeld tells held path P = (bytes : List ℕ) × (tells → held path ≡ Some bytes) × P (puts path bytes)

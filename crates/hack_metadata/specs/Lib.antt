@@ -1,4 +1,5 @@
 pub mod Fields
+pub mod FileFaults
 pub mod Gives
 pub mod Known
 pub mod Optional

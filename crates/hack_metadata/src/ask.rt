@@ -1,17 +1,18 @@
 //! The question to cargo for the metadata of a workspace. A cargo can't tell of what needs a newer
 //! one, so stable's cargo is asked where it is newer, and what it does to the lockfile is undone.
 
-ghost use Rattle.std.specs.Prelude.{◌≡◌, ◌⊎◌, ℕ, List, Some, None, IfOk, IfErr, OnOk, MatchOption};
-ghost use Rattle.std.specs.Prelude.{option_copied, string_bytes, true};
-ghost use Rattle.hack_files.specs.Files.{Contents};
+ghost use Rattle.std.specs.Prelude.{◌≡◌, ◌⊎◌, ◌∷◌, [], ℕ, List, Some, None, IfOk, IfErr};
+ghost use Rattle.std.specs.Prelude.{OnOk, OnErr, MatchOption, option_copied, string_bytes, true};
+ghost use Rattle.hack_files.specs.Files.{Makes};
 ghost use Rattle.hack_files.specs.Restore.{registered_files};
-ghost use Rattle.hack_process.specs.Calls.{Call, MayAdd, texts_of};
+ghost use Rattle.hack_process.specs.Calls.{Call, MayAdd};
 ghost use Rattle.hack_process.specs.Commands.{asked_of, command_of};
 ghost use Rattle.hack_metadata.specs.AskView.{asks};
-ghost use Rattle.hack_metadata.specs.Asks.{Ends, Fails, Halts, IsLockfile, Reads, Way};
-ghost use Rattle.hack_metadata.specs.Asks.{first, locked, newer, to_cargo};
-ghost use Rattle.hack_metadata.specs.Left.{IsFileFault, Leaves, Spares};
-ghost use Rattle.hack_metadata.specs.Requests.{by_stable, first_command, full_of, question};
+ghost use Rattle.hack_metadata.specs.Asks.{AsksCargo, EndsSo, Fails, FailsFirst, FallsBack};
+ghost use Rattle.hack_metadata.specs.Asks.{IsLockfile, Reads, Stops, Way, Writes};
+ghost use Rattle.hack_metadata.specs.Asks.{first, locked, newer};
+ghost use Rattle.hack_metadata.specs.Left.{FailsOver, IsNoFileFault, Leaves, PutsHeld};
+ghost use Rattle.hack_metadata.specs.Requests.{first_command, full_of, question};
 
 use crate::answers::{metadata_in, read, root_in, run, try_read};
 use crate::ask_fault::AskFault;
@@ -40,13 +41,15 @@ impl Metadata {
         manager: &mut Manager,
     ) -> Result<Metadata, AskFault>
         ensures stays { F.stays files.old files.new }
-        ensures left { (path : List ℕ) × Spares path F.tells (F.bytes_at files.old)
+        ensures left { (path : List ℕ) × Leaves path F.tells (F.bytes_at files.old)
             (F.bytes_at files.new) (F.failed files.old) (F.failed files.new) result }
         ensures kept { registered_files manager.new ≡ registered_files manager.old }
         ensures needs { manager.new.needs_restore ≡ manager.old.needs_restore }
-        ensures ends { C.tells → F.tells →
-            Ends (question args.now env.now cargo_version (option_copied host.entry))
-            (F.bytes_at files.old) (C.calls caller.old) (C.calls caller.new) result }
+        ensures ends { C.tells → EndsSo F.tells
+            (question args.now env.now cargo_version (option_copied host.entry))
+            (F.bytes_at files.old) (C.calls caller.old) (C.calls caller.new)
+            (Writes F.whole F.tells (F.trace files.old) (F.trace files.new)
+            (F.bytes_at files.old) (F.bytes_at files.new)) result }
     {
         let stable = stable_minor(alloc, env, caller)?;
         let question = Question::new(alloc, args, env, cargo_version, host)?;
@@ -99,9 +102,9 @@ impl<'a> Question<'a> {
 
     /// Asks cargo the full request.
     fn ask_cargo<C: Caller>(&self, alloc: Global, caller: &mut C) -> Result<Metadata, AskFault>
-        ensures { C.tells → (held : Contents) (start : List Call)
-            → Way (asks self.now) held start to_cargo (C.calls caller.old)
-            → Ends (asks self.now) held start (C.calls caller.new) result }
+        ensures asked { C.tells → AsksCargo (asks self.now) (C.calls caller.old)
+            (C.calls caller.new) result }
+        ensures spares { IfErr result IsNoFileFault }
     {
         let asked = command(alloc, self.env.cargo.as_str(), &[], &self.full)?;
         let text = read(alloc, &asked, self.env, caller)?;
@@ -126,14 +129,15 @@ impl<'a> Question<'a> {
         manager: &mut Manager,
     ) -> Result<Metadata, AskFault>
         ensures stays { F.stays files.old files.new }
-        ensures left { (path : List ℕ) × Spares path F.tells (F.bytes_at files.old)
+        ensures left { (path : List ℕ) × Leaves path F.tells (F.bytes_at files.old)
             (F.bytes_at files.new) (F.failed files.old) (F.failed files.new) result }
         ensures kept { registered_files manager.new ≡ registered_files manager.old }
         ensures needs { manager.new.needs_restore ≡ manager.old.needs_restore }
-        ensures ends { C.tells → F.tells → (start : List Call) → Way (asks self.now)
-            (F.bytes_at files.old) start (newer minor) (C.calls caller.old)
-            → Ends (asks self.now) (F.bytes_at files.old) start
-            (C.calls caller.new) result }
+        ensures ends { C.tells → (start : List Call) → Way F.tells (asks self.now)
+            (F.bytes_at files.old) start (newer minor) (C.calls caller.old) []
+            → EndsSo F.tells (asks self.now) (F.bytes_at files.old) start (C.calls caller.new)
+            (Writes F.whole F.tells (F.trace files.old) (F.trace files.new)
+            (F.bytes_at files.old) (F.bytes_at files.new)) result }
     {
         let first = self.first(alloc, caller)?;
         self.make_lockfile(alloc, first.lockfile.as_str(), caller, files)?;
@@ -155,10 +159,9 @@ impl<'a> Question<'a> {
             IsLockfile (string_bytes f.text) (string_bytes f.lockfile)) }
         ensures ok { IfOk result (λ f. C.tells → Reads (first_command (asks self.now))
             (string_bytes f.text) (C.calls caller.old) (C.calls caller.new)) }
-        ensures err { IfErr result (λ e. C.tells →
-            (held : Contents) (start : List Call) (minor : ℕ)
-            → Way (asks self.now) held start (newer minor) (C.calls caller.old)
-            → Halts (asks self.now) held start (C.calls caller.new) e) }
+        ensures err { IfErr result (λ e. C.tells → (minor : ℕ) → FailsFirst (asks self.now) minor
+            (C.calls caller.old) (C.calls caller.new) e) }
+        ensures spares { IfErr result IsNoFileFault }
     {
         let words = ["metadata", "--format-version=1", "--no-deps"];
         let rest = manifest_words(alloc, self.args)?;
@@ -184,16 +187,15 @@ impl<'a> Question<'a> {
         ensures stays { F.stays files.old files.new }
         ensures left { Leaves lockfile.now F.tells (F.bytes_at files.old) (F.bytes_at files.new)
             (F.failed files.old) (F.failed files.new) result }
-        ensures ok { OnOk result (C.tells → F.tells →
-            (start : List Call) (minor : ℕ) (text : List ℕ)
-            → IsLockfile text lockfile.now → Way (asks self.now) (F.bytes_at files.old)
-            start (first minor text) (C.calls caller.old) → Way (asks self.now)
-            (F.bytes_at files.old) start (locked minor text) (C.calls caller.new)) }
-        ensures err { IfErr result (λ e. C.tells → F.tells →
-            (start : List Call) (minor : ℕ) (text : List ℕ)
-            → Way (asks self.now) (F.bytes_at files.old)
-            start (first minor text) (C.calls caller.old) → Halts (asks self.now)
-            (F.bytes_at files.old) start (C.calls caller.new) e) }
+        ensures untraced { F.whole → Makes [] (F.trace files.old) (F.trace files.new)
+            (F.bytes_at files.old) (F.bytes_at files.new) }
+        ensures ok { OnOk result (C.tells → (start : List Call) (minor : ℕ) (text : List ℕ)
+            → IsLockfile text lockfile.now → Way F.tells (asks self.now) (F.bytes_at files.old)
+            start (first minor text) (C.calls caller.old) [] → Way F.tells (asks self.now)
+            (F.bytes_at files.old) start (locked minor text) (C.calls caller.new) []) }
+        ensures err { IfErr result (λ e. C.tells → (minor : ℕ) (text : List ℕ)
+            → IsLockfile text lockfile.now → Stops (asks self.now) (first minor text)
+            (C.calls caller.old) (C.calls caller.new) e) }
     {
         if is_there(alloc, lockfile, files)? {
             return Ok(());
@@ -224,9 +226,18 @@ impl<'a> Question<'a> {
             (Fails (command_of asked.now) (C.calls caller.old) (C.calls caller.new))
             (λ text. Reads (command_of asked.now) (string_bytes text)
             (C.calls caller.old) (C.calls caller.new))) }
-        ensures err { IfErr result IsFileFault }
-        ensures refused { IfErr result (λ e. C.tells → MayAdd (asked_of true (command_of asked.now))
-            (C.calls caller.old) (C.calls caller.new)) }
+        ensures err { IfErr result (FailsOver lockfile.now
+            (C.tells → C.calls caller.new ≡ C.calls caller.old)
+            (C.tells → MayAdd (asked_of true (command_of asked.now))
+            (C.calls caller.old) (C.calls caller.new))) }
+        ensures back { OnOk result (PutsHeld F.tells (F.bytes_at files.old) lockfile.now
+            (λ put. F.whole → Makes (put ∷ []) (F.trace files.old) (F.trace files.new)
+            (F.bytes_at files.old) (F.bytes_at files.new))) }
+        ensures refused { OnErr result (F.whole → Makes [] (F.trace files.old)
+            (F.trace files.new) (F.bytes_at files.old) (F.bytes_at files.new)
+            ⊎ PutsHeld F.tells (F.bytes_at files.old) lockfile.now
+            (λ put. Makes (put ∷ []) (F.trace files.old) (F.trace files.new)
+            (F.bytes_at files.old) (F.bytes_at files.new))) }
     {
         keep(alloc, lockfile, files, manager)?;
         let told = try_read(alloc, asked, self.env, caller);
@@ -245,13 +256,10 @@ impl<'a> Question<'a> {
         first: &First<'_>,
         caller: &mut C,
     ) -> Result<Metadata, AskFault>
-        ensures { C.tells → command_of first.now.command ≡ first_command (asks self.now)
-            → (held : Contents) (start mid : List Call) (minor : ℕ)
-            → Way (asks self.now) held start
-            (locked minor (string_bytes first.now.text)) mid
-            → Fails (by_stable (asks self.now) (texts_of self.now.full.items)) mid
-            (C.calls caller.old)
-            → Ends (asks self.now) held start (C.calls caller.new) result }
+        ensures fell { C.tells → command_of first.now.command ≡ first_command (asks self.now)
+            → FallsBack (asks self.now) (string_bytes first.now.text)
+            (C.calls caller.old) (C.calls caller.new) result }
+        ensures spares { IfErr result IsNoFileFault }
     {
         if self.args.include_deps_features {
             return self.ask_cargo(alloc, caller);

@@ -1,9 +1,10 @@
 //! The lockfile, which is kept while stable's cargo runs.
 
 ghost use Rattle.std.specs.Prelude.{◌≡◌, ◌↔◌, ◌++◌, ◌∷◌, [], List, ℕ, Some, IfOk, IfErr, OnOk};
-ghost use Rattle.std.specs.Prelude.{OnErr, IsTrue, IsSome};
-ghost use Rattle.hack_files.specs.Files.{KeepsAll};
-ghost use Rattle.hack_files.specs.Restore.{Kept, registered_files};
+ghost use Rattle.std.specs.Prelude.{OnErr, IsOk, IsTrue, IsSome};
+ghost use Rattle.hack_files.specs.Files.{KeepsAll, Makes, MakesOrNot};
+ghost use Rattle.hack_files.specs.Restore.{Kept, registered_files, write_of};
+ghost use Rattle.hack_metadata.specs.FileFaults.{IsUnread};
 ghost use Rattle.hack_metadata.specs.Left.{IsFileFault, Keeps, Leaves, Restores, IsOfFile};
 
 use crate::ask_fault::AskFault;
@@ -19,7 +20,9 @@ pub(crate) fn is_there<F: Files>(alloc: Global, path: &str, files: &mut F) -> Re
         (F.failed files.old) (F.failed files.new) result }
     ensures there { IfOk result (λ there. F.tells →
         IsTrue there ↔ IsSome (F.bytes_at files.old path.now)) }
-    ensures fault { IfErr result IsFileFault }
+    ensures untraced { F.whole → Makes [] (F.trace files.old) (F.trace files.new)
+        (F.bytes_at files.old) (F.bytes_at files.new) }
+    ensures fault { IfErr result (IsFileFault (IsUnread path.now)) }
 {
     match files.exists(path) {
         Ok(there) => Ok(there),
@@ -44,7 +47,9 @@ pub(crate) fn keep<F: Files>(
     ensures ok { OnOk result (Keeps path.now F.tells (F.bytes_at files.old)
         (registered_files manager.old) (registered_files manager.new)) }
     ensures err { OnErr result (registered_files manager.new ≡ registered_files manager.old) }
-    ensures fault { IfErr result IsFileFault }
+    ensures untraced { F.whole → Makes [] (F.trace files.old) (F.trace files.new)
+        (F.bytes_at files.old) (F.bytes_at files.new) }
+    ensures fault { IfErr result (IsFileFault (IsUnread path.now)) }
     ensures needs { manager.new.needs_restore ≡ manager.old.needs_restore }
 {
     let bytes = match fs::read(alloc, files, path) {
@@ -62,7 +67,15 @@ pub(crate) fn put_back<F: Files>(files: &mut F, manager: &mut Manager) -> Result
         → registered_files manager.old ≡ earlier ++ file ∷ [] → Restores file F.tells
         (F.bytes_at files.old) (F.bytes_at files.new)
         (F.failed files.old) (F.failed files.new) result }
-    ensures fault { IfErr result IsFileFault }
+    ensures traced { OnOk result ((file : Kept) (earlier : List Kept)
+        → registered_files manager.old ≡ earlier ++ file ∷ [] → F.whole
+        → Makes (write_of file ∷ []) (F.trace files.old) (F.trace files.new)
+        (F.bytes_at files.old) (F.bytes_at files.new)) }
+    ensures refused { OnErr result ((file : Kept) (earlier : List Kept)
+        → registered_files manager.old ≡ earlier ++ file ∷ [] → F.whole
+        → MakesOrNot (write_of file) (F.trace files.old) (F.trace files.new)
+        (F.bytes_at files.old) (F.bytes_at files.new)) }
+    ensures none { registered_files manager.old ≡ [] → IsOk result }
     ensures kept { (file : Kept) (earlier : List Kept)
         → registered_files manager.old ≡ earlier ++ file ∷ [] → registered_files manager.new
         ≡ earlier }
@@ -75,8 +88,7 @@ pub(crate) fn put_back<F: Files>(files: &mut F, manager: &mut Manager) -> Result
 }
 
 fn file_fault(fault: FsFault) -> AskFault
-    ensures of { IsOfFile fault result }
-    ensures fault { IsFileFault result }
+    ensures { IsOfFile fault result }
 {
     match fault {
         FsFault::Memory => AskFault::Memory,

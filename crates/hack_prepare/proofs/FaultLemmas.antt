@@ -7,18 +7,18 @@ use Rattle.std.proofs.lemmas.Bool.{true≢false}
 use Rattle.std.proofs.lemmas.Slice.Eq.{bytes_eq-Decides}
 use Rattle.hack_base.specs.Names.{Name}
 use Rattle.hack_files.specs.Faults.{HoldsNoText, IsOfRead, IsOfText, IsOfWrite}
-use Rattle.hack_files.specs.Files.{Contents}
+use Rattle.hack_files.specs.Files.{Contents, KeepsOthers}
 use Rattle.hack_files.specs.declared.fs.FsFault.{FsFault}
 use Rattle.hack_files.specs.declared.fs.FsFault.TheVariants as fs
-use Rattle.hack_prepare.specs.Faults.{IsDevFault, IsEditsFault, IsFault, IsFileFault, IsHeldFault, IsMembersFault, IsOfFile, IsRootFault, IsTextFault, IsUnmade, NoFault}
+use Rattle.hack_prepare.specs.Faults.{AtFileWrite, AtWrite, IsDevFault, IsEditsFault, IsFault, IsFileFault, IsHeldFault, IsMembersFault, IsOfFile, IsRootFault, IsTextFault, IsUnmade, NoFault}
 use Rattle.hack_prepare.specs.Paths.{IsAlonePath, IsEdited, IsLookedAt, IsReadRoot, IsTextless, Nowhere, Only, OnlyIf}
-use Rattle.hack_prepare.specs.Prepared.{Member, Wanted, edits_root, goes, gone_manifests, has_some, is_alone, is_alone_at, is_root}
+use Rattle.hack_prepare.specs.Prepared.{HoldTexts, IsPartlyPrepared, Member, Wanted, edits_root, goes, gone_manifests, has_some, is_alone, is_alone_at, is_root}
 use Rattle.hack_load.specs.Contexts.{ContextRecord}
 use Rattle.hack_prepare.specs.PreparedView.{IsPrepareFault, edits_in, members_in, wanted_in}
-use Rattle.hack_prepare.specs.Steps.{KeepsApart}
-use Rattle.hack_prepare.proofs.MemberLemmas.{alone-path}
-use Rattle.hack_prepare.proofs.RootLemmas.{drops-found, drops-missed, edits-is, root-apart, root-found, root-missed, root-read, text-found, text-missed, text_in}
-use Rattle.hack_prepare.specs.declared.fault.PrepareFault.TheVariants.{PrivateRoot}
+use Rattle.hack_prepare.specs.Steps.{ArePartlyTurned, AreTurned, KeepsApart, KeepsBut}
+use Rattle.hack_prepare.proofs.MemberLemmas.{alone-path, partly-fails}
+use Rattle.hack_prepare.proofs.RootLemmas.{drops-found, drops-missed, edits-is, root-apart, root-found, partly-root, root-missed, root-read, text-found, text-missed, text_in}
+use Rattle.hack_prepare.specs.declared.fault.PrepareFault.TheVariants.{Memory, PrivateRoot, Files, Toml, InlineTarget, WorkspaceForm, PathText, ReadBack}
 use Rattle.hack_prepare.specs.declared.fault.PrepareFault.{PrepareFault}
 
 file_among : (R S W X G H : Name → Type 0) → ((p : Name) → R p → S p) → ((p : Name) → W p → X p) → ((p : Name) → G p → H p) → (f : FsFault) → IsFileFault R W G f → IsFileFault S X H f
@@ -173,3 +173,80 @@ pub asked-fault : {T : Type 0} (tells : Type 0) (cx : ContextRecord) (start : Co
     → IfErr r (IsEditsFault (wanted_in cx) (members_in cx) tells start) → IfErr r (IsPrepareFault cx tells start)
 asked-fault tells cx start (Ok v) asked x = x
 asked-fault tells cx start (Err e) asked x = inr (asked, x)
+
+-- ---- where a path can't be written
+
+at-file : (W Q : Name → Type 0) (R T : Name → Type 0) → ((p : Name) → W p → Q p) → (f : FsFault) → IsFileFault R W T f → AtFileWrite Q f
+at-file W Q R T w (fs.Read p) h = tt
+at-file W Q R T w (fs.Write p) h = w (string_bytes p) h
+at-file W Q R T w (fs.NotText p) h = tt
+at-file W Q R T w fs.Memory h = tt
+
+-- a fault that names just such paths
+pub at-write : (R W T : Name → Type 0) (P : PrepareFault → Type 0) (Q : Name → Type 0) → ((p : Name) → W p → Q p) → ((e : PrepareFault) → P e → AtWrite Q e) → (e : PrepareFault) → IsFault R W T P e → AtWrite Q e
+at-write R W T P Q w p e (inl is) = subst (AtWrite Q) (sym is) tt
+at-write R W T P Q w p e (inr (inl x)) = subst (AtWrite Q) (sym x.1) (at-file W Q R T w x.0 x.2)
+at-write R W T P Q w p e (inr (inr x)) = p e x
+
+-- any path
+pub at-any : (Q : Name → Type 0) → ((p : Name) → Q p) → (e : PrepareFault) → AtWrite Q e
+at-any Q q Memory = tt
+at-any Q q PrivateRoot = tt
+at-any Q q (Files f) = by f
+  where
+    by : (f : FsFault) → AtFileWrite Q f
+    by (fs.Read p) = tt
+    by (fs.Write p) = q (string_bytes p)
+    by (fs.NotText p) = tt
+    by fs.Memory = tt
+at-any Q q (Toml p) = tt
+at-any Q q (InlineTarget p) = tt
+at-any Q q (WorkspaceForm p) = tt
+at-any Q q (PathText p) = tt
+at-any Q q (ReadBack p) = tt
+
+-- what is so of it
+pub at-wider : (P Q : Name → Type 0) → ((p : Name) → P p → Q p) → (e : PrepareFault) → AtWrite P e → AtWrite Q e
+at-wider P Q to Memory h = tt
+at-wider P Q to PrivateRoot h = tt
+at-wider P Q to (Files f) h = by f h
+  where
+    by : (f : FsFault) → AtFileWrite P f → AtFileWrite Q f
+    by (fs.Read p) h = tt
+    by (fs.Write p) h = to (string_bytes p) h
+    by (fs.NotText p) h = tt
+    by fs.Memory h = tt
+at-wider P Q to (Toml p) h = tt
+at-wider P Q to (InlineTarget p) h = tt
+at-wider P Q to (WorkspaceForm p) h = tt
+at-wider P Q to (PathText p) h = tt
+at-wider P Q to (ReadBack p) h = tt
+
+-- a fault of an edit is none of a write
+edit-at : (Q : Name → Type 0) (P : PrepareFault → Type 0) → ((f : FsFault) → P (Files f) → ⊥) → (e : PrepareFault) → P e → AtWrite Q e
+edit-at Q P none Memory h = tt
+edit-at Q P none PrivateRoot h = tt
+edit-at Q P none (Files f) h = absurd (none f h)
+edit-at Q P none (Toml p) h = tt
+edit-at Q P none (InlineTarget p) h = tt
+edit-at Q P none (WorkspaceForm p) h = tt
+edit-at Q P none (PathText p) h = tt
+edit-at Q P none (ReadBack p) h = tt
+
+-- a member's manifest can't be written: the others are spared
+pub member-spared : (tells : Type 0) (w : Wanted) (ms : List Member) (m : Member) (start held now : Contents) (e : PrepareFault) → Contains ms m
+    → (tells → HoldTexts start ms → ArePartlyTurned w ms (λ q. ⊥) start held) → (tells → KeepsOthers m.path held now) → IsFault Nowhere (Only m.path) Nowhere (IsDevFault m.path m.text) e
+    → AtWrite (λ p. tells → HoldTexts start ms → ArePartlyTurned w ms (λ q. q ≡ p) start now) e
+member-spared tells w ms m start held now e among before keeps h =
+    at-write Nowhere (Only m.path) Nowhere (IsDevFault m.path m.text) (λ p. tells → HoldTexts start ms → ArePartlyTurned w ms (λ q. q ≡ p) start now)
+    (λ p is. partly-fails tells w ms m (λ q. q ≡ p) start held now among before (λ _. inr (inr (sym is))) keeps)
+    (edit-at (λ p. tells → HoldTexts start ms → ArePartlyTurned w ms (λ q. q ≡ p) start now) (IsDevFault m.path m.text) (λ f h. h)) e h
+
+-- the root's can't
+pub root-spared : (tells : Type 0) (w : Wanted) (ms : List Member) (private : List Name) (old mid late : Contents) (e : PrepareFault) → private ≡ gone_manifests w ms → (tells → HoldTexts old ms → AreTurned w ms mid) → (tells → KeepsApart w ms old mid)
+    → (tells → KeepsBut w (edits_root w ms) mid late) → IsFault (IsReadRoot w ms) (OnlyIf (edits_root w ms) w.root) (IsTextless tells mid (IsReadRoot w ms)) (IsRootFault w ms tells mid) e
+    → AtWrite (λ p. tells → HoldTexts old ms → IsPartlyPrepared w ms (λ q. q ≡ p) old late) e
+root-spared tells w ms private old mid late e are turned apart keeps h =
+    at-write (IsReadRoot w ms) (OnlyIf (edits_root w ms) w.root) (IsTextless tells mid (IsReadRoot w ms)) (IsRootFault w ms tells mid) (λ p. tells → HoldTexts old ms → IsPartlyPrepared w ms (λ q. q ≡ p) old late)
+    (λ p is t holds. partly-root w ms private (Unit {0}) (λ q. q ≡ p) old mid late are holds (turned t holds) (apart t) (keeps t) (λ _. sym is.1) (inr (inr tt)))
+    (edit-at (λ p. tells → HoldTexts old ms → IsPartlyPrepared w ms (λ q. q ≡ p) old late) (IsRootFault w ms tells mid) (λ f h. elim h.fault [ inl x ↦ x.1 | inr x ↦ x.2 ])) e h

@@ -5,3 +5,4 @@ pub mod RootLemmas
 pub mod HeldLemmas
 mod FaultLemmas
 mod EditLemmas
+mod WriteLemmas

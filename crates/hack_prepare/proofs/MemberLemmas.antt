@@ -20,8 +20,8 @@ use Rattle.hack_prepare.specs.Paths.{IsAlonePath, Only}
 use Rattle.hack_prepare.specs.Prepared.{HasPrivateRoot, HoldTexts, Member, Wanted, goes, gone_manifests, drops_at_root, is_alone, is_alone_at, is_left, is_root}
 use Rattle.hack_prepare.specs.Steps.{ArePartlyTurned, AreTurned, HoldsText, IsStep, IsTurned, IsTurnedOrNot, KeepsApart}
 use Rattle.hack_files.specs.declared.restore.Manager.{Manager}
-use Rattle.hack_prepare.proofs.CountLemmas.{none_then}
-use Rattle.hack_prepare.proofs.StepLemmas.{step_given, step_then}
+use Rattle.hack_prepare.proofs.CountLemmas.{none_failed, none_then}
+use Rattle.hack_prepare.proofs.StepLemmas.{step_given, step_none, step_then}
 use Rattle.hack_prepare.specs.Told.{dev_note, edit_notes, member_notes, notes, root_notes}
 use Rattle.hack_prepare.specs.PreparedView.{wanted_in}
 use Rattle.hack_load.specs.Contexts.{ContextRecord}
@@ -141,22 +141,22 @@ turned-fails m failed fails old new more (inr (inl t)) = inr (inl t)
 turned-fails m failed fails old new more (inr (inr f)) = inr (inr (more f))
 
 -- each member's manifest holds what it held, or its edit, behind one more
-partly-more : (w : Wanted) (ms : List Member) (m : Member) (failed : Type 0) (old mid new : Contents) → All (λ x. x.path ≡ m.path → x.text ≡ m.text) ms
-    → IsTurnedOrNot failed mid new m → KeepsOthers m.path mid new → ArePartlyTurned w ms ⊥ old mid → ArePartlyTurned w ms failed old new
+partly-more : (w : Wanted) (ms : List Member) (m : Member) (failed : Name → Type 0) (old mid new : Contents) → All (λ x. x.path ≡ m.path → x.text ≡ m.text) ms
+    → IsTurnedOrNot (failed m.path) mid new m → KeepsOthers m.path mid new → ArePartlyTurned w ms (λ q. ⊥) old mid → ArePartlyTurned w ms failed old new
 partly-more w ms m failed old mid new same now keeps h k d lt is =
     let x : Member = get_or ms k d in
     elim (cases_Bool (bytes_eq x.path m.path)) [
-      | inl e ↦ let path : x.path ≡ m.path = (bytes_eq-Decides x.path m.path).0 e in written failed m x old mid new path (same k d lt path) now (h k d lt is)
-      | inr e ↦ carried failed x old mid new (keeps x.path (λ is. true≢false (sym ((bytes_eq-Decides x.path m.path).1 is) ∙ e))) (h k d lt is)
+      | inl e ↦ let path : x.path ≡ m.path = (bytes_eq-Decides x.path m.path).0 e in written (failed x.path) m x old mid new path (same k d lt path) (turned-fails m (failed m.path) (failed x.path) mid new (subst failed (sym path)) now) (h k d lt is)
+      | inr e ↦ carried (failed x.path) x old mid new (keeps x.path (λ is. true≢false (sym ((bytes_eq-Decides x.path m.path).1 is) ∙ e))) (h k d lt is)
     ]
 
 -- nothing is edited yet
-pub partly-none : (w : Wanted) (ms : List Member) (failed : Type 0) (held : Contents) → ArePartlyTurned w ms failed held held
+pub partly-none : (w : Wanted) (ms : List Member) (failed : Name → Type 0) (held : Contents) → ArePartlyTurned w ms failed held held
 partly-none w ms failed held k d lt is = inl refl
 
 -- and nothing has failed
-pub partly-any : (w : Wanted) (ms : List Member) (failed : Type 0) (old new : Contents) → ArePartlyTurned w ms ⊥ old new → ArePartlyTurned w ms failed old new
-partly-any w ms failed old new h k d lt is = carried failed (get_or ms k d) old new new refl (h k d lt is)
+pub partly-any : (w : Wanted) (ms : List Member) (failed : Name → Type 0) (old new : Contents) → ArePartlyTurned w ms (λ q. ⊥) old new → ArePartlyTurned w ms failed old new
+partly-any w ms failed old new h k d lt is = carried (failed (get_or ms k d).path) (get_or ms k d) old new new refl (h k d lt is)
 
 -- members that are found, one more
 pub found-more : (f : ℕ → Option Member) (ids : List PackageId) (k : ℕ) (id : PackageId) (m : Member) (old new : List Member) → k < length ids → id ≡ get_or ids k id
@@ -186,8 +186,8 @@ pub others-fail : (tells : Type 0) (w : Wanted) (ms : List Member) (m : Member) 
 others-fail tells w ms m old mid new among alone h keeps t = apart-more w ms m old mid new among alone (keeps t) (h t)
 
 -- and what the members' manifests hold
-pub partly-fails : (tells : Type 0) (w : Wanted) (ms : List Member) (m : Member) (failed : Type 0) (old mid new : Contents) → Contains ms m
-    → (tells → HoldTexts old ms → ArePartlyTurned w ms ⊥ old mid) → (tells → IsTurnedOrNot failed mid new m) → (tells → KeepsOthers m.path mid new)
+pub partly-fails : (tells : Type 0) (w : Wanted) (ms : List Member) (m : Member) (failed : Name → Type 0) (old mid new : Contents) → Contains ms m
+    → (tells → HoldTexts old ms → ArePartlyTurned w ms (λ q. ⊥) old mid) → (tells → IsTurnedOrNot (failed m.path) mid new m) → (tells → KeepsOthers m.path mid new)
     → tells → HoldTexts old ms → ArePartlyTurned w ms failed old new
 partly-fails tells w ms m failed old mid new among h now keeps t holds =
     partly-more w ms m failed old mid new (one-text old ms m holds (All-contains (λ x. old x.path ≡ Some x.text) ms m holds among)) (now t) (keeps t) (h t holds)
@@ -199,10 +199,23 @@ Visited tells w ms k old new start now before after private told notes =
     × GrowsBy 0 before after
     × (tells → KeepsApart w ms start now)
     × (tells → HoldTexts start ms → AreTurned w (take k ms) now)
-    × (tells → HoldTexts start ms → ArePartlyTurned w ms ⊥ start now)
+    × (tells → HoldTexts start ms → ArePartlyTurned w ms (λ q. ⊥) start now)
     × (private ≡ gone_manifests w (take k ms))
     × (¬ HasPrivateRoot w (take k ms))
     × (notes ≡ told ++ flat_map (member_notes w) (take k ms))
+
+-- and for none
+pub visited-none : (tells : Type 0) (w : Wanted) (ms : List Member) (manager : Manager) (held : Contents) (n : ℕ) (private : List Name) (told : List Note) → private ≡ [] → Visited tells w ms 0 manager manager held held n n private told told
+visited-none tells w ms manager held n private told none-gone = (
+  step_none tells (λ s. HoldTexts s ms) (IsAlonePath w ms) manager held,
+  none_failed n,
+  λ t q free. refl,
+  λ t holds. turned-none w held,
+  λ t holds. partly-none w ms (λ q. ⊥) held,
+  none-gone,
+  never-none w,
+  sym (append-nil told),
+)
 
 module _ (tells : Type 0) (w : Wanted) (ms : List Member) (k : ℕ) (m : Member) (one : take (k + 1) ms ≡ take k ms ++ m ∷ []) (old : Manager) (start : Contents) (before : ℕ) (told : List Note) where
   -- and for one more, which goes
@@ -245,7 +258,7 @@ module _ (tells : Type 0) (w : Wanted) (ms : List Member) (k : ℕ) (m : Member)
     λ t holds. subst (λ l. AreTurned w l now) (sym one)
         (turned-more w (take k ms) m held now
         (All-take (λ x. x.path ≡ m.path → x.text ≡ m.text) k ms (one-text start ms m holds (All-contains (λ x. start x.path ≡ Some x.text) ms m holds among))) (turned t) (keeps t) (h.3 t holds)),
-    partly-fails tells w ms m ⊥ start held now among h.4 (λ t. inr (inl (turned t))) keeps,
+    partly-fails tells w ms m (λ q. ⊥) start held now among h.4 (λ t. inr (inl (turned t))) keeps,
     gone-same w (take k ms) m private h.5 stay ∙ ap (gone_manifests w) (sym one),
     subst (λ l. ¬ HasPrivateRoot w l) (sym one) (never-more w (take k ms) m (λ go. absurd (true≢false (sym go ∙ stay))) h.6),
     told-more w (take k ms) m told notes more h.7 grown alone ∙ ap (λ l. told ++ flat_map (member_notes w) l) (sym one),

@@ -150,7 +150,7 @@ free-by true b rest e f = ap (λ x. x || rest) e ∙ f
 free-by false b rest e f = f
 
 -- where no member stands there, none is edited there by itself
-alone-free : (w : Wanted) (ms : List Member) → has_root w ms ≡ false → list_any (is_alone_at w w.root) ms ≡ false
+pub alone-free : (w : Wanted) (ms : List Member) → has_root w ms ≡ false → list_any (is_alone_at w w.root) ms ≡ false
 alone-free w [] e = refl
 alone-free w (m ∷ ms) e = free-by (is_alone w m) (is_root w m) (list_any (is_alone_at w w.root) ms) (or_left (is_root w m) (has_root w ms) e) (alone-free w ms (or_right (is_root w m) (has_root w ms) e))
 
@@ -220,7 +220,7 @@ prepared w ms private old mid late new are holds turned apart made keeps same = 
 -- ---- what stands where not all is done
 
 -- all is done
-pub partly-all : (w : Wanted) (ms : List Member) (failed : Type 0) (old new : Contents) → IsPrepared w ms old new → IsPartlyPrepared w ms failed old new
+pub partly-all : (w : Wanted) (ms : List Member) (failed : Name → Type 0) (old new : Contents) → IsPrepared w ms old new → IsPartlyPrepared w ms failed old new
 partly-all w ms failed old new h = record { alone = λ k d lt is. inr (inl (h.alone k d lt is)); root = λ asked. inr (inl (h.root asked)) }
 
 turns-by : (m : Member) (failed : Type 0) (old new : Contents) → old m.path ≡ Some m.text → IsTurnedOrNot failed old new m → TurnsOrStays failed IsWithoutDev m.path old new
@@ -229,9 +229,9 @@ turns-by m failed old new holds (inr (inl t)) = inr (inl (m.text, t.0, holds, t.
 turns-by m failed old new holds (inr (inr f)) = inr (inr f)
 
 -- the root's manifest isn't written yet
-pub partly-members : (w : Wanted) (ms : List Member) (failed : Type 0) (old new : Contents) → HoldTexts old ms → KeepsApart w ms old new → ArePartlyTurned w ms failed old new → IsPartlyPrepared w ms failed old new
+pub partly-members : (w : Wanted) (ms : List Member) (failed : Name → Type 0) (old new : Contents) → HoldTexts old ms → KeepsApart w ms old new → ArePartlyTurned w ms failed old new → IsPartlyPrepared w ms failed old new
 partly-members w ms failed old new holds apart h = record {
-  alone = λ k d lt is. turns-by (get_or ms k d) failed old new (holds k d lt) (h k d lt is);
+  alone = λ k d lt is. turns-by (get_or ms k d) (failed (get_or ms k d).path) old new (holds k d lt) (h k d lt is);
   root = λ asked. inl (apart w.root (root-apart w ms asked));
 }
 
@@ -250,13 +250,13 @@ root-by w ms private failed fails old mid late are holds apart asked more (inr (
 root-by w ms private failed fails old mid late are holds apart asked more (inr (inr f)) = inr (inr (more f))
 
 -- the members' manifests are written, and the root's may be
-pub partly-root : (w : Wanted) (ms : List Member) (private : List Name) (failed fails : Type 0) (old mid late : Contents) → private ≡ gone_manifests w ms → HoldTexts old ms → AreTurned w ms mid → KeepsApart w ms old mid
-    → KeepsBut w (edits_root w ms) mid late → (failed → fails) → MakesRootOrNot w (drops_at_root w ms) private (IsRootText w ms mid) failed mid late → IsPartlyPrepared w ms fails old late
+pub partly-root : (w : Wanted) (ms : List Member) (private : List Name) (failed : Type 0) (fails : Name → Type 0) (old mid late : Contents) → private ≡ gone_manifests w ms → HoldTexts old ms → AreTurned w ms mid → KeepsApart w ms old mid
+    → KeepsBut w (edits_root w ms) mid late → (failed → fails w.root) → MakesRootOrNot w (drops_at_root w ms) private (IsRootText w ms mid) failed mid late → IsPartlyPrepared w ms fails old late
 partly-root w ms private failed fails old mid late are holds turned apart keeps more made = record {
   alone = λ k d lt is.
       let t = turned k d lt is in
       let m : Member = get_or ms k d in inr (inl (m.text, t.0, holds k d lt, keeps m.path (alone-apart w ms m is) ∙ t.1, t.2));
-  root = λ asked. root-by w ms private failed fails old mid late are holds apart asked more made;
+  root = λ asked. root-by w ms private failed (fails w.root) old mid late are holds apart asked more made;
 }
 
 -- a member's text at the root is edited or not

@@ -65,6 +65,23 @@ IsFileFault reads writes textless (fs.Write p) = writes (string_bytes p)
 IsFileFault reads writes textless (fs.NotText p) = textless (string_bytes p)
 IsFileFault reads writes textless fs.Memory = ⊥
 
+-- where a path can't be written, this is so of it
+abbrev pub AtFileWrite : (Name → Type 0) → FsFault → Type 0
+AtFileWrite P (fs.Read p) = Unit {0}
+AtFileWrite P (fs.Write p) = P (string_bytes p)
+AtFileWrite P (fs.NotText p) = Unit {0}
+AtFileWrite P fs.Memory = Unit {0}
+
+abbrev pub AtWrite : (Name → Type 0) → PrepareFault → Type 0
+AtWrite P Memory = Unit {0}
+AtWrite P PrivateRoot = Unit {0}
+AtWrite P (Files f) = AtFileWrite P f
+AtWrite P (Toml p) = Unit {0}
+AtWrite P (InlineTarget p) = Unit {0}
+AtWrite P (WorkspaceForm p) = Unit {0}
+AtWrite P (PathText p) = Unit {0}
+AtWrite P (ReadBack p) = Unit {0}
+
 -- memory ran out, or it is a fault of a file, or such a fault
 abbrev pub IsFault : (Name → Type 0) → (Name → Type 0) → (Name → Type 0) → (PrepareFault → Type 0) → PrepareFault → Type 0
 IsFault reads writes textless P e = (e ≡ Memory) ⊎ (((f : FsFault) × (e ≡ Files f) × IsFileFault reads writes textless f) ⊎ P e)

@@ -5,3 +5,4 @@ pub mod Prepared
 pub mod PreparedView
 pub mod Steps
 pub mod Told
+pub mod Writes

@@ -108,10 +108,10 @@ pub record IsPrepared (w : Wanted) (ms : List Member) (old new : Contents) : Typ
 abbrev pub TurnsOrStays : Type 0 → (Name → Name → Type 0) → Name → Contents → Contents → Type 0
 TurnsOrStays failed P path old new = (new path ≡ old path) ⊎ (Turns P path old new ⊎ failed)
 
--- each manifest that is edited holds what it held, or its edit, or this has failed
-pub record IsPartlyPrepared (w : Wanted) (ms : List Member) (failed : Type 0) (old new : Contents) : Type 0 where
-  pub alone : All (λ m. is_alone w m ≡ true → TurnsOrStays failed IsWithoutDev m.path old new) ms
-  pub root : edits_root w ms ≡ true → TurnsOrStays failed (IsRootEdit w.folder (drops_at_root w ms) (gone_manifests w ms)) w.root old new
+-- each manifest that is edited holds what it held, or its edit, or this is so of its path
+pub record IsPartlyPrepared (w : Wanted) (ms : List Member) (failed : Name → Type 0) (old new : Contents) : Type 0 where
+  pub alone : All (λ m. is_alone w m ≡ true → TurnsOrStays (failed m.path) IsWithoutDev m.path old new) ms
+  pub root : edits_root w ms ≡ true → TurnsOrStays (failed w.root) (IsRootEdit w.folder (drops_at_root w ms) (gone_manifests w ms)) w.root old new
 
 -- a private member stands in the folder of the workspace, and private members are to go
 pub record HasPrivateRoot (w : Wanted) (ms : List Member) : Type 0 where

@@ -4,12 +4,13 @@ use Rattle.std.specs.List.{filter_map}
 use Rattle.hack_base.specs.PathTexts.{join_of}
 use Rattle.hack_load.specs.Contexts.{ContextRecord, is_private_at, manifest_at, package_at}
 use Rattle.hack_base.specs.Names.{Name}
-use Rattle.hack_files.specs.Files.{Contents}
+use Rattle.hack_files.specs.Files.{Change, Contents}
 use Rattle.hack_base.specs.Notes.{Note}
 use Rattle.hack_prepare.specs.Faults.{IsEditsFault}
 use Rattle.hack_prepare.specs.Paths.{IsTouched}
 use Rattle.hack_prepare.specs.Prepared.{HasPrivateRoot, HoldTexts, IsPartlyPrepared, IsPrepared, KeepsUnedited, Member, Wanted, edits}
 use Rattle.hack_prepare.specs.Told.{notes}
+use Rattle.hack_prepare.specs.Writes.{AreWrites, BeginWrites}
 use Rattle.hack_prepare.specs.declared.fault.PrepareFault.{PrepareFault}
 use Rattle.hack_prepare.specs.declared.fault.PrepareFault.TheVariants.{Memory}
 use Rattle.hack_prepare.specs.declared.wanted.Member.{Member as TheMember}
@@ -64,13 +65,21 @@ HasPrivateRootIn cx = HasPrivateRoot (wanted_in cx) (members_in cx)
 abbrev pub IsPreparedIn : ContextRecord → Contents → Contents → Type 0
 IsPreparedIn cx = IsPrepared (wanted_in cx) (members_in cx)
 
--- each manifest that is edited holds what it held, or its edit, or this has failed
-abbrev pub IsPartlyPreparedIn : ContextRecord → Type 0 → Contents → Contents → Type 0
+-- each manifest that is edited holds what it held, or its edit, or this is so of its path
+abbrev pub IsPartlyPreparedIn : ContextRecord → (Name → Type 0) → Contents → Contents → Type 0
 IsPartlyPreparedIn cx = IsPartlyPrepared (wanted_in cx) (members_in cx)
 
 -- every path that isn't edited holds what it held
 abbrev pub KeepsUneditedIn : ContextRecord → Contents → Contents → Type 0
 KeepsUneditedIn cx = KeepsUnedited (wanted_in cx) (members_in cx)
+
+-- just one write for each manifest that is edited
+abbrev pub AreWritesIn : ContextRecord → Type 0 → Contents → List Change → Type 0
+AreWritesIn cx tells = AreWrites tells (wanted_in cx) (members_in cx)
+
+-- the first of these
+abbrev pub BeginWritesIn : ContextRecord → Type 0 → Contents → List Change → Type 0
+BeginWritesIn cx tells = BeginWrites tells (wanted_in cx) (members_in cx)
 
 -- a path that is edited, or the lockfile, where manifests are edited at all
 abbrev pub IsTouchedIn : ContextRecord → Name → Type 0

@@ -1,10 +1,10 @@
 -- What a step of the edits does to files, to what is kept, and to the count of failures.
-use Rattle.std.specs.Prelude.{◌≡◌, ◌⊎◌, ◌&&◌, ◌||◌, ℕ, Bool, true, false, List, Some, MatchOption, All}
+use Rattle.std.specs.Prelude.{◌≡◌, ◌⊎◌, ◌&&◌, ◌||◌, ◌++◌, ◌∷◌, [], ℕ, Bool, true, false, List, Some, MatchOption, All}
 use Rattle.std.specs.List.{find, list_any}
 use Rattle.std.specs.Str.{bytes_eq}
 use Rattle.hack_base.specs.Names.{Name}
 use Rattle.hack_files.specs.Files.{Contents, GrowsBy}
-use Rattle.hack_files.specs.Restore.{AreSafe, is_kept, registered_files}
+use Rattle.hack_files.specs.Restore.{AreSafe, Kept, is_kept, registered_files}
 use Rattle.hack_files.specs.declared.restore.Manager.{Manager}
 use Rattle.hack_edits.specs.DevDeps.{IsWithoutDev}
 use Rattle.hack_prepare.specs.Prepared.{Member, Wanted, IsRootEdit, has_some, is_alone, is_alone_at, is_root}
@@ -17,13 +17,24 @@ Grows before now = (k : ℕ) × GrowsBy k before now
 abbrev pub KeepsOnly : (Name → Type 0) → Manager → Manager → Type 0
 KeepsOnly P old new = (q : Name) → is_kept (registered_files new) q ≡ true → (is_kept (registered_files old) q ≡ true) ⊎ P q
 
--- What a step does to the manager and to what files hold: it keeps none but these paths, and where files come back, what is
--- safe stays so for each start that meets a premise.
+-- files were kept behind those that were: each with what its path held at the start, and none whose path was kept already
+pub data Adds (start : Contents) (old : List Kept) : List Kept → Type 0 where
+  none : Adds start old old
+  one : {now : List Kept} (file : Kept) → Adds start old now → is_kept now file.path ≡ false → start file.path ≡ Some file.bytes → Adds start old (now ++ file ∷ [])
+
+-- and every path that isn't kept holds what it held at the start
+pub record KeepsHeld (old new : List Kept) (start now : Contents) : Type 0 where
+  pub added : Adds start old new
+  pub others : (q : Name) → is_kept new q ≡ false → now q ≡ start q
+
+-- What a step does to the manager and to what files hold: it keeps none but these paths, and where files come back, it keeps
+-- what is written, and what is safe stays so, for each start that meets a premise.
 pub record IsStep (tells : Type 0) (P : Contents → Type 0) (K : Name → Type 0) (old new : Manager) (mid held : Contents) : Type 0 where
   pub needs : new.needs_restore ≡ old.needs_restore
   pub unkept : old.needs_restore ≡ false → registered_files new ≡ registered_files old
   pub kept : KeepsOnly K old new
   pub safe : tells → old.needs_restore ≡ true → (start : Contents) → P start → AreSafe (registered_files old) start mid → AreSafe (registered_files new) start held
+  pub keeps : tells → old.needs_restore ≡ true → (start : Contents) → P start → ((q : Name) → is_kept (registered_files old) q ≡ false → mid q ≡ start q) → KeepsHeld (registered_files old) (registered_files new) start held
 
 -- nothing is asked of the start
 abbrev pub AnyStart : Contents → Type 0
@@ -45,9 +56,9 @@ IsTurned new m = (turned : Name) × (new m.path ≡ Some turned) × IsWithoutDev
 abbrev pub IsTurnedOrNot : Type 0 → Contents → Contents → Member → Type 0
 IsTurnedOrNot failed old new m = (new m.path ≡ old m.path) ⊎ (IsTurned new m ⊎ failed)
 
--- so does each of these members' that is edited by itself
-abbrev pub ArePartlyTurned : Wanted → List Member → Type 0 → Contents → Contents → Type 0
-ArePartlyTurned w ms failed old new = All (λ m. is_alone w m ≡ true → IsTurnedOrNot failed old new m) ms
+-- so does each of these members' that is edited by itself, or this is so of its path
+abbrev pub ArePartlyTurned : Wanted → List Member → (Name → Type 0) → Contents → Contents → Type 0
+ArePartlyTurned w ms failed old new = All (λ m. is_alone w m ≡ true → IsTurnedOrNot (failed m.path) old new m) ms
 
 -- every path at which no member's manifest is edited by itself holds what it held
 abbrev pub KeepsApart : Wanted → List Member → Contents → Contents → Type 0

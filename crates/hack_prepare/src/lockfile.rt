@@ -1,7 +1,7 @@
 //! The lockfile, which cargo may change, and which comes back.
 
-ghost use Rattle.std.specs.Prelude.{◌≡◌, OnOk, IfErr, IfSome, true};
-ghost use Rattle.hack_files.specs.Files.{KeepsAll};
+ghost use Rattle.std.specs.Prelude.{◌≡◌, [], OnOk, IfErr, IfSome, true};
+ghost use Rattle.hack_files.specs.Files.{KeepsAll, Makes};
 ghost use Rattle.hack_files.specs.Restore.{is_kept, registered_files};
 ghost use Rattle.hack_prepare.specs.Counts.{CountsCalls};
 ghost use Rattle.hack_prepare.specs.Faults.{IsFault, NoFault};
@@ -14,6 +14,7 @@ use hack_files::restore::Manager;
 use std::alloc::Global;
 
 /// Keeps what the lockfile holds, where there is one.
+#[tactic(auto, using(crate::proofs::StepLemmas::keeps_none))]
 pub(crate) fn keep_lockfile<F: Files>(
     alloc: Global,
     path: &str,
@@ -28,6 +29,8 @@ pub(crate) fn keep_lockfile<F: Files>(
         → IfSome (F.bytes_at files.old path.now) (λ _.
         is_kept (registered_files manager.new) path.now ≡ true)) }
     ensures same { F.tells → KeepsAll (F.bytes_at files.old) (F.bytes_at files.new) }
+    ensures untraced { F.whole → Makes [] (F.trace files.old) (F.trace files.new)
+        (F.bytes_at files.old) (F.bytes_at files.new) }
     ensures err { IfErr result (IsFault (Only path.now) Nowhere Nowhere NoFault) }
 {
     match exists(alloc, files, path) {

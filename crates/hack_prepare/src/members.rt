@@ -1,18 +1,20 @@
 //! The manifests of members that are edited by themselves.
 
-ghost use Rattle.std.specs.Prelude.{◌≡◌, IfErr, IfOk, OnOk};
+ghost use Rattle.std.specs.Prelude.{◌≡◌, IfErr, IfOk, OnOk, OnErr};
 ghost use Rattle.std.specs.List.{flat_map};
 ghost use Rattle.hack_files.specs.Files.{GrowsBy, KeepsOthers};
 ghost use Rattle.hack_base.specs.Names.{names_behind};
 ghost use Rattle.hack_base.specs.Notes.{AddsNotes};
 ghost use Rattle.hack_prepare.specs.Counts.{CountsCalls};
-ghost use Rattle.hack_prepare.specs.Faults.{IsDevFault, IsFault, IsMembersFault};
+ghost use Rattle.hack_prepare.specs.Faults.{AtWrite, IsDevFault, IsFault, IsMembersFault};
 ghost use Rattle.hack_prepare.specs.Paths.{IsAlonePath, Nowhere, Only};
 ghost use Rattle.hack_prepare.specs.Prepared.{HasPrivateRoot, HoldTexts, gone_manifests};
 ghost use Rattle.hack_prepare.specs.PreparedView.{member_view, members_view, wanted_view};
 ghost use Rattle.hack_prepare.specs.Steps.{ArePartlyTurned, AreTurned, HoldsText, IsStep};
 ghost use Rattle.hack_prepare.specs.Steps.{IsTurned, IsTurnedOrNot, KeepsApart};
 ghost use Rattle.hack_prepare.specs.Told.{dev_note, member_notes};
+ghost use Rattle.hack_prepare.specs.Writes.{AreDevWrites, BeginDevWrites, IsAtMostOne, IsDevWrite};
+ghost use Rattle.hack_prepare.specs.Writes.{IsOne, MakesSome};
 
 use crate::edits::without_dev;
 use crate::fault::PrepareFault;
@@ -26,6 +28,7 @@ use std::alloc::Global;
 
 /// Takes the development dependencies out of the manifests that are edited by themselves, and
 /// answers the manifests of the members that go.
+#[tactic(auto, using(crate::proofs::StepLemmas::keeps_none, crate::proofs::WriteLemmas::dev_all))]
 pub(crate) fn edit_members<'a, F: Files>(
     alloc: Global,
     wanted: &Wanted<'_>,
@@ -44,10 +47,20 @@ pub(crate) fn edit_members<'a, F: Files>(
         → AreTurned (wanted_view wanted.now) (members_view members.now) (F.bytes_at files.new)) }
     ensures partly { F.tells → HoldTexts (F.bytes_at files.old) (members_view members.now)
         → ArePartlyTurned (wanted_view wanted.now) (members_view members.now)
-        (GrowsBy 1 (F.failed files.old) (F.failed files.new))
+        (λ path. GrowsBy 1 (F.failed files.old) (F.failed files.new))
         (F.bytes_at files.old) (F.bytes_at files.new) }
+    ensures spared { IfErr result (AtWrite (λ path. F.tells
+        → HoldTexts (F.bytes_at files.old) (members_view members.now)
+        → ArePartlyTurned (wanted_view wanted.now) (members_view members.now)
+        (λ other. other ≡ path) (F.bytes_at files.old) (F.bytes_at files.new))) }
     ensures others { F.tells → KeepsApart (wanted_view wanted.now) (members_view members.now)
         (F.bytes_at files.old) (F.bytes_at files.new) }
+    ensures traced { OnOk result (F.whole → MakesSome
+        (AreDevWrites (wanted_view wanted.now) (members_view members.now))
+        (F.trace files.old) (F.trace files.new) (F.bytes_at files.old) (F.bytes_at files.new)) }
+    ensures refused { OnErr result (F.whole → MakesSome
+        (BeginDevWrites (wanted_view wanted.now) (members_view members.now))
+        (F.trace files.old) (F.trace files.new) (F.bytes_at files.old) (F.bytes_at files.new)) }
     ensures gone { IfOk result (λ paths.
         names_behind paths.items ≡ gone_manifests (wanted_view wanted.now)
         (members_view members.now)) }
@@ -74,6 +87,7 @@ pub(crate) fn edit_members<'a, F: Files>(
 }
 
 /// Takes the development dependencies out of a member's manifest.
+#[tactic(auto, using(crate::proofs::StepLemmas::keeps_none))]
 fn edit_member<F: Files>(
     alloc: Global,
     verbose: bool,
@@ -93,6 +107,12 @@ fn edit_member<F: Files>(
         (F.bytes_at files.old) (F.bytes_at files.new) (member_view member.now) }
     ensures others { F.tells → KeepsOthers (member_view member.now).path
         (F.bytes_at files.old) (F.bytes_at files.new) }
+    ensures traced { OnOk result (F.whole → MakesSome
+        (IsOne (IsDevWrite (member_view member.now)))
+        (F.trace files.old) (F.trace files.new) (F.bytes_at files.old) (F.bytes_at files.new)) }
+    ensures refused { OnErr result (F.whole → MakesSome
+        (IsAtMostOne (IsDevWrite (member_view member.now)))
+        (F.trace files.old) (F.trace files.new) (F.bytes_at files.old) (F.bytes_at files.new)) }
     ensures told { OnOk result (AddsNotes notices.old notices.new
         (dev_note verbose (member_view member.now).path)) }
     ensures err { IfErr result (IsFault Nowhere (Only (member_view member.now).path) Nowhere

@@ -1,23 +1,27 @@
 //! What is done to the files of a workspace before the runs of a call, and undone at its end.
 
 ghost use Rattle.std.specs.Prelude.{◌≡◌, ◌<◌, ◌↔◌, ◌⊎◌, ◌||◌, IfErr, IfOk, IfSome, OnOk, IsTrue};
+ghost use Rattle.std.specs.Prelude.{OnErr};
 ghost use Rattle.std.specs.Prelude.{List, false, map, true};
 ghost use Rattle.hack_files.specs.Files.{Change, Contents, GrowsBy, Makes};
 ghost use Rattle.hack_files.specs.Restore.{AreSafe, Brings, Tried, is_kept, registered_files};
 ghost use Rattle.hack_load.specs.ContextView.{context_view};
+ghost use Rattle.hack_base.specs.Names.{Name};
 ghost use Rattle.hack_base.specs.Notes.{note_of};
 ghost use Rattle.hack_prepare.specs.Counts.{CountsCalls};
-ghost use Rattle.hack_prepare.specs.Faults.{IsEditsFault};
+ghost use Rattle.hack_prepare.specs.Faults.{AtWrite, IsEditsFault};
 ghost use Rattle.hack_prepare.specs.Paths.{IsTouched};
 ghost use Rattle.hack_prepare.specs.Prepared.{HasPrivateRoot, HoldTexts, IsPartlyPrepared};
 ghost use Rattle.hack_prepare.specs.Prepared.{IsPrepared, KeepsUnedited};
 ghost use Rattle.hack_prepare.specs.PreparedView.{HasPrivateRootIn, HoldTextsIn};
 ghost use Rattle.hack_prepare.specs.PreparedView.{IsPartlyPreparedIn, IsPrepareFault};
 ghost use Rattle.hack_prepare.specs.PreparedView.{IsPreparedIn, IsTouchedIn, KeepsUneditedIn};
+ghost use Rattle.hack_prepare.specs.PreparedView.{AreWritesIn, BeginWritesIn};
 ghost use Rattle.hack_prepare.specs.PreparedView.{edits_in, members_view, notes_in};
 ghost use Rattle.hack_prepare.specs.PreparedView.{wanted_in, wanted_view};
-ghost use Rattle.hack_prepare.specs.Steps.{Grows, IsStep, KeepsOnly};
+ghost use Rattle.hack_prepare.specs.Steps.{Grows, IsStep, KeepsHeld, KeepsOnly};
 ghost use Rattle.hack_prepare.specs.Told.{notes};
+ghost use Rattle.hack_prepare.specs.Writes.{AreWrites, BeginWrites, MakesSome};
 
 use crate::fault::PrepareFault;
 use crate::lockfile::keep_lockfile;
@@ -39,6 +43,7 @@ use std::io::Write;
 /// file holds is kept before it is written, and so is the lockfile, which cargo may change; the
 /// manager brings them back, unless they are to stay edited. The notices tell of each edit, where
 /// the user wants to know.
+#[tactic(auto, using(crate::proofs::StepLemmas::keeps_none))]
 pub fn prepare<F: Files>(
     alloc: Global,
     cx: &Context,
@@ -58,6 +63,15 @@ pub fn prepare<F: Files>(
         → AreSafe (registered_files manager.old) start (F.bytes_at files.old)
         → AreSafe (registered_files manager.new) start (F.bytes_at files.new) }
 
+    // Whatever was kept before: what is kept since is what a path held at the start, and every path
+    // that isn't kept holds what it held then.
+    ensures keeps { F.tells → manager.old.needs_restore ≡ true → (start : Contents)
+        → HoldTextsIn (context_view cx.now) start
+        → ((path : Name) → is_kept (registered_files manager.old) path ≡ false
+        → F.bytes_at files.old path ≡ start path)
+        → KeepsHeld (registered_files manager.old) (registered_files manager.new) start
+        (F.bytes_at files.new) }
+
     // No path is kept but those that are edited and the lockfile, and none where no edit is asked.
     ensures kept { KeepsOnly (IsTouchedIn (context_view cx.now)) manager.old manager.new }
 
@@ -69,8 +83,14 @@ pub fn prepare<F: Files>(
     // At a fault too, such a manifest holds its edit, or what it held, unless a call failed.
     ensures edited { F.tells → HoldTextsIn (context_view cx.now) (F.bytes_at files.old)
         → IsPartlyPreparedIn (context_view cx.now)
-        (GrowsBy 1 (F.failed files.old) (F.failed files.new))
+        (λ path. GrowsBy 1 (F.failed files.old) (F.failed files.new))
         (F.bytes_at files.old) (F.bytes_at files.new) }
+
+    // Where one can't be written, all others do.
+    ensures spared { IfErr result (AtWrite (λ path. F.tells
+        → HoldTextsIn (context_view cx.now) (F.bytes_at files.old)
+        → IsPartlyPreparedIn (context_view cx.now) (λ other. other ≡ path)
+        (F.bytes_at files.old) (F.bytes_at files.new))) }
 
     // And every other path holds what it held, whatever the manifests hold.
     ensures others { F.tells → KeepsUneditedIn (context_view cx.now)
@@ -79,6 +99,16 @@ pub fn prepare<F: Files>(
         → edits_in (context_view cx.now) ≡ true
         → IfSome (F.bytes_at files.new (wanted_in (context_view cx.now)).lockfile) (λ _.
         is_kept (registered_files manager.new) (wanted_in (context_view cx.now)).lockfile ≡ true)) }
+
+    // Each manifest that is edited is written once: those of members in order, and then the root's.
+    ensures traced { OnOk result (F.whole → MakesSome
+        (AreWritesIn (context_view cx.now) F.tells (F.bytes_at files.old))
+        (F.trace files.old) (F.trace files.new) (F.bytes_at files.old) (F.bytes_at files.new)) }
+
+    // At a fault the first of these were written.
+    ensures refused { OnErr result (F.whole → MakesSome
+        (BeginWritesIn (context_view cx.now) F.tells (F.bytes_at files.old))
+        (F.trace files.old) (F.trace files.new) (F.bytes_at files.old) (F.bytes_at files.new)) }
     ensures never { OnOk result (¬ HasPrivateRootIn (context_view cx.now)) }
     ensures told { IfOk result (λ notices.
         map note_of notices.items ≡ notes_in (context_view cx.now)) }
@@ -142,14 +172,24 @@ fn edit<F: Files>(
         (F.bytes_at files.old) (F.bytes_at files.new)) }
     ensures edited { F.tells → HoldTexts (F.bytes_at files.old) (members_view members.now)
         → IsPartlyPrepared (wanted_view wanted.now) (members_view members.now)
-        (GrowsBy 1 (F.failed files.old) (F.failed files.new))
+        (λ path. GrowsBy 1 (F.failed files.old) (F.failed files.new))
         (F.bytes_at files.old) (F.bytes_at files.new) }
+    ensures spared { IfErr result (AtWrite (λ path. F.tells
+        → HoldTexts (F.bytes_at files.old) (members_view members.now)
+        → IsPartlyPrepared (wanted_view wanted.now) (members_view members.now)
+        (λ other. other ≡ path) (F.bytes_at files.old) (F.bytes_at files.new))) }
     ensures others { F.tells
         → KeepsUnedited (wanted_view wanted.now) (members_view members.now)
         (F.bytes_at files.old) (F.bytes_at files.new) }
     ensures lockfile { OnOk result (F.tells → manager.old.needs_restore ≡ true
         → IfSome (F.bytes_at files.new (wanted_view wanted.now).lockfile) (λ _.
         is_kept (registered_files manager.new) (wanted_view wanted.now).lockfile ≡ true)) }
+    ensures traced { OnOk result (F.whole → MakesSome (AreWrites F.tells
+        (wanted_view wanted.now) (members_view members.now) (F.bytes_at files.old))
+        (F.trace files.old) (F.trace files.new) (F.bytes_at files.old) (F.bytes_at files.new)) }
+    ensures refused { OnErr result (F.whole → MakesSome (BeginWrites F.tells
+        (wanted_view wanted.now) (members_view members.now) (F.bytes_at files.old))
+        (F.trace files.old) (F.trace files.new) (F.bytes_at files.old) (F.bytes_at files.new)) }
     ensures never { OnOk result
         (¬ HasPrivateRoot (wanted_view wanted.now) (members_view members.now)) }
     ensures told { IfOk result (λ notices. map note_of notices.items

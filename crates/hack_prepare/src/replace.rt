@@ -1,7 +1,7 @@
 //! A manifest that is edited: what it holds is kept, and then its edit is written.
 
-ghost use Rattle.std.specs.Prelude.{◌≡◌, ◌⊎◌, IfErr, OnOk, Some};
-ghost use Rattle.hack_files.specs.Files.{GrowsBy, KeepsOthers};
+ghost use Rattle.std.specs.Prelude.{◌≡◌, ◌⊎◌, ◌∷◌, [], IfErr, OnOk, OnErr, Some};
+ghost use Rattle.hack_files.specs.Files.{GrowsBy, KeepsOthers, Makes, MakesOrNot, puts};
 ghost use Rattle.hack_prepare.specs.Counts.{CountsCalls};
 ghost use Rattle.hack_prepare.specs.Faults.{IsFault, NoFault};
 ghost use Rattle.hack_prepare.specs.Paths.{Nowhere, Only};
@@ -13,6 +13,7 @@ use hack_files::restore::Manager;
 use std::alloc::Global;
 
 /// Puts a text in place of what a manifest holds, which is kept before.
+#[tactic(auto, using(crate::proofs::StepLemmas::keeps_none, crate::proofs::WriteLemmas::makes_none))]
 pub(crate) fn replace<F: Files>(
     alloc: Global,
     path: &str,
@@ -30,6 +31,10 @@ pub(crate) fn replace<F: Files>(
         ⊎ ((F.bytes_at files.new path.now ≡ Some text.now)
         ⊎ GrowsBy 1 (F.failed files.old) (F.failed files.new)) }
     ensures others { F.tells → KeepsOthers path.now (F.bytes_at files.old) (F.bytes_at files.new) }
+    ensures traced { OnOk result (F.whole → Makes (puts path.now text.now ∷ [])
+        (F.trace files.old) (F.trace files.new) (F.bytes_at files.old) (F.bytes_at files.new)) }
+    ensures refused { OnErr result (F.whole → MakesOrNot (puts path.now text.now)
+        (F.trace files.old) (F.trace files.new) (F.bytes_at files.old) (F.bytes_at files.new)) }
     ensures err { IfErr result (IsFault Nowhere (Only path.now) Nowhere NoFault) }
 {
     manager.register_once(alloc, path, held.as_bytes())?;

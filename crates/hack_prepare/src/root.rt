@@ -1,7 +1,8 @@
 //! The manifest in the folder of the workspace, which gets all its edits in one write.
 
-ghost use Rattle.std.specs.Prelude.{◌≡◌, ◌⊎◌, ◌&&◌, ◌||◌, IfErr, IfOk, OnOk, MatchBool, Some};
+ghost use Rattle.std.specs.Prelude.{◌≡◌, ◌⊎◌, ◌&&◌, ◌||◌, [], IfErr, IfOk, OnOk, OnErr};
 ghost use Rattle.std.specs.Prelude.{option_copied, option_map, string_bytes, true, false};
+ghost use Rattle.std.specs.Prelude.{MatchBool, Some};
 ghost use Rattle.std.specs.List.{find};
 ghost use Rattle.hack_base.specs.Names.{Name};
 ghost use Rattle.hack_files.specs.Files.{GrowsBy};
@@ -20,6 +21,8 @@ ghost use Rattle.hack_prepare.specs.PreparedView.{members_view, wanted_view};
 ghost use Rattle.hack_prepare.specs.Steps.{AnyStart, HeldUnkept, IsRootText, IsStep, KeepsBut};
 ghost use Rattle.hack_prepare.specs.Steps.{MakesRoot, MakesRootOrNot};
 ghost use Rattle.hack_prepare.specs.Told.{dev_note, edit_notes, private_note, root_notes};
+ghost use Rattle.hack_prepare.specs.Writes.{AreRootWrites, IsOneIf, IsRootWrite, MakesSome};
+ghost use Rattle.hack_prepare.specs.Writes.{MayWriteRoot};
 
 use crate::edits::{without_dev, without_private};
 use crate::fault::{PrepareFault, of_file};
@@ -33,6 +36,7 @@ use std::alloc::{AllocError, Global};
 
 /// Edits the manifest in the folder of the workspace, where that is wanted: `private`
 /// are the manifests of the members that go.
+#[tactic(auto, using(crate::proofs::StepLemmas::keeps_none))]
 pub(crate) fn edit_root<F: Files>(
     alloc: Global,
     wanted: &Wanted<'_>,
@@ -66,6 +70,12 @@ pub(crate) fn edit_root<F: Files>(
     ensures others { F.tells → KeepsBut (wanted_view wanted.now)
         (edits_root (wanted_view wanted.now) (members_view members.now))
         (F.bytes_at files.old) (F.bytes_at files.new) }
+    ensures traced { OnOk result (F.whole → MakesSome (AreRootWrites F.tells
+        (wanted_view wanted.now) (members_view members.now) (F.bytes_at files.old))
+        (F.trace files.old) (F.trace files.new) (F.bytes_at files.old) (F.bytes_at files.new)) }
+    ensures refused { OnErr result (F.whole → MakesSome (MayWriteRoot F.tells
+        (wanted_view wanted.now) (members_view members.now) (F.bytes_at files.old))
+        (F.trace files.old) (F.trace files.new) (F.bytes_at files.old) (F.bytes_at files.new)) }
     ensures told { OnOk result (AddsNotes notices.old notices.new
         (root_notes (wanted_view wanted.now) (members_view members.now))) }
     ensures err { IfErr result (IsFault
@@ -109,6 +119,7 @@ fn root_text<'a>(wanted: &Wanted<'_>, members: &[Member<'a>]) -> Option<&'a str>
 }
 
 /// Edits a manifest of a workspace alone, which no member has read.
+#[tactic(auto, using(crate::proofs::StepLemmas::keeps_none))]
 fn edit_virtual<F: Files>(
     alloc: Global,
     wanted: &Wanted<'_>,
@@ -134,6 +145,16 @@ fn edit_virtual<F: Files>(
     ensures others { F.tells → KeepsBut (wanted_view wanted.now)
         (has_some (names_behind private.now))
         (F.bytes_at files.old) (F.bytes_at files.new) }
+    ensures traced { OnOk result (F.whole → MakesSome
+        (IsOneIf (has_some (names_behind private.now))
+        (IsRootWrite (wanted_view wanted.now) false (names_behind private.now)
+        (λ text. F.tells → F.bytes_at files.old wanted.now.root.now ≡ Some text)))
+        (F.trace files.old) (F.trace files.new) (F.bytes_at files.old) (F.bytes_at files.new)) }
+    ensures refused { OnErr result (F.whole → MakesSome (λ made. (made ≡ [])
+        ⊎ IsOneIf (has_some (names_behind private.now))
+        (IsRootWrite (wanted_view wanted.now) false (names_behind private.now)
+        (λ text. F.tells → F.bytes_at files.old wanted.now.root.now ≡ Some text)) made)
+        (F.trace files.old) (F.trace files.new) (F.bytes_at files.old) (F.bytes_at files.new)) }
     ensures told { OnOk result (AddsNotes notices.old notices.new
         (edit_notes (wanted_view wanted.now) false (names_behind private.now))) }
     ensures err { IfErr result (IsFault (OnlyIf
@@ -163,6 +184,7 @@ fn edit_virtual<F: Files>(
 }
 
 /// Edits what the manifest holds, where there is something to do.
+#[tactic(auto, using(crate::proofs::StepLemmas::keeps_none))]
 fn edit_held<F: Files>(
     alloc: Global,
     wanted: &Wanted<'_>,
@@ -187,6 +209,16 @@ fn edit_held<F: Files>(
     ensures others { F.tells → KeepsBut (wanted_view wanted.now)
         (drops_dev || has_some (names_behind private.now))
         (F.bytes_at files.old) (F.bytes_at files.new) }
+    ensures traced { OnOk result (F.whole → MakesSome
+        (IsOneIf (drops_dev || has_some (names_behind private.now))
+        (IsRootWrite (wanted_view wanted.now) drops_dev (names_behind private.now)
+        (Only held.now)))
+        (F.trace files.old) (F.trace files.new) (F.bytes_at files.old) (F.bytes_at files.new)) }
+    ensures refused { OnErr result (F.whole → MakesSome (λ made. (made ≡ [])
+        ⊎ IsOneIf (drops_dev || has_some (names_behind private.now))
+        (IsRootWrite (wanted_view wanted.now) drops_dev (names_behind private.now)
+        (Only held.now)) made)
+        (F.trace files.old) (F.trace files.new) (F.bytes_at files.old) (F.bytes_at files.new)) }
     ensures told { OnOk result (AddsNotes notices.old notices.new
         (edit_notes (wanted_view wanted.now) drops_dev (names_behind private.now))) }
     ensures err { IfErr result (IsFault Nowhere

@@ -2,6 +2,7 @@
 
 ghost use Rattle.std.specs.Prelude.{◌≡◌, ◌≢◌, ◌++◌, ◌∷◌, [], ◌||◌, IfOk, IfErr, OnOk, OnErr, Some};
 ghost use Rattle.std.specs.Prelude.{None, map, true, false, string_bytes};
+ghost use Rattle.std.specs.Str.{IsUtf8};
 ghost use Rattle.hack_base.specs.Names.{optional_text};
 ghost use Rattle.hack_process.specs.Calls.{Adds, IsSuccess, answer_of};
 ghost use Rattle.hack_process.specs.CommandTexts.{text_of, listed_of, line_of, each_spaced};
@@ -225,7 +226,7 @@ impl<'a> ProcessBuilder<'a> {
         dir: &str,
     ) -> Result<String, ProcessFault>
         ensures ok { IfOk result (λ text. C.tells → Had (λ answer. IsSuccess answer.end
-            × (string_bytes text ≡ without_line_ends answer.stdout))
+            × IsUtf8 answer.stdout × (string_bytes text ≡ without_line_ends answer.stdout))
             (asked_of true (command_of self.now)) (C.calls caller.old) (C.calls caller.new)) }
         ensures named { OnOk result ((command_of self.now).program ≢ []) }
         ensures err { IfErr result (IsReadFault C.tells (asked_of true (command_of self.now))

@@ -1,11 +1,12 @@
-use Rattle.std.proofs.Common.{◌≡◌, ◌∙◌, ap, sym, subst, [], inr}
-use Rattle.std.proofs.lemmas.Result.{err_from_is_err_and, on_ok_weaker}
+use Rattle.std.proofs.Common.{◌≡◌, ◌∙◌, ◌⊎◌, ap, sym, subst, [], inr, List}
+use Rattle.std.proofs.lemmas.Result.{err_from_is_err_and, on_ok_weaker, IfErr-weaker}
 use Rattle.hack_files.specs.Files.{Contents}
-use Rattle.hack_journal.specs.Journal.{edits_of}
+use Rattle.hack_journal.specs.Journal.{Edit, edits_of}
+use Rattle.hack_journal.specs.Recover.{FailsAt, HasEntry}
 use Rattle.hack_journal.specs.Safe.{IsSafeBy}
 use Rattle.hack_journal.specs.SafeLaws.{stay_append, stay_none, makes_append}
 use Rattle.hack_journal.proofs.FinishLemmas.{all_same}
-use Rattle.hack_journal.proofs.RecoverLemmas.{safe_at, safe_told, why_unread, why_not_told, never_no_journal, never_not_told, told_at, restored_of, comes_back_of, on_three}
+use Rattle.hack_journal.proofs.RecoverLemmas.{safe_at, safe_told, why_unread, why_failed, why_not_told, never_no_journal, never_not_told, told_at, restored_of, comes_back_of, on_three}
 use Rattle.hack_journal.proofs.recover.recover.Goals as goal
 
 pub returns-in_err-entries-clause-why : goal.returns-in_err-entries-clause-why
@@ -66,3 +67,11 @@ returns-clause-safe g c = λ tells whole first safe.
     let at2 : IsSafeBy c.args.journal.now first (edits_of c.deref-3.result.now) (g.F.Files.bytes_at c.check_all.new.files) = rw c.deref-3.ensures.value at1 in
     let looks = makes_append [] [] _ _ _ _ _ _ (c.in_ok-entries.ensures.untraced whole) (c.in_ok-check_all.ensures.untraced whole) in
     stay_append c.args.journal.now first _ _ _ _ _ _ (stay_none c.args.journal.now first _ _ _ _ looks safe) (c.take_back.ensures.safe tells whole first at2)
+
+pub returns-clause-why : goal.returns-clause-why
+returns-clause-why g c =
+    let is : edits_of c.deref-3.result.now ≡ edits_of c.in-Some.entries.items = ap edits_of c.deref-3.ensures.value in
+    IfErr-weaker c.take_back.result _ _
+    (λ e h. why_failed c.args.journal.now g.F.Files.tells (edits_of c.in-Some.entries.items) (g.F.Files.bytes_at c.args.files.now) e (λ tells. c.in_ok-entries.ensures.some c.in-Some.entries c.in-Some.is tells)
+    (subst (λ (es : List Edit). FailsAt (λ p. (p ≡ c.args.journal.now) ⊎ HasEntry es p) e) is h))
+    c.take_back.ensures.named

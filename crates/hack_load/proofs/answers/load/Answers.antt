@@ -1,7 +1,9 @@
-use Rattle.std.proofs.Common.{inr, Err}
-use Rattle.hack_metadata.specs.declared.metadata.Metadata.{Metadata}
-use Rattle.hack_load.proofs.AnswerLemmas.{follows-earlier, loaded-later}
-use Rattle.hack_load.proofs.LeaveLemmas.{few-reads, few-spares}
+use Rattle.std.proofs.Common.{inl, inr, refl, Ok, Err}
+use Rattle.std.specs.Prelude.{option_copied}
+use Rattle.hack_metadata.specs.Asks.{Writes}
+use Rattle.hack_metadata.specs.Requests.{question}
+use Rattle.hack_load.proofs.AnswerLemmas.{ends-known, follows-earlier, loaded-later}
+use Rattle.hack_load.proofs.LeaveLemmas.{few-left, few-reads}
 use Rattle.hack_load.proofs.answers.load.Goals as goal
 
 pub returns-in-Ok-clause-left : goal.returns-in-Ok-clause-left
@@ -15,16 +17,31 @@ returns-in-Ok-clause-read g c =
     c.load_behind.ensures.left c.load_behind.ensures.read
 
 pub returns-in-Ok-clause-asked : goal.returns-in-Ok-clause-asked
-returns-in-Ok-clause-asked g c = λ called told.
-    inr (record {
+returns-in-Ok-clause-asked g c =
+    let q = question c.args.args.now c.args.env.now c.args.minor (option_copied c.args.host) in
+    let held = g.F.Files.bytes_at c.args.files.now in
+    let later = g.F.Files.bytes_at c.new.new.files in
+    let mid = g.C.Caller.calls c.new.new.caller in
+    λ called. inr (record {
       metadata = c.in-Ok.metadata;
-      mid = g.C.Caller.calls c.new.new.caller;
-      ends = c.in-Ok.ensures.ends called told;
-      follows = follows-earlier g.F.Files.tells c.args.args.now c.args.env.now (g.F.Files.bytes_at c.args.files.now) (g.F.Files.bytes_at c.new.new.files)
-          (g.F.Files.failed c.args.files.now) (g.F.Files.failed c.new.new.files) (g.F.Files.failed c.load_behind.new.files) c.in-Ok.metadata (g.C.Caller.calls c.new.new.caller) (g.C.Caller.calls c.load_behind.new.caller) c.load_behind.result
-          told c.in-Ok.ensures.left.1 (c.load_behind.ensures.asked called told);
+      mid = mid;
+      ends = ends-known g.F.Files.tells q held (g.C.Caller.calls c.args.caller.now) mid (Writes g.F.Files.whole g.F.Files.tells (g.F.Files.trace c.args.files.now) (g.F.Files.trace c.new.new.files) held later) (Ok c.in-Ok.metadata) (c.in-Ok.ensures.ends called);
+      follows = follows-earlier g.F.Files.tells c.args.args.now c.args.env.now held later (g.F.Files.failed c.args.files.now) (g.F.Files.failed c.new.new.files) (g.F.Files.failed c.load_behind.new.files) c.in-Ok.metadata mid (g.C.Caller.calls c.load_behind.new.caller) c.load_behind.result
+          c.in-Ok.ensures.left.1 (c.load_behind.ensures.asked called);
     })
 
 pub returns-in-Err-clause-left : goal.returns-in-Err-clause-left
 returns-in-Err-clause-left g c =
-    few-spares {X = Metadata} c.in-Err.ensures.left.0 g.F.Files.tells (g.F.Files.bytes_at c.args.files.now) (g.F.Files.bytes_at c.new.new.files) (g.F.Files.failed c.args.files.now) (g.F.Files.failed c.new.new.files) (Err c.in-Err.fault) c.in-Err.ensures.left.1
+    few-left c.in-Err.ensures.left.0 g.F.Files.tells (g.F.Files.bytes_at c.args.files.now) (g.F.Files.bytes_at c.new.new.files) (g.F.Files.failed c.args.files.now) (g.F.Files.failed c.new.new.files) c.in-Err.fault c.in-Err.ensures.left.1
+
+pub returns-in-Err-clause-asked : goal.returns-in-Err-clause-asked
+returns-in-Err-clause-asked g c =
+    let q = question c.args.args.now c.args.env.now c.args.minor (option_copied c.args.host) in
+    let held = g.F.Files.bytes_at c.args.files.now in
+    λ called. inl (record {
+      asked = c.in-Err.fault;
+      fault = c.of_question.result;
+      ends = ends-known g.F.Files.tells q held (g.C.Caller.calls c.args.caller.now) (g.C.Caller.calls c.new.new.caller) (Writes g.F.Files.whole g.F.Files.tells (g.F.Files.trace c.args.files.now) (g.F.Files.trace c.new.new.files) held (g.F.Files.bytes_at c.new.new.files)) (Err c.in-Err.fault) (c.in-Err.ensures.ends called);
+      of = c.of_question.ensures;
+      is = refl;
+    })

@@ -1,46 +1,46 @@
 use Rattle.std.proofs.Common.{inl, inr, refl, rules, string_bytes}
 use Rattle.std.proofs.lemmas.Result.{err_from_is_err_and}
 use Rattle.hack_load.specs.Loads.{locate}
-use Rattle.hack_load.proofs.AnswerLemmas.{fault-told, members-long, members-told}
+use Rattle.hack_load.proofs.AnswerLemmas.{members-long}
 use Rattle.hack_load.proofs.AskLemmas.{locate-told}
 use Rattle.hack_load.proofs.answers.load_behind.Goals as goal
 
 pub returns-clause-asked : goal.returns-clause-asked
-returns-clause-asked g c = λ called told. (
+returns-clause-asked g c = λ called. (
   refl,
   search rules,
   record {
     cargo = search rules;
     folder = search rules;
-    manifests = members-told g.F.Files.tells (g.F.Files.bytes_at c.args.files.now) c.args.metadata c.in-Ok.manifests.items told c.in-Ok.ensures.ok;
+    manifests = c.in-Ok.ensures.ok;
   },
 )
 
 pub returns-in-Err-clause-asked : goal.returns-in-Err-clause-asked
-returns-in-Err-clause-asked g c = λ called told.
-    inl (refl, fault-told g.F.Files.tells (g.F.Files.bytes_at c.args.files.now) c.args.metadata (g.F.Files.failed c.args.files.now) (g.F.Files.failed c.manifests_of.new.files) c.in-Err.fault told c.in-Err.ensures.err)
+returns-in-Err-clause-asked g c = λ called.
+    inl (refl, c.in-Err.ensures.err)
 
 pub returns-in-Err-ask-clause-asked : goal.returns-in-Err-ask-clause-asked
-returns-in-Err-ask-clause-asked g c = λ called told.
+returns-in-Err-ask-clause-asked g c = λ called.
     inr (
       c.in-Ok.manifests.items,
-      members-told g.F.Files.tells (g.F.Files.bytes_at c.args.files.now) c.args.metadata c.in-Ok.manifests.items told c.in-Ok.ensures.ok,
+      c.in-Ok.ensures.ok,
       locate-told g.C.Caller.tells (locate c.args.args.now c.args.env.now) (string_bytes c.args.env.now.current_dir) (g.C.Caller.calls c.args.caller.now) (g.C.Caller.calls c.ask.new.caller) c.in-Err-ask.fault called c.in-Err-ask.ensures.err,
     )
 
 pub returns-in_err-cargo-clause-asked : goal.returns-in_err-cargo-clause-asked
 returns-in_err-cargo-clause-asked g c =
     let p = err_from_is_err_and c.from_residual.result c.from_residual.ensures.1 in
-    rw (p.1, p.2) (λ called told.
+    rw (p.1, p.2) (λ called.
     let had = c.in-Ok-ask.ensures.ok called in
-    inr (c.in-Ok.manifests.items, members-told g.F.Files.tells (g.F.Files.bytes_at c.args.files.now) c.args.metadata c.in-Ok.manifests.items told c.in-Ok.ensures.ok, λ _. inr (had.0, had.2)))
+    inr (c.in-Ok.manifests.items, c.in-Ok.ensures.ok, λ _. inr (had.0, had.2)))
 
 pub returns-in_err-current_dir-clause-asked : goal.returns-in_err-current_dir-clause-asked
 returns-in_err-current_dir-clause-asked g c =
     let p = err_from_is_err_and c.from_residual-in_err-current_dir.result c.from_residual-in_err-current_dir.ensures.1 in
-    rw (p.1, p.2) (λ called told.
+    rw (p.1, p.2) (λ called.
     let had = c.in-Ok-ask.ensures.ok called in
-    inr (c.in-Ok.manifests.items, members-told g.F.Files.tells (g.F.Files.bytes_at c.args.files.now) c.args.metadata c.in-Ok.manifests.items told c.in-Ok.ensures.ok, λ _. inr (had.0, had.2)))
+    inr (c.in-Ok.manifests.items, c.in-Ok.ensures.ok, λ _. inr (had.0, had.2)))
 
 pub invariant_of-result : goal.invariant_of-result
 invariant_of-result g c = record { each = members-long g.F.Files.tells (g.F.Files.bytes_at c.args.files.now) c.args.metadata c.in-Ok.manifests.items c.in-Ok.ensures.ok }

@@ -1,4 +1,4 @@
-use Rattle.std.proofs.Common.{◌≡◌, ◌<◌, ◌∙◌, length, map, get_or, sym, arith}
+use Rattle.std.proofs.Common.{◌<◌, ◌∙◌, length, map, sym, arith}
 use Rattle.std.proofs.lemmas.List.{length-map}
 use Rattle.hack_metadata.specs.View.{place_at}
 use Rattle.hack_metadata.specs.Whole.{metadata_view}

@@ -1,7 +1,7 @@
-use Rattle.std.proofs.Common.{◌<◌, List, inl, inr, ap, sym, subst, length, get_or, map, arith, rules}
+use Rattle.std.proofs.Common.{◌<◌, List, inl, inr, sym, subst, length, get_or, rules}
 use Rattle.std.proofs.lemmas.Result.{err_from_is_err_and}
 use Rattle.hack_metadata.proofs.KnownLemmas.{member-below}
-use Rattle.hack_metadata.specs.View.{nodes_view, place_at}
+use Rattle.hack_metadata.specs.View.{nodes_view}
 use Rattle.hack_metadata.specs.Whole.{metadata_view}
 use Rattle.hack_metadata.specs.declared.resolve.PackageId.{PackageId}
 use Rattle.hack_load.specs.Loads.{IsOfMember, IsPackageFault}

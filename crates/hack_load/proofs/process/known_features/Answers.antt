@@ -1,10 +1,10 @@
-use Rattle.std.proofs.Common.{◌≡◌, ◌++◌, ◌∷◌, [], ◌<◌, ◌≤◌, not, ◌∙◌, ap, sym, subst, cond, length, map, get_or, List, ℕ, Bor, String, Global, string_bytes}
+use Rattle.std.proofs.Common.{◌≡◌, ◌++◌, ◌∷◌, [], ◌<◌, ◌≤◌, not, ◌∙◌, ap, subst, cond, length, map, get_or, List, ℕ, Bor, String, Global}
 use Rattle.std.specs.List.{filter}
 use Rattle.std.proofs.lemmas.List.{take_all}
 use Rattle.hack_base.specs.Names.{Name, names_of}
 use Rattle.hack_base.specs.Notes.{note_of}
 use Rattle.hack_load.specs.ContextView.{context_view}
-use Rattle.hack_load.specs.GivenFeatures.{given_features, knows, left_out, name_at}
+use Rattle.hack_load.specs.GivenFeatures.{knows, left_out, name_at}
 use Rattle.hack_load.proofs.GivenLemmas.{known-more, unknown-more}
 use Rattle.hack_load.proofs.process.known_features.Goals as goal
 

@@ -1,7 +1,7 @@
 use Rattle.std.proofs.Common.{◌≡◌, ◌∙◌, [], ◌∷◌, get_or, false, ℕ, List, Bor, map, ap, sym}
 use Rattle.std.proofs.lemmas.List.{get_or_default, map-append}
 use Rattle.std.proofs.lemmas.Result.{err_from_is_err_and}
-use Rattle.hack_prepare.proofs.FaultLemmas.{member-fault, root-fault}
+use Rattle.hack_prepare.proofs.FaultLemmas.{member-fault, member-spared, root-fault}
 use Rattle.hack_base.proofs.Steps.{seen-next, seen_here}
 use Rattle.hack_base.specs.Names.{names_behind}
 use Rattle.hack_base.specs.Notes.{note_of}
@@ -9,9 +9,19 @@ use Rattle.hack_prepare.specs.PreparedView.{member_view, members_view, wanted_vi
 use Rattle.hack_prepare.specs.declared.wanted.Member.{Member}
 use Rattle.hack_files.specs.Files.{GrowsBy}
 use Rattle.hack_prepare.proofs.CountLemmas.{fault_then, none_then}
-use Rattle.hack_prepare.proofs.MemberLemmas.{others-fail, partly-fails, turned-fails, visited-alone, visited-fails, visited-goes, visited-left}
+use Rattle.hack_prepare.proofs.MemberLemmas.{alone-goes, others-fail, partly-fails, turned-fails, visited-alone, visited-fails, visited-goes, visited-left, visited-none}
 use Rattle.hack_prepare.proofs.members.edit_members.Goals.{then-goes+else-is_root+in_ok-push, else-goes+then-is_alone+in_ok-edit_member, else-goes+else-is_alone}
+use Rattle.hack_prepare.proofs.WriteLemmas.{alone-begun, alone-made, dev_none, left-made, so-far-begun}
 use Rattle.hack_prepare.proofs.members.edit_members.Goals as goal
+
+pub loop-member-init : goal.loop-member-init
+loop-member-init g c =
+    let w = wanted_view c.args.wanted.now in
+    let ms = members_view c.args.members.now in
+    let held = g.F.Files.bytes_at c.args.files.now in (
+      (g.F.Files.stays_none c.args.files.now, dev_none g.F.Files.whole w (g.F.Files.trace c.args.files.now) held),
+      visited-none g.F.Files.tells w ms c.args.manager.now held (g.F.Files.failed c.args.files.now) (names_behind c.new-gone.result.items) (map note_of c.args.notices.now.items) (ap names_behind c.new-gone.ensures.items),
+    )
 
 pub loop-member-preserved : goal.loop-member-preserved
 loop-member-preserved g c =
@@ -33,24 +43,29 @@ loop-member-preserved g c =
     let after = g.F.Files.failed c.loop-member.files in
     let private = names_behind c.loop-member.gone.items in
     let notes = map note_of c.loop-member.notices.items in
+    let trace = g.F.Files.trace c.args.files.now in
+    let so_far = g.F.Files.trace c.loop-member.files in
     elim c.if-goes.branch [
       | then-goes+else-is_root+in_ok-push b ↦
           rw (b.files-is, b.manager-is, b.notices-is, b.gone-is) (
-            h.0,
+            (h.0.0, λ y. left-made w ms k m one trace so_far so_far start now now (alone-goes w m (sym b.if-goes.ensures)) (h.0.1 y)),
             visited-goes tells w ms k m one c.args.manager.now start before told c.loop-member.manager now after private (names_behind b.push.new.self.items) notes
                 (sym b.if-goes.ensures) (sym b.if-is_root.ensures)
                 (ap names_behind b.in_ok-push.ensures.items ∙ map-append (λ (r : Bor (List ℕ)). r.now) c.loop-member.gone.items (x.path ∷ [])) h.1,
           )
       | else-goes+then-is_alone+in_ok-edit_member b ↦
           rw (b.files-is, b.manager-is, b.notices-is, b.gone-is) (
-            g.F.Files.stays_more _ _ _ h.0 b.edit_member.ensures.stays,
+            (
+              g.F.Files.stays_more _ _ _ h.0.0 b.edit_member.ensures.stays,
+              λ y. alone-made w ms k m one trace so_far (g.F.Files.trace b.edit_member.new.files) start now (g.F.Files.bytes_at b.edit_member.new.files) (sym b.if-is_alone.ensures) (b.in_ok-edit_member.ensures.traced y) (h.0.1 y),
+            ),
             visited-alone tells w ms k m one c.args.manager.now start before told c.loop-member.manager b.edit_member.new.manager now (g.F.Files.bytes_at b.edit_member.new.files) after (g.F.Files.failed b.edit_member.new.files)
                 private notes (map note_of b.edit_member.new.notices.items) (seen_here member_view xs k x c.loop-member-test.true same) (sym b.if-goes.ensures) (sym b.if-is_alone.ensures)
                 b.edit_member.ensures.step b.in_ok-edit_member.ensures.counted b.in_ok-edit_member.ensures.turned b.edit_member.ensures.others b.in_ok-edit_member.ensures.told h.1,
           )
       | else-goes+else-is_alone b ↦
           rw (b.files-is, b.manager-is, b.notices-is, b.gone-is) (
-            h.0,
+            (h.0.0, λ y. left-made w ms k m one trace so_far so_far start now now (sym b.if-is_alone.ensures) (h.0.1 y)),
             visited-left tells w ms k m one c.args.manager.now start before told c.loop-member.manager now after private notes (sym b.if-goes.ensures) (sym b.if-is_alone.ensures) h.1,
           )
     ]
@@ -79,7 +94,7 @@ returns-in_err-edit_member-clause-partly g c =
     let x : Member = get_or xs k d in
     let among = seen_here member_view xs k x c.loop-member-test.true (get_or_default xs k d x c.loop-member-test.true) in
     let fails = GrowsBy 1 (g.F.Files.failed c.args.files.now) (g.F.Files.failed c.edit_member.new.files) in
-    partly-fails g.F.Files.tells (wanted_view c.args.wanted.now) (members_view xs) (member_view x) fails
+    partly-fails g.F.Files.tells (wanted_view c.args.wanted.now) (members_view xs) (member_view x) (λ q. fails)
     (g.F.Files.bytes_at c.args.files.now) (g.F.Files.bytes_at c.loop-member.files) (g.F.Files.bytes_at c.edit_member.new.files)
     among c.loop-member.invariant.1.4
     (λ t. turned-fails (member_view x) _ fails (g.F.Files.bytes_at c.loop-member.files) (g.F.Files.bytes_at c.edit_member.new.files)
@@ -115,3 +130,37 @@ returns-then-is_root-clause-err g c =
     let x : Member = get_or xs k d in
     let among = seen_here member_view xs k x c.loop-member-test.true (get_or_default xs k d x c.loop-member-test.true) in
     root-fault (wanted_view c.args.wanted.now) (members_view xs) (member_view x) among (sym c.if-goes.ensures) (sym c.if-is_root.ensures)
+
+pub returns-in_err-edit_member-clause-refused : goal.returns-in_err-edit_member-clause-refused
+returns-in_err-edit_member-clause-refused g c =
+    let xs : List Member = c.args.members.now in
+    let k = c.loop-member.member-index in
+    let d : Member = record { path = record { ref_ptr = (0, 0); now = [] }; text = record { ref_ptr = (0, 0); now = [] }; is_private = false } in
+    let x : Member = get_or xs k d in
+    let one = seen-next member_view xs k x c.loop-member-test.true (get_or_default xs k d x c.loop-member-test.true) in
+    let p = err_from_is_err_and c.from_residual-in_err-edit_member.result c.from_residual-in_err-edit_member.ensures.1 in
+    rw p.1 (λ y. alone-begun (wanted_view c.args.wanted.now) (members_view xs) k (member_view x) one (g.F.Files.trace c.args.files.now) (g.F.Files.trace c.loop-member.files) (g.F.Files.trace c.edit_member.new.files)
+    (g.F.Files.bytes_at c.args.files.now) (g.F.Files.bytes_at c.loop-member.files) (g.F.Files.bytes_at c.edit_member.new.files)
+    (sym c.if-is_alone.ensures) (c.in_err-edit_member.ensures.refused y) (c.loop-member.invariant.0.1 y))
+
+pub returns-then-is_root-clause-refused : goal.returns-then-is_root-clause-refused
+returns-then-is_root-clause-refused g c = λ y.
+    so-far-begun (wanted_view c.args.wanted.now) (members_view c.args.members.now) c.loop-member.member-index (g.F.Files.trace c.args.files.now) (g.F.Files.trace c.loop-member.files)
+    (g.F.Files.bytes_at c.args.files.now) (g.F.Files.bytes_at c.loop-member.files) (c.loop-member.invariant.0.1 y)
+
+pub returns-in_err-push-clause-refused : goal.returns-in_err-push-clause-refused
+returns-in_err-push-clause-refused g c =
+    let p = err_from_is_err_and c.from_residual.result c.from_residual.ensures.1 in
+    rw p.1 (λ y. so-far-begun (wanted_view c.args.wanted.now) (members_view c.args.members.now) c.loop-member.member-index (g.F.Files.trace c.args.files.now) (g.F.Files.trace c.loop-member.files)
+    (g.F.Files.bytes_at c.args.files.now) (g.F.Files.bytes_at c.loop-member.files) (c.loop-member.invariant.0.1 y))
+
+pub returns-in_err-edit_member-clause-spared : goal.returns-in_err-edit_member-clause-spared
+returns-in_err-edit_member-clause-spared g c =
+    let xs : List Member = c.args.members.now in
+    let k = c.loop-member.member-index in
+    let d : Member = record { path = record { ref_ptr = (0, 0); now = [] }; text = record { ref_ptr = (0, 0); now = [] }; is_private = false } in
+    let x : Member = get_or xs k d in
+    let p = err_from_is_err_and c.from_residual-in_err-edit_member.result c.from_residual-in_err-edit_member.ensures.1 in
+    let among = seen_here member_view xs k x c.loop-member-test.true (get_or_default xs k d x c.loop-member-test.true) in
+    rw (p.1, p.2) (member-spared g.F.Files.tells (wanted_view c.args.wanted.now) (members_view xs) (member_view x)
+    (g.F.Files.bytes_at c.args.files.now) (g.F.Files.bytes_at c.loop-member.files) (g.F.Files.bytes_at c.edit_member.new.files) _ among c.loop-member.invariant.1.4 c.edit_member.ensures.others c.in_err-edit_member.ensures.err)

@@ -5,9 +5,14 @@ use Rattle.hack_files.specs.Restore.{is_kept, registered_files}
 use Rattle.hack_base.specs.Names.{names_behind}
 use Rattle.hack_prepare.specs.PreparedView.{members_view, wanted_view}
 use Rattle.hack_prepare.proofs.CountLemmas.{fault_then, none_then}
-use Rattle.hack_prepare.proofs.FaultLemmas.{lock-among, members-among, root-among}
+use Rattle.hack_prepare.proofs.FaultLemmas.{at-any, at-wider, root-spared, lock-among, members-among, root-among}
 use Rattle.hack_prepare.proofs.EditLemmas.{members-step, root-step, lock-step}
 use Rattle.hack_prepare.proofs.RootLemmas.{partly-all, partly-members, partly-root, prepared, unedited, unedited-apart}
+use Rattle.std.proofs.Common.{inl, inr}
+use Rattle.hack_prepare.specs.Prepared.{HoldTexts, IsPartlyPrepared}
+use Rattle.hack_prepare.specs.Steps.{ArePartlyTurned}
+use Rattle.hack_prepare.specs.Writes.{AreWrites, BeginDevWrites, BeginWrites}
+use Rattle.hack_prepare.proofs.WriteLemmas.{all-made, made-still, root-begun, some-made}
 use Rattle.hack_prepare.proofs.prepare.edit.Goals as goal
 
 pub returns-in_err-gone-clause-step : goal.returns-in_err-gone-clause-step
@@ -17,7 +22,7 @@ returns-in_err-gone-clause-step g c =
 
 pub returns-in_err-gone-clause-edited : goal.returns-in_err-gone-clause-edited
 returns-in_err-gone-clause-edited g c =
-    λ t holds. partly-members (wanted_view c.args.wanted.now) (members_view c.args.members.now) (GrowsBy 1 (g.F.Files.failed c.args.files.now) (g.F.Files.failed c.edit_members.new.files))
+    λ t holds. partly-members (wanted_view c.args.wanted.now) (members_view c.args.members.now) (λ q. (GrowsBy 1 (g.F.Files.failed c.args.files.now) (g.F.Files.failed c.edit_members.new.files)))
     (g.F.Files.bytes_at c.args.files.now) (g.F.Files.bytes_at c.edit_members.new.files) holds (c.edit_members.ensures.others t) (c.edit_members.ensures.partly t holds)
 
 pub returns-in_err-gone-clause-others : goal.returns-in_err-gone-clause-others
@@ -43,7 +48,7 @@ returns-in_err-edit_root-clause-step g c =
 pub returns-in_err-edit_root-clause-edited : goal.returns-in_err-edit_root-clause-edited
 returns-in_err-edit_root-clause-edited g c =
     λ t holds. partly-root (wanted_view c.args.wanted.now) (members_view c.args.members.now) (names_behind c.as_slice.result.now)
-    (GrowsBy 1 (g.F.Files.failed c.edit_members.new.files) (g.F.Files.failed c.edit_root.new.files)) (GrowsBy 1 (g.F.Files.failed c.args.files.now) (g.F.Files.failed c.edit_root.new.files))
+    (GrowsBy 1 (g.F.Files.failed c.edit_members.new.files) (g.F.Files.failed c.edit_root.new.files)) (λ q. GrowsBy 1 (g.F.Files.failed c.args.files.now) (g.F.Files.failed c.edit_root.new.files))
     (g.F.Files.bytes_at c.args.files.now) (g.F.Files.bytes_at c.edit_members.new.files) (g.F.Files.bytes_at c.edit_root.new.files)
     (ap names_behind c.as_slice.ensures.value ∙ c.in_ok-gone.ensures.gone) holds (c.in_ok-gone.ensures.turned t holds) (c.edit_members.ensures.others t) (c.edit_root.ensures.others t)
     (none_then 1 (g.F.Files.failed c.args.files.now) (g.F.Files.failed c.edit_members.new.files) (g.F.Files.failed c.edit_root.new.files) c.in_ok-gone.ensures.counted) (c.edit_root.ensures.partly t)
@@ -76,7 +81,7 @@ returns-in_err-keep_lockfile-clause-step g c =
 
 pub returns-in_err-keep_lockfile-clause-edited : goal.returns-in_err-keep_lockfile-clause-edited
 returns-in_err-keep_lockfile-clause-edited g c =
-    λ t holds. partly-all (wanted_view c.args.wanted.now) (members_view c.args.members.now) (GrowsBy 1 (g.F.Files.failed c.args.files.now) (g.F.Files.failed c.keep_lockfile.new.files)) (g.F.Files.bytes_at c.args.files.now) (g.F.Files.bytes_at c.keep_lockfile.new.files)
+    λ t holds. partly-all (wanted_view c.args.wanted.now) (members_view c.args.members.now) (λ q. (GrowsBy 1 (g.F.Files.failed c.args.files.now) (g.F.Files.failed c.keep_lockfile.new.files))) (g.F.Files.bytes_at c.args.files.now) (g.F.Files.bytes_at c.keep_lockfile.new.files)
     (prepared (wanted_view c.args.wanted.now) (members_view c.args.members.now) (names_behind c.as_slice.result.now)
     (g.F.Files.bytes_at c.args.files.now) (g.F.Files.bytes_at c.edit_members.new.files) (g.F.Files.bytes_at c.edit_root.new.files) (g.F.Files.bytes_at c.keep_lockfile.new.files)
     (ap names_behind c.as_slice.ensures.value ∙ c.in_ok-gone.ensures.gone) holds (c.in_ok-gone.ensures.turned t holds) (c.edit_members.ensures.others t)
@@ -116,7 +121,7 @@ returns-clause-prepared g c =
 
 pub returns-clause-edited : goal.returns-clause-edited
 returns-clause-edited g c =
-    λ t holds. partly-all (wanted_view c.args.wanted.now) (members_view c.args.members.now) (GrowsBy 1 (g.F.Files.failed c.args.files.now) (g.F.Files.failed c.keep_lockfile.new.files)) (g.F.Files.bytes_at c.args.files.now) (g.F.Files.bytes_at c.keep_lockfile.new.files)
+    λ t holds. partly-all (wanted_view c.args.wanted.now) (members_view c.args.members.now) (λ q. (GrowsBy 1 (g.F.Files.failed c.args.files.now) (g.F.Files.failed c.keep_lockfile.new.files))) (g.F.Files.bytes_at c.args.files.now) (g.F.Files.bytes_at c.keep_lockfile.new.files)
     (prepared (wanted_view c.args.wanted.now) (members_view c.args.members.now) (names_behind c.as_slice.result.now)
     (g.F.Files.bytes_at c.args.files.now) (g.F.Files.bytes_at c.edit_members.new.files) (g.F.Files.bytes_at c.edit_root.new.files) (g.F.Files.bytes_at c.keep_lockfile.new.files)
     (ap names_behind c.as_slice.ensures.value ∙ c.in_ok-gone.ensures.gone) holds (c.in_ok-gone.ensures.turned t holds) (c.edit_members.ensures.others t)
@@ -133,3 +138,45 @@ returns-clause-lockfile g c =
     let path = c.args.wanted.now.lockfile.now in
     subst (λ o. IfSome o (λ _. is_kept (registered_files c.keep_lockfile.new.manager) path ≡ true)) (sym (c.keep_lockfile.ensures.same t path))
     (c.in_ok-keep_lockfile.ensures.kept t (c.edit_root.ensures.step.needs ∙ c.edit_members.ensures.step.needs ∙ e))
+
+pub returns-in_err-gone-clause-refused : goal.returns-in_err-gone-clause-refused
+returns-in_err-gone-clause-refused g c =
+    let p = err_from_is_err_and c.from_residual.result c.from_residual.ensures.1 in
+    rw p.1 (λ y. some-made (BeginDevWrites (wanted_view c.args.wanted.now) (members_view c.args.members.now)) (BeginWrites g.F.Files.tells (wanted_view c.args.wanted.now) (members_view c.args.members.now) (g.F.Files.bytes_at c.args.files.now)) _ _ _ _ (λ made h. inl h) (c.in_err-gone.ensures.refused y))
+
+pub returns-in_err-edit_root-clause-refused : goal.returns-in_err-edit_root-clause-refused
+returns-in_err-edit_root-clause-refused g c =
+    let p = err_from_is_err_and c.from_residual-in_err-edit_root.result c.from_residual-in_err-edit_root.ensures.1 in
+    rw p.1 (λ y. root-begun g.F.Files.tells (wanted_view c.args.wanted.now) (members_view c.args.members.now) (g.F.Files.bytes_at c.args.files.now) (g.F.Files.bytes_at c.edit_members.new.files) (g.F.Files.bytes_at c.edit_root.new.files) (g.F.Files.trace c.args.files.now) (g.F.Files.trace c.edit_members.new.files) (g.F.Files.trace c.edit_root.new.files) c.edit_members.ensures.others (c.in_ok-gone.ensures.traced y) (c.in_err-edit_root.ensures.refused y))
+
+pub returns-in_err-keep_lockfile-clause-refused : goal.returns-in_err-keep_lockfile-clause-refused
+returns-in_err-keep_lockfile-clause-refused g c =
+    let p = err_from_is_err_and c.from_residual-in_err-keep_lockfile.result c.from_residual-in_err-keep_lockfile.ensures.1 in
+    rw p.1 (λ y.
+    let made = all-made g.F.Files.tells (wanted_view c.args.wanted.now) (members_view c.args.members.now) (g.F.Files.bytes_at c.args.files.now) (g.F.Files.bytes_at c.edit_members.new.files) (g.F.Files.bytes_at c.edit_root.new.files) (g.F.Files.trace c.args.files.now) (g.F.Files.trace c.edit_members.new.files) (g.F.Files.trace c.edit_root.new.files) c.edit_members.ensures.others (c.in_ok-gone.ensures.traced y) (c.in_ok-edit_root.ensures.traced y) in
+    let still = made-still _ _ _ _ _ _ _ made (c.keep_lockfile.ensures.untraced y) in
+    some-made (AreWrites g.F.Files.tells (wanted_view c.args.wanted.now) (members_view c.args.members.now) (g.F.Files.bytes_at c.args.files.now)) (BeginWrites g.F.Files.tells (wanted_view c.args.wanted.now) (members_view c.args.members.now) (g.F.Files.bytes_at c.args.files.now)) _ _ _ _ (λ made h. inr h) still)
+
+pub returns-clause-traced : goal.returns-clause-traced
+returns-clause-traced g c = λ y.
+    let made = all-made g.F.Files.tells (wanted_view c.args.wanted.now) (members_view c.args.members.now) (g.F.Files.bytes_at c.args.files.now) (g.F.Files.bytes_at c.edit_members.new.files) (g.F.Files.bytes_at c.edit_root.new.files) (g.F.Files.trace c.args.files.now) (g.F.Files.trace c.edit_members.new.files) (g.F.Files.trace c.edit_root.new.files) c.edit_members.ensures.others (c.in_ok-gone.ensures.traced y) (c.in_ok-edit_root.ensures.traced y) in
+    made-still _ _ _ _ _ _ _ made (c.keep_lockfile.ensures.untraced y)
+
+pub returns-in_err-gone-clause-spared : goal.returns-in_err-gone-clause-spared
+returns-in_err-gone-clause-spared g c =
+    let p = err_from_is_err_and c.from_residual.result c.from_residual.ensures.1 in
+    rw (p.1, p.2) (at-wider (λ p. g.F.Files.tells → HoldTexts (g.F.Files.bytes_at c.args.files.now) (members_view c.args.members.now) → ArePartlyTurned (wanted_view c.args.wanted.now) (members_view c.args.members.now) (λ q. q ≡ p) (g.F.Files.bytes_at c.args.files.now) (g.F.Files.bytes_at c.edit_members.new.files)) (λ p. g.F.Files.tells → HoldTexts (g.F.Files.bytes_at c.args.files.now) (members_view c.args.members.now) → IsPartlyPrepared (wanted_view c.args.wanted.now) (members_view c.args.members.now) (λ q. q ≡ p) (g.F.Files.bytes_at c.args.files.now) (g.F.Files.bytes_at c.edit_members.new.files)) (λ p h t holds. partly-members (wanted_view c.args.wanted.now) (members_view c.args.members.now) (λ q. q ≡ p) (g.F.Files.bytes_at c.args.files.now) (g.F.Files.bytes_at c.edit_members.new.files) holds (c.edit_members.ensures.others t) (h t holds)) _ c.in_err-gone.ensures.spared)
+
+pub returns-in_err-edit_root-clause-spared : goal.returns-in_err-edit_root-clause-spared
+returns-in_err-edit_root-clause-spared g c =
+    let p = err_from_is_err_and c.from_residual-in_err-edit_root.result c.from_residual-in_err-edit_root.ensures.1 in
+    rw (p.1, p.2) (root-spared g.F.Files.tells (wanted_view c.args.wanted.now) (members_view c.args.members.now) (names_behind c.as_slice.result.now) (g.F.Files.bytes_at c.args.files.now) (g.F.Files.bytes_at c.edit_members.new.files) (g.F.Files.bytes_at c.edit_root.new.files) _
+    (ap names_behind c.as_slice.ensures.value ∙ c.in_ok-gone.ensures.gone) c.in_ok-gone.ensures.turned c.edit_members.ensures.others c.edit_root.ensures.others c.in_err-edit_root.ensures.err)
+
+pub returns-in_err-keep_lockfile-clause-spared : goal.returns-in_err-keep_lockfile-clause-spared
+returns-in_err-keep_lockfile-clause-spared g c =
+    let p = err_from_is_err_and c.from_residual-in_err-keep_lockfile.result c.from_residual-in_err-keep_lockfile.ensures.1 in
+    rw (p.1, p.2) (at-any (λ p. g.F.Files.tells → HoldTexts (g.F.Files.bytes_at c.args.files.now) (members_view c.args.members.now) → IsPartlyPrepared (wanted_view c.args.wanted.now) (members_view c.args.members.now) (λ q. q ≡ p) (g.F.Files.bytes_at c.args.files.now) (g.F.Files.bytes_at c.keep_lockfile.new.files)) (λ p t holds. partly-all (wanted_view c.args.wanted.now) (members_view c.args.members.now) (λ q. q ≡ p) (g.F.Files.bytes_at c.args.files.now) (g.F.Files.bytes_at c.keep_lockfile.new.files)
+    (prepared (wanted_view c.args.wanted.now) (members_view c.args.members.now) (names_behind c.as_slice.result.now) (g.F.Files.bytes_at c.args.files.now) (g.F.Files.bytes_at c.edit_members.new.files) (g.F.Files.bytes_at c.edit_root.new.files) (g.F.Files.bytes_at c.keep_lockfile.new.files)
+    (ap names_behind c.as_slice.ensures.value ∙ c.in_ok-gone.ensures.gone) holds (c.in_ok-gone.ensures.turned t holds) (c.edit_members.ensures.others t)
+    (c.in_ok-edit_root.ensures.edited t) (c.edit_root.ensures.others t) (c.keep_lockfile.ensures.same t))) _)

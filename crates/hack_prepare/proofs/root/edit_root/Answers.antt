@@ -10,6 +10,7 @@ use Rattle.hack_prepare.specs.Steps.{AnyStart, HeldUnkept, KeepsBut}
 use Rattle.hack_prepare.proofs.FaultLemmas.{found-fault, missed-fault}
 use Rattle.hack_prepare.proofs.RootLemmas.{drops-found, drops-missed, edited-found, edited-missed, edits-is, notes-are, partly-found, partly-missed, root-found, root-held, root-missed}
 use Rattle.hack_prepare.proofs.StepLemmas.{step_given}
+use Rattle.hack_prepare.proofs.WriteLemmas.{found-refused, found-traced, missed-refused, missed-traced, unwanted}
 use Rattle.hack_prepare.proofs.root.edit_root.Goals as goal
 
 pub returns-in-Some-clause-step : goal.returns-in-Some-clause-step
@@ -80,3 +81,23 @@ pub returns-in-None-clause-err : goal.returns-in-None-clause-err
 returns-in-None-clause-err g c =
     missed-fault g.F.Files.tells (wanted_view c.args.wanted.now) (members_view c.args.members.now) (names_behind c.args.private.now) (g.F.Files.bytes_at c.args.files.now)
     c.edit_virtual.result c.in-None.ensures c.if-not-wanted.false c.requires c.edit_virtual.ensures.err
+
+pub returns-in-Some-clause-traced : goal.returns-in-Some-clause-traced
+returns-in-Some-clause-traced g c =
+    found-traced g.F.Files.tells (wanted_view c.args.wanted.now) (members_view c.args.members.now) (names_behind c.args.private.now) (g.F.Files.bytes_at c.args.files.now) c.if-not-wanted.false c.requires c.in-Some.text.now (g.F.Files.trace c.args.files.now) (g.F.Files.trace c.edit_held.new.files) (g.F.Files.bytes_at c.args.files.now) (g.F.Files.bytes_at c.edit_held.new.files) c.in-Some.ensures g.F.Files.whole c.edit_held.result c.edit_held.ensures.traced
+
+pub returns-in-Some-clause-refused : goal.returns-in-Some-clause-refused
+returns-in-Some-clause-refused g c =
+    found-refused g.F.Files.tells (wanted_view c.args.wanted.now) (members_view c.args.members.now) (names_behind c.args.private.now) (g.F.Files.bytes_at c.args.files.now) c.if-not-wanted.false c.requires c.in-Some.text.now (g.F.Files.trace c.args.files.now) (g.F.Files.trace c.edit_held.new.files) (g.F.Files.bytes_at c.args.files.now) (g.F.Files.bytes_at c.edit_held.new.files) c.in-Some.ensures g.F.Files.whole c.edit_held.result c.edit_held.ensures.refused
+
+pub returns-in-None-clause-traced : goal.returns-in-None-clause-traced
+returns-in-None-clause-traced g c =
+    missed-traced g.F.Files.tells (wanted_view c.args.wanted.now) (members_view c.args.members.now) (names_behind c.args.private.now) (g.F.Files.bytes_at c.args.files.now) c.if-not-wanted.false c.requires (g.F.Files.trace c.args.files.now) (g.F.Files.trace c.edit_virtual.new.files) (g.F.Files.bytes_at c.args.files.now) (g.F.Files.bytes_at c.edit_virtual.new.files) c.in-None.ensures g.F.Files.whole c.edit_virtual.result c.edit_virtual.ensures.traced
+
+pub returns-in-None-clause-refused : goal.returns-in-None-clause-refused
+returns-in-None-clause-refused g c =
+    missed-refused g.F.Files.tells (wanted_view c.args.wanted.now) (members_view c.args.members.now) (names_behind c.args.private.now) (g.F.Files.bytes_at c.args.files.now) c.if-not-wanted.false c.requires (g.F.Files.trace c.args.files.now) (g.F.Files.trace c.edit_virtual.new.files) (g.F.Files.bytes_at c.args.files.now) (g.F.Files.bytes_at c.edit_virtual.new.files) c.in-None.ensures g.F.Files.whole c.edit_virtual.result c.edit_virtual.ensures.refused
+
+pub returns-then-not-wanted-clause-traced : goal.returns-then-not-wanted-clause-traced
+returns-then-not-wanted-clause-traced g c = λ y.
+    unwanted g.F.Files.tells (wanted_view c.args.wanted.now) (members_view c.args.members.now) (g.F.Files.bytes_at c.args.files.now) (g.F.Files.trace c.args.files.now) (g.F.Files.bytes_at c.args.files.now) c.if-not-wanted.true

@@ -8,6 +8,7 @@ use Rattle.hack_prepare.proofs.CountLemmas.{calls_then}
 use Rattle.hack_prepare.proofs.FaultLemmas.{text-fault, virtual-fault}
 use Rattle.hack_prepare.proofs.RootLemmas.{edited-read, partly-read, some-left}
 use Rattle.hack_prepare.proofs.StepLemmas.{step_read}
+use Rattle.hack_prepare.proofs.WriteLemmas.{virtual-begun, virtual-made}
 use Rattle.hack_prepare.proofs.root.edit_virtual.Goals as goal
 
 pub returns-in-Ok-clause-counted : goal.returns-in-Ok-clause-counted
@@ -43,3 +44,13 @@ returns-in-Err-clause-err g c =
     text-fault c.args.wanted.now.root.now (has_some (names_behind c.args.private.now)) g.F.Files.tells (g.F.Files.bytes_at c.args.files.now)
     (IsHeldFault (wanted_view c.args.wanted.now) (names_behind c.args.private.now) g.F.Files.tells (g.F.Files.bytes_at c.args.files.now)) (g.F.Files.failed c.args.files.now) (g.F.Files.failed c.read_to_string.new.files)
     c.in-Err.fault c.of_file.result (some-left c.args.private.now c.if-is_empty.ensures) c.in-Err.ensures.fault c.of_file.ensures
+
+pub returns-in-Ok-clause-traced : goal.returns-in-Ok-clause-traced
+returns-in-Ok-clause-traced g c =
+    virtual-made g.F.Files.whole c.edit_held.result g.F.Files.tells (wanted_view c.args.wanted.now) (names_behind c.args.private.now) (string_bytes c.in-Ok.text) c.as_str.result.now (g.F.Files.bytes_at c.args.files.now) (g.F.Files.bytes_at c.read_to_string.new.files) (g.F.Files.trace c.args.files.now) (g.F.Files.trace c.read_to_string.new.files) (g.F.Files.trace c.edit_held.new.files) (g.F.Files.bytes_at c.edit_held.new.files)
+    c.as_str.ensures.value c.in-Ok.ensures.text c.read_to_string.ensures.untraced c.edit_held.ensures.traced
+
+pub returns-in-Ok-clause-refused : goal.returns-in-Ok-clause-refused
+returns-in-Ok-clause-refused g c =
+    virtual-begun g.F.Files.whole c.edit_held.result g.F.Files.tells (wanted_view c.args.wanted.now) (names_behind c.args.private.now) (string_bytes c.in-Ok.text) c.as_str.result.now (g.F.Files.bytes_at c.args.files.now) (g.F.Files.bytes_at c.read_to_string.new.files) (g.F.Files.trace c.args.files.now) (g.F.Files.trace c.read_to_string.new.files) (g.F.Files.trace c.edit_held.new.files) (g.F.Files.bytes_at c.edit_held.new.files)
+    c.as_str.ensures.value c.in-Ok.ensures.text c.read_to_string.ensures.untraced c.edit_held.ensures.refused

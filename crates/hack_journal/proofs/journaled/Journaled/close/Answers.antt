@@ -37,3 +37,9 @@ returns-clause-stays g c = (λ tells whole.
     let none : [] ≡ edits_of c.clear.new.self.items = ap edits_of (sym c.clear.ensures.items) in
     subst (λ (es : List Edit). Stays (string_bytes c.args.self.now.journal) (edits_of c.args.self.now.entries.items) es (g.F.Files.trace c.args.self.now.files) (g.F.Files.trace c.remove.new.self) (g.F.Files.bytes_at c.args.self.now.files) (g.F.Files.bytes_at c.remove.new.self)) none
     (stays_more _ _ _ _ _ _ _ _ _ _ (stays_none _ _ _ _ _ _ (c.exists.ensures.untraced whole)) (stays_more _ _ _ _ _ _ _ _ _ _ (stays_none _ _ _ _ _ _ (c.are_back.ensures.untraced whole)) (finish_stays (string_bytes c.args.self.now.journal) (edits_of c.args.self.now.entries.items) _ _ _ _ at3 makes))))
+
+pub returns-in_err-remove-clause-handed : goal.returns-in_err-remove-clause-handed
+returns-in_err-remove-clause-handed g c = g.F.Files.stays_more _ _ _ c.exists.ensures.stays (g.F.Files.stays_more _ _ _ c.are_back.ensures.stays c.remove.ensures.stays)
+
+pub returns-clause-handed : goal.returns-clause-handed
+returns-clause-handed g c = g.F.Files.stays_more _ _ _ c.exists.ensures.stays (g.F.Files.stays_more _ _ _ c.are_back.ensures.stays c.remove.ensures.stays)

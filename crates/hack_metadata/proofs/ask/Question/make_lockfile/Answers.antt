@@ -1,28 +1,28 @@
-use Rattle.std.proofs.Common.{◌≡◌, inl, refl, subst, true, rules}
+use Rattle.std.proofs.Common.{◌≡◌, subst, rules}
 use Rattle.std.proofs.lemmas.Bool.{iff_false}
 use Rattle.std.proofs.lemmas.Result.{err_from_is_err_and, on_ok_weaker, IfErr-weaker}
 use Rattle.hack_process.specs.CommandTexts.{text_of}
 use Rattle.hack_process.specs.Commands.{asked_of, command_of}
+use Rattle.std.specs.Prelude.{true}
 use Rattle.hack_metadata.specs.AskView.{asks}
 use Rattle.hack_metadata.specs.Asks.{Runs, first, is_there, is_made}
 use Rattle.hack_metadata.specs.Requests.{lock_command}
-use Rattle.hack_metadata.proofs.AskWays.{file-halts, command-halts, run-fails}
+use Rattle.hack_metadata.proofs.AskWays.{command-stops, run-fails, there-stops}
 use Rattle.hack_metadata.proofs.ask.Question.make_lockfile.Goals as goal
 
 pub returns-in_err-is_there-clause-err : goal.returns-in_err-is_there-clause-err
 returns-in_err-is_there-clause-err g c =
     let p = err_from_is_err_and c.from_residual.result c.from_residual.ensures.1 in
-    let calls = g.C.Caller.calls c.args.caller.now in
-    rw (p.1, p.2) (λ called told start minor text way. file-halts (asks c.args.self.now) (g.F.Files.bytes_at c.args.files.now) start calls calls (first minor text) c.in_err-is_there.field-0.0 way (inl refl) c.in_err-is_there.ensures.fault)
+    rw (p.1, p.2) (λ called minor text lock. there-stops (asks c.args.self.now) (g.C.Caller.calls c.args.caller.now) minor text c.args.lockfile.now c.in_err-is_there.field-0.0 lock c.in_err-is_there.ensures.fault)
 
 pub returns-then-branch-clause-ok : goal.returns-then-branch-clause-ok
-returns-then-branch-clause-ok g c = λ called told start minor text lock way. is_there c.args.lockfile.now way lock ((c.in_ok-is_there.ensures.there told).0 c.if-branch.true)
+returns-then-branch-clause-ok g c = λ called start minor text lock way. is_there c.args.lockfile.now way lock (λ told. (c.in_ok-is_there.ensures.there told).0 c.if-branch.true)
 
 pub returns-clause-ok : goal.returns-clause-ok
 returns-clause-ok g c =
     let is : command_of c.in_ok-asked.asked ≡ lock_command (asks c.args.self.now) = search rules in
-    on_ok_weaker c.run.result (λ h called told start minor text lock way.
-    is_made c.args.lockfile.now way lock (iff_false (c.in_ok-is_there.ensures.there told) c.if-branch.false)
+    on_ok_weaker c.run.result (λ h called start minor text lock way.
+    is_made c.args.lockfile.now way lock (λ told. iff_false (c.in_ok-is_there.ensures.there told) c.if-branch.false)
     (subst (λ k. Runs k (g.C.Caller.calls c.args.caller.now) (g.C.Caller.calls c.run.new.caller)) is (h called)))
     c.run.ensures.ok
 
@@ -33,7 +33,7 @@ returns-clause-err g c =
     let new = g.C.Caller.calls c.run.new.caller in
     let q = asks c.args.self.now in
     let asked = command_of c.in_ok-asked.asked in
-    IfErr-weaker c.run.result _ _ (λ e h called told start minor text way.
-    command-halts g.C.Caller.tells q (g.F.Files.bytes_at c.args.files.now) start old new (first minor text) asked e called way is
+    IfErr-weaker c.run.result _ _ (λ e h called minor text lock.
+    command-stops g.C.Caller.tells q old new (first minor text) asked e called tt is
     (run-fails _ g.C.Caller.tells (asked_of true asked) (text_of true q.dir asked) old new e h))
     c.run.ensures.err

@@ -2,22 +2,29 @@ use Rattle.std.proofs.Common.{◌≡◌, ◌<◌, ◌≤◌, [], inr, refl, sym,
 use Rattle.std.specs.Prelude.{option_copied, string_bytes}
 use Rattle.std.proofs.lemmas.Result.{err_from_is_err_and}
 use Rattle.hack_metadata.specs.AskView.{asks}
-use Rattle.hack_metadata.specs.Asks.{Ends, Way, begun, newer, to_cargo, starts, tells_minor, is_older, is_newer}
+use Rattle.hack_metadata.specs.Asks.{AsksCargo, EndsSo, Way, Writes, begun, newer, versioned, starts, tells_minor, is_older, is_newer}
 use Rattle.hack_metadata.specs.Requests.{question, version_command}
-use Rattle.hack_metadata.proofs.AskWays.{question-halts, whole-spares, unchanged}
+use Rattle.hack_metadata.proofs.AskWays.{cargo-ends, question-stops, unchanged, whole-leaves, wrote-none}
 use Rattle.hack_metadata.proofs.metadata.Metadata.new.Goals as goal
 
 pub returns-in_err-stable-clause-ends : goal.returns-in_err-stable-clause-ends
 returns-in_err-stable-clause-ends g c =
     let p = err_from_is_err_and c.from_residual.result c.from_residual.ensures.1 in
-    rw (p.1, p.2) (λ called told. (begun, g.C.Caller.calls c.args.caller.now, starts, inr (version_command (string_bytes c.args.env.now.rustup), refl, c.in_err-stable.ensures.err called)))
+    rw (p.1, p.2) (λ called. (begun, g.C.Caller.calls c.args.caller.now, [], starts, inr (version_command (string_bytes c.args.env.now.rustup), refl, c.in_err-stable.ensures.err called), λ w. wrote-none (g.F.Files.trace c.args.files.now) (g.F.Files.bytes_at c.args.files.now)))
 
 pub returns-in_err-question-clause-ends : goal.returns-in_err-question-clause-ends
 returns-in_err-question-clause-ends g c =
     let p = err_from_is_err_and c.from_residual-in_err-question.result c.from_residual-in_err-question.ensures.1 in
     let q = question c.args.args.now c.args.env.now c.args.cargo_version (option_copied c.args.host) in
-    rw (p.1, p.2) (λ called told. question-halts q (g.F.Files.bytes_at c.args.files.now) (g.C.Caller.calls c.args.caller.now) (g.C.Caller.calls c.stable_minor.new.caller) c.in_ok-stable.stable c.in_err-question.field-0.0
-    (tells_minor c.in_ok-stable.stable (c.in_ok-stable.ensures.ok called)) c.in_err-question.ensures.err)
+    let new = g.C.Caller.calls c.stable_minor.new.caller in
+    rw (p.1, p.2) (λ called. (
+      versioned c.in_ok-stable.stable,
+      new,
+      [],
+      tells_minor c.in_ok-stable.stable (c.in_ok-stable.ensures.ok called),
+      question-stops q new c.in_ok-stable.stable c.in_err-question.field-0.0 c.in_err-question.ensures.err,
+      λ w. wrote-none (g.F.Files.trace c.args.files.now) (g.F.Files.bytes_at c.args.files.now),
+    ))
 
 pub returns-then-stable-cargo_version-clause-ends : goal.returns-then-stable-cargo_version-clause-ends
 returns-then-stable-cargo_version-clause-ends g c =
@@ -26,20 +33,22 @@ returns-then-stable-cargo_version-clause-ends g c =
     let old = g.C.Caller.calls c.args.caller.now in
     let is : asks c.in_ok-question.question ≡ question c.args.args.now c.args.env.now c.args.cargo_version (option_copied c.args.host) = c.in_ok-question.ensures.ok in
     let lt : c.args.cargo_version < c.in_ok-stable.stable = search rules in
-    λ called told. subst (λ x. Ends x held old (g.C.Caller.calls c.ask_stable.new.caller) c.ask_stable.result) is
-    (c.ask_stable.ensures.ends called told old (subst (λ x. Way x held old (newer c.in_ok-stable.stable) (g.C.Caller.calls c.stable_minor.new.caller)) (sym is)
+    λ called. subst (λ x. EndsSo g.F.Files.tells x held old (g.C.Caller.calls c.ask_stable.new.caller) (Writes g.F.Files.whole g.F.Files.tells (g.F.Files.trace c.args.files.now) (g.F.Files.trace c.ask_stable.new.files) held (g.F.Files.bytes_at c.ask_stable.new.files)) c.ask_stable.result) is
+    (c.ask_stable.ensures.ends called old (subst (λ x. Way g.F.Files.tells x held old (newer c.in_ok-stable.stable) (g.C.Caller.calls c.stable_minor.new.caller) []) (sym is)
     (is_newer (tells_minor c.in_ok-stable.stable (c.in_ok-stable.ensures.ok called)) lt)))
 
 pub returns-clause-left : goal.returns-clause-left
-returns-clause-left g c = ([], whole-spares [] g.F.Files.tells (g.F.Files.bytes_at c.args.files.now) (g.F.Files.bytes_at c.args.files.now) (g.F.Files.failed c.args.files.now) (g.F.Files.failed c.args.files.now) c.ask_cargo.result (unchanged g.F.Files.tells (g.F.Files.bytes_at c.args.files.now) (g.F.Files.failed c.args.files.now)))
+returns-clause-left g c = ([], whole-leaves [] g.F.Files.tells (g.F.Files.bytes_at c.args.files.now) (g.F.Files.bytes_at c.args.files.now) (g.F.Files.failed c.args.files.now) (g.F.Files.failed c.args.files.now) c.ask_cargo.result c.ask_cargo.ensures.spares (unchanged g.F.Files.tells (g.F.Files.bytes_at c.args.files.now) (g.F.Files.failed c.args.files.now)))
 
 pub returns-clause-ends : goal.returns-clause-ends
 returns-clause-ends g c =
     let q = question c.args.args.now c.args.env.now c.args.cargo_version (option_copied c.args.host) in
     let held = g.F.Files.bytes_at c.args.files.now in
+    let trace = g.F.Files.trace c.args.files.now in
     let old = g.C.Caller.calls c.args.caller.now in
+    let mid = g.C.Caller.calls c.stable_minor.new.caller in
+    let new = g.C.Caller.calls c.ask_cargo.new.caller in
     let is : asks c.in_ok-question.question ≡ question c.args.args.now c.args.env.now c.args.cargo_version (option_copied c.args.host) = c.in_ok-question.ensures.ok in
     let le : c.in_ok-stable.stable ≤ c.args.cargo_version = search rules in
-    λ called told. subst (λ x. Ends x held old (g.C.Caller.calls c.ask_cargo.new.caller) c.ask_cargo.result) is
-    (c.ask_cargo.ensures called held old (subst (λ x. Way x held old to_cargo (g.C.Caller.calls c.stable_minor.new.caller)) (sym is)
-    (is_older (tells_minor c.in_ok-stable.stable (c.in_ok-stable.ensures.ok called)) le)))
+    λ called. cargo-ends g.F.Files.tells g.F.Files.whole q held held trace trace old new mid [] c.ask_cargo.result (is_older (tells_minor c.in_ok-stable.stable (c.in_ok-stable.ensures.ok called)) le)
+    (λ w. wrote-none trace held) (subst (λ x. AsksCargo x mid new c.ask_cargo.result) is (c.ask_cargo.ensures.asked called))
