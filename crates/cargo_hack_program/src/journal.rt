@@ -1,5 +1,5 @@
-//! The journal of a call that edits manifests: where it stands, who may use it, and what a call
-//! that was interrupted left there.
+//! The journal of a call that edits manifests: where it lies, who may use it, and what an
+//! interrupted call left there.
 
 use hack_base::paths::{join, normal, parent, under};
 use hack_files::fs::{FileFault, Files};
@@ -15,18 +15,18 @@ use toml::Value;
 /// The journal's name, in the folder of the workspace.
 const NAME: &str = ".cargo-hack-journal";
 
-/// What a call asks of manifests.
+/// What a call does to manifests.
 #[derive(Clone, Copy, Debug, PartialEq, Eq)]
 pub enum Edits {
-    /// They stay as they are.
+    /// They stay unchanged.
     None,
-    /// They are edited, and come back.
+    /// They are edited and restored.
     Back,
-    /// They are edited for good.
+    /// They are edited permanently.
     Good,
 }
 
-/// What a call says of manifests: what it asks of them, and the one that it names.
+/// What a command line says about manifests: what is done to them, and the one that it names.
 #[derive(Drop)]
 pub struct Asked {
     pub edits: Edits,
@@ -34,10 +34,10 @@ pub struct Asked {
 }
 
 impl Asked {
-    /// What these words ask. Words that are refused, or that ask for a text, ask nothing of
-    /// manifests.
+    /// What this command line asks for. One that is refused, or that asks for a text, does nothing
+    /// to manifests.
     pub fn of(alloc: Global, words: &[String], env: &Env) -> Result<Asked, AllocError> {
-        // What is known of rustup decides only whether words are refused.
+        // What is known of rustup matters only for whether the command line is refused.
         match Args::parse(alloc, words, env, Rustup::Known(u32::MAX)) {
             Ok(read) => {
                 let (parsed, _) = read;
@@ -77,9 +77,9 @@ impl Asked {
     }
 }
 
-/// The folder of the workspace that a call is about, as cargo looks for it: at or above the folder
-/// of `--manifest-path`, or else the current one, the nearest whose manifest is a workspace's or
-/// names that of its workspace; without one, the nearest with a manifest.
+/// The folder of the workspace that a call is about, found as cargo does: at or above the folder of
+/// `--manifest-path`, or else the current one, the nearest whose manifest is a workspace's or names
+/// that of its workspace; if there is none, the nearest with a manifest.
 pub fn workspace<F: Files>(
     alloc: Global,
     manifest_path: Option<&str>,
@@ -103,7 +103,7 @@ pub fn workspace<F: Files>(
     String::from_str(alloc, nearest.unwrap_or(start.as_str()))
 }
 
-/// The folder in which cargo begins to look.
+/// The folder in which cargo starts to look.
 fn start(alloc: Global, manifest_path: Option<&str>, dir: &str) -> Result<String, AllocError> {
     match manifest_path {
         Some(path) => {
@@ -114,20 +114,20 @@ fn start(alloc: Global, manifest_path: Option<&str>, dir: &str) -> Result<String
     }
 }
 
-/// A path that is told in a folder.
+/// A path that is given relative to a folder.
 fn within(alloc: Global, folder: &str, path: &str) -> Result<String, AllocError> {
     let path = join(alloc, folder, path)?;
     normal(alloc, path.as_str())
 }
 
-/// Where a manifest says that the one of its workspace stands.
+/// Where a manifest says that the one of its workspace is.
 #[derive(Drop)]
 enum Root {
-    /// It is itself a workspace's.
+    /// It is the workspace's itself.
     Here,
     /// In another folder, by `package.workspace`.
     At(String),
-    /// It doesn't say so, or isn't read.
+    /// It doesn't say, or can't be read.
     Unsaid,
 }
 
@@ -155,7 +155,7 @@ fn root_of(alloc: Global, text: &str) -> Result<Root, AllocError> {
     }
 }
 
-/// The manifest in a folder, where there is one.
+/// The manifest in a folder, if there is one.
 fn manifest<F: Files>(
     alloc: Global,
     folder: &str,
@@ -168,7 +168,7 @@ fn manifest<F: Files>(
     }
 }
 
-/// Whether something stands at a path.
+/// Whether a file exists at a path.
 pub fn is_there<F: Files>(path: &str, files: &mut F) -> Result<bool, AllocError> {
     match files.exists(path) {
         Ok(there) => Ok(there),
@@ -177,7 +177,7 @@ pub fn is_there<F: Files>(path: &str, files: &mut F) -> Result<bool, AllocError>
     }
 }
 
-/// What a file holds, where there is one that can be read.
+/// The contents of a file, if there is one that can be read.
 pub fn held<F: Files>(
     alloc: Global,
     path: &str,
@@ -199,7 +199,7 @@ pub fn journal_in(alloc: Global, folder: &str) -> Result<String, AllocError> {
 }
 
 /// The first path in the bytes of a journal that is no manifest inside the folder. Such a journal
-/// was written elsewhere, and isn't followed.
+/// was written elsewhere, and is not used.
 pub fn stranger(alloc: Global, folder: &str, bytes: &[u8]) -> Result<Option<String>, AllocError> {
     let entries = match read_back(alloc, bytes) {
         Ok(entries) => entries,
@@ -219,8 +219,8 @@ fn is_manifest_in(folder: &str, path: &str) -> bool {
     path.ends_with("/Cargo.toml") && !path.contains("/../") && under(path, folder) != path
 }
 
-/// Who uses a workspace's journal while the value lives: a lock on the workspace's folder, which
-/// goes with the program.
+/// Who may use a workspace's journal while the value lives: a lock on the workspace's folder, which
+/// ends with the program.
 #[derive(Drop)]
 pub enum Lock {
     /// This call.

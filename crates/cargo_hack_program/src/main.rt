@@ -1,4 +1,4 @@
-//! The command `cargo hack`: words, environment and streams are handed to `hack_run::run`.
+//! The command `cargo hack`: it gives arguments, environment and streams to `hack_run::run`.
 #![tactic(auto)]
 
 mod journal;
@@ -31,8 +31,8 @@ fn main(rt: HostRuntime) -> ExitCode {
     }
 }
 
-/// Performs the call, with the streams of this process. What an interrupted call left edited comes
-/// back first, unless another call is at it.
+/// Performs the call, with the streams of this process. First it restores what an interrupted call
+/// left edited, unless another call is running.
 fn call<E: Write>(
     rt: &HostRuntime,
     is_terminal: bool,
@@ -60,7 +60,7 @@ fn call<E: Write>(
         Lock::Ours(_) => (),
         Lock::Theirs if edits != Edits::None => return Err(StartFault::Busy),
         Lock::Unknown if edits != Edits::None && is_journaled => return Err(StartFault::Unlocked),
-        // Nothing is brought back under another call, and without a lock no journal is of use.
+        // Nothing is restored while another call runs, and without a lock a journal is useless.
         Lock::Theirs | Lock::Unknown => return Ok(plain(rt, &words, &env, term, &mut disk, err)),
     }
     if !is_restored(
@@ -106,7 +106,7 @@ fn plain<E: Write>(
     )
 }
 
-/// Performs the call, and keeps a journal of what it edits.
+/// Performs the call, keeping a journal of its edits.
 fn journaled<E: Write>(
     rt: &HostRuntime,
     words: &[String],
@@ -118,7 +118,7 @@ fn journaled<E: Write>(
 ) -> Result<u8, StartFault> {
     let alloc = rt.alloc();
     let path = String::from_str(alloc, journal.as_str())?;
-    let (status, disk, _) = run_journaled(
+    let (status, disk, _, _) = run_journaled(
         alloc,
         words,
         env,
@@ -139,8 +139,8 @@ fn journaled<E: Write>(
     Ok(term.status(env.deny_warnings))
 }
 
-/// Brings back what an interrupted call left edited, and tells of it. Where it can't, a fault was
-/// told.
+/// Restores what an interrupted call left edited, and reports it. If it can't, it has reported an
+/// error.
 fn is_restored<F: Files, E: Write>(
     alloc: Global,
     folder: &str,

@@ -1,4 +1,4 @@
-//! What the program finds where it is started: its words and its environment.
+//! What the program is started with: its arguments and its environment.
 
 use hack_term::term::Coloring;
 use hack_words::cli::Env;
@@ -6,13 +6,13 @@ use std::alloc::{AllocError, AllocFailed};
 use std::env::VarError;
 use std::{env, io, rt};
 
-/// Why a call doesn't begin.
+/// Why a call can't begin.
 #[derive(Clone, Copy, Debug, PartialEq, Eq)]
 pub enum StartFault {
     Memory,
-    /// A word is no text in UTF-8.
+    /// An argument is not valid UTF-8.
     Words,
-    /// A variable that counts is no text in UTF-8.
+    /// A variable that matters is not valid UTF-8.
     Variables,
     /// Another call edits the manifests of this workspace.
     Busy,
@@ -21,7 +21,7 @@ pub enum StartFault {
 }
 
 impl StartFault {
-    /// The fault as the user is told.
+    /// The error message.
     pub fn text(self) -> &'static str {
         match self {
             StartFault::Memory => "out of memory",
@@ -47,7 +47,7 @@ impl<T: Drop> From<AllocFailed<T>> for StartFault {
     }
 }
 
-/// The variables that a call looks up.
+/// The variables that a call reads.
 const NAMES: [&str; 6] = [
     "CARGO_TERM_COLOR",
     "GITHUB_ACTIONS",
@@ -57,7 +57,7 @@ const NAMES: [&str; 6] = [
     "CARGO_HACK_RUSTUP",
 ];
 
-/// The words behind the program's name.
+/// The arguments after the program's name.
 pub fn words_of<R: rt::Env + AllocGlobal>(rt: &R) -> Result<Vec<String>, StartFault> {
     match env::args(rt) {
         Ok(all) => Ok(all.skip(1).collect(rt.alloc())?),
@@ -68,7 +68,7 @@ pub fn words_of<R: rt::Env + AllocGlobal>(rt: &R) -> Result<Vec<String>, StartFa
     }
 }
 
-/// The environment that a call looks up.
+/// The environment that a call reads.
 pub fn env_of<R: rt::Env + AllocGlobal>(rt: &R) -> Result<Env, StartFault> {
     let alloc = rt.alloc();
     let mut vars = Vec::new(alloc);
@@ -80,7 +80,7 @@ pub fn env_of<R: rt::Env + AllocGlobal>(rt: &R) -> Result<Env, StartFault> {
     Ok(Env::new(alloc, vars.as_slice(), current_dir(rt)?)?)
 }
 
-/// The value of a variable, where it is set.
+/// The value of a variable, if it is set.
 fn variable<R: rt::Env + AllocGlobal>(rt: &R, name: &str) -> Result<Option<String>, StartFault> {
     match env::var(rt, name) {
         Ok(value) => Ok(Some(value)),
@@ -90,7 +90,7 @@ fn variable<R: rt::Env + AllocGlobal>(rt: &R, name: &str) -> Result<Option<Strin
     }
 }
 
-/// The current folder, empty where it can't be read.
+/// The current folder; empty where it can't be read.
 fn current_dir<R: rt::Env + AllocGlobal>(rt: &R) -> Result<String, StartFault> {
     match env::current_dir(rt) {
         Ok(path) => Ok(path.into_string()),
@@ -101,8 +101,8 @@ fn current_dir<R: rt::Env + AllocGlobal>(rt: &R) -> Result<String, StartFault> {
     }
 }
 
-/// What `--color auto` comes to: lines are coloured on a terminal that can, unless `NO_COLOR` is
-/// set.
+/// The meaning of `--color auto`: lines are coloured on a terminal that can do it, unless
+/// `NO_COLOR` is set.
 pub fn coloring<R: rt::Env + AllocGlobal>(
     rt: &R,
     is_terminal: bool,
@@ -113,7 +113,7 @@ pub fn coloring<R: rt::Env + AllocGlobal>(
     Ok(Coloring::Auto)
 }
 
-/// Whether the terminal says of itself that it isn't a dumb one.
+/// Whether `TERM` is set, and not to `dumb`.
 fn can_color<R: rt::Env + AllocGlobal>(rt: &R) -> Result<bool, StartFault> {
     match env::var(rt, "TERM") {
         Ok(name) => Ok(name.as_str() != "dumb"),

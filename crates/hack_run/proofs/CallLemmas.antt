@@ -1,11 +1,14 @@
 -- Calls that a question makes, and what is made of its answer.
-use Rattle.std.proofs.Common.{◌≡◌, refl, inl, inr, List, Option, Some, None, Result, Ok, Err, IfOk, IfErr, OnOk, IsSome, Bool, true, false, sym, subst, ◌^◌, ◌-◌, Global, String}
+use Rattle.std.specs.Str.{IsUtf8}
+use Rattle.std.proofs.Common.{◌≡◌, ◌≢◌, ◌∙◌, refl, inl, inr, List, Option, Some, None, Result, Ok, Err, IfOk, IfErr, OnOk, IsSome, Bool, true, false, sym, subst, ◌^◌, ◌-◌, Global, String}
 use Rattle.hack_base.specs.Names.{Name}
 use Rattle.hack_process.specs.Calls.{Answer, Asked, Call, IsSuccess, MayAdd}
 use Rattle.hack_process.specs.CargoTexts.{release_part}
 use Rattle.hack_process.specs.Commands.{asked_of}
 use Rattle.hack_process.specs.CommandTexts.{Command}
 use Rattle.hack_process.specs.Faults.{Had, IsReadFault, without_line_ends}
+use Rattle.hack_process.specs.declared.caller.End.{End}
+use Rattle.hack_process.specs.declared.caller.End.TheVariants.{NeverStarted}
 use Rattle.hack_process.specs.declared.fault.ProcessFault.{ProcessFault}
 use Rattle.hack_process.specs.declared.fault.ProcessFault.TheVariants as process
 use Rattle.hack_versions.specs.ToolTexts.{TellsRelease}
@@ -15,7 +18,7 @@ use Rattle.hack_session.specs.declared.step.Outcome.{Outcome}
 use Rattle.hack_session.specs.declared.step.Outcome.TheVariants.{Passed}
 use Rattle.hack_versions.specs.declared.rustup.Rustup.{Rustup}
 use Rattle.hack_versions.specs.declared.rustup.Rustup.TheVariants as known
-use Rattle.hack_run.specs.Questions.{AsksRustup, AsksStable, InstallsStable, IsLatest, IsUnknown, ReadsStable, TellsMinor, TellsStable, rustup_asked, rustup_command, stable_command}
+use Rattle.hack_run.specs.Questions.{AsksInVain, AsksRustup, AsksStable, InstallsStable, IsLatest, IsUnknown, ReadsStable, TellsMinor, TellsStable, rustup_command, stable_command}
 
 -- a command that failed may have been called
 fault_may : (tells : Type 0) (asked : Asked) (shown : Name) (old new : List Call) (e : ProcessFault) → IsReadFault tells asked shown old new e → tells → MayAdd asked old new
@@ -62,11 +65,11 @@ installed tells Ended Cut old new (Err e) h = tt
 
 -- the answer that was read tells the version
 pub reads : (tells : Type 0) (rustup answer : Name) (c : Command) (old new : List Call) → c ≡ stable_command rustup
-    → (tells → Had (λ told. IsSuccess told.end × (answer ≡ without_line_ends told.stdout)) (asked_of true c) old new)
+    → (tells → Had (λ told. IsSuccess told.end × IsUtf8 told.stdout × (answer ≡ without_line_ends told.stdout)) (asked_of true c) old new)
     → (v : Version) → TellsRelease (release_part answer) v → tells → ReadsStable rustup v old new
 reads tells rustup answer c old new is had v told t = record {
   answer = answer;
-  read = subst (λ k. Had (λ told. IsSuccess told.end × (answer ≡ without_line_ends told.stdout)) (asked_of true k) old new) is (had t);
+  read = subst (λ k. Had (λ told. IsSuccess told.end × IsUtf8 told.stdout × (answer ≡ without_line_ends told.stdout)) (asked_of true k) old new) is (had t);
   told = told;
 }
 
@@ -84,20 +87,32 @@ is_known P (Err e) p = tt
 
 -- rustup was asked, and its answer read
 pub asks_rustup : {E : Type 0} (tells : Type 0) (wants : Bool) (rustup answer : Name) (c : Command) (old new : List Call) (r : Result Rustup E) → wants ≡ true → c ≡ rustup_command rustup
-    → (tells → Had (λ told. IsSuccess told.end × (answer ≡ without_line_ends told.stdout)) (asked_of true c) old new) → IfOk r (TellsMinor answer) → IfOk r (λ known. tells → AsksRustup wants rustup known old new)
+    → (tells → Had (λ told. IsSuccess told.end × IsUtf8 told.stdout × (answer ≡ without_line_ends told.stdout)) (asked_of true c) old new) → IfOk r (TellsMinor answer) → IfOk r (λ known. tells → AsksRustup wants rustup known old new)
 asks_rustup tells wants rustup answer c old new (Ok known) is same had told = λ t.
     subst (λ b. AsksRustup b rustup known old new) (sym is) (inl (record {
       answer = answer;
-      read = subst (λ k. Had (λ told. IsSuccess told.end × (answer ≡ without_line_ends told.stdout)) (asked_of true k) old new) same (had t);
+      read = subst (λ k. Had (λ told. IsSuccess told.end × IsUtf8 told.stdout × (answer ≡ without_line_ends told.stdout)) (asked_of true k) old new) same (had t);
       told = told;
     }))
 asks_rustup tells wants rustup answer c old new (Err e) is same had told = tt
 
+-- a fault but want of memory comes of a command that was asked in vain
+in_vain : (tells : Type 0) (asked : Asked) (shown : Name) (old new : List Call) (e : ProcessFault) → e ≢ process.Memory → IsReadFault tells asked shown old new e → tells → AsksInVain asked old new
+in_vain tells asked shown old new process.Memory ne h t = absurd (ne refl)
+in_vain tells asked shown old new process.EmptyProgram ne h t = inl (h.0, h.1 t)
+in_vain tells asked shown old new (process.NeverExecuted text) ne h t = let had = h.2 t in inr (had.0, (λ s. never_started had.0.end had.1 s.0), had.2)
+  where
+    never_started : (how : End) → how ≡ NeverStarted → IsSuccess how → ⊥
+    never_started how e s = cc
+in_vain tells asked shown old new (process.Failed failure) ne h t = let had = h.3 t in inr (had.0, (λ s. h.2.0 (had.1.ended ∙ s.0)), had.2)
+in_vain tells asked shown old new (process.NotText text) ne h t = let had = h.2 t in inr (had.0, (λ s. had.1.1 s.1), had.2)
+
 -- asking it failed
-pub asks_in_vain : {E : Type 0} (tells : Type 0) (wants : Bool) (rustup : Name) (old new : List Call) (r : Result Rustup E) → wants ≡ true → (tells → MayAdd (rustup_asked rustup) old new)
-    → IfOk r IsUnknown → IfOk r (λ known. tells → AsksRustup wants rustup known old new)
-asks_in_vain tells wants rustup old new (Ok known) is may unknown = λ t. subst (λ b. AsksRustup b rustup known old new) (sym is) (inr (unknown, may t))
-asks_in_vain tells wants rustup old new (Err e) is may unknown = tt
+pub asks_in_vain : {E : Type 0} (tells : Type 0) (wants : Bool) (rustup shown : Name) (c : Command) (old new : List Call) (r : Result Rustup E) (e : ProcessFault) → wants ≡ true → c ≡ rustup_command rustup
+    → IsReadFault tells (asked_of true c) shown old new e → IfOk r IsUnknown → OnOk r (e ≢ process.Memory) → IfOk r (λ known. tells → AsksRustup wants rustup known old new)
+asks_in_vain tells wants rustup shown c old new (Ok known) e is same failed unknown lacks = λ t.
+    subst (λ b. AsksRustup b rustup known old new) (sym is) (inr (unknown, subst (λ k. AsksInVain (asked_of true k) old new) same (in_vain tells (asked_of true c) shown old new e lacks failed t)))
+asks_in_vain tells wants rustup shown c old new (Err x) e is same failed unknown lacks = tt
 
 -- nothing was asked
 pub asks_nothing : (wants : Bool) (rustup : Name) (old : List Call) → wants ≡ false → AsksRustup wants rustup (known.Known (2 ^ 32 - 1)) old old

@@ -1,6 +1,5 @@
 -- The headline, put together from the plan and its session.
-use Rattle.std.proofs.Common.{◌≡◌, sym, subst, List, Option, None, Result, true, not, IsSome, Global, String, length}
-use Rattle.std.specs.Prelude.{◌&&◌}
+use Rattle.std.proofs.Common.{◌≡◌, sym, subst, List, Option, None, Result, true, IsSome, Global, String, length}
 use Rattle.hack_calls.specs.Made.{IsPlanOf}
 use Rattle.hack_calls.specs.Powersets.{HavePowersets}
 use Rattle.hack_base.specs.Names.{Name}
@@ -25,7 +24,7 @@ shared plan = record {
 -- the session of a context's plan and the chosen piece, driven to its end
 pub handed_out : (cx : ContextRecord) (stable : Result (Option Version) (String Global)) (rustup : Name) (t : Course) (plan : PlanView) (notes : List Note) (given : Args) → given ≡ cx.args
     → IsPlanOf cx.args.subcommand stable cx rustup plan notes → (IsSome cx.args.subcommand → cx.args.feature_powerset ≡ true → HavePowersets cx plan)
-    → t.plan ≡ plan → t.keep_going ≡ (cx.args.keep_going && not cx.args.print_command_list) → IsSchedule given.partition plan t.schedule → next_of t ≡ None → IsHistory t → HandsOut given.partition (length plan.quads) t
+    → t.plan ≡ plan → t.keep_going ≡ cx.args.keep_going → IsSchedule given.partition plan t.schedule → next_of t ≡ None → IsHistory t → HandsOut given.partition (length plan.quads) t
     → IsHandedOut cx stable rustup t
 handed_out cx stable rustup t plan notes given args planned powersets same goes_on schedule complete history runs = record {
   notes = notes;

@@ -1,12 +1,51 @@
 -- What a call over files with a journal did, behind the removal of the journal.
-use Rattle.std.proofs.Common.{◌≡◌, ◌∙◌, ap, sym, ℕ, List}
-use Rattle.hack_files.specs.Files.{Contents, KeepsOthers}
-use Rattle.hack_journal.specs.Apart.{apart}
-use Rattle.hack_journal.specs.Safe.{without}
-use Rattle.hack_journal.proofs.RecoverLemmas.{without_same}
+use Rattle.std.proofs.Common.{◌≡◌, ◌≢◌, ◌⊎◌, ◌∙◌, ◌+◌, ◌-◌, ◌^◌, min, inl, inr, ap, arith, refl, sym, ℕ, Bool, true, false, List, [], ◌∷◌, ◌++◌}
+use Rattle.std.proofs.lemmas.List.{length-append}
+use Rattle.std.proofs.lemmas.List.Elements.{Contains-append_left}
+use Rattle.hack_files.specs.Files.{Contents, KeepsAll, KeepsOthers}
+use Rattle.hack_journal.specs.Apart.{KeepsLockfiles, apart, is_lockfile}
+use Rattle.hack_journal.specs.Journal.{Edit}
+use Rattle.hack_journal.specs.Safe.{AreBack, KeepFirst, without}
+use Rattle.hack_journal.proofs.RecoverLemmas.{without_at, without_same}
+use Rattle.hack_load.specs.LeavesFew.{LeavesFew}
 use Rattle.hack_run.specs.Journals.{contents_seen}
 
 -- where the journal alone was changed the call sees the same, by the journal's first path too
 pub seen_same : (first j : List ℕ) (m n last lockfiles : Contents) → first ≡ j → KeepsOthers j m n → last ≡ n → apart (without j m) lockfiles ≡ contents_seen first last lockfiles
 seen_same first j m n last lockfiles named same is =
     ap (λ c. apart c lockfiles) (sym (without_same j m n same)) ∙ ap (λ c. apart (without j c) lockfiles) (sym is) ∙ ap (λ k. apart (without k last) lockfiles) (sym named)
+
+-- what is left of files where the end of the journal may fail
+pub leaves_end : (a b c : Contents) (n m : ℕ) → b ≡ c → ((m ≡ n) ⊎ (m ≡ min (n + 1) (2 ^ 64 - 1))) → LeavesFew (Unit {0}) a b 0 n → LeavesFew (Unit {0}) a c 0 m
+leaves_end a b c n m same (inl none) left = record {
+  spoilt = left.spoilt;
+  failed = λ low. none ∙ left.failed low;
+  others = λ u q fine. ap (λ (x : Contents). x q) (sym same) ∙ left.others u q fine;
+}
+leaves_end a b c n m same (inr one) left = let long = length-append left.spoilt ([] ∷ []) in record {
+  spoilt = left.spoilt ++ [] ∷ [];
+  failed = λ low. omega (arith, long, one, left.failed low);
+  others = λ u q fine. ap (λ (x : Contents). x q) (sym same) ∙ left.others u q (λ bad. fine (Contains-append_left left.spoilt ([] ∷ []) q bad));
+}
+
+-- where no call failed, each path holds what it held
+pub leaves_nothing : (a b : Contents) (n : ℕ) → n ≡ 0 → LeavesFew (Unit {0}) a b 0 n → KeepsAll a b
+leaves_nothing a b n none left = λ q. left.others tt q (λ bad. absurd (omega (arith, none, left.failed (omega arith), bad.1)))
+
+-- a count that ends at nothing was nothing
+pub none_before : (n m : ℕ) → m ≡ 0 → ((m ≡ n) ⊎ (m ≡ min (n + 1) (2 ^ 64 - 1))) → n ≡ 0
+none_before n m none (inl same) = omega (arith, none, same)
+none_before n m none (inr one) = absurd (omega (arith, none, one))
+
+-- a path but the journal's, where the call sees the same, and lockfiles are those of others
+same_path : (j : List ℕ) (first mid before now : Contents) → KeepsAll (apart (without j first) before) (apart (without j mid) now) → KeepsLockfiles (without j first) (without j mid) → (p : List ℕ) → p ≢ j → mid p ≡ first p
+same_path j first mid before now all locks p ne = sym (without_at j mid p ne) ∙ go (is_lockfile p) refl ∙ without_at j first p ne
+  where
+    go : (b : Bool) → is_lockfile p ≡ b → without j mid p ≡ without j first p
+    go true is = locks p is
+    go false is = rw is at (all p)
+
+-- then each entry's path is back
+pub entries_back : (j : List ℕ) (first mid before now : Contents) (es more : List Edit) → KeepFirst j first (es ++ more) → KeepsAll (apart (without j first) before) (apart (without j mid) now) → KeepsLockfiles (without j first) (without j mid) → AreBack es mid
+entries_back j first mid before now [] more keeps all locks = tt
+entries_back j first mid before now (e ∷ es) more keeps all locks = (same_path j first mid before now all locks e.path keeps.1 ∙ keeps.0, entries_back j first mid before now es more keeps.3 all locks)

@@ -1,7 +1,9 @@
 mod BackLemmas
 mod CallLemmas
+mod GatherLemmas
 mod HeadlineLemmas
 mod JournalLemmas
 mod MadeLemmas
 mod RunLemmas
+mod ToldLemmas
 mod WholeLemmas

@@ -1,5 +1,5 @@
 -- What a call called, put together from its stages.
-use Rattle.std.proofs.Common.{◌≡◌, ◌⊎◌, inl, inr, List, Option, Result, Ok, Err, OnErr, Global, String}
+use Rattle.std.proofs.Common.{◌≡◌, ◌⊎◌, inl, inr, refl, ℕ, Bool, true, false, List, [], Some, None, Option, Result, Ok, Err, OnErr, Global, String}
 use Rattle.hack_base.specs.Names.{Name}
 use Rattle.hack_load.specs.Contexts.{ContextRecord}
 use Rattle.hack_process.specs.Calls.{Call}
@@ -9,7 +9,7 @@ use Rattle.hack_session.specs.Performs.{Comes, Makes}
 use Rattle.hack_session.specs.declared.step.Outcome.{Outcome}
 use Rattle.hack_session.specs.declared.step.Outcome.TheVariants.{Failed}
 use Rattle.hack_versions.specs.declared.version.Version.{Version}
-use Rattle.hack_run.specs.Made.{GoesOn, MayAskStable, PerformsAtMostOne}
+use Rattle.hack_run.specs.Made.{GoesOn, MayAskStable, PerformsAtMostOne, Shows}
 use Rattle.hack_run.specs.Questions.{AsksStable, NeedsAnswer}
 
 -- where calls come to a fault they failed, or memory was refused
@@ -23,7 +23,13 @@ fails tells Ended Cut old new (Err (process.NotText text)) h = λ t. let m = h t
 fails tells Ended Cut old new (Err (process.Failed failure)) h = λ t. let m = h t in record { made = m.made; grown = m.grown; such = inl m.such }
 
 -- behind what was asked of stable
-pub goes_on : (cx : ContextRecord) (stable : Result (Option Version) (String Global)) (rustup : Name) (old mid new : List Call) → MayAskStable rustup old mid → (¬ NeedsAnswer cx.args → mid ≡ old)
-    → AsksStable rustup stable old mid → PerformsAtMostOne cx.args.print_command_list cx stable rustup mid new → GoesOn cx rustup old new
-goes_on cx stable rustup old mid new asked needed told (inl same) = record { mid = mid; asked = asked; needed = needed; runs = inl same }
-goes_on cx stable rustup old mid new asked needed told (inr one) = record { mid = mid; asked = asked; needed = needed; runs = inr (record { stable = stable; told = told; performs = one }) }
+pub goes_on : (cx : ContextRecord) (stable : Result (Option Version) (String Global)) (rustup : Name) (had has : Option (List ℕ)) (old mid new : List Call) → MayAskStable rustup old mid → (¬ NeedsAnswer cx.args → mid ≡ old)
+    → AsksStable rustup stable old mid → PerformsAtMostOne cx.args.print_command_list cx stable rustup had has mid new → GoesOn cx rustup had has old new
+goes_on cx stable rustup had has old mid new asked needed told (inl same) = record { mid = mid; asked = asked; needed = needed; runs = inl same }
+goes_on cx stable rustup had has old mid new asked needed told (inr one) = record { mid = mid; asked = asked; needed = needed; runs = inr (record { stable = stable; told = told; performs = one }) }
+
+-- nothing is printed
+pub shows_nothing : (listing : Bool) (had : Option (List ℕ)) → Shows listing had had []
+shows_nothing true None = ([], tt)
+shows_nothing true (Some x) = ([], refl)
+shows_nothing false had = tt

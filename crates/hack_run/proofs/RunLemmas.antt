@@ -1,23 +1,34 @@
 -- The calls of a whole schedule.
-use Rattle.std.proofs.Common.{◌≡◌, ◌⊎◌, inl, inr, refl, arith, ap, zero, suc, Result, Ok, ℕ, ◌+◌, List, [], ◌∷◌, map, filter, All, Bool, Option, Some, None, IsSome, ◌∙◌, sym, subst, true, false}
-use Rattle.std.specs.Prelude.{cond, count_by, nat_lt}
+use Rattle.std.proofs.Common.{◌≡◌, ◌⊎◌, inl, inr, refl, arith, ap, zero, suc, Result, Ok, Err, OnOk, ℕ, Global, String, List, [], ◌∷◌, ◌++◌, map, filter, All, Bool, Option, Some, None, IsSome, ◌∙◌, sym, subst, append-nil, append_assoc, if◌then◌else◌, true, false}
+use Rattle.std.specs.Prelude.{◌≤◌, ◌<◌, ◌^◌, nat_lt}
+use Rattle.std.specs.List.{flat_map}
+use Rattle.std.specs.Io.KnownBytes.{Appends, Keeps, append_known}
+use Rattle.std.proofs.KnownBytes.{Appends-kept, Appends-nil, Appends-trans}
 use Rattle.std.proofs.lemmas.List.Elements.{All-cons, All-head, All-tail}
 use Rattle.std.proofs.lemmas.Bool.{lt-ltb}
-use Rattle.std.proofs.lemmas.List.Sums.{sum_by-cons}
 use Rattle.hack_process.specs.Calls.{Call}
 use Rattle.hack_process.specs.declared.fault.ProcessFault.{ProcessFault}
 use Rattle.hack_term.specs.declared.term.Term.{Term}
 use Rattle.hack_term.specs.declared.partition.Partition.{Partition}
 use Rattle.hack_runs.specs.View.{PlanView}
 use Rattle.hack_session.specs.Histories.{HasPassed, passed_step}
-use Rattle.hack_session.specs.Lists.{HasListed, IsListed, has_failed, is_sent, is_sent_step, is_unlisted}
-use Rattle.hack_session.specs.Performs.{Exactly, GrowsBy, HasPerformed, HasTold, Performs, PerformsAll}
+use Rattle.hack_session.specs.Lists.{IsListed, Lists, ListsAll, Page, has_failed, is_sent, is_sent_step, lines_listed, lines_written, step_lines}
+use Rattle.hack_session.specs.Performs.{Exactly, HasPerformed, HasTold, Makes, Performs, PerformsAll}
 use Rattle.hack_session.specs.Schedules.{IsSchedule}
 use Rattle.hack_session.specs.declared.step.Handed.{Handed}
+use Rattle.hack_runs.specs.declared.parts.Preparation.TheVariants.{Toolchain, Lockfile, Clean}
 use Rattle.hack_session.specs.declared.step.Step.{Step}
+use Rattle.hack_session.specs.declared.step.Step.TheVariants.{Prepare, Skip, Run}
 use Rattle.hack_session.specs.declared.step.Outcome.{Outcome}
 use Rattle.hack_session.specs.declared.step.Outcome.TheVariants.{Passed, Failed}
-use Rattle.hack_run.specs.Runs.{PassesAll, RunsAll, SendsAll}
+use Rattle.hack_base.specs.Names.{Name}
+use Rattle.hack_load.specs.Contexts.{ContextRecord}
+use Rattle.hack_versions.specs.declared.version.Version.{Version}
+use Rattle.hack_base.specs.Notes.{Note}
+use Rattle.hack_run.specs.Made.{HandsOverAtMostOne, PerformsAtMostOne}
+use Rattle.hack_run.specs.Runs.{DoesPlan, PassesAll, RunsAll, SendsAll}
+use Rattle.hack_run.specs.Told.{GrowsWithin}
+use Rattle.hack_run.proofs.GatherLemmas.{known-none}
 
 -- a step that passed wasn't cut short
 exactly : (plan : PlanView) (step : Step) (calls : List Call) (cut : ℕ) → Performs plan (passed_step step) calls cut → Exactly plan step calls Passed
@@ -53,31 +64,95 @@ runs_all plan piece schedule handed old new before now term fault scheduled whol
   };
 }
 
--- a count that began at nothing and is nothing has grown by nothing
-no_growth : (k : ℕ) → GrowsBy k 0 0 → k ≡ 0
-no_growth k grows = let e : 0 ≡ 0 + k = grows (omega arith) in omega (arith, e)
-
--- steps of a list of which none failed are all listed
-none_unlisted : (steps : List Handed) → count_by is_unlisted steps ≡ 0 → All IsListed steps
-none_unlisted [] e = λ k d lt. absurd (omega arith)
-none_unlisted (h ∷ steps) e = go (is_unlisted h) refl (none_unlisted steps)
-  where
-    count : count_by is_unlisted (h ∷ steps) ≡ cond (is_unlisted h) 1 0 + count_by is_unlisted steps
-    count = sum_by-cons (λ y. cond (is_unlisted y) 1 0) h steps
-
-    go : (b : Bool) → is_unlisted h ≡ b → (count_by is_unlisted steps ≡ 0 → All IsListed steps) → All IsListed (h ∷ steps)
-    go true is rest = let one : ◌≡◌ {A = ℕ} (cond (is_unlisted h) 1 0) 1 = rw is refl in absurd (omega (arith, e, count, one))
-    go false is rest = let zero : ◌≡◌ {A = ℕ} (cond (is_unlisted h) 1 0) 0 = rw is refl in All-cons IsListed h steps is (rest (omega (arith, e, count, zero)))
-
 -- a count of refusals that is told as none is nothing
 pub none_refused : {E : Type 0} (n : ℕ) → ◌≡◌ {A = Result Bool E} (Ok (nat_lt 0 n)) (Ok false) → n ≡ 0
 none_refused zero e = refl
 none_refused (suc n) e = let some : nat_lt 0 (suc n) ≡ true = lt-ltb 0 (suc n) (omega arith) in absurd (cc)
 
--- where no line failed and no memory was refused, all steps of a list are listed
-pub all_listed : (plan : PlanView) (steps : List Handed) (a b : Option (List ℕ)) (before now refused refusals : ℕ) → before ≡ 0 → now ≡ 0 → refused ≡ 0 → refusals ≡ 0 → HasListed plan steps a b before now refused refusals → All IsListed steps
-all_listed plan steps a b before now refused refusals e f g h l =
-    none_unlisted steps (omega (arith, l.each, no_growth l.broken (rw (e, f) at l.failed), no_growth l.cut (rw (g, h) at l.short)))
+-- counts of 64 bits
+abbrev Small : Page → Type 0
+Small page = (page.failed < 2 ^ 64) × (page.refused < 2 ^ 64)
+
+-- no count goes down
+record Rises (old new : Page) : Type 0 where
+  small : Small new
+  failed : old.failed ≤ new.failed
+  refused : old.refused ≤ new.refused
+
+rises_one : (whole : Type 0) (b : Bool) (plan : PlanView) (h : Handed) (old new : Page) → Small old → Lists whole b plan h old new → Rises old new
+rises_one whole true plan h old new low same = subst (λ (p : Page). Rises old p) (sym same) (record { small = low; failed = omega arith; refused = omega arith })
+rises_one whole false plan h old new low (inl w) = let f = w.counted low.0 in record { small = (omega (arith, f), omega (arith, w.kept, low.1)); failed = omega (arith, f, low.0); refused = omega (arith, w.kept) }
+rises_one whole false plan h old new low (inr (inl m)) = let f = m.counted low.0 in record { small = (omega (arith, f), omega (arith, m.kept, low.1)); failed = omega (arith, f, low.0); refused = omega (arith, m.kept) }
+rises_one whole false plan h old new low (inr (inr r)) = let f = r.counted low.1 in record { small = (omega (arith, r.kept.1, low.0), omega (arith, f)); failed = omega (arith, r.kept.1); refused = omega (arith, f, low.1) }
+
+rises : (whole : Type 0) (plan : PlanView) (steps : List Handed) (old new : Page) → Small old → ListsAll whole plan steps old new → Rises old new
+rises whole plan [] old new low same = subst (λ (p : Page). Rises old p) (sym same) (record { small = low; failed = omega arith; refused = omega arith })
+rises whole plan (h ∷ steps) old new low l =
+    let one = rises_one whole (is_sent h) plan h old l.0 low l.1 in
+    let more = rises whole plan steps l.0 new one.small l.2 in
+    record { small = more.small; failed = omega (arith, one.failed, more.failed); refused = omega (arith, one.refused, more.refused) }
+
+-- a step that is performed has no lines
+sent_lines : (plan : PlanView) (step : Step) → is_sent_step step ≡ true → step_lines plan step ≡ []
+sent_lines plan (Prepare (Toolchain v)) e = refl
+sent_lines plan (Prepare (Lockfile v)) e = refl
+sent_lines plan (Prepare (Clean v)) e = absurd (cc)
+sent_lines plan (Skip place) e = absurd (cc)
+sent_lines plan (Run place) e = absurd (cc)
+
+-- steps of a list that leave no count: all are listed, and their lines are written
+pub record IsWritten (plan : PlanView) (steps : List Handed) (old new : Page) : Type 0 where
+  pub listed : All IsListed steps
+  pub written : Appends old.contents new.contents (flat_map (lines_listed plan) steps)
+
+one_written : (whole : Type 0) (b : Bool) (plan : PlanView) (h : Handed) (old new : Page) → is_sent_step h.step ≡ b → old.failed ≡ 0 → old.refused ≡ 0 → new.failed ≡ 0 → new.refused ≡ 0 → Lists whole b plan h old new
+    → IsListed h × Appends old.contents new.contents (lines_listed plan h)
+one_written whole true plan h old new is f r g s same = (rw is refl, subst (λ (p : Page). Appends old.contents p.contents (lines_listed plan h)) (sym same) (subst (Appends old.contents old.contents) (sym (sent_lines plan h.step is)) (Appends-nil old.contents)))
+one_written whole false plan h old new is f r g s (inl w) = (rw is (ap has_failed w.passes), w.written)
+one_written whole false plan h old new is f r g s (inr (inl m)) = let e = m.counted (omega (arith, f)) in absurd (omega (arith, e, f, g))
+one_written whole false plan h old new is f r g s (inr (inr m)) = let e = m.counted (omega (arith, r)) in absurd (omega (arith, e, r, s))
+
+-- where no line failed and no memory was refused, all steps of a list are listed, and their lines written
+pub all_written : (whole : Type 0) (plan : PlanView) (steps : List Handed) (old new : Page) → old.failed ≡ 0 → old.refused ≡ 0 → new.failed ≡ 0 → new.refused ≡ 0 → ListsAll whole plan steps old new → IsWritten plan steps old new
+all_written whole plan [] old new f r g s same = record { listed = λ k d lt. absurd (omega arith); written = subst (λ (p : Page). Appends old.contents p.contents []) (sym same) (Appends-nil old.contents) }
+all_written whole plan (h ∷ steps) old new f r g s l =
+    let low : Small old = (omega (arith, f), omega (arith, r)) in
+    let one = rises_one whole (is_sent h) plan h old l.0 low l.1 in
+    let more = rises whole plan steps l.0 new one.small l.2 in
+    let mf : l.0.failed ≡ 0 = omega (arith, more.failed, g) in
+    let mr : l.0.refused ≡ 0 = omega (arith, more.refused, s) in
+    let here = one_written whole (is_sent h) plan h old l.0 refl f r mf mr l.1 in
+    let rest = all_written whole plan steps l.0 new mf mr g s l.2 in
+    record {
+      listed = All-cons IsListed h steps here.0 rest.listed;
+      written = Appends-trans old.contents l.0.contents new.contents (lines_listed plan h) (flat_map (lines_listed plan) steps) here.1 rest.written;
+    }
+
+-- what is kept grows by nothing
+kept_nothing : (a b : Option (List ℕ)) → Keeps a b → Appends a b []
+kept_nothing None b k = tt
+kept_nothing (Some x) None k = absurd k
+kept_nothing (Some x) (Some y) k = k ∙ sym (append-nil x)
+
+-- the lines of a step by its outcome
+lines_by : (plan : PlanView) (h : Handed) (b : Bool) → has_failed h.outcome ≡ b → (if b then [] else step_lines plan h.step) ≡ lines_written plan h
+lines_by plan h b is = rw is refl
+
+one_passed : (whole : Type 0) (b : Bool) (plan : PlanView) (h : Handed) (old new : Page) → is_sent_step h.step ≡ b → whole → Lists whole b plan h old new → Appends old.contents new.contents (lines_written plan h)
+one_passed whole true plan h old new is w same = subst (λ (p : Page). Appends old.contents p.contents (lines_written plan h)) (sym same) (subst (Appends old.contents old.contents) (none (has_failed h.outcome)) (Appends-nil old.contents))
+  where
+    none : (b : Bool) → [] ≡ (if b then [] else step_lines plan h.step)
+    none true = refl
+    none false = sym (sent_lines plan h.step is)
+one_passed whole false plan h old new is w (inl p) = subst (Appends old.contents new.contents) (lines_by plan h false (ap has_failed p.passes)) p.written
+one_passed whole false plan h old new is w (inr (inl m)) = subst (Appends old.contents new.contents) (lines_by plan h true (ap has_failed m.fails)) (kept_nothing old.contents new.contents (m.left w))
+one_passed whole false plan h old new is w (inr (inr r)) = subst (Appends old.contents new.contents) (lines_by plan h true (ap has_failed r.fails)) (subst (λ (o : Option (List ℕ)). Appends old.contents o []) (sym r.kept.0) (Appends-nil old.contents))
+
+-- where lines are written whole or not at all, a list writes just those of the steps that passed
+pub passed_written : (whole : Type 0) (plan : PlanView) (steps : List Handed) (old new : Page) → whole → ListsAll whole plan steps old new → Appends old.contents new.contents (flat_map (lines_written plan) steps)
+passed_written whole plan [] old new w same = subst (λ (p : Page). Appends old.contents p.contents []) (sym same) (Appends-nil old.contents)
+passed_written whole plan (h ∷ steps) old new w l =
+    Appends-trans old.contents l.0.contents new.contents (lines_written plan h) (flat_map (lines_written plan) steps) (one_passed whole (is_sent h) plan h old l.0 refl w l.1) (passed_written whole plan steps l.0 new w l.2)
 
 -- a listed step passed, unless it is one that isn't listed
 passed_by : (h : Handed) → is_sent_step h.step ≡ false → IsListed h → HasPassed h
@@ -104,11 +179,15 @@ sent_passed (step ∷ steps) = go (is_sent_step step) refl (sent_passed steps)
     go true is rest = rw is (ap (λ (l : List Handed). passed_step step ∷ l) rest)
     go false is rest = rw is rest
 
--- then just the toolchains and lockfiles of the whole schedule were made
-pub sends_all : (plan : PlanView) (piece : Option Partition) (schedule : List Step) (handed : List Handed) (old new : List Call) (before now : ℕ) (term : Term) (fault : Option ProcessFault)
+lines_passed : (plan : PlanView) (steps : List Step) → flat_map (lines_listed plan) (map passed_step steps) ≡ flat_map (step_lines plan) steps
+lines_passed plan [] = refl
+lines_passed plan (step ∷ steps) = ap (λ (bytes : List ℕ). step_lines plan step ++ bytes) (lines_passed plan steps)
+
+-- then just the toolchains and lockfiles of the whole schedule were made, and its lines written
+pub sends_all : (plan : PlanView) (piece : Option Partition) (schedule : List Step) (handed : List Handed) (old new : List Call) (before now : ℕ) (term : Term) (fault : Option ProcessFault) (out grown : Option (List ℕ))
     → IsSchedule piece plan schedule → (All HasPassed handed → handed ≡ map passed_step schedule) → HasPerformed plan (filter is_sent handed) old new before now
-    → (All HasPassed (filter is_sent handed) ⊎ HasTold term fault) → All IsListed handed → fault ≡ None → term.error ≡ false → SendsAll plan piece old new
-sends_all plan piece schedule handed old new before now term fault scheduled whole performed told listed none quiet = record {
+    → (All HasPassed (filter is_sent handed) ⊎ HasTold term fault) → All IsListed handed → Appends out grown (flat_map (lines_listed plan) handed) → fault ≡ None → term.error ≡ false → SendsAll out grown plan piece old new
+sends_all plan piece schedule handed old new before now term fault out grown scheduled whole performed told listed written none quiet = record {
   schedule = schedule;
   scheduled = scheduled;
   sent = record {
@@ -116,7 +195,79 @@ sends_all plan piece schedule handed old new before now term fault scheduled who
     grown = performed.grown;
     such = passes plan (filter is_sent_step schedule) performed.made performed.cut (subst (λ hs. PerformsAll plan hs performed.made performed.cut) (ap (filter is_sent) all ∙ sent_passed schedule) performed.performed);
   };
+  written = subst (Appends out grown) (ap (flat_map (lines_listed plan)) all ∙ lines_passed plan schedule) written;
 }
   where
     all : handed ≡ map passed_step schedule
     all = whole (all_handed handed (all_passed (filter is_sent handed) term fault told none quiet) listed)
+
+-- a list whose end was written: its output grew by its lines
+pub list_ends : {T E : Type 0} (r : Result T E) (refused none short flushed quiet tells : Type 0) (cx : ContextRecord) (stable : Result (Option Version) (String Global)) (rustup : Name) (a b c : Option (List ℕ)) (begun : List ℕ) (old new : List Call) (before warn : Bool)
+    → begun ≡ [] → OnOk r (refused × none × short × flushed) → (refused → none → short → quiet → tells → DoesPlan (SendsAll (append_known a begun) b) cx stable rustup old new before warn) → (flushed → Keeps b c)
+    → OnOk r (quiet → tells → DoesPlan (SendsAll a c) cx stable rustup old new before warn)
+list_ends (Err e) refused none short flushed quiet tells cx stable rustup a b c begun old new before warn empty came done kept = tt
+list_ends (Ok v) refused none short flushed quiet tells cx stable rustup a b c begun old new before warn empty came done kept = λ q t.
+    let d = done came.0 came.1 came.2 q t in
+    let start : append_known a begun ≡ a = ap (append_known a) empty ∙ known-none a in
+    record {
+      plan = d.plan;
+      notes = d.notes;
+      planned = d.planned;
+      done = record {
+        schedule = d.done.schedule;
+        scheduled = d.done.scheduled;
+        sent = d.done.sent;
+        written = subst (λ (x : Option (List ℕ)). Appends x c (flat_map (step_lines d.plan) d.done.schedule)) start (Appends-kept (append_known a begun) b c (flat_map (step_lines d.plan) d.done.schedule) d.done.written (kept came.3));
+      };
+      warned = d.warned;
+    }
+
+-- what was written stays so where what is gathered is written behind it
+shown_then : (a b c : Option (List ℕ)) (left text : List ℕ) → GrowsWithin a b text → Keeps b (append_known c left) → GrowsWithin a c text
+shown_then None b c left text w k = ([], tt)
+shown_then (Some x) None c left text w k = absurd w.1
+shown_then (Some x) (Some y) None left text w k = absurd k
+shown_then (Some x) (Some y) (Some z) left text w k = (left ++ w.0, sym (append_assoc z left w.0) ∙ ap (λ l. l ++ w.0) k ∙ w.1)
+
+-- a whole text is a front of it
+pub all_shown : (a b : Option (List ℕ)) (text : List ℕ) → Appends a b text → GrowsWithin a b text
+all_shown a b text w = ([], subst (λ (o : Option (List ℕ)). Appends a o text) (sym (known-none b)) w)
+
+-- a list whose end was written, or a part of it
+pub list_shows : (cx : ContextRecord) (stable : Result (Option Version) (String Global)) (rustup : Name) (a b c : Option (List ℕ)) (begun gathered left : List ℕ) (old new : List Call)
+    → begun ≡ [] → PerformsAtMostOne true cx stable rustup (append_known a begun) (append_known b gathered) old new → Keeps (append_known b gathered) (append_known c left) → PerformsAtMostOne true cx stable rustup a c old new
+list_shows cx stable rustup a b c begun gathered left old new empty made kept = go made
+  where
+    shown : (text : List ℕ) → GrowsWithin (append_known a begun) (append_known b gathered) text → GrowsWithin a c text
+    shown text w = shown_then a (append_known b gathered) c left text (subst (λ (o : Option (List ℕ)). GrowsWithin o (append_known b gathered) text) (ap (append_known a) empty ∙ known-none a) w) kept
+
+    go : PerformsAtMostOne true cx stable rustup (append_known a begun) (append_known b gathered) old new → PerformsAtMostOne true cx stable rustup a c old new
+    go (inl none) = inl (none.0, shown [] none.1)
+    go (inr one) = inr (record { course = one.course; cut = one.cut; handed = one.handed; calls = one.calls; wrote = shown (flat_map (lines_written one.course.plan) one.course.handed) one.wrote })
+
+-- what a runner keeps through notices and steps, it keeps where a list was handed over
+pub handed_keeps : {R N : Type 0} (whole : Type 0) (had has : Option (List ℕ)) (Told : List Note → R → R → Type 0) (Ran : PlanView → List Handed → R → R → Type 0) (cx : ContextRecord) (stable : Result (Option Version) (String Global)) (rustup : Name) (a b : R)
+    → HandsOverAtMostOne whole had has Told Ran cx stable rustup a b
+    → (name : R → N) → ((notes : List Note) (x y : R) → Told notes x y → name x ≡ name y) → ((plan : PlanView) (steps : List Handed) (x y : R) → Ran plan steps x y → name x ≡ name y) → name a ≡ name b
+handed_keeps whole had has Told Ran cx stable rustup a b (inl (inl same, kept)) name told ran = ap name (sym same)
+handed_keeps whole had has Told Ran cx stable rustup a b (inl (inr some, kept)) name told ran = told some.0 a b some.1
+handed_keeps whole had has Told Ran cx stable rustup a b (inr l) name told ran = told l.notes a l.mid l.told ∙ ran l.course.plan (filter is_sent l.course.handed) l.mid b l.ran
+
+-- a list that was handed over to a runner whose steps make just their calls
+pub handed_makes : {R : Type 0} (whole : Type 0) (had has : Option (List ℕ)) (Told : List Note → R → R → Type 0) (Ran : PlanView → List Handed → R → R → Type 0) (cx : ContextRecord) (stable : Result (Option Version) (String Global)) (rustup : Name) (a b : R)
+    → HandsOverAtMostOne whole had has Told Ran cx stable rustup a b → whole
+    → (calls : R → List Call) (refused : R → ℕ) → ((notes : List Note) (x y : R) → Told notes x y → calls y ≡ calls x)
+    → ((plan : PlanView) (steps : List Handed) (x y : R) → Ran plan steps x y → HasPerformed plan steps (calls x) (calls y) (refused x) (refused y))
+    → PerformsAtMostOne true cx stable rustup had has (calls a) (calls b)
+handed_makes whole had has Told Ran cx stable rustup a b (inl (inl same, kept)) w calls refused told ran = inl (ap calls same, all_shown had has [] (kept_nothing had has kept))
+handed_makes whole had has Told Ran cx stable rustup a b (inl (inr some, kept)) w calls refused told ran = inl (told some.0 a b some.1, all_shown had has [] (kept_nothing had has kept))
+handed_makes whole had has Told Ran cx stable rustup a b (inr l) w calls refused told ran =
+    let steps = filter is_sent l.course.handed in
+    let did = ran l.course.plan steps l.mid b l.ran in
+    inr (record {
+      course = l.course;
+      cut = did.cut;
+      handed = l.handed;
+      calls = subst (λ (cs : List Call). Makes (λ made. PerformsAll l.course.plan steps made did.cut) cs (calls b)) (told l.notes a l.mid l.told) (record { made = did.made; grown = did.grown; such = did.performed });
+      wrote = all_shown had has (flat_map (lines_written l.course.plan) l.course.handed) (l.wrote w);
+    })

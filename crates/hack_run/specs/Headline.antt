@@ -1,5 +1,5 @@
 -- The headline: what is handed out for a context, whatever comes of its steps.
-use Rattle.std.specs.Prelude.{ℕ, ◌≡◌, ◌<◌, ◌&&◌, not, true, List, Option, None, Result, IsSome, length}
+use Rattle.std.specs.Prelude.{ℕ, ◌≡◌, ◌<◌, true, List, Option, None, Result, IsSome, length}
 use Rattle.std.proofs.Common.{Global, String}
 use Rattle.hack_calls.specs.Made.{IsPlanOf}
 use Rattle.hack_calls.specs.Powersets.{HavePowersets}
@@ -27,7 +27,7 @@ pub record IsHandedOut (cx : ContextRecord) (stable : Result (Option Version) (S
   pub notes : List Note
   pub plan : IsPlanOf cx.args.subcommand stable cx rustup t.plan notes
   pub schedule : IsSchedule cx.args.partition t.plan t.schedule
-  pub goes_on : t.keep_going ≡ (cx.args.keep_going && not cx.args.print_command_list)
+  pub goes_on : t.keep_going ≡ cx.args.keep_going
   pub history : IsHistory t
   pub complete : next_of t ≡ None
   pub runs : HandsOut cx.args.partition (length t.plan.quads) t

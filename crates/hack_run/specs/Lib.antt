@@ -4,4 +4,5 @@ pub mod Made
 pub mod Questions
 pub mod Restores
 pub mod Runs
+pub mod Told
 pub mod Whole

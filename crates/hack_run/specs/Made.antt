@@ -1,5 +1,7 @@
 -- What a call called, whatever came of it.
 use Rattle.std.specs.Prelude.{ℕ, ◌≡◌, ◌⊎◌, ◌∷◌, [], Bool, List, Option, Result, codes, false, filter, string_bytes, true}
+use Rattle.std.specs.List.{flat_map}
+use Rattle.std.specs.Io.KnownBytes.{Keeps}
 use Rattle.std.proofs.Common.{Global, String}
 use Rattle.hack_base.specs.Names.{Name}
 use Rattle.hack_files.specs.Files.{Contents}
@@ -12,7 +14,7 @@ use Rattle.hack_process.specs.Commands.{asked_of}
 use Rattle.hack_runs.specs.Commands.{plain_command}
 use Rattle.hack_runs.specs.View.{PlanView}
 use Rattle.hack_session.specs.Histories.{Course}
-use Rattle.hack_session.specs.Lists.{is_sent}
+use Rattle.hack_session.specs.Lists.{is_sent, lines_written}
 use Rattle.hack_session.specs.Performs.{BreaksInstall, Installs, Makes, PerformsAll}
 use Rattle.hack_session.specs.Toolchains.{addition_of, trial_of}
 use Rattle.hack_session.specs.declared.step.Handed.{Handed}
@@ -30,27 +32,35 @@ use Rattle.hack_words.specs.declared.cli.parse.Parsed.TheVariants as parsed
 use Rattle.hack_run.specs.Headline.{IsHandedOut}
 use Rattle.hack_run.specs.Questions.{AsksRustup, AsksStable, InstallsStable, NeedsAnswer, rustup_asked, stable_command}
 use Rattle.hack_run.specs.Runs.{HandsOver}
+use Rattle.hack_run.specs.Told.{GrowsWithin}
 
 -- the steps that call something, by whether commands are listed: a list's own steps call nothing
 abbrev pub steps_performed : Bool → List Handed → List Handed
 steps_performed true steps = filter is_sent steps
 steps_performed false steps = steps
 
--- one history of the plan of a context was handed out, where this was asked of stable, and its steps made just these calls, one behind the other
-pub record PerformsOne (listing : Bool) (cx : ContextRecord) (stable : Result (Option Version) (String Global)) (rustup : Name) (old new : List Call) : Type 0 where
+-- what a list wrote is a front of this text
+abbrev pub Shows : Bool → Option (List ℕ) → Option (List ℕ) → List ℕ → Type 0
+Shows true had has text = GrowsWithin had has text
+Shows false had has text = Unit {0}
+
+-- one history of the plan of a context was handed out, where this was asked of stable, and its steps made just these calls, one behind the other;
+-- a list wrote nothing but the lines of the steps that passed
+pub record PerformsOne (listing : Bool) (cx : ContextRecord) (stable : Result (Option Version) (String Global)) (rustup : Name) (had has : Option (List ℕ)) (old new : List Call) : Type 0 where
   pub course : Course
   pub cut : ℕ
   pub handed : IsHandedOut cx stable rustup course
   pub calls : Makes (λ made. PerformsAll course.plan (steps_performed listing course.handed) made cut) old new
+  pub wrote : Shows listing had has (flat_map (lines_written course.plan) course.handed)
 
--- one history was performed, or nothing was called
-abbrev pub PerformsAtMostOne : Bool → ContextRecord → Result (Option Version) (String Global) → Name → List Call → List Call → Type 0
-PerformsAtMostOne listing cx stable rustup old new = (new ≡ old) ⊎ PerformsOne listing cx stable rustup old new
+-- one history was performed, or nothing was called, and nothing listed
+abbrev pub PerformsAtMostOne : Bool → ContextRecord → Result (Option Version) (String Global) → Name → Option (List ℕ) → Option (List ℕ) → List Call → List Call → Type 0
+PerformsAtMostOne listing cx stable rustup had has old new = ((new ≡ old) × Shows listing had has []) ⊎ PerformsOne listing cx stable rustup had has old new
 
 -- a list was handed out so; or nothing was, and the runner was told notices at most
-abbrev pub HandsOverAtMostOne : {R : Type 0} → (List Note → R → R → Type 0) → (PlanView → List Handed → R → R → Type 0) → ContextRecord → Result (Option Version) (String Global) → Name → R → R → Type 0
-HandsOverAtMostOne Told Ran cx stable rustup old new =
-    (new ≡ old) ⊎ (((notes : List Note) × Told notes old new) ⊎ HandsOver Told Ran cx stable rustup old new)
+abbrev pub HandsOverAtMostOne : {R : Type 0} → Type 0 → Option (List ℕ) → Option (List ℕ) → (List Note → R → R → Type 0) → (PlanView → List Handed → R → R → Type 0) → ContextRecord → Result (Option Version) (String Global) → Name → R → R → Type 0
+HandsOverAtMostOne whole had has Told Ran cx stable rustup old new =
+    (((new ≡ old) ⊎ ((notes : List Note) × Told notes old new)) × Keeps had has) ⊎ HandsOver whole had has Told Ran cx stable rustup old new
 
 -- the toolchain `stable` was tried, and added where that failed, up to what failed or what memory was refused for
 abbrev pub FailsStable : Name → List Call → List Call → Type 0
@@ -66,52 +76,52 @@ MayAskStable rustup old new =
     ⊎ FailsStable rustup old new)
 
 -- what stable was asked told this, and then one history of the plan was performed
-pub record PerformsBehind (cx : ContextRecord) (rustup : Name) (old mid new : List Call) : Type 0 where
+pub record PerformsBehind (cx : ContextRecord) (rustup : Name) (had has : Option (List ℕ)) (old mid new : List Call) : Type 0 where
   pub stable : Result (Option Version) (String Global)
   pub told : AsksStable rustup stable old mid
-  pub performs : PerformsOne cx.args.print_command_list cx stable rustup mid new
+  pub performs : PerformsOne cx.args.print_command_list cx stable rustup had has mid new
 
 -- stable was asked for where the range needs it, and then one history of the plan was performed, or nothing was called
-pub record GoesOn (cx : ContextRecord) (rustup : Name) (old new : List Call) : Type 0 where
+pub record GoesOn (cx : ContextRecord) (rustup : Name) (had has : Option (List ℕ)) (old new : List Call) : Type 0 where
   pub mid : List Call
   pub asked : MayAskStable rustup old mid
   pub needed : ¬ NeedsAnswer cx.args → mid ≡ old
-  pub runs : (new ≡ mid) ⊎ PerformsBehind cx rustup old mid new
+  pub runs : ((new ≡ mid) × Shows cx.args.print_command_list had has []) ⊎ PerformsBehind cx rustup had has old mid new
 
--- behind what was answered nothing was called, or a context was made of it, and that was gone on with
-abbrev pub AfterAnswers : Args → Answers → Name → List Call → List Call → Type 0
-AfterAnswers args answers rustup old new = (new ≡ old) ⊎ ((cx : ContextRecord) × IsContextFrom args answers cx × GoesOn cx rustup old new)
+-- behind what was answered nothing was called and printed, or a context was made of it, and that was gone on with
+abbrev pub AfterAnswers : Args → Answers → Name → Option (List ℕ) → Option (List ℕ) → List Call → List Call → Type 0
+AfterAnswers args answers rustup had has old new = ((new ≡ old) × (has ≡ had)) ⊎ ((cx : ContextRecord) × IsContextFrom args answers cx × GoesOn cx rustup had has old new)
 
 -- the questions of these arguments were asked in their order, up to one that ended them, and then that was gone on with
-pub record MakesOnce (args : Args) (env : Env) (held : Contents) (before : ℕ) (old new : List Call) : Type 0 where
+pub record MakesOnce (tells : Type 0) (args : Args) (env : Env) (held : Contents) (before : ℕ) (had has : Option (List ℕ)) (old new : List Call) : Type 0 where
   pub answers : Answers
   pub now : ℕ
   pub mid : List Call
-  pub asked : AreAnswers args env held before now old mid answers
-  pub behind : AfterAnswers args answers (string_bytes env.rustup) mid new
+  pub asked : AreAnswers tells args env held before now old mid answers
+  pub behind : AfterAnswers args answers (string_bytes env.rustup) had has mid new
 
 -- cargo is asked to list its commands, as a caller is asked
 abbrev pub listing_asked : Name → Asked
 listing_asked cargo = asked_of false (plain_command cargo [] (codes "--list" ∷ []))
 
 -- what words ask for was tried once: a history was performed, a text was printed, or cargo was called for its commands
-abbrev pub TriesOnce : Parsed → Env → Contents → ℕ → List Call → List Call → Type 0
-TriesOnce (parsed.Args args) env held before old new = MakesOnce args env held before old new
-TriesOnce (parsed.Print text) env held before old new = new ≡ old
-TriesOnce parsed.List env held before old new = MayAdd (listing_asked (string_bytes env.cargo)) old new
+abbrev pub TriesOnce : Type 0 → Parsed → Env → Contents → ℕ → Option (List ℕ) → Option (List ℕ) → List Call → List Call → Type 0
+TriesOnce tells (parsed.Args args) env held before had has old new = MakesOnce tells args env held before had has old new
+TriesOnce tells (parsed.Print text) env held before had has old new = new ≡ old
+TriesOnce tells parsed.List env held before had has old new = MayAdd (listing_asked (string_bytes env.cargo)) old new × (has ≡ had)
 
 -- the words were read, behind what was asked of rustup for them, and what they ask for was tried once
-pub record TriesRead (words : List Name) (env : Env) (held : Contents) (before : ℕ) (old mid new : List Call) : Type 0 where
+pub record TriesRead (tells : Type 0) (words : List Name) (env : Env) (held : Contents) (before : ℕ) (had has : Option (List ℕ)) (old mid new : List Call) : Type 0 where
   pub rustup : Rustup
   pub answer : Parsed
   pub notes : List Note
   pub told : AsksRustup (wants_rustup words) (string_bytes env.rustup) rustup old mid
   pub read : IsAnswer (around_of env rustup) (ComesTo (around_of env rustup) words) answer notes
-  pub tried : TriesOnce answer env held before mid new
+  pub tried : TriesOnce tells answer env held before had has mid new
 
--- rustup was asked for its version at most, where a word needs it; behind it nothing was called, or what the words ask for was tried once
-pub record MadeOnce (words : List Name) (env : Env) (held : Contents) (before : ℕ) (old new : List Call) : Type 0 where
+-- rustup was asked for its version at most, where a word needs it; behind it nothing was called and printed, or what the words ask for was tried once
+pub record MadeOnce (tells : Type 0) (words : List Name) (env : Env) (held : Contents) (before : ℕ) (had has : Option (List ℕ)) (old new : List Call) : Type 0 where
   pub mid : List Call
   pub asked : MayAdd (rustup_asked (string_bytes env.rustup)) old mid
   pub needed : wants_rustup words ≡ false → mid ≡ old
-  pub behind : (new ≡ mid) ⊎ TriesRead words env held before old mid new
+  pub behind : ((new ≡ mid) × (has ≡ had)) ⊎ TriesRead tells words env held before had has old mid new

@@ -1,15 +1,18 @@
 -- What rustup is asked before there is a plan.
 use Rattle.std.specs.Prelude.{◌≡◌, ◌⊎◌, ◌∷◌, ◌^◌, ◌-◌, [], Bool, List, Option, Some, None, Result, Ok, Err, IfOk, IfSome, IsSome, IsSomeAnd, codes, false, true}
+use Rattle.std.specs.Str.{IsUtf8}
 use Rattle.std.proofs.Common.{Global, String}
 use Rattle.hack_base.specs.Names.{Name}
-use Rattle.hack_process.specs.Calls.{Asked, Call, IsSuccess, MayAdd}
+use Rattle.std.specs.Str.{IsUtf8}
+use Rattle.hack_process.specs.Calls.{Asked, Call, IsSuccess}
 use Rattle.hack_process.specs.CargoTexts.{release_part}
 use Rattle.hack_process.specs.Commands.{asked_of}
 use Rattle.hack_process.specs.CommandTexts.{Command}
 use Rattle.hack_process.specs.Faults.{Had, without_line_ends}
 use Rattle.hack_runs.specs.Commands.{plain_command}
 use Rattle.hack_versions.specs.RangeSteps.{NeedsStable}
-use Rattle.hack_versions.specs.ToolTexts.{TellsRelease, rustup_part}
+use Rattle.hack_versions.specs.ToolTexts.{IsAnswerFault, TellsRelease, rustup_part}
+use Rattle.hack_versions.specs.declared.rustup.VersionTextFault.{VersionTextFault}
 use Rattle.hack_versions.specs.declared.rustup.Rustup.{Rustup}
 use Rattle.hack_versions.specs.declared.rustup.Rustup.TheVariants.{Known, Unknown}
 use Rattle.hack_versions.specs.declared.version.Version.{Version}
@@ -26,27 +29,31 @@ rustup_command rustup = plain_command rustup [] (codes "--version" ∷ [])
 abbrev pub rustup_asked : Name → Asked
 rustup_asked rustup = asked_of true (rustup_command rustup)
 
--- an answer tells rustup's minor version, where it is known
+-- an answer tells rustup's minor version; where that isn't known, the answer has a fault
 abbrev pub TellsMinor : Name → Rustup → Type 0
 TellsMinor answer (Known minor) = (v : Version) × TellsRelease (rustup_part answer) v × (minor ≡ v.minor)
-TellsMinor answer (Unknown text) = Unit {0}
+TellsMinor answer (Unknown text) = (fault : VersionTextFault) × IsAnswerFault answer (rustup_part answer) fault
 
 -- rustup's version isn't known
 abbrev pub IsUnknown : Rustup → Type 0
 IsUnknown (Known minor) = ⊥
 IsUnknown (Unknown text) = Unit {0}
 
--- rustup was asked, and its answer tells this minor version
+-- a command was asked in vain: its program has no name, and nothing was called; or it didn't end well, or didn't answer with a text
+abbrev pub AsksInVain : Asked → List Call → List Call → Type 0
+AsksInVain asked old new = ((asked.program ≡ []) × (new ≡ old)) ⊎ Had (λ told. ¬ (IsSuccess told.end × IsUtf8 told.stdout)) asked old new
+
+-- rustup was asked, and its answer tells this minor version, or has a fault
 pub record ReadsRustup (rustup : Name) (known : Rustup) (old new : List Call) : Type 0 where
   pub answer : Name
-  pub read : Had (λ told. IsSuccess told.end × (answer ≡ without_line_ends told.stdout)) (rustup_asked rustup) old new
+  pub read : Had (λ told. IsSuccess told.end × IsUtf8 told.stdout × (answer ≡ without_line_ends told.stdout)) (rustup_asked rustup) old new
   pub told : TellsMinor answer known
 
--- where a word needs it, rustup was asked, and what is known of it is what it told; where asking failed it isn't known. Where no
+-- where a word needs it, rustup was asked, and what is known of it is what it told; where it was asked in vain it isn't known. Where no
 -- word needs it nothing was asked, and any version will do
 abbrev pub AsksRustup : Bool → Name → Rustup → List Call → List Call → Type 0
 AsksRustup false rustup known old new = (known ≡ Known (2 ^ 32 - 1)) × (new ≡ old)
-AsksRustup true rustup known old new = ReadsRustup rustup known old new ⊎ (IsUnknown known × MayAdd (rustup_asked rustup) old new)
+AsksRustup true rustup known old new = ReadsRustup rustup known old new ⊎ (IsUnknown known × AsksInVain (rustup_asked rustup) old new)
 
 -- stable's cargo is asked for its version
 abbrev pub stable_command : Name → Command
@@ -60,7 +67,7 @@ InstallsStable rustup old new =
 -- stable's cargo told this version
 pub record ReadsStable (rustup : Name) (v : Version) (old new : List Call) : Type 0 where
   pub answer : Name
-  pub read : Had (λ told. IsSuccess told.end × (answer ≡ without_line_ends told.stdout)) (asked_of true (stable_command rustup)) old new
+  pub read : Had (λ told. IsSuccess told.end × IsUtf8 told.stdout × (answer ≡ without_line_ends told.stdout)) (asked_of true (stable_command rustup)) old new
   pub told : TellsRelease (release_part answer) v
 
 -- the toolchain was made sure of, and then its cargo told this version

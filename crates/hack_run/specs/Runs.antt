@@ -1,5 +1,7 @@
 -- The calls of a whole schedule.
-use Rattle.std.specs.Prelude.{◌≡◌, ◌++◌, ◌∷◌, [], All, Bool, List, Option, Result, false, filter, true}
+use Rattle.std.specs.Prelude.{ℕ, ◌≡◌, ◌++◌, ◌∷◌, [], All, Bool, List, Option, Result, false, filter, true}
+use Rattle.std.specs.List.{flat_map}
+use Rattle.std.specs.Io.KnownBytes.{Appends}
 use Rattle.std.proofs.Common.{Global, String}
 use Rattle.hack_calls.specs.Made.{IsPlanOf}
 use Rattle.hack_base.specs.Names.{Name}
@@ -8,7 +10,7 @@ use Rattle.hack_process.specs.Calls.{Call}
 use Rattle.hack_term.specs.declared.partition.Partition.{Partition}
 use Rattle.hack_runs.specs.View.{PlanView}
 use Rattle.hack_session.specs.Histories.{Course}
-use Rattle.hack_session.specs.Lists.{IsListed, is_sent, is_sent_step}
+use Rattle.hack_session.specs.Lists.{IsListed, is_sent, is_sent_step, lines_listed, lines_written, step_lines}
 use Rattle.hack_session.specs.Performs.{Exactly, Makes}
 use Rattle.hack_session.specs.Schedules.{IsSchedule}
 use Rattle.hack_session.specs.declared.step.Handed.{Handed}
@@ -17,6 +19,7 @@ use Rattle.hack_session.specs.declared.step.Outcome.TheVariants.{Passed}
 use Rattle.hack_base.specs.Notes.{Note}
 use Rattle.hack_versions.specs.declared.version.Version.{Version}
 use Rattle.hack_run.specs.Headline.{IsHandedOut}
+use Rattle.hack_run.specs.Told.{Warned}
 
 -- the calls are those of the steps, one behind the other, each of which passed
 abbrev pub PassesAll : PlanView → List Step → List Call → Type 0
@@ -30,34 +33,40 @@ pub record RunsAll (plan : PlanView) (piece : Option Partition) (old new : List 
   pub scheduled : IsSchedule piece plan schedule
   pub ran : Makes (PassesAll plan schedule) old new
 
--- the same of its toolchains and lockfiles alone: a list makes no other calls
-pub record SendsAll (plan : PlanView) (piece : Option Partition) (old new : List Call) : Type 0 where
+-- the same of its toolchains and lockfiles alone: a list makes no other calls; and the output grows by just the lines of the schedule
+pub record SendsAll (before now : Option (List ℕ)) (plan : PlanView) (piece : Option Partition) (old new : List Call) : Type 0 where
   pub schedule : List Step
   pub scheduled : IsSchedule piece plan schedule
   pub sent : Makes (PassesAll plan (filter is_sent_step schedule)) old new
+  pub written : Appends before now (flat_map (step_lines plan) schedule)
 
--- by whether commands are listed
-abbrev pub Does : Bool → PlanView → Option Partition → List Call → List Call → Type 0
-Does true plan piece old new = SendsAll plan piece old new
-Does false plan piece old new = RunsAll plan piece old new
+-- by whether commands are listed, with what the output held and holds
+abbrev pub Does : Bool → Option (List ℕ) → Option (List ℕ) → PlanView → Option Partition → List Call → List Call → Type 0
+Does true before now plan piece old new = SendsAll before now plan piece old new
+Does false before now plan piece old new = RunsAll plan piece old new
 
--- that is done for the plan of a context, where this was asked of stable
-pub record DoesPlan (Done : PlanView → Option Partition → List Call → List Call → Type 0) (cx : ContextRecord) (stable : Result (Option Version) (String Global)) (rustup : Name) (old new : List Call) : Type 0 where
+-- that is done for the plan of a context, where this was asked of stable, and of warnings just the plan's are noted more
+pub record DoesPlan (Done : PlanView → Option Partition → List Call → List Call → Type 0) (cx : ContextRecord) (stable : Result (Option Version) (String Global)) (rustup : Name) (old new : List Call) (before warn : Bool) : Type 0 where
   pub plan : PlanView
   pub notes : List Note
   pub planned : IsPlanOf cx.args.subcommand stable cx rustup plan notes
   pub done : Done plan cx.args.partition old new
+  pub warned : Warned notes before warn
 
--- for a context a list was handed out to its end, and what isn't listed to a runner, whatever came of it
-pub record HandsOver {R : Type 0} (Told : List Note → R → R → Type 0) (Ran : PlanView → List Handed → R → R → Type 0) (cx : ContextRecord) (stable : Result (Option Version) (String Global)) (rustup : Name) (old new : R) : Type 0 where
+-- for a context a list was handed out to its end, and what isn't listed to a runner, whatever came of it; where lines are
+-- written whole or not at all, the output grew by just those of the steps that passed
+pub record HandsOver {R : Type 0} (whole : Type 0) (had has : Option (List ℕ)) (Told : List Note → R → R → Type 0) (Ran : PlanView → List Handed → R → R → Type 0) (cx : ContextRecord) (stable : Result (Option Version) (String Global)) (rustup : Name) (old new : R) : Type 0 where
   pub course : Course
   pub handed : IsHandedOut cx stable rustup course
   pub notes : List Note
+  pub planned : IsPlanOf cx.args.subcommand stable cx rustup course.plan notes
   pub mid : R
   pub told : Told notes old mid
   pub ran : Ran course.plan (filter is_sent course.handed) mid new
+  pub wrote : whole → Appends had has (flat_map (lines_written course.plan) course.handed)
 
--- it was, and none of the list failed
-pub record ListsOver {R : Type 0} (Told : List Note → R → R → Type 0) (Ran : PlanView → List Handed → R → R → Type 0) (cx : ContextRecord) (stable : Result (Option Version) (String Global)) (rustup : Name) (old new : R) : Type 0 where
-  pub over : HandsOver Told Ran cx stable rustup old new
+-- it was, none of the list failed, and its lines are written
+pub record ListsOver {R : Type 0} (whole : Type 0) (before now : Option (List ℕ)) (Told : List Note → R → R → Type 0) (Ran : PlanView → List Handed → R → R → Type 0) (cx : ContextRecord) (stable : Result (Option Version) (String Global)) (rustup : Name) (old new : R) : Type 0 where
+  pub over : HandsOver whole before now Told Ran cx stable rustup old new
   pub listed : All IsListed over.course.handed
+  pub written : Appends before now (flat_map (lines_listed over.course.plan) over.course.handed)

@@ -1,5 +1,6 @@
 -- What a call did that told no error.
-use Rattle.std.specs.Prelude.{◌≡◌, ◌∷◌, [], ℕ, false, true, List, None, Ok, Option, Result, codes, string_bytes}
+use Rattle.std.specs.Prelude.{◌≡◌, ◌||◌, ◌∷◌, [], ℕ, Bool, false, true, List, None, Ok, Option, Result, codes, string_bytes}
+use Rattle.std.specs.Io.KnownBytes.{Appends}
 use Rattle.std.proofs.Common.{Global, String}
 use Rattle.hack_base.specs.Names.{Name}
 use Rattle.hack_files.specs.Files.{Contents}
@@ -7,8 +8,9 @@ use Rattle.hack_process.specs.Calls.{Call, IsSuccess}
 use Rattle.hack_process.specs.Commands.{asked_of}
 use Rattle.hack_process.specs.Faults.{Had}
 use Rattle.hack_load.specs.Answers.{AreAnswers}
-use Rattle.hack_load.specs.ContextOf.{IsContextFrom}
+use Rattle.hack_load.specs.ContextOf.{IsContextFrom, warnings_of}
 use Rattle.hack_load.specs.Contexts.{ContextRecord}
+use Rattle.hack_load.specs.Loads.{told_version}
 use Rattle.hack_load.specs.declared.answers.Answers.{Answers}
 use Rattle.hack_base.specs.Notes.{Note}
 use Rattle.hack_versions.specs.declared.rustup.Rustup.{Rustup}
@@ -28,6 +30,7 @@ use Rattle.hack_prepare.specs.Prepared.{IsPrepared}
 use Rattle.hack_prepare.specs.PreparedView.{members_in, wanted_in}
 use Rattle.hack_run.specs.Questions.{AsksRustup, AsksStable, NeedsAnswer}
 use Rattle.hack_run.specs.Runs.{Does}
+use Rattle.hack_run.specs.Told.{Seen, Warned, have_warning}
 
 -- the words are refused, whatever rustup answers
 abbrev pub AreRefused : Env → List Name → Type 0
@@ -42,40 +45,47 @@ pub record IsPlanned (cx : ContextRecord) (rustup : Name) (old new : List Call) 
   pub planned : IsPlanOf cx.args.subcommand stable cx rustup plan notes
 
 -- From these answers a context was made, from that a plan, and its whole schedule was run or listed. Edits that stay were made
--- of what was held.
-pub record Follows (args : Args) (answers : Answers) (rustup : Name) (held last : Contents) (old new : List Call) : Type 0 where
+-- of what was held, where the files show that. Of warnings just those of the context and of the plan are noted more.
+pub record Follows (tells : Type 0) (args : Args) (answers : Answers) (rustup : Name) (held last : Contents) (seen : Seen) (old new : List Call) : Type 0 where
   pub cx : ContextRecord
   pub plan : PlanView
   pub mid : List Call
   pub context : IsContextFrom args answers cx
   pub planned : IsPlanned cx rustup old mid plan
-  pub runs : Does args.print_command_list plan args.partition mid new
-  pub edited : args.remove_dev_deps ≡ true → IsPrepared (wanted_in cx) (members_in cx) held last
+  pub runs : Does args.print_command_list seen.before seen.now plan args.partition mid new
+  pub warned : Warned planned.notes (have_warning (warnings_of (told_version answers.cargo_version)) || seen.warned) seen.warn
+  pub edited : tells → args.remove_dev_deps ≡ true → IsPrepared (wanted_in cx) (members_in cx) held last
 
 -- for these arguments the answers were told or read, and then followed
-pub record Performs (args : Args) (env : Env) (held last : Contents) (before : ℕ) (old new : List Call) : Type 0 where
+pub record Performs (tells : Type 0) (args : Args) (env : Env) (held last : Contents) (before : ℕ) (seen : Seen) (old new : List Call) : Type 0 where
   pub answers : Answers
   pub now : ℕ
   pub mid : List Call
-  pub asked : AreAnswers args env held before now old mid answers
-  pub follows : Follows args answers (string_bytes env.rustup) held last mid new
+  pub asked : AreAnswers tells args env held before now old mid answers
+  pub follows : Follows tells args answers (string_bytes env.rustup) held last seen mid new
 
 -- cargo listed its commands
 abbrev pub ListsCommands : Name → List Call → List Call → Type 0
 ListsCommands cargo old new = Had (λ answer. IsSuccess answer.end) (asked_of false (plain_command cargo [] (codes "--list" ∷ []))) old new
 
--- what words ask for was done: the schedule was run or listed, a text was printed, or cargo listed its commands
-abbrev pub Obeys : Parsed → Env → Contents → Contents → ℕ → List Call → List Call → Type 0
-Obeys (parsed.Args args) env held last before old new = Performs args env held last before old new
-Obeys (parsed.Print text) env held last before old new = new ≡ old
-Obeys parsed.List env held last before old new = ListsCommands (string_bytes env.cargo) old new
+-- what words ask for was done: the schedule was run or listed, a text was printed, or cargo listed its commands; the last two warn of nothing
+abbrev pub Obeys : Type 0 → Parsed → Env → Contents → Contents → ℕ → Seen → List Call → List Call → Type 0
+Obeys tells (parsed.Args args) env held last before seen old new = Performs tells args env held last before seen old new
+Obeys tells (parsed.Print text) env held last before seen old new = (new ≡ old) × Appends seen.before seen.now (string_bytes text) × (seen.warn ≡ seen.warned)
+Obeys tells parsed.List env held last before seen old new = ListsCommands (string_bytes env.cargo) old new × (seen.warn ≡ seen.warned)
 
--- the words were read, behind what was asked of rustup for them, and what they ask for was done
-pub record IsDone (words : List Name) (env : Env) (held last : Contents) (before : ℕ) (old new : List Call) : Type 0 where
+-- whether a warning is noted behind the notices of the words; a text is printed without them
+abbrev pub warned_by : Parsed → List Note → Bool → Bool
+warned_by (parsed.Args args) notes warned = have_warning notes || warned
+warned_by (parsed.Print text) notes warned = warned
+warned_by parsed.List notes warned = have_warning notes || warned
+
+-- the words were read, behind what was asked of rustup for them, and what they ask for was done, behind a warning of theirs that is noted
+pub record IsDone (tells : Type 0) (words : List Name) (env : Env) (held last : Contents) (before : ℕ) (seen : Seen) (old new : List Call) : Type 0 where
   pub rustup : Rustup
   pub answer : Parsed
   pub notes : List Note
   pub mid : List Call
   pub asked : AsksRustup (wants_rustup words) (string_bytes env.rustup) rustup old mid
   pub read : IsAnswer (around_of env rustup) (ComesTo (around_of env rustup) words) answer notes
-  pub obeyed : Obeys answer env held last before mid new
+  pub obeyed : Obeys tells answer env held last before (record seen { warned = warned_by answer notes seen.warned }) mid new

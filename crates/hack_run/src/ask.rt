@@ -1,8 +1,8 @@
 //! What rustup is asked before there is a plan: its own version, and that of the toolchain
 //! `stable`.
 
-ghost use Rattle.std.specs.Prelude.{◌≡◌, IfOk, IfSome, IsSome, IsSomeAnd, None, Ok, OnErr, OnOk};
-ghost use Rattle.std.specs.Prelude.{false, string_bytes, true};
+ghost use Rattle.std.specs.Prelude.{◌≡◌, ◌≢◌, IfOk, IfSome, IsSome, IsSomeAnd, None, Ok, OnErr};
+ghost use Rattle.std.specs.Prelude.{OnOk, false, string_bytes, true};
 ghost use Rattle.hack_base.specs.Names.{names_of};
 ghost use Rattle.hack_process.specs.Calls.{MayAdd};
 ghost use Rattle.hack_process.specs.CargoTexts.{release_part};
@@ -63,7 +63,8 @@ fn rustup_command<'a>(alloc: Global, env: &Env) -> Result<ProcessBuilder<'a>, Al
 
 /// What is known of rustup where asking it failed.
 fn unknown_rustup(alloc: Global, fault: ProcessFault) -> Result<Rustup, AllocError>
-    ensures { IfOk result IsUnknown }
+    ensures unknown { IfOk result IsUnknown }
+    ensures failed { OnOk result (fault ≢ ProcessFault.Memory) }
 {
     match fault {
         ProcessFault::Memory => Err(AllocError),

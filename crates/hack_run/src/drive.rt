@@ -1,13 +1,13 @@
 //! What a call runs: the plan of what is loaded, handed out to a runner.
 
-ghost use Rattle.std.specs.Prelude.{◌≡◌, ◌⊎◌, ◌&&◌, IfErr, IfOk, List, map, not};
+ghost use Rattle.std.specs.Prelude.{◌≡◌, ◌⊎◌, IfErr, IfOk, List, map};
 ghost use Rattle.hack_calls.specs.Made.{IsCauseOf, IsPlanOf};
 ghost use Rattle.hack_load.specs.ContextView.{context_view};
 ghost use Rattle.hack_runs.specs.View.{PlanView};
-ghost use Rattle.hack_session.specs.Performs.{HasTold};
 ghost use Rattle.hack_base.specs.Notes.{Note, note_of};
 ghost use Rattle.hack_run.specs.Headline.{IsHandedOut};
 ghost use Rattle.hack_run.specs.Questions.{IsAnswered};
+ghost use Rattle.hack_run.specs.Told.{after_notes};
 
 use crate::tell::tell_all;
 use hack_base::notice::Notice;
@@ -17,7 +17,6 @@ use hack_load::context::Context;
 use hack_process::process::Caller;
 use hack_session::session::{Lines, Lister, Runner, Session, Starter, drive_plan};
 use hack_versions::version::Version;
-use hack_words::cli::Args;
 use std::alloc::Global;
 use std::io::Write;
 
@@ -73,16 +72,9 @@ pub fn drive_context<R: Teller>(
 {
     let (plan, notices) = plan_of(alloc, cx, rustup, stable)?;
     runner.tell(notices.as_slice());
-    let keep_going = goes_on(cx.args());
+    let keep_going = cx.args().keep_going;
     let session = drive_plan(alloc, plan, cx.args().partition, keep_going, runner)?;
     Ok(session)
-}
-
-/// Whether runs go on behind a failed one. A list ends at the first line that isn't written.
-fn goes_on(args: &Args) -> bool
-    ensures { result ≡ (args.now.keep_going && not args.now.print_command_list) }
-{
-    args.keep_going && !args.print_command_list
 }
 
 impl<C: Caller, O: Write, E: Write> Teller for Starter<'_, C, O, E> {
@@ -91,7 +83,8 @@ impl<C: Caller, O: Write, E: Write> Teller for Starter<'_, C, O, E> {
         × (a.fault.ghost_name ≡ b.fault.ghost_name)
         × (b.caller.now ≡ a.caller.now)
         × (b.refused ≡ a.refused)
-        × (HasTold a.term.now a.fault.now → HasTold b.term.now b.fault.now) };
+        × (b.fault.now ≡ a.fault.now)
+        × (b.term.now ≡ after_notes a.term.now notes) };
 
     fn tell(&mut self, notices: &[Notice]) {
         tell_all(notices, self.term, self.err);

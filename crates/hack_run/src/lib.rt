@@ -4,6 +4,7 @@
 mod ask;
 pub mod drive;
 mod fault;
+mod gathered;
 pub mod journaled;
 mod list;
 pub mod run;

@@ -1,6 +1,7 @@
 //! The command list of a plan.
 
 ghost use Rattle.std.specs.Prelude.{◌≡◌, None, Ok, OnOk, false, true};
+ghost use Rattle.std.specs.Io.KnownBytes.{append_known};
 ghost use Rattle.hack_load.specs.ContextView.{context_view};
 ghost use Rattle.hack_run.specs.Made.{HandsOverAtMostOne, PerformsAtMostOne};
 ghost use Rattle.hack_run.specs.Questions.{IsAnswered};
@@ -8,16 +9,17 @@ ghost use Rattle.hack_run.specs.Runs.{DoesPlan, ListsOver, SendsAll};
 
 use crate::drive::{Teller, drive_context};
 use crate::fault::RunFault;
+use crate::gathered::{gather_on, room, write_last};
 use crate::start::starter;
 use hack_calls::fault::PlanFault;
 use hack_load::context::Context;
 use hack_process::process::{Caller, ProcessFault};
-use hack_session::session::{LineWriter, Lines, Lister};
+use hack_session::session::{Lines, Lister};
 use hack_term::term::{LogGroup, Term};
 use hack_versions::version::Version;
 use std::alloc::Global;
 use std::io;
-use std::io::{BufWriter, Write};
+use std::io::Write;
 
 /// What came of listing.
 #[derive(Drop)]
@@ -44,17 +46,25 @@ pub(crate) fn list<C: Caller, O: Write, E: Write>(
 ) -> Result<(), RunFault>
     requires { IsAnswered (context_view cx.now).args stable }
     ensures done { OnOk result (term.new.error ≡ false → C.tells
-        → DoesPlan SendsAll (context_view cx.now) stable rustup.now
-        (C.calls caller.old) (C.calls caller.new)) }
+        → DoesPlan (SendsAll (O.contents out.old) (O.contents out.new)) (context_view cx.now)
+        stable rustup.now (C.calls caller.old) (C.calls caller.new)
+        term.old.warn term.new.warn) }
     ensures made { C.tells → PerformsAtMostOne true (context_view cx.now) stable rustup.now
-        (C.calls caller.old) (C.calls caller.new) }
+        (O.contents out.old) (O.contents out.new) (C.calls caller.old) (C.calls caller.new) }
 {
-    let mut buffer = match BufWriter::new(alloc, out) {
-        Ok(buffer) => buffer,
-        Err(_) => return Err(RunFault::Memory),
-    };
-    let came = hand_to_lister(alloc, cx, rustup, stable, term, caller, &mut buffer, err);
-    let flushed = buffer.flush().is_ok();
+    let mut gathered = room(alloc)?;
+    let came = hand_to_lister(
+        alloc,
+        cx,
+        rustup,
+        stable,
+        term,
+        caller,
+        out,
+        &mut gathered,
+        err,
+    );
+    let flushed = write_last(out, &mut gathered);
     end_of_list(came, flushed)
 }
 
@@ -67,29 +77,34 @@ fn hand_to_lister<C: Caller, O: Write, E: Write>(
     term: &mut Term,
     caller: &mut C,
     out: &mut O,
+    gathered: &mut Vec<u8>,
     err: &mut E,
 ) -> Listed
     requires { IsAnswered (context_view cx.now).args stable }
     ensures done { result.refused ≡ Ok false → result.fault ≡ None → result.failed ≡ 0
         → term.new.error ≡ false → C.tells
-        → DoesPlan SendsAll (context_view cx.now) stable rustup.now
-        (C.calls caller.old) (C.calls caller.new) }
+        → DoesPlan (SendsAll (append_known (O.contents out.old) gathered.old.items)
+        (append_known (O.contents out.new) gathered.new.items)) (context_view cx.now)
+        stable rustup.now (C.calls caller.old) (C.calls caller.new)
+        term.old.warn term.new.warn }
     ensures made { C.tells → PerformsAtMostOne true (context_view cx.now) stable rustup.now
+        (append_known (O.contents out.old) gathered.old.items)
+        (append_known (O.contents out.new) gathered.new.items)
         (C.calls caller.old) (C.calls caller.new) }
 {
     let mut nothing = io::sink();
     let mut fault = None;
     let mut starter = starter(
         alloc,
-        LogGroup::None,
-        false,
+        cx.args(),
         &mut fault,
         term,
         caller,
         &mut nothing,
         err,
     );
-    let mut lines = LineWriter { out, failed: 0 };
+    starter.log_group = LogGroup::None;
+    let mut lines = gather_on(alloc, out, gathered);
     let refused = list_over(alloc, cx, rustup, stable, &mut lines, &mut starter);
     Listed {
         refused,
@@ -109,9 +124,11 @@ fn list_over<'a, W: Lines, R: Teller>(
 ) -> Result<bool, PlanFault>
     requires { IsAnswered (context_view cx.now).args stable }
     ensures done { result ≡ Ok false → W.failed out.old ≡ 0 → W.failed out.new ≡ 0
-        → ListsOver R.told R.ran (context_view cx.now) stable rustup.now runner.old runner.new }
-    ensures made { HandsOverAtMostOne R.told R.ran (context_view cx.now) stable rustup.now
-        runner.old runner.new }
+        → ListsOver W.whole (W.contents out.old) (W.contents out.new) R.told R.ran
+        (context_view cx.now) stable rustup.now runner.old runner.new }
+    ensures stays { W.stays out.old out.new }
+    ensures made { HandsOverAtMostOne W.whole (W.contents out.old) (W.contents out.new)
+        R.told R.ran (context_view cx.now) stable rustup.now runner.old runner.new }
 {
     let mut lister = Lister {
         alloc,
@@ -126,7 +143,7 @@ fn list_over<'a, W: Lines, R: Teller>(
 /// How the list ends, where its end was written or not.
 fn end_of_list(listed: Listed, flushed: bool) -> Result<(), RunFault>
     ensures { OnOk result ((listed.refused ≡ Ok false) × (listed.fault ≡ None)
-        × (listed.failed ≡ 0)) }
+        × (listed.failed ≡ 0) × (flushed ≡ true)) }
 {
     let Listed {
         refused,

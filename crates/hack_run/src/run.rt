@@ -1,14 +1,17 @@
 //! A whole call of `cargo hack`: what its words ask for is done, and told on the way.
 
 ghost use Rattle.std.specs.Prelude.{◌≡◌, ◌↔◌, ◌⊎◌, ◌≤◌, IsErr, IsTrue, OnOk, false, true};
-ghost use Rattle.std.specs.Prelude.{string_bytes};
+ghost use Rattle.std.specs.Prelude.{map, string_bytes};
+ghost use Rattle.std.specs.Io.KnownBytes.{Appends};
 ghost use Rattle.hack_base.specs.Names.{names_of};
+ghost use Rattle.hack_base.specs.Notes.{note_of};
 ghost use Rattle.hack_load.specs.LeavesFew.{LeavesFew};
 ghost use Rattle.hack_process.specs.Calls.{MayAdd};
 ghost use Rattle.hack_run.specs.Made.{MadeOnce, TriesOnce, listing_asked};
 ghost use Rattle.hack_run.specs.Questions.{rustup_asked};
 ghost use Rattle.hack_run.specs.Restores.{ComesBack, IsClean, RestoresEdits};
-ghost use Rattle.hack_run.specs.Whole.{AreRefused, IsDone, ListsCommands, Obeys};
+ghost use Rattle.hack_run.specs.Told.{seen_of};
+ghost use Rattle.hack_run.specs.Whole.{AreRefused, IsDone, ListsCommands, Obeys, warned_by};
 
 use crate::ask::rustup_for;
 use crate::fault::RunFault;
@@ -49,16 +52,21 @@ pub fn run<F: Files, C: Caller, O: Write, E: Write>(
         (C.calls runner.old) (C.calls runner.new)) }
 
     // Where no error was told, what the words ask for was done: the calls end with those of the
-    // whole schedule of the plan, for what was told and read in this call. Under
-    // `--remove-dev-deps` each manifest that is edited holds its edit, and all else what it held.
-    ensures done { term.new.error ≡ false → C.tells → F.tells → IsDone (names_of words.now)
+    // whole schedule of the plan, for what was told and read in this call. A list wrote just the
+    // lines of that schedule. A warning is noted just where one was before, or where a notice of
+    // the words, of what was loaded or of the plan counts as one. Under `--remove-dev-deps` each
+    // manifest that is edited holds its edit, and all else what it held.
+    ensures done { term.new.error ≡ false → C.tells → IsDone F.tells (names_of words.now)
         env.now (F.bytes_at files.old) (F.bytes_at files.new) (F.failed files.old)
+        (seen_of term.old.warn term.new (O.contents out.old) (O.contents out.new))
         (C.calls runner.old) (C.calls runner.new) }
 
     // Whatever comes of the call: behind its questions the steps of one history of the plan made
-    // just their calls, or no step did.
-    ensures made { C.tells → F.tells → MadeOnce (names_of words.now) env.now
-        (F.bytes_at files.old) (F.failed files.old) (C.calls runner.old) (C.calls runner.new) }
+    // just their calls, or no step did; and a list printed nothing but the lines of those of them
+    // that passed, in order.
+    ensures made { C.tells → MadeOnce F.tells (names_of words.now) env.now
+        (F.bytes_at files.old) (F.failed files.old) (O.contents out.old) (O.contents out.new)
+        (C.calls runner.old) (C.calls runner.new) }
 
     // Files come back: unless the words ask for edits that stay, each path holds what it held, but
     // for at most as many paths as calls of the files failed.
@@ -92,11 +100,14 @@ fn read<F: Files, C: Caller, O: Write, E: Write>(
     ensures refused { AreRefused env.now (names_of words.now) → IsErr result
         × (C.tells → MayAdd (rustup_asked (string_bytes env.now.rustup))
         (C.calls runner.old) (C.calls runner.new)) }
-    ensures done { OnOk result (term.new.error ≡ false → C.tells → F.tells
-        → IsDone (names_of words.now) env.now (F.bytes_at files.old) (F.bytes_at files.new)
-        (F.failed files.old) (C.calls runner.old) (C.calls runner.new)) }
-    ensures made { C.tells → F.tells → MadeOnce (names_of words.now) env.now
-        (F.bytes_at files.old) (F.failed files.old) (C.calls runner.old) (C.calls runner.new) }
+    ensures done { OnOk result (term.new.error ≡ false → C.tells → IsDone F.tells
+        (names_of words.now) env.now (F.bytes_at files.old) (F.bytes_at files.new)
+        (F.failed files.old)
+        (seen_of term.old.warn term.new (O.contents out.old) (O.contents out.new))
+        (C.calls runner.old) (C.calls runner.new)) }
+    ensures made { C.tells → MadeOnce F.tells (names_of words.now) env.now
+        (F.bytes_at files.old) (F.failed files.old) (O.contents out.old) (O.contents out.new)
+        (C.calls runner.old) (C.calls runner.new) }
     ensures back { RestoresEdits env.now (names_of words.now) → F.tells → LeavesFew (Unit {0})
         (F.bytes_at files.old) (F.bytes_at files.new) (F.failed files.old) (F.failed files.new) }
     ensures clean { OnOk result (term.new.error ≡ false
@@ -137,11 +148,15 @@ fn obey<F: Files, C: Caller, O: Write, E: Write>(
     err: &mut E,
 ) -> Result<(), RunFault>
     ensures stays { F.stays files.old files.new }
-    ensures done { OnOk result (term.new.error ≡ false → C.tells → F.tells
-        → Obeys parsed env.now (F.bytes_at files.old) (F.bytes_at files.new)
-        (F.failed files.old) (C.calls runner.old) (C.calls runner.new)) }
-    ensures made { C.tells → F.tells → TriesOnce parsed env.now (F.bytes_at files.old)
-        (F.failed files.old) (C.calls runner.old) (C.calls runner.new) }
+    ensures done { OnOk result (term.new.error ≡ false → C.tells
+        → Obeys F.tells parsed env.now (F.bytes_at files.old) (F.bytes_at files.new)
+        (F.failed files.old)
+        (seen_of (warned_by parsed (map note_of notices.now) term.old.warn) term.new
+        (O.contents out.old) (O.contents out.new))
+        (C.calls runner.old) (C.calls runner.new)) }
+    ensures made { C.tells → TriesOnce F.tells parsed env.now (F.bytes_at files.old)
+        (F.failed files.old) (O.contents out.old) (O.contents out.new)
+        (C.calls runner.old) (C.calls runner.new) }
     ensures back { ComesBack parsed → F.tells → LeavesFew (Unit {0})
         (F.bytes_at files.old) (F.bytes_at files.new) (F.failed files.old) (F.failed files.new) }
     ensures clean { OnOk result (term.new.error ≡ false → IsClean (ComesBack parsed) F.tells
@@ -163,7 +178,11 @@ fn obey<F: Files, C: Caller, O: Write, E: Write>(
 }
 
 /// Colours lines as the arguments say, and tells as much as they say.
-fn dress(term: &mut Term, args: &Args) {
+fn dress(term: &mut Term, args: &Args)
+    ensures error { term.new.error ≡ term.old.error }
+    ensures warn { term.new.warn ≡ term.old.warn }
+    ensures verbose { term.new.verbose ≡ args.now.verbose }
+{
     term.verbose = args.verbose;
     if args.coloring != Coloring::Auto {
         term.coloring = args.coloring;
@@ -171,7 +190,9 @@ fn dress(term: &mut Term, args: &Args) {
 }
 
 /// Prints a text.
-fn print<O: Write>(text: &str, out: &mut O) -> Result<(), RunFault> {
+fn print<O: Write>(text: &str, out: &mut O) -> Result<(), RunFault>
+    ensures { OnOk result (Appends (O.contents out.old) (O.contents out.new) text.now) }
+{
     match out.write_all(text.as_bytes()) {
         Ok(()) => Ok(()),
         Err(_) => Err(RunFault::Unprinted),

@@ -5,15 +5,17 @@ ghost use Rattle.std.specs.Prelude.{◌≡◌, IfOk, IsOk, OnOk, false, string_b
 ghost use Rattle.hack_files.specs.Files.{GrowsBy};
 ghost use Rattle.hack_files.specs.Restore.{AreSafe, registered_files};
 ghost use Rattle.hack_load.specs.Answers.{IsLoaded};
-ghost use Rattle.hack_load.specs.ContextOf.{IsContextFrom};
+ghost use Rattle.hack_load.specs.ContextOf.{IsContextFrom, warnings_of};
 ghost use Rattle.hack_load.specs.ContextView.{context_view};
 ghost use Rattle.hack_load.specs.LeavesFew.{LeavesFew};
-ghost use Rattle.hack_prepare.specs.PreparedView.{HoldTextsIn, IsPreparedIn};
+ghost use Rattle.hack_load.specs.Loads.{told_version};
+ghost use Rattle.hack_prepare.specs.PreparedView.{HoldTextsIn, IsPreparedIn, notes_in};
 ghost use Rattle.hack_prepare.specs.Steps.{Grows};
 ghost use Rattle.hack_run.specs.Made.{AfterAnswers, MakesOnce, PerformsAtMostOne};
 ghost use Rattle.hack_run.specs.Restores.{IsClean};
 ghost use Rattle.hack_run.specs.Questions.{IsAnswered};
 ghost use Rattle.hack_run.specs.Runs.{Does, DoesPlan};
+ghost use Rattle.hack_run.specs.Told.{after_notes, seen_of};
 ghost use Rattle.hack_run.specs.Whole.{Follows, Performs};
 
 use crate::ask::stable_for;
@@ -44,11 +46,14 @@ pub(crate) fn perform<F: Files, C: Caller, O: Write, E: Write>(
     err: &mut E,
 ) -> Result<(), RunFault>
     ensures stays { F.stays files.old files.new }
-    ensures done { OnOk result (term.new.error ≡ false → C.tells → F.tells
-        → Performs args env.now (F.bytes_at files.old) (F.bytes_at files.new)
-        (F.failed files.old) (C.calls caller.old) (C.calls caller.new)) }
-    ensures made { C.tells → F.tells → MakesOnce args env.now (F.bytes_at files.old)
-        (F.failed files.old) (C.calls caller.old) (C.calls caller.new) }
+    ensures done { OnOk result (term.new.error ≡ false → C.tells
+        → Performs F.tells args env.now (F.bytes_at files.old) (F.bytes_at files.new)
+        (F.failed files.old)
+        (seen_of term.old.warn term.new (O.contents out.old) (O.contents out.new))
+        (C.calls caller.old) (C.calls caller.new)) }
+    ensures made { C.tells → MakesOnce F.tells args env.now (F.bytes_at files.old)
+        (F.failed files.old) (O.contents out.old) (O.contents out.new)
+        (C.calls caller.old) (C.calls caller.new) }
     ensures back { args.remove_dev_deps ≡ false → F.tells → LeavesFew (Unit {0})
         (F.bytes_at files.old) (F.bytes_at files.new) (F.failed files.old) (F.failed files.new) }
     ensures clean { OnOk result (term.new.error ≡ false
@@ -88,11 +93,13 @@ fn follow<F: Files, C: Caller, O: Write, E: Write>(
 ) -> Result<(), RunFault>
     ensures stays { F.stays files.old files.new }
     ensures done { OnOk result (term.new.error ≡ false → C.tells
-        → (F.tells × IfOk answers.loaded (IsLoaded F.tells (F.bytes_at files.old) env.now))
-        → Follows args answers (string_bytes env.now.rustup)
-        (F.bytes_at files.old) (F.bytes_at files.new) (C.calls caller.old) (C.calls caller.new)) }
+        → Follows
+        (F.tells × IfOk answers.loaded (IsLoaded F.tells (F.bytes_at files.old) env.now)) args answers (string_bytes env.now.rustup)
+        (F.bytes_at files.old) (F.bytes_at files.new)
+        (seen_of term.old.warn term.new (O.contents out.old) (O.contents out.new))
+        (C.calls caller.old) (C.calls caller.new)) }
     ensures made { C.tells → AfterAnswers args answers (string_bytes env.now.rustup)
-        (C.calls caller.old) (C.calls caller.new) }
+        (O.contents out.old) (O.contents out.new) (C.calls caller.old) (C.calls caller.new) }
     ensures unkept { manager.old.needs_restore ≡ false
         → registered_files manager.new ≡ registered_files manager.old }
     ensures grows { Grows (F.failed files.old) (F.failed files.new) }
@@ -126,7 +133,9 @@ fn context<E: Write>(
     term: &mut Term,
     err: &mut E,
 ) -> Result<Context, RunFault>
-    ensures { IfOk result (λ cx. IsContextFrom args answers (context_view cx)) }
+    ensures ok { IfOk result (λ cx. IsContextFrom args answers (context_view cx)) }
+    ensures told { OnOk result (term.new
+        ≡ after_notes term.old (warnings_of (told_version answers.cargo_version))) }
 {
     match Context::new(alloc, args, answers) {
         Ok(answer) => {
@@ -149,6 +158,8 @@ fn edit<F: Files, E: Write>(
 ) -> Result<(), RunFault>
     ensures stays { F.stays files.old files.new }
     ensures grows { Grows (F.failed files.old) (F.failed files.new) }
+    ensures told { OnOk result (term.new
+        ≡ after_notes term.old (notes_in (context_view cx.now))) }
     ensures counted { OnOk result (GrowsBy 0 (F.failed files.old) (F.failed files.new)) }
     ensures prepared { OnOk result (F.tells
         → HoldTextsIn (context_view cx.now) (F.bytes_at files.old)
@@ -182,10 +193,13 @@ fn run_plan<C: Caller, O: Write, E: Write>(
 ) -> Result<(), RunFault>
     requires { IsAnswered (context_view cx.now).args stable }
     ensures done { OnOk result (term.new.error ≡ false → C.tells
-        → DoesPlan (Does (context_view cx.now).args.print_command_list) (context_view cx.now)
-        stable rustup.now (C.calls caller.old) (C.calls caller.new)) }
+        → DoesPlan (Does (context_view cx.now).args.print_command_list
+        (O.contents out.old) (O.contents out.new)) (context_view cx.now)
+        stable rustup.now (C.calls caller.old) (C.calls caller.new)
+        term.old.warn term.new.warn) }
     ensures made { C.tells → PerformsAtMostOne (context_view cx.now).args.print_command_list
-        (context_view cx.now) stable rustup.now (C.calls caller.old) (C.calls caller.new) }
+        (context_view cx.now) stable rustup.now (O.contents out.old) (O.contents out.new)
+        (C.calls caller.old) (C.calls caller.new) }
 {
     if cx.args().print_command_list {
         return list(alloc, cx, rustup, stable, term, caller, out, err);

@@ -12,8 +12,9 @@ use hack_calls::fault::PlanFault;
 use hack_load::context::Context;
 use hack_process::process::{Caller, ProcessFault};
 use hack_session::session::{Handed, Outcome, Session, Starter, Step};
-use hack_term::term::{LogGroup, Term};
+use hack_term::term::Term;
 use hack_versions::version::Version;
+use hack_words::cli::Args;
 use std::alloc::{AllocError, Global};
 use std::io::Write;
 
@@ -31,9 +32,10 @@ pub(crate) fn start<C: Caller, O: Write, E: Write>(
     requires { IsAnswered (context_view cx.now).args stable }
     ensures done { OnOk result (term.new.error ≡ false → C.tells
         → DoesPlan RunsAll (context_view cx.now) stable rustup.now
-        (C.calls caller.old) (C.calls caller.new)) }
+        (C.calls caller.old) (C.calls caller.new)
+        term.old.warn term.new.warn) }
     ensures made { C.tells → PerformsAtMostOne false (context_view cx.now) stable rustup.now
-        (C.calls caller.old) (C.calls caller.new) }
+        (O.contents out.old) (O.contents out.new) (C.calls caller.old) (C.calls caller.new) }
 {
     let mut fault = None;
     let session = match drive(
@@ -52,8 +54,7 @@ pub(crate) fn start<C: Caller, O: Write, E: Write>(
 /// A starter that performs runs as the arguments say, with a place for the fault that stops it.
 pub(crate) fn starter<'a, C: Caller, O: Write, E: Write>(
     alloc: Global,
-    log_group: LogGroup,
-    keep_going: bool,
+    args: &Args,
     fault: &'a mut Option<ProcessFault>,
     term: &'a mut Term,
     caller: &'a mut C,
@@ -66,6 +67,8 @@ pub(crate) fn starter<'a, C: Caller, O: Write, E: Write>(
         × (result.term.now ≡ term.entry.now) }
     ensures fault { (result.fault.ghost_name ≡ fault.entry.ghost_name)
         × (result.fault.now ≡ fault.entry.now) }
+    ensures args { (result.keep_going ≡ args.now.keep_going)
+        × (result.log_group ≡ args.now.log_group) }
 {
     Starter {
         alloc,
@@ -73,8 +76,8 @@ pub(crate) fn starter<'a, C: Caller, O: Write, E: Write>(
         term,
         out,
         err,
-        log_group,
-        keep_going,
+        log_group: args.log_group,
+        keep_going: args.keep_going,
         fault,
         refused: 0,
     }
@@ -95,12 +98,12 @@ fn drive<C: Caller, O: Write, E: Write>(
     requires { IsAnswered (context_view cx.now).args stable }
     ensures done { OnOk result (fault.new ≡ None → term.new.error ≡ false → C.tells
         → DoesPlan RunsAll (context_view cx.now) stable rustup.now
-        (C.calls caller.old) (C.calls caller.new)) }
+        (C.calls caller.old) (C.calls caller.new)
+        term.old.warn term.new.warn) }
     ensures made { C.tells → PerformsAtMostOne false (context_view cx.now) stable rustup.now
-        (C.calls caller.old) (C.calls caller.new) }
+        (O.contents out.old) (O.contents out.new) (C.calls caller.old) (C.calls caller.new) }
 {
-    let (log_group, keep_going) = (cx.args().log_group, cx.args().keep_going);
-    let mut starter = starter(alloc, log_group, keep_going, fault, term, caller, out, err);
+    let mut starter = starter(alloc, cx.args(), fault, term, caller, out, err);
     let session = drive_context(alloc, cx, rustup, stable, &mut starter)?;
     Ok(session)
 }
@@ -112,7 +115,8 @@ fn report<E: Write>(
     term: &mut Term,
     err: &mut E,
 ) -> Result<(), AllocError>
-    ensures { term.new.error ≡ false → term.old.error ≡ false }
+    ensures error { term.new.error ≡ false → term.old.error ≡ false }
+    ensures warn { term.new.warn ≡ term.old.warn }
 {
     if is_unprepared(session.handed()) {
         return Ok(());

@@ -1,6 +1,8 @@
 //! What the user is told. A line that can't be written is left out.
 
-ghost use Rattle.std.specs.Prelude.{◌≡◌, OnErr, OnOk, true};
+ghost use Rattle.std.specs.Prelude.{◌≡◌, OnErr, OnOk, map, true};
+ghost use Rattle.hack_base.specs.Notes.{note_of};
+ghost use Rattle.hack_run.specs.Told.{after_notes};
 
 use crate::fault::RunFault;
 use hack_base::notice::Notice;
@@ -69,7 +71,7 @@ pub(crate) fn tell_end<E: Write>(
 
 /// Tells notices.
 pub(crate) fn tell_all<E: Write>(notices: &[Notice], term: &mut Term, err: &mut E)
-    ensures { term.new.error ≡ term.old.error }
+    ensures { term.new ≡ after_notes term.old (map note_of notices.now) }
 {
     for notice in notices {
         let _ = term.notice(notice, err);

@@ -1,19 +1,15 @@
 -- The lines of a run that is cleaned.
-use Rattle.std.proofs.Common.{◌≡◌, ◌+◌, ℕ, filter, arith, List, [], ◌∷◌, ◌++◌, refl, sym, ◌∙◌, ap, subst, Bool, true, false, Result, Option, Some, if◌then◌else◌}
-use Rattle.std.specs.Prelude.{IfSome, OnOk}
+use Rattle.std.proofs.Common.{◌≡◌, ℕ, filter, List, [], ◌∷◌, ◌++◌, append_assoc, refl, sym, ◌∙◌, ap, subst, Bool, true, false, Result, Option, Some, if◌then◌else◌}
+use Rattle.std.specs.Prelude.{IfSome, OnOk, codes}
 use Rattle.std.specs.Io.KnownBytes.{Appends}
 use Rattle.std.proofs.lemmas.Result.{on_ok_weaker}
 use Rattle.hack_plan.specs.declared.places.Quad.{Quad}
-use Rattle.hack_process.specs.CommandTexts.{Command}
+use Rattle.hack_process.specs.CommandTexts.{Command, listed_of}
 use Rattle.hack_runs.specs.View.{PlanView}
 use Rattle.hack_runs.specs.Commands.{clean_command, command_of_quad, package_at}
 use Rattle.hack_session.specs.declared.lines.LineFault.{LineFault}
-use Rattle.hack_session.specs.declared.step.Step.{Step}
-use Rattle.hack_session.specs.declared.step.Outcome.TheVariants.{Failed}
 use Rattle.hack_session.specs.declared.step.Handed.{Handed}
-use Rattle.hack_session.specs.Performs.{GrowsBy}
-use Rattle.hack_session.specs.Lists.{HasListed, is_sent, is_sent_step, line_of, run_lines}
-use Rattle.hack_session.specs.Joins.{appends_more}
+use Rattle.hack_session.specs.Lists.{Lists, ListsAll, Page, is_sent, is_sent_step, line_of, run_lines}
 
 cleaned_lines : (plan : PlanView) (o : Option Quad) (q : Quad) (own clean : Command) → o ≡ Some q → own ≡ command_of_quad plan q → IfSome o (λ x. clean ≡ clean_command plan.call (package_at plan.packages x.package)) → true ≡ plan.call.clean_per_run
     → line_of plan.call.dir clean ++ line_of plan.call.dir own ≡ run_lines plan o
@@ -26,31 +22,35 @@ cleaned_lines plan o q own clean e f g b =
     at_flag false b xs ys = absurd (cc)
     at_flag true b xs ys = refl
 
-pub two_lines : {T : Type 0} (r : Result T LineFault) (plan : PlanView) (o : Option Quad) (q : Quad) (own clean : Command) (dir last : List ℕ) (a b c : Option (List ℕ)) → o ≡ Some q → own ≡ command_of_quad plan q
-    → IfSome o (λ x. clean ≡ clean_command plan.call (package_at plan.packages x.package)) → true ≡ plan.call.clean_per_run → dir ≡ plan.call.dir → last ≡ plan.call.dir
-    → Appends a b (line_of dir clean) → OnOk r (Appends b c (line_of last own)) → OnOk r (Appends a c (run_lines plan o))
-two_lines r plan o q own clean dir last a b c e f g h i j p q' =
-    on_ok_weaker r (λ s. subst (Appends a c) (cleaned_lines plan o q own clean e f g h)
-    (appends_more a b c (line_of plan.call.dir clean) (line_of plan.call.dir own)
-    (subst (λ (d : List ℕ). Appends a b (line_of d clean)) i p) (subst (λ (d : List ℕ). Appends b c (line_of d own)) j s))) q'
+pub two_lines : {T : Type 0} (r : Result T LineFault) (plan : PlanView) (o : Option Quad) (q : Quad) (own clean : Command) (dir : List ℕ) (a b : Option (List ℕ)) → o ≡ Some q → own ≡ command_of_quad plan q
+    → IfSome o (λ x. clean ≡ clean_command plan.call (package_at plan.packages x.package)) → true ≡ plan.call.clean_per_run → dir ≡ plan.call.dir
+    → OnOk r (Appends a b (line_of dir clean ++ line_of dir own)) → OnOk r (Appends a b (run_lines plan o))
+two_lines r plan o q own clean dir a b e f g h i written =
+    on_ok_weaker r (λ s. subst (Appends a b) (cleaned_lines plan o q own clean e f g h) (subst (λ (d : List ℕ). Appends a b (line_of d clean ++ line_of d own)) i s)) written
 
--- a step of the list that failed
-pub record Unlisted (S : Type 0) (ran : PlanView → List Handed → S → S → Type 0) (plan : PlanView) (h : Handed) (s : S) (a b : Option (List ℕ)) (x y u v : ℕ) : Type 0 where
+-- two lines, as they are shown in one text
+pub shown_lines : (a b : Option (List ℕ)) (dir : List ℕ) (clean own : Command) (first last : List ℕ) → first ≡ listed_of dir clean → last ≡ listed_of dir own
+    → Appends a b ((first ++ (codes "\n" ++ last)) ++ codes "\n") → Appends a b (line_of dir clean ++ line_of dir own)
+shown_lines a b dir clean own first last e f written =
+    subst (Appends a b) (ap (λ (x : List ℕ). (x ++ (codes "\n" ++ last)) ++ codes "\n") e ∙ ap (λ (x : List ℕ). (listed_of dir clean ++ (codes "\n" ++ x)) ++ codes "\n") f
+    ∙ ap (λ (x : List ℕ). x ++ codes "\n") (sym (append_assoc (listed_of dir clean) (codes "\n") (listed_of dir own))) ∙ append_assoc (line_of dir clean) (listed_of dir own) (codes "\n")) written
+
+-- a step that is listed leaves the runner
+pub record OneListed (whole S : Type 0) (ran : PlanView → List Handed → S → S → Type 0) (plan : PlanView) (h : Handed) (s : S) (old new : Page) : Type 0 where
   pub sent : ran plan (filter is_sent (h ∷ [])) s s
-  pub lists : HasListed plan (h ∷ []) a b x y u v
+  pub lists : ListsAll whole plan (h ∷ []) old new
 
-pub unlisted : {S : Type 0} (ran : PlanView → List Handed → S → S → Type 0) (plan : PlanView) (step : Step) (s : S) (a b : Option (List ℕ)) (x y u v broken cut : ℕ) → false ≡ is_sent_step step → ran plan [] s s
-    → 1 ≡ broken + cut → GrowsBy broken x y → GrowsBy cut u v → Unlisted S ran plan (record { step = step; outcome = Failed }) s a b x y u v
-unlisted ran plan step s a b x y u v broken cut e none one p q =
-    let is : is_sent_step step ≡ false = sym e in
-    record {
-      sent = rw is none;
-      lists = record {
-        broken = broken;
-        cut = cut;
-        each = rw is one;
-        failed = p;
-        short = q;
-        written = λ h. let k = h 0 (record { step = step; outcome = Failed }) (omega arith) in let m : true ≡ false = rw is at k in absurd (cc);
-      };
-    }
+pub one_listed : (whole : Type 0) {S : Type 0} (ran : PlanView → List Handed → S → S → Type 0) (plan : PlanView) (h : Handed) (s : S) (old new : Page) → false ≡ is_sent_step h.step → ran plan [] s s → Lists whole false plan h old new → OneListed whole S ran plan h s old new
+one_listed whole ran plan h s old new e none one =
+    let is : is_sent_step h.step ≡ false = sym e in
+    record { sent = rw is none; lists = (new, subst (λ (b : Bool). Lists whole b plan h old new) e one, refl) }
+
+-- a step that is performed leaves the page
+pub record OneSent (whole S : Type 0) (ran : PlanView → List Handed → S → S → Type 0) (plan : PlanView) (h : Handed) (s t : S) (page : Page) : Type 0 where
+  pub sent : ran plan (filter is_sent (h ∷ [])) s t
+  pub lists : ListsAll whole plan (h ∷ []) page page
+
+pub one_sent : (whole : Type 0) {S : Type 0} (ran : PlanView → List Handed → S → S → Type 0) (plan : PlanView) (h : Handed) (s t : S) (page : Page) → true ≡ is_sent_step h.step → ran plan (h ∷ []) s t → OneSent whole S ran plan h s t page
+one_sent whole ran plan h s t page e one =
+    let is : is_sent_step h.step ≡ true = sym e in
+    record { sent = rw is one; lists = (page, subst (λ (b : Bool). Lists whole b plan h page page) e refl, refl) }

@@ -9,7 +9,7 @@ use Rattle.hack_session.specs.Histories.{HasPassed}
 use Rattle.hack_session.specs.Performs.{PerformsAll, GrowsBy, HasPerformed}
 
 pub grows_more : (k l a b c : ℕ) → GrowsBy k a b → GrowsBy l b c → GrowsBy (k + l) a c
-grows_more k l a b c p q h = let e : c ≡ b + l = q h in let f : b ≡ a + k = p (omega arith) in omega arith
+grows_more k l a b c p q h = let e = p h in let f = q (omega (arith, e)) in omega (arith, e, f)
 
 pub performs-append : (plan : PlanView) (steps more : List Handed) (calls next : List Call) (cut later : ℕ) → PerformsAll plan steps calls cut → PerformsAll plan more next later → PerformsAll plan (steps ++ more) (calls ++ next) (cut + later)
 performs-append plan [] more calls next cut later p q = rw (p.0, p.1) (rw zero_plus q)

@@ -1,7 +1,6 @@
 -- The command list.
-use Rattle.std.specs.Prelude.{ℕ, ◌≡◌, ◌+◌, Bool, true, false, List, [], ◌++◌, count_by, All, Option, Some, None, Result, Ok, Err, codes, slice_get, if◌then◌else◌}
-use Rattle.std.specs.List.{flat_map}
-use Rattle.std.specs.Io.KnownBytes.{Appends}
+use Rattle.std.specs.Prelude.{ℕ, ◌≡◌, ◌⊎◌, Bool, true, false, List, [], ◌∷◌, ◌++◌, Option, Some, None, Result, Ok, Err, codes, slice_get, if◌then◌else◌}
+use Rattle.std.specs.Io.KnownBytes.{Appends, Keeps}
 use Rattle.hack_plan.specs.declared.places.Quad.{Quad}
 use Rattle.hack_process.specs.CommandTexts.{Command, listed_of}
 use Rattle.hack_runs.specs.declared.parts.Preparation.TheVariants.{Toolchain, Lockfile, Clean}
@@ -80,11 +79,46 @@ CountsLines before now (Ok done) = GrowsBy 0 before now
 CountsLines before now (Err Unwritten) = GrowsBy 1 before now
 CountsLines before now (Err Memory) = GrowsBy 0 before now
 
--- each failed step of the list is one failed write or one refusal of memory; where none failed, the bytes grew by the lines of the steps, in order
-pub record HasListed (plan : PlanView) (steps : List Handed) (old new : Option (List ℕ)) (before now refused refusals : ℕ) : Type 0 where
-  pub broken : ℕ
-  pub cut : ℕ
-  pub each : count_by is_unlisted steps ≡ broken + cut
-  pub failed : GrowsBy broken before now
-  pub short : GrowsBy cut refused refusals
-  pub written : All IsListed steps → Appends old new (flat_map (lines_listed plan) steps)
+-- what a list's writer holds, where it tells that; how many lines it failed to write, and how many steps memory cut short
+pub record Page : Type 0 where
+  pub contents : Option (List ℕ)
+  pub failed : ℕ
+  pub refused : ℕ
+
+-- a step passed, and its lines were written
+pub record Writes (lines : List ℕ) (outcome : Outcome) (old new : Page) : Type 0 where
+  pub passes : outcome ≡ Passed
+  pub written : Appends old.contents new.contents lines
+  pub counted : GrowsBy 0 old.failed new.failed
+  pub kept : new.refused ≡ old.refused
+
+-- a step failed, since a line couldn't be written, which is counted; where lines are written whole or not at all, nothing of it was written
+pub record Misses (whole : Type 0) (outcome : Outcome) (old new : Page) : Type 0 where
+  pub fails : outcome ≡ Failed
+  pub counted : GrowsBy 1 old.failed new.failed
+  pub left : whole → Keeps old.contents new.contents
+  pub kept : new.refused ≡ old.refused
+
+-- a step failed, since memory cut it short, which is counted, and nothing was written
+pub record Refuses (outcome : Outcome) (old new : Page) : Type 0 where
+  pub fails : outcome ≡ Failed
+  pub counted : GrowsBy 1 old.refused new.refused
+  pub kept : (new.contents ≡ old.contents) × (new.failed ≡ old.failed)
+
+-- a step of the list: its lines were written, a write failed, or memory cut it short; one that is performed leaves the page
+abbrev pub Lists : Type 0 → Bool → PlanView → Handed → Page → Page → Type 0
+Lists whole true plan h old new = new ≡ old
+Lists whole false plan h old new = Writes (step_lines plan h.step) h.outcome old new ⊎ (Misses whole h.outcome old new ⊎ Refuses h.outcome old new)
+
+-- steps of a list, one behind the other
+abbrev pub ListsAll : Type 0 → PlanView → List Handed → Page → Page → Type 0
+ListsAll whole plan [] old new = new ≡ old
+ListsAll whole plan (h ∷ steps) old new = (mid : Page) × Lists whole (is_sent h) plan h old mid × ListsAll whole plan steps mid new
+
+-- the lines of a step that passed, and nothing of one that failed
+abbrev pub lines_written : PlanView → Handed → List ℕ
+lines_written plan h = if has_failed h.outcome then [] else step_lines plan h.step
+
+-- the page of a writer that holds this, and of these counts
+abbrev pub page_of : Option (List ℕ) → ℕ → ℕ → Page
+page_of contents failed refused = record { contents = contents; failed = failed; refused = refused }

@@ -1,5 +1,5 @@
 -- What a step asks of a caller.
-use Rattle.std.specs.Prelude.{◌≡◌, ◌⊎◌, ◌+◌, ◌-◌, ◌^◌, ◌<◌, ℕ, Bool, true, false, List, [], ◌∷◌, ◌++◌, Result, Ok, Err, Option, Some, None, slice_get, IsSome, if◌then◌else◌}
+use Rattle.std.specs.Prelude.{◌≡◌, ◌≢◌, ◌⊎◌, ◌+◌, ◌-◌, ◌^◌, ◌<◌, min, ℕ, Bool, true, false, List, [], ◌∷◌, ◌++◌, Result, Ok, Err, Option, Some, None, slice_get, IsSome, if◌then◌else◌}
 use Rattle.hack_process.specs.declared.fault.ProcessFault.{ProcessFault}
 use Rattle.hack_process.specs.declared.fault.ProcessFault.TheVariants.{Memory, EmptyProgram, NeverExecuted, NotText}
 use Rattle.hack_process.specs.declared.fault.ProcessFault.TheVariants.{Failed as ByFailure}
@@ -19,18 +19,20 @@ use Rattle.hack_session.specs.declared.step.Outcome.{Outcome}
 use Rattle.hack_session.specs.declared.step.Outcome.TheVariants.{Passed, Failed}
 use Rattle.hack_session.specs.declared.step.Handed.{Handed}
 
--- the one call is of this command, and ended well
+-- the one call is of this command, whose program has a name, and ended well
 pub record Succeeds (asked : Asked) (calls : List Call) : Type 0 where
   pub call : Call
   pub one : calls ≡ call ∷ []
   pub asks : call.asked ≡ asked
+  pub named : asked.program ≢ []
   pub ended : IsSuccess call.answer.end
 
--- the one call is of this command, and didn't end well
+-- the one call is of this command, whose program has a name, and didn't end well
 pub record Ends (asked : Asked) (calls : List Call) : Type 0 where
   pub call : Call
   pub one : calls ≡ call ∷ []
   pub asks : call.asked ≡ asked
+  pub named : asked.program ≢ []
   pub ended : ¬ IsSuccess call.answer.end
 
 -- a command fails: it is called and doesn't end well, or its program has no name and nothing is called
@@ -44,9 +46,9 @@ Follows (asked ∷ more) calls outcome =
     (Fails asked calls × (outcome ≡ Failed))
     ⊎ ((first rest : List Call) × (calls ≡ first ++ rest) × Succeeds asked first × Follows more rest outcome)
 
--- this command was called, or nothing was
+-- this command was called, whose program has a name, or nothing was
 abbrev pub MayCall : Asked → List Call → Type 0
-MayCall asked calls = (calls ≡ []) ⊎ ((call : Call) × (calls ≡ call ∷ []) × (call.asked ≡ asked))
+MayCall asked calls = (calls ≡ []) ⊎ ((call : Call) × (calls ≡ call ∷ []) × (call.asked ≡ asked) × (asked.program ≢ []))
 
 -- the calls are those of the commands, in order, up to one at which memory was refused
 abbrev pub Breaks : List Asked → List Call → Type 0
@@ -153,9 +155,9 @@ pub record Makes (P : List Call → Type 0) (old new : List Call) : Type 0 where
   pub grown : new ≡ old ++ made
   pub such : P made
 
--- a count that stays at its greatest value has grown by so much
+-- a count of 64 bits has gone up by so much, and stays at its greatest value
 abbrev pub GrowsBy : ℕ → ℕ → ℕ → Type 0
-GrowsBy k old new = new < 2 ^ 64 - 1 → new ≡ old + k
+GrowsBy k old new = old < 2 ^ 64 → new ≡ min (old + k) (2 ^ 64 - 1)
 
 -- the calls of a step, and how many steps were cut short: none and the calls are just its own, or memory was refused in this one
 abbrev pub Performs : PlanView → Handed → List Call → ℕ → Type 0

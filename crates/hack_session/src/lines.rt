@@ -1,8 +1,8 @@
 //! What lines are written to, and why they aren't.
 
-ghost use Rattle.std.specs.Prelude.{ℕ, List, Option, IfSome, OnOk};
+ghost use Rattle.std.specs.Prelude.{ℕ, List, Option, IfSome, OnErr, OnOk};
 ghost use Rattle.std.specs.Fmt.{with_newline};
-ghost use Rattle.std.specs.Io.KnownBytes.{Appends};
+ghost use Rattle.std.specs.Io.KnownBytes.{Appends, Keeps};
 
 use std::alloc::AllocError;
 use std::fmt;
@@ -34,14 +34,26 @@ pub trait Lines {
     /// The bytes that were written, where the type tells them.
     ghost contents: { Self → Option (List ℕ) };
 
+    /// Whether a text that can't be written leaves nothing of it behind.
+    ghost whole: { Type 0 };
+
     /// How many lines could not be written. The count stays at its greatest value.
     ghost failed: { Self → ℕ };
+
+    /// What all writes keep, as where the type's references lead.
+    ghost stays: { Self → Self → Type 0 };
 
     /// Writes a text and a line feed.
     fn line<D: fmt::Display + Drop>(&mut self, text: D) -> Result<(), fmt::Error>
         ensures counted { Counts (failed self.old) (failed self.new) result }
         ensures written { OnOk result (IfSome (with_newline (D.output text))
-            (Appends (contents self.old) (contents self.new))) };
+            (Appends (contents self.old) (contents self.new))) }
+        ensures missed { OnErr result (whole → Keeps (contents self.old) (contents self.new)) }
+        ensures stays { stays self.old self.new };
+
+    ghost stays_none: { (a : Self) → stays a a };
+
+    ghost stays_more: { (a b c : Self) → stays a b → stays b c → stays a c };
 }
 
 /// Lines on a writer.
@@ -53,9 +65,21 @@ pub struct LineWriter<'a, W: Write> {
 }
 
 impl<W: Write> Lines for LineWriter<'_, W> {
+    ghost use Rattle.std.specs.Prelude.{◌≡◌};
+    ghost use Rattle.std.proofs.Common.{◌∙◌, refl};
+
     ghost contents = { λ w. W.contents w.out.now };
 
+    // A writer may take a part of a text before it fails.
+    ghost whole = { ⊥ };
+
     ghost failed = { λ w. w.failed };
+
+    ghost stays = { λ a b. a.out.ghost_name ≡ b.out.ghost_name };
+
+    ghost stays_none = { λ a. refl };
+
+    ghost stays_more = { λ a b c p q. p ∙ q };
 
     fn line<D: fmt::Display + Drop>(&mut self, text: D) -> Result<(), fmt::Error> {
         match self.out.writeln(text) {

@@ -1,19 +1,21 @@
 //! Who lists the commands of steps.
 
-ghost use Rattle.std.specs.Prelude.{◌≡◌, ◌<◌, ◌++◌, None, OnOk, filter, length, false, slice_get};
-ghost use Rattle.std.specs.Io.KnownBytes.{Appends};
+ghost use Rattle.std.specs.Prelude.{◌≡◌, ◌≢◌, ◌<◌, ◌++◌, Err, IfSome, None, OnOk, Some, codes};
+ghost use Rattle.std.specs.Prelude.{false, filter, length, slice_get};
+ghost use Rattle.std.specs.Fmt.{with_newline};
+ghost use Rattle.std.specs.Io.KnownBytes.{Appends, Keeps};
 ghost use Rattle.std.proofs.Common.{◌∙◌, refl};
-ghost use Rattle.hack_process.specs.Commands.{command_of};
+ghost use Rattle.hack_process.specs.Commands.{command_of, line_text};
 ghost use Rattle.hack_runs.specs.Commands.{clean_command};
 ghost use Rattle.hack_session.specs.Histories.{IsStepOf};
-ghost use Rattle.hack_session.specs.Lists.{CountsLines, HasListed, is_sent, is_sent_step, line_of};
-ghost use Rattle.hack_session.specs.Lists.{run_lines, step_lines};
-ghost use Rattle.hack_session.specs.Joins.{listed_none, listed_more, sent_more};
+ghost use Rattle.hack_session.specs.Lists.{CountsLines, ListsAll, is_sent, is_sent_step, line_of};
+ghost use Rattle.hack_session.specs.Lists.{page_of, run_lines, step_lines};
+ghost use Rattle.hack_session.specs.Joins.{listed_more, sent_more};
 
 use crate::lines::{LineFault, Lines};
 use crate::runner::Runner;
 use crate::step::{Outcome, Step};
-use hack_process::process::ProcessBuilder;
+use hack_process::process::{Line, ProcessBuilder};
 use hack_runs::parts::Preparation;
 use hack_runs::plan::Plan;
 use std::alloc::Global;
@@ -33,23 +35,28 @@ impl<W: Lines, R: Runner> Runner for Lister<'_, W, R> {
     ghost ran = { λ plan steps a b. (a.out.ghost_name ≡ b.out.ghost_name)
         × (a.runner.ghost_name ≡ b.runner.ghost_name)
         × R.ran plan (filter is_sent steps) a.runner.now b.runner.now
-        × HasListed plan steps (W.contents a.out.now) (W.contents b.out.now)
-        (W.failed a.out.now) (W.failed b.out.now) a.refused b.refused };
+        × ListsAll W.whole plan steps
+        (page_of (W.contents a.out.now) (W.failed a.out.now) a.refused)
+        (page_of (W.contents b.out.now) (W.failed b.out.now) b.refused)
+        × W.stays a.out.now b.out.now };
 
     ghost ran_none = { λ plan a. (
       refl,
       refl,
       R.ran_none plan a.runner.now,
-      listed_none plan (W.contents a.out.now) (W.failed a.out.now) a.refused,
+      refl,
+      W.stays_none a.out.now,
     ) };
 
     ghost ran_more = { λ plan steps more a b c p q. (
       p.0 ∙ q.0,
       p.1 ∙ q.1,
       sent_more plan steps more R.ran a.runner.now b.runner.now c.runner.now R.ran_more p.2 q.2,
-      listed_more plan steps more (W.contents a.out.now) (W.contents b.out.now)
-          (W.contents c.out.now) (W.failed a.out.now) (W.failed b.out.now) (W.failed c.out.now)
-          a.refused b.refused c.refused p.3 q.3,
+      listed_more W.whole plan steps more
+          (page_of (W.contents a.out.now) (W.failed a.out.now) a.refused)
+          (page_of (W.contents b.out.now) (W.failed b.out.now) b.refused)
+          (page_of (W.contents c.out.now) (W.failed c.out.now) c.refused) p.3 q.3,
+      W.stays_more a.out.now b.out.now c.out.now p.4 q.4,
     ) };
 
     fn step(&mut self, plan: &Plan, step: Step) -> Outcome {
@@ -84,6 +91,10 @@ fn list<W: Lines>(alloc: Global, out: &mut W, plan: &Plan, step: Step) -> Result
     ensures written { OnOk result (Appends (W.contents out.old) (W.contents out.new)
         (step_lines plan.now step)) }
     ensures counted { CountsLines (W.failed out.old) (W.failed out.new) result }
+    ensures kept { result ≡ Err LineFault.Memory → out.new ≡ out.old }
+    ensures left { result ≡ Err LineFault.Unwritten
+        → W.whole → Keeps (W.contents out.old) (W.contents out.new) }
+    ensures stays { W.stays out.old out.new }
 {
     match step {
         Step::Prepare(_) => list_cleaning(alloc, out, plan),
@@ -97,6 +108,10 @@ fn list_cleaning<W: Lines>(alloc: Global, out: &mut W, plan: &Plan) -> Result<()
     ensures written { OnOk result (Appends (W.contents out.old) (W.contents out.new)
         (line_of plan.now.call.dir (clean_command plan.now.call None))) }
     ensures counted { CountsLines (W.failed out.old) (W.failed out.new) result }
+    ensures kept { result ≡ Err LineFault.Memory → out.new ≡ out.old }
+    ensures left { result ≡ Err LineFault.Unwritten
+        → W.whole → Keeps (W.contents out.old) (W.contents out.new) }
+    ensures stays { W.stays out.old out.new }
 {
     let command = plan.cleaning(alloc)?;
     put(out, &command, plan.dir())
@@ -113,16 +128,17 @@ fn list_run<W: Lines>(
     ensures written { OnOk result (Appends (W.contents out.old) (W.contents out.new)
         (run_lines plan.now (slice_get plan.now.quads place))) }
     ensures counted { CountsLines (W.failed out.old) (W.failed out.new) result }
+    ensures kept { result ≡ Err LineFault.Memory → out.new ≡ out.old }
+    ensures left { result ≡ Err LineFault.Unwritten
+        → W.whole → Keeps (W.contents out.old) (W.contents out.new) }
+    ensures stays { W.stays out.old out.new }
 {
     let run = plan.run(alloc, place)?;
     if !plan.cleans_per_run() {
         return put(out, &run.command, plan.dir());
     }
     let cleaning = plan.run_cleaning(alloc, place)?;
-    match put(out, &cleaning, plan.dir()) {
-        Ok(()) => put(out, &run.command, plan.dir()),
-        Err(fault) => Err(fault),
-    }
+    put_two(out, &cleaning, &run.command, plan.dir())
 }
 
 /// Writes the line of a command.
@@ -130,9 +146,65 @@ fn put<W: Lines>(out: &mut W, command: &ProcessBuilder<'_>, dir: &str) -> Result
     ensures written { OnOk result (Appends (W.contents out.old) (W.contents out.new)
         (line_of dir.now (command_of command.now))) }
     ensures counted { CountsLines (W.failed out.old) (W.failed out.new) result }
+    ensures never { result ≢ Err LineFault.Memory }
+    ensures left { result ≡ Err LineFault.Unwritten
+        → W.whole → Keeps (W.contents out.old) (W.contents out.new) }
+    ensures stays { W.stays out.old out.new }
 {
-    match out.line(command.listed(dir)) {
+    put_text(out, command.listed(dir))
+}
+
+/// Writes the lines of a cleaning and of the run behind it, in one text: both or none.
+fn put_two<'a, W: Lines>(
+    out: &mut W,
+    cleaning: &'a ProcessBuilder<'a>,
+    own: &'a ProcessBuilder<'a>,
+    dir: &'a str,
+) -> Result<(), LineFault>
+    ensures written { OnOk result (Appends (W.contents out.old) (W.contents out.new)
+        (line_of dir.now (command_of cleaning.now) ++ line_of dir.now (command_of own.now))) }
+    ensures counted { CountsLines (W.failed out.old) (W.failed out.new) result }
+    ensures never { result ≢ Err LineFault.Memory }
+    ensures left { result ≡ Err LineFault.Unwritten
+        → W.whole → Keeps (W.contents out.old) (W.contents out.new) }
+    ensures stays { W.stays out.old out.new }
+{
+    let text = Cleaned {
+        cleaning: cleaning.listed(dir),
+        own: own.listed(dir),
+    };
+    put_text(out, text)
+}
+
+/// Writes a text and a line feed.
+fn put_text<W: Lines, D: fmt::Display + Drop>(out: &mut W, text: D) -> Result<(), LineFault>
+    ensures written { OnOk result (IfSome (with_newline (D.output text))
+        (Appends (W.contents out.old) (W.contents out.new))) }
+    ensures counted { CountsLines (W.failed out.old) (W.failed out.new) result }
+    ensures never { result ≢ Err LineFault.Memory }
+    ensures left { result ≡ Err LineFault.Unwritten
+        → W.whole → Keeps (W.contents out.old) (W.contents out.new) }
+    ensures stays { W.stays out.old out.new }
+{
+    match out.line(text) {
         Ok(()) => Ok(()),
         Err(fmt::Error) => Err(LineFault::Unwritten),
+    }
+}
+
+/// The lines of a run that is cleaned, without the last line feed.
+#[derive(Drop)]
+struct Cleaned<'a> {
+    cleaning: Line<'a>,
+    own: Line<'a>,
+}
+
+impl fmt::Display for Cleaned<'_> {
+    ghost output = { λ s. Some (line_text s.cleaning ++ (codes "\n" ++ line_text s.own)) };
+
+    fn fmt<W: fmt::Write>(&self, f: &mut fmt::Formatter<W>) -> fmt::Result {
+        let cleaning = &self.cleaning;
+        let own = &self.own;
+        write!(f, "{cleaning}\n{own}")
     }
 }

@@ -1,7 +1,7 @@
 //! Toolchains that rustup adds.
 
-ghost use Rattle.std.specs.Prelude.{◌≡◌, ◌≢◌, ◌∷◌, [], List, ℕ, IfOk, MatchOption, true, not, map};
-ghost use Rattle.std.specs.Prelude.{string_bytes};
+ghost use Rattle.std.specs.Prelude.{◌≡◌, ◌≢◌, ◌∷◌, [], List, ℕ, IfOk, MatchOption, false, true};
+ghost use Rattle.std.specs.Prelude.{map, not, string_bytes};
 ghost use Rattle.hack_process.specs.Commands.{asked_of, command_of};
 ghost use Rattle.hack_session.specs.Performs.{Breaks, BreaksInstall, Comes, Fails, Follows};
 ghost use Rattle.hack_session.specs.Performs.{Installs, Makes};
@@ -26,7 +26,7 @@ pub fn install_toolchain<C: Caller, O: Write, E: Write>(
     print_output: bool,
     dir: &str,
 ) -> Result<(), ProcessFault>
-    ensures { C.tells → Makes (λ calls. Comes
+    ensures made { C.tells → Makes (λ calls. Comes
         (Installs (map string_bytes target.now)
         (asked_of true (trial_of rustup.now (toolchain_name toolchain.now)))
         (asked_of (not print_output) (addition_of rustup.now (toolchain_name toolchain.now)
@@ -36,6 +36,7 @@ pub fn install_toolchain<C: Caller, O: Write, E: Write>(
         (asked_of (not print_output) (addition_of rustup.now (toolchain_name toolchain.now)
         (map string_bytes target.now))) calls) result)
         (C.calls caller.old) (C.calls caller.new) }
+    ensures quiet { print_output ≡ false → screen.new ≡ screen.old }
 {
     let name = without_plus(toolchain);
     let add = addition(alloc, rustup, name, target)?;
@@ -56,12 +57,13 @@ pub(crate) fn try_toolchain<C: Caller, O: Write, E: Write>(
     print_output: bool,
     dir: &str,
 ) -> Result<(), ProcessFault>
-    ensures { C.tells → Makes (λ calls. Comes
+    ensures made { C.tells → Makes (λ calls. Comes
         (Installs [] (asked_of true (command_of trial.now))
         (asked_of (not print_output) (command_of add.now)) calls)
         (BreaksInstall [] (asked_of true (command_of trial.now))
         (asked_of (not print_output) (command_of add.now)) calls) result)
         (C.calls caller.old) (C.calls caller.new) }
+    ensures quiet { print_output ≡ false → screen.new ≡ screen.old }
 {
     match call_quietly(alloc, caller, trial, dir) {
         Ok(()) => Ok(()),
@@ -83,10 +85,11 @@ pub(crate) fn add_toolchain<C: Caller, O: Write, E: Write>(
     print_output: bool,
     dir: &str,
 ) -> Result<(), ProcessFault>
-    ensures { C.tells → Makes (λ calls. Comes
+    ensures made { C.tells → Makes (λ calls. Comes
         (Follows (asked_of (not print_output) (command_of add.now) ∷ []) calls)
         (Breaks (asked_of (not print_output) (command_of add.now) ∷ []) calls) result)
         (C.calls caller.old) (C.calls caller.new) }
+    ensures quiet { print_output ≡ false → screen.new ≡ screen.old }
 {
     if !print_output {
         return call_quietly(alloc, caller, add, dir);

@@ -43,7 +43,8 @@ impl<C: Caller, O: Write, E: Write> Runner for Starter<'_, C, O, E> {
         × (C.tells → HasPerformed plan steps (C.calls a.caller.now) (C.calls b.caller.now)
         a.refused b.refused)
         × (HasTold a.term.now a.fault.now → HasTold b.term.now b.fault.now)
-        × (All HasPassed steps ⊎ HasTold b.term.now b.fault.now) };
+        × (All HasPassed steps ⊎ HasTold b.term.now b.fault.now)
+        × (b.term.now.warn ≡ a.term.now.warn) };
 
     ghost ran_none = { λ plan a. (
       refl,
@@ -52,6 +53,7 @@ impl<C: Caller, O: Write, E: Write> Runner for Starter<'_, C, O, E> {
       λ t. performed_none plan (C.calls a.caller.now) a.refused,
       λ told. told,
       inl none_passed,
+      refl,
     ) };
 
     ghost ran_more = { λ plan steps more a b c p q. (
@@ -63,6 +65,7 @@ impl<C: Caller, O: Write, E: Write> Runner for Starter<'_, C, O, E> {
       λ told. q.4 (p.4 told),
       passed_or HasPassed (HasTold b.term.now b.fault.now) (HasTold c.term.now c.fault.now) steps
           more p.5 q.4 q.5,
+      q.6 ∙ p.6,
     ) };
 
     fn step(&mut self, plan: &Plan, step: Step) -> Outcome {

@@ -16,7 +16,7 @@ returns-clause-ok g c =
     (λ calls. Installs [] (asked_of true (trial_of c.as_str.result.now (codes "stable"))) (asked_of true (addition_of c.as_str.result.now (codes "stable") [])) calls)
     (λ calls. BreaksInstall [] (asked_of true (trial_of c.as_str.result.now (codes "stable"))) (asked_of true (addition_of c.as_str.result.now (codes "stable") [])) calls)
     (g.C.Caller.calls c.args.caller.now) (g.C.Caller.calls c.install_toolchain.new.caller) c.install_toolchain.result
-    c.install_toolchain.ensures)
+    c.install_toolchain.ensures.made)
 
 pub returns-clause-err : goal.returns-clause-err
 returns-clause-err g c =
@@ -25,4 +25,4 @@ returns-clause-err g c =
     (λ calls. Installs [] (asked_of true (trial_of c.as_str.result.now (codes "stable"))) (asked_of true (addition_of c.as_str.result.now (codes "stable") [])) calls)
     (λ calls. BreaksInstall [] (asked_of true (trial_of c.as_str.result.now (codes "stable"))) (asked_of true (addition_of c.as_str.result.now (codes "stable") [])) calls)
     (g.C.Caller.calls c.args.caller.now) (g.C.Caller.calls c.install_toolchain.new.caller) c.install_toolchain.result
-    c.install_toolchain.ensures)
+    c.install_toolchain.ensures.made)

@@ -1,3 +1,4 @@
+use Rattle.std.specs.Str.{IsUtf8}
 use Rattle.std.proofs.Common.{◌≡◌, subst, sym, true, string_bytes}
 use Rattle.hack_base.specs.Names.{names_of}
 use Rattle.hack_words.specs.Start.{wants_rustup}
@@ -12,9 +13,9 @@ use Rattle.hack_run.proofs.ask.rustup_for.Goals as goal
 pub returns-clause-may : goal.returns-clause-may
 returns-clause-may g c = λ t.
     subst (λ k. MayAdd (asked_of true k) (g.C.Caller.calls c.args.caller.now) (g.C.Caller.calls c.read.new.caller)) c.in_ok-asked.ensures
-    (read_may g.C.Caller.tells (λ text answer. IsSuccess answer.end × (string_bytes text ≡ without_line_ends answer.stdout)) (asked_of true (command_of c.in_ok-asked.asked)) (text_of true c.as_str.result.now (command_of c.in_ok-asked.asked)) (g.C.Caller.calls c.args.caller.now) (g.C.Caller.calls c.read.new.caller) c.read.result c.read.ensures.ok c.read.ensures.err t)
+    (read_may g.C.Caller.tells (λ text answer. IsSuccess answer.end × IsUtf8 answer.stdout × (string_bytes text ≡ without_line_ends answer.stdout)) (asked_of true (command_of c.in_ok-asked.asked)) (text_of true c.as_str.result.now (command_of c.in_ok-asked.asked)) (g.C.Caller.calls c.args.caller.now) (g.C.Caller.calls c.read.new.caller) c.read.result c.read.ensures.ok c.read.ensures.err t)
 
 pub returns-clause-asked : goal.returns-clause-asked
 returns-clause-asked g c =
-    asks_in_vain g.C.Caller.tells (wants_rustup (names_of c.args.words.now)) (string_bytes c.args.env.now.rustup) (g.C.Caller.calls c.args.caller.now) (g.C.Caller.calls c.read.new.caller) c.unknown_rustup.result
-    (sym c.if-not-wants_rustup.ensures) (returns-clause-may g c) c.unknown_rustup.ensures
+    asks_in_vain g.C.Caller.tells (wants_rustup (names_of c.args.words.now)) (string_bytes c.args.env.now.rustup) (text_of true c.as_str.result.now (command_of c.in_ok-asked.asked)) (command_of c.in_ok-asked.asked) (g.C.Caller.calls c.args.caller.now) (g.C.Caller.calls c.read.new.caller) c.unknown_rustup.result c.in-Err.fault
+    (sym c.if-not-wants_rustup.ensures) c.in_ok-asked.ensures c.in-Err.ensures.err c.unknown_rustup.ensures.unknown c.unknown_rustup.ensures.failed

@@ -1,3 +1,4 @@
+use Rattle.std.specs.Str.{IsUtf8}
 use Rattle.std.proofs.Common.{◌≡◌, string_bytes, subst, true}
 use Rattle.hack_process.specs.Calls.{IsSuccess, MayAdd}
 use Rattle.hack_process.specs.CargoTexts.{release_part}
@@ -22,4 +23,4 @@ returns-in-Ok-clause-read g c =
 pub returns-clause-may : goal.returns-clause-may
 returns-clause-may g c = λ t.
     subst (λ k. MayAdd (asked_of true k) (g.C.Caller.calls c.args.caller.now) (g.C.Caller.calls c.read.new.caller)) c.in_ok-asked.ensures
-    (read_may g.C.Caller.tells (λ text answer. IsSuccess answer.end × (string_bytes text ≡ without_line_ends answer.stdout)) (asked_of true (command_of c.in_ok-asked.asked)) (text_of true c.as_str.result.now (command_of c.in_ok-asked.asked)) (g.C.Caller.calls c.args.caller.now) (g.C.Caller.calls c.read.new.caller) c.read.result c.read.ensures.ok c.read.ensures.err t)
+    (read_may g.C.Caller.tells (λ text answer. IsSuccess answer.end × IsUtf8 answer.stdout × (string_bytes text ≡ without_line_ends answer.stdout)) (asked_of true (command_of c.in_ok-asked.asked)) (text_of true c.as_str.result.now (command_of c.in_ok-asked.asked)) (g.C.Caller.calls c.args.caller.now) (g.C.Caller.calls c.read.new.caller) c.read.result c.read.ensures.ok c.read.ensures.err t)

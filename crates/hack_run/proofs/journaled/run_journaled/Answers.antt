@@ -1,25 +1,30 @@
-use Rattle.std.proofs.Common.{refl, string_bytes, subst}
+use Rattle.std.proofs.Common.{◌∙◌, arith, inl, inr, refl, string_bytes, subst, sym}
 use Rattle.hack_base.specs.Names.{names_of}
 use Rattle.hack_files.specs.Files.{Contents, KeepsAll}
 use Rattle.hack_journal.specs.Journal.{edits_of}
+use Rattle.hack_journal.specs.Apart.{apart}
+use Rattle.hack_journal.specs.Safe.{without}
 use Rattle.hack_journal.specs.SafeLaws.{stays_join}
 use Rattle.hack_run.specs.Journals.{contents_seen}
-use Rattle.hack_run.specs.Whole.{IsDone}
-use Rattle.hack_run.proofs.JournalLemmas.{seen_same}
+use Rattle.hack_run.specs.Told.{seen_of}
+use Rattle.hack_run.proofs.JournalLemmas.{entries_back, leaves_end, leaves_nothing, none_before, seen_same}
+use Rattle.hack_run.proofs.WholeLemmas.{done_moved}
 use Rattle.hack_run.proofs.journaled.run_journaled.Goals as goal
 
 pub returns-clause-done : goal.returns-clause-done
-returns-clause-done g c = λ quiet t files lockfiles.
+returns-clause-done g c = λ quiet t.
     let mid = c.run-status.new.files in
     let bytes = g.F.Files.bytes_at in
     let ran = rw (c.new-files.ensures.files, c.new.ensures.journal) at c.run-status.ensures.stays in
-    let did = rw (c.new-files.ensures.files, c.new-files.ensures.lockfiles, c.new-files.ensures.failures, c.new.ensures.journal, c.new.ensures.files) at (c.run-status.ensures.done quiet t (files, lockfiles)) in
-    subst (λ (last : Contents). IsDone (names_of c.args.words.now) c.args.env.now (contents_seen (string_bytes c.args.journal) (bytes c.args.files) (g.L.Files.bytes_at c.args.lockfiles)) last 0 (g.C.Caller.calls c.args.runner.now) (g.C.Caller.calls c.run-status.new.runner))
-    (seen_same (string_bytes c.args.journal) (string_bytes mid.files.journal) (bytes mid.files.files) (bytes c.finish.new.self.files) (bytes c.into_inner.result) (g.L.Files.bytes_at mid.lockfiles) ran.0.0 (c.finish.ensures.others files) (rw c.into_inner.ensures refl)) did
+    let did = rw (c.new-files.ensures.files, c.new-files.ensures.lockfiles, c.new-files.ensures.failures, c.new.ensures.journal, c.new.ensures.files) at (c.run-status.ensures.done quiet t) in
+    done_moved (g.F.Files.tells × g.L.Files.tells) (names_of c.args.words.now) c.args.env.now (contents_seen (string_bytes c.args.journal) (bytes c.args.files) (g.L.Files.bytes_at c.args.lockfiles))
+    (apart (without (string_bytes mid.files.journal) (bytes mid.files.files)) (g.L.Files.bytes_at mid.lockfiles)) (contents_seen (string_bytes c.args.journal) (bytes c.into_inner.result) (g.L.Files.bytes_at mid.lockfiles)) 0
+    (seen_of c.args.term.now.warn c.run-status.new.term (g.O.Write.contents c.args.out.now) (g.O.Write.contents c.run-status.new.out)) (g.C.Caller.calls c.args.runner.now) (g.C.Caller.calls c.run-status.new.runner)
+    (λ told. seen_same (string_bytes c.args.journal) (string_bytes mid.files.journal) (bytes mid.files.files) (bytes c.end_journal-failed.new.files.files) (bytes c.into_inner.result) (g.L.Files.bytes_at mid.lockfiles) ran.0.0 (c.end_journal-failed.ensures.others told.0) (rw c.into_inner.ensures refl)) did
 
 pub returns-clause-made : goal.returns-clause-made
-returns-clause-made g c = λ t files lockfiles.
-    rw (c.new-files.ensures.files, c.new-files.ensures.lockfiles, c.new-files.ensures.failures, c.new.ensures.journal, c.new.ensures.files) at (c.run-status.ensures.made t (files, lockfiles))
+returns-clause-made g c = λ t.
+    rw (c.new-files.ensures.files, c.new-files.ensures.lockfiles, c.new-files.ensures.failures, c.new.ensures.journal, c.new.ensures.files) at (c.run-status.ensures.made t)
 
 pub returns-clause-clean : goal.returns-clause-clean
 returns-clause-clean g c = λ quiet back files lockfiles.
@@ -28,20 +33,58 @@ returns-clause-clean g c = λ quiet back files lockfiles.
     let ran = rw (c.new-files.ensures.files, c.new.ensures.journal) at c.run-status.ensures.stays in
     let kept = rw (c.new-files.ensures.files, c.new-files.ensures.lockfiles, c.new.ensures.journal, c.new.ensures.files) at ((c.run-status.ensures.clean quiet).1 back (files, lockfiles)) in
     subst (λ (last : Contents). KeepsAll (contents_seen (string_bytes c.args.journal) (bytes c.args.files) (g.L.Files.bytes_at c.args.lockfiles)) last)
-    (seen_same (string_bytes c.args.journal) (string_bytes mid.files.journal) (bytes mid.files.files) (bytes c.finish.new.self.files) (bytes c.into_inner.result) (g.L.Files.bytes_at mid.lockfiles) ran.0.0 (c.finish.ensures.others files) (rw c.into_inner.ensures refl)) kept
+    (seen_same (string_bytes c.args.journal) (string_bytes mid.files.journal) (bytes mid.files.files) (bytes c.end_journal-failed.new.files.files) (bytes c.into_inner.result) (g.L.Files.bytes_at mid.lockfiles) ran.0.0 (c.end_journal-failed.ensures.others files) (rw c.into_inner.ensures refl)) kept
 
 -- src/journaled.rt:19:1
 pub returns-clause-safe : goal.returns-clause-safe
 returns-clause-safe g c = λ tells whole absent.
     let first = c.new.result in
     let mid = c.run-status.new.files.files in
-    let last = c.finish.new.self in
+    let last = c.end_journal-failed.new.files in
     let trace = g.F.Files.trace in
     let bytes = g.F.Files.bytes_at in
     let ran = rw c.new-files.ensures.files at c.run-status.ensures.stays in
     let both = stays_join (string_bytes first.journal) (string_bytes mid.journal) (edits_of first.entries.items) (edits_of mid.entries.items) (edits_of last.entries.items)
     (trace first.files) (trace mid.files) (trace last.files) (bytes first.files) (bytes mid.files) (bytes last.files)
-    ran.0.0 (ran.0.1 tells whole) (c.finish.ensures.stays tells whole) (bytes c.args.files) (c.new.ensures.begun absent) in
+    ran.0.0 (ran.0.1 tells whole) (c.end_journal-failed.ensures.stays tells whole) (bytes c.args.files) (c.new.ensures.begun absent) in
     let named = rw c.new.ensures.journal at both.0 in
     let from = rw c.new.ensures.files at named in
     rw c.into_inner.ensures from
+
+pub returns-clause-back : goal.returns-clause-back
+returns-clause-back g c = λ back files lockfiles.
+    let mid = c.run-status.new.files in
+    let bytes = g.F.Files.bytes_at in
+    let ran = rw (c.new-files.ensures.files, c.new.ensures.journal) at c.run-status.ensures.stays in
+    let left = rw (c.new-files.ensures.files, c.new-files.ensures.lockfiles, c.new-files.ensures.failures, c.new.ensures.journal, c.new.ensures.files, sym c.failures-known.ensures) at (c.run-status.ensures.back back (files, lockfiles)) in
+    leaves_end (contents_seen (string_bytes c.args.journal) (bytes c.args.files) (g.L.Files.bytes_at c.args.lockfiles)) _ _ c.failures-known.result c.end_journal-failed.result
+    (seen_same (string_bytes c.args.journal) (string_bytes mid.files.journal) (bytes mid.files.files) (bytes c.end_journal-failed.new.files.files) (bytes c.into_inner.result) (g.L.Files.bytes_at mid.lockfiles) ran.0.0 (c.end_journal-failed.ensures.others files) (rw c.into_inner.ensures refl))
+    c.end_journal-failed.ensures.failed left
+
+pub returns-clause-few : goal.returns-clause-few
+returns-clause-few g c = λ quiet.
+    let none = (c.run-status.ensures.clean quiet).0 in
+    elim c.end_journal-failed.ensures.failed [
+      | inl same ↦ omega (arith, same, c.failures-known.ensures, c.new-files.ensures.failures, none (omega (arith, c.new-files.ensures.failures)))
+      | inr one ↦ omega (arith, one, c.failures-known.ensures, c.new-files.ensures.failures, none (omega (arith, c.new-files.ensures.failures)))
+    ]
+
+pub returns-clause-gone : goal.returns-clause-gone
+returns-clause-gone g c = λ back tells whole lockfiles none absent.
+    let first = c.new.result in
+    let mid = c.run-status.new.files in
+    let bytes = g.F.Files.bytes_at in
+    let j = string_bytes c.args.journal in
+    let ran = rw c.new-files.ensures.files at c.run-status.ensures.stays in
+    let kept = (ran.0.1 tells whole (bytes c.args.files) (c.new.ensures.begun absent)).1 in
+    let left = rw (c.new-files.ensures.files, c.new-files.ensures.lockfiles, c.new-files.ensures.failures, c.new.ensures.journal, c.new.ensures.files, sym c.failures-known.ensures) at (c.run-status.ensures.back back (tells, lockfiles)) in
+    let named = sym ran.0.0 ∙ c.new.ensures.journal in
+    let all = leaves_nothing _ _ c.failures-known.result (none_before c.failures-known.result c.end_journal-failed.result none c.end_journal-failed.ensures.failed) left in
+    let is_back = entries_back j (bytes c.args.files) (bytes mid.files.files) (g.L.Files.bytes_at c.args.lockfiles) (g.L.Files.bytes_at mid.lockfiles) (edits_of mid.files.entries.items) kept.more
+    (rw c.new.ensures.journal at kept.keeps) (rw named at all) (rw (c.new.ensures.files, c.new.ensures.journal, named) at (ran.2 tells)) in
+    rw (c.into_inner.ensures, sym named) (c.end_journal-failed.ensures.gone none tells is_back)
+
+pub returns-clause-stays : goal.returns-clause-stays
+returns-clause-stays g c =
+    let ran = rw (c.new-files.ensures.files, c.new-files.ensures.lockfiles, c.new.ensures.files) at c.run-status.ensures.stays in
+    (rw c.into_inner.ensures (g.F.Files.stays_more _ _ _ ran.0.2 c.end_journal-failed.ensures.handed), ran.1)

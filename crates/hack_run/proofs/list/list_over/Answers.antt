@@ -1,10 +1,12 @@
-use Rattle.std.proofs.Common.{◌∙◌, ap, inr, subst, sym}
+use Rattle.std.proofs.Common.{◌∙◌, ap, inl, inr, subst, sym}
 use Rattle.std.specs.Prelude.{filter}
-use Rattle.hack_session.specs.Lists.{is_sent}
-use Rattle.hack_run.proofs.RunLemmas.{all_listed, none_refused}
+use Rattle.std.specs.List.{flat_map}
+use Rattle.std.specs.Io.KnownBytes.{Appends, Keeps}
+use Rattle.std.proofs.KnownBytes.{Keeps-refl}
+use Rattle.hack_session.specs.Lists.{is_sent, lines_listed, lines_written, page_of}
+use Rattle.hack_run.proofs.RunLemmas.{all_written, none_refused, passed_written}
 use Rattle.hack_run.proofs.list.list_over.Goals as goal
 
--- src/list.rt:101:1
 pub returns-clause-done : goal.returns-clause-done
 returns-clause-done g c = λ ok before after.
     let session = c.in_ok-_session._session in
@@ -13,20 +15,36 @@ returns-clause-done g c = λ ok before after.
     let told = c.in_ok-_session.ensures.ran.3 in
     let ran = c.in_ok-_session.ensures.ran.4 in
     let last = c.drive_context.new.runner in
+    let contents = g.W.Lines.contents in
+    let failed = g.W.Lines.failed in
     let out_is = c.out-2-1.given.1 (told.0 ∙ ran.0) in
     let runner_is = c.runner-2-1.given.1 (told.1 ∙ ran.1) in
+    let all = all_written g.W.Lines.whole session.plan session.handed (page_of (contents mid.out.now) (failed mid.out.now) mid.refused) (page_of (contents last.out.now) (failed last.out.now) last.refused)
+    (ap failed told.2 ∙ before) told.3 (sym (ap failed out_is) ∙ after) (none_refused last.refused ok) ran.3 in
     record {
       over = record {
         course = session;
         handed = headline;
         notes = c.in_ok-_session.ensures.ran.0;
+        planned = c.in_ok-_session.ensures.ran.2;
         mid = mid.runner.now;
         told = told.4;
         ran = subst (λ new. g.R.Runner.ran session.plan (filter is_sent session.handed) mid.runner.now new) (sym runner_is) ran.2;
+        wrote = λ w. subst (λ new. Appends (contents c.args.out.now) (contents new) (flat_map (lines_written session.plan) session.handed)) (sym out_is)
+            (subst (λ old. Appends (contents old) (contents last.out.now) (flat_map (lines_written session.plan) session.handed)) told.2
+            (passed_written g.W.Lines.whole session.plan session.handed (page_of (contents mid.out.now) (failed mid.out.now) mid.refused) (page_of (contents last.out.now) (failed last.out.now) last.refused) w ran.3));
       };
-      listed = all_listed session.plan session.handed (g.W.Lines.contents mid.out.now) (g.W.Lines.contents last.out.now) (g.W.Lines.failed mid.out.now) (g.W.Lines.failed last.out.now) mid.refused last.refused
-          (ap g.W.Lines.failed told.2 ∙ before) (sym (ap g.W.Lines.failed out_is) ∙ after) told.3 (none_refused last.refused ok) ran.3;
+      listed = all.listed;
+      written = subst (λ new. Appends (contents c.args.out.now) (contents new) (flat_map (lines_listed session.plan) session.handed)) (sym out_is)
+          (subst (λ old. Appends (contents old) (contents last.out.now) (flat_map (lines_listed session.plan) session.handed)) told.2 all.written);
     }
+
+pub returns-clause-stays : goal.returns-clause-stays
+returns-clause-stays g c =
+    let told = c.in_ok-_session.ensures.ran.3 in
+    let ran = c.in_ok-_session.ensures.ran.4 in
+    let out_is = c.out-2-1.given.1 (told.0 ∙ ran.0) in
+    subst (λ new. g.W.Lines.stays c.args.out.now new) (sym out_is) (subst (λ old. g.W.Lines.stays old c.drive_context.new.runner.out.now) told.2 ran.4)
 
 pub returns-clause-made : goal.returns-clause-made
 returns-clause-made g c =
@@ -35,11 +53,46 @@ returns-clause-made g c =
     let told = c.in_ok-_session.ensures.ran.3 in
     let ran = c.in_ok-_session.ensures.ran.4 in
     let runner_is = c.runner-2-1.given.1 (told.1 ∙ ran.1) in
-    inr (inr (record {
+    let last = c.drive_context.new.runner in
+    let contents = g.W.Lines.contents in
+    let failed = g.W.Lines.failed in
+    let out_is = c.out-2-1.given.1 (told.0 ∙ ran.0) in
+    inr (record {
       course = session;
       handed = c.in_ok-_session.ensures.headline;
       notes = c.in_ok-_session.ensures.ran.0;
+      planned = c.in_ok-_session.ensures.ran.2;
       mid = mid.runner.now;
       told = told.4;
       ran = subst (λ new. g.R.Runner.ran session.plan (filter is_sent session.handed) mid.runner.now new) (sym runner_is) ran.2;
-    }))
+      wrote = λ w. subst (λ new. Appends (contents c.args.out.now) (contents new) (flat_map (lines_written session.plan) session.handed)) (sym out_is)
+          (subst (λ old. Appends (contents old) (contents last.out.now) (flat_map (lines_written session.plan) session.handed)) told.2
+          (passed_written g.W.Lines.whole session.plan session.handed (page_of (contents mid.out.now) (failed mid.out.now) mid.refused) (page_of (contents last.out.now) (failed last.out.now) last.refused) w ran.3));
+    })
+
+pub returns-in_err-_session-clause-made : goal.returns-in_err-_session-clause-made
+returns-in_err-_session-clause-made g c = elim c.in_err-_session.ensures.refused [
+  | inl same ↦
+      let out_is = c.in_err-_session.out-1-own.given.1 (ap (λ l. l.out.ghost_name) (sym same)) in
+      let runner_is = c.in_err-_session.runner-1-own.given.1 (ap (λ l. l.runner.ghost_name) (sym same)) in
+      inl (inl (runner_is ∙ ap (λ l. l.runner.now) same), subst (λ o. Keeps (g.W.Lines.contents c.args.out.now) (g.W.Lines.contents o)) (sym (out_is ∙ ap (λ l. l.out.now) same)) (Keeps-refl (g.W.Lines.contents c.args.out.now)))
+  | inr some ↦
+      let told = some.4 in
+      let out_is = c.in_err-_session.out-1-own.given.1 told.0 in
+      let runner_is = c.in_err-_session.runner-1-own.given.1 told.1 in
+      inl (inr (some.2, subst (λ r. g.R.Teller.told some.2 c.args.runner.now r) (sym runner_is) told.4), subst (λ o. Keeps (g.W.Lines.contents c.args.out.now) (g.W.Lines.contents o)) (sym (out_is ∙ told.2)) (Keeps-refl (g.W.Lines.contents c.args.out.now)))
+]
+
+pub returns-in_err-_session-clause-stays : goal.returns-in_err-_session-clause-stays
+returns-in_err-_session-clause-stays g c =
+    let stays = g.W.Lines.stays c.args.out.now in
+    let none = g.met.W.Lines.stays_none c.args.out.now in
+    elim c.in_err-_session.ensures.refused [
+      | inl same ↦
+          let out_is = c.in_err-_session.out-1-own.given.1 (ap (λ l. l.out.ghost_name) (sym same)) in
+          subst stays (sym (out_is ∙ ap (λ l. l.out.now) same)) none
+      | inr some ↦
+          let told = some.4 in
+          let out_is = c.in_err-_session.out-1-own.given.1 told.0 in
+          subst stays (sym (out_is ∙ told.2)) none
+    ]

@@ -5,7 +5,11 @@ use Rattle.hack_prepare.proofs.HeldLemmas.{loaded-holds}
 use Rattle.hack_words.specs.declared.cli.args.Args.{Args}
 use Rattle.hack_run.specs.Questions.{NeedsAnswer}
 use Rattle.hack_run.proofs.BackLemmas.{counted_ok}
-use Rattle.hack_run.proofs.MadeLemmas.{goes_on}
+use Rattle.hack_run.proofs.MadeLemmas.{goes_on, shows_nothing}
+use Rattle.hack_load.specs.ContextOf.{warnings_of}
+use Rattle.hack_load.specs.Loads.{told_version}
+use Rattle.hack_run.specs.Told.{seen_of}
+use Rattle.hack_run.proofs.ToldLemmas.{warned_first}
 use Rattle.hack_run.proofs.WholeLemmas.{follows}
 use Rattle.hack_run.proofs.stages.follow.Goals as goal
 
@@ -14,36 +18,39 @@ returns-clause-done g c =
     let held = g.F.Files.bytes_at c.args.files.now in
     let cx = context_view c.in_ok-cx.cx in
     follows g.C.Caller.tells (g.F.Files.tells × IfOk c.args.answers.loaded (IsLoaded g.F.Files.tells held c.args.env.now)) (c.run_plan.new.term.error ≡ false) c.run_plan.result c.args.args
-    c.args.answers (string_bytes c.args.env.now.rustup) held (g.F.Files.bytes_at c.edit.new.files)
+    c.args.answers (string_bytes c.args.env.now.rustup) held (g.F.Files.bytes_at c.edit.new.files) (seen_of c.args.term.now.warn c.run_plan.new.term (g.O.Write.contents c.args.out.now) (g.O.Write.contents c.run_plan.new.out))
     (g.C.Caller.calls c.args.caller.now) (g.C.Caller.calls c.stable_for.new.caller) (g.C.Caller.calls c.run_plan.new.caller) cx c.in_ok-stable.stable
-    (λ u. c.in_ok-edit.ensures.prepared u.0 (loaded-holds g.F.Files.tells held c.args.env.now c.args.args c.args.answers cx u.0 u.1 c.in_ok-cx.ensures))
-    c.in_ok-cx.ensures c.in_ok-stable.ensures.asked (λ off. c.in_ok-stable.ensures.unasked (subst (λ (a : Args). ¬ NeedsAnswer a) (sym c.args-2.ensures) off)) (rw c.as_str.ensures.value at c.run_plan.ensures.done)
+    c.edit.new.term.warn
+    (warned_first c.args.term.now c.context.new.term c.edit.new.term (warnings_of (told_version c.args.answers.cargo_version)) cx c.in_ok-cx.ensures.told c.in_ok-edit.ensures.told)
+    (λ u. c.in_ok-edit.ensures.prepared u.0 (loaded-holds g.F.Files.tells held c.args.env.now c.args.args c.args.answers cx u.0 u.1 c.in_ok-cx.ensures.ok))
+    c.in_ok-cx.ensures.ok c.in_ok-stable.ensures.asked (λ off. c.in_ok-stable.ensures.unasked (subst (λ (a : Args). ¬ NeedsAnswer a) (sym c.args-2.ensures) off)) (rw c.as_str.ensures.value at c.run_plan.ensures.done)
 
 pub returns-in_err-edit-clause-safe : goal.returns-in_err-edit-clause-safe
 returns-in_err-edit-clause-safe g c = λ t read.
-    c.edit.ensures.safe t (loaded-holds g.F.Files.tells (g.F.Files.bytes_at c.args.files.now) c.args.env.now c.args.args c.args.answers (context_view c.in_ok-cx.cx) t read c.in_ok-cx.ensures)
+    c.edit.ensures.safe t (loaded-holds g.F.Files.tells (g.F.Files.bytes_at c.args.files.now) c.args.env.now c.args.args c.args.answers (context_view c.in_ok-cx.cx) t read c.in_ok-cx.ensures.ok)
 
 pub returns-in_err-stable-clause-safe : goal.returns-in_err-stable-clause-safe
 returns-in_err-stable-clause-safe g c = λ t read.
-    c.edit.ensures.safe t (loaded-holds g.F.Files.tells (g.F.Files.bytes_at c.args.files.now) c.args.env.now c.args.args c.args.answers (context_view c.in_ok-cx.cx) t read c.in_ok-cx.ensures)
+    c.edit.ensures.safe t (loaded-holds g.F.Files.tells (g.F.Files.bytes_at c.args.files.now) c.args.env.now c.args.args c.args.answers (context_view c.in_ok-cx.cx) t read c.in_ok-cx.ensures.ok)
 
 pub returns-clause-safe : goal.returns-clause-safe
 returns-clause-safe g c = λ t read.
-    c.edit.ensures.safe t (loaded-holds g.F.Files.tells (g.F.Files.bytes_at c.args.files.now) c.args.env.now c.args.args c.args.answers (context_view c.in_ok-cx.cx) t read c.in_ok-cx.ensures)
+    c.edit.ensures.safe t (loaded-holds g.F.Files.tells (g.F.Files.bytes_at c.args.files.now) c.args.env.now c.args.args c.args.answers (context_view c.in_ok-cx.cx) t read c.in_ok-cx.ensures.ok)
 
 pub returns-clause-counted : goal.returns-clause-counted
-returns-clause-counted g c = counted_ok c.run_plan.result c.args.answers.loaded _ (g.F.Files.failed c.args.files.now) (g.F.Files.failed c.edit.new.files) c.in_ok-cx.ensures.1 c.in_ok-edit.ensures.counted
+returns-clause-counted g c = counted_ok c.run_plan.result c.args.answers.loaded _ (g.F.Files.failed c.args.files.now) (g.F.Files.failed c.edit.new.files) c.in_ok-cx.ensures.ok.1 c.in_ok-edit.ensures.counted
 
 pub returns-in_err-stable-clause-made : goal.returns-in_err-stable-clause-made
 returns-in_err-stable-clause-made g c = λ t.
+    let cx = context_view c.in_ok-cx.cx in
     inr (
-      context_view c.in_ok-cx.cx,
-      c.in_ok-cx.ensures,
+      cx,
+      c.in_ok-cx.ensures.ok,
       record {
         mid = g.C.Caller.calls c.stable_for.new.caller;
         asked = c.stable_for.ensures.made t;
         needed = λ off. ap g.C.Caller.calls (c.stable_for.ensures.unneeded (subst (λ (a : Args). ¬ NeedsAnswer a) (sym c.args-2.ensures) off));
-        runs = inl refl;
+        runs = inl (refl, shows_nothing cx.args.print_command_list (g.O.Write.contents c.args.out.now));
       },
     )
 
@@ -51,9 +58,12 @@ pub returns-clause-made : goal.returns-clause-made
 returns-clause-made g c = λ t.
     inr (
       context_view c.in_ok-cx.cx,
-      c.in_ok-cx.ensures,
-      goes_on (context_view c.in_ok-cx.cx) c.in_ok-stable.stable (string_bytes c.args.env.now.rustup)
+      c.in_ok-cx.ensures.ok,
+      goes_on (context_view c.in_ok-cx.cx) c.in_ok-stable.stable (string_bytes c.args.env.now.rustup) (g.O.Write.contents c.args.out.now) (g.O.Write.contents c.run_plan.new.out)
           (g.C.Caller.calls c.args.caller.now) (g.C.Caller.calls c.stable_for.new.caller) (g.C.Caller.calls c.run_plan.new.caller) (c.stable_for.ensures.made t)
           (λ off. ap g.C.Caller.calls (c.stable_for.ensures.unneeded (subst (λ (a : Args). ¬ NeedsAnswer a) (sym c.args-2.ensures) off)))
           (c.in_ok-stable.ensures.asked t) (rw c.as_str.ensures.value at (c.run_plan.ensures.made t)),
     )
+
+pub returns-in_err-cx-clause-stays : goal.returns-in_err-cx-clause-stays
+returns-in_err-cx-clause-stays g c = g.F.Files.stays_none c.args.files.now

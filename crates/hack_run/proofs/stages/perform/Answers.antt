@@ -3,6 +3,8 @@ use Rattle.std.specs.Prelude.{IfOk, not}
 use Rattle.hack_load.specs.Answers.{IsLoaded}
 use Rattle.hack_files.specs.Restore.{registered_files}
 use Rattle.hack_run.proofs.BackLemmas.{brings_none, cleans, kept_none, leaves, safe_new, whole_keeps}
+use Rattle.hack_run.specs.Told.{seen_of}
+use Rattle.hack_term.specs.declared.term.Term.{Term}
 use Rattle.hack_run.proofs.WholeLemmas.{performs}
 use Rattle.hack_run.proofs.stages.perform.Goals as goal
 
@@ -15,8 +17,8 @@ returns-clause-done g c =
     let before = g.F.Files.failed c.args.files.now in
     let later = g.F.Files.failed c.ask-answers.new.files in
     performs g.C.Caller.tells g.F.Files.tells (g.F.Files.tells × IfOk c.ask-answers.result.loaded (IsLoaded g.F.Files.tells asked c.args.env.now)) (0 < c.finish.result) c.follow-came.result c.args.args c.args.env.now
-    first asked prepared last before later (g.C.Caller.calls c.args.caller.now) (g.C.Caller.calls c.ask-answers.new.caller) (g.C.Caller.calls c.follow-came.new.caller)
-    c.ask-answers.result c.follow-came.new.term.error c.finish.new.term.error
+    first asked prepared last before later (seen_of c.args.term.now.warn c.follow-came.new.term (g.O.Write.contents c.args.out.now) (g.O.Write.contents c.follow-came.new.out)) (g.C.Caller.calls c.args.caller.now) (g.C.Caller.calls c.ask-answers.new.caller) (g.C.Caller.calls c.follow-came.new.caller)
+    c.ask-answers.result c.follow-came.new.term.error c.finish.new.term.error c.finish.new.term.warn (ap (λ (k : Term). k.warn) c.finish.ensures.term)
     c.ask-answers.ensures.asked c.finish.ensures.noted.1 (λ t. (t, c.ask-answers.ensures.read)) (whole_keeps g.F.Files.tells first asked before later c.ask-answers.result.loaded c.ask-answers.ensures.whole)
     (λ t stay. brings_none (registered_files c.follow-came.new.manager) prepared last c.finish.result
     (kept_none c.new-manager.result c.ask-answers.new.manager c.follow-came.new.manager c.new-manager.ensures.nothing c.ask-answers.ensures.kept

@@ -7,19 +7,19 @@ use Rattle.hack_session.specs.Toolchains.{addition_of, toolchain_name, trial_of}
 use Rattle.hack_session.proofs.RunLemmas.{Ran, Installed, with_targets, without_targets}
 use Rattle.hack_session.proofs.rustup.install_toolchain.Goals as goal
 
-pub returns-then-not-is_empty : goal.returns-then-not-is_empty
-returns-then-not-is_empty g c = λ t.
+pub returns-then-not-is_empty-clause-made : goal.returns-then-not-is_empty-clause-made
+returns-then-not-is_empty-clause-made g c = λ t.
     let add : command_of c.in_ok-add.add ≡ addition_of c.args.rustup.now (toolchain_name c.args.toolchain.now) (map string_bytes c.args.target.now)
     = c.in_ok-add.ensures ∙ ap (λ (name : List ℕ). addition_of c.args.rustup.now name (map string_bytes c.args.target.now)) c.without_plus-name.ensures in
     with_targets (Unit {0}) c.add_toolchain.result c.args.target.now (asked_of true (trial_of c.args.rustup.now (toolchain_name c.args.toolchain.now))) _ _ _ c.if-not-is_empty.ensures
-    (subst (λ (k : Command). Makes (Ran (asked_of (not c.args.print_output) k ∷ []) c.add_toolchain.result) (g.C.Caller.calls c.args.caller.now) (g.C.Caller.calls c.add_toolchain.new.caller)) add (c.add_toolchain.ensures t))
+    (subst (λ (k : Command). Makes (Ran (asked_of (not c.args.print_output) k ∷ []) c.add_toolchain.result) (g.C.Caller.calls c.args.caller.now) (g.C.Caller.calls c.add_toolchain.new.caller)) add (c.add_toolchain.ensures.made t))
 
-pub returns : goal.returns
-returns g c = λ t.
+pub returns-clause-made : goal.returns-clause-made
+returns-clause-made g c = λ t.
     let add : command_of c.in_ok-add.add ≡ addition_of c.args.rustup.now (toolchain_name c.args.toolchain.now) (map string_bytes c.args.target.now)
     = c.in_ok-add.ensures ∙ ap (λ (name : List ℕ). addition_of c.args.rustup.now name (map string_bytes c.args.target.now)) c.without_plus-name.ensures in
     let trial : command_of c.in_ok-trial.trial ≡ trial_of c.args.rustup.now (toolchain_name c.args.toolchain.now)
     = c.in_ok-trial.ensures ∙ ap (trial_of c.args.rustup.now) c.without_plus-name.ensures in
     without_targets (Unit {0}) c.try_toolchain.result c.args.target.now _ _ _ _ c.if-not-is_empty.ensures
     (subst (λ (k : Command). Makes (Installed [] (asked_of true k) (asked_of (not c.args.print_output) (addition_of c.args.rustup.now (toolchain_name c.args.toolchain.now) (map string_bytes c.args.target.now))) c.try_toolchain.result) (g.C.Caller.calls c.args.caller.now) (g.C.Caller.calls c.try_toolchain.new.caller)) trial
-    (subst (λ (k : Command). Makes (Installed [] (asked_of true (command_of c.in_ok-trial.trial)) (asked_of (not c.args.print_output) k) c.try_toolchain.result) (g.C.Caller.calls c.args.caller.now) (g.C.Caller.calls c.try_toolchain.new.caller)) add (c.try_toolchain.ensures t)))
+    (subst (λ (k : Command). Makes (Installed [] (asked_of true (command_of c.in_ok-trial.trial)) (asked_of (not c.args.print_output) k) c.try_toolchain.result) (g.C.Caller.calls c.args.caller.now) (g.C.Caller.calls c.try_toolchain.new.caller)) add (c.try_toolchain.ensures.made t)))

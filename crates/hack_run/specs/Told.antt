@@ -1,0 +1,45 @@
+-- What notices leave when they are told, and what a call leaves to be seen.
+use Rattle.std.specs.Prelude.{ℕ, ◌≡◌, ◌||◌, Bool, true, false, List, Option}
+use Rattle.std.specs.List.{list_any}
+use Rattle.std.specs.Io.KnownBytes.{Appends, append_known}
+use Rattle.hack_base.specs.Notes.{Note}
+use Rattle.hack_base.specs.declared.notice.NoticeKind.{NoticeKind}
+use Rattle.hack_base.specs.declared.notice.NoticeKind.TheVariants.{Info, Warn, QuietWarn}
+use Rattle.hack_term.specs.declared.term.Term.{Term}
+
+-- notices of a kind count as warnings
+abbrev pub is_counted : NoticeKind → Bool
+is_counted Info = false
+is_counted Warn = true
+is_counted QuietWarn = false
+
+-- a note counts as a warning
+abbrev pub is_warning : Note → Bool
+is_warning note = is_counted note.kind
+
+-- some of the notes counts as a warning
+abbrev pub have_warning : List Note → Bool
+have_warning notes = list_any is_warning notes
+
+-- what told notes leave: a warning is noted where one was before or some of them counts as one, and all else stays
+abbrev pub after_notes : Term → List Note → Term
+after_notes term notes = record term { warn = have_warning notes || term.warn }
+
+-- a warning is noted just where one was before, or some of the notes counts as one
+abbrev pub Warned : List Note → Bool → Bool → Type 0
+Warned notes warned warn = warn ≡ (have_warning notes || warned)
+
+-- what a call leaves to be seen: whether a warning was noted before and is now, and what its output held and holds, where that is told
+pub record Seen : Type 0 where
+  pub warned : Bool
+  pub warn : Bool
+  pub before : Option (List ℕ)
+  pub now : Option (List ℕ)
+
+-- what is seen of a terminal and an output, where a warning was noted before or wasn't
+abbrev pub seen_of : Bool → Term → Option (List ℕ) → Option (List ℕ) → Seen
+seen_of warned term before now = record { warned = warned; warn = term.warn; before = before; now = now }
+
+-- an output grew by a front of a text: what it has, and some rest, is what it had, and the text
+abbrev pub GrowsWithin : Option (List ℕ) → Option (List ℕ) → List ℕ → Type 0
+GrowsWithin had has text = (rest : List ℕ) × Appends had (append_known has rest) text

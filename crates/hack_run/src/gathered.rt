@@ -1,0 +1,184 @@
+//! Lines that are gathered before they are written.
+
+ghost use Rattle.std.specs.Prelude.{◌≡◌, ◌≤◌, ◌++◌, [], IfOk, IfSome, OnErr, OnOk, drop, true};
+ghost use Rattle.std.specs.Prelude.{vec_len};
+ghost use Rattle.std.specs.Fmt.{with_newline};
+ghost use Rattle.std.specs.Io.KnownBytes.{Appends, Keeps, append_known};
+
+use hack_session::session::Lines;
+use std::alloc::{AllocError, Global};
+use std::io::{ErrorKind, Write};
+use std::{fmt, io};
+
+/// How many bytes are gathered, unless a text is longer.
+const ROOM: usize = 8192;
+
+/// Lines on a writer that are gathered, and written together. What can't be written stays gathered.
+/// A line for which there is no room then is left out whole.
+#[derive(Drop)]
+pub(crate) struct GatheredLines<'a, O: Write> {
+    alloc: Global,
+    pub(crate) out: &'a mut O,
+    pub(crate) gathered: &'a mut Vec<u8>,
+    /// How many lines could not be written.
+    pub(crate) failed: u64,
+}
+
+impl<O: Write> Lines for GatheredLines<'_, O> {
+    ghost use Rattle.std.proofs.Common.{◌∙◌, refl};
+
+    ghost contents = { λ w. append_known (O.contents w.out.now) w.gathered.now.items };
+
+    ghost whole = { Unit {0} };
+
+    ghost failed = { λ w. w.failed };
+
+    ghost stays = { λ a b. (a.out.ghost_name ≡ b.out.ghost_name)
+        × (a.gathered.ghost_name ≡ b.gathered.ghost_name) };
+
+    ghost stays_none = { λ a. (refl, refl) };
+
+    ghost stays_more = { λ a b c p q. (p.0 ∙ q.0, p.1 ∙ q.1) };
+
+    fn line<D: fmt::Display + Drop>(&mut self, text: D) -> Result<(), fmt::Error> {
+        match put_line(self.alloc, self.out, self.gathered, text) {
+            Ok(()) => Ok(()),
+            Err(fmt::Error) => {
+                self.failed = self.failed.saturating_add(1);
+                Err(fmt::Error)
+            }
+        }
+    }
+}
+
+/// Room for what is gathered.
+pub(crate) fn room(alloc: Global) -> Result<Vec<u8>, AllocError>
+    ensures { IfOk result (λ gathered. gathered.items ≡ []) }
+{
+    Vec::with_capacity(alloc, ROOM)
+}
+
+/// Lines that gather here, none of which failed.
+pub(crate) fn gather_on<'a, O: Write>(
+    alloc: Global,
+    out: &'a mut O,
+    gathered: &'a mut Vec<u8>,
+) -> GatheredLines<'a, O>
+    ensures out { (result.out.ghost_name ≡ out.entry.ghost_name)
+        × (result.out.now ≡ out.entry.now) }
+    ensures gathered { (result.gathered.ghost_name ≡ gathered.entry.ghost_name)
+        × (result.gathered.now ≡ gathered.entry.now) }
+    ensures failed { result.failed ≡ 0 }
+{
+    GatheredLines {
+        alloc,
+        out,
+        gathered,
+        failed: 0,
+    }
+}
+
+/// Gathers a text and a line feed.
+fn put_line<O: Write, D: fmt::Display + Drop>(
+    alloc: Global,
+    out: &mut O,
+    gathered: &mut Vec<u8>,
+    text: D,
+) -> fmt::Result
+    ensures written { OnOk result (IfSome (with_newline (D.output text))
+        (Appends (append_known (O.contents out.old) gathered.old.items)
+        (append_known (O.contents out.new) gathered.new.items))) }
+    ensures missed { OnErr result (Keeps (append_known (O.contents out.old) gathered.old.items)
+        (append_known (O.contents out.new) gathered.new.items)) }
+{
+    let mut line = String::new(alloc);
+    match line.writeln(text) {
+        Ok(()) => gather(out, gathered, line.as_str()),
+        Err(AllocError) => Err(fmt::Error),
+    }
+}
+
+/// Gathers a text. Where there is no room for it, what is gathered is written before.
+fn gather<O: Write>(out: &mut O, gathered: &mut Vec<u8>, text: &str) -> fmt::Result
+    ensures written { OnOk result (Appends (append_known (O.contents out.old) gathered.old.items)
+        (append_known (O.contents out.new) gathered.new.items) text.now) }
+    ensures missed { OnErr result (Keeps (append_known (O.contents out.old) gathered.old.items)
+        (append_known (O.contents out.new) gathered.new.items)) }
+{
+    if text.len() <= ROOM.saturating_sub(gathered.len()) {
+        return push(gathered, text);
+    }
+    match write_gathered(out, gathered) {
+        Ok(()) => push(gathered, text),
+        Err(_) => Err(fmt::Error),
+    }
+}
+
+/// Puts a text behind what is gathered.
+fn push(gathered: &mut Vec<u8>, text: &str) -> fmt::Result
+    ensures written { OnOk result (gathered.new.items ≡ gathered.old.items ++ text.now) }
+    ensures missed { OnErr result (gathered.new.items ≡ gathered.old.items) }
+{
+    match gathered.extend_from_slice(text.as_bytes()) {
+        Ok(()) => Ok(()),
+        Err(AllocError) => Err(fmt::Error),
+    }
+}
+
+/// Writes what is gathered. What can't be written stays gathered.
+fn write_gathered<O: Write>(out: &mut O, gathered: &mut Vec<u8>) -> io::Result<()>
+    ensures none { OnOk result (gathered.new.items ≡ []) }
+    ensures bytes { Keeps (append_known (O.contents out.old) gathered.old.items)
+        (append_known (O.contents out.new) gathered.new.items) }
+{
+    for _ in 0..u64::MAX {
+        if gathered.is_empty() {
+            return Ok(());
+        }
+        write_some(out, gathered)?;
+    }
+    Err(io::Error::from(ErrorKind::Interrupted))
+}
+
+/// Writes as much of what is gathered as the writer takes at once; nothing where it is interrupted.
+fn write_some<O: Write>(out: &mut O, gathered: &mut Vec<u8>) -> io::Result<()>
+    ensures { Keeps (append_known (O.contents out.old) gathered.old.items)
+        (append_known (O.contents out.new) gathered.new.items) }
+{
+    match out.write(gathered.as_slice()) {
+        Ok(0) => Err(io::Error::from(ErrorKind::WriteZero)),
+        Ok(n) => {
+            drop_front(gathered, n);
+            Ok(())
+        }
+        Err(fault) => {
+            if fault.kind() == ErrorKind::Interrupted {
+                return Ok(());
+            }
+            Err(fault)
+        }
+    }
+}
+
+/// Drops as many bytes from the front.
+fn drop_front(gathered: &mut Vec<u8>, n: usize)
+    requires { n ≤ vec_len gathered.old }
+    ensures { gathered.new.items ≡ drop n gathered.old.items }
+{
+    let rest = gathered.len() - n;
+    gathered.rotate_left(n);
+    gathered.truncate(rest);
+}
+
+/// Writes what is gathered at the end; whether all was written.
+pub(crate) fn write_last<O: Write>(out: &mut O, gathered: &mut Vec<u8>) -> bool
+    ensures kept { Keeps (append_known (O.contents out.old) gathered.old.items)
+        (append_known (O.contents out.new) gathered.new.items) }
+    ensures all { result ≡ true → Keeps (append_known (O.contents out.old) gathered.old.items)
+        (O.contents out.new) }
+{
+    match write_gathered(out, gathered) {
+        Ok(()) => out.flush().is_ok(),
+        Err(_) => false,
+    }
+}
