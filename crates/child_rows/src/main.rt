@@ -1,13 +1,13 @@
 //! Runs programs of the system, and prints a line for each: its name, and `ok`, the text that was
-//! read, how long the outputs are, or the fault. A text stands in quotes, and a line feed in it as
-//! `\n`. With words of its own, it reads the command that they are, and prints what came of it.
+//! read, the length of its outputs, or the error. Texts are quoted, with `\n` for a line feed. If
+//! it has arguments itself, it reads from the command that they form, and prints the result.
 #![tactic(auto)]
 
 use hack_process::process::{Caller, Child, ProcessBuilder, ProcessFault};
 use std::alloc::{AllocError, Global};
 use std::{env, io};
 
-/// What is asked of a command.
+/// What a command is run for.
 #[derive(Clone, Copy)]
 enum Ask {
     Run,
@@ -70,13 +70,13 @@ const ROWS: [(&str, &str, &[&str], Ask); 20] = [
     ("line ends", "printf", &["\\n a\\r\\n \\r\\n\\n"], Ask::Read),
 ];
 
-/// The text of a fault, on one line.
+/// The text of an error, on one line.
 fn shown(alloc: Global, fault: ProcessFault) -> Result<String, AllocError> {
     let text = format!(in alloc; "{fault}")?;
     format!(in alloc; "fault {text:?}")
 }
 
-/// What came of a command.
+/// The result of a command.
 fn told<C: Caller>(
     alloc: Global,
     caller: &mut C,
@@ -102,7 +102,7 @@ fn told<C: Caller>(
     }
 }
 
-/// A shell that counts its words, of which there are 10,000.
+/// A shell that counts its arguments, of which there are 10,000.
 fn many_words(alloc: Global) -> Result<ProcessBuilder<'static>, AllocError> {
     let mut command = ProcessBuilder::new(alloc, "sh")?;
     command.args(&["-c", "echo $#", "sh"])?;
@@ -112,7 +112,7 @@ fn many_words(alloc: Global) -> Result<ProcessBuilder<'static>, AllocError> {
     Ok(command)
 }
 
-/// A line for each row, and one for the many words.
+/// A line for each row, and one for the many arguments.
 fn rows<R: Print, C: Caller>(rt: &R, alloc: Global, caller: &mut C) -> io::Result<()> {
     for (name, program, words, ask) in ROWS {
         let mut command = ProcessBuilder::new(alloc, program)?;

@@ -1,4 +1,4 @@
--- A text is cut at its first byte of a kind.
+-- A text is split at the first occurrence of a byte.
 use Rattle.std.proofs.Common.{◌≡◌, ◌≢◌, ℕ, ◌+◌, ◌<◌, ◌==◌, ◌++◌, List, ◌∷◌, Bool, true, false, cond}
 use Rattle.std.proofs.Common.{length, take, drop, get_or, nat_lt, lt-ltb, length-append, Some, None}
 use Rattle.std.proofs.Common.{arith, refl, ap, sym, ◌∙◌}
@@ -42,7 +42,7 @@ rest-alone b xs h =
     let l : nat_lt (position_or_len (λ c. c == b) xs) (length xs) ≡ false = grind (arith, nat_tests, e) in
     rw l refl
 
--- a text that has the byte is what stands in front of it, that byte, and the rest
+-- a text that has the byte consists of the text before it, the byte, and the rest
 pub rest-cut : (b : ℕ) (text rest : List ℕ) → rest_of b text ≡ Some rest → text ≡ front_of b text ++ b ∷ rest
 rest-cut b text rest e = cases (nat_lt (position_or_len (λ c. c == b) text) (length text)) refl e
   where

@@ -1,4 +1,4 @@
--- What the proofs on lists of names share.
+-- Lemmas that the proofs on lists of names share.
 use Rattle.std.proofs.Common.{◌≡◌, ◌<◌, ◌+◌, ◌-◌, ◌++◌, ◌∙◌, ℕ, zero, suc, List, true, length, arith, ap, sym, slice_index, append-nil, append_assoc}
 use native.Mathlib.Numerals.{unary_clauses}
 use Rattle.std.specs.List.{repeat}
@@ -16,6 +16,6 @@ swap : (n : ℕ) (xs : List ℕ) → xs ++ repeat n xs ≡ repeat n xs ++ xs
 swap zero xs = append-nil xs
 swap (suc n) xs = ap (λ rest. xs ++ rest) (swap n xs) ∙ sym (append_assoc xs (repeat n xs) xs)
 
--- one more copy stands at the end
+-- one copy more is one at the end
 pub repeat-more : (n : ℕ) (xs : List ℕ) → repeat (n + 1) xs ≡ repeat n xs ++ xs
 repeat-more n xs = simp unary_clauses (swap n xs)

@@ -67,6 +67,6 @@ Contains-filter_from p (y ∷ xs) x h = Contains-filter_from-step p y xs x (p y)
 pub lt_or_same : (p n : ℕ) → p < n + 1 → (p < n) ⊎ (p ≡ n)
 lt_or_same p n h = elim (eqb_tells p n) [ inl e ↦ inr e.1 | inr w ↦ inl (let ne : p ≢ n = w.1 in omega arith) ]
 
--- what a test's outcome says
+-- what the outcome of a test implies
 pub not_from : {P : Type 0} (b : Bool) → b ≡ false → (P → IsTrue b) → ¬ P
 not_from b e k = λ p. let t : b ≡ true = k p in let c : true ≡ false = sym t ∙ e in cc

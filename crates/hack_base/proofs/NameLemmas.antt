@@ -21,11 +21,11 @@ none_from-step : (names : List Name) (v : Name) (b : Bool) → list_any (bytes_e
 none_from-step names v true e h = absurd (h (Contains-from_any same_text v names e))
 none_from-step names v false e h = refl
 
--- a search for a name that is not there
+-- a search for a name that isn't in the list
 pub none_from : (names : List Name) (v : Name) → ¬ Contains names v → list_any (bytes_eq v) names ≡ false
 none_from names v h = none_from-step names v (list_any (bytes_eq v) names) refl h
 
--- distinct names, each among others, are not more than those
+-- distinct names, each of which is among others, are no more than those
 pub length-le_from_distinct : (xs ys : List Name) → IsDistinct bytes_eq xs → ((q : Name) → Contains xs q → Contains ys q) → length xs ≤ length ys
 length-le_from_distinct xs ys h k = length-le_from_is_member nat_list_eq_equiv xs ys h (λ q e. list_any-from_Contains nat_list_eq_equiv q ys (k q (Contains-from_any same_text q xs e)))
 
@@ -54,7 +54,7 @@ missing-more names n v h ne = λ k. elim (Contains-push_cases names n v k) [ inl
 pub differ : (x y : Name) → bytes_eq x y ≡ false → x ≢ y
 differ x y h = λ e. let z : true ≡ false = sym ((bytes_eq-Decides x y).1 e) ∙ h in cc
 
--- the names of one reference more
+-- the names behind one reference more
 pub shown-more : (refs : List (Bor Name)) (k : ℕ) (r : Bor Name) → k < length refs → r ≡ get_or refs k r → take (k + 1) (names_behind refs) ≡ take k (names_behind refs) ++ r.now ∷ []
 shown-more refs k r h e =
     take_more (names_behind refs) k r.now (rw (length-map refs (λ (b : Bor Name). b.now)) h)
@@ -63,7 +63,7 @@ shown-more refs k r h e =
 pub shown-push : (refs : List (Bor Name)) (r : Bor Name) → names_behind (refs ++ r ∷ []) ≡ names_behind refs ++ r.now ∷ []
 shown-push refs r = map-append (λ (b : Bor Name). b.now) refs (r ∷ [])
 
--- the name that a reference in a list shows
+-- the name behind a reference in a list
 pub shown-at : (refs : List (Bor Name)) (k : ℕ) (r : Bor Name) → k < length refs → r ≡ get_or refs k r → r.now ≡ get_or (names_behind refs) k r.now
 shown-at refs k r h e = ap (λ (b : Bor Name). b.now) e ∙ sym (get_or-map (λ (b : Bor Name). b.now) refs k r r.now h)
 
@@ -76,7 +76,7 @@ from_not-step true false h = let z : false ≡ true = h in cc
 from_not-step false true h = let z : true ≡ false = h in cc
 from_not-step false false h = refl
 
--- what a negated test says
+-- what a negated test implies
 pub from_not_true : {b : Bool} → not b ≡ true → b ≡ false
 from_not_true {b} h = from_not-step b false h
 

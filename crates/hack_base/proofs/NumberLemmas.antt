@@ -1,4 +1,4 @@
--- What a text is read as, where it is a number.
+-- A text that is a number is read as it.
 use Rattle.std.proofs.Common.{◌≡◌, ℕ, ◌<◌, ◌≤◌, ◌^◌, ◌&&◌, List, [], ◌∷◌, Bool, true, false, cond, length, nat_lt}
 use Rattle.std.proofs.Common.{Option, Some, None, Result, Ok, Err, arith, refl, ap, sym, subst}
 use Rattle.std.specs.Cmp.{first_so, second_so}
@@ -63,7 +63,7 @@ number-holds bits n text e = cases (is_below (2 ^ bits) (without_leading_plus te
         (h.0, same, subst (λ v. v < 2 ^ bits) same h.1)
     cases false t f = absurd (cc)
 
--- what is no number is not read
+-- a text that is no number is not read
 pub number-unread : (bits : ℕ) (text : List ℕ) → ((n : ℕ) → IsNumber bits text n → ⊥) → number_of bits text ≡ None
 number-unread bits text h = cases (number_of bits text) refl
   where
@@ -71,7 +71,7 @@ number-unread bits text h = cases (number_of bits text) refl
     cases None e = refl
     cases (Some n) e = absurd (h n (number-holds bits n text e))
 
--- what `parse` answers at an unsigned type
+-- what `parse` returns for an unsigned type
 pub number-parsed : {E : Type 0} (bits : ℕ) (text : List ℕ) (r : Result ℕ E) (n : ℕ) → ParsesUnsigned bits 10 text r → result_ok r ≡ Some n → IsNumber bits text n
 number-parsed bits text (Ok x) n h e = let same : x ≡ n = cc in (h.0.0, omega (arith, h.1), omega (arith, h.0.1, h.1))
 number-parsed bits text (Err x) n h e = absurd (cc)

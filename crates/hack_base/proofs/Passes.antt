@@ -1,4 +1,4 @@
--- Tests of all and of some elements, and sums, of a list and of one without a place.
+-- Tests of all and of some elements, and sums, of a list and of the list without one element.
 use Rattle.std.proofs.Common.{◌≡◌, ℕ, zero, suc, ◌≤◌, List, [], ◌∷◌, refl, sym, subst, arith, Bool, true, false, inl, inr, Contains}
 use Rattle.std.specs.Prelude.{sum_by, ◌||◌}
 use Rattle.std.specs.List.{list_all, list_any, remove}
@@ -40,7 +40,7 @@ any_passes p (y ∷ xs) x c e =
       | inr w ↦ or_true_right (p y) (list_any p xs) (any_passes p xs x w e)
     ]
 
--- a member of the list without a place is a member of the list
+-- a member of the list without one element is a member of the list
 pub removed_member : {X : Type 0} (xs : List X) (i : ℕ) (x : X) → Contains (remove xs i) x → Contains xs x
 removed_member [] zero x c = absurd (Contains-nil x c)
 removed_member [] (suc i) x c = absurd (Contains-nil x c)
@@ -51,7 +51,7 @@ removed_member (y ∷ xs) (suc i) x c =
       | inr w ↦ Contains-tail y xs x (removed_member xs i x w)
     ]
 
--- a sum without a place is no greater
+-- the sum without one element is no greater
 pub sum_by-remove-le : {X : Type 0} (f : X → ℕ) (xs : List X) (i : ℕ) → sum_by f (remove xs i) ≤ sum_by f xs
 sum_by-remove-le f [] zero = omega arith
 sum_by-remove-le f [] (suc i) = omega arith

@@ -1,4 +1,4 @@
--- Where a text is cut at the last of an ASCII character, and fronts of texts.
+-- Where a text is split at the last occurrence of an ASCII character, and prefixes of texts.
 use Rattle.std.proofs.Common.{◌≡◌, ◌≢◌, ℕ, ◌+◌, ◌-◌, ◌<◌, ◌≤◌, ◌==◌, List, [], ◌∷◌, ◌++◌, length, take, drop, get_or, arith, refl, ap, sym, ◌∙◌, append_assoc, length-drop, Option, Some, None, MatchOption, MatchBool, Bool, true, false, true≢false, inl, inr, not, eqb, eqb-true, ne_eqb, eq-eqb, codes, unwrap_or, Bor}
 use Rattle.std.specs.Str.Pattern.{RFindsChar, SplitsAroundMatch, StripsPrefix, FindsCharPrefix, FindsCharSuffix, HasPrefixMatch}
 use Rattle.std.specs.List.{before_last, after_last, suffix_len, starts_with, ends_with}
@@ -38,13 +38,13 @@ module _ (c : ℕ) (low : c < 128) (bs : List ℕ) where
       let less : i + 1 - 1 ≡ i = omega arith in
       (h.4 ∙ ap (λ k. drop k bs) next ∙ sym cut.0, h.3 ∙ ap (λ k. take k bs) (sym less) ∙ sym cut.1)
 
--- a text that stands in front
+-- a text that is a prefix
 pub front-here : (front p rest : List ℕ) → p ≡ front ++ rest → without_front front p ≡ rest
 front-here front p rest e =
     let t : starts_with eqb p front ≡ true = (starts_is Decides-eqb p front _ refl).1 rest e in
     rw t (ap (drop (length front)) e ∙ drop_at front rest (length front) refl)
 
--- a text that does not
+-- a text that isn't
 pub front-none : (front p : List ℕ) → ((rest : List ℕ) → p ≢ front ++ rest) → without_front front p ≡ p
 front-none front p h =
     elim (cases_Bool (starts_with eqb p front)) as (λ _. without_front front p ≡ p) [
@@ -52,7 +52,7 @@ front-none front p h =
       | inr f ↦ rw f refl
     ]
 
--- a folder and a slash in front
+-- a folder and a slash as a prefix
 pub under-is : (p dir : List ℕ) → (length dir == 0) ≡ false → under_of p dir ≡ without_front (dir ++ codes "/") p
 under-is p [] e = absurd (true≢false e)
 under-is p (b ∷ bs) e = refl
@@ -65,7 +65,7 @@ pub or-second : (a b : List ℕ) → (length a == 0) ≡ true → or_if_empty a 
 or-second [] b e = refl
 or-second (x ∷ xs) b e = absurd (omega (arith, eqb-true _ _ e))
 
--- a path that begins with a folder, by what stands behind it
+-- a path that begins with a folder, by what comes after it
 pub behind_folder : (p : Bor (List ℕ)) (dir rest : List ℕ) (r : Option (Bor (List ℕ))) → p.now ≡ dir ++ rest → MatchOption r (FindsCharPrefix 47 rest None) (λ x. StripsPrefix (FindsCharPrefix 47) rest x.now)
     → (unwrap_or r p).now ≡ without_front (dir ++ codes "/") p.now
 behind_folder p dir rest None e h =
@@ -91,7 +91,7 @@ not-rooted p h =
       | inr f ↦ f
     ]
 
--- what `starts_with` tells of a slash
+-- what `starts_with` returns for a slash
 pub rooted-is : (p : List ℕ) (r : Bool) → MatchBool r (HasPrefixMatch (FindsCharPrefix 47) p) (FindsCharPrefix 47 p None) → r ≡ is_rooted p
 rooted-is p true h = sym (rooted p (drop h.0 p) (drop_at_char 47 p 0 h.0 h.1 (omega arith)))
 rooted-is p false h = sym (not-rooted p (strip_prefix_char 47 p None h (omega arith)))
@@ -104,13 +104,13 @@ not-closed dir h =
       | inr f ↦ f
     ]
 
--- a folder that takes a slash of its own
+-- a folder to which a slash is added
 pub join-slash : (dir p : List ℕ) → (length dir == 0) ≡ false → FindsCharSuffix 47 dir None → FindsCharPrefix 47 p None → dir ++ (47 ∷ p) ≡ join_of dir p
 join-slash dir p e d h =
     let closed = not-closed dir (λ front e. true≢false (sym ((ends_char 47 dir false d (omega arith)).1 front e))) in
     rw (not-rooted p (strip_prefix_char 47 p None h (omega arith))) (rw e (rw closed (sym (append_assoc dir (47 ∷ []) p))))
 
--- the folder of a path whose only slash is first
+-- the folder of a path whose only slash is its first byte
 pub parent-first : (p : List ℕ) (x : Bor (List ℕ) × Bor (List ℕ)) → SplitsAroundMatch (RFindsChar 47) p x.0.now x.1.now → (length x.0.now == 0) ≡ true → codes "/" ≡ parent_of p
 parent-first p x h e =
     let cut = split_last 47 (omega arith) p (Some x) h in

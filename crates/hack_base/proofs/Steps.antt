@@ -1,4 +1,4 @@
--- Steps of loops over lists, and over lists seen through a function.
+-- Steps of loops over lists, and over lists mapped by a function.
 use Rattle.std.proofs.Common.{◌≡◌, ℕ, ◌+◌, ◌<◌, arith, List, [], ◌∷◌, ◌++◌, length, get_or, take, map, refl, sym, ◌∙◌, ap, subst, Bool, true, false, Contains, Option, Some, None}
 use Rattle.std.specs.Prelude.{◌&&◌, ◌||◌, Vec}
 use Rattle.std.specs.List.{list_all, list_any, filter_map, cons_option}
@@ -11,12 +11,12 @@ use Rattle.std.proofs.Math.Seq.{get_or-append_seam}
 use Rattle.hack_base.proofs.Members.{Contains-map, lt_or_same}
 use Rattle.hack_base.proofs.Passes.{each_passes, any_passes}
 
--- what a loop has seen after one more element, seen through a function
+-- what a loop has seen after one more element, mapped by a function
 pub seen-next : {X Y : Type 0} (f : X → Y) (xs : List X) (k : ℕ) (x : X) → k < length xs → x ≡ get_or xs k x → take (k + 1) (map f xs) ≡ take k (map f xs) ++ f x ∷ []
 seen-next f xs k x h e =
     take_more (map f xs) k (f x) (rw (length-map xs f) h) ∙ ap (λ y. take k (map f xs) ++ y ∷ []) (get_or-map f xs k x (f x) h ∙ ap f (sym e))
 
--- an element that a loop meets, seen through a function
+-- an element that a loop reaches, mapped by a function
 pub seen_here : {X Y : Type 0} (f : X → Y) (xs : List X) (k : ℕ) (x : X) → k < length xs → x ≡ get_or xs k x → Contains (map f xs) (f x)
 seen_here f xs k x h e = Contains-map f xs x (k, h, sym e)
 
@@ -47,7 +47,7 @@ pub all_always : {X : Type 0} (p : X → Bool) (xs : List X) → ((x : X) → p 
 all_always p [] h = refl
 all_always p (x ∷ xs) h = and_from (p x) (list_all p xs) (h x) (all_always p xs h)
 
--- the turns of a loop over elements that are seen through a function
+-- the turns of a loop over elements that are mapped by a function
 module _ {X Y : Type 0} (f : X → Y) (p : Y → Bool) (items all : List X) (k : ℕ) (x : X) (same : items ≡ all) (lt : k < length items) (is : x ≡ get_or items k x) where
   here_in : Contains (map f all) (f x)
   here_in = subst (λ l. Contains (map f l) (f x)) same (seen_here f items k x lt is)
@@ -67,7 +67,7 @@ module _ {X Y : Type 0} (f : X → Y) (p : Y → Bool) (items all : List X) (k :
   pub any_stop : p (f x) ≡ true → list_any p (map f all) ≡ true
   any_stop e = any_passes p (map f all) (f x) here_in e
 
--- what a row shows
+-- the items of a row
 abbrev pub row_items : {A Z : Type 0} → Vec A Z → List A
 row_items row = row.items
 

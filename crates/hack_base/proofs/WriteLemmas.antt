@@ -1,15 +1,15 @@
--- A front of a text that a writer took, and what is written behind it.
+-- A prefix of a text that a writer took, and what is written after it.
 use Rattle.std.proofs.Common.{◌≡◌, ℕ, ◌-◌, List, ◌++◌, length, take, drop, Option, Some, None, ap, sym, ◌∙◌, append_assoc, take-append-drop}
 use Rattle.std.proofs.lemmas.List.{take_rest}
 use Rattle.std.specs.Io.KnownBytes.{Appends, Keeps}
 use Rattle.std.proofs.KnownBytes.{Appends-trans}
 use Rattle.hack_base.specs.Writes.{AppendsFront}
 
--- all of one text, and a front of the next
+-- all of one text, and a prefix of the next
 pub AppendsFront-then : (a b c : Option (List ℕ)) (bs cs : List ℕ) → Appends a b bs → AppendsFront b c cs → AppendsFront a c (bs ++ cs)
 AppendsFront-then a b c bs cs p q = (bs ++ q.0, q.1, ap (λ l. bs ++ l) q.2 ∙ sym (append_assoc bs q.0 q.1), Appends-trans a b c bs q.0 p q.3)
 
--- a front of a text is one of a longer text
+-- a prefix of a text is one of a longer text
 pub AppendsFront-append : (a b : Option (List ℕ)) (bs cs : List ℕ) → AppendsFront a b bs → AppendsFront a b (bs ++ cs)
 AppendsFront-append a b bs cs q = (q.0, q.1 ++ cs, ap (λ l. l ++ cs) q.2 ∙ append_assoc q.0 q.1 cs, q.3)
 

@@ -11,7 +11,7 @@ comma = 44
 abbrev pub space : ℕ
 space = 32
 
--- there is a comma or a space
+-- the text has a comma or a space
 abbrev pub HasSeparator : List ℕ → Type 0
 HasSeparator text = Contains text comma ⊎ Contains text space
 
@@ -27,11 +27,11 @@ separator_of text = if list_any (λ b. b == comma) text then comma else space
 abbrev pub group_names : List ℕ → List (List ℕ)
 group_names text = slice_split (λ b. b == separator_of text) text
 
--- the text begins with a quote and ends with a second one like it
+-- the text begins with this quote and ends with a second one
 abbrev pub is_between : ℕ → List ℕ → Bool
 is_between quote text = nat_lt 1 (length text) && (slice_index text 0 == quote) && (slice_index text (length text - 1) == quote)
 
--- the text stands between two ' or two "
+-- the text is enclosed in two ' or two "
 abbrev pub is_quoted : List ℕ → Bool
 is_quoted text = is_between 39 text || is_between 34 text
 
@@ -39,6 +39,6 @@ is_quoted text = is_between 39 text || is_between 34 text
 abbrev pub without_quotes : List ℕ → List ℕ
 without_quotes text = if is_quoted text then take (length text - 2) (drop 1 text) else text
 
--- the names of a list: those of a group, without its pair of quotes, that aren't empty
+-- the names of a list: those of a group, without the pair of quotes around it, except empty ones
 abbrev pub list_names : List ℕ → List (List ℕ)
 list_names text = filter (λ name. nat_lt 0 (length name)) (group_names (without_quotes text))

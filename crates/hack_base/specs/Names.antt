@@ -1,4 +1,4 @@
--- Names as clauses see them.
+-- Names as contracts see them.
 use Rattle.std.specs.Prelude.{ℕ, List, map, Option, option_map, String, string_bytes}
 use Rattle.std.specs.Borrow.{Bor}
 
@@ -14,10 +14,10 @@ names_of texts = map string_bytes texts
 abbrev pub names_behind : List (Bor Name) → List Name
 names_behind texts = map (λ text. text.now) texts
 
--- the bytes of a text, where there is one
+-- the bytes of a text, if there is one
 abbrev pub optional_text : {Y : Type 0} → Option (String Y) → Option Name
 optional_text text = option_map string_bytes text
 
--- the same of a text behind a reference
+-- the same for a text behind a reference
 abbrev pub optional_text_ref : {Y : Type 0} → Option (Bor (String Y)) → Option Name
 optional_text_ref text = option_map (λ text. string_bytes text.now) text

@@ -1,4 +1,4 @@
--- Notices, as definitions see them.
+-- Notices as contracts see them.
 use Rattle.std.specs.Prelude.{◌≡◌, ℕ, List, [], ◌∷◌, ◌++◌, Bool, Vec, map, string_bytes, if◌then◌else◌}
 use Rattle.hack_base.specs.declared.notice.Notice.{Notice}
 use Rattle.hack_base.specs.declared.notice.NoticeKind.{NoticeKind}
@@ -8,7 +8,7 @@ pub record Note : Type 0 where
   pub kind : NoticeKind
   pub text : List ℕ
 
--- what a notice says
+-- the kind and the text of a notice
 abbrev pub note_of : Notice → Note
 note_of notice = record { kind = notice.kind; text = string_bytes notice.text }
 
@@ -16,6 +16,6 @@ note_of notice = record { kind = notice.kind; text = string_bytes notice.text }
 abbrev pub note_if : Bool → NoticeKind → List ℕ → List Note
 note_if b kind text = if b then record { kind = kind; text = text } ∷ [] else []
 
--- these notices stand behind those that were there
+-- these notices were appended to the others
 abbrev pub AddsNotes : {Y Z : Type 0} → Vec Notice Y → Vec Notice Z → List Note → Type 0
 AddsNotes old new notes = map note_of new.items ≡ map note_of old.items ++ notes

@@ -3,7 +3,7 @@ use Rattle.std.specs.Prelude.{◌≡◌, ℕ, ◌<◌, ◌^◌, ◌&&◌, List, 
 use Rattle.std.specs.List.{list_all}
 use Rattle.std.specs.Str.Parse.{IsNumeral, digits_value, without_leading_plus}
 
--- a text is the number n of so many bits: an optional `+` and digits, and n is below 2 ^ bits
+-- a text is the number n in this many bits: an optional `+` and digits, and n is below 2 ^ bits
 abbrev pub IsNumber : ℕ → List ℕ → ℕ → Type 0
 IsNumber bits text n =
     IsNumeral 10 (without_leading_plus text)
@@ -18,7 +18,7 @@ is_digit b = nat_lt 47 b && nat_lt b 58
 abbrev pub is_digits : List ℕ → Bool
 is_digits text = nat_lt 0 (length text) && list_all is_digit text
 
--- the number of so many bits that a text is, if it is one
+-- the number in this many bits that a text is, if it is one
 abbrev pub number_of : ℕ → List ℕ → Option ℕ
 number_of bits text =
     if is_digits (without_leading_plus text)

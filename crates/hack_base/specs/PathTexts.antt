@@ -15,15 +15,15 @@ abbrev pub or_if_empty : List ℕ → List ℕ → List ℕ
 or_if_empty [] other = other
 or_if_empty (b ∷ bs) other = b ∷ bs
 
--- what stands behind the last `/` of a path, or all of it
+-- what comes after the last `/` of a path, or all of it
 abbrev pub last_part : List ℕ → List ℕ
 last_part p = after_last is_slash p
 
--- a part up to its last dot, or all of it where that dot is first or there is none
+-- a part up to its last dot, or all of it where that dot is its first byte or there is none
 abbrev pub without_ending : List ℕ → List ℕ
 without_ending part = or_if_empty (before_last is_dot part) part
 
--- a part says nothing: it is empty or `.`
+-- a part has no effect: it is empty or `.`
 abbrev pub is_dropped : List ℕ → Bool
 is_dropped part = length part == 0 || bytes_eq part (codes ".")
 
@@ -39,11 +39,12 @@ is_nameless part = is_dropped part || is_up part
 abbrev pub stem_of : List ℕ → List ℕ
 stem_of p = if is_nameless (last_part p) then p else without_ending (last_part p)
 
--- what stands behind a text at the front of a path, or the path where it does not begin so
+-- the rest of a path after a prefix, or the whole path where it doesn't begin so
 abbrev pub without_front : List ℕ → List ℕ → List ℕ
 without_front front p = if starts_with nat_eq p front then drop (length front) p else p
 
--- the rest of a path behind a folder and one `/`, or the path where it does not begin so or the folder is empty
+-- the rest of a path after a folder and one `/`, or the whole path where it doesn't begin so or the
+-- folder is empty
 abbrev pub under_of : List ℕ → List ℕ → List ℕ
 under_of p [] = p
 under_of p (b ∷ bs) = without_front ((b ∷ bs) ++ codes "/") p
@@ -52,7 +53,7 @@ under_of p (b ∷ bs) = without_front ((b ∷ bs) ++ codes "/") p
 abbrev pub is_rooted : List ℕ → Bool
 is_rooted p = starts_with nat_eq p (codes "/")
 
--- a folder with a `/` behind it, or as it is where it is empty or ends with one
+-- a folder followed by `/`, or unchanged where it is empty or ends with one
 abbrev pub with_slash : List ℕ → List ℕ
 with_slash dir = if length dir == 0 || ends_with nat_eq dir (codes "/") then dir else dir ++ codes "/"
 
@@ -60,20 +61,22 @@ with_slash dir = if length dir == 0 || ends_with nat_eq dir (codes "/") then dir
 abbrev pub join_of : List ℕ → List ℕ → List ℕ
 join_of dir p = if is_rooted p then p else with_slash dir ++ p
 
--- what stands before the last `/` of a path, nothing where there is none, and `/` where the only one is first
+-- what comes before the last `/` of a path; empty where there is none, and `/` where the only one
+-- is its first byte
 abbrev pub parent_of : List ℕ → List ℕ
 parent_of p = or_if_empty (before_last is_slash p) (if is_rooted p then codes "/" else [])
 
--- the parts before a last one that can be taken away
+-- the parts before the last one, if that can be removed
 abbrev pub without_last : Bool → Option (List ℕ) → List (List ℕ) → Option (List (List ℕ))
 without_last rooted None before = if rooted then Some [] else None
 without_last rooted (Some last) before = if is_up last then None else Some before
 
--- `..` takes the last part away from these; where there is none it is dropped at the root, and else nothing is told, as where the last is a `..` that stays
+-- `..` removes the last of these parts. Where there is none it is dropped at the root; elsewhere,
+-- and where the last part is a `..` that stays, the result is none
 abbrev pub one_up : Bool → List (List ℕ) → Option (List (List ℕ))
 one_up rooted kept = without_last rooted (slice_get kept (length kept - 1)) (take (length kept - 1) kept)
 
--- the parts that are kept, with one more behind them, unless that one is dropped or climbs
+-- the parts that are kept, followed by one more, unless that one is dropped or leads up
 abbrev pub with_part : Bool → List (List ℕ) → List ℕ → List (List ℕ)
 with_part rooted kept part = if is_dropped part then kept else (if is_up part then unwrap_or (one_up rooted kept) (kept ++ part ∷ []) else kept ++ part ∷ [])
 
@@ -81,6 +84,6 @@ with_part rooted kept part = if is_dropped part then kept else (if is_up part th
 abbrev pub kept_of : Bool → List (List ℕ) → List (List ℕ)
 kept_of rooted parts = fold (with_part rooted) [] parts
 
--- a path without detours: the parts that are kept, behind a `/` where it begins with one
+-- a path without detours: the parts that are kept, after a `/` where it begins with one
 abbrev pub normal_of : List ℕ → List ℕ
 normal_of p = (if is_rooted p then codes "/" else []) ++ join_by (λ part. part) (codes "/") (kept_of (is_rooted p) (slice_split is_slash p))

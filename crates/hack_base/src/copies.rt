@@ -17,7 +17,7 @@ pub fn copies<T: AsStr>(alloc: Global, texts: &[T]) -> Result<Vec<String>, Alloc
     Ok(copies)
 }
 
-/// Puts copies of texts behind those before them.
+/// Appends copies of texts.
 pub fn push_copies(texts: &mut Vec<String>, more: &[String]) -> Result<(), AllocError>
     ensures { OnOk result (names_of texts.new.items
         ≡ names_of texts.old.items ++ names_of more.now) }
@@ -28,7 +28,7 @@ pub fn push_copies(texts: &mut Vec<String>, more: &[String]) -> Result<(), Alloc
     Ok(())
 }
 
-/// A copy of a text, where there is one.
+/// A copy of a text, if there is one.
 pub fn copy_of(text: Option<&String>) -> Result<Option<String>, AllocError>
     ensures { IfOk result (λ copy. optional_text copy ≡ optional_text_ref text.entry) }
 {

@@ -1,6 +1,5 @@
-//! What all crates speak of: lists of names in one word, paths as texts, copies of texts, notices,
-//! and texts written to a writer. The definitions beside it say what a name, a number and a cut of
-//! a text are.
+//! What all crates share: lists of names in one argument, paths as texts, copies of texts, notices,
+//! and texts written to a writer. Its definitions say what a name, a number and a split text are.
 #![tactic(auto)]
 
 pub mod copies;

@@ -1,4 +1,4 @@
-//! Lists of names in one word: how the values of the options that take several names are split.
+//! Lists of names in one argument: how the values of options that take several names are split.
 
 ghost use Rattle.std.specs.Prelude.{◌≡◌, ◌↔◌, IsTrue, IfOk, map, string_bytes};
 ghost use Rattle.hack_base.specs.Lists.{HasSeparator, is_list, group_names, list_names};

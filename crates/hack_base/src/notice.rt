@@ -1,5 +1,5 @@
-//! What a call has to tell the user. A call hands its notices out, and whoever runs it prints them,
-//! so that one that ends in a fault says nothing else.
+//! What a call has to report to the user. A call returns its notices, and its caller prints them,
+//! so that a call that ends with an error reports nothing else.
 
 ghost use Rattle.std.specs.Prelude.{OnOk, string_bytes};
 ghost use Rattle.hack_base.specs.Notes.{AddsNotes, note_if};
@@ -9,11 +9,11 @@ use std::alloc::AllocError;
 /// How a notice is printed, and whether it counts as a warning.
 #[derive(Clone, Copy, Debug, PartialEq, Eq)]
 pub enum NoticeKind {
-    /// Printed behind `info: `.
+    /// Printed after `info: `.
     Info,
-    /// Printed behind `warning: `, and sets the warning flag.
+    /// Printed after `warning: `, and sets the warning flag.
     Warn,
-    /// Printed behind `warning: `, and leaves the warning flag as it is.
+    /// Printed after `warning: `, and leaves the warning flag as it is.
     QuietWarn,
 }
 
@@ -21,11 +21,11 @@ pub enum NoticeKind {
 #[derive(Debug, PartialEq, Eq, Drop)]
 pub struct Notice {
     pub kind: NoticeKind,
-    /// The line without its kind's word and without a line feed.
+    /// The line without the word of its kind and without a line feed.
     pub text: String,
 }
 
-/// Puts a notice behind the others, where it is to be told.
+/// Appends a notice, where it is to be reported.
 pub fn tell(
     notices: &mut Vec<Notice>,
     told: bool,

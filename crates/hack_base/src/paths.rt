@@ -1,5 +1,5 @@
-//! Paths as texts. Nothing here asks the disk: parts stand between slashes, and a path is never
-//! anything but its bytes.
+//! Paths as texts. The disk is never asked: parts lie between slashes, and a path is nothing but
+//! its bytes.
 
 ghost use Rattle.std.specs.Prelude.{◌≡◌, IfOk, OnOk, is_some, unwrap_or, string_bytes};
 ghost use Rattle.std.specs.List.{slice_split};
@@ -11,7 +11,7 @@ ghost use Rattle.hack_base.specs.Names.{names_behind};
 use std::alloc::{AllocError, Global};
 
 /// The name that a program is called by: the last part of its path, without its ending. A path
-/// whose last part names nothing, as `..` or `/`, is its own name.
+/// whose last part names nothing, such as `..` or `/`, is its own name.
 pub fn stem(p: &str) -> &str
     ensures { result.now ≡ stem_of p.now }
 {
@@ -22,7 +22,7 @@ pub fn stem(p: &str) -> &str
     before_ending(part)
 }
 
-/// What stands behind the last slash.
+/// The text after the last slash.
 fn last(p: &str) -> &str
     ensures { result.now ≡ last_part p.now }
 {
@@ -32,7 +32,8 @@ fn last(p: &str) -> &str
     }
 }
 
-/// A part without its ending. A dot that is first begins no ending, but a name that is hidden.
+/// A part without its ending. A dot that comes first marks a hidden name and doesn't begin an
+/// ending.
 fn before_ending(part: &str) -> &str
     ensures { result.now ≡ without_ending part.now }
 {
@@ -42,8 +43,8 @@ fn before_ending(part: &str) -> &str
     }
 }
 
-/// A path as it stands inside a folder: without the folder and the slash behind it, where it begins
-/// with these.
+/// A path relative to a folder: without the folder and the slash after it, where it begins with
+/// these.
 pub fn under<'a>(p: &'a str, dir: &str) -> &'a str
     ensures { result.now ≡ under_of p.now dir.now }
 {
@@ -56,8 +57,8 @@ pub fn under<'a>(p: &'a str, dir: &str) -> &'a str
     }
 }
 
-/// Where a path leads that is taken from inside a folder. A path that begins with a slash leads
-/// there from anywhere.
+/// Where a path leads from inside a folder. A path that begins with a slash leads to the same place
+/// from anywhere.
 pub fn join(alloc: Global, dir: &str, p: &str) -> Result<String, AllocError>
     ensures { IfOk result (λ joined. string_bytes joined ≡ join_of dir.now p.now) }
 {
@@ -70,7 +71,7 @@ pub fn join(alloc: Global, dir: &str, p: &str) -> Result<String, AllocError>
     format!(in alloc; "{dir}/{p}")
 }
 
-/// The folder that a path stands in: what stands before its last slash.
+/// The folder that contains the path: the text before its last slash.
 pub fn parent(p: &str) -> &str
     ensures { result.now ≡ parent_of p.now }
 {
@@ -81,9 +82,9 @@ pub fn parent(p: &str) -> &str
     }
 }
 
-/// A path without detours: empty and `.` parts are dropped, and `..` takes the part before it away.
-/// At the root `..` is dropped, and at the front of a relative path it stays. Links on the disk are
-/// not followed.
+/// A path without detours: empty and `.` parts are dropped, and `..` removes the part before it. At
+/// the root `..` is dropped, and at the start of a relative path it stays. Symbolic links are not
+/// followed.
 pub fn normal(alloc: Global, p: &str) -> Result<String, AllocError>
     ensures { IfOk result (λ path. string_bytes path ≡ normal_of p.now) }
 {
@@ -96,7 +97,7 @@ pub fn normal(alloc: Global, p: &str) -> Result<String, AllocError>
     Ok(path)
 }
 
-/// The parts of a path that are kept, from the first on.
+/// The parts of a path that are kept, in order.
 fn kept_parts<'a>(alloc: Global, p: &'a str, rooted: bool) -> Result<Vec<&'a str>, AllocError>
     ensures { IfOk result (λ kept. names_behind kept.items ≡ kept_of rooted
         (slice_split is_slash p.now)) }
@@ -108,7 +109,8 @@ fn kept_parts<'a>(alloc: Global, p: &'a str, rooted: bool) -> Result<Vec<&'a str
     Ok(kept)
 }
 
-/// Adds a part to those that are kept, unless it only says where to go from there.
+/// Adds a part to those that are kept. An empty part or `.` is dropped, and a `..` removes the last
+/// part where that is possible.
 fn keep<'a>(kept: &mut Vec<&'a str>, part: &'a str, rooted: bool) -> Result<(), AllocError>
     ensures { OnOk result (names_behind kept.new.items
         ≡ with_part rooted (names_behind kept.old.items) part.now) }
@@ -123,7 +125,7 @@ fn keep<'a>(kept: &mut Vec<&'a str>, part: &'a str, rooted: bool) -> Result<(), 
     Ok(())
 }
 
-/// Takes the last part away, and says whether that was possible: not where a `..` has to be kept.
+/// Removes the last part, and returns whether that was possible: it isn't where a `..` has to stay.
 fn climb(kept: &mut Vec<&str>, rooted: bool) -> bool
     ensures tells { result ≡ is_some (one_up rooted (names_behind kept.old.items)) }
     ensures kept { names_behind kept.new.items

@@ -7,8 +7,8 @@ ghost use Rattle.hack_base.specs.Writes.{AppendsFront, line};
 use std::io;
 use std::io::{ErrorKind, Write};
 
-/// Writes a text, or a front of it where a write fails. One that is interrupted is tried again; one
-/// that takes nothing is `WriteZero`.
+/// Writes a text, or a prefix of it where a write fails. An interrupted write is tried again; a
+/// write that takes nothing is the error `WriteZero`.
 pub fn write_front<W: Write>(text: &str, out: &mut W) -> io::Result<()>
     ensures all { OnOk result (Appends (W.contents out.old) (W.contents out.new) text.now) }
     ensures front { AppendsFront (W.contents out.old) (W.contents out.new) text.now }
@@ -31,7 +31,7 @@ pub fn write_front<W: Write>(text: &str, out: &mut W) -> io::Result<()>
     Err(io::Error::from(ErrorKind::Interrupted))
 }
 
-/// Writes a line of two parts, or a front of it where a write fails.
+/// Writes a line of two parts, or a prefix of it where a write fails.
 pub fn write_line<W: Write>(label: &str, text: &str, out: &mut W) -> io::Result<()>
     ensures all { OnOk result (Appends (W.contents out.old) (W.contents out.new)
         (line label.now text.now)) }

@@ -1,6 +1,6 @@
-//! Calls in workspaces as questions: the words behind `hack`. Before ` $ ` stands what isn't as in
-//! the other rows: `members` and these, `in` and the package that the call stands in, `cargo` and
-//! its minor version, `stable` and the fault of asking for its version, or a `piece` of the plan.
+//! Calls in workspaces as questions: the arguments after `hack`. Settings that differ from those of
+//! the other rows come before ` $ `: `members` and these, `in` and the current package, `cargo` and
+//! its minor version, `stable` and the error of asking for its version, or a `piece` of the plan.
 
 use crate::given::{Given, context_of, reason};
 use crate::packages::{package_names, package_runs};
@@ -31,18 +31,18 @@ pub enum Show {
     Commands,
     /// The number of runs, and the places that the piece has of them.
     Piece,
-    /// Nothing but that there is a plan.
+    /// Only that there is a plan.
     Fault,
 }
 
-/// Calls on members, where a question doesn't name others.
+/// Calls on these members, unless a question names others.
 #[derive(Clone, Copy)]
 pub struct Asked<'a> {
     pub show: Show,
     pub members: &'a str,
 }
 
-/// The call of a question: in the package `p` and under cargo 1.90, where it doesn't say else.
+/// The call of a question: in the package `p` and with cargo 1.90, unless it says otherwise.
 fn given_of<'a>(members: &'a str, question: &'a str) -> Given<'a> {
     let (front, words) = question.split_once(" $ ").unwrap_or(("", question));
     let mut given = Given {
@@ -139,7 +139,7 @@ impl Ask for Asked<'_> {
     }
 }
 
-/// Holds rows on these members.
+/// Checks rows on these members.
 pub fn on(alloc: Global, show: Show, members: &str, rows: &str) -> Result<(), Wrong> {
     hold(alloc, &mut Asked { show, members }, rows)
 }

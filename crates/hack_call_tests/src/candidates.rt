@@ -1,8 +1,9 @@
-//! The candidates of a package. A question has the member by its manifest, the member by the
-//! metadata and the nodes of the graph, with ` $ ` between them. The packages `log` and `rand` are
-//! beside the workspace. The answer has the package's features, optional dependencies, and features
-//! of dependencies, each behind its variant and, for the last, the place of the slash. Where one
-//! candidate is asked for, the question is its name, and the answer whether it is there.
+//! The candidates of a package. A question has the member in its manifest, the member in the
+//! metadata and the nodes of the graph, separated by ` $ `. The packages `log` and `rand` are
+//! outside the workspace. The answer has the package's features, optional dependencies, and
+//! features of dependencies, each after its variant and, for the last, the place of the slash.
+//! Where a single candidate is asked for, the question is its name, and the answer whether it
+//! exists.
 
 use crate::given::{manifest_of, read};
 use crate::workspace::{metadata_text, push_all};
@@ -18,10 +19,10 @@ static OTHERS: &str = r#",{"id":"log","name":"log","version":"0.4.0","dependenci
 ,{"id":"rand","name":"rand","version":"0.8.0","dependencies":[],
 "features":{"small":[]},"manifest_path":"/rand/Cargo.toml","publish":null,"rust_version":null}"#;
 
-/// Candidates that are asked for.
+/// The candidates to ask for.
 #[derive(Clone, Copy)]
 struct Candidates<'a> {
-    /// The package in the form of a question, where the questions are names.
+    /// The package, as in a question, where the questions are names.
     package: Option<&'a str>,
     /// Whether features of dependencies are asked for.
     with_dependencies: bool,
@@ -37,7 +38,7 @@ fn push_feature(text: &mut String, alloc: Global, feature: &Feature) -> Result<(
     }
 }
 
-/// Puts features behind the text, with their variants.
+/// Appends features with their variants to the text.
 fn push_features(text: &mut String, alloc: Global, features: &[Feature]) -> Result<(), AllocError> {
     for feature in features {
         push_feature(text, alloc, feature)?;
@@ -102,7 +103,7 @@ impl Ask for Candidates<'_> {
     }
 }
 
-/// Holds rows of packages.
+/// Checks rows on packages.
 fn listed_as(alloc: Global, with_dependencies: bool, rows: &str) -> Result<(), Wrong> {
     let mut asked = Candidates {
         package: None,

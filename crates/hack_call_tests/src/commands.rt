@@ -1,6 +1,6 @@
-//! What a context gives a command: its words, its manifest path and the features of the words. The
-//! answer has the command of each member with what is told of it, and that of no package with the
-//! number of its notices.
+//! What a context gives a command: its arguments, its manifest path and the features of
+//! `--features`. The answer has the command of each member with its notices, and the one without a
+//! package with the number of its notices.
 
 ghost use Rattle.std.specs.Prelude.{Contains};
 ghost use Rattle.hack_load.specs.ContextView.{context_view};
@@ -13,7 +13,7 @@ use hack_load::metadata::PackageId;
 use hack_load::process::{append_features_from_args, apply_context};
 use std::alloc::{AllocError, Global};
 
-/// Puts the command of a member behind the text, and what is told of it.
+/// Appends the command of a member and its notices to the text.
 fn push_command(
     text: &mut String,
     alloc: Global,
@@ -30,7 +30,7 @@ fn push_command(
     text.push_str("\n")
 }
 
-/// The command of no package, and the number of its notices.
+/// The command without a package, and the number of its notices.
 fn command_of_none(alloc: Global, cx: &Context) -> Result<String, AllocError> {
     let mut command = cx.cargo(alloc)?;
     apply_context(&mut command, cx);
@@ -39,7 +39,7 @@ fn command_of_none(alloc: Global, cx: &Context) -> Result<String, AllocError> {
     format!(in alloc; "{command} {told}")
 }
 
-/// The command of each member, and that of no package.
+/// The command of each member, and the one without a package.
 pub fn commands(alloc: Global, cx: &Context) -> Result<String, AllocError> {
     let mut text = String::new(alloc);
     for id in cx.workspace_members() {
@@ -49,7 +49,7 @@ pub fn commands(alloc: Global, cx: &Context) -> Result<String, AllocError> {
     Ok(text)
 }
 
-// The first member alone has the feature `a`.
+// Only the first member has the feature `a`.
 #[test]
 fn what_a_context_gives_a_command(rt: HostRuntime) -> Result<(), Wrong> {
     within(

@@ -1,4 +1,4 @@
-//! The context of a call, in workspaces of several kinds and by several versions of cargo.
+//! The context of a call, in workspaces of several kinds and with several versions of cargo.
 
 use crate::loading::{Show, within};
 use hack_holds::Wrong;
@@ -85,7 +85,7 @@ fn words_and_a_newer_stable(rt: HostRuntime) -> Result<(), Wrong> {
             | at p
             | p (/w) at /w/Cargo.toml, private: false, 1.60, 10:
 
-            # Stable's cargo tells the metadata where it is newer, and the lockfile stays.
+            # Stable's cargo reports the metadata where it is newer, and the lockfile stays.
             > rustup run stable cargo -vV = release: 1.80.0\n & /w/Cargo.lock = locked $ check
             | cargo -vV
             | rustup run stable cargo -vV
@@ -100,7 +100,7 @@ fn words_and_a_newer_stable(rt: HostRuntime) -> Result<(), Wrong> {
     )
 }
 
-// A private package 1.50 by its manifest, which the metadata call a public one of 1.60.
+// A private package 1.50 by its manifest, which the metadata report as a public one of 1.60.
 #[test]
 fn minor_versions_of_cargo(rt: HostRuntime) -> Result<(), Wrong> {
     within(

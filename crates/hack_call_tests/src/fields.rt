@@ -1,12 +1,12 @@
-//! The first field that is missing or ill typed. A question is the minor version of the cargo that
-//! tells metadata, and their text; `@blank` is a million bytes of white space, and `@open` and
-//! `@close` are 200 brackets. The answer is `read`, or the fault.
+//! The first field that is missing or has the wrong type. A question is the minor version of the
+//! cargo that reports metadata, and their text; `@blank` is a million bytes of white space, and
+//! `@open` and `@close` are 200 brackets. The answer is `read`, or the error.
 
 use crate::given::read;
 use hack_holds::{Ask, Wrong, hold};
 use std::alloc::{AllocError, Global};
 
-/// What stands around the text of a question in the metadata.
+/// The text of the metadata around that of a question.
 #[derive(Clone, Copy)]
 struct Around {
     front: &'static str,
@@ -30,7 +30,7 @@ const NODES: Around = Around {
     behind: r#"},"workspace_root":"/w"}"#,
 };
 
-/// The text, where a name in it stands for a part that is there many times.
+/// The text, in which a name is replaced by a part that occurs many times.
 fn replaced(
     alloc: Global,
     text: &str,

@@ -1,4 +1,4 @@
-//! Calls of short texts: the words behind `hack`, and a context in a workspace.
+//! Calls from short texts: the arguments after `hack`, and a context in a workspace.
 
 use crate::workspace::{manifest_text, metadata_text};
 use hack_load::context::{Answers, Context, Loaded, Located};
@@ -30,7 +30,7 @@ impl<T: Drop> From<AllocFailed<T>> for Off {
     }
 }
 
-/// What is told of a row that makes no call.
+/// The answer to a row that makes no call.
 pub fn reason(alloc: Global, off: Off) -> Result<String, AllocError> {
     let text = match off {
         Off::Memory => return Err(AllocError),
@@ -42,12 +42,12 @@ pub fn reason(alloc: Global, off: Off) -> Result<String, AllocError> {
     String::from_str(alloc, text)
 }
 
-/// The environment of a call in `/w` that has these variables.
+/// The environment of a call in `/w` with these variables.
 pub fn env_of(alloc: Global, variables: &[(String, String)]) -> Result<Env, AllocError> {
     Env::new(alloc, variables, String::from_str(alloc, "/w")?)
 }
 
-/// `hack` and the words behind it.
+/// `hack` and the arguments after it.
 fn words_of(alloc: Global, text: &str) -> Result<Vec<String>, Off> {
     let mut words = Vec::new(alloc);
     words.push(String::from_str(alloc, "hack")?)?;
@@ -62,7 +62,7 @@ fn parsed(alloc: Global, words: &[String], env: &Env) -> Result<Parsed, CliFault
     Ok(answer.0)
 }
 
-/// The arguments of the words behind `hack`.
+/// The parsed arguments after `hack`.
 pub fn args_of(alloc: Global, env: &Env, text: &str) -> Result<Args, Off> {
     let words = words_of(alloc, text)?;
     match parsed(alloc, words.as_slice(), env) {
@@ -71,12 +71,12 @@ pub fn args_of(alloc: Global, env: &Env, text: &str) -> Result<Args, Off> {
     }
 }
 
-/// Reads a text as the metadata that a cargo of this minor version tells.
+/// Reads a text as the metadata that a cargo of this minor version reports.
 pub fn read(alloc: Global, text: &str, minor: u32) -> Result<Metadata, MetadataFault> {
     Metadata::from_obj(alloc, object_of(alloc, text)?, minor)
 }
 
-/// The manifest of a member, read as by cargo 1.90.
+/// The manifest of a member, read as with cargo 1.90.
 pub fn manifest_of(alloc: Global, member: &str) -> Result<Manifest, Off> {
     let text = manifest_text(alloc, member)?;
     Manifest::new(alloc, "/w/p/Cargo.toml", text, 90).map_err(|_| Off::Manifest)
@@ -91,7 +91,7 @@ fn manifests_of(alloc: Global, members: &str) -> Result<Vec<Manifest>, Off> {
     Ok(manifests)
 }
 
-/// The command that tells where a call stands, and what it wrote.
+/// The command that finds the current package, and what it wrote.
 pub fn located(alloc: Global, text: String) -> Result<Located, AllocError> {
     let command = String::from_str(alloc, "`cargo locate-project`")?;
     Ok(Located { command, text })
@@ -124,19 +124,19 @@ fn cargo_version(alloc: Global, minor: Option<u32>) -> Result<Result<u32, String
     }
 }
 
-/// What a call is made over.
+/// What a call is made from.
 #[derive(Clone, Copy)]
 pub struct Given<'a> {
     pub members: &'a str,
-    /// The package that the call stands in.
+    /// The current package.
     pub current: &'a str,
     /// Cargo's own minor version; none where it is unknown.
     pub minor: Option<u32>,
-    /// The fault of asking for the version of the toolchain `stable`, which is 1.66 without it.
+    /// The error of asking for the version of the toolchain `stable`; without one it is 1.66.
     pub stable: Option<&'a str>,
     /// The piece of the plan that runs.
     pub piece: &'a str,
-    /// The words behind `hack`.
+    /// The arguments after `hack`.
     pub words: &'a str,
 }
 

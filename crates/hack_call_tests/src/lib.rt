@@ -1,6 +1,6 @@
-//! Tests of what one call of cargo hack stands on: what cargo tells of a workspace, the context that
-//! is made of it, the packages that the call runs on, their runs, and the whole plan with its
-//! commands, versions, pieces and notices. Each has its faults as well.
+//! Tests of what one call of cargo hack depends on: what cargo reports of a workspace, the context
+//! made from it, the packages that the call runs on, their runs, and the whole plan with its
+//! commands, versions, pieces and notices. Each has its errors as well.
 #![tactic(auto)]
 
 #[cfg(test)]

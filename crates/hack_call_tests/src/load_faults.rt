@@ -1,4 +1,4 @@
-//! Why there is no context: faults that end the questions, and answers that make none.
+//! Why there is no context: errors that end the questions, and answers that give none.
 
 use crate::loading::{Show, within};
 use hack_holds::Wrong;
@@ -10,7 +10,7 @@ fn faults_that_end_the_questions(rt: HostRuntime) -> Result<(), Wrong> {
         Show::Context,
         "cargo -vV = @own",
         r"
-            # Cargo fails to tell the metadata, or tells none.
+            # Cargo fails to report the metadata, or reports none.
             > check
             | cargo -vV
             | rustup run stable cargo -vV
@@ -37,7 +37,7 @@ fn faults_that_end_the_questions(rt: HostRuntime) -> Result<(), Wrong> {
             | 0 of 0
             | unable to determine host
 
-            # A manifest that isn't there, or is ill formed.
+            # A manifest that is missing, or ill formed.
             > cargo metadata --format-version=1 --no-deps = @virtual & /w/a/Cargo.toml = [package]\n $ check
             | cargo -vV
             | rustup run stable cargo -vV
@@ -57,7 +57,7 @@ fn faults_that_end_the_questions(rt: HostRuntime) -> Result<(), Wrong> {
             | 0 of 0
             | failed to parse `features` field from manifest `/w/Cargo.toml`
 
-            # Cargo fails to tell where the call stands.
+            # Cargo fails to locate the current package.
             > cargo metadata --format-version=1 --no-deps = @single & /w/Cargo.toml = [package]\n $ check
             | cargo -vV
             | rustup run stable cargo -vV
@@ -132,7 +132,7 @@ fn answers_that_tell_no_place(rt: HostRuntime) -> Result<(), Wrong> {
             | 0 of 0
             | failed to parse output from `cargo locate-project`
 
-            # Cargo itself can't be asked for its version: this warns, and the next fault counts.
+            # Cargo itself can't be asked for its version: this warns, and the next error counts.
             > cargo locate-project --manifest-path m = [] $ check --manifest-path m
             | cargo -vV
             | rustup run stable cargo -vV

@@ -1,6 +1,7 @@
-//! Questions of a call to the world around it: the words behind `hack`, and before ` $ ` settings of
-//! the world. The answer has the calls of commands, then how many files were left changed of how
-//! many failing calls of files with what the lockfile holds, and then what comes of it.
+//! Questions of a call to its environment: the arguments after `hack`, with settings of the
+//! environment before ` $ `. The answer has the commands that were called, then how many files were
+//! left changed and how many calls of files failed with the content of the lockfile, and then the
+//! result.
 
 ghost use Rattle.std.specs.Prelude.{◌<◌, Contains, length};
 ghost use Rattle.hack_load.specs.ContextView.{context_view};
@@ -23,20 +24,20 @@ use hack_term::term::{Coloring, Term};
 use hack_words::cli::{Args, Env};
 use std::alloc::{AllocError, Global};
 
-/// What is shown of what comes of the questions.
+/// What is shown of the result.
 #[derive(Clone, Copy)]
 pub enum Show {
     /// The whole context, with the notices.
     Context,
-    /// The current package, the members and the notices alone.
+    /// Only the current package, the members and the notices.
     Members,
-    /// What the context gives commands, alone.
+    /// Only what the context gives commands.
     Commands,
-    /// The metadata, which a cargo 1.70 is asked for.
+    /// The metadata, for which a cargo 1.70 is asked.
     Metadata,
 }
 
-/// Calls in a world.
+/// Calls in an environment.
 #[derive(Clone, Copy)]
 struct Loading<'a> {
     show: Show,
@@ -105,8 +106,8 @@ fn push_features(text: &mut String, features: &[Feature]) -> Result<(), AllocErr
     Ok(())
 }
 
-/// Puts a member behind the text: its name and its manifest's path, whether it is private, its
-/// version, how long its manifest is, and its candidates.
+/// Appends a member to the text: its name and its manifest's path, whether it is private, its
+/// version, the length of its manifest, and its candidates.
 fn push_member(
     text: &mut String,
     alloc: Global,
@@ -127,7 +128,7 @@ fn push_member(
     push_features(text, cx.pkg_features(id).normal())
 }
 
-/// Puts the current package behind the text, the members and the notices.
+/// Appends the current package, the members and the notices to the text.
 fn push_members(
     text: &mut String,
     alloc: Global,
@@ -145,8 +146,8 @@ fn push_members(
     push_notices(text, notices)
 }
 
-/// The workspace's folder, cargo with its own minor version and that which told the metadata, and
-/// the current folder.
+/// The workspace's folder, cargo with its own minor version and the one that reported the metadata,
+/// and the current folder.
 fn place_text(alloc: Global, cx: &Context) -> Result<String, AllocError> {
     let root = cx.workspace_root();
     let dir = cx.current_dir();
@@ -185,7 +186,7 @@ fn context_outcome(
     }
 }
 
-/// What comes of a call's questions.
+/// The result of a call's questions.
 fn outcome(
     alloc: Global,
     show: Show,
@@ -202,7 +203,7 @@ fn outcome(
     }
 }
 
-/// Puts the calls behind the text, a line each.
+/// Appends the calls to the text, one line for each.
 fn push_calls(text: &mut String, alloc: Global, made: &[Made]) -> Result<(), AllocError> {
     for call in made {
         text.push_str(format!(in alloc; "{call}\n")?.as_str())?;
@@ -210,7 +211,7 @@ fn push_calls(text: &mut String, alloc: Global, made: &[Made]) -> Result<(), All
     Ok(())
 }
 
-/// Puts bytes behind the text, each that is in no text as `\x`.
+/// Appends bytes to the text, those that are no UTF-8 as `\x`.
 fn push_bytes(text: &mut String, bytes: &[u8]) -> Result<(), AllocError> {
     for byte in bytes {
         match *byte {
@@ -221,7 +222,7 @@ fn push_bytes(text: &mut String, bytes: &[u8]) -> Result<(), AllocError> {
     Ok(())
 }
 
-/// Puts what the lockfile holds behind the text, where there is one.
+/// Appends the content of the lockfile to the text, if there is one.
 fn push_lockfile(
     text: &mut String,
     alloc: Global,
@@ -237,7 +238,7 @@ fn push_lockfile(
     }
 }
 
-/// Puts behind the text what was asked, and what is left behind it.
+/// Appends what was asked to the text, and the state of the files afterwards.
 fn push_questions(text: &mut String, alloc: Global, stage: &mut Stage) -> Result<(), AllocError> {
     push_calls(text, alloc, stage.caller.made())?;
     let left = stage.left;
@@ -265,7 +266,7 @@ impl Ask for Loading<'_> {
     }
 }
 
-/// Holds rows in this world.
+/// Checks rows in this environment.
 pub fn within(alloc: Global, show: Show, world: &str, rows: &str) -> Result<(), Wrong> {
     hold(alloc, &mut Loading { show, world }, rows)
 }

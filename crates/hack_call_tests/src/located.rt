@@ -1,5 +1,5 @@
-//! The path that `cargo locate-project` tells, asked with `root` and what it wrote, and the package
-//! whose manifest is there, asked with `at` and a path.
+//! The path that `cargo locate-project` prints, asked with `root` and what it wrote, and the
+//! package whose manifest is there, asked with `at` and a path.
 
 use crate::given::{located, read};
 use hack_holds::{Ask, Wrong, hold};
@@ -13,7 +13,7 @@ static WORKSPACE: &str = r#"{"packages":[
 {"id":"c","name":"c","version":"0.1.0","dependencies":[],"features":{},"manifest_path":"/c/Cargo.toml","publish":null,"rust_version":null}],
 "workspace_members":["b","a"],"resolve":null,"workspace_root":"/w"}"#;
 
-/// The path in an answer, or the fault.
+/// The path in an answer, or the error.
 fn root(alloc: Global, text: &str) -> Result<String, AllocError> {
     let located = located(alloc, String::from_str(alloc, text)?)?;
     match located.root(alloc) {

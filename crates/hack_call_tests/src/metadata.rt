@@ -1,5 +1,5 @@
-//! The question to cargo for the metadata: who is asked what, what counts, and what the lockfile
-//! holds behind it. Stable's cargo is 1.80.
+//! The question to cargo for the metadata: which program is asked what, which answer is used, and
+//! what the lockfile holds afterwards. Stable's cargo is 1.80.
 
 use crate::loading::{Show, within};
 use hack_holds::Wrong;

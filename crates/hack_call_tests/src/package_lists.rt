@@ -1,5 +1,5 @@
-//! Which members of a workspace a call runs on: their names, with `(single)` where one is left after
-//! exclusions, and what the user is told.
+//! Which members of a workspace a call runs on: their names, with `(single)` where one remains
+//! after exclusions, and the notices.
 
 use crate::asked::{Show, on};
 use hack_holds::Wrong;

@@ -1,5 +1,5 @@
-//! The runs of a package: their kind, their number, and each of them. `A` is that with all features,
-//! `N` that without, `-` the plain one.
+//! The runs of a package: their kind, their number, and each of them. `A` is the run with all
+//! features, `N` the one without, `-` the plain one.
 
 use crate::asked::{Show, on};
 use hack_holds::Wrong;

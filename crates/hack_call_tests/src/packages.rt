@@ -14,7 +14,7 @@ use hack_packages::packages::PackageList;
 use hack_plan::runs::Run;
 use std::alloc::{AllocError, Global};
 
-/// Puts the names of packages behind the text, and `(single)` where one is left after exclusions.
+/// Appends the names of packages to the text, and `(single)` where one remains after exclusions.
 fn push_names(
     text: &mut String,
     metadata: &Metadata,
@@ -57,7 +57,7 @@ fn kind_name(kind: &Kind) -> &'static str {
     }
 }
 
-/// Puts the features of a run behind the text, with commas between them.
+/// Appends the features of a run to the text, separated by commas.
 fn push_features(
     text: &mut String,
     alloc: Global,
@@ -87,7 +87,7 @@ fn push_run(
     }
 }
 
-/// Puts the kind of the runs behind the text, their number, and each of them.
+/// Appends the kind of the runs to the text, their number, and each of them.
 fn push_runs(text: &mut String, alloc: Global, runs: &PackageRuns) -> Result<(), AllocError> {
     let count = runs.len();
     text.push_str(kind_name(&runs.kind))?;
@@ -100,7 +100,7 @@ fn push_runs(text: &mut String, alloc: Global, runs: &PackageRuns) -> Result<(),
     Ok(())
 }
 
-/// Puts the runs of a member behind the text, and the notices.
+/// Appends the runs of a member to the text, and the notices.
 fn push_member(
     text: &mut String,
     alloc: Global,

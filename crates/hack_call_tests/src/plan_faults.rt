@@ -1,5 +1,5 @@
-//! Why a call has no plan. The rows of a chain are ordered: the cause that a row names is gone in the
-//! next row, and that row's cause held in it as well.
+//! Why a call has no plan. The rows of a sequence are ordered: the cause that a row names is gone
+//! in the next row, and the cause of that row held in the first as well.
 
 use crate::asked::{Show, on};
 use hack_holds::Wrong;

@@ -1,5 +1,5 @@
-//! The runs of a plan: their number, their commands, the packages that they are on, and what the
-//! user is told.
+//! The runs of a plan: their number, their commands, the packages that they are on, and the
+//! notices.
 
 use crate::asked::{Show, on};
 use hack_holds::Wrong;
@@ -153,7 +153,7 @@ fn members_of_their_own(rt: HostRuntime) -> Result<(), Wrong> {
         Show::Runs,
         "p - a;q",
         r#"
-            # By version, then by slot, then by package, then by the package's own order.
+            # Ordered by version, then slot, then package, then the package's own order.
             > check --workspace --each-feature --version-range 1.63..=1.64 --target s --target t
             | 9
             | `rustup run 1.63 cargo check --target s --no-default-features` on p
@@ -209,7 +209,7 @@ fn unknown_features(rt: HostRuntime) -> Result<(), Wrong> {
             | info: skipped applying unknown `a` feature to q
             | info: skipped applying unknown `x` feature to q
 
-            # Told once for each version and slot.
+            # Reported once for each version and slot.
             > check --ignore-unknown-features --features x --version-range 1.63..=1.64 --target b --target a
             | 3
             | `rustup run 1.63 cargo check --target a` on p
@@ -219,7 +219,7 @@ fn unknown_features(rt: HostRuntime) -> Result<(), Wrong> {
             | info: skipped applying unknown `x` feature to p
             | info: skipped applying unknown `x` feature to p
 
-            # Told once for all runs of the package, behind what is told of packages, features and
+            # Reported once for all runs of the package, after the notices on packages, features and
             # ranges.
             > check --each-feature --exclude z -p q --exclude-features y --ignore-unknown-features --features x --version-range 1.65.1..=1.65
             | 2

@@ -1,5 +1,5 @@
-//! The versions of a plan: what is done before the runs of each, and its places. A letter tells
-//! what is done, with the version's place.
+//! The versions of a plan: what is done before the runs of each, and its places. A letter says what
+//! is done, followed by the version's place.
 
 use crate::asked::{Show, on};
 use hack_holds::Wrong;
@@ -46,7 +46,7 @@ fn used_versions(rt: HostRuntime) -> Result<(), Wrong> {
         Show::Versions,
         "p 1.51 a b;q",
         r#"
-            # A version that no package uses isn't there, and one whose packages have no run has no
+            # A version that no package uses is missing, and one whose packages have no run has no
             # place.
             > check --version-range 1.49..=1.52
             | 1.51 t0 l0 0..1

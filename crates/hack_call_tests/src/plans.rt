@@ -53,7 +53,7 @@ pub fn last(alloc: Global, plan: &Plan) -> Result<String, AllocError> {
     Ok(text)
 }
 
-/// The features of a run, read off its short text: `A` is all of them, `N` none, `-` a plain run.
+/// The features of a run, taken from its short text: `A` is all of them, `N` none, `-` a plain run.
 fn push_features(text: &mut String, command: &str) -> Result<(), AllocError> {
     let command = command.strip_suffix("`").unwrap_or("");
     let (own, names) = command.split_once(" --features ").unwrap_or((command, ""));
@@ -92,7 +92,7 @@ fn name(alloc: Global, version: &PlanVersion) -> Result<String, AllocError> {
     }
 }
 
-/// Puts a version behind the text, what is done before its runs, and its places up to the end.
+/// Appends a version to the text, what is done before its runs, and its places up to the end.
 fn push_version(text: &mut String, alloc: Global, version: &PlanVersion) -> Result<(), AllocError> {
     text.push_str(name(alloc, version)?.as_str())?;
     for each in &version.preparations {
@@ -103,7 +103,8 @@ fn push_version(text: &mut String, alloc: Global, version: &PlanVersion) -> Resu
     text.push_str(format!(in alloc; " {first}..{end}\n")?.as_str())
 }
 
-/// The versions of a plan, a line each, a line with the packages of its runs, and the notices.
+/// The versions of a plan, one line for each, a line with the packages of its runs, and the
+/// notices.
 pub fn versions(alloc: Global, plan: &Plan, notices: &[Notice]) -> Result<String, AllocError> {
     let mut text = String::new(alloc);
     for version in plan.versions() {
@@ -148,8 +149,8 @@ fn push_first(text: &mut String, alloc: Global, plan: &Plan) -> Result<(), Alloc
     Ok(())
 }
 
-/// The command that makes the lockfile of the first version, the one that removes artifacts before
-/// the runs of a version, the one before the first run, and this run, as a list shows them.
+/// The command that generates the lockfile of the first version, the one that removes artifacts
+/// before the runs of a version, the one before the first run, and this run, as a list shows them.
 pub fn commands(alloc: Global, plan: &Plan) -> Result<String, AllocError> {
     let mut text = String::new(alloc);
     push_lockfile(&mut text, alloc, plan)?;
@@ -160,7 +161,7 @@ pub fn commands(alloc: Global, plan: &Plan) -> Result<String, AllocError> {
     Ok(text)
 }
 
-/// The places that a piece has of that many runs.
+/// The places that a piece has of this many runs.
 fn held(alloc: Global, piece: &str, total: u64) -> Result<String, PartitionFault> {
     let piece = Partition::parse(alloc, piece)?;
     let mut places = format!(in alloc; "{total}:")?;

@@ -1,9 +1,9 @@
 //! The records that are read of two packages. A question begins with the minor version of cargo and
-//! what it says of them: `members` and their ids, `same` and the members' ids where both packages
-//! have the id `a`, `publish` and that of the first one, or `graph` and it. The answer has that
-//! version, the workspace's folder and its members; then the packages, each with its id, version
-//! and manifest, whether it may be published, its least Rust version, its features with their
-//! values, and its optional dependencies; then the nodes with how they depend.
+//! what it reports of them: `members` and their ids, `same` and the members' ids where both
+//! packages have the id `a`, `publish` and that of the first one, or `graph` and the graph. The
+//! answer has that version, the workspace's folder and its members; then the packages, each with
+//! its id, version and manifest, whether it may be published, its least Rust version, its features
+//! with their values, and its optional dependencies; then the nodes with their dependencies.
 
 use crate::given::read;
 use crate::shown::name_of;
@@ -42,7 +42,7 @@ fn text_of(alloc: Global, kind: &str, value: &str) -> Result<String, AllocError>
     }
 }
 
-/// Puts the names of the members' packages behind the text.
+/// Appends the names of the members' packages to the text.
 fn push_members(text: &mut String, metadata: &Metadata) -> Result<(), AllocError> {
     for id in &metadata.workspace_members {
         push_all(text, &[" ", name_of(metadata, *id)])?;
@@ -57,7 +57,7 @@ fn push_values(text: &mut String, values: &[String]) -> Result<(), AllocError> {
     Ok(())
 }
 
-/// Puts the features with their values behind the text.
+/// Appends the features with their values to the text.
 fn push_features(text: &mut String, package: &Package) -> Result<(), AllocError> {
     for (name, values) in &package.features {
         push_all(text, &[" ", name.as_str()])?;
@@ -226,7 +226,7 @@ fn fields_that_came_with_a_later_cargo(rt: HostRuntime) -> Result<(), Wrong> {
     )
 }
 
-// A cargo 1.29 tells no dependencies of nodes.
+// A cargo 1.29 reports no dependencies of nodes.
 #[test]
 fn a_graph_of_dependencies(rt: HostRuntime) -> Result<(), Wrong> {
     hold(

@@ -12,7 +12,7 @@ fn kind_of(notice: &Notice) -> &'static str {
     }
 }
 
-/// Puts the notices behind the text, a line each.
+/// Appends the notices to the text, one line for each.
 pub fn push_notices(text: &mut String, notices: &[Notice]) -> Result<(), AllocError> {
     for notice in notices {
         text.push_str(kind_of(notice))?;

@@ -1,4 +1,4 @@
-//! Package ID specifications, asked of a package: whether one matches, or why that isn't known.
+//! Package ID specifications, applied to a package: whether one matches, or why that isn't known.
 
 use crate::given::read;
 use crate::workspace::{push_all, whole_text};
@@ -8,7 +8,7 @@ use hack_metadata::cargo::{SpecFault, match_pkg_spec};
 use hack_metadata::metadata::{Metadata, MetadataFault};
 use std::alloc::{AllocError, Global};
 
-/// The package that specifications are asked of.
+/// The package to which specifications are applied.
 #[derive(Clone, Copy)]
 struct Named {
     name: &'static str,
@@ -50,7 +50,7 @@ impl Ask for Named {
     }
 }
 
-/// Holds rows of the package of this name, version and id.
+/// Checks rows on the package with this name, version and id.
 fn on(
     alloc: Global,
     name: &'static str,

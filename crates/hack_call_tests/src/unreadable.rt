@@ -1,4 +1,4 @@
-//! What can't be read or started: bytes that are no text, programs without a name, and files of
+//! What can't be read or started: bytes that are not UTF-8, programs without a name, and files of
 //! which a call fails.
 
 use crate::loading::{Show, within};
@@ -110,7 +110,7 @@ fn programs_without_a_name(rt: HostRuntime) -> Result<(), Wrong> {
     )
 }
 
-// The lockfile is no text before, and stable's cargo is newer.
+// The lockfile is not UTF-8, and stable's cargo is newer.
 #[test]
 fn files_that_fail(rt: HostRuntime) -> Result<(), Wrong> {
     within(

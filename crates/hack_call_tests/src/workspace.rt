@@ -1,9 +1,9 @@
-//! Workspaces of short texts.
+//! Workspaces from short texts.
 //!
-//! A workspace is a text: its members behind each other, with `;` between them. A member is its
-//! name (with `!` behind it where it is private), its own version or `-`, and its features, each
-//! with what it enables behind a colon; behind a `/` come its dependencies, each with its new name
-//! behind a colon where it has one. They are optional, but those behind a `-`.
+//! A workspace is a text: its members, separated by `;`. A member is its name (followed by `!`
+//! where it is private), its own version or `-`, and its features, each with what it enables after
+//! a colon; after a `/` come its dependencies, each with its new name after a colon if it has one.
+//! They are optional, except those after a `-`.
 
 use std::alloc::{AllocError, Global};
 
@@ -30,7 +30,7 @@ fn member_of(text: &str) -> Member<'_> {
     }
 }
 
-/// Puts the parts behind the text.
+/// Appends the parts to the text.
 pub fn push_all(text: &mut String, parts: &[&str]) -> Result<(), AllocError> {
     for part in parts {
         text.push_str(part)?;
@@ -38,7 +38,7 @@ pub fn push_all(text: &mut String, parts: &[&str]) -> Result<(), AllocError> {
     Ok(())
 }
 
-/// Puts a comma in front of all but the first.
+/// Appends a comma before all but the first.
 fn push_comma(text: &mut String, place: usize) -> Result<(), AllocError> {
     if place == 0 {
         Ok(())
@@ -47,7 +47,7 @@ fn push_comma(text: &mut String, place: usize) -> Result<(), AllocError> {
     }
 }
 
-/// Puts the values of a feature behind the text, in quotes.
+/// Appends the values of a feature to the text, in quotes.
 fn push_quoted(text: &mut String, values: &str) -> Result<(), AllocError> {
     for (place, value) in values.split(',').enumerate() {
         push_comma(text, place)?;
@@ -56,7 +56,7 @@ fn push_quoted(text: &mut String, values: &str) -> Result<(), AllocError> {
     Ok(())
 }
 
-/// Puts a feature behind the text: its name, what stands behind it, and its values in brackets.
+/// Appends a feature to the text: its name, the text after it, and its values in brackets.
 fn push_feature(text: &mut String, feature: &str, behind: &str) -> Result<(), AllocError> {
     let (name, values) = feature.split_once(':').unwrap_or((feature, ""));
     push_all(text, &[name, behind, "["])?;
@@ -66,7 +66,7 @@ fn push_feature(text: &mut String, feature: &str, behind: &str) -> Result<(), Al
     text.push_str("]")
 }
 
-/// Puts the features behind the text, as JSON.
+/// Appends the features to the text, as JSON.
 fn push_features(text: &mut String, features: &str) -> Result<(), AllocError> {
     for (place, feature) in features.split_whitespace().enumerate() {
         push_comma(text, place)?;
@@ -90,7 +90,7 @@ fn push_dependency(text: &mut String, dependency: &str) -> Result<(), AllocError
     text.push_str("}")
 }
 
-/// Puts the dependencies behind the text, as JSON.
+/// Appends the dependencies to the text, as JSON.
 fn push_dependencies(text: &mut String, dependencies: &str) -> Result<(), AllocError> {
     for (place, dependency) in dependencies.split_whitespace().enumerate() {
         push_comma(text, place)?;
@@ -99,7 +99,7 @@ fn push_dependencies(text: &mut String, dependencies: &str) -> Result<(), AllocE
     Ok(())
 }
 
-/// Puts a value in quotes behind the text, or `null` where it is `-`.
+/// Appends a value in quotes to the text, or `null` where it is `-`.
 fn push_or_null(text: &mut String, value: &str) -> Result<(), AllocError> {
     match value {
         "-" => text.push_str("null"),
@@ -107,7 +107,7 @@ fn push_or_null(text: &mut String, value: &str) -> Result<(), AllocError> {
     }
 }
 
-/// Puts a member behind the text, as JSON.
+/// Appends a member to the text, as JSON.
 fn push_package(text: &mut String, member: Member<'_>) -> Result<(), AllocError> {
     let publish = if member.private { "[]" } else { "null" };
     push_all(
@@ -141,8 +141,8 @@ fn push_ids(text: &mut String, members: &str) -> Result<(), AllocError> {
     Ok(())
 }
 
-/// The metadata of a workspace at `/w`, as cargo tells it: lists of its packages and of its members,
-/// and the graph of dependencies.
+/// The metadata of a workspace at `/w`, as cargo reports it: lists of its packages and of its
+/// members, and the graph of dependencies.
 pub fn whole_text(
     alloc: Global,
     packages: &str,
@@ -170,7 +170,7 @@ fn list_of_ids(alloc: Global, members: &str) -> Result<String, AllocError> {
     Ok(text)
 }
 
-/// The same of members, and of packages that are none, each behind a comma.
+/// The same of members, and of packages that aren't members, each after a comma.
 pub fn metadata_text(
     alloc: Global,
     members: &str,

@@ -1,11 +1,11 @@
-//! The world around a call: what commands write, what files hold, and the variables.
+//! The environment of a call: what commands write, what files hold, and the variables.
 //!
-//! It is a text of settings, each a name with its value behind ` = `. That of a path, which begins
-//! with `/`, is what the file holds; that of a command's line is what the command writes, and all
-//! other commands fail. A name that begins with `CARGO` is a variable's. `failing` is the number of
-//! the call of files that fails, and `host` cargo's host. Of two settings of a command or a
-//! variable the first one counts. In a value `\n` is a line feed, `\s` a space and `\x` the byte
-//! 255, which is in no text; `@` and a name are one of the texts below.
+//! It is a text of settings, each a name with its value after ` = `. For a path, which begins with
+//! `/`, the value is what the file holds; for a command's line it is what the command writes, and
+//! all other commands fail. A name that begins with `CARGO` is a variable's. `failing` is the
+//! number of the call of files that fails, and `host` cargo's host. Of two settings of a command or
+//! a variable the first one counts. In a value `\n` is a line feed, `\s` a space and `\x` the byte
+//! 255, which is not UTF-8; `@` and a name are one of the texts below.
 
 use hack_files::fs::{FailingFiles, Files, MemoryFiles};
 use hack_process::process::{End, FakeCaller};
@@ -61,7 +61,7 @@ fn byte_of(byte: u8, is_escape: bool) -> u8 {
     }
 }
 
-/// The bytes of a text in which a backslash and a letter stand for one of them.
+/// The bytes of a text in which a backslash and a letter denote one of them.
 pub fn bytes_of(alloc: Global, escaped: &str) -> Result<Vec<u8>, AllocError> {
     let mut bytes = Vec::new(alloc);
     let mut is_escape = false;
@@ -76,7 +76,7 @@ pub fn bytes_of(alloc: Global, escaped: &str) -> Result<Vec<u8>, AllocError> {
     Ok(bytes)
 }
 
-/// What is set around a call.
+/// The settings of a call's environment.
 #[derive(Drop)]
 pub struct World {
     alloc: Global,
@@ -134,7 +134,7 @@ impl World {
     }
 }
 
-/// A world as it stands while a call asks.
+/// An environment while a call asks.
 #[derive(Drop)]
 pub struct Stage {
     pub variables: Vec<(String, String)>,
@@ -163,7 +163,7 @@ fn staged(world: World) -> Stage {
     }
 }
 
-/// The world of these settings, with ` & ` between them, and behind them of those, each on a line.
+/// The environment with these settings, separated by ` & `, followed by those on a line each.
 pub fn stage_of(alloc: Global, first: &str, settings: &str) -> Result<Stage, AllocError> {
     let mut world = World {
         alloc,

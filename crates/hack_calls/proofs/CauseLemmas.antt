@@ -1,4 +1,4 @@
--- Faults of the parts of a plan are causes, and what is told of all parts.
+-- Errors of the parts of a plan are causes to refuse it, and the notices on all parts.
 use Rattle.std.proofs.Common.{◌≡◌, refl, sym, ap, subst, ◌∙◌, ◌⊎◌, inl, inr, ℕ, List, [], ◌∷◌, ◌++◌, map, Bool, Option, append_assoc}
 use Rattle.std.proofs.lemmas.List.{map-append}
 use Rattle.hack_load.specs.Contexts.{ContextRecord}
@@ -19,7 +19,7 @@ use Rattle.hack_calls.specs.Turned.{of_places}
 use Rattle.hack_calls.specs.declared.fault.PlanFault.{PlanFault}
 use Rattle.hack_calls.specs.declared.fault.PlanFault.TheVariants as fault
 
--- the range's fault is a cause
+-- the error of the range is a cause
 pub range-cause : (cx : ContextRecord) (ids : List ℕ) (single : Bool) (notes : List Note) (s : Scene) (latest : Option Version) (e : PlanFault) → AreChosen cx ids single notes → IsSceneOf cx ids s
     → (e ≡ fault.Memory) ⊎ IsRangeFault s latest e → (e ≡ fault.Memory) ⊎ IsCause cx latest e
 range-cause cx ids single notes s latest fault.Memory chosen of_call h = inl refl
@@ -39,7 +39,7 @@ pub counts-same : (packages : List PlanPackage) → run_counts (map package_view
 counts-same [] = refl
 counts-same (k ∷ ks) = ap (λ l. count_in k ∷ l) (counts-same ks)
 
--- too many runs are a cause
+-- too many runs are a cause to refuse the plan
 pub places-cause : (cx : ContextRecord) (ids : List ℕ) (single : Bool) (notes : List Note) (s : Scene) (stable latest : Option Version) (packages : List PlanPackage) (on_features : List Note) (e : PlacesFault) → AreChosen cx ids single notes → IsSceneOf cx ids s
     → ArePlanned cx single ids (map package_view packages) on_features → stable ≡ latest → (e ≡ places.Memory) ⊎ ((e ≡ places.TooManyRuns) × HasTooMany s (counts_in packages) stable) → (of_places e ≡ fault.Memory) ⊎ IsCause cx latest (of_places e)
 places-cause cx ids single notes s stable latest packages on_features places.Memory chosen of_call planned newest h = inl refl

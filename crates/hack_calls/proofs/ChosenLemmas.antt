@@ -1,4 +1,4 @@
--- Chosen packages one by one, and that they are members.
+-- Chosen packages one by one; they are members.
 use Rattle.std.proofs.Common.{◌≡◌, ℕ, ◌+◌, ◌<◌, List, [], ◌∷◌, ◌++◌, length, take, get_or, map, ap, sym, subst, ◌∙◌, Option, Some, None, Bool, true, false, inl, inr, Contains, All, option_map}
 use Rattle.std.specs.List.{filter_map, cons_option, slice_index_or}
 use Rattle.std.specs.Str.{bytes_eq}
@@ -38,7 +38,7 @@ pub bad-at : (cx : ContextRecord) (ids : List PackageId) (i : ℕ) (d : PackageI
 bad-at cx ids i d lt e bad =
     ((get_or ids i d).index, Contains-map place_at ids (get_or ids i d) (i, lt, get_or_default ids i (get_or ids i d) d lt), bad)
 
--- none so far, and not this one
+-- none so far, and this one isn't either
 pub none-bad-more : (cx : ContextRecord) (ids : List PackageId) (i : ℕ) (d : PackageId) → i < length ids → ((e : VersionFault) → ¬ IsBadOwn cx.args.version_range (rust_version_at cx (get_or ids i d).index) e)
     → ((e : VersionFault) → ¬ HasBadOwn cx (map place_at (take i ids)) e) → (e : VersionFault) → ¬ HasBadOwn cx (map place_at (take (i + 1) ids)) e
 none-bad-more cx ids i d lt here before e bad =
@@ -47,7 +47,7 @@ none-bad-more cx ids i d lt here before e bad =
       | inr same ↦ here e (subst (λ p. IsBadOwn cx.args.version_range (rust_version_at cx p) e) (sym same) bad.2)
     ]
 
--- what is kept was there
+-- a member that is kept was in the list
 kept-in : (P : Member → Type 0) (xs ys : List Member) (m : Member) → Keeps P xs ys → Contains ys m → Contains xs m
 kept-in P xs ys m ends c = c
 kept-in P (x ∷ xs) (y ∷ ys) m (taken holds rest) c =
@@ -57,7 +57,7 @@ kept-in P (x ∷ xs) (y ∷ ys) m (taken holds rest) c =
     ]
 kept-in P (x ∷ xs) ys m (left fails rest) c = Contains-tail x xs m (kept-in P xs ys m rest c)
 
--- the first of a name was there
+-- the first member with a name was in the list
 first-in : (members : List Member) (name : Name) (m : Member) → Contains (first_called members name) m → Contains members m
 first-in [] name m c = c
 first-in (x ∷ xs) name m c =
@@ -66,7 +66,7 @@ first-in (x ∷ xs) name m c =
       | inr f ↦ Contains-tail x xs m (first-in xs name m (rw f at c))
     ]
 
--- what a call is about was there
+-- a member that a call is about was in the list
 about-in : (named : Bool) (c : Choosing) (members about : List Member) (m : Member) → IsAbout named c members about → Contains about m → Contains members m
 about-in true c members about m is h = kept-in (IsMatched c.named) members about m is h
 about-in false c members about m is h = unnamed-in c.everyone c.current (subst (λ l. Contains l m) is h)
@@ -76,7 +76,7 @@ about-in false c members about m is h = unnamed-in c.everyone c.current (subst (
     unnamed-in false None h = h
     unnamed-in false (Some name) h = first-in members name m h
 
--- the place of a member is one of the workspace's
+-- the id of a member is one of the workspace
 member-step : (cx : ContextRecord) (id : ℕ) (ids : List ℕ) (m : Member) (o : Option PackageRecord) → Contains (cons_option (option_map (λ p. record { place = id; pkg = p; is_private = is_private_at cx id }) o) (filter_map (member_at cx) ids)) m
     → (Contains (filter_map (member_at cx) ids) m → Contains ids m.place) → Contains (id ∷ ids) m.place
 member-step cx id ids m None c ih = Contains-tail id ids m.place (ih c)

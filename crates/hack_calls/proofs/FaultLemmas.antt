@@ -1,4 +1,4 @@
--- Faults that are turned.
+-- Errors that are converted.
 use Rattle.std.proofs.Common.{◌≡◌, refl, ◌⊎◌, inl, inr, List, ℕ, Option}
 use Rattle.hack_load.specs.Contexts.{ContextRecord}
 use Rattle.hack_packages.specs.declared.fault.PackagesFault.{PackagesFault}

@@ -1,4 +1,5 @@
--- A plan leaves no cause: what a cause says of some choice, scene and runs, it would say of the plan's own.
+-- Where there is a plan, no cause holds: what a cause claims of some choice, scene and runs, it
+-- would claim of the plan's own.
 use Rattle.std.proofs.Common.{◌≡◌, subst, List, ℕ, Bool, Option, Some, None, Result, Ok, String, Global}
 use Rattle.hack_load.specs.Contexts.{ContextRecord}
 use Rattle.hack_packages.specs.ContextMembers.{AreChosen, IsChoiceFault}
@@ -18,7 +19,7 @@ use Rattle.hack_calls.specs.declared.fault.PlanFault.TheVariants as fault
 use Rattle.hack_calls.proofs.OnceLemmas.{chosen-once, counts-once, scenes-agree}
 use Rattle.hack_calls.proofs.SceneLemmas.{fault-same, many-same}
 
--- what is made of a call, where it is refused for none of its parts
+-- a call whose parts are all accepted
 pub record IsSound (cx : ContextRecord) (latest : Option Version) : Type 0 where
   pub ids : List ℕ
   pub single : Bool
@@ -51,7 +52,7 @@ no-cause cx latest h fault.TooManyRuns bad =
     let counts = counts-once cx h.ids bad.single h.single bad.packages h.packages bad.on_features h.on_features planned h.planned in
     h.fits (subst (λ ns. HasTooMany h.scene ns latest) counts (many-same bad.scene h.scene agree (run_counts bad.packages) latest bad.many))
 
--- a cause that is told by what was answered of `stable` is one for this version
+-- a cause that depends on the answer for `stable` is one for this version
 pub cause-by : (subcommand : Option (String Global)) (stable : Result (Option Version) (String Global)) (latest : Option Version) (cx : ContextRecord) (e : PlanFault) → stable ≡ Ok latest → IsCauseOf subcommand stable cx e → IsCause cx latest e
 cause-by None stable latest cx e is bad = absurd bad
 cause-by (Some name) stable latest cx e is bad = subst (λ s. IsCauseBy s cx e) is bad

@@ -1,4 +1,4 @@
--- Notices of one package, slot or version more.
+-- Notices on one package, slot or version more.
 use Rattle.std.proofs.Common.{◌≡◌, arith, ℕ, ◌+◌, ◌<◌, ◌≤◌, List, [], ◌∷◌, ◌++◌, length, take, get_or, map, refl, ap, sym, ◌∙◌, append-nil, Some, option_map}
 use Rattle.std.specs.List.{flat_map, range_with_len, slice_get}
 use Rattle.std.proofs.lemmas.List.{take_more, flat_map_more, map-id}
@@ -17,25 +17,25 @@ range-more n =
     ∙ map-range_with_len_more (λ (k : ℕ). k) 0 n n (omega arith)
     ∙ ap (λ l. l ++ n ∷ []) (map-id (range_with_len 0 n))
 
--- what is told in one slot more
+-- the notices of one slot more
 pub slots-more : {A : Type 0} (f : ℕ → List A) (old mid new : List A) (n : ℕ) → new ≡ mid ++ f n → mid ≡ old ++ flat_map f (range_with_len 0 n) → new ≡ old ++ flat_map f (range_with_len 0 (n + 1))
 slots-more f old mid new n grown so =
     grown ∙ ap (λ l. l ++ f n) so ∙ flat_map_more f old (range_with_len 0 n) n ∙ ap (λ l. old ++ flat_map f l) (sym (range-more n))
 
--- what is told of one item more
+-- the notices on one item more
 pub items-more : {X A : Type 0} (f : X → List A) (old mid new : List A) (xs : List X) (i : ℕ) (d : X) → i < length xs → new ≡ mid ++ f (get_or xs i d) → mid ≡ old ++ flat_map f (take i xs) → new ≡ old ++ flat_map f (take (i + 1) xs)
 items-more f old mid new xs i d lt grown so =
     grown ∙ ap (λ l. l ++ f (get_or xs i d)) so ∙ flat_map_more f old (take i xs) (get_or xs i d) ∙ ap (λ l. old ++ flat_map f l) (sym (take_more xs i d lt))
 
--- the package at a place
+-- the package at an index
 pub place-of : (ids : List PackageId) (p : ℕ) (id : PackageId) → p < length ids → id ≡ get_or ids p id → slice_get (map place_at ids) p ≡ Some id.index
 place-of ids p id lt is = slice_get-map place_at ids p ∙ ap (option_map place_at) (slice_get_read ids (length ids) p id refl lt is)
 
--- what is told of it
+-- the notices on that package
 pub told-of : (cx : ContextRecord) (ids : List PackageId) (p : ℕ) (id : PackageId) → p < length ids → id ≡ get_or ids p id → left_out_for cx (Some id.index) ≡ left_out_for cx (slice_get (map place_at ids) p)
 told-of cx ids p id lt is = ap (left_out_for cx) (sym (place-of ids p id lt is))
 
--- nothing past the end
+-- no notices past the end
 pub none-told : (cx : ContextRecord) (ids : List PackageId) (p : ℕ) (old : List Note) → length ids ≤ p → old ≡ old ++ left_out_for cx (slice_get (map place_at ids) p)
 none-told cx ids p old past =
     sym (append-nil old) ∙ ap (λ o. old ++ left_out_for cx o) (sym (slice_get-map place_at ids p ∙ ap (option_map place_at) (slice_get_past ids p past)))

@@ -1,4 +1,5 @@
--- What a call fixes: which packages are chosen, and of each of them the name, the own version and the runs.
+-- What a call determines: which packages are chosen, and the name, the own version and the runs of
+-- each.
 use Rattle.std.proofs.Common.{◌≡◌, ◌↔◌, refl, sym, ap, subst, ◌∙◌, inl, inr, ℕ, List, [], ◌∷◌, map, filter, length, not, Bool, true, false, Option, Some, None, IsTrue, All, Contains}
 use Rattle.std.specs.List.{AllZip}
 use Rattle.std.proofs.lemmas.List.Elements.{All-contains}
@@ -30,7 +31,7 @@ use Rattle.hack_calls.proofs.SceneLemmas.{AgreeScenes, AreAlike, map-alike, zip-
 
 -- ---- the chosen packages
 
--- two collections of one list are one
+-- collecting from one list gives one result
 collects-once : {X Y : Type 0} (P : X → Type 0) (f : X → Y) (xs : List X) (ys zs : List Y) → Collects P f xs ys → Collects P f xs zs → ys ≡ zs
 collects-once P f xs ys zs ends ends = refl
 collects-once P f (x ∷ xs) ys zs (taken {ys = before} h c) (taken {ys = after} k d) = ap (λ l. f x ∷ l) (collects-once P f xs before after c d)
@@ -49,7 +50,7 @@ listed-once c root members places others single one notes more h k =
     let remaining : h.remaining ≡ k.remaining = collects-once (λ m. ¬ IsMatched c.excluded m) (λ m. m) k.about h.remaining k.remaining remain k.remain in
     h.chosen ∙ ap (λ l. map (λ (m : Member). m.place) (filter (λ m. not (is_skipped c m)) l)) remaining ∙ sym k.chosen
 
--- two choices of one call have the same places
+-- two choices of one call have the same ids
 pub chosen-once : (cx : ContextRecord) (ids others : List ℕ) (single one : Bool) (notes more : List Note) → AreChosen cx ids single notes → AreChosen cx others one more → ids ≡ others
 chosen-once cx ids others single one notes more h k = listed-once (choosing_of cx.args (current_name cx)) cx.metadata.workspace_root (members_in cx) ids others single one notes more h k
 
@@ -93,7 +94,7 @@ scenes-agree cx ids s t h k = record {
 strict : (s t : List ℕ) → IsBefore s t → IsBefore t s → ⊥
 strict s t b d = let r = before_trans s t s b d in r.absent r.present
 
--- what stands behind the first of two lists that are one set
+-- where two ordered lists have the same members and the same first one, so do their tails
 behind-in : (x y : List ℕ) (xs ys : List (List ℕ)) → x ≡ y → All (IsBefore x) xs → ((s : List ℕ) → Contains (x ∷ xs) s → Contains (y ∷ ys) s) → (s : List ℕ) → Contains xs s → Contains ys s
 behind-in x y xs ys same before f s c =
     let behind = All-contains (IsBefore x) xs s before c in
@@ -102,7 +103,7 @@ behind-in x y xs ys same before f s c =
       | inr d ↦ d
     ]
 
--- two lists in order with the same members are one
+-- two ordered lists with the same members are equal
 ordered-once : (xs ys : List (List ℕ)) → Pairwise IsBefore xs → Pairwise IsBefore ys → ((s : List ℕ) → Contains xs s → Contains ys s) → ((s : List ℕ) → Contains ys s → Contains xs s) → xs ≡ ys
 ordered-once [] [] ox oy f g = refl
 ordered-once [] (y ∷ ys) ox oy f g = absurd (Contains-nil y (g y (Contains-head y ys)))
@@ -130,7 +131,7 @@ runs-once : (b : Bool) (w : Wishes) (p : Known) (xs ys : List PackageRun) → Ru
 runs-once true w p xs ys h k = h.made ∙ ap (runs_from (options_of w p)) (sets-once w.powerset w p h.sets k.sets h.are_sets k.are_sets) ∙ sym k.made
 runs-once false w p xs ys h k = h ∙ sym k
 
--- a package as a plan has it
+-- a package with its runs, as in a plan
 abbrev HasRuns : ContextRecord → ℕ → PackageView → Type 0
 HasRuns cx id k = (single : Bool) × (notes : List Note) × IsPlanned cx single id k notes
 
@@ -148,7 +149,7 @@ planned-each cx single ids packages notes begins = tt
 planned-each cx single _ _ _ (adds {ids} {packages} {notes} {id} {k} {more} before is) =
     each-join (HasRuns cx) ids (id ∷ []) packages (k ∷ []) (planned-each cx single ids packages notes before) ((single, more, is), tt)
 
--- the chosen packages have one number of runs each
+-- the number of runs of each chosen package is determined
 pub counts-once : (cx : ContextRecord) (ids : List ℕ) (single one : Bool) (packages others : List PackageView) (notes more : List Note) → ArePlanned cx single ids packages notes → ArePlanned cx one ids others more → run_counts packages ≡ run_counts others
 counts-once cx ids single one packages others notes more h k =
     map-alike (λ (p q : PackageView). length p.runs ≡ length q.runs) (λ p. length p.runs) (λ p q e. e) packages others

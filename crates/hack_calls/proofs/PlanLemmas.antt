@@ -1,4 +1,4 @@
--- The chosen packages of a plan side by side, and what the plan covers.
+-- The chosen packages of a plan in parallel lists, and what the plan covers.
 use Rattle.std.proofs.Common.{◌≡◌, refl, sym, ap, subst, ◌∙◌, arith, ℕ, zero, suc, ◌<◌, List, [], ◌∷◌, ◌++◌, ◌⊎◌, inl, inr, length, get_or, Bool, true, false, Option, Some, option_map}
 use Rattle.std.specs.Prelude.{IsSomeAnd, IsTrue, ◌↔◌, slice_get}
 use Rattle.std.proofs.lemmas.List.{length-append}
@@ -28,7 +28,7 @@ use Rattle.hack_calls.specs.Calls.{AreMembers, starts, grows, ArePlanned, begins
 use Rattle.hack_calls.specs.Made.{IsPlan, run_counts}
 use Rattle.hack_calls.specs.Covered.{AreCovered, HoldsCover, choice_at}
 
--- the candidates of a kind are those of its package, unless it has its plain run alone
+-- the candidates of a kind are those of its package, unless the package has a plain run alone
 pub of-kind : (w : Wishes) (p : Known) (kind : Kind) (groups : List Names) (runs : List PackageRun) → groups ≡ candidates_in kind → runs ≡ runs_of kind → IsKind w p kind → (groups ≡ candidates w p) ⊎ (runs ≡ Plain ∷ [])
 of-kind w p Normal groups runs g r h = inr r
 of-kind w p (Each list sets) groups runs g r h = inl (g ∙ h.2)
@@ -55,7 +55,7 @@ planned-length cx single _ _ _ (adds {ids} {packages} {notes} {id} {k} {more} be
 pub same_some : {X : Type 0} (a b : X) → Some a ≡ Some b → a ≡ b
 same_some a b e = cc
 
--- an element of a list with one more at its end
+-- an element of a list to which one was appended
 push-cases : {X : Type 0} (xs : List X) (last : X) (i : ℕ) (x : X) → slice_get (xs ++ last ∷ []) i ≡ Some x → (slice_get xs i ≡ Some x) ⊎ ((i ≡ length xs) × (last ≡ x))
 push-cases [] last zero x e = inr (refl, same_some last x e)
 push-cases [] last (suc i) x e = absurd (cc)
@@ -71,7 +71,7 @@ push-end : {X : Type 0} (xs : List X) (last : X) → slice_get (xs ++ last ∷ [
 push-end [] last = refl
 push-end (y ∷ xs) last = push-end xs last
 
--- the planned package at a place
+-- the planned package at an index
 pub planned-at : (cx : ContextRecord) (single : Bool) (ids : List ℕ) (packages : List PackageView) (notes : List Note) (place id : ℕ) → ArePlanned cx single ids packages notes → slice_get ids place ≡ Some id
     → (k : PackageView) × (more : List Note) × (slice_get packages place ≡ Some k) × IsPlanned cx single id k more
 planned-at cx single ids packages notes place id begins at = absurd (cc)
@@ -83,7 +83,7 @@ planned-at cx single _ _ _ place id (adds {ids} {packages} {notes} {id = last} {
           (k, more, subst (λ i. slice_get (packages ++ k ∷ []) i ≡ Some k) (sym end) (push-end packages k), subst (λ i. IsPlanned cx single i k more) here.1 is)
     ]
 
--- one run is not for all packages
+-- where there isn't one run for all packages
 not-all : (b : Bool) (P : Type 0) → IsTrue b ↔ P → ¬ P → b ≡ false
 not-all true P iff other = absurd (other (iff.0 refl))
 not-all false P iff other = refl

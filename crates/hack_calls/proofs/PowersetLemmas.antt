@@ -29,7 +29,7 @@ all-front P xs ys h = λ k d l. subst P (get_or_append_left xs ys d k l) (h k d 
 all-back : {X : Type 0} (P : X → Type 0) (xs ys : List X) → All P (xs ++ ys) → All P ys
 all-back P xs ys h = λ k d l. subst P (get_or-append-add xs ys k d) (h (length xs + k) d (omega (arith, l, length-append xs ys)))
 
--- one list behind another, and what holds between them
+-- one list appended to another, and what holds between their elements
 pairwise-append : {X : Type 0} (R : X → X → Type 0) (xs ys : List X) → Pairwise R xs → Pairwise R ys → All (λ x. All (R x) ys) xs → Pairwise R (xs ++ ys)
 pairwise-append R [] ys p q h = q
 pairwise-append R (x ∷ xs) ys p q h = (All-append (R x) xs ys p.0 (All-head (λ z. All (R z) ys) x xs h), pairwise-append R xs ys p.1 q (All-tail (λ z. All (R z) ys) x xs h))
@@ -45,12 +45,12 @@ pairwise-turned R flip xs ys p =
     let both = pairwise-split R xs ys p in
     pairwise-append R ys xs both.1 both.0 (λ k d l. λ i e m. flip (get_or xs i e) (get_or ys k d) (both.2 i e m k d l))
 
--- sets in order are all different
+-- sets in order are pairwise different
 apart : (sets : List (List ℕ)) → Pairwise IsBefore sets → Pairwise (λ s t. s ≢ t) sets
 apart [] p = tt
 apart (s ∷ sets) p = (λ k d l. λ same. let b = subst (IsBefore s) (sym same) (p.0 k d l) in b.absent b.present, apart sets p.1)
 
--- with the last one first they are the same sets, all different
+-- with the last one first, the sets are the same and pairwise different
 in-last_first : {X : Type 0} (n : ℕ) (xs : List X) (t : X) → Contains xs t → Contains (drop n xs ++ take n xs) t
 in-last_first n xs t c =
     elim (Contains-append_cases (take n xs) (drop n xs) t (subst (λ ys. Contains ys t) (sym (take-append-drop n xs)) c)) [
@@ -79,7 +79,7 @@ apart-turned true sets p =
     pairwise-turned (λ s t. s ≢ t) (λ s t differ same. differ (sym same)) (take (length sets - 1) sets) (drop (length sets - 1) sets)
     (subst (Pairwise (λ s t. s ≢ t)) (sym (take-append-drop (length sets - 1) sets)) p)
 
--- the sets of the runs that are made of sets
+-- the sets of the runs that were made from sets
 sets_of-map : (sets : List (List ℕ)) → sets_of (map Set sets) ≡ sets
 sets_of-map [] = refl
 sets_of-map (s ∷ sets) = ap (λ (l : List (List ℕ)). s ∷ l) (sets_of-map sets)
@@ -117,7 +117,7 @@ or-true : (a : Bool) → (a || true) ≡ true
 or-true true = refl
 or-true false = refl
 
--- a package's runs under a powerset
+-- the runs of a package under a powerset
 powerset : (w : Wishes) (p : Known) (runs : List PackageRun) → w.powerset ≡ true → AreRuns w p runs → IsPowerset (choice_of w p) runs
 powerset w p runs is made =
     let asked = ap (λ b. w.each || b) is ∙ or-true w.each in
@@ -133,7 +133,7 @@ powerset w p runs is made =
       once = subst (Pairwise (λ s t. s ≢ t)) (sym same) (apart-turned sets.0 h.sets (apart h.sets listing.ordered));
     }
 
--- under a powerset each chosen package of a plan has its own
+-- under a powerset each chosen package of a plan has its powerset
 pub powersets : (cx : ContextRecord) (rustup : List ℕ) (latest : Option Version) (plan : PlanView) (notes : List Note) → IsPlan cx rustup latest plan notes → cx.args.feature_powerset ≡ true → HavePowersets cx plan
 powersets cx rustup latest plan notes h is = record {
   ids = h.ids;

@@ -1,4 +1,5 @@
--- Scenes that agree but for where their packages' names lie: what refuses one of them refuses the other.
+-- Scenes that agree except for where their packages' names lie in memory: what refuses one refuses
+-- the other.
 use Rattle.std.proofs.Common.{◌≡◌, ◌≢◌, ◌<◌, refl, sym, ap, subst, ◌∙◌, inl, inr, arith, ℕ, zero, suc, List, [], ◌∷◌, map, take, length, get_or, slice_get, string_bytes, Bool, true, false, ◌&&◌, nat_lt, Option, Some, None, option_map, if◌then◌else◌, IsSomeAnd, All, Contains}
 use Rattle.std.specs.List.{AllZip}
 use Rattle.std.proofs.lemmas.List.Elements.{All-weaker, AllZip-get_or, Contains-get_or, length_all_zip}
@@ -16,12 +17,12 @@ use Rattle.hack_plan.specs.Scenes.{HaveTwo, IsStepList, IsVersion, IsVersionsFau
 use Rattle.hack_plan.specs.declared.places.Quad.{Quad}
 use Rattle.hack_plan.specs.declared.versions.Scene.{Scene}
 
--- two packages have one name, in bytes, and one own version
+-- two packages have the same name, in bytes, and the same own version
 pub record AreAlike (m n : PackageVersion) : Type 0 where
   pub name : string_bytes m.name ≡ string_bytes n.name
   pub own : m.rust_version ≡ n.rust_version
 
--- two scenes have alike packages, and all else in common
+-- two scenes have similar packages, and all else in common
 pub record AgreeScenes (s t : Scene) : Type 0 where
   pub range : s.range ≡ t.range
   pub step : s.step ≡ t.step
@@ -30,9 +31,9 @@ pub record AgreeScenes (s t : Scene) : Type 0 where
   pub cargo_minor : s.cargo_minor ≡ t.cargo_minor
   pub members : AllZip AreAlike s.packages.items t.packages.items
 
--- ---- lists, place by place
+-- ---- lists, index by index
 
--- what belongs to the same items is alike
+-- values that belong to the same items are similar
 pub zip-alike : {A B : Type 0} (R : A → B → Type 0) (S : B → B → Type 0) → ((a : A) (x y : B) → R a x → R a y → S x y) → (keys : List A) (xs ys : List B) → AllZip R keys xs → AllZip R keys ys → AllZip S xs ys
 zip-alike R S once [] [] [] h k = tt
 zip-alike R S once [] [] (y ∷ ys) h k = absurd k
@@ -41,7 +42,7 @@ zip-alike R S once (a ∷ keys) [] ys h k = absurd h
 zip-alike R S once (a ∷ keys) (x ∷ xs) [] h k = absurd k
 zip-alike R S once (a ∷ keys) (x ∷ xs) (y ∷ ys) h k = (once a x y h.0 k.0, zip-alike R S once keys xs ys h.1 k.1)
 
--- what has the same value at each place has the same values
+-- where a function agrees at each index, the mapped lists are equal
 pub map-alike : {A B : Type 0} (S : A → A → Type 0) (f : A → B) → ((x y : A) → S x y → f x ≡ f y) → (xs ys : List A) → AllZip S xs ys → map f xs ≡ map f ys
 map-alike S f same [] [] h = refl
 map-alike S f same [] (y ∷ ys) h = absurd h
@@ -55,7 +56,7 @@ fronts-alike (suc p) [] (y ∷ ys) same = absurd same
 fronts-alike (suc p) (x ∷ xs) [] same = absurd same
 fronts-alike (suc p) (x ∷ xs) (y ∷ ys) same = (same.0, fronts-alike p xs ys same.1)
 
--- the package at the same place
+-- the package at the same index
 place-alike : (xs ys : List PackageVersion) (p : ℕ) (m : PackageVersion) → AllZip AreAlike xs ys → slice_get xs p ≡ Some m → (n : PackageVersion) × (slice_get ys p ≡ Some n) × AreAlike m n
 place-alike [] [] p m same at = absurd (cc)
 place-alike [] (y ∷ ys) p m same at = absurd same
@@ -63,7 +64,7 @@ place-alike (x ∷ xs) [] p m same at = absurd same
 place-alike (x ∷ xs) (y ∷ ys) zero m same at = (y, refl, subst (λ k. AreAlike k y) (same_Some x m at) same.0)
 place-alike (x ∷ xs) (y ∷ ys) (suc p) m same at = place-alike xs ys p m same.1 at
 
--- one that stands for a package of the other list
+-- a similar package is in the other list
 other-alike : (xs ys : List PackageVersion) (m : PackageVersion) → AllZip AreAlike xs ys → Contains xs m → (n : PackageVersion) × Contains ys n × AreAlike m n
 other-alike xs ys m same c =
     let inside : c.0 < length ys = omega (arith, c.1, length_all_zip AreAlike xs ys same) in
@@ -110,7 +111,7 @@ module _ (s t : Scene) (same : AgreeScenes s t) where
   fault-within (Some r) latest e (inr (inl f)) = inr (inl (group-alike r s.packages.items t.packages.items e same.members f))
   fault-within (Some r) latest e (inr (inr w)) = inr (inr (sym same.as_cargo ∙ w.0, two-alike s.packages.items t.packages.items same.members w.1, w.2))
 
-  -- a range that is refused for one is for the other
+  -- a range that is refused for one scene is refused for the other
   pub fault-same : (latest : Option Version) (e : RangeFault) → IsVersionsFault s.range s latest e → IsVersionsFault t.range t latest e
   fault-same latest e h = subst (λ r. IsVersionsFault r t latest e) same.range (fault-within s.range latest e h)
 
@@ -145,7 +146,7 @@ module _ (s t : Scene) (same : AgreeScenes s t) where
     slot = subst (λ n. q.slot < n) (slots-same q.version) h.slot;
   }
 
-  -- too many runs of one are too many of the other
+  -- too many runs of one scene are too many of the other
   pub many-same : (counts : List ℕ) (latest : Option Version) → HasTooMany s counts latest → HasTooMany t counts latest
   many-same counts latest w = (
     w.0,

@@ -1,4 +1,4 @@
--- What a plan is made of, from what is loaded.
+-- The input of a plan, from what was loaded.
 use Rattle.std.specs.Prelude.{ℕ, ◌≡◌, ◌++◌, ◌↔◌, ◌⊎◌, List, [], ◌∷◌, Bool, true, false, Option, Some, None, length, Contains, IsTrue, option_and_then, slice_get, string_bytes, if◌then◌else◌}
 use Rattle.std.specs.List.{flat_map, range_with_len}
 use Rattle.hack_base.specs.Names.{Name, names_of}
@@ -26,17 +26,17 @@ use Rattle.hack_calls.specs.declared.fault.PlanFault.{PlanFault}
 use Rattle.hack_calls.specs.declared.fault.PlanFault.TheVariants as fault
 use Rattle.hack_runs.specs.View.{CallView, PackageView}
 
--- the path of a package's manifest as a command is given it: none where commands are given none
+-- the path of a package's manifest as a command is given it; none where commands get none
 abbrev pub given_path : Bool → Name → Option PackageRecord → Option Name
 given_path true dir p = None
 given_path false dir None = None
 given_path false dir (Some p) = Some (under_of p.manifest_path dir)
 
--- the package that the call stands in
+-- the current package, as cargo locates it
 abbrev pub current_of : ContextRecord → Option PackageRecord
 current_of cx = option_and_then (package_at cx) cx.current_package
 
--- what all commands of the call share
+-- what all commands of the call have in common
 abbrev pub call_of : ContextRecord → Name → CallView
 call_of cx rustup = record {
   cargo = cx.cargo;
@@ -53,18 +53,18 @@ call_of cx rustup = record {
   dir = cx.current_dir;
 }
 
--- what a text is read as, where there is one
+-- a text read as a version, where there is a text
 abbrev pub IsOwnText : Option Name → Option Version → Type 0
 IsOwnText None own = own ≡ None
 IsOwnText (Some text) None = ⊥
 IsOwnText (Some text) (Some v) = IsVersionText text v
 
--- an own version is read where versions are asked for, and only there
+-- an own version is read exactly where a range of versions is given
 abbrev pub IsOwn : Option VersionRange → Option Name → Option Version → Type 0
 IsOwn None text own = own ≡ None
 IsOwn (Some range) text own = IsOwnText text own
 
--- the text is no version, where it is read
+-- the text isn't a version, and a range is given, so that it is read
 abbrev pub IsBadOwn : Option VersionRange → Option Name → VersionFault → Type 0
 IsBadOwn None text e = ⊥
 IsBadOwn (Some range) None e = ⊥
@@ -95,7 +95,7 @@ pub record IsSceneOf (cx : ContextRecord) (ids : List ℕ) (s : Scene) : Type 0 
 abbrev pub HasBadOwn : ContextRecord → List ℕ → VersionFault → Type 0
 HasBadOwn cx ids e = (id : ℕ) × Contains ids id × IsBadOwn cx.args.version_range (rust_version_at cx id) e
 
--- the fault tells that
+-- the error says that
 abbrev pub IsOwnFault : ContextRecord → List ℕ → PlanFault → Type 0
 IsOwnFault cx ids fault.Memory = ⊥
 IsOwnFault cx ids (fault.Stable text) = ⊥
@@ -104,7 +104,7 @@ IsOwnFault cx ids (fault.Version e) = HasBadOwn cx ids e
 IsOwnFault cx ids (fault.Range e) = ⊥
 IsOwnFault cx ids fault.TooManyRuns = ⊥
 
--- a chosen package as a plan has it: its texts, the features of `--features` that it gets, and its runs
+-- a chosen package in the plan: its texts, the features of `--features` that it gets, and its runs
 pub record IsPlanned (cx : ContextRecord) (single : Bool) (id : ℕ) (k : PackageView) (notes : List Note) : Type 0 where
   pub pkg : PackageRecord
   pub features : Features
@@ -118,12 +118,12 @@ pub record IsPlanned (cx : ContextRecord) (single : Bool) (id : ℕ) (k : Packag
   pub covered : cx.args.feature_powerset ≡ true → AreCovering (wishes cx.args) (known_as pkg features) k.runs
   pub told : notes ≡ candidate_notes single (wishes cx.args) (known_as pkg features)
 
--- the chosen packages, in order, and what the user is told of their features
+-- the chosen packages, in order, and the notices on their features
 pub data ArePlanned (cx : ContextRecord) (single : Bool) : List ℕ → List PackageView → List Note → Type 0 where
   begins : ArePlanned cx single [] [] []
   adds : {ids : List ℕ} {packages : List PackageView} {notes : List Note} {id : ℕ} {k : PackageView} {more : List Note} → ArePlanned cx single ids packages notes → IsPlanned cx single id k more → ArePlanned cx single (ids ++ id ∷ []) (packages ++ k ∷ []) (notes ++ more)
 
--- what the user is told of features that a version's packages don't get, in each slot
+-- the notices on features that a version's packages don't get, for each slot
 abbrev pub version_notes : ContextRecord → List ℕ → Scene → Option Version → List ℕ → List Note
 version_notes cx ids s version places = flat_map (λ slot. flat_map (λ p. left_out_for cx (slice_get ids p)) places) (range_with_len 0 (slots_of s version))
 
@@ -132,6 +132,6 @@ abbrev pub ranged_notes : ContextRecord → List ℕ → Scene → List VersionG
 ranged_notes cx ids s groups None = version_notes cx ids s None (range_with_len 0 (length ids))
 ranged_notes cx ids s groups (Some range) = flat_map (λ group. version_notes cx ids s (Some group.version) group.packages.items) groups
 
--- for each version, slot and package; nothing where one run is for all
+-- these notices for each version, slot and package; none where one run is for all
 abbrev pub left_out_notes : ContextRecord → List ℕ → Scene → List VersionGroup → List Note
 left_out_notes cx ids s groups = if s.as_cargo then [] else ranged_notes cx ids s groups s.range

@@ -17,7 +17,7 @@ use Rattle.hack_versions.specs.declared.version.Version.{Version}
 use Rattle.hack_base.specs.Notes.{Note}
 use Rattle.hack_calls.specs.Calls.{IsSceneOf}
 
--- what the sets of a package are chosen from
+-- the input from which the sets of a package are chosen
 abbrev pub choice_at : ContextRecord → PackageRecord → Features → Choice
 choice_at cx p features = choice_of (wishes cx.args) (known_as p features)
 
@@ -29,8 +29,8 @@ pub record HoldsCover (plan : PlanView) (version : Option Version) (slot place :
   pub run : IsSomeAnd (slice_get plan.packages place) (λ k. slice_get k.runs rank ≡ Some (Set set))
   pub covers : Covers choice s set
 
--- for each chosen package, each version that it uses, each slot of it and each set of its candidates that has to be covered, the
--- plan holds such a place
+-- the plan holds such a place for each chosen package, each version that it uses, each slot of the
+-- version and each set of its candidates that has to be covered
 pub record AreCovered (cx : ContextRecord) (latest : Option Version) (plan : PlanView) : Type 0 where
   pub ids : List ℕ
   pub single : Bool

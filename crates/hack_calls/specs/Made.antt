@@ -1,4 +1,4 @@
--- The plan of a call, and why there is none.
+-- The plan of a call, and the causes to refuse it.
 use Rattle.std.specs.Prelude.{ℕ, ◌≡◌, ◌++◌, List, [], map, length, Bool, Option, Some, None, Result, Ok, Err}
 use Rattle.std.specs.declared.string.String.{String}
 use Rattle.std.specs.declared.alloc.Global.{Global}
@@ -25,8 +25,9 @@ use Rattle.hack_calls.specs.declared.fault.PlanFault.TheVariants as fault
 abbrev pub run_counts : List PackageView → List ℕ
 run_counts packages = map (λ k. length k.runs) packages
 
--- the plan of a call with a subcommand, where `stable` is this version: for the chosen packages just the admissible runs, in
--- order, each version with its places and its preparations; and no cause to refuse it holds
+-- the plan of a call with a subcommand, where `stable` is this version: exactly the admissible runs
+-- of the chosen packages, in order, each version with its places and its preparations; and no cause
+-- to refuse it holds
 pub record IsPlan (cx : ContextRecord) (rustup : Name) (latest : Option Version) (plan : PlanView) (notes : List Note) : Type 0 where
   pub ids : List ℕ
   pub single : Bool
@@ -58,7 +59,7 @@ pub record IsEmptyPlan (cx : ContextRecord) (rustup : Name) (plan : PlanView) (n
   pub quads : plan.quads ≡ []
   pub told : notes ≡ []
 
--- the plan by what was answered of `stable`
+-- the plan, given the answer for `stable`
 abbrev pub IsPlanBy : Result (Option Version) (String Global) → ContextRecord → Name → PlanView → List Note → Type 0
 IsPlanBy (Ok latest) cx rustup plan notes = IsPlan cx rustup latest plan notes
 IsPlanBy (Err text) cx rustup plan notes = ⊥
@@ -99,7 +100,7 @@ pub record AreTooManyRuns (cx : ContextRecord) (latest : Option Version) : Type 
   pub planned : ArePlanned cx single ids packages on_features
   pub many : HasTooMany scene (run_counts packages) latest
 
--- why a call with a subcommand has no plan, where `stable` is this version
+-- the causes to refuse a call with a subcommand, where `stable` is this version
 abbrev pub IsCause : ContextRecord → Option Version → PlanFault → Type 0
 IsCause cx latest fault.Memory = ⊥
 IsCause cx latest (fault.Stable text) = ⊥
@@ -108,17 +109,17 @@ IsCause cx latest (fault.Version e) = IsBadVersion cx e
 IsCause cx latest (fault.Range e) = IsBadRange cx latest e
 IsCause cx latest fault.TooManyRuns = AreTooManyRuns cx latest
 
--- why it has none, by what was answered of `stable`: its fault, or one of these causes
+-- the causes, given the answer for `stable`: its error, or one of the causes above
 abbrev pub IsCauseBy : Result (Option Version) (String Global) → ContextRecord → PlanFault → Type 0
 IsCauseBy (Ok latest) cx e = IsCause cx latest e
 IsCauseBy (Err text) cx e = e ≡ fault.Stable text
 
--- why a call has no plan: there is a subcommand, and a cause
+-- the causes to refuse a call: it has a subcommand, and a cause holds
 abbrev pub IsCauseOf : Option (String Global) → Result (Option Version) (String Global) → ContextRecord → PlanFault → Type 0
 IsCauseOf None stable cx e = ⊥
 IsCauseOf (Some subcommand) stable cx e = IsCauseBy stable cx e
 
--- the fault tells that the packages aren't known
+-- the error says that the packages aren't known
 abbrev pub IsListFault : ContextRecord → PlanFault → Type 0
 IsListFault cx fault.Memory = ⊥
 IsListFault cx (fault.Stable text) = ⊥
@@ -127,7 +128,7 @@ IsListFault cx (fault.Version e) = ⊥
 IsListFault cx (fault.Range e) = ⊥
 IsListFault cx fault.TooManyRuns = ⊥
 
--- the fault tells that the range is refused
+-- the error says that the range is refused
 abbrev pub IsRangeFault : Scene → Option Version → PlanFault → Type 0
 IsRangeFault s latest fault.Memory = ⊥
 IsRangeFault s latest (fault.Stable text) = ⊥

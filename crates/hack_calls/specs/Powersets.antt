@@ -12,7 +12,7 @@ use Rattle.hack_runs.specs.View.{PlanView}
 use Rattle.hack_base.specs.Notes.{Note}
 use Rattle.hack_calls.specs.Covered.{choice_at}
 
--- the set of a run, where it is one of a set
+-- the set of a run, if the run has one
 abbrev pub set_of : PackageRun → Option (List ℕ)
 set_of Plain = None
 set_of AllFeatures = None
@@ -28,7 +28,7 @@ pub record IsPowerset (choice : Choice) (runs : List PackageRun) : Type 0 where
   pub exact : (s : List ℕ) → Contains (sets_of runs) s ↔ (IsSelection (length choice.candidates) s × IsListed choice s)
   pub once : Pairwise (λ s t. s ≢ t) (sets_of runs)
 
--- the plan has just the chosen packages, and the runs of each have its powerset
+-- the plan has exactly the chosen packages, and the runs of each have its powerset
 pub record HavePowersets (cx : ContextRecord) (plan : PlanView) : Type 0 where
   pub ids : List ℕ
   pub single : Bool

@@ -1,4 +1,4 @@
-//! The chosen packages as a plan has them.
+//! The chosen packages, as a plan needs them.
 
 ghost use Rattle.std.specs.Prelude.{◌≡◌, All, Contains, IfOk, map};
 ghost use Rattle.hack_features.specs.Feature.{groups_of};
@@ -36,7 +36,7 @@ fn parts_of(alloc: Global, kind: Kind) -> Result<(Vec<Feature>, Runs), AllocErro
     }
 }
 
-/// A chosen package, and what the user is told of its features.
+/// A chosen package, with the notices on its features.
 fn chosen_package(
     alloc: Global,
     cx: &Context,
@@ -65,8 +65,8 @@ fn chosen_package(
     Ok((planned, notices))
 }
 
-/// The chosen packages, in order, and what the user is told of their features. `single` says
-/// whether a single one is left after exclusions.
+/// The chosen packages, in order, with the notices on their features. `single` says whether a
+/// single one remains after exclusions.
 pub(crate) fn chosen_packages(
     alloc: Global,
     cx: &Context,

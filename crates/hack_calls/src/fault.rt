@@ -15,13 +15,13 @@ use thiserror::Error;
 pub enum PlanFault {
     #[error("out of memory")]
     Memory,
-    /// The version of the toolchain `stable` can't be had. It has the fault's text.
+    /// The version of the toolchain `stable` isn't available. It holds the error's text.
     #[error("{0}")]
     Stable(String),
     /// The packages aren't known.
     #[error("{0}")]
     Packages(PackagesFault),
-    /// The `rust-version` of a chosen package is no version.
+    /// The `rust-version` of a chosen package isn't a version.
     #[error("{0}")]
     Version(VersionFault),
     /// The range is refused, or a package under it.
@@ -54,7 +54,7 @@ impl<T: Drop> From<AllocFailed<T>> for PlanFault {
     }
 }
 
-/// The packages aren't known.
+/// Converts the error that the packages aren't known.
 pub(crate) fn of_packages(fault: PackagesFault) -> PlanFault
     ensures { result ≡ of_packages fault }
 {
@@ -64,7 +64,7 @@ pub(crate) fn of_packages(fault: PackagesFault) -> PlanFault
     }
 }
 
-/// An own version can't be read.
+/// Converts the error of an own version that can't be read.
 pub(crate) fn of_version(fault: VersionFault) -> PlanFault
     ensures { result ≡ of_version fault }
 {
@@ -78,7 +78,7 @@ pub(crate) fn of_version(fault: VersionFault) -> PlanFault
     }
 }
 
-/// The range is refused.
+/// Converts the error of a range that is refused.
 pub(crate) fn of_range(fault: RangeFault) -> PlanFault
     ensures { result ≡ of_range fault }
 {
@@ -92,7 +92,7 @@ pub(crate) fn of_range(fault: RangeFault) -> PlanFault
     }
 }
 
-/// There are too many runs.
+/// Converts the error of too many places.
 pub(crate) fn of_places(fault: PlacesFault) -> PlanFault
     ensures { result ≡ of_places fault }
 {

@@ -1,4 +1,4 @@
-//! The plan of a loaded call.
+//! The plan of a call, made from what was loaded for it.
 #![tactic(auto)]
 
 mod chosen;

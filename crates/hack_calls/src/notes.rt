@@ -1,4 +1,4 @@
-//! What the user is told of features that packages don't get.
+//! Notices on features that packages don't get.
 
 ghost use Rattle.std.specs.Prelude.{◌≡◌, All, Contains, IfOk, OnOk, Some, map, slice_get};
 ghost use Rattle.std.specs.List.{flat_map, range_with_len};
@@ -18,7 +18,7 @@ use hack_versions::rustup::VersionGroup;
 use hack_versions::version::Version;
 use std::alloc::{AllocError, Global};
 
-/// The package at a place among the chosen ones: what it doesn't get is told.
+/// Reports what the package at an index into the chosen ones doesn't get.
 fn add_package(
     alloc: Global,
     cx: &Context,
@@ -41,7 +41,7 @@ fn add_package(
     }
 }
 
-/// The packages at places, in one slot.
+/// Reports it for the packages at these indexes, in one slot.
 fn add_slot(
     alloc: Global,
     cx: &Context,
@@ -61,7 +61,7 @@ fn add_slot(
     Ok(())
 }
 
-/// The packages at places, in each slot of a version.
+/// Reports it for the packages at these indexes, in each slot of a version.
 fn add_version(
     alloc: Global,
     cx: &Context,
@@ -83,7 +83,7 @@ fn add_version(
     Ok(())
 }
 
-/// The places below a number.
+/// The indexes below a number.
 fn below(alloc: Global, n: usize) -> Result<Vec<usize>, AllocError>
     ensures { IfOk result (λ places. places.items ≡ range_with_len 0 n) }
 {
@@ -94,7 +94,7 @@ fn below(alloc: Global, n: usize) -> Result<Vec<usize>, AllocError>
     Ok(places)
 }
 
-/// The packages of each version of a range.
+/// Reports it for the packages of each version of a range.
 fn add_groups(
     alloc: Global,
     cx: &Context,
@@ -116,7 +116,7 @@ fn add_groups(
     Ok(())
 }
 
-/// The packages of each version, or of the one "none" without a range.
+/// Reports it for the packages of each version; without a range the only one is "none".
 fn add_versions(
     alloc: Global,
     cx: &Context,
@@ -140,7 +140,7 @@ fn add_versions(
     }
 }
 
-/// What the user is told of features that packages don't get, for each version, slot and package.
+/// The notices on features that packages don't get, for each version, slot and package.
 pub(crate) fn left_out(
     alloc: Global,
     cx: &Context,

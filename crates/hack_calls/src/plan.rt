@@ -1,4 +1,4 @@
-//! The plan of a call: what is run, in order, for what is loaded.
+//! The plan of a call: what is run, in order, given what was loaded.
 
 ghost use Rattle.std.specs.Prelude.{◌≡◌, ◌⊎◌, All, Contains, IfOk, IfErr, IfSome, IsSome, map};
 ghost use Rattle.std.specs.Prelude.{List, ℕ, Option, Ok, true};
@@ -33,9 +33,9 @@ use hack_versions::rustup::RangeFault;
 use hack_versions::version::Version;
 use std::alloc::Global;
 
-/// The plan of a call, and what the user is told. `rustup` is rustup's program. `stable` is the
-/// version of the toolchain `stable` where the range needs it, or the text of the fault of
-/// asking for it.
+/// The plan of a call, and its notices. `rustup` is the program to run as rustup. `stable` is the
+/// version of the toolchain `stable` where the range needs it, or the text of the error of asking
+/// for it.
 pub fn plan_of(
     alloc: Global,
     cx: &Context,
@@ -61,7 +61,7 @@ pub fn plan_of(
         → (context_view cx.now).args.feature_powerset ≡ true
         → IfOk result (λ answer. HavePowersets (context_view cx.now) answer.0) }
 
-    // An answer has no cause: the call is refused exactly where one holds.
+    // Where a plan is returned no cause holds: the call is refused exactly where one does.
     ensures never { IfOk result (λ _. (e : PlanFault)
         → ¬ IsCauseOf (context_view cx.now).args.subcommand stable (context_view cx.now) e) }
     ensures err { IfErr result (λ e. (e ≡ PlanFault.Memory)

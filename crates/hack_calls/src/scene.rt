@@ -1,4 +1,4 @@
-//! What the versions and places of a plan depend on, as it is read off what is loaded.
+//! The input of a plan's versions and places, from what was loaded.
 
 ghost use Rattle.std.specs.Prelude.{◌≡◌, ◌⊎◌, ◌↔◌, All, Contains, IfOk, IfErr, IsTrue, map};
 ghost use Rattle.hack_metadata.specs.View.{place_at};
@@ -17,7 +17,7 @@ use hack_versions::version::{Version, VersionFault};
 use hack_words::cli::WorkspaceBehavior;
 use std::alloc::Global;
 
-/// The own version of a chosen package, which is read only where versions are asked for.
+/// The own version of a chosen package, which is read only where a range of versions is given.
 fn own_version(alloc: Global, cx: &Context, id: PackageId) -> Result<Option<Version>, VersionFault>
     requires { Contains (context_view cx.now).metadata.workspace_members id.index }
     ensures ok { IfOk result (IsOwn (context_view cx.now).args.version_range
@@ -81,7 +81,7 @@ fn members(alloc: Global, cx: &Context, ids: &[PackageId]) -> Result<Vec<Package
     Ok(members)
 }
 
-/// What the versions and places of a plan depend on.
+/// The input of a plan's versions and places.
 pub(crate) fn scene(alloc: Global, cx: &Context, ids: &[PackageId]) -> Result<Scene, PlanFault>
     requires { All (λ id. Contains (context_view cx.now).metadata.workspace_members id.index)
         ids.now }

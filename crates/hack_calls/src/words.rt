@@ -1,4 +1,4 @@
-//! What all commands of a call share, as it is read off what is loaded.
+//! What all commands of a call have in common, from what was loaded.
 
 ghost use Rattle.std.specs.Prelude.{◌≡◌, IfOk, option_map};
 ghost use Rattle.hack_base.specs.Names.{names_of, optional_text};
@@ -14,8 +14,8 @@ use hack_metadata::metadata::Package;
 use hack_runs::parts::CallWords;
 use std::alloc::{AllocError, Global};
 
-/// The path of a package's manifest as a command is given it, as it stands inside the folder; none
-/// where commands are given none.
+/// The path of a package's manifest as a command is given it, relative to the folder if it lies in
+/// it; none where commands get none.
 pub(crate) fn given_path(
     alloc: Global,
     bare: bool,
@@ -37,7 +37,7 @@ pub(crate) fn given_path(
     }
 }
 
-/// The package that the call stands in.
+/// The current package, as cargo locates it.
 fn current(cx: &Context) -> Option<&Package>
     ensures { option_map (λ p. package_record p.now) result ≡ current_of (context_view cx.now) }
 {
@@ -47,7 +47,7 @@ fn current(cx: &Context) -> Option<&Package>
     }
 }
 
-/// What all commands of the call share. `rustup` is rustup's program.
+/// What all commands of the call have in common. `rustup` is the program to run as rustup.
 pub(crate) fn call_words(alloc: Global, cx: &Context, rustup: &str) -> Result<CallWords, AllocError>
     ensures { IfOk result (λ words. call_view words ≡ call_of (context_view cx.now) rustup.now) }
 {

@@ -1,5 +1,5 @@
-//! Questions that need no state: a kind, and behind `: ` what is asked. The modules that answer
-//! tell their kinds.
+//! Questions that need no state: a kind, and after `: ` the question itself. The modules that
+//! answer them describe their kinds.
 
 use crate::{checks, faults, lexopt, options, started, uses, versions};
 use hack_holds::{Ask, Wrong, hold};
@@ -37,23 +37,23 @@ impl Ask for Asked {
     }
 }
 
-/// Holds rows of the kinds above.
+/// Checks rows of the kinds above.
 pub fn on(alloc: Global, rows: &str) -> Result<(), Wrong> {
     hold(alloc, &mut Asked {}, rows)
 }
 
-/// What stands before a mark and behind it; the whole text and nothing where it isn't there.
+/// The text before a mark and after it; the whole text and an empty one where there is no mark.
 pub fn halves<'a>(text: &'a str, mark: &str) -> (&'a str, &'a str) {
     text.split_once(mark).unwrap_or((text, ""))
 }
 
-/// The kind of a question, and what stands behind it.
+/// The kind of a question, and the text after it.
 pub fn parts(question: &str) -> (&str, &str) {
     let (kind, text) = halves(question, ":");
     (kind, text.strip_prefix(" ").unwrap_or(text))
 }
 
-/// The words between bars; none of an empty text.
+/// The arguments between bars; none for an empty text.
 pub fn list(alloc: Global, text: &str) -> Result<Vec<String>, AllocError> {
     let mut words = Vec::new(alloc);
     if text.is_empty() {
@@ -65,7 +65,7 @@ pub fn list(alloc: Global, text: &str) -> Result<Vec<String>, AllocError> {
     Ok(words)
 }
 
-/// Puts a line behind the lines of a text, of which the first isn't empty.
+/// Appends a line to the lines of a text, of which the first isn't empty.
 pub fn push_line(text: &mut String, line: &str) -> Result<(), AllocError> {
     if !text.is_empty() {
         text.push_str("\n")?;

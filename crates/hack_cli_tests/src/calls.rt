@@ -1,5 +1,5 @@
-//! What `run`, `run_with_output` and `read` answer over a caller in memory, and what it was asked.
-//! `commands` tells the questions.
+//! What `run`, `run_with_output` and `read` return with a caller in memory, and what it was asked.
+//! `commands` describes the questions.
 
 use crate::commands::on;
 use hack_holds::Wrong;

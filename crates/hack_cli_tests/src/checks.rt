@@ -1,6 +1,7 @@
-//! That checks of rows find those that are wrong, and refuse what is none. `table: LINES` asks what
-//! the check of a table tells, and behind it what it counts, or its fault. `rows: LINES` asks what
-//! is said where each of the rows has its own question for an answer. A `$` ends a line.
+//! Checks of rows find those that are wrong, and refuse lines that aren't part of one. `table:
+//! LINES` asks what the check of a table prints, followed by what it counts, or its error. `rows:
+//! LINES` asks what is reported where each row's question is answered with itself. A `$` ends a
+//! line.
 
 use crate::asks::on;
 use hack_holds::{Ask, Wrong, hold};
@@ -11,7 +12,7 @@ pub fn told_of(alloc: Global, text: &str) -> Result<String, AllocError> {
     told(alloc, lines_of(alloc, text)?.as_str())
 }
 
-/// What the check of a table tells and counts.
+/// What the check of a table prints and counts.
 fn told(alloc: Global, table: &str) -> Result<String, AllocError> {
     let mut out = Vec::new(alloc);
     let end = counted(alloc, table, &mut out)?;
@@ -27,7 +28,7 @@ fn counted(alloc: Global, table: &str, out: &mut Vec<u8>) -> Result<String, Allo
     }
 }
 
-/// Checks the rows of a table, where `want` tells how many there are.
+/// Checks the rows of a table, where `want` says how many there are.
 pub fn checked(alloc: Global, table: &str, want: &str) -> Result<(), Wrong> {
     let found = told(alloc, table)?;
     if found.as_str() == want {
@@ -130,7 +131,7 @@ fn rows_that_do_not_hold_are_refused(rt: HostRuntime) -> Result<(), Wrong> {
             > rows: # A note.$$> a$| a$   > b c$  | b c
             | they hold
 
-            # Another answer, one line too many, one too few and none at all; the first is told.
+            # Another answer, one line too many, one too few and none at all; the first is reported.
             > rows: > a$| a$> b$| c$> d$| e
             | > b
             | found:
@@ -155,7 +156,7 @@ fn rows_that_do_not_hold_are_refused(rt: HostRuntime) -> Result<(), Wrong> {
             | b
             | wanted:
 
-            # No question, what is no line of a row, and no row.
+            # No question, a line that isn't part of a row, and no row.
             > rows: | a$> a$| a
             | no line of a row: a
             > rows: > a$| a$a

@@ -1,4 +1,4 @@
-//! The texts and the words of commands. `commands` tells the questions.
+//! The texts and the arguments of commands. `commands` describes the questions.
 
 use crate::commands::on;
 use hack_holds::Wrong;

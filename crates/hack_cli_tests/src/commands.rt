@@ -1,17 +1,17 @@
-//! Commands as questions to one builder, over a caller in memory. Words stand between bars.
+//! Commands as questions to one builder, with a caller in memory. Arguments are separated by bars.
 //!
 //! `command: PROGRAM` begins a command; `own word: WORD`, `own words: WORDS`, `leading: WORD`,
-//! `names: NAMES`, `empty name`, `no features`, `passed` (the words that the rows are asked with),
-//! `nothing passed` and `stripped` change it. The answer is the short text. `texts` asks in the
-//! folder `/w` for the text that is neither long nor verbose, the long one and the verbose one,
-//! `listed` for the line of a list in the folder `m`, `words` for the words, and `program`.
+//! `names: NAMES`, `empty name`, `no features`, `passed` (the passed arguments of the rows),
+//! `nothing passed` and `stripped` change it. The answer is the short text. `texts` asks, in the
+//! folder `/w`, for the text that is neither long nor verbose, the long one and the verbose one,
+//! `listed` for the line of a list in the folder `m`, `words` for the arguments, and `program`.
 //!
 //! `caller: END` begins a caller that ends each call so, `reply: END|OUT|ERR|LINE` lets it answer a
 //! line. `run`, `output` and `read` call the command in the folder `/w`: the answer, and a line for
-//! each call that was made, which ends with `captured` where the output was. With `: END|OUT|ERR`
-//! that is over a caller of its own, which answers the command of the rows so and ends any other
-//! call as never started. `words of the call` asks for the words of the caller's first call. In
-//! outputs `\n` and `\r` end lines, and `\f` is the byte 0xFF, which is no text.
+//! each call that was made, which ends with `captured` where the output was. With `: END|OUT|ERR` a
+//! separate caller is used, which answers the command of the rows so and ends any other call as
+//! never started. `words of the call` asks for the arguments of the caller's first call. In outputs
+//! `\n` and `\r` end lines, and `\f` is the byte 0xFF, which is not UTF-8.
 
 use crate::asks::{halves, list, parts, push_line};
 use hack_holds::{Ask, Wrong, hold};
@@ -153,7 +153,7 @@ fn read(
     }
 }
 
-/// A line for each call behind the first ones.
+/// A line for each call after the first ones.
 fn push_made(
     alloc: Global,
     text: &mut String,
@@ -200,7 +200,7 @@ fn letter(byte: u8, is_escape: bool) -> u8 {
     }
 }
 
-/// Holds rows of a command that is asked with these passed and trailing words.
+/// Checks rows on a command with these passed and trailing arguments.
 pub fn on(alloc: Global, passed: &str, trailing: &str, rows: &str) -> Result<(), Wrong> {
     let passed = list(alloc, passed)?;
     let trailing = list(alloc, trailing)?;

@@ -1,5 +1,5 @@
-//! The texts of faults that are made by hand. `fault: NAME PART` names the fault, and the text in
-//! it where it has one; those of versions are told of an answer of rustup.
+//! The texts of errors that are constructed directly. `fault: NAME PART` names the error, and the
+//! text in it if it has one; those of versions are reported for an answer of rustup.
 
 use crate::asks::{halves, on};
 use hack_holds::Wrong;

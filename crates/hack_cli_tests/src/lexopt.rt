@@ -1,7 +1,7 @@
 //! Values of options, attached and not. `parser: CALLS of WORDS` makes calls of one parser over the
-//! words between bars, and the answer has a line for each: `next` cuts, `value` wants a value,
-//! `attached` takes what is attached to the option, and `or-none` takes the next word too where it
-//! is no option. A value stands between quotes.
+//! arguments between bars, and the answer has a line for each: `next` reads an item, `value` wants
+//! a value, `attached` takes what is attached to the option, and `or-none` takes the next argument
+//! too unless it is an option. A value is quoted.
 
 use crate::asks::{halves, list, on, push_line};
 use hack_holds::Wrong;
@@ -28,7 +28,7 @@ fn called(alloc: Global, parser: &mut Parser, call: &str) -> Result<String, Allo
     }
 }
 
-/// The text of the next cut; `end` behind the last; where it is refused that of the fault.
+/// The text of the next item; `end` after the last; the error's text where it is refused.
 fn cut(alloc: Global, parser: &mut Parser) -> Result<String, AllocError> {
     match parser.next() {
         Ok(Some(arg)) => arg.to_string(alloc),
@@ -110,7 +110,7 @@ fn values(rt: HostRuntime) -> Result<(), Wrong> {
             | 'x'
             | --y
 
-            # No word is left.
+            # No argument is left.
             > parser: next value next of --foo
             | --foo
             | missing argument

@@ -1,6 +1,6 @@
-//! Tests of what is made of words, and of the commands that come of them, for what stands in no
-//! table of rows: the worked examples, types that are made by hand, writers that fail, callers in
-//! memory and a system that starts nothing, and the checks of rows themselves.
+//! Tests of command lines and of the commands that result, for what the tables of rows don't have:
+//! the worked examples, values that are constructed directly, writers that fail, callers in memory
+//! and a system that starts nothing, and the checks of rows themselves.
 #![tactic(auto)]
 
 #[cfg(test)]

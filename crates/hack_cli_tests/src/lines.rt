@@ -1,5 +1,5 @@
-//! Lines for the user in each colouring, what is noted of them, and what is left where a write of
-//! them is interrupted, fails or takes nothing. `terminal` tells the questions.
+//! Lines for the user in each colouring, what the terminal records of them, and what was written
+//! where a write is interrupted, fails or takes nothing. `terminal` describes the questions.
 
 use crate::terminal::on;
 use hack_holds::Wrong;
@@ -134,7 +134,7 @@ fn an_interrupted_write_is_tried_again(rt: HostRuntime) -> Result<(), Wrong> {
     )
 }
 
-// Nothing is written behind the fault.
+// Nothing is written after the error.
 #[test]
 fn another_fault_ends_the_line(rt: HostRuntime) -> Result<(), Wrong> {
     on(

@@ -1,5 +1,5 @@
 //! Groups of lines in a log, also where a write of their lines is interrupted or fails. `terminal`
-//! tells the questions.
+//! describes the questions.
 
 use crate::terminal::on;
 use hack_holds::Wrong;
@@ -50,7 +50,7 @@ fn a_group_hands_out_its_fault(rt: HostRuntime) -> Result<(), Wrong> {
     )
 }
 
-// Two more writes than the opening line and the closing one take.
+// Two more writes than the opening line and the closing one need.
 static INTERRUPTED: &str = r"
     > group github told / interrupted at 0 / broken at 0
     | ok, ok, out '::group::told\n::endgroup::\n', err '' in 0 writes

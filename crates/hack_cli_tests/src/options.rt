@@ -1,6 +1,6 @@
-//! The table of options, and the help whole. `help: short` and `help: long` ask for the help, `all
-//! by name` how many of all options their own name finds. `long: NAME` and `letter: LETTER` ask
-//! which option is found, `row: NAME` for its row, `means: NAME` for what it stands for, and `same:
+//! The table of options, and the whole help. `help: short` and `help: long` ask for the help, `all
+//! by name` how many of all options are found by their own name. `long: NAME` and `letter: LETTER`
+//! ask which option is found, `row: NAME` for its row, `means: NAME` for what it means, and `same:
 //! NAME OTHER` whether both are the same option.
 
 use crate::asks::{halves, on};

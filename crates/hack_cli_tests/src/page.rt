@@ -5,7 +5,7 @@ use std::alloc::{AllocError, Global};
 use std::io;
 use std::io::{ErrorKind, Write};
 
-/// Takes three bytes at a time, but for one write, which fails.
+/// Takes three bytes at a time, except for one write, which fails.
 #[derive(Drop)]
 pub struct Page {
     bytes: Vec<u8>,
@@ -13,7 +13,7 @@ pub struct Page {
     pub writes: u64,
     /// The write that fails, from 0.
     fails_at: u64,
-    /// The fault of that write; none where it takes nothing.
+    /// The error of that write; none where it takes nothing.
     fault: Option<ErrorKind>,
 }
 

@@ -1,7 +1,7 @@
-//! What the system is asked to start for a call: one program, with just these words. `started:
-//! FAULT PROGRAM|WORDS` calls a program twice over a system that fails so, the second time with its
-//! output captured: how each ended, and how often the system was asked for this program with these
-//! words, and for something else.
+//! What the system is asked to start for a call: one program, with exactly these arguments.
+//! `started: FAULT PROGRAM|WORDS` calls a program twice with a system that fails so, the second
+//! time with its output captured: how each call ended, and how often the system was asked for this
+//! program with these arguments, and for something else.
 
 use crate::asks::{halves, list, on};
 use hack_holds::Wrong;
@@ -13,7 +13,7 @@ use std::io::ErrorKind;
 use std::process::{Command, Processes, Stdio, SystemProcess};
 
 /// A system that starts nothing. It counts how often it was asked to start the program with these
-/// words in the folder of this process, and how often to start something else.
+/// arguments in the folder of this process, and how often to start something else.
 #[derive(Drop)]
 struct Counting<'a> {
     program: &'a str,
@@ -59,7 +59,7 @@ impl Processes for Counting<'_> {
     }
 }
 
-/// How a call of the program with its words ended.
+/// How a call of the program with its arguments ended.
 fn ended(alloc: Global, system: &Counting<'_>, capture: bool) -> &'static str {
     let mut child = Child::new(system);
     match child.call(alloc, system.program, system.words, capture) {

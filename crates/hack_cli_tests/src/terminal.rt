@@ -1,9 +1,9 @@
 //! Lines for the user, as questions to one terminal. `info TEXT`, `warn TEXT` and `error TEXT`, and
-//! as notices `note-info TEXT`, `note-warn TEXT` and `note-quiet TEXT`, write a line to a page of
-//! its own: how that ended, how often the page was written to, what the terminal has noted so far,
-//! and the page. `group none TEXT` and `group github TEXT` print the line of a group on two pages,
-//! and end the group: how the line ended, how the end did where the group was open, and the pages.
-//! How a page fails stands behind ` / `. `status FLAGS` notes `error`, `warning`, both or nothing,
+//! as notices `note-info TEXT`, `note-warn TEXT` and `note-quiet TEXT`, write a line to a new page:
+//! how that ended, how often the page was written to, what the terminal has recorded so far, and
+//! the page. `group none TEXT` and `group github TEXT` print the line of a group on two pages, and
+//! end the group: how the line ended, how the end did where the group was open, and the pages. How
+//! a page fails is given after ` / `. `status FLAGS` records `error`, `warning`, both or nothing,
 //! and asks for the status, where `denied` denies warnings.
 
 use crate::asks::halves;
@@ -109,7 +109,7 @@ fn kind_of(kind: &str) -> NoticeKind {
     }
 }
 
-/// Holds rows of a terminal.
+/// Checks rows on a terminal.
 pub fn on(alloc: Global, term: Term, rows: &str) -> Result<(), Wrong> {
     hold(alloc, &mut Terminal { term }, rows)
 }

@@ -1,6 +1,6 @@
 //! Options as they were written, and names as features. `behavior: true` asks who handles a
 //! workspace that is left to cargo. `flag: long NAME`, `short LETTER` and `value WORD` ask for the
-//! option of a cut, and for the cut that the option gives back. `features: VALUE` asks for the
+//! option of an item, and for the item that the option gives back. `features: VALUE` asks for the
 //! features that one `--features` names.
 
 use crate::asks::{halves, list, on, push_line};

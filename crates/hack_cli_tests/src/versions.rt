@@ -1,5 +1,5 @@
-//! Versions and ranges of them. `order: A B` asks how two versions stand, by `compare` and by `<`;
-//! `stripped: VERSION` for the version without its patch; `range: own` how the range of
+//! Versions and ranges of them. `order: A B` asks how two versions compare, by `compare` and by
+//! `<`; `stripped: VERSION` for the version without its patch number; `range: own` how the range of
 //! `--rust-version` is printed, where it ends, and whether it needs the toolchain stable. `steps:
 //! RANGE by STEP` asks for the steps and notices where stable is 1.70 and no package has a version
 //! of its own, `steps: RANGE by STEP own VERSION` where a package and stable have this one.
@@ -16,7 +16,7 @@ use hack_versions::version::{MaybeVersion, Version, VersionRange};
 use std::alloc::{AllocError, Global};
 use std::cmp::Ordering;
 
-/// The version of a text, 0.0 where it is none.
+/// The version that a text is, 0.0 where it is none.
 fn version_of(alloc: Global, text: &str) -> Version {
     match Version::parse(alloc, text) {
         Ok(version) => version,
@@ -45,7 +45,7 @@ pub fn stripped(alloc: Global, text: &str) -> Result<String, AllocError> {
     version_of(alloc, text).strip_patch().to_string(alloc)
 }
 
-/// The range of a text, that of `--rust-version` where it is none.
+/// The range that a text is, that of `--rust-version` where it is none.
 fn range_of(alloc: Global, text: &str) -> VersionRange {
     match VersionRange::parse(alloc, text) {
         Ok((range, _)) if text != "own" => range,
@@ -90,7 +90,7 @@ pub fn steps(alloc: Global, text: &str) -> Result<String, AllocError> {
     }
 }
 
-/// Versions, each on a line, and behind them notices.
+/// Versions, each on a line, followed by notices.
 fn steps_text(alloc: Global, steps: &[Version], notices: &[Notice]) -> Result<String, AllocError> {
     let mut text = String::new(alloc);
     for step in steps {
@@ -204,7 +204,7 @@ fn a_step_of_0_stays_at_the_start(rt: HostRuntime) -> Result<(), Wrong> {
     )
 }
 
-// With time that grows with the square of the steps, this takes seconds.
+// If the time grew with the square of the steps, this would take seconds.
 #[test]
 fn many_steps_are_grouped(rt: HostRuntime) -> Result<(), Wrong> {
     on(

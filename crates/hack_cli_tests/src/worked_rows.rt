@@ -1,5 +1,6 @@
-//! Worked examples of versions, pieces and words, as rows whose form `docs/TESTING.md` tells: one
-//! for each reader of an answer or a value, and for each rule of words.
+//! Worked examples of versions, pieces and command lines, as rows in the form that
+//! `docs/TESTING.md` describes: one for each reader of an answer or a value, and for each rule of
+//! the command line.
 
 use crate::checks::checked;
 use hack_holds::Wrong;

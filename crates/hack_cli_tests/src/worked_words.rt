@@ -1,5 +1,5 @@
-//! Worked examples of words: the fault, or the fields that they give. Those that break a rule of
-//! `worked_rows` stand there.
+//! Worked examples of command lines: the error, or the fields that they give. Those that break a
+//! rule are in `worked_rows`.
 
 use crate::checks::checked;
 use hack_holds::Wrong;

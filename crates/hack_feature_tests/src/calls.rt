@@ -1,14 +1,15 @@
-//! Questions on the sets of a scene. Behind each stand the rules, and `-` is the empty set.
+//! Questions on the sets of a scene. The rules follow each question, and `-` is the empty set.
 //!
 //! - `list`: the listed sets by their names; `sets`: by the places of their candidates.
-//! - `cover 0,2`: the set that covers this one, or `none`; `covers`: that of each set in turn.
+//! - `cover 0,2`: the set that covers this one, or `none`; `covers`: the same for each set.
 //! - `all`: the answers of `list`, `sets` and `covers`.
-//! - `ask 0,1 2`: whether the second may follow the first ones, how many questions were counted, and
-//!   whether the first ones are complete.
-//! - `count 24`: how many sets each of the three enumerations finds, and whether they ask
-//!   as many questions as are counted: some, and at most 24.
+//! - `ask 0,1 2`: whether position 2 may extend this set, how many questions were counted, and
+//!   whether the set is complete.
+//! - `count 24`: how many sets each of the three enumerations finds, and whether `pruned` asks few
+//!   questions: some, at most 24, and as many as are counted; `listed` asks no more.
+//! - `sample 2`: the sets of a sample of strength 2, by the places of their candidates.
 //! - `powerset`: the sets of the numbers 1 to 4.
-//! - `order 0 1 0,1`: how each set stands to each.
+//! - `order 0 1 0,1`: how each set compares with each.
 
 ghost use Rattle.std.specs.Prelude.{◌≡◌, IsTrue, IfOk, length};
 ghost use Rattle.hack_features.specs.Sets.{IsSelection};
@@ -17,7 +18,8 @@ ghost use Rattle.hack_features.specs.View.{size_of};
 use crate::given::{Case, case_of, depth_of, numbers, refs, word_at};
 use crate::shown::{push_between, push_names, push_numbers, push_order};
 use hack_features::{
-    Feature, FeatureSets, Questions, Rules, compare_sets, feature_powerset, powerset, pruned,
+    Feature, FeatureSets, Questions, Rules, SampleFault, compare_sets, feature_powerset, powerset,
+    pruned,
 };
 use hack_holds::{Ask, Wrong, hold};
 use std::alloc::{AllocError, Global};
@@ -97,6 +99,22 @@ fn sets(alloc: Global, case: &Case, refs: &[&Feature]) -> Result<String, AllocEr
     Ok(text)
 }
 
+fn sample(
+    alloc: Global,
+    case: &Case,
+    refs: &[&Feature],
+    strength: usize,
+) -> Result<String, AllocError> {
+    let mut rules = rules_of(alloc, case, refs)?;
+    let mut text = String::new(alloc);
+    match rules.sample(alloc, strength, 100_000) {
+        Ok(sets) => push_sets(&mut text, alloc, &sets)?,
+        Err(SampleFault::TooManyQuestions) => text.push_str("too many questions")?,
+        Err(SampleFault::Memory) => return Err(AllocError),
+    }
+    Ok(text)
+}
+
 /// Puts the set that covers this one behind the text.
 fn push_cover(
     text: &mut String,
@@ -128,7 +146,7 @@ fn cover(
     Ok(text)
 }
 
-/// The places below `n`.
+/// The numbers below `n`.
 fn places(alloc: Global, n: usize) -> Result<Vec<usize>, AllocError> {
     (0..n).collect(alloc)
 }
@@ -180,8 +198,8 @@ fn count(alloc: Global, case: &Case, refs: &[&Feature], most: u128) -> Result<St
     let found = pruned(alloc, &mut rules, refs.len())?;
     let mut others = rules_of(alloc, case, refs)?;
     let other = others.listed(alloc)?;
-    let few = found.asked > 0 && found.asked <= most;
-    let same = found.asked == rules.asked() && found.asked == other.asked;
+    let few = found.asked > 0 && found.asked <= most && other.asked <= found.asked;
+    let same = found.asked == rules.asked() && other.asked == others.asked();
     let lists = powersets(alloc, case, refs)?.len();
     let found = found.sets.len();
     let other = other.sets.len();
@@ -253,6 +271,7 @@ fn answer(alloc: Global, scene: &str, question: &str) -> Result<String, AllocErr
         "cover" => cover(alloc, &case, refs, set.as_slice()),
         "all" => all(alloc, &case, refs),
         "ask" => may_follow(alloc, &case, refs, set.as_slice(), next),
+        "sample" => sample(alloc, &case, refs, word.parse::<usize>().unwrap_or(0)),
         "count" => count(alloc, &case, refs, word.parse::<u128>().unwrap_or(0)),
         _ => of_sets(alloc, kind, rest),
     }
@@ -277,7 +296,7 @@ impl Ask for Asked<'_> {
     }
 }
 
-/// Holds rows on a scene.
+/// Checks rows on a scene.
 pub fn on(alloc: Global, scene: &str, rows: &str) -> Result<(), Wrong> {
     hold(alloc, &mut Asked { scene }, rows)
 }

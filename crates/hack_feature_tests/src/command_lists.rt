@@ -1,5 +1,5 @@
-//! Command lists: from words and the bytes of a feature map to the bytes of the list, or the first
-//! fault.
+//! Command lists: from arguments and the bytes of a feature map to the bytes of the list, or the
+//! first error.
 
 use crate::lists::on;
 use hack_holds::Wrong;
@@ -123,7 +123,7 @@ fn lists_of_hostile_maps(rt: HostRuntime) -> Result<(), Wrong> {
     )
 }
 
-/// Words are judged before the input.
+/// Arguments are checked before the input.
 static REFUSED: &str = "
     > list --at-least-one-of c
     | --at-least-one-of requires a list of two or more features separated by space or comma
@@ -210,7 +210,7 @@ fn refused_input(rt: HostRuntime) -> Result<(), Wrong> {
             | features must be an object of arrays of texts
             |
 
-            # A byte that is no UTF-8 stands in the name.
+            # The name has a byte that is not UTF-8.
             > torn
             | features must be an object of arrays of texts
             |

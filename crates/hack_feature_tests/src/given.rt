@@ -1,10 +1,10 @@
 //! Feature maps, features and whole choices, made from short texts.
 //!
-//! A scene is a map, and behind ` $ ` its candidates, with a space between them. A map is its lines,
-//! with `;` between them: `a:;b: a c`. A feature is a name; `[a|b]` is the group of `a` and `b`, `()`
-//! the group of no names, and `dep>feat` a path. Rules are words: `depth=2`, and groups by names
-//! with commas. Of `some=a,b` a set needs one, of `apart=a,b` it has at most one, and
-//! `lifted=a,b` is a group of that kind that is lifted.
+//! A scene is a map, and after ` $ ` its candidates, separated by spaces. A map is its lines,
+//! separated by `;`: `a:;b: a c`. A feature is a name; `[a|b]` is the group of `a` and `b`, `()`
+//! the group of no names, and `dep>feat` a path. Rules are words: `depth=2`, and groups of names
+//! separated by commas. A set needs one of `some=a,b`, and has at most one of `apart=a,b`;
+//! `lifted=a,b` is a group of the latter kind that is lifted.
 
 use hack_features::Feature;
 use std::alloc::{AllocError, Global};
@@ -21,7 +21,7 @@ pub fn words(alloc: Global, text: &str) -> Result<Vec<String>, AllocError> {
     Ok(words)
 }
 
-/// What stands behind `key` in the word that begins so, or else `other`.
+/// The text after `key` in the word that begins with it, or else `other`.
 pub fn value<'a>(question: &'a str, key: &str, other: &'a str) -> &'a str {
     for word in question.split_whitespace() {
         if let Some(value) = word.strip_prefix(key) {
@@ -31,7 +31,7 @@ pub fn value<'a>(question: &'a str, key: &str, other: &'a str) -> &'a str {
     other
 }
 
-/// The word of a question at the place, from 0; empty where there is none.
+/// The word of a question at this place, from 0; empty where there is none.
 pub fn word_at(question: &str, place: usize) -> &str {
     question.split_whitespace().nth(place).unwrap_or("")
 }
@@ -94,7 +94,7 @@ pub fn features(alloc: Global, texts: &str) -> Result<Vec<Feature>, AllocError> 
     Ok(features)
 }
 
-/// The groups of the words that begin by one of the keys.
+/// The groups of the words that begin with one of the keys.
 fn groups(alloc: Global, rules: &str, keys: [&str; 2]) -> Result<Vec<Feature>, AllocError> {
     let [one, other] = keys;
     let mut groups = Vec::new(alloc);
@@ -106,7 +106,7 @@ fn groups(alloc: Global, rules: &str, keys: [&str; 2]) -> Result<Vec<Feature>, A
     Ok(groups)
 }
 
-/// For each group of names that exclude each other whether it is lifted.
+/// For each group of names that exclude each other, whether it is lifted.
 fn lifted(alloc: Global, rules: &str) -> Result<Vec<bool>, AllocError> {
     let mut lifted = Vec::new(alloc);
     for word in rules.split_whitespace() {
@@ -118,7 +118,7 @@ fn lifted(alloc: Global, rules: &str) -> Result<Vec<bool>, AllocError> {
     Ok(lifted)
 }
 
-/// What the sets of a package are chosen from, and by which rules.
+/// The input from which the sets of a package are chosen, and the rules.
 #[derive(Drop)]
 pub struct Case {
     pub map: Map,
@@ -147,7 +147,7 @@ pub fn refs(alloc: Global, features: &[Feature]) -> Result<Vec<&Feature>, AllocE
     features.iter().collect(alloc)
 }
 
-/// The places of the bits that are set.
+/// The indexes of the bits that are set.
 pub fn positions_of(alloc: Global, bits: u64) -> Result<Vec<usize>, AllocError> {
     let mut positions = Vec::new(alloc);
     let mut rest = bits;
@@ -170,7 +170,7 @@ fn chain(alloc: Global, n: usize) -> Result<String, AllocError> {
     Ok(text)
 }
 
-/// The scene of the candidates `f1` to `f{n}`: they are a chain where `is_chain` says so, and else no
+/// The scene of the candidates `f1` to `f{n}`: they are a chain where `is_chain` says so, else no
 /// keys.
 pub fn numbered(alloc: Global, n: usize, is_chain: bool) -> Result<String, AllocError> {
     let mut text = String::new(alloc);

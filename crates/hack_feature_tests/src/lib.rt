@@ -23,6 +23,8 @@ mod plain;
 #[cfg(test)]
 mod rules;
 #[cfg(test)]
+mod samples;
+#[cfg(test)]
 mod scenes;
 #[cfg(test)]
 mod shown;

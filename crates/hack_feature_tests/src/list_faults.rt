@@ -1,5 +1,5 @@
-//! Faults of lists and of whole calls of the program: readers and writers that fail by each kind of
-//! error, and what is told of it.
+//! Errors of lists and of whole calls of the program: readers and writers that fail with each kind
+//! of error, and what is reported.
 
 use crate::lists::on;
 use hack_holds::Wrong;
@@ -30,6 +30,31 @@ fn readers_that_fail(rt: HostRuntime) -> Result<(), Wrong> {
             > read 2 any
             | failed to read the features
             |
+        "#,
+    )
+}
+
+#[test]
+fn failures_that_are_counted(rt: HostRuntime) -> Result<(), Wrong> {
+    on(
+        rt.alloc(),
+        MAP,
+        r#"
+            > counted read other
+            | failed to read the features
+            | 1
+            > counted read memory
+            | out of memory
+            | 1
+            > counted 34 pipe
+            | failed to write the command list
+            | 1
+            > counted 34 memory
+            | out of memory
+            | 1
+            > counted 1000 other
+            | ok
+            | 0
         "#,
     )
 }
@@ -264,7 +289,7 @@ fn calls_without_words(rt: HostRuntime) -> Result<(), Wrong> {
     )
 }
 
-/// A fault stays a fault where its line can't be told.
+/// An error stays an error where its line can't be printed.
 #[test]
 fn calls_that_cannot_tell(rt: HostRuntime) -> Result<(), Wrong> {
     on(

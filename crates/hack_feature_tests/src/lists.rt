@@ -1,40 +1,42 @@
-//! Questions on lists of commands. A list is made from words, and from the text behind `<`, or else
-//! from the map of the rows. In a word `_` is a space.
+//! Questions on lists of commands. A list is made from arguments, and from the text after `<`, or
+//! else from the map of the rows. In an argument `_` is a space.
 //!
-//! - `list WORDS`: `ok` or the fault, and then what is written.
-//! - `read 2 KIND`: the same where the reader gives two braces and then fails by this kind; `write
-//!   34 KIND`: where the writer has room for 34 bytes, of which it takes five at a time; `line
-//!   34 KIND`: a line at a time. The kind `any` is each but want of memory and interrupts.
-//! - `interrupted reader` and `interrupted writer`: where each other call is interrupted; `full
+//! - `list WORDS`: `ok` or the error, and then what is written.
+//! - `read 2 KIND`: the same where the reader gives two braces and then fails with this kind;
+//!   `write 34 KIND`: where the writer has room for 34 bytes, of which it takes five at a time;
+//!   `line 34 KIND`: a line at a time. The kind `any` is each but out of memory and interrupts.
+//! - `counted 34 KIND`: how often a reader that gives no more than the map, and a writer with room
+//!   for 34 bytes, are counted to fail with this kind; `counted read KIND`: where the reader fails.
+//! - `interrupted reader` and `interrupted writer`: where every other call is interrupted; `full
 //!   writer`: where nothing is taken; `flush KIND`: where all is, but `flush` fails.
-//! - `torn`: where the input is no UTF-8; `nested 200`: where it is so many arrays in each other.
-//! - `chain 300`: how many lines there are for a chain of so many features; `pages`: whether
-//!   the list of 900 lone features is as it has to be.
-//! - `call WORDS`: the status of a call of the program, whether its fault was told, and what it
-//!   writes; `lost KIND`: without words; `tell 3`: for a wrong depth, with room for three bytes
-//!   of the fault.
-//! - `fault read KIND` and `fault write KIND`: the fault that an error is.
-//! - `command plain`: the command of a run of the features `a`, `b` and `c`, of which the
-//!   first and the last are chosen.
+//! - `torn`: where the input is no UTF-8; `nested 200`: where it is this many nested arrays.
+//! - `chain 300`: how many lines there are for a chain of this many features; `pages`: whether the
+//!   list of 900 independent features is right.
+//! - `call WORDS`: the status of a call of the program, whether its error was printed, and what it
+//!   writes; `lost KIND`: without arguments; `tell 3`: for a wrong depth, with room for three bytes
+//!   of the error.
+//! - `fault read KIND` and `fault write KIND`: the `ListFault` for such an error.
+//! - `command plain`: the command of a run of the features `a`, `b` and `c`, of which the first and
+//!   the last are chosen.
 
 use crate::given::{features, word_at, words};
 use crate::shown::told;
-use crate::streams::{OTHER_KINDS, Page, Source, Takes, kind_of};
+use crate::streams::{Broken, OTHER_KINDS, Page, Source, Takes, kind_of};
 use hack_holds::{Ask, Wrong, hold};
 use hack_plan::runs::Run;
-use hack_powerset_list::{Ending, ListFault, call_powerset_list, command, powerset_list};
+use hack_powerset_list::{Counted, Ending, ListFault, call_powerset_list, command, powerset_list};
 use std::alloc::{AllocError, Global};
 use std::env::Args;
 use std::io;
 use std::io::ErrorKind;
 
-/// Puts bytes behind the text.
+/// Appends bytes to the text.
 fn push_bytes(text: &mut String, alloc: Global, bytes: &[u8]) -> Result<(), AllocError> {
     let more = String::from_utf8_lossy(alloc, bytes)?;
     text.push_str(more.as_str())
 }
 
-/// `ok` or the fault, and a line feed.
+/// `ok` or the error, and a line feed.
 fn ending(alloc: Global, listed: Result<(), ListFault>) -> Result<String, AllocError> {
     match listed {
         Ok(()) => String::from_str(alloc, "ok\n"),
@@ -42,7 +44,7 @@ fn ending(alloc: Global, listed: Result<(), ListFault>) -> Result<String, AllocE
     }
 }
 
-/// The words, in which `_` is a space.
+/// The arguments, in which `_` is a space.
 fn spaced(alloc: Global, text: &str) -> Result<Vec<String>, AllocError> {
     let mut words = Vec::new(alloc);
     for word in text.split_whitespace() {
@@ -51,7 +53,7 @@ fn spaced(alloc: Global, text: &str) -> Result<Vec<String>, AllocError> {
     Ok(words)
 }
 
-/// The list for these words and bytes.
+/// The list for these arguments and bytes.
 fn list(alloc: Global, given: &str, input: &[u8]) -> Result<String, AllocError> {
     let words = spaced(alloc, given)?;
     let mut input = input;
@@ -80,7 +82,7 @@ fn written(alloc: Global, map: &str, mut page: Page) -> Result<String, AllocErro
     Ok(text)
 }
 
-/// The answer for a reader or a writer that fails by the kind.
+/// The answer for a reader or a writer that fails with this kind.
 fn by_kind(
     alloc: Global,
     map: &str,
@@ -99,6 +101,55 @@ fn by_kind(
             written(alloc, map, page)
         }
         _ => written(alloc, map, page),
+    }
+}
+
+/// How a list ends, and how often a stream was counted to fail.
+fn counted(
+    alloc: Global,
+    listed: Result<(), ListFault>,
+    failed: u64,
+) -> Result<String, AllocError> {
+    let text = ending(alloc, listed)?;
+    format!(in alloc; "{text}{failed}")
+}
+
+fn counted_reads(alloc: Global, fault: ErrorKind) -> Result<String, AllocError> {
+    let mut broken = Broken { fault };
+    let mut input = Counted {
+        stream: &mut broken,
+        failed: 0,
+    };
+    let mut out = Vec::new(alloc);
+    let listed = powerset_list(alloc, &[], &mut input, &mut out);
+    counted(alloc, listed, input.failed)
+}
+
+fn counted_writes(
+    alloc: Global,
+    map: &str,
+    room: usize,
+    fault: ErrorKind,
+) -> Result<String, AllocError> {
+    let mut input = map.as_bytes();
+    let mut page = Page::new(alloc, room, fault);
+    let mut out = Counted {
+        stream: &mut page,
+        failed: 0,
+    };
+    let listed = powerset_list(alloc, &[], &mut input, &mut out);
+    counted(alloc, listed, out.failed)
+}
+
+fn counted_on(
+    alloc: Global,
+    map: &str,
+    word: &str,
+    fault: ErrorKind,
+) -> Result<String, AllocError> {
+    match word {
+        "read" => counted_reads(alloc, fault),
+        _ => counted_writes(alloc, map, word.parse::<usize>().unwrap_or(0), fault),
     }
 }
 
@@ -162,14 +213,14 @@ fn chain_text(alloc: Global, n: usize) -> Result<String, AllocError> {
     Ok(text)
 }
 
-/// How many lines there are for a chain, the one of `ok` left out.
+/// How many lines there are for a chain, without the one of `ok`.
 fn chain(alloc: Global, n: usize) -> Result<String, AllocError> {
     let input = chain_text(alloc, n)?;
     let text = list(alloc, "", input.as_bytes())?;
     text.lines().skip(1).count().to_string(alloc)
 }
 
-/// Whether the list of `f100` to `f999`, each alone, is longer than a page and as it has to be.
+/// Whether the list of `f100` to `f999`, each alone, is longer than a page and right.
 fn pages(alloc: Global) -> Result<String, AllocError> {
     let mut input = String::from_str(alloc, "{")?;
     let mut want = String::from_str(alloc, "ok\ncargo check --no-default-features\n")?;
@@ -208,7 +259,7 @@ fn call(alloc: Global, given: &str, input: &str) -> Result<String, AllocError> {
     called(alloc, Ok(arguments.into_iter()), input)
 }
 
-/// A call for a wrong depth whose fault has only so much room.
+/// A call for a wrong depth whose error message has only this much room.
 fn tell(alloc: Global, map: &str, room: usize) -> Result<String, AllocError> {
     let arguments = words(alloc, "powerset-list --depth x")?;
     let mut input = map.as_bytes();
@@ -245,7 +296,7 @@ fn command_text(alloc: Global, run: Run) -> Result<String, AllocError> {
     command.listed("").to_string(alloc)
 }
 
-/// The answer to a question on a list of a size, or on one of its parts.
+/// The answer to a question on a long list, or on one of its parts.
 fn of_parts(alloc: Global, map: &str, question: &str) -> Result<String, AllocError> {
     let word = word_at(question, 1);
     let number = word.parse::<usize>().unwrap_or(0);
@@ -270,6 +321,7 @@ fn of_streams(alloc: Global, map: &str, question: &str) -> Result<String, AllocE
             "any" => by_any_kind(alloc, map, question),
             kind => by_kind(alloc, map, question, kind_of(kind)),
         },
+        "counted" => counted_on(alloc, map, word, kind_of(word_at(question, 2))),
         "interrupted" => interrupted(alloc, map, word),
         "full" => full(alloc, map),
         "flush" => flush(alloc, map, kind_of(word)),
@@ -285,7 +337,7 @@ fn given_and_input<'x>(rest: &'x str, map: &'x str) -> (&'x str, &'x str) {
     }
 }
 
-/// A map of which lists are asked for.
+/// A map for which lists are requested.
 #[derive(Drop)]
 struct Lists<'a> {
     map: &'a str,
@@ -303,7 +355,7 @@ impl Ask for Lists<'_> {
     }
 }
 
-/// Holds rows on a map.
+/// Checks rows on a map.
 pub fn on(alloc: Global, map: &str, rows: &str) -> Result<(), Wrong> {
     hold(alloc, &mut Lists { map }, rows)
 }

@@ -1,7 +1,7 @@
-//! Single features, and what the names of a map enable. An empty name stands between two spaces.
+//! Single features, and what the names of a map enable. An empty name lies between two spaces.
 //!
-//! - `order a b`: how each feature stands to each.
-//! - `show a`: its name, its text for debugging, and the names that it stands for.
+//! - `order a b`: how each feature compares with each.
+//! - `show a`: its name, its text for debugging, and the names that it consists of.
 //! - `slash a>b`: the place of its slash.
 //! - `has a [a|b]`: whether the feature matches the name; `reach a b`: whether the name reaches the
 //!   feature.
@@ -15,7 +15,7 @@ use std::alloc::{AllocError, Global};
 use std::cmp::Ordering;
 use std::collections::BTreeSet;
 
-/// How the first feature stands to the other; none where the answers disagree.
+/// How the first feature compares with the other; none where the methods disagree.
 fn compared(first: &Feature, other: &Feature) -> Option<Ordering> {
     let order = first.cmp(other);
     let is_equal = order == Ordering::Equal;
@@ -122,7 +122,7 @@ impl Ask for Named<'_> {
     }
 }
 
-/// Holds rows on a map.
+/// Checks rows on a map.
 fn on(alloc: Global, map: &str, rows: &str) -> Result<(), Wrong> {
     hold(alloc, &mut Named { map }, rows)
 }

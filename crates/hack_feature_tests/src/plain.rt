@@ -1,6 +1,6 @@
-//! A plain slow program: it looks at every set of candidates, and tells of each what the rules say,
-//! one by one. Its names are the letters `a` to `f` and what values make of them, which are the bits
-//! of a number; keys are letters. A set of candidates is a number too.
+//! A plain slow program: it looks at every set of candidates, and applies the rules to each, one by
+//! one. Its names are the letters `a` to `f` and what values make of them, which are the bits of a
+//! number; keys are letters. A set of candidates is a number too.
 
 use crate::given::{depth_of, positions_of};
 use crate::shown::{push_between, push_numbers};
@@ -68,7 +68,7 @@ fn keys(map: &str) -> u64 {
     keys
 }
 
-/// What the values enable: they are taken whole, and those of dependencies are left out.
+/// What the values enable: they are taken whole, without those of dependencies.
 fn enabled(values: &str) -> u64 {
     let mut names = 0;
     for value in values.split_whitespace() {
@@ -79,7 +79,7 @@ fn enabled(values: &str) -> u64 {
     names
 }
 
-/// What the values reach: they are cut before their first slash.
+/// What the values reach: they are split before their first slash.
 fn reached(values: &str) -> u64 {
     let mut names = 0;
     for value in values.split_whitespace() {
@@ -101,7 +101,7 @@ fn step(edges: &[u64; 6], names: u64) -> u64 {
     found
 }
 
-/// All that a chain of values leads to. A chain without repeats has at most one step for each key.
+/// All that a chain of values leads to. A chain without repeats has at most one step per key.
 fn leads_to(edges: &[u64; 6], names: u64) -> u64 {
     let mut found = names;
     for _ in KEYS {
@@ -110,7 +110,7 @@ fn leads_to(edges: &[u64; 6], names: u64) -> u64 {
     found
 }
 
-/// The names that a candidate stands for, with `|` between them.
+/// The names of a candidate, separated by `|`.
 fn names_of(candidate: &str) -> &str {
     match candidate.strip_prefix("[") {
         Some(names) => names.trim_end_matches(']'),
@@ -332,7 +332,7 @@ fn cover(plain: &Plain<'_>, listed: u64, set: u64) -> u64 {
     0
 }
 
-/// Puts a space behind a set.
+/// Appends a space after a set.
 fn push_space(text: &mut String) -> Result<(), AllocError> {
     if text.ends_with("]") {
         text.push_str(" ")
@@ -341,7 +341,7 @@ fn push_space(text: &mut String) -> Result<(), AllocError> {
     }
 }
 
-/// Puts the names of the members behind the text, such as `[a,b]`.
+/// Appends the names of the members to the text, such as `[a,b]`.
 fn push_names(text: &mut String, candidates: &str, set: u64) -> Result<(), AllocError> {
     let mut place = 0usize;
     let mut rest = set;
@@ -377,7 +377,7 @@ fn push_list(text: &mut String, plain: &Plain<'_>, listed: u64) -> Result<(), Al
     text.push_str("\n")
 }
 
-/// Puts the places of the members behind the text, such as `[0,2]`.
+/// Appends the places of the members to the text, such as `[0,2]`.
 fn push_places(text: &mut String, alloc: Global, set: u64) -> Result<(), AllocError> {
     let places = positions_of(alloc, set)?;
     push_numbers(text, places.as_slice())
@@ -395,7 +395,7 @@ fn push_sets(text: &mut String, alloc: Global, listed: u64) -> Result<(), AllocE
     text.push_str("\n")
 }
 
-/// Puts what covers each set behind the text: `none` where the set isn't wanted.
+/// Appends to the text what covers each set: `none` where the set isn't wanted.
 fn push_covers(
     text: &mut String,
     alloc: Global,
@@ -415,8 +415,9 @@ fn push_covers(
     Ok(())
 }
 
-/// What the question `all` is to answer on a scene with these rules. As numbers the sets rise, so of
-/// two sets the one that has the greatest position that is in just one of them comes later.
+/// The expected answer to the question `all` on a scene with these rules. As numbers the sets
+/// ascend, so of two sets that one is later which has the greatest position that is in only one of
+/// them.
 pub fn all(alloc: Global, scene: &str, rules: &str) -> Result<String, AllocError> {
     let plain = Plain::of(scene, rules);
     let judged = plain.judged();

@@ -7,7 +7,7 @@
 //! - `plan`: the total, and a line for each version: its places, and slot, package and rank of each
 //!   of its runs.
 //! - `place 3`: the total, and the run at the place.
-//! - `piece 1/3 2 of 4`: whether the piece has the place behind the first two of four.
+//! - `piece 1/3 2 of 4`: whether the piece has the place after the first two of four.
 
 ghost use Rattle.std.specs.Prelude.{IfOk};
 ghost use Rattle.hack_plan.specs.Scenes.{AreVersions};
@@ -31,7 +31,7 @@ fn range_of(alloc: Global, text: &str) -> Option<VersionRange> {
     }
 }
 
-/// A package for each own version, `-` for none. Each is called p.
+/// A package for each own version, where `-` is none. Each is called p.
 fn packages_of(alloc: Global, owns: &str) -> Result<Vec<PackageVersion>, AllocError> {
     let mut packages = Vec::new(alloc);
     for own in owns.split(',') {
@@ -68,7 +68,7 @@ fn versions_of(alloc: Global, scene: &Scene) -> Result<Versions, RangeFault>
     Ok(versions)
 }
 
-/// Puts the run at a place behind the text; `?` where there is none.
+/// Appends the run at a place to the text; `?` where there is none.
 fn push_place(text: &mut String, places: &Places, place: usize) -> Result<(), AllocError> {
     if place >= places.len() {
         return text.push_str(" ?");
@@ -82,7 +82,7 @@ fn push_place(text: &mut String, places: &Places, place: usize) -> Result<(), Al
     }
 }
 
-/// Puts the places from the first to the end behind the text.
+/// Appends the places from the first to the end to the text.
 fn push_places(
     text: &mut String,
     places: &Places,
@@ -148,7 +148,7 @@ fn plan(alloc: Global, words: &str, place: Option<usize>) -> Result<String, Allo
     }
 }
 
-/// Whether a piece has the place behind the first `count` ones.
+/// Whether a piece has the place after the first `count` ones.
 fn held(alloc: Global, piece: &str, count: u64, total: u64) -> Result<bool, PartitionFault> {
     let piece = Partition::parse(alloc, piece)?;
     let progress = Progress { total, count };
@@ -179,7 +179,7 @@ impl Ask for Plans {
     }
 }
 
-/// Holds rows on plans.
+/// Checks rows on plans.
 pub fn on_plans(alloc: Global, rows: &str) -> Result<(), Wrong> {
     hold(alloc, &mut Plans {}, rows)
 }

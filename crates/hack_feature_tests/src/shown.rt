@@ -4,7 +4,7 @@ use hack_features::Feature;
 use std::alloc::{AllocError, Global};
 use std::cmp::Ordering;
 
-/// Puts a separator in front of all but the first.
+/// Appends a separator before all but the first.
 pub fn push_between(text: &mut String, place: usize, separator: &str) -> Result<(), AllocError> {
     if place == 0 {
         Ok(())
@@ -13,7 +13,7 @@ pub fn push_between(text: &mut String, place: usize, separator: &str) -> Result<
     }
 }
 
-/// Puts a set of numbers behind the text, such as `[0,2]`.
+/// Appends a set of numbers to the text, such as `[0,2]`.
 pub fn push_numbers(text: &mut String, set: &[usize]) -> Result<(), AllocError> {
     text.push_str("[")?;
     for (place, number) in set.iter().enumerate() {
@@ -23,7 +23,7 @@ pub fn push_numbers(text: &mut String, set: &[usize]) -> Result<(), AllocError> 
     text.push_str("]")
 }
 
-/// Puts the names of a set of features behind the text, such as `[a,c]`.
+/// Appends the names of a set of features to the text, such as `[a,c]`.
 pub fn push_names(text: &mut String, set: &[&Feature]) -> Result<(), AllocError> {
     text.push_str("[")?;
     for (place, feature) in set.iter().enumerate() {
@@ -33,7 +33,7 @@ pub fn push_names(text: &mut String, set: &[&Feature]) -> Result<(), AllocError>
     text.push_str("]")
 }
 
-/// Puts the letter of an order behind the text: `?` where there is none.
+/// Appends the letter of an order to the text; `?` where there is none.
 pub fn push_order(text: &mut String, order: Option<Ordering>) -> Result<(), AllocError> {
     text.push(match order {
         Some(Ordering::Less) => '<',

@@ -10,9 +10,9 @@ pub struct Source<'a> {
     pub bytes: &'a [u8],
     /// How many bytes were given.
     pub at: usize,
-    /// How it fails behind the last byte, if it doesn't end.
+    /// How it fails after the last byte; none where it ends there.
     pub fault: Option<ErrorKind>,
-    /// Whether each other call is interrupted, the first one too.
+    /// Whether every other call is interrupted, beginning with the first.
     pub is_interrupted: bool,
     pub interrupts: bool,
 }
@@ -49,6 +49,18 @@ impl Read for Source<'_> {
     }
 }
 
+/// Fails at once.
+#[derive(Drop)]
+pub struct Broken {
+    pub fault: ErrorKind,
+}
+
+impl Read for Broken {
+    fn read(&mut self, _buf: &mut [u8]) -> io::Result<usize> {
+        Err(io::Error::from(self.fault))
+    }
+}
+
 /// How much is taken at a time.
 #[derive(Drop)]
 pub enum Takes {
@@ -75,10 +87,10 @@ pub struct Page {
     pub room: usize,
     pub fault: ErrorKind,
     pub takes: Takes,
-    /// Whether each other call of `write` is interrupted, the first one too.
+    /// Whether every other call of `write` is interrupted, beginning with the first.
     pub is_interrupted: bool,
     pub interrupts: bool,
-    /// What the call of `flush` answers, if it fails.
+    /// The error of `flush`, if it fails.
     pub flush: Option<ErrorKind>,
 }
 
@@ -119,7 +131,7 @@ impl Write for Page {
     }
 }
 
-/// A kind by a short name.
+/// The kind with this short name.
 pub fn kind_of(name: &str) -> ErrorKind {
     match name {
         "memory" => ErrorKind::OutOfMemory,
@@ -132,7 +144,7 @@ pub fn kind_of(name: &str) -> ErrorKind {
     }
 }
 
-/// All kinds but want of memory and the one after which a call is tried again.
+/// All kinds but out of memory and the one after which a call is tried again.
 pub static OTHER_KINDS: [ErrorKind; 40] = [
     ErrorKind::NotFound,
     ErrorKind::PermissionDenied,

@@ -1,10 +1,10 @@
-//! Edits of manifests by questions. A text stands as a row shows it, in the answer too.
+//! Edits of manifests by questions. Texts are written as rows show them, in the answer too.
 //!
-//! `edit TEXT` takes out the development dependencies, and then once more: what the second edit
-//! gives is told only where it is another text. `features ..` does so with a text of features
-//! behind tables of dependencies. `without PATH ..; TEXT` takes the private crates at these paths
-//! out of the workspace at `/w`. The answer to each may be a fault, after `refused`; `fault NAME`
-//! is its text.
+//! `edit TEXT` takes out the development dependencies, twice: the result of the second edit is
+//! shown only where it differs. `features ..` does so with a text of features after tables of
+//! dependencies. `without PATH ..; TEXT` takes the private crates at these paths out of the
+//! workspace at `/w`. The answer to each may be an error, after `refused`; `fault NAME` is its
+//! text.
 
 mod dev_deps;
 mod features;
@@ -18,7 +18,7 @@ use hack_edits::manifest::{ManifestFault, remove_dev_deps};
 use hack_holds::{Ask, Wrong, hold};
 use std::alloc::{AllocError, Global};
 
-/// The text that an edit gave, or the fault.
+/// The result of an edit, or the error.
 fn given(alloc: Global, outcome: Result<String, ManifestFault>) -> Result<String, AllocError> {
     match outcome {
         Ok(text) => shown(alloc, text.as_str()),
@@ -26,7 +26,7 @@ fn given(alloc: Global, outcome: Result<String, ManifestFault>) -> Result<String
     }
 }
 
-/// What an edit gave, and then what a second edit of it gives, where that is another text.
+/// The result of an edit, and that of a second edit of it where it differs.
 fn twice(alloc: Global, once: &str) -> Result<String, AllocError> {
     let second = given(alloc, remove_dev_deps(alloc, once))?;
     let mut answer = shown(alloc, once)?;
@@ -61,7 +61,7 @@ impl Ask for Edits {
     }
 }
 
-/// Holds rows over edits.
+/// Checks rows on edits.
 fn on(alloc: Global, rows: &str) -> Result<(), Wrong> {
     hold(alloc, &mut Edits {}, rows)
 }

@@ -1,9 +1,9 @@
-//! Files by questions, which any files are asked.
+//! Files by questions, which are the same for all kinds of files.
 //!
-//! `read PATH`, `write PATH TEXT`, `exists PATH`, `remove PATH` and `failures` are their own calls.
-//! `bytes PATH`, `text PATH` and `put PATH TEXT` read and write over them with faults that tell the
-//! path, and `fault PATH` tells whether such a fault of reading is the one of this path. `held PATH
-//! ..` shows what the paths hold, each after its name, and `-` where nothing can be read.
+//! `read PATH`, `write PATH TEXT`, `exists PATH`, `remove PATH` and `failures` are the methods of
+//! `Files`. `bytes PATH`, `text PATH` and `put PATH TEXT` read and write with errors that have the
+//! path, and `fault PATH` asks whether such an error of reading is the one of this path. `held PATH
+//! ..` shows the contents at the paths, each after its name, and `-` where nothing can be read.
 
 mod disk;
 mod failing;
@@ -18,7 +18,7 @@ use hack_files::fs::{FileFault, Files};
 use hack_holds::{Ask, Wrong, hold};
 use std::alloc::{AllocError, Global};
 
-/// Files that are asked.
+/// The files to which the questions are put.
 #[derive(Drop)]
 struct Asked<F: Files + Drop> {
     files: F,
@@ -30,7 +30,7 @@ impl<F: Files + Drop> Ask for Asked<F> {
     }
 }
 
-/// Holds rows over files.
+/// Checks rows on files.
 fn hold_over<F: Files + Drop>(alloc: Global, files: F, rows: &str) -> Result<(), Wrong> {
     let mut asked = Asked { files };
     hold(alloc, &mut asked, rows)
@@ -101,7 +101,7 @@ fn done(alloc: Global, outcome: Result<(), FileFault>) -> Result<String, AllocEr
     String::from_str(alloc, text)
 }
 
-/// `true`, `false` or the fault.
+/// `true`, `false` or the error.
 pub fn truth(alloc: Global, outcome: Result<bool, FileFault>) -> Result<String, AllocError> {
     let text = match outcome {
         Ok(true) => "true",
@@ -111,7 +111,7 @@ pub fn truth(alloc: Global, outcome: Result<bool, FileFault>) -> Result<String, 
     String::from_str(alloc, text)
 }
 
-/// What the paths hold.
+/// The contents at the paths.
 pub fn held<F: Files>(alloc: Global, files: &mut F, paths: &str) -> Result<String, AllocError> {
     let mut text = String::new(alloc);
     for path in paths.split(' ') {
@@ -136,7 +136,7 @@ fn push_held<F: Files>(
     text.push(' ')
 }
 
-/// Calls with the answers that any files give which are empty at first. Two of them fail.
+/// Calls with the answers of any files that are empty at first. Two of the calls fail.
 static CALLS: &str = r"
     > exists a
     | false

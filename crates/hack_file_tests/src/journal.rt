@@ -1,17 +1,18 @@
-//! A call that edits files over a journal, which stands at `j`, and the next call, which puts back
-//! what it had edited.
+//! A call that edits files with a journal at `j`, and the next call, which restores what the first
+//! had edited.
 //!
 //! A question about files is one of files in memory, or `recover`, and begins with their place:
 //!
-//! - `below: ..`: those under the journal, before the call and behind it.
-//! - `lockfiles: ..`: those of the lockfiles, which stand apart.
-//! - `apart: ..`: both together, where all but the lockfiles stand over the journal.
-//! - `front: ..`: those that some of the changes leave.
+//! - `below: ..`: those under the journal, before the call and after it.
+//! - `lockfiles: ..`: those of the lockfiles, which are separate.
+//! - `apart: ..`: both together, where all but the lockfiles are under the journal.
+//! - `front: ..`: those that the first changes leave.
 //!
-//! With no place it is about the files over the journal. `begin` takes the files below into a
-//! call, `finish` tells whether no journal is left, and `end` gives the files below back. `cut N`
-//! makes the front of their first N changes, and `front N` recovers it too: it tells how many files
-//! were put back, or the fault, and what the paths hold. The modules below have more questions.
+//! Without a place it is about the files over the journal. `begin` takes the files below into a
+//! call, `finish` asks whether no journal is left, and `end` gives the files below back. `cut N`
+//! makes the files that the first N changes leave, and `front N` recovers these too: it shows how
+//! many files were restored, or the error, and the contents at the paths. The modules below have
+//! more questions.
 
 mod apart;
 mod failing;
@@ -49,7 +50,7 @@ fn replayed(alloc: Global, steps: &[Step]) -> Result<MemoryFiles, FileFault> {
     Ok(files)
 }
 
-/// The count of files that were put back, or the fault.
+/// The number of files that were restored, or the error.
 fn recovered<F: Files>(alloc: Global, files: &mut F) -> Result<String, AllocError> {
     match recover(alloc, files, "j") {
         Ok(count) => number(alloc, count),
@@ -106,7 +107,7 @@ impl Call {
         format!(in alloc; "{told}\n{held}")
     }
 
-    /// Answers a question that begins with no place.
+    /// Answers a question that begins without a place.
     fn step(&mut self, alloc: Global, question: &str) -> Result<String, AllocError> {
         let (kind, rest) = question.split_once(' ').unwrap_or((question, ""));
         match kind {
@@ -136,7 +137,7 @@ impl Ask for Call {
     }
 }
 
-/// Holds the parts of a script in turn, with no files at first.
+/// Checks the parts of a script in turn, beginning without files.
 fn on(alloc: Global, parts: &[&str]) -> Result<(), Wrong> {
     let mut call = Call {
         over: Apart::new(

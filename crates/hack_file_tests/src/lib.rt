@@ -1,5 +1,5 @@
-//! Tests of files: calls over them in memory, on the disk and where one fails, files that come
-//! back, their journal, and manifests with the edits of these.
+//! Tests of files: calls to them in memory, on the disk and where one fails, files that are
+//! restored, their journal, and manifests with their edits.
 #![tactic(auto)]
 
 #[cfg(test)]

@@ -1,9 +1,9 @@
-//! Manifests by questions. A text stands as a row shows it.
+//! Manifests by questions. Texts are written as rows show them.
 //!
-//! `cut TEXT` are the pieces of a text. `package MINOR TEXT` is what a manifest says of its package
-//! where cargo has that minor version: `publish` and `rust-version`. `features TEXT` are its
-//! features with their values, as `a=b,c,;`, and `text TEXT` is the text that it keeps. The answer
-//! to each may be a fault; `fault of memory` is the one of memory.
+//! `cut TEXT` are the pieces of a text. `package MINOR TEXT` is what a manifest says about its
+//! package where cargo has this minor version: `publish` and `rust-version`. `features TEXT` are
+//! its features with their values, as `a=b,c,;`, and `text TEXT` is the text that it keeps. The
+//! answer to each may be an error; `fault of memory` is the one of memory.
 
 mod cuts;
 mod reads;
@@ -31,7 +31,7 @@ impl Ask for Manifests {
     }
 }
 
-/// Holds rows over manifests.
+/// Checks rows on manifests.
 fn on(alloc: Global, rows: &str) -> Result<(), Wrong> {
     hold(alloc, &mut Manifests {}, rows)
 }

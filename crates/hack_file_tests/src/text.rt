@@ -1,4 +1,4 @@
-//! Texts as a row shows them, each in one line.
+//! Texts as rows show them, each on one line.
 //!
 //! There `\n` is a line feed, `\r` a carriage return, `\t` a tab, `\0` a byte 0, `\b` a byte order
 //! mark, `\d` a delete, and `\\` a backslash.
@@ -12,7 +12,7 @@ pub fn plain(alloc: Global, shown: &str) -> Result<String, AllocError> {
     Ok(text)
 }
 
-/// Puts the text that a row shows behind another.
+/// Appends the text that a row shows.
 pub fn push_plain(text: &mut String, shown: &str) -> Result<(), AllocError> {
     let mut is_marked = false;
     for c in shown.chars() {
@@ -45,7 +45,7 @@ pub fn shown(alloc: Global, plain: &str) -> Result<String, AllocError> {
     Ok(text)
 }
 
-/// Puts a text, as a row shows it, behind another.
+/// Appends a text as a row shows it.
 pub fn push_shown(text: &mut String, plain: &str) -> Result<(), AllocError> {
     for c in plain.chars() {
         match c {
@@ -62,7 +62,7 @@ pub fn push_shown(text: &mut String, plain: &str) -> Result<(), AllocError> {
     Ok(())
 }
 
-/// Puts bytes between quotes behind a text.
+/// Appends quoted bytes to a text.
 pub fn push_quoted(text: &mut String, alloc: Global, bytes: &[u8]) -> Result<(), AllocError> {
     let plain = String::from_utf8_lossy(alloc, bytes)?;
     text.push('\'')?;
@@ -70,7 +70,7 @@ pub fn push_quoted(text: &mut String, alloc: Global, bytes: &[u8]) -> Result<(),
     text.push('\'')
 }
 
-/// Bytes between quotes.
+/// Quoted bytes.
 pub fn quoted(alloc: Global, bytes: &[u8]) -> Result<String, AllocError> {
     let mut text = String::new(alloc);
     push_quoted(&mut text, alloc, bytes)?;
@@ -81,7 +81,7 @@ pub fn number(alloc: Global, number: u64) -> Result<String, AllocError> {
     format!(in alloc; "{number}")
 }
 
-/// The number that a row shows: the greatest one where it is no number.
+/// The number that a row shows; the greatest number where it shows none.
 pub fn number_of(shown: &str) -> u64 {
     shown.parse::<u64>().unwrap_or(u64::MAX)
 }

@@ -1,25 +1,28 @@
-//! Tests as text: rows of questions, each with the answer that is wanted.
+//! Tests as text: rows of questions, each with its expected answer.
 //!
 //! A row is a line `> question`, and the lines of its answer, each after `| `. Spaces before a line
 //! don't count, and lines that are empty or begin with `#` are left out. A test is then one call,
-//! and its rows cost no proof.
+//! and its rows add nothing to be proved.
 #![tactic(auto)]
 
 use std::alloc::{AllocError, AllocFailed, Global};
 use std::fmt;
 use std::fmt::{Debug, Formatter, Write};
 
-/// What rows are asked of: a public call that is shown as text, or a value that is called in turn.
+/// What answers the rows: a public call whose result is shown as text, or a value that is called
+/// repeatedly.
 pub trait Ask {
-    /// The answer to a question. Line feeds separate the lines of an answer, and none ends it.
+    /// The answer to a question. Line feeds separate the lines of an answer; the last line has
+    /// none.
     fn answer(&mut self, alloc: Global, question: &str) -> Result<String, AllocError>;
 }
 
-/// Why rows don't hold.
+/// Why rows fail.
 #[derive(Drop)]
 pub enum Wrong {
     Memory,
-    /// A row has another answer, there is no row, or a line is none of a row: the message.
+    /// A row has another answer, there is no row, or a line isn't part of a row; this is the
+    /// message.
     Row(String),
 }
 
@@ -35,7 +38,7 @@ impl<T: Drop> From<AllocFailed<T>> for Wrong {
     }
 }
 
-// What the runner prints of a test that ends with an error.
+// The runner prints this of a test that ends with an error.
 impl Debug for Wrong {
     fn fmt<W: Write>(&self, f: &mut Formatter<W>) -> fmt::Result {
         match self {
@@ -58,14 +61,14 @@ struct Row {
     question: String,
     /// The answer to the question.
     found: String,
-    /// The answer that is wanted, each line with a line feed before it.
+    /// The expected answer, each line with a line feed before it.
     wanted: String,
-    /// How many rows were begun.
+    /// How many rows were started.
     count: u64,
 }
 
 impl Row {
-    /// Ends the row before this one, and asks its question.
+    /// Ends the previous row, and asks the question of the next.
     fn ask<A: Ask>(&mut self, asked: &mut A, question: &str) -> Result<(), Wrong> {
         self.end()?;
         self.found = asked.answer(self.alloc, question)?;
@@ -75,7 +78,7 @@ impl Row {
         Ok(())
     }
 
-    /// One more line of the answer that is wanted.
+    /// One more line of the expected answer.
     fn want(&mut self, line: &str) -> Result<(), Wrong> {
         if self.count == 0 {
             return Err(no_row(self.alloc, line));
@@ -85,7 +88,7 @@ impl Row {
         Ok(())
     }
 
-    /// Compares the answer of the row with the one that is wanted.
+    /// Compares the answer of the row with the expected one.
     fn end(&self) -> Result<(), Wrong> {
         let wanted = self.wanted.as_str();
         if self.count == 0 || wanted.strip_prefix("\n") == Some(self.found.as_str()) {
@@ -99,7 +102,7 @@ impl Row {
         ))
     }
 
-    /// Takes a line.
+    /// Reads a line.
     fn take<A: Ask>(&mut self, asked: &mut A, line: &str) -> Result<(), Wrong> {
         if let Some(question) = after(line, ">") {
             self.ask(asked, question)
@@ -132,8 +135,8 @@ fn told(text: Result<String, AllocError>) -> Wrong {
 ///
 /// # Errors
 ///
-/// The first row whose answer is not the one that is wanted, with both; a line that is none of a
-/// row; no row at all; or out of memory.
+/// The first row whose answer is not the expected one, with both; a line that isn't part of a row;
+/// no row at all; or out of memory.
 pub fn hold<A: Ask>(alloc: Global, asked: &mut A, rows: &str) -> Result<(), Wrong> {
     let mut row = Row {
         alloc,

@@ -1,4 +1,4 @@
--- Where a text may be cut again.
+-- Where a text may be split again.
 use Rattle.std.proofs.Common.{◌≡◌, ℕ, ◌-◌, List, [], ◌∷◌, ◌++◌, length, drop, arith, length-append, append_assoc, take, subst, sym, ap, ◌∙◌, refl, true, false, encode_utf8, ◌==◌}
 use Rattle.std.proofs.lemmas.Bool.Decides.{nat_tests}
 use Rattle.std.proofs.lemmas.List.{drop_at, take-append-drop}
@@ -9,18 +9,18 @@ use Rattle.hack_lexopt.specs.Cuts.{Nothing, Chain, first_letter, after_letter, c
 pub length_front : (bs xs ys : List ℕ) → bs ≡ xs ++ ys → length bs - length ys ≡ length xs
 length_front bs xs ys e = omega (arith, ap length e, length-append xs ys)
 
--- the front of what is left of a text is a place where it may be cut
+-- the start of what is left of a text is a character boundary
 pub IsCharBoundary-rest : (bs xs ys : List ℕ) → bs ≡ xs ++ ys → IsUtf8 ys → IsCharBoundary bs (length bs - length ys)
 IsCharBoundary-rest bs xs ys e u = let P : ℕ → Type 0 = λ n. IsCharBoundary bs n in subst P (sym (length_front bs xs ys e)) (IsCharBoundary-at_seam bs xs ys e u)
 
 pub drop_front : (bs xs ys : List ℕ) → bs ≡ xs ++ ys → drop (length bs - length ys) bs ≡ ys
 drop_front bs xs ys e = rw (length_front bs xs ys e) (rw e (drop_at xs ys (length xs) refl))
 
--- a word is a front, a letter and the rest
+-- an argument is a prefix, a letter and the rest
 pub word_parts : (word letter rest : List ℕ) (at : ℕ) → drop at word ≡ letter ++ rest → word ≡ (take at word ++ letter) ++ rest
 word_parts word letter rest at e = sym (take-append-drop at word) ∙ ap (λ (t : List ℕ). take at word ++ t) e ∙ sym (append_assoc (take at word) letter rest)
 
--- what a letter leaves
+-- what remains after a letter
 pub after_letter-rest : (letters rest : List ℕ) (c : ℕ) → c ≡ first_letter letters → letters ≡ encode_utf8 c ++ rest → after_letter letters ≡ chain_of rest
 after_letter-rest letters rest c h e = ap (λ (n : ℕ). chain_of (drop (length (encode_utf8 n)) letters)) (sym h) ∙ ap (λ (t : List ℕ). chain_of (drop (length (encode_utf8 c)) t)) e ∙ ap chain_of (drop_at (encode_utf8 c) rest _ refl)
 

@@ -1,35 +1,36 @@
--- How a list of words is cut into options, apart from the parser that does it.
+-- How a list of arguments is split into options, apart from the parser that does it.
 use Rattle.std.specs.Prelude.{ℕ, List, [], ◌∷◌, ◌++◌, ◌==◌, ◌&&◌, not, length, drop, Bool, Option, Some, None, Result, Ok, Err, slice_get, nat_lt, nat_eq, encode_utf8, codes, if◌then◌else◌}
 use Rattle.std.specs.List.{before_first, after_first, position_or_len, starts_with}
 use Rattle.std.specs.Str.{chars}
 use Rattle.hack_lexopt.specs.declared.fault.LexFault.{LexFault}
 use Rattle.hack_lexopt.specs.declared.fault.LexFault.TheVariants.{UnexpectedValue}
 
--- an option by its long name or by one letter, or a word that is none
+-- one item: an option by its long name or by one letter, or an argument that is no option
 pub data Cut : Type 0 where
   LongCut : List ℕ → Cut
   ShortCut : ℕ → Cut
   ValueCut : List ℕ → Cut
 
--- what is untaken of the word that was cut last: nothing, the bytes behind the = of a long option, or the letters left of a chain
+-- the unread part of the last argument: nothing, the value after the = of a long option, or the
+-- remaining letters of a chain
 pub data Untaken : Type 0 where
   Nothing : Untaken
   Pending : List ℕ → Untaken
   Chain : List ℕ → Untaken
 
--- what a parser has left, and the option that it cut last
+-- what a parser has left to read, and the last option that it has read
 pub record Left : Type 0 where
   pub option : Option Cut
   pub untaken : Untaken
   pub words : List (List ℕ)
 
--- a cut as it was written
+-- an item as it was written
 abbrev pub as_written : Cut → List ℕ
 as_written (LongCut name) = codes "--" ++ name
 as_written (ShortCut letter) = codes "-" ++ encode_utf8 letter
 as_written (ValueCut word) = word
 
--- the cut, where it is an option
+-- the item, where it is an option
 abbrev pub option_in : Cut → Option Cut
 option_in (LongCut name) = Some (LongCut name)
 option_in (ShortCut letter) = Some (ShortCut letter)
@@ -39,15 +40,15 @@ option_in (ValueCut word) = None
 abbrev pub is_equals : ℕ → Bool
 is_equals b = b == 61
 
--- what is left of a chain begins with =
+-- the remaining letters of a chain begin with =
 abbrev pub begins_with_equals : List ℕ → Bool
 begins_with_equals letters = starts_with nat_eq letters (codes "=")
 
--- the value behind the first =, where there is one
+-- the value after the first =, if there is one
 abbrev pub pending_of : List ℕ → Untaken
 pending_of body = if nat_lt (position_or_len is_equals body) (length body) then Pending (after_first is_equals body) else Nothing
 
--- the letters behind a letter
+-- the letters after the first letter
 abbrev pub chain_of : List ℕ → Untaken
 chain_of [] = Nothing
 chain_of (b ∷ bs) = Chain (b ∷ bs)
@@ -60,7 +61,7 @@ first_letter letters = unwrap (slice_get (chars letters) 0)
     unwrap (Some c) = c
     unwrap None = 0
 
--- what the first letter of a chain leaves
+-- what remains of a chain after its first letter
 abbrev pub after_letter : List ℕ → Untaken
 after_letter letters = chain_of (drop (length (encode_utf8 (first_letter letters))) letters)
 
@@ -68,23 +69,24 @@ after_letter letters = chain_of (drop (length (encode_utf8 (first_letter letters
 abbrev pub is_long : List ℕ → Bool
 is_long word = starts_with nat_eq word (codes "--")
 
--- a chain begins with - and has more
+-- a chain begins with - and is longer
 abbrev pub is_chain : List ℕ → Bool
 is_chain word = starts_with nat_eq word (codes "-") && nat_lt 1 (length word)
 
--- a word that is no option
+-- an argument that is no option
 abbrev pub is_plain : List ℕ → Bool
 is_plain word = not (is_long word) && not (is_chain word)
 
--- the first cut of a word
+-- the first item of an argument
 abbrev pub cut_of : List ℕ → Cut
 cut_of word = if is_long word then LongCut (before_first is_equals (drop 2 word)) else (if is_chain word then ShortCut (first_letter (drop 1 word)) else ValueCut word)
 
--- what the first cut of a word leaves of it
+-- what the first item leaves unread of an argument
 abbrev pub untaken_of : List ℕ → Untaken
 untaken_of word = if is_long word then pending_of (drop 2 word) else (if is_chain word then after_letter (drop 1 word) else Nothing)
 
--- the next cut: a letter of the chain, or the first of the next word; a value that nobody took is refused
+-- the next item: a letter of the chain, or the first of the next argument; a value that nobody took
+-- is refused
 abbrev pub next_cut : Left → Result (Option Cut) LexFault
 next_cut left = go left.untaken left.words
   where
@@ -94,11 +96,11 @@ next_cut left = go left.untaken left.words
     go Nothing [] = Ok None
     go Nothing (word ∷ words) = Ok (Some (cut_of word))
 
--- what is left where nothing more of the word is taken
+-- what remains once no more of the argument is read
 abbrev pub after_attached : Left → Left
 after_attached left = record { option = left.option; untaken = Nothing; words = left.words }
 
--- what the next cut leaves: behind a refusal the next word
+-- what the next item leaves; after a refusal, the parser is at the next argument
 abbrev pub after_cut : Left → Left
 after_cut left = go left.option left.untaken left.words
   where
@@ -109,13 +111,14 @@ after_cut left = go left.option left.untaken left.words
     go option Nothing [] = record { option = option; untaken = Nothing; words = [] }
     go option Nothing (word ∷ words) = record { option = option_in (cut_of word); untaken = untaken_of word; words = words }
 
--- what of the word serves as a value: what stands behind an =, or the rest of a chain with one leading = dropped
+-- the part of the argument that serves as a value: the text after an =, or the rest of a chain
+-- without one leading =
 abbrev pub attached_value : Untaken → Option (List ℕ)
 attached_value (Pending value) = Some value
 attached_value (Chain letters) = Some (if begins_with_equals letters then drop 1 letters else letters)
 attached_value Nothing = None
 
--- the value of an option: what is attached, else the next word whatever it is
+-- the value of an option: the attached one, else the next argument whatever it is
 abbrev pub value_of : Left → Option (List ℕ)
 value_of left = go (attached_value left.untaken) left.words
   where
@@ -123,7 +126,7 @@ value_of left = go (attached_value left.untaken) left.words
     go (Some value) words = Some value
     go None words = slice_get words 0
 
--- what is left behind the value of an option
+-- what remains after the value of an option
 abbrev pub after_value : Left → Left
 after_value left = go left.untaken left.words
   where
@@ -133,7 +136,7 @@ after_value left = go left.untaken left.words
     go (Pending value) words = record { option = left.option; untaken = Nothing; words = words }
     go (Chain letters) words = record { option = left.option; untaken = Nothing; words = words }
 
--- a value that may be left out: what is attached, else the next word unless that is an option
+-- a value that may be left out: the attached one, else the next argument unless that is an option
 abbrev pub optional_of : Left → Option (List ℕ)
 optional_of left = go (attached_value left.untaken) left.words
   where
@@ -142,7 +145,7 @@ optional_of left = go (attached_value left.untaken) left.words
     go None [] = None
     go None (word ∷ words) = if is_plain word then Some word else None
 
--- what is left behind a value that may be left out
+-- what remains after a value that may be left out
 abbrev pub after_optional : Left → Left
 after_optional left = go left.untaken left.words
   where
@@ -152,7 +155,7 @@ after_optional left = go left.untaken left.words
     go (Pending value) words = record { option = left.option; untaken = Nothing; words = words }
     go (Chain letters) words = record { option = left.option; untaken = Nothing; words = words }
 
--- a value that nobody took, at which the next cut is refused
+-- a value that nobody took, because of which the next item is refused
 abbrev pub unexpected_of : Untaken → Option (List ℕ)
 unexpected_of (Pending value) = Some value
 unexpected_of (Chain letters) = if begins_with_equals letters then Some (drop 1 letters) else None

@@ -1,4 +1,4 @@
--- What a parser has left, as its fields say it.
+-- What a parser has left to read, according to its fields.
 use Rattle.std.specs.Prelude.{◌≡◌, ℕ, List, drop, map, string_bytes, Option, Some, None, Result, Ok, Err}
 use Rattle.std.specs.Borrow.{MutBor, Fml}
 use Rattle.std.specs.Io.BufRead.{Rests}
@@ -17,58 +17,58 @@ use Rattle.hack_lexopt.specs.declared.fault.LexFault.TheVariants.{UnexpectedValu
 use Rattle.hack_lexopt.specs.contracts.parser.Parser.{the_row}
 use Rattle.hack_lexopt.specs.Cuts.{Untaken, Nothing, Pending, Chain, Left, Cut, LongCut, ShortCut, ValueCut, cut_of, option_in, next_cut, unexpected_of}
 
--- what the rest of a word leaves untaken
+-- what the rest of an argument leaves unread
 abbrev pub untaken_rest : Place → List ℕ → Untaken
 untaken_rest Closed bytes = Nothing
 untaken_rest Behind bytes = Pending bytes
 untaken_rest Letters bytes = Chain bytes
 
--- what a spot leaves untaken of its word
+-- what a spot leaves unread of its argument
 abbrev pub untaken_at : Spot → List ℕ → Untaken
 untaken_at spot word = untaken_rest spot.place (drop spot.at word)
 
--- the option that was cut last of a word: the letter of a chain, or the long name
+-- the last option that was read of an argument: the letter of a chain, or the long name
 abbrev pub option_at : Option ℕ → List ℕ → Option Cut
 option_at (Some letter) word = Some (ShortCut letter)
 option_at None word = option_in (cut_of word)
 
--- what a parser has left
+-- what a parser has left to read
 abbrev pub left_in : Parser → Left
 left_in p = record { option = option_at p.spot.letter (string_bytes p.word); untaken = untaken_at p.spot (string_bytes p.word); words = map string_bytes p.words.items }
 
--- a parser that has cut nothing
+-- a parser that has read nothing
 abbrev pub start : List (List ℕ) → Left
 start words = record { option = None; untaken = Nothing; words = words }
 
--- the cut that an `Arg` shows
+-- the item that an `Arg` represents
 abbrev pub cut_in : Arg → Cut
 cut_in (Long name) = LongCut name.now
 cut_in (Short letter) = ShortCut letter
 cut_in (Value word) = ValueCut word.now
 
--- the answer of a cut, with the cut that its `Arg` shows
+-- the result of a read, with the item that its `Arg` represents
 abbrev pub cut_seen : Result (Option Arg) LexFault → Result (Option Cut) LexFault
 cut_seen (Ok (Some arg)) = Ok (Some (cut_in arg))
 cut_seen (Ok None) = Ok None
 cut_seen (Err fault) = Err fault
 
--- the cut that an option is
+-- the item that an option is
 abbrev pub flag_cut : Flag → Cut
 flag_cut (flag.Long name) = LongCut name.now
 flag_cut (flag.Short letter) = ShortCut letter
 
--- what is next: a cut, the end, or a value that nobody took of the option before it
+-- what comes next: an item, the end, or a value of the option before that nobody took
 abbrev pub IsNext : Left → Next → Type 0
 IsNext left_in (next.Cut arg) = next_cut left_in ≡ Ok (Some (cut_in arg))
 IsNext left_in next.End = next_cut left_in ≡ Ok None
 IsNext left_in (next.Refused option value) = (next_cut left_in ≡ Err UnexpectedValue) × (left_in.option ≡ Some (flag_cut option)) × (unexpected_of left_in.untaken ≡ Some value.now)
 
--- the letter of a cut, where it is one of a chain
+-- the letter of an item, where it is one of a chain
 abbrev pub letter_in : Cut → Option ℕ
 letter_in (LongCut name) = None
 letter_in (ShortCut letter) = Some letter
 letter_in (ValueCut word) = None
 
--- what is left once the result is no longer used
+-- what remains once the returned reference is no longer used
 abbrev pub Leaves : MutBor Parser → Left → Fml
 Leaves p l = Rests the_row p (λ new. left_in new ≡ l)

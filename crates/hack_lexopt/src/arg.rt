@@ -1,17 +1,17 @@
-//! What a word is cut into.
+//! The items that an argument is split into.
 
 ghost use Rattle.hack_lexopt.specs.Cuts.{as_written};
 ghost use Rattle.hack_lexopt.specs.Parsers.{cut_in, flag_cut};
 
 use std::fmt;
 
-/// One cut. Its text is the option as it was written, `--name` or `-c`, or the value.
+/// One item. It is displayed as the option was written, `--name` or `-c`, or as the value.
 #[derive(Clone, Copy, Debug, PartialEq, Eq)]
 pub enum Arg<'a> {
     /// The name without its `--`.
     Long(&'a str),
     Short(char),
-    /// A word that is no option.
+    /// An argument that is no option.
     Value(&'a str),
 }
 
@@ -29,7 +29,7 @@ impl fmt::Display for Arg<'_> {
     }
 }
 
-/// An option as it was written. Its text is that, `--name` or `-c`.
+/// An option as it was written. It is displayed as that, `--name` or `-c`.
 #[derive(Clone, Copy, Debug, PartialEq, Eq)]
 pub enum Flag<'a> {
     /// The name without its `--`.

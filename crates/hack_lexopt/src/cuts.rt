@@ -1,5 +1,5 @@
-//! How a word is cut. What is borrowed from a word is cut by functions over texts, so that the
-//! parser's own steps only move its place.
+//! How an argument is split. What borrows from an argument is made by functions over texts, so that
+//! the parser itself only moves its position.
 
 ghost use Rattle.std.specs.Prelude.{◌≡◌, ◌≢◌, ◌↔◌, ◌<◌, None, Some, true, IsSome, IsTrue};
 ghost use Rattle.std.specs.Prelude.{length, drop};
@@ -13,35 +13,35 @@ ghost use Rattle.hack_lexopt.specs.Parsers.{untaken_at, untaken_rest};
 
 use crate::arg::{Arg, Flag};
 
-/// What is left of a word.
+/// What is left of an argument.
 #[derive(Clone, Copy)]
 pub(crate) enum Place {
-    /// Nothing that a later call may take.
+    /// Nothing that a later call may read.
     Closed,
-    /// The value behind the `=` of a long option.
+    /// The value after the `=` of a long option.
     Value,
-    /// The letters left of a chain.
+    /// The remaining letters of a chain.
     Letters,
 }
 
-/// How far the word that was cut last is used.
+/// How far the last argument has been read.
 #[derive(Clone, Copy)]
 pub(crate) struct Spot {
-    /// The letter of a chain that was cut last.
+    /// The last letter that was read of a chain.
     pub letter: Option<char>,
-    /// Where what is left of the word begins.
+    /// Where the unread rest of the argument begins.
     pub at: usize,
     pub place: Place,
 }
 
-/// A cut of a word, and how far it uses the word.
+/// An item of an argument, and how far it reads the argument.
 #[derive(Clone, Copy)]
 pub(crate) struct Head<'a> {
     pub arg: Arg<'a>,
     pub spot: Spot,
 }
 
-/// The letter of a chain that begins at the place.
+/// The letter of a chain that begins at this byte.
 pub(crate) fn letter_cut(word: &str, at: usize) -> Head<'_>
     requires boundary { IsCharBoundary word.now at }
     requires letters { at < length word.now }
@@ -71,7 +71,7 @@ pub(crate) fn letter_cut(word: &str, at: usize) -> Head<'_>
     }
 }
 
-/// A cut that isn't a letter.
+/// An item that isn't a letter.
 fn whole_cut(arg: Arg<'_>, at: usize, place: Place) -> Head<'_>
     ensures { result ≡
         record { arg = arg.entry; spot = record { letter = None; at = at; place = place } } }
@@ -83,7 +83,7 @@ fn whole_cut(arg: Arg<'_>, at: usize, place: Place) -> Head<'_>
     }
 }
 
-/// The first cut of a word.
+/// The first item of an argument.
 pub(crate) fn first_cut(word: &str) -> Head<'_>
     ensures cut { cut_in result.arg ≡ cut_of word.now }
     ensures letter { result.spot.letter ≡ letter_in (cut_of word.now) }
@@ -107,7 +107,7 @@ pub(crate) fn first_cut(word: &str) -> Head<'_>
     whole_cut(Arg::Value(word), 0, Place::Closed)
 }
 
-/// Whether the rest of a word is a value that nobody took.
+/// Whether the rest of an argument is a value that nobody took.
 pub(crate) fn is_refused(place: Place, rest: &str) -> bool
     ensures { IsTrue result ↔ IsSome (unexpected_of (untaken_rest place rest.now)) }
 {
@@ -118,7 +118,7 @@ pub(crate) fn is_refused(place: Place, rest: &str) -> bool
     }
 }
 
-/// What of the rest of a word serves as a value.
+/// The part of the rest of an argument that serves as a value.
 pub(crate) fn value_of(place: Place, rest: &str) -> &str
     ensures { place ≢ Place.Closed → attached_value (untaken_rest place rest.now)
         ≡ Some result.now }
@@ -141,7 +141,7 @@ fn long_name(word: &str) -> &str
     }
 }
 
-/// The option that was cut last of a word: a letter of a chain, else the long name.
+/// The last option that was read of an argument: a letter of a chain, else the long name.
 pub(crate) fn flag_of(letter: Option<char>, word: &str) -> Flag<'_>
     requires { letter ≡ None → is_long word.now ≡ true }
     ensures { option_at letter word.now ≡ Some (flag_cut result) }
@@ -152,7 +152,7 @@ pub(crate) fn flag_of(letter: Option<char>, word: &str) -> Flag<'_>
     }
 }
 
-/// Whether the word is no option.
+/// Whether the argument is no option.
 pub(crate) fn is_plain(word: &str) -> bool
     ensures { result ≡ plain word.now }
 {

@@ -1,17 +1,17 @@
-//! Why words can't be cut.
+//! Why arguments can't be split into options.
 
 ghost use Rattle.std.specs.Prelude.{◌≡◌};
 
 use std::alloc::AllocError;
 use thiserror::Error;
 
-/// Why a word can't be cut, or has no value.
+/// Why an argument is refused, or has no value.
 #[derive(Debug, Drop, Error)]
 pub enum LexFault {
-    /// An option wants a value, and no word is left.
+    /// An option needs a value, and no argument is left.
     #[error("missing argument")]
     MissingValue,
-    /// Nobody took the value that is attached to an option.
+    /// The option has an attached value that nobody took.
     #[error("unexpected argument")]
     UnexpectedValue,
     #[error("out of memory")]

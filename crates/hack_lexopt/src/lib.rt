@@ -1,6 +1,7 @@
-//! Cuts a list of words into options, and knows none of them. A word that begins with `--` is a
-//! long option, and what stands behind its first `=` waits to be taken as its value; a word that
-//! begins with `-` and has more is a chain of letters; a lone `-` and any other word is a value.
+//! Splits a list of arguments into options, without knowing any option. An argument that begins
+//! with `--` is a long option, and the text after its first `=` can be taken as its value; a longer
+//! argument that begins with `-` is a chain of letters; a lone `-` and any other argument is a
+//! value.
 #![tactic(auto)]
 
 mod arg;

@@ -1,4 +1,4 @@
-//! The parser: it walks over words, and each call answers what stands next.
+//! The parser: it walks over arguments, and each call returns what comes next.
 
 ghost use Rattle.std.specs.Prelude.{◌≡◌, ◌≢◌, ◌<◌, None, Some, true, OnOk, OnErr, IfOk, IfErr};
 ghost use Rattle.std.specs.Prelude.{length, map, string_bytes};
@@ -16,7 +16,7 @@ use crate::fault::LexFault;
 use std::alloc::{AllocError, Global};
 use std::collections::VecDeque;
 
-/// Walks over words, one cut after the other.
+/// Walks over arguments, one item after the other.
 #[derive(Drop)]
 pub struct Parser {
     words: VecDeque<String>,
@@ -27,21 +27,21 @@ pub struct Parser {
     ghost long: { spot.place ≢ Closed → spot.letter ≡ None → is_long (string_bytes word) ≡ true },
 }
 
-/// What is next of the words.
+/// What comes next among the arguments.
 #[derive(Clone, Copy, Debug, PartialEq, Eq)]
 pub enum Next<'a> {
-    /// An option, or a word that is none.
+    /// An option, or an argument that is none.
     Cut(Arg<'a>),
-    /// Nobody took the value that is attached to the option.
+    /// The option has an attached value that nobody took.
     Refused { option: Flag<'a>, value: &'a str },
-    /// No word is left.
+    /// No argument is left.
     End,
 }
 
 impl Parser {
     ghost use Rattle.hack_lexopt.specs.Parsers.{left_in, start, cut_seen, IsNext, Leaves};
 
-    /// A parser that stands at the first word.
+    /// A parser at the first argument.
     pub fn from_args(alloc: Global, words: Vec<String>) -> Parser
         ensures { left_in result ≡ start (map string_bytes words.items) }
     {
@@ -56,8 +56,8 @@ impl Parser {
         }
     }
 
-    /// What is next: a cut, the end, or a value that nobody took, and then the parser stands at the
-    /// next word.
+    /// What comes next: an item, the end, or a value that nobody took; after that the parser is at
+    /// the next argument.
     pub fn cut(&mut self) -> Next<'_>
         ensures* leaves { sem 𝓛 (Leaves self.entry (after_cut (left_in self.old))) }
         ensures next { IsNext (left_in self.old) result }
@@ -72,22 +72,22 @@ impl Parser {
             };
         }
         if let Place::Letters = place {
-            // Cut twice: for the spot, and for the letter that is answered.
+            // Computed twice: for the spot, and for the letter that is returned.
             self.spot = letter_cut(self.word.as_str(), at).spot;
             return Next::Cut(letter_cut(self.word.as_str(), at).arg);
         }
         let Some(word) = self.words.pop_front() else {
             return Next::End;
         };
-        // Cut twice: the answer borrows the word from where the parser keeps it.
+        // Computed twice: the result borrows the argument from where the parser keeps it.
         let spot = first_cut(word.as_str()).spot;
         self.word = word;
         self.spot = spot;
         Next::Cut(first_cut(self.word.as_str()).arg)
     }
 
-    /// The next cut, or none behind the last word. A value that nobody took is refused here, and
-    /// then the parser stands at the next word.
+    /// The next item, or none after the last argument. A value that nobody took is refused here,
+    /// and then the parser is at the next argument.
     pub fn next(&mut self) -> Result<Option<Arg<'_>>, LexFault>
         ensures* leaves { sem 𝓛 (Leaves self.entry (after_cut (left_in self.old))) }
         ensures cut { cut_seen result ≡ next_cut (left_in self.old) }
@@ -100,8 +100,8 @@ impl Parser {
         }
     }
 
-    /// The value that is attached to the option that was cut last: what stands behind the `=` of a
-    /// long one, or the rest of a chain with one leading `=` dropped.
+    /// The value that is attached to the last option read: the text after the `=` of a long one, or
+    /// the rest of a chain without one leading `=`.
     pub fn optional_value(&mut self, alloc: Global) -> Result<Option<String>, AllocError>
         ensures value { IfOk result
             (λ value. optional_text value ≡ attached_value (left_in self.old).untaken) }
@@ -118,8 +118,7 @@ impl Parser {
         Ok(Some(value))
     }
 
-    /// The value of the option that was cut last: what is attached, else the next word whatever it
-    /// is.
+    /// The value of the last option read: the attached one, else the next argument whatever it is.
     pub fn value(&mut self, alloc: Global) -> Result<String, LexFault>
         ensures value { IfOk result
             (λ value. value_of (left_in self.old) ≡ Some (string_bytes value)) }
@@ -134,8 +133,8 @@ impl Parser {
         }
     }
 
-    /// The value of an option that may stand without one: what is attached, else the next word
-    /// unless that is an option.
+    /// The value of an option that may be used without one: the attached one, else the next
+    /// argument unless that is an option.
     pub fn value_or_none(&mut self, alloc: Global) -> Result<Option<String>, AllocError>
         ensures value { IfOk result
             (λ value. optional_text value ≡ optional_of (left_in self.old)) }

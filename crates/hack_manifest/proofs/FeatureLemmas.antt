@@ -1,4 +1,4 @@
--- The feature map that the members of a table are: each feature is put behind those before it.
+-- The feature map that the members of a table make: each feature is inserted after those before it.
 use Rattle.std.proofs.Common.{◌≡◌, List, [], ◌∷◌, ◌++◌, map, Option, Some, None, option_map, option_and_then, String, Vec, Global, Ordering, Less, Equal, Greater, string_bytes, string_cmp, refl, sym, ap, subst, ◌∙◌, append_assoc, append-nil}
 use Rattle.std.specs.BTreeMap.{BTreeMap, insert_entry}
 use Rattle.std.specs.List.{AllByRecursion}
@@ -16,7 +16,7 @@ use Rattle.hack_manifest.specs.Manifest.{by_bytes, texts_in, members_in}
 abbrev pub Entry : Type 0
 Entry = String Global × Value
 
--- what the feature map shows of the entries of a map
+-- the feature map that the entries of a map represent
 abbrev shown : {Y Z : Type 0} → List (String Y × Vec (String Y) Z) → FeatureMap
 shown es = map (λ e. (string_bytes e.0, names_of e.1.items)) es
 
@@ -29,7 +29,7 @@ shown-insert : {Y Z : Type 0} (es : List (String Y × Vec (String Y) Z)) (k : St
 shown-insert [] k v = refl
 shown-insert (e ∷ es) k v = shown-match (string_cmp k e.0) _ _ _ ∙ rw (shown-insert es k v)
 
--- a feature put into a map
+-- a feature inserted into a map
 pub put-shown : (m n : BTreeMap (String Global) (Vec (String Global) Global)) (k : String Global) (v : Vec (String Global) Global) (name : Name) (values : List Name)
     → n.entries ≡ insert_entry string_cmp m.entries k v → string_bytes k ≡ name → names_of v.items ≡ values → feature_map n ≡ insert_entry by_bytes (feature_map m) name values
 put-shown m n k v name values entries same seen =
@@ -40,7 +40,7 @@ below_middle : (first : Name) (ks : List Name) (k : Name) (more : List Name) →
 below_middle first [] k more h = h.0
 below_middle first (x ∷ ks) k more h = below_middle first ks k more h.1
 
--- a name above all others goes last
+-- a name above all others comes last
 insert-last : (m : FeatureMap) (name : Name) (values more : List Name) → IsStrictlySortedBy by_bytes (keys_of m ++ name ∷ more) → insert_entry by_bytes m name values ≡ m ++ (name, values) ∷ []
 unfolding IsStrictlySortedBy
 insert-last [] name values more h = refl
@@ -61,7 +61,7 @@ unfolding IsStrictlySortedBy
 sorted-names [] h = h
 sorted-names (e ∷ es) h = (below_all e.0 es h.0, sorted-names es h.1)
 
--- the map so far and what is left are the whole, in the order of names
+-- the map so far and the remaining entries are the whole, in the order of names
 pub record IsSoFar (whole : Option FeatureMap) (m : FeatureMap) (left : List Entry) : Type 0 where
   pub read : whole ≡ option_map (λ more. m ++ more) (members_in (members_view left))
   pub sorted : IsStrictlySortedBy by_bytes (keys_of m ++ names left)
@@ -78,7 +78,7 @@ none-first : (o : Option FeatureMap) → o ≡ option_map (λ more. [] ++ more) 
 none-first None = refl
 none-first (Some m) = refl
 
--- no feature is put yet
+-- no feature is inserted yet
 pub so_far-start : (m : BTreeMap (String Global) (Vec (String Global) Global)) (es left : List Entry) → m.entries ≡ [] → left ≡ es → IsStrictlySortedBy string_cmp (keys_of es)
     → IsSoFar (members_in (members_view es)) (feature_map m) left
 so_far-start m es left empty same h =

@@ -1,4 +1,4 @@
--- A front of a piece that is one bare name and `=`: with `0` behind it, it is read as a pair.
+-- A prefix of a piece that is one bare name and `=`: followed by `0`, it is read as a pair.
 use Rattle.std.proofs.Common.{◌≡◌, ℕ, suc, ◌+◌, ◌-◌, ◌<◌, ◌≤◌, Bool, true, false, cond, ◌&&◌, ◌==◌, List, [], ◌∷◌, ◌++◌, length, take, drop, Option, Some, None, is_some, unwrap_or, refl, sym, ap, ◌∙◌, inl, inr, arith, length-drop}
 use Rattle.std.proofs.lemmas.Bool.{cases_Bool}
 use Rattle.std.proofs.lemmas.Bool.Decides.{nat_tests}
@@ -13,11 +13,11 @@ use Rattle.hack_manifest.specs.Paths.{chain_at}
 use Rattle.hack_manifest.specs.Keys.{IsBareName}
 use Rattle.hack_manifest.proofs.PairLemmas.{zero-document}
 
--- with `0` behind a text
+-- a text followed by `0`
 abbrev zero_behind : List ℕ → List ℕ
 zero_behind text = text ++ 48 ∷ []
 
--- a run that ends within a text ends there still
+-- a run of bytes that ends within a text ends there in a longer text too
 run-grows : (p : ℕ → Bool) (text more : List ℕ) → 0 < length (drop (prefix_len p text) text) → prefix_len p (text ++ more) ≡ prefix_len p text
 run-grows p [] more some = absurd (omega (arith, some))
 run-grows p (c ∷ cs) more some =
@@ -90,7 +90,7 @@ name-grows text name is =
     let end : skip_ws (zero_behind back) ≡ 61 ∷ 48 ∷ [] = ws-grows back after ∙ ap zero_behind is.rest in
     rw (quote, bare, len, front, rest, end)
 
--- a front of one bare name
+-- a prefix with one bare name
 pub front-name : (piece s name : List ℕ) (n : ℕ) → 0 < n → n ≤ length piece → slice_index piece (n - 1) ≡ 61 → s ≡ skip_blank (skip_bom (take n piece)) → IsBareName s name
     → IsFrontTo 61 (48 ∷ []) piece n × (name ∷ [] ≡ chain_at (take n piece ++ 48 ∷ []))
 front-name piece s name n some within ends is bare =

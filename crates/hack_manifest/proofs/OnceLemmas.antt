@@ -1,4 +1,5 @@
--- A text is cut in one way, and its pieces make it. So a manifest is read in one way.
+-- A text is cut in only one way, and its pieces joined are the text. So a manifest is read in only
+-- one way.
 use Rattle.std.proofs.Common.{◌≡◌, ◌⊎◌, ℕ, ◌<◌, List, [], ◌∷◌, ◌++◌, length, map, take, drop, refl, sym, ap, subst, ◌∙◌, inl, inr, arith, append_assoc}
 use Rattle.std.proofs.lemmas.Bool.{cases_Bool}
 use Rattle.std.proofs.lemmas.List.{take_at, drop_at}
@@ -21,7 +22,7 @@ joined-cut text tail ps cut = joined-text ps tail text cut.texts
 compare_cases : (m n : ℕ) → (m < n) ⊎ ((m ≡ n) ⊎ (n < m))
 compare_cases m n = grind arith
 
--- two first runs are one
+-- there is only one first run
 run_once : (text : List ℕ) (m n : ℕ) → IsFirstRun text m → IsFirstRun text n → m ≡ n
 run_once text m n a b =
     elim (compare_cases m n) [
@@ -30,7 +31,7 @@ run_once text m n a b =
       | inr (inr above) ↦ absurd (a.shortest n above b.run)
     ]
 
--- two first fronts are one
+-- there is only one first prefix
 front_once : (byte : ℕ) (more piece : List ℕ) (m n : ℕ) → IsFirstFrontTo byte more piece m → IsFirstFrontTo byte more piece n → m ≡ n
 front_once byte more piece m n a b =
     elim (compare_cases m n) [
@@ -51,7 +52,7 @@ texts_once (p ∷ ps) (q ∷ qs) s t text (r, pw, pf, pm) (u, qw, qf, qm) =
     let rest = texts_once ps qs s t u (subst P back pm) qm in
     (ap (λ x. x ∷ ps) front ∙ ap (λ xs. q ∷ xs) rest.0, rest.1)
 
--- a piece has one own key
+-- a piece has only one own key
 pub own-once : (piece : List ℕ) (k l : List Name) → IsOwnKey piece k → IsOwnKey piece l → k ≡ l
 own-once piece k l (at_front n f is) (at_front m g also) =
     is ∙ ap (λ n. chain_at (take n piece ++ 48 ∷ [])) (front_once 61 (48 ∷ []) piece n m f g) ∙ sym also
@@ -86,13 +87,13 @@ paths_once header (p ∷ ps) (q ∷ qs) same a b =
     let Q : View → Type 0 = λ v. HavePaths (next_header header v) qs in
     ap (λ v. v ∷ ps) here ∙ ap (λ vs. q ∷ vs) (paths_once (next_header header p) ps qs texts a.1 (subst Q (sym here) b.1))
 
--- a text is cut in one way
+-- a text is cut in only one way
 pub cut-once : (text s t : List ℕ) (ps qs : List View) → AreCut text ps s → AreCut text qs t → (ps ≡ qs) × (s ≡ t)
 cut-once text s t ps qs a b =
     let same = texts_once (map (λ p. p.text) ps) (map (λ p. p.text) qs) s t text a.texts b.texts in
     (paths_once [] ps qs same.0 a.paths b.paths, same.1)
 
--- a manifest is read in one way
+-- a manifest is read in only one way
 pub read-once : (text : List ℕ) (minor : ℕ) (read other : Reading Facts) → IsReadAs text minor read → IsReadAs text minor other → read ≡ other
 read-once text minor read other a b =
     let trees : a.tree ≡ b.tree = same_Some _ _ (sym a.parsed ∙ b.parsed) in

@@ -1,4 +1,4 @@
--- A document of one pair, and a key with `=` and a number behind it.
+-- A document of one pair, and a key followed by `=` and a number.
 use Rattle.std.proofs.Common.{◌≡◌, ℕ, suc, ◌-◌, ◌<◌, ◌≤◌, true, false, cond, ◌&&◌, ◌||◌, ◌==◌, List, [], ◌∷◌, ◌++◌, pos, length, drop, get_or, Option, Some, None, option_map, option_and_then, refl, sym, ap, ◌∙◌, inl, inr, arith, length-drop}
 use Rattle.std.specs.Option.{IfSome}
 use Rattle.std.proofs.lemmas.Bool.{cases_Bool, false≢true, and_parts}
@@ -19,11 +19,11 @@ use Rattle.hack_manifest.specs.Runs.{has_keys, stands}
 use Rattle.hack_manifest.specs.Paths.{chain, chain_of, chain_at}
 use Rattle.hack_manifest.specs.Keys.{rest_of, IsBehindItems, is_over}
 
--- nodes that a path leads through to data
+-- nodes in which a path leads to data
 abbrev pub LeadsTo : Nodes → List Name → Name → Data → Type 0
 LeadsTo ns path last d = chain (close ns) ≡ path ++ last ∷ chain_of d
 
--- what a pair puts into an empty table
+-- the result of putting a pair into an empty table
 pub put-fresh : (path : List Name) (last : Name) (d : Data) → (ns : Nodes) × (along_dots path (at_key last (key_value d)) no_nodes ≡ Some ns) × LeadsTo ns path last d
 unfolding along_dots at_key
 put-fresh [] last d = (node last (value d) no_nodes, refl, refl)
@@ -91,7 +91,7 @@ has_keys-chain no_members k [] more h = cc
 has_keys-chain no_members k (p ∷ path) more h = cc
 has_keys-chain (member l d ms) k path more h = refl
 
--- what has a rest was read
+-- a reading that has a rest succeeded
 pub read-rest : {A : Type 0} (r : Read A) (rest : List ℕ) → rest_of r ≡ Some rest → (x : A) × (r ≡ Some (x, rest))
 read-rest None rest h = absurd (none-some rest h)
 read-rest (Some p) rest h = (p.0, ap (λ t. Some (p.0, t)) (same_Some p.1 rest h))
@@ -100,7 +100,7 @@ pub rest-map : {A B : Type 0} (f : A → B) (r : Read A) → rest_of (option_map
 rest-map f None = refl
 rest-map f (Some p) = refl
 
--- the items of a text go on at a rest of it
+-- reading the items of a text continues at a rest of it
 abbrev pub HasPassed : (List ℕ → Read Data) → List ℕ → List ℕ → Type 0
 HasPassed val text rest =
     (n : ℕ) → length text < n → (found : Items) → (m : ℕ) × (more : Items) × (length rest < m) × (rest_of (items val n found text) ≡ rest_of (items val m more rest))
@@ -125,7 +125,7 @@ passed-array depth text rest a h some =
     ap rest_of (val_array depth text a) ∙ rest-map array (items (val depth) (length text) no_items (drop 1 text))
     ∙ h (length text) (omega (arith, length-drop 1 text)) no_items
 
--- a plain pair stands
+-- a plain pair parses alone
 pub plain-stands : (text at_value rest : List ℕ) → rest_of (key_equals (skip_blank (skip_bom text))) ≡ Some at_value → rest_of (val 80 at_value) ≡ Some rest → is_over rest ≡ true → stands text ≡ true
 plain-stands text at_value rest front back over =
     let (k, named) = read-rest (key_equals (skip_blank (skip_bom text))) at_value front in
@@ -155,7 +155,7 @@ zero-behind : (text : List ℕ) (k : Key) → key text ≡ Some (k, 61 ∷ 48 �
 unfolding key_equals skip_ws
 zero-behind text k h = rw h
 
--- a key with `=0` stands, and its names are the chain of its tree
+-- a key followed by `=0` parses alone, and its names are the chain of its tree
 pub zero-document : (text : List ℕ) (k : Key) → key (skip_blank (skip_bom text)) ≡ Some (k, 61 ∷ 48 ∷ []) → (stands text ≡ true) × (k.0 ++ k.1 ∷ [] ≡ chain_at text)
 zero-document text k h =
     let (ms, whole, leads) = pair-document text (48 ∷ []) [] k (integer (pos 0)) (zero-behind _ k h) zero-read zero-over in
@@ -178,7 +178,7 @@ plain-one q inside rest quote is closing some =
     let closed : (first (split_while (is_plain q false) inside).1 == q) ≡ true = rw (← is) closing in
     rw (quote, some, read, closed, is)
 
--- a text on one line without escapes
+-- a string on one line without escapes
 pub plain-text : (text rest : List ℕ) → starts_string text ≡ true → rest ≡ (split_while (is_plain (first text) false) (drop 1 text)).1 → (first rest == first text) ≡ true → (first (drop 1 text) == first text) ≡ false
     → rest_of (atom text) ≡ Some (drop 1 rest)
 plain-text [] rest quote is closing some = absurd (false≢true quote)

@@ -1,4 +1,4 @@
--- A text that stands leads to a place where a document may end.
+-- The scanner ends a text that parses alone in a state where a document may end.
 use Rattle.std.proofs.Common.{◌≡◌, ℕ, zero, suc, ◌+◌, ◌-◌, ◌<◌, Bool, true, false, cond, ◌&&◌, ◌||◌, ◌==◌, ◌⊎◌, List, [], ◌∷◌, ◌++◌, length, take, drop, get_or, Option, Some, None, option_map, option_and_then, refl, sym, ap, ◌∙◌, subst, inl, inr, arith, get_or-drop}
 use Rattle.std.specs.Prelude.{nat_lt}
 use Rattle.std.proofs.lemmas.Bool.{cases_Bool, cases_lt, false≢true, true≢false}
@@ -50,7 +50,7 @@ double-leads text e rest one two h =
     (leads-then (Plain 1) (Plain 2) (Plain 0) (drop 1 text) (drop 2 text) rest both
     (leads-then (Plain 2) (Plain 1) (Plain 0) (drop 2 text) k.1 rest (header-leads 1 (drop 2 text) k.0 k.1 read) back))
 
--- a header or a pair, which doesn't begin in a stuck text
+-- a header or a pair, neither of which begins in a stuck text
 expression-leads : (text : List ℕ) (e : Expression) (rest : List ℕ) → expression text ≡ Some (e, rest) → Leads (Plain 0) text (Plain 0) rest × (is_stuck text ≡ false)
 unfolding expression
 expression-leads text e rest h =
@@ -78,7 +78,7 @@ line-expression text e h =
       | inr other ↦ absurd (none-some _ (rw other at more))
     ]
 
--- a document may end there
+-- a document may end after this text
 abbrev MayEnd : List ℕ → Type 0
 MayEnd text = may_stand (behind (Plain 0) text) ≡ true
 
@@ -109,7 +109,7 @@ lines-end (suc n) doc text last h =
           may-end text start (inl (blank-stays 0 text free)) (may-end start e.1 leads (lines-end n next e.1 last later))
     ]
 
--- a byte order mark leads nowhere else
+-- a byte order mark doesn't change the state
 bom-stays : (text : List ℕ) → behind (Plain 0) text ≡ behind (Plain 0) (skip_bom text)
 unfolding skip_bom
 bom-stays text =
@@ -131,7 +131,7 @@ keys-some : (o : Option Members) → has_keys o ≡ true → (ms : Members) × (
 keys-some None h = absurd (false≢true h)
 keys-some (Some ms) h = (ms, refl)
 
--- a text that stands leads to where a document may end
+-- after a text that parses alone a document may end
 stands-ends : (text : List ℕ) → stands text ≡ true → MayEnd text
 unfolding parse_document
 stands-ends text h =
@@ -139,7 +139,7 @@ stands-ends text h =
     let (doc, read, made) = map-some (λ (doc : Document). close doc.0) (lines (suc (length text)) (no_nodes, []) (skip_bom text)) ms is in
     may-end text (skip_bom text) (inl (bom-stays text)) (lines-end (suc (length text)) (no_nodes, []) (skip_bom text) doc read)
 
--- where no document may end, none stands
+-- where no document may end after a text, it doesn't parse alone
 ends-not : (text : List ℕ) → may_stand (behind (Plain 0) text) ≡ false → stands text ≡ false
 ends-not text h =
     elim (cases_Bool (stands text)) [
@@ -147,7 +147,7 @@ ends-not text h =
       | inr none ↦ none
     ]
 
--- ---- blank lines and comments at the front
+-- ---- blank lines and comments at the start
 
 abbrev is_idle : Place → Bool
 is_idle Start = true
@@ -185,7 +185,7 @@ busy-stays : (p : Place) (text : List ℕ) → is_idle p ≡ false → is_idle (
 busy-stays p [] h = h
 busy-stays p (c ∷ cs) h = busy-stays (step p c) cs (busy-step p c h)
 
--- the front leads where it led, or nowhere yet
+-- the scanner ends as if it started in plain text, or is still idle
 same-or-idle : (inside : Bool) (text : List ℕ) → (behind (idle_place inside) text ≡ behind (at_place inside 0) text) ⊎ (is_idle (behind (idle_place inside) text) ≡ true)
 same-or-idle false [] = inr refl
 same-or-idle true [] = inr refl
@@ -210,7 +210,7 @@ same-or-idle true (c ∷ cs) =
       | inr more ↦ rw more (same-or-idle true cs)
     ]
 
--- a byte that stops the front, and leads nowhere yet
+-- a text that begins with another byte, and leaves the scanner idle, is stuck
 idle-stop : (c : ℕ) (cs : List ℕ) → (c == 35) ≡ false → is_ws c ≡ false → is_idle (behind (start_step c) cs) ≡ true → is_stuck (c ∷ cs) ≡ true
 idle-stop c cs other text h =
     elim (cases_Bool (c == 10 || c == 13)) [
@@ -222,7 +222,7 @@ idle-stop c cs other text h =
           absurd (true≢false (sym idle ∙ busy-stays (plain_step 0 c) cs (busy-plain 0 c)))
     ]
 
--- behind blank lines and comments alone nothing begins
+-- after blank lines and comments only, nothing begins
 idle-skips : (inside : Bool) (text : List ℕ) → is_idle (behind (idle_place inside) text) ≡ true → is_stuck (skip_from true inside text) ≡ true
 unfolding skip_from
 idle-skips false [] h = refl
@@ -264,7 +264,7 @@ idle-skips true (c ∷ cs) h =
           ]
     ]
 
--- after an idle front nothing was defined
+-- after an idle text nothing is defined
 lines-idle : (n : ℕ) (doc : Document) (text : List ℕ) (last : Document) → is_stuck (skip_blank text) ≡ true → lines n doc text ≡ Some last → doc ≡ last
 unfolding lines
 lines-idle zero doc text last stuck h = absurd (none-some _ h)
@@ -306,7 +306,7 @@ idle-not text h =
       | inr none ↦ none
     ]
 
--- where no document may end, from the start, none stands
+-- where no document may end after scanning from the start, the text doesn't parse alone
 pub stands-not : (text : List ℕ) → may_stand (behind Start text) ≡ false → stands text ≡ false
 stands-not text h =
     elim (same-or-idle false text) [
@@ -318,7 +318,7 @@ behind-last : (p : Place) (text : List ℕ) (c : ℕ) → behind p (text ++ c �
 behind-last p [] c = refl
 behind-last p (d ∷ text) c = behind-last (step p d) text c
 
--- the place behind one more byte of a text
+-- the state after one more byte of a text
 pub behind-take : (p : Place) (text : List ℕ) (i : ℕ) → i < length text → behind p (take (i + 1) text) ≡ step (behind p (take i text)) (get_or text i 0)
 behind-take p text i within =
     let next : i + 1 ≡ suc i = omega arith in

@@ -1,4 +1,4 @@
--- Runs of whole lines, and what a table that was read says of its text.
+-- Runs of whole lines, and what the table that was read from a text implies.
 use Rattle.std.proofs.Common.{◌≡◌, ℕ, ◌+◌, ◌-◌, ◌<◌, ◌≤◌, List, [], ◌∷◌, ◌++◌, length, map, take, drop, get_or, Bool, true, false, not, Some, Option, None, String, Global, IsTrue, sym, refl, ap, subst, inl, inr, arith}
 use Rattle.std.specs.Prelude.{IsUtf8, ◌↔◌}
 use Rattle.std.specs.Str.{IsCharBoundary}
@@ -14,14 +14,14 @@ use Rattle.hack_manifest.specs.Paths.{chain_of_tree, IsPath, View, HavePaths, ne
 abbrev pub Entry : Type 0
 Entry = String Global × Value
 
--- a text may be cut behind an ASCII byte
+-- a text may be split after an ASCII byte
 pub IsCharBoundary-behind : (text : List ℕ) (n : ℕ) → IsUtf8 text → 0 < n → n ≤ length text → get_or text (n - 1) 0 < 128 → IsCharBoundary text n
 IsCharBoundary-behind text n utf8 some within ascii =
     let same : (n - 1) + 1 ≡ n = omega arith in
     let P : ℕ → Type 0 = λ k. IsCharBoundary text k in
     subst P same (IsCharBoundary-after_ascii text (n - 1) utf8 (omega arith) ascii)
 
--- a text may be cut behind whole lines
+-- a text may be split after whole lines
 pub IsCharBoundary-lines : (text : List ℕ) (n : ℕ) → IsUtf8 text → IsLines text n → IsCharBoundary text n
 IsCharBoundary-lines text n utf8 lines =
     elim lines.ends as (λ _. IsCharBoundary text n) [
@@ -36,7 +36,7 @@ has_keys-table [] false h = absurd (cc (h.1 refl))
 has_keys-table (e ∷ es) true h = absurd (omega (arith, h.0 refl))
 has_keys-table (e ∷ es) false h = refl
 
--- the header's path behind some pieces
+-- the header's path after some pieces
 abbrev pub last_header : List Name → List View → List Name
 last_header header [] = header
 last_header header (p ∷ ps) = last_header (next_header header p) ps
@@ -47,7 +47,7 @@ chain-no_keys None h = refl
 chain-no_keys (Some no_members) h = refl
 chain-no_keys (Some (member k d ms)) h = cc
 
--- one more piece behind pieces with their paths
+-- one more piece after pieces with their paths
 pub HavePaths-last : (header : List (List ℕ)) (ps : List View) (p : View) → HavePaths header ps → IsPath (last_header header ps) p.text p.path → HavePaths header (ps ++ p ∷ [])
 HavePaths-last header [] p h here = (here, tt)
 HavePaths-last header (q ∷ ps) p h here = (h.0, HavePaths-last (next_header header q) ps p h.1 here)
@@ -60,7 +60,7 @@ joined : (ps : List View) (p : View) (more : List (List ℕ)) → map (λ p. p.t
 joined [] p more = refl
 joined (q ∷ ps) p more = ap (λ t. q.text ∷ t) (joined ps p more)
 
--- a run taken off the rest goes behind the pieces found
+-- a run that was split off the rest is appended to the pieces found
 pub texts-last : (text rest : List ℕ) (ps : List View) (p : View) (n : ℕ) → IsFirstRun rest n → p.text ≡ take n rest
     → ((more : List (List ℕ)) (tail : List ℕ) → IsCutInto more tail rest → IsCutInto (map (λ p. p.text) ps ++ more) tail text)
     → (more : List (List ℕ)) (tail : List ℕ) → IsCutInto more tail (drop n rest) → IsCutInto (map (λ p. p.text) (ps ++ p ∷ []) ++ more) tail text

@@ -1,4 +1,5 @@
--- As `toml` goes over blanks, texts, words and keys, the place at the end stays the one that the rest leads to.
+-- While `toml` reads blanks, strings, words and keys, the scanner's final state stays that of
+-- scanning the rest.
 use Rattle.std.proofs.Common.{◌≡◌, ℕ, zero, suc, ◌+◌, ◌-◌, Bool, true, false, not, cond, ◌&&◌, ◌||◌, ◌==◌, ◌⊎◌, List, [], ◌∷◌, ◌++◌, length, take, drop, get_or, Option, Some, None, option_map, option_and_then, refl, sym, ap, ◌∙◌, subst, inl, inr, arith, add-zero, get_or-drop}
 use Rattle.std.specs.Prelude.{nat_lt, nat_le}
 use Rattle.std.proofs.lemmas.Bool.{cases_Bool, false≢true, true≢false, and_parts}
@@ -17,7 +18,7 @@ use Rattle.hack_manifest.specs.declared.places.Place.TheVariants.{Plain, Comment
 use Rattle.hack_manifest.specs.Keys.{rest_of}
 use Rattle.hack_manifest.specs.Places.{plain_step, step, behind}
 
--- the text leads from the one place where the rest leads from the other, or the way is lost
+-- scanning the text from p ends in the same state as scanning the rest from q, or in the state Lost
 abbrev pub Leads : Place → List ℕ → Place → List ℕ → Type 0
 Leads p text q rest = (behind p text ≡ behind q rest) ⊎ (behind p text ≡ Lost)
 
@@ -30,7 +31,7 @@ leads-then p q r a b c (inl one) (inl two) = inl (one ∙ two)
 leads-then p q r a b c (inl one) (inr two) = inr (one ∙ two)
 leads-then p q r a b c (inr one) two = inr one
 
--- a byte that is no quote, no bracket and begins no comment
+-- a byte that is no quote and no bracket, and begins no comment
 abbrev pub is_calm : ℕ → Bool
 is_calm c = not ((c == 34 || c == 39) || c == 35) && not ((c == 91 || c == 123) || (c == 93 || c == 125))
 
@@ -66,12 +67,12 @@ pub ws-stays : (d : ℕ) (text : List ℕ) → behind (Plain d) text ≡ behind 
 unfolding skip_ws
 ws-stays d text = run-stays is_ws ws-calm d text
 
--- a calm byte goes
+-- a calm byte is read
 pub calm-drop : (d : ℕ) (text : List ℕ) → is_calm (first text) ≡ true → behind (Plain d) text ≡ behind (Plain d) (drop 1 text)
 calm-drop d [] calm = refl
 calm-drop d (c ∷ cs) calm = rw (calm-step d c calm)
 
--- a closing bracket goes
+-- a closing bracket is read
 pub close-drop : (d : ℕ) (text : List ℕ) → (first text == 93 || first text == 125) ≡ true → behind (Plain (d + 1)) text ≡ behind (Plain d) (drop 1 text)
 close-drop d [] h = absurd (false≢true h)
 close-drop d (c ∷ cs) h =
@@ -88,7 +89,8 @@ is_stuck text = nat_lt (first text) 32 || first text == 127
 abbrev pub at_place : Bool → ℕ → Place
 at_place inside d = cond inside (Comment d) (Plain d)
 
--- blank lines and comments lead to the rest, or into a comment in which the rest is stuck
+-- after blank lines and comments comes the rest, or they end in a comment in which the rest is
+-- stuck
 abbrev pub Skips : ℕ → Bool → List ℕ → List ℕ → Type 0
 Skips d inside text rest =
     (behind (at_place inside d) text ≡ behind (Plain d) rest) ⊎ ((behind (at_place inside d) text ≡ behind (Comment d) rest) × (is_stuck rest ≡ true))
@@ -139,7 +141,7 @@ blank-stays d text free =
       | inr (same, stuck) ↦ absurd (true≢false (sym stuck ∙ free))
     ]
 
--- what was read behind a front
+-- what was read after a prefix
 pub prepend-rest : (front : List ℕ) (r : Read (List ℕ)) (x rest : List ℕ) → prepend front r ≡ Some (x, rest) → (y : List ℕ) × (r ≡ Some (y, rest))
 prepend-rest front None x rest h = absurd (none-some _ h)
 prepend-rest front (Some p) x rest h = (p.0, ap (λ (t : List ℕ × List ℕ). Some (p.0, t.1)) (same_Some (front ++ p.0, p.1) (x, rest) h))
@@ -158,7 +160,7 @@ body-none q (suc n) quote =
     let other : (0 == q) ≡ false = grind (arith, nat_tests) in
     rw (plain, other)
 
--- hex digits within a text
+-- hex digits within a string
 pub digits-stay : (q d n : ℕ) (text : List ℕ) → is_quote q ≡ true → list_all (λ c. is_digit c 16) (take n text) ≡ true → behind (Text q d) text ≡ behind (Text q d) (drop n text)
 digits-stay q d zero text quote all = refl
 digits-stay q d (suc n) [] quote all = refl
@@ -168,7 +170,7 @@ digits-stay q d (suc n) (c ∷ cs) quote all =
     let backslash : (c == 92) ≡ false = grind (arith, nat_tests) in
     rw (other, backslash) (digits-stay q d n cs quote more)
 
--- what stands behind a backslash
+-- what follows a backslash
 pub escape-leads : (q d : ℕ) (text : List ℕ) (e : ℕ) (rest : List ℕ) → is_quote q ≡ true → escape_char text ≡ Some (e, rest) → behind (Escaped q d) text ≡ behind (Text q d) rest
 unfolding escape_char hex_escape
 escape-leads q d [] e rest quote h = absurd (none-some _ h)
@@ -195,7 +197,7 @@ escape-leads q d (c ∷ cs) e rest quote h =
     from-letter None h = absurd (none-some _ h)
     from-letter (Some x) h = ap (behind (Text q d)) (rest-same (x, cs) (e, rest) h)
 
--- the rest of a text on one line leads out of it
+-- the rest of a string on one line leads out of it
 abbrev pub LeadsOut : ℕ → ℕ → ℕ → List ℕ → Type 0
 LeadsOut q d n rest = (text y : List ℕ) → body q false n text ≡ Some (y, rest) → behind (Text q d) text ≡ behind (Plain d) rest
 
@@ -223,7 +225,7 @@ at-mark q d n c cs x rest quote out marked h =
           ]
     ]
 
--- a text on one line, behind its opening quote
+-- a string on one line, after its opening quote
 pub in-text : (q d n : ℕ) (text x rest : List ℕ) → is_quote q ≡ true → body q false n text ≡ Some (x, rest) → behind (Text q d) text ≡ behind (Plain d) rest
 unfolding body
 in-text q d zero text x rest quote h = absurd (none-some _ h)
@@ -238,7 +240,7 @@ in-text q d (suc n) (c ∷ cs) x rest quote h =
       | inr marked ↦ at-mark q d n c cs x rest quote (λ text y more. in-text q d n text y rest quote more) marked (rw marked at h)
     ]
 
--- behind an opening quote
+-- after an opening quote
 pub opened : (q d c : ℕ) (cs : List ℕ) → (behind (Opened q d) (c ∷ cs) ≡ behind (Text q d) (c ∷ cs)) ⊎ (behind (Opened q d) (c ∷ cs) ≡ Lost)
 opened q d c cs =
     elim (cases_Bool (c == q)) [

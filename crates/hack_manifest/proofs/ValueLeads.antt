@@ -1,4 +1,4 @@
--- As `toml` goes over a value, the place at the end stays the one that the rest leads to.
+-- While `toml` reads a value, the scanner's final state stays that of scanning the rest.
 use Rattle.std.proofs.Common.{◌≡◌, ℕ, zero, suc, ◌+◌, true, false, ◌||◌, ◌==◌, List, [], ◌∷◌, length, drop, Option, Some, None, option_map, option_and_then, refl, sym, ap, ◌∙◌, inl, inr, arith}
 use Rattle.std.specs.Prelude.{nat_lt}
 use Rattle.std.proofs.lemmas.Bool.{cases_Bool, false≢true}
@@ -16,7 +16,7 @@ use Rattle.hack_manifest.specs.Keys.{rest_of}
 use Rattle.hack_manifest.specs.Places.{behind}
 use Rattle.hack_manifest.proofs.TextLeads.{Leads, lost, leads-then, is_calm, ws-stays, calm-drop, close-drop, is_stuck, blank-stays, rest-same, quoted-leads, unquoted-leads, key-leads}
 
--- the parts of what was read in turn
+-- two readings in succession
 pub and-then : {A B : Type 0} (o : Option A) (f : A → Option B) (y : B) → option_and_then f o ≡ Some y → (x : A) × (o ≡ Some x) × (f x ≡ Some y)
 and-then None f y h = absurd (none-some _ h)
 and-then (Some x) f y h = (x, refl, h)
@@ -25,7 +25,7 @@ pub map-some : {A B : Type 0} (f : A → B) (o : Option A) (y : B) → option_ma
 map-some f None y h = absurd (none-some _ h)
 map-some f (Some x) y h = (x, refl, same_Some (f x) y h)
 
--- what a map over a value leaves of the rest
+-- a map over a value that was read keeps the rest
 pub read_map-rest : {A B : Type 0} (f : A → B) (r : Read A) (y : B) (rest : List ℕ) → read_map f r ≡ Some (y, rest) → (x : A) × (r ≡ Some (x, rest))
 read_map-rest f None y rest h = absurd (none-some _ h)
 read_map-rest {B = B} f (Some p) y rest h = (p.0, ap (λ (t : List ℕ). Some (p.0, t)) (rest-same (f p.0, p.1) (y, rest) h))
@@ -68,7 +68,7 @@ key_equals-free text k rest h =
     let (l, read, more) = and-then (key text) (λ l. option_map (λ t. (l.0, skip_ws t)) (after_byte 61 l.1)) (k, rest) h in
     key-free text l.0 l.1 read
 
--- a text or a word
+-- a string, a boolean, a number or a date
 pub atom-leads : (d : ℕ) (text : List ℕ) (x : Data) (rest : List ℕ) → atom text ≡ Some (x, rest) → Leads (Plain d) text (Plain d) rest
 unfolding atom
 atom-leads d text x rest h =
@@ -116,7 +116,7 @@ val-free depth text x rest h =
       | inr free ↦ free
     ]
 
--- an opening bracket goes
+-- an opening bracket is read
 pub open-drop : (d : ℕ) (text : List ℕ) → (first text == 91 || first text == 123) ≡ true → Leads (Plain d) text (Plain (d + 1)) (drop 1 text)
 open-drop d [] h = absurd (false≢true h)
 open-drop d (c ∷ cs) h =
@@ -146,7 +146,7 @@ after-leads d closing text next bracket h =
           ]
     ]
 
--- what a reader of values leads to, and where it doesn't begin
+-- how a reader of values changes the state, and where no value begins
 abbrev pub LeadsAll : (List ℕ → Read Data) → Type 0
 LeadsAll val = (d : ℕ) (text : List ℕ) (x : Data) (rest : List ℕ) → val text ≡ Some (x, rest) → Leads (Plain d) text (Plain d) rest
 

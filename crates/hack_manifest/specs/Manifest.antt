@@ -1,4 +1,5 @@
--- What a manifest says of its package and its features, or the name of the first field that can't be read.
+-- What a manifest says about its package and its features, or the name of the first field that
+-- can't be read.
 use Rattle.std.specs.Prelude.{◌≡◌, codes, ℕ, Bool, true, false, not, ◌&&◌, nat_lt, if◌then◌else◌, List, [], ◌∷◌, Option, Some, None, Result, Ok, Err, option_map, option_and_then}
 use Rattle.std.specs.List.{list_any}
 use Rattle.std.specs.Option.{ok_or}
@@ -35,22 +36,23 @@ abbrev pub Reading : Type 0 → Type 0
 Reading A = Result A Name
 
 infixl 10 ◌>>=◌
--- the second part is read where the first one is: so the first fault counts
+-- the second part is read only where the first one could be: so the first error counts
 abbrev pub ◌>>=◌ : {A B : Type 0} → Reading A → (A → Reading B) → Reading B
 (Ok x) >>= f = f x
 (Err name) >>= f = Err name
 
--- the path is this one name
+-- the path is just this one name
 abbrev pub is_just : Name → List Name → Bool
 is_just name [] = false
 is_just name (x ∷ []) = bytes_eq x name
 is_just name (x ∷ y ∷ more) = false
 
--- the piece is a key of just this name with its value, and no header
+-- the piece is a key of just this name with its value, not a header
 abbrev pub is_value_of : Name → View → Bool
 is_value_of name p = is_just name p.path && not (is_header p.text)
 
--- some piece is: a table of this name is then written inline, and neither under headers nor by dotted keys
+-- some piece is: then a table of this name is written inline, and neither under headers nor by
+-- dotted keys
 abbrev pub is_inline : Name → List View → Bool
 is_inline name ps = list_any (is_value_of name) ps
 
@@ -62,52 +64,53 @@ table_at key ms = option_and_then as_table (get_member key ms)
 abbrev pub package_in : Bool → Members → Reading Members
 package_in inline tree = if inline then Err package_key else ok_or (table_at package_key tree) package_key
 
--- whether a package may be published: absent is yes, an array is yes where it isn't empty
+-- whether a package may be published: it may without the field, and with an array that isn't empty
 abbrev pub publish_from : Option Data → Reading (Option Bool)
 publish_from None = Ok (Some true)
 publish_from (Some (boolean b)) = Ok (Some b)
 publish_from (Some (array ds)) = Ok (Some (has_items ds))
 publish_from (Some _) = Err publish_key
 
--- read below cargo 1.39 alone, whose metadata don't say it
+-- read only below cargo 1.39, whose metadata don't contain it
 abbrev pub publish_at : ℕ → Members → Reading (Option Bool)
 publish_at minor ms = if nat_lt minor 39 then publish_from (get_member publish_key ms) else Ok None
 
--- the package's own `rust-version`, a text or absent
+-- the package's own `rust-version`, a string or absent
 abbrev pub rust_version_from : Option Data → Reading (Option (Option Name))
 rust_version_from None = Ok (Some None)
 rust_version_from (Some (string text)) = Ok (Some (Some text))
 rust_version_from (Some _) = Err rust_version_key
 
--- read below cargo 1.58 alone
+-- read only below cargo 1.58
 abbrev pub rust_version_at : ℕ → Members → Reading (Option (Option Name))
 rust_version_at minor ms = if nat_lt minor 58 then rust_version_from (get_member rust_version_key ms) else Ok None
 
--- what a package's table says
+-- what the table `package` says
 pub record PackageFacts : Type 0 where
   pub publish : Option Bool
   pub rust_version : Option (Option Name)
 
--- both fields, or the first faulty one
+-- both fields, or the first one that can't be read
 abbrev pub package_facts : ℕ → Members → Reading PackageFacts
 package_facts minor ms =
     publish_at minor ms >>= λ publish.
     rust_version_at minor ms >>= λ rust_version.
     Ok (record { publish = publish; rust_version = rust_version })
 
--- the texts among items
+-- the strings among items
 abbrev pub texts_in : Items → List Name
 texts_in no_items = []
 texts_in (item (string text) ds) = text ∷ texts_in ds
 texts_in (item _ ds) = texts_in ds
 
--- the members as a feature map: each is a feature with the texts of its array; none where one is no array
+-- the members as a feature map: each is a feature with the strings of its array; none where one is
+-- no array
 abbrev pub members_in : Members → Option FeatureMap
 members_in no_members = Some []
 members_in (member name d ms) =
     option_and_then (λ ds. option_map (λ more. (name, texts_in ds) ∷ more) (members_in ms)) (as_array d)
 
--- the feature map: empty where there are no `features`, which else must be a table that isn't inline
+-- the feature map: empty without `features`, which must be a table that isn't inline
 abbrev pub features_from : Bool → Option Data → Option FeatureMap
 features_from inline None = Some []
 features_from inline (Some d) = if inline then None else option_and_then members_in (as_table d)
@@ -116,12 +119,12 @@ features_from inline (Some d) = if inline then None else option_and_then members
 abbrev pub features_in : Bool → Members → Reading FeatureMap
 features_in inline tree = ok_or (features_from inline (get_member features_key tree)) features_key
 
--- what a manifest says
+-- the content of a manifest
 pub record Facts : Type 0 where
   pub of_package : PackageFacts
   pub features : FeatureMap
 
--- what a manifest of this tree and these pieces says, or its first faulty field
+-- the content of a manifest with this tree and these pieces, or its first field that can't be read
 abbrev pub read_manifest : ℕ → List View → Members → Reading Facts
 read_manifest minor ps tree =
     package_in (is_inline package_key ps) tree >>= λ ms.

@@ -7,7 +7,7 @@ use Rattle.hack_base.specs.Names.{Name}
 use Rattle.hack_manifest.specs.Runs.{IsCutInto}
 use Rattle.hack_manifest.specs.Fronts.{IsFirstFrontTo, HasNoFrontTo}
 
--- the names along a tree, by the first of each table
+-- the names along a tree, taking the first member of each table
 abbrev mutual
   pub chain_of : Data → List Name
   chain_of (table ms) = chain ms
@@ -17,7 +17,7 @@ abbrev mutual
   chain no_members = []
   chain (member k d ms) = k ∷ chain_of d
 
--- the chain of names in the tree of a text, if it was read
+-- the chain of names in the tree of a text, if there is a tree
 abbrev pub chain_of_tree : Option Members → List Name
 chain_of_tree None = []
 chain_of_tree (Some ms) = chain ms
@@ -30,26 +30,28 @@ chain_at text = chain_of_tree (parse_document text)
 abbrev pub is_header : List ℕ → Bool
 is_header piece = slice_index (skip_blank (skip_bom piece)) 0 == 91
 
--- the names before the shortest front that ends in `=` and stands with `0` behind it; none where there is none
+-- the names before the shortest prefix that ends in `=` and parses alone when followed by `0`;
+-- empty where there is none
 pub data IsOwnKey (piece : List ℕ) (key : List Name) : Type 0 where
   at_front : (n : ℕ) → IsFirstFrontTo 61 (48 ∷ []) piece n → key ≡ chain_at (take n piece ++ 48 ∷ []) → IsOwnKey piece key
   no_front : HasNoFrontTo 61 (48 ∷ []) piece → key ≡ [] → IsOwnKey piece key
 
--- a piece behind the last header's path has this path: a header has its own, a key is put behind the header's
+-- a piece after the last header's path has this path: a header has its own, a key is appended to
+-- the header's
 pub record IsPath (header : List Name) (piece : List ℕ) (path : List Name) : Type 0 where
   pub own : is_header piece ≡ true → path ≡ chain_at piece
   pub behind : is_header piece ≡ false → (key : List Name) × IsOwnKey piece key × (path ≡ header ++ key)
 
--- a piece without where it lies in memory
+-- a piece, wherever it lies in memory
 pub record View : Type 0 where
   pub text : List ℕ
   pub path : List Name
 
--- the header's path behind a piece
+-- the header's path after a piece
 abbrev pub next_header : List Name → View → List Name
 next_header header p = if is_header p.text then p.path else header
 
--- each piece has its path, behind the header's path
+-- each piece has its path, given the header's path before it
 abbrev pub HavePaths : List Name → List View → Type 0
 HavePaths header [] = Unit {0}
 HavePaths header (p ∷ ps) = IsPath header p.text p.path × HavePaths (next_header header p) ps
@@ -59,7 +61,7 @@ pub record AreCut (text : List ℕ) (pieces : List View) (tail : List ℕ) : Typ
   pub texts : IsCutInto (map (λ p. p.text) pieces) tail text
   pub paths : HavePaths [] pieces
 
--- the pieces, one behind the other
+-- the pieces, concatenated
 abbrev pub joined_pieces : List View → List ℕ
 joined_pieces [] = []
 joined_pieces (p ∷ ps) = p.text ++ joined_pieces ps

@@ -1,13 +1,14 @@
--- Where the bytes of a text lead to: how many brackets are open, and whether a comment or a text is.
+-- A scanner's state after the bytes of a text: how many brackets are open, and whether it is in a
+-- comment or a string.
 use Rattle.std.specs.Prelude.{ℕ, ◌+◌, ◌-◌, ◌==◌, ◌&&◌, ◌||◌, nat_lt, Bool, true, false, if◌then◌else◌, List, [], ◌∷◌}
 use Rattle.hack_manifest.specs.declared.places.Place.{Place}
 use Rattle.hack_manifest.specs.declared.places.Place.TheVariants.{Start, Remark, Plain, Comment, Opened, Text, Escaped, Lost}
 
--- behind an opening bracket
+-- the state after an opening bracket
 abbrev pub deeper : ℕ → Place
 deeper depth = if nat_lt depth 1000 then Plain (depth + 1) else Lost
 
--- behind a byte that is in no comment and no text
+-- the state after a byte that is in no comment and no string
 abbrev pub plain_step : ℕ → ℕ → Place
 plain_step depth c =
     if c == 34 || c == 39 then Opened c depth
@@ -16,26 +17,26 @@ plain_step depth c =
     else if c == 93 || c == 125 then Plain (depth - 1)
     else Plain depth
 
--- behind a byte before which there is nothing but blank lines and comments
+-- the state after a byte that only blank lines and comments precede
 abbrev pub start_step : ℕ → Place
 start_step c =
     if c == 35 then Remark
     else if (c == 10 || c == 13) || (c == 32 || c == 9) then Start
     else plain_step 0 c
 
--- behind a byte of a comment before which there is nothing else
+-- the state after a byte of a comment that only these precede
 abbrev pub remark_step : ℕ → Place
 remark_step c = if c == 10 || c == 13 then Start else Remark
 
--- behind a byte of a comment
+-- the state after a byte of a comment
 abbrev pub comment_step : ℕ → ℕ → Place
 comment_step depth c = if c == 10 || c == 13 then Plain depth else Comment depth
 
--- behind a byte of a text that isn't its closing quote
+-- the state after a byte of a string other than its closing quote
 abbrev pub text_step : ℕ → ℕ → ℕ → Place
 text_step quote depth c = if c == 92 && quote == 34 then Escaped quote depth else Text quote depth
 
--- behind one more byte
+-- the state after one more byte
 abbrev pub step : Place → ℕ → Place
 step Start c = start_step c
 step Remark c = remark_step c
@@ -46,12 +47,12 @@ step (Text quote depth) c = if c == quote then Plain depth else text_step quote 
 step (Escaped quote depth) c = Text quote depth
 step Lost c = Lost
 
--- behind these bytes
+-- the state after these bytes
 abbrev pub behind : Place → List ℕ → Place
 behind place [] = place
 behind place (c ∷ cs) = behind (step place c) cs
 
--- a document may end there
+-- a document may end in this state
 abbrev pub may_stand : Place → Bool
 may_stand (Plain depth) = depth == 0
 may_stand (Comment depth) = depth == 0

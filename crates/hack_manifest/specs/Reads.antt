@@ -1,4 +1,4 @@
--- What is read of a manifest as clauses see it, and its faults.
+-- What is read of a manifest as contracts see it, and its errors.
 use Rattle.std.specs.Prelude.{◌≡◌, ℕ, List, Option, None, option_map, Vec, String, Result, Ok, Err, string_bytes}
 use Rattle.std.specs.BTreeMap.{BTreeMap}
 use Rattle.std.specs.declared.alloc.Global.{Global}
@@ -29,40 +29,41 @@ facts_view r = record { of_package = package_view r.0; features = feature_map r.
 abbrev pub manifest_view : Manifest → Facts
 manifest_view m = record { of_package = package_view m.package; features = feature_map m.features }
 
--- a fault is what reading gives, unless memory ran out
+-- the error is that of the reading, unless memory ran out
 abbrev pub Fails : {Y : Type 0} → ReadFault → Reading Y → Type 0
 Fails parts.Memory read = Unit {0}
 Fails (parts.Field name) read = read ≡ Err name.now
 
--- what a function returned, seen by view, is what reading gives, unless memory ran out
+-- the result of a function, seen by `view`, is that of the reading, unless memory ran out
 abbrev pub Gives : {X Y : Type 0} → (X → Y) → Result X ReadFault → Reading Y → Type 0
 Gives view (Ok x) read = read ≡ Ok (view x)
 Gives view (Err e) read = Fails e read
 
--- what a function returned is what the text of a manifest is read as, unless memory ran out
+-- the result of a function is what the text of a manifest is read as, unless memory ran out
 abbrev pub Tells : List ℕ → ℕ → Result (Package × BTreeMap (String Global) (Vec (String Global) Global)) ReadFault → Type 0
 Tells text minor (Ok r) = IsReadAs text minor (Ok (facts_view r))
 Tells text minor (Err (parts.Field name)) = IsReadAs text minor (Err name.now)
 Tells text minor (Err parts.Memory) = Unit {0}
 
--- a manifest keeps its text, and says what the text is read as
+-- a manifest keeps its text, and holds what the text is read as
 pub record IsManifest (text : List ℕ) (minor : ℕ) (m : Manifest) : Type 0 where
   pub kept : string_bytes m.text ≡ text
   pub says : IsReadAs text minor (Ok (manifest_view m))
 
--- the fault of a text that is no TOML, or want of memory
+-- the error of a text that is no TOML, or out of memory
 abbrev pub IsTomlFault : List ℕ → ManifestFault → Type 0
 IsTomlFault path (faults.Toml p) = string_bytes p ≡ path
 IsTomlFault path (faults.Field name p) = ⊥
 IsTomlFault path faults.Memory = Unit {0}
 
--- the fault of this field, or want of memory
+-- the error of this field, or out of memory
 abbrev pub IsFieldFault : List ℕ → Name → ManifestFault → Type 0
 IsFieldFault path field (faults.Toml p) = ⊥
 IsFieldFault path field (faults.Field name p) = (name.now ≡ field) × (string_bytes p ≡ path)
 IsFieldFault path field faults.Memory = Unit {0}
 
--- why a manifest with this path and text is refused: it is no TOML, or the field is the first faulty one
+-- why a manifest with this path and text is refused: it is no TOML, or the field is the first that
+-- can't be read
 abbrev pub IsRefusal : List ℕ → List ℕ → ℕ → ManifestFault → Type 0
 IsRefusal path text minor (faults.Toml p) = (string_bytes p ≡ path) × (parse_document text ≡ None)
 IsRefusal path text minor (faults.Field name p) = (string_bytes p ≡ path) × IsReadAs text minor (Err name.now)

@@ -1,4 +1,4 @@
--- How a text is cut: runs of whole lines that `toml` reads.
+-- How a text is cut: into runs of whole lines that `toml` reads.
 use Rattle.std.specs.Prelude.{◌≡◌, ℕ, ◌-◌, ◌<◌, ◌≤◌, ◌⊎◌, Bool, true, false, List, [], ◌∷◌, ◌++◌, length, take, slice_index, Option, Some, None}
 use Rattle.toml.specs.Data.{Members, no_members, member}
 use Rattle.toml.specs.Parse.{parse_document}
@@ -9,31 +9,31 @@ has_keys None = false
 has_keys (Some no_members) = false
 has_keys (Some (member k d ms)) = true
 
--- `toml` reads the text by itself as a document with a nonempty tree
+-- the text parses alone: `toml` reads it as a document with a nonempty tree
 abbrev pub stands : List ℕ → Bool
 stands text = has_keys (parse_document text)
 
--- the first n bytes are whole lines, and not none
+-- the first n bytes are whole lines, at least one
 pub record IsLines (text : List ℕ) (n : ℕ) : Type 0 where
   pub some : 0 < n
   pub within : n ≤ length text
   pub ends : (n ≡ length text) ⊎ (slice_index text (n - 1) ≡ 10)
 
--- the first n bytes are whole lines that stand
+-- the first n bytes are whole lines that parse alone
 pub record IsRun (text : List ℕ) (n : ℕ) : Type 0 where
   pub lines : IsLines text n
   pub reads : stands (take n text) ≡ true
 
--- no run of whole lines at the front stands
+-- no run of whole lines at the start parses alone
 abbrev pub HasNoRun : List ℕ → Type 0
 HasNoRun text = (m : ℕ) → IsRun text m → ⊥
 
--- the first n bytes are the shortest run of whole lines that stands
+-- the first n bytes are the shortest run of whole lines that parses alone
 pub record IsFirstRun (text : List ℕ) (n : ℕ) : Type 0 where
   pub run : IsRun text n
   pub shortest : (m : ℕ) → m < n → IsRun text m → ⊥
 
--- the text is these pieces and this tail
+-- the text consists of these pieces and this tail
 abbrev pub IsCutInto : List (List ℕ) → List ℕ → List ℕ → Type 0
 IsCutInto [] tail text = (tail ≡ text) × HasNoRun text
 IsCutInto (piece ∷ pieces) tail text =

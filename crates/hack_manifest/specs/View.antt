@@ -1,4 +1,4 @@
--- Pieces as clauses see them.
+-- Pieces as contracts see them.
 use Rattle.std.specs.Prelude.{List, map}
 use Rattle.hack_base.specs.Names.{names_of}
 use Rattle.hack_manifest.specs.declared.pieces.Piece.{Piece}

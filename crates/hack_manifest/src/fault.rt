@@ -1,4 +1,4 @@
-//! Why a part of a manifest isn't read, without the manifest's path.
+//! Why a part of a manifest can't be read, without the manifest's path.
 
 ghost use Rattle.std.specs.Prelude.{◌≡◌};
 ghost use Rattle.hack_manifest.specs.declared.fault.ReadFault.TheVariants.{Memory};
@@ -8,7 +8,7 @@ use std::alloc::AllocError;
 #[derive(Drop)]
 pub enum ReadFault {
     Memory,
-    /// The name of a field that is missing or ill typed.
+    /// The name of a field that is missing or has the wrong type.
     Field(&'static str),
 }
 

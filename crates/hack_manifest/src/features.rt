@@ -15,7 +15,7 @@ use std::collections::BTreeMap;
 use toml::value::Array;
 use toml::{Table, Value};
 
-/// The texts of an array, in their order. What is no text doesn't count.
+/// The strings of an array, in order. Other values are ignored.
 fn texts_of(alloc: Global, array: &Array) -> Result<Vec<String>, AllocError>
     ensures { IfOk result (λ texts. names_of texts.items ≡ texts_in (array_view array.now)) }
 {
@@ -28,7 +28,7 @@ fn texts_of(alloc: Global, array: &Array) -> Result<Vec<String>, AllocError>
     Ok(texts)
 }
 
-/// Puts a feature with the texts of an array into a map.
+/// Inserts a feature with the strings of an array into a map.
 fn put(
     alloc: Global,
     map: &mut BTreeMap<String, Vec<String>>,
@@ -43,7 +43,7 @@ fn put(
     Ok(())
 }
 
-/// The feature map that a table is; none where a value is no array.
+/// The feature map that a table holds; none where a value is no array.
 fn map_of(alloc: Global, table: &Table) -> Result<Option<BTreeMap<String, Vec<String>>>, AllocError>
     ensures { IfOk result (λ found. members_in (table_view table.now)
         ≡ option_map feature_map found) }
@@ -58,8 +58,7 @@ fn map_of(alloc: Global, table: &Table) -> Result<Option<BTreeMap<String, Vec<St
     Ok(Some(map))
 }
 
-/// The features of a manifest: none where it has no `features`, which else must be a table that
-/// isn't inline.
+/// The features of a manifest: empty without `features`, which must be a table that isn't inline.
 pub fn features_of(
     alloc: Global,
     tree: &Table,

@@ -1,4 +1,5 @@
-//! Manifests: what they say of their package and features, and the pieces that they are cut into.
+//! Manifests: what they say about their package and features, and the pieces that they are cut
+//! into.
 #![tactic(auto)]
 
 mod fault;

@@ -1,4 +1,4 @@
-//! A package's manifest: its text, and what is read of its package and features.
+//! A package's manifest: its text, and what it says about its package and features.
 //! <https://doc.rust-lang.org/cargo/reference/manifest.html>
 
 ghost use Rattle.std.specs.Prelude.{◌≡◌, ℕ, List, Some, IfOk, IfErr, string_bytes};
@@ -25,19 +25,19 @@ use toml::Table;
 pub struct Manifest {
     /// The text that it was read from.
     pub text: String,
-    /// What it says of its package.
+    /// What it says about its package.
     pub package: Package,
     /// The features with their values.
     pub features: BTreeMap<String, Vec<String>>,
 }
 
-/// Why a manifest can't be read. Each has its path.
+/// Why a manifest can't be read. Each error has the manifest's path.
 #[derive(Debug, Drop, Error)]
 pub enum ManifestFault {
     /// The text is no TOML document.
     #[error("failed to parse manifest `{0}` as toml")]
     Toml(String),
-    /// The first field that is missing or ill typed.
+    /// The first field that is missing or has the wrong type.
     #[error("failed to parse `{0}` field from manifest `{1}`")]
     Field(&'static str, String),
     #[error("out of memory")]
@@ -55,8 +55,8 @@ impl From<AllocError> for ManifestFault {
 }
 
 impl Manifest {
-    /// Reads a manifest. The path stands in faults alone, and `cargo_version` is the minor version
-    /// of the cargo whose metadata are at hand: what they say is not read here.
+    /// Reads a manifest. The path appears only in errors. `cargo_version` is the minor version of
+    /// the cargo that reported the metadata: fields that these contain are not read here.
     pub fn new(
         alloc: Global,
         path: &str,
@@ -83,13 +83,13 @@ impl Manifest {
     }
 }
 
-/// Carries a law: a manifest's text is read in one way.
+/// Carries a law: a manifest's text is read in only one way.
 pub fn manifest_is_one()
     ensures { (text : List ℕ) (minor : ℕ) (read other : Reading Facts) → IsReadAs text minor read
         → IsReadAs text minor other → read ≡ other }
 {}
 
-/// The fault of a text that is no TOML.
+/// The error of a text that is no TOML.
 fn toml_fault(alloc: Global, path: &str) -> ManifestFault
     ensures { IsTomlFault path.now result }
 {
@@ -99,7 +99,7 @@ fn toml_fault(alloc: Global, path: &str) -> ManifestFault
     }
 }
 
-/// The fault of a field.
+/// The error of a field.
 fn field_fault(alloc: Global, path: &str, name: &'static str) -> ManifestFault
     ensures { IsFieldFault path.now name.now result }
 {
@@ -109,7 +109,7 @@ fn field_fault(alloc: Global, path: &str, name: &'static str) -> ManifestFault
     }
 }
 
-/// What a manifest of this tree and this text says.
+/// The content of a manifest with this tree and this text.
 fn facts(
     alloc: Global,
     tree: &Table,
@@ -123,7 +123,8 @@ fn facts(
     read(alloc, tree, &cut.pieces, cargo_version)
 }
 
-/// What a manifest of this tree and these pieces says, in the order in which its faults count.
+/// The content of a manifest with this tree and these pieces, read in the order in which errors
+/// count.
 fn read(
     alloc: Global,
     tree: &Table,

@@ -1,4 +1,4 @@
-//! What a manifest says of its package.
+//! What a manifest says about its package.
 
 ghost use Rattle.toml.specs.View.{table_view};
 ghost use Rattle.hack_manifest.specs.Manifest.{package_in, publish_at, rust_version_at};
@@ -10,8 +10,8 @@ use crate::lookup::{find_table, has_values, value_at};
 use std::alloc::Global;
 use toml::{Table, Value};
 
-/// What a manifest says of its package. From the versions of cargo on whose metadata say it, the
-/// fields are `None`.
+/// What a manifest says about its package. A field is `None` for versions of cargo whose metadata
+/// contain it.
 #[derive(Drop)]
 pub struct Package {
     /// Whether it may be published, below cargo 1.39.
@@ -33,7 +33,7 @@ pub fn package_table(tree: &Table, inline: bool) -> Result<&Table, ReadFault>
     }
 }
 
-/// Whether the package may be published: absent is yes, an empty list is no.
+/// Whether the package may be published: without the field it may, with an empty list it may not.
 fn publish(table: &Table, cargo_version: u32) -> Result<Option<bool>, ReadFault>
     ensures { Gives (λ o. o) result (publish_at cargo_version (table_view table.now)) }
 {
@@ -66,7 +66,7 @@ fn rust_version(
     }
 }
 
-/// What the table `package` says.
+/// The content of the table `package`.
 pub fn package_of(alloc: Global, table: &Table, cargo_version: u32) -> Result<Package, ReadFault>
     ensures { Gives package_view result (package_facts cargo_version (table_view table.now)) }
 {

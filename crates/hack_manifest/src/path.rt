@@ -17,7 +17,7 @@ use toml::{Table, Value};
 use toml_parser::text::{byte_at, first, skip_blank};
 use toml_parser::{Key, dotted_key};
 
-/// Puts the names along a value behind those before it.
+/// Appends the names along a value.
 #[cycle(chain)]
 fn push_chain_of(value: &Value, names: &mut Vec<String>) -> Result<(), AllocError>
     ensures { OnOk result
@@ -29,7 +29,7 @@ fn push_chain_of(value: &Value, names: &mut Vec<String>) -> Result<(), AllocErro
     }
 }
 
-/// Puts the names along a table behind those before it.
+/// Appends the names along a table.
 #[cycle(chain)]
 fn push_chain(table: &Table, names: &mut Vec<String>) -> Result<(), AllocError>
     ensures { OnOk result
@@ -62,7 +62,7 @@ pub fn starts_table(piece: &str) -> bool
     first(skip_blank(skip_mark(piece), true)) == b'['
 }
 
-/// The names in the tree of a text that stands.
+/// The names in the tree of a text that parses alone.
 fn names_in(alloc: Global, text: &str) -> Result<Option<Vec<String>>, AllocError>
     ensures stands { IfOk result (λ o. is_some o ≡ stands text.now) }
     ensures names { IfOk result (λ o. IfSome o (λ names.
@@ -87,7 +87,7 @@ fn names_in(alloc: Global, text: &str) -> Result<Option<Vec<String>>, AllocError
     }
 }
 
-/// The names of a document that is a key and `=0`, which `toml` needn't be asked for.
+/// The names of a document that is a key and `=0`, for which `toml` isn't needed.
 fn key_names(alloc: Global, text: &str) -> Result<Option<Vec<String>>, AllocError>
     ensures { IfOk result (λ o. IfSome o (λ names.
         (stands text.now ≡ true) × (names_of names.items ≡ chain_at text.now))) }
@@ -106,7 +106,7 @@ fn key_names(alloc: Global, text: &str) -> Result<Option<Vec<String>>, AllocErro
     }
 }
 
-/// The names of the front of n bytes, if it ends in `=` and stands with `0` behind it.
+/// The names of the first n bytes, if these end in `=` and parse alone when followed by `0`.
 fn front_names(alloc: Global, piece: &str, n: usize) -> Result<Option<Vec<String>>, AllocError>
     requires { n ≤ length piece.now }
     ensures front { IfOk result (λ o. IfSome o (λ names. IsFrontTo 61 (48 ∷ []) piece.now n
@@ -142,7 +142,7 @@ fn own_key(alloc: Global, piece: &str) -> Result<Vec<String>, AllocError>
     Ok(Vec::new(alloc))
 }
 
-/// The path of a piece behind a header.
+/// The path of a piece after a header.
 pub fn path_of(alloc: Global, header: &[String], piece: &str) -> Result<Vec<String>, AllocError>
     ensures { IfOk result (λ path.
         IsPath (names_of header.now) piece.now (names_of path.items)) }

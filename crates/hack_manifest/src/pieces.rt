@@ -18,7 +18,7 @@ use thiserror::Error;
 /// A piece of a text.
 #[derive(Drop)]
 pub struct Piece<'a> {
-    /// The piece itself, with the blank lines and comments before it.
+    /// The piece itself, including the blank lines and comments before it.
     pub text: &'a str,
     /// The names of its header, or of the last header before it and of its own key.
     pub path: Vec<String>,
@@ -27,13 +27,13 @@ pub struct Piece<'a> {
 /// The pieces of a text.
 #[derive(Drop)]
 pub struct Pieces<'a> {
-    /// The pieces in their order.
+    /// The pieces, in order.
     pub pieces: Vec<Piece<'a>>,
-    /// What is left behind the last piece, such as comments: no run of its lines has a key.
+    /// What remains after the last piece, such as comments: no run of its lines has a key.
     pub tail: &'a str,
 }
 
-/// Why a text isn't cut.
+/// Why a text can't be cut.
 #[derive(Debug, Drop, Error)]
 pub enum PiecesFault {
     /// The whole text is no TOML document.
@@ -52,8 +52,8 @@ impl From<AllocError> for PiecesFault {
 }
 
 impl<'a> Pieces<'a> {
-    /// Cuts a text that `toml` reads: from the start, again and again, the shortest run of whole
-    /// lines that `toml` reads by itself as a document with a nonempty tree.
+    /// Cuts a text that `toml` reads: from the start, repeatedly, the shortest run of whole lines
+    /// that `toml` reads by itself as a document with a nonempty tree.
     pub fn cut(alloc: Global, text: &'a str) -> Result<Pieces<'a>, PiecesFault>
         ensures ok { IfOk result (λ cut. AreCut text.now (pieces_view cut) cut.tail.now) }
         ensures read { IfOk result (λ _. IsSome (parse_document text.now)) }
@@ -72,7 +72,7 @@ impl<'a> Pieces<'a> {
     }
 }
 
-/// The path of the last header behind a piece.
+/// The path of the last header after a piece.
 fn header_behind(
     alloc: Global,
     header: Vec<String>,
@@ -117,13 +117,13 @@ pub fn pieces_join()
         → text ≡ joined_pieces pieces ++ tail }
 {}
 
-/// Carries a law: a text is cut in one way.
+/// Carries a law: a text is cut in only one way.
 pub fn cut_is_one()
     ensures { (text tail end : List ℕ) (pieces others : List View) → AreCut text pieces tail
         → AreCut text others end → (pieces ≡ others) × (tail ≡ end) }
 {}
 
-/// Whether a piece is a key of just that name with its value.
+/// Whether a piece is a key of just this name with its value.
 fn is_value_of(piece: &Piece<'_>, name: &str) -> bool
     ensures { result ≡ is_value_of name.now (piece_view piece.now) }
 {
@@ -133,7 +133,7 @@ fn is_value_of(piece: &Piece<'_>, name: &str) -> bool
     }
 }
 
-/// Whether some piece is a key of just that name with its value: then a table of that name is
+/// Whether some piece is a key of just this name with its value: then a table of this name is
 /// written inline.
 pub fn is_inline(pieces: &[Piece<'_>], name: &str) -> bool
     ensures { result ≡ is_inline name.now (slice_view pieces.now) }

@@ -1,32 +1,32 @@
-//! Where the bytes of a text lead to: how many brackets are open, and whether a comment or a text
-//! is. It tells of most runs of lines that they don't stand, and of none that stands.
+//! A scanner over the bytes of a text: it knows how many brackets are open, and whether it is in a
+//! comment or a string. It excludes most runs of lines that don't parse alone, and none that does.
 
 ghost use Rattle.std.specs.Prelude.{◌≡◌};
 ghost use Rattle.hack_manifest.specs.Places.{step, start_step, remark_step, plain_step, deeper};
 ghost use Rattle.hack_manifest.specs.Places.{comment_step, text_step, may_stand};
 
-/// A place in a text.
+/// A state of the scanner.
 #[derive(Clone, Copy, PartialEq, Eq)]
 pub enum Place {
-    /// Behind blank lines and comments alone.
+    /// After blank lines and comments only.
     Start,
-    /// In a comment with no more than these before it.
+    /// In a comment that only these precede.
     Remark,
-    /// Between so many brackets.
+    /// Between this many brackets.
     Plain(usize),
     /// In a comment.
     Comment(usize),
-    /// Behind the quote that opens a text on one line.
+    /// After the quote that opens a string on one line.
     Opened(u8, usize),
-    /// In a text on one line.
+    /// In a string on one line.
     Text(u8, usize),
-    /// Behind a backslash in such a text.
+    /// After a backslash in such a string.
     Escaped(u8, usize),
-    /// Behind two quotes, of which texts over several lines have three, or in too many brackets.
+    /// After two quotes, with which strings over several lines begin, or in too many brackets.
     Lost,
 }
 
-/// The place behind one more byte.
+/// The state after one more byte.
 pub fn step(place: Place, byte: u8) -> Place
     ensures { result ≡ step place byte }
 {
@@ -54,7 +54,7 @@ pub fn step(place: Place, byte: u8) -> Place
     }
 }
 
-/// The place behind a byte before which there is nothing but blank lines and comments.
+/// The state after a byte that only blank lines and comments precede.
 fn start_step(byte: u8) -> Place
     ensures { result ≡ start_step byte }
 {
@@ -67,7 +67,7 @@ fn start_step(byte: u8) -> Place
     }
 }
 
-/// The place behind a byte of a comment before which there is nothing else.
+/// The state after a byte of a comment that only these precede.
 fn remark_step(byte: u8) -> Place
     ensures { result ≡ remark_step byte }
 {
@@ -78,7 +78,7 @@ fn remark_step(byte: u8) -> Place
     }
 }
 
-/// The place behind a byte that is in no comment and no text.
+/// The state after a byte that is in no comment and no string.
 fn plain_step(depth: usize, byte: u8) -> Place
     ensures { result ≡ plain_step depth byte }
 {
@@ -95,7 +95,7 @@ fn plain_step(depth: usize, byte: u8) -> Place
     }
 }
 
-/// The place behind an opening bracket.
+/// The state after an opening bracket.
 fn deeper(depth: usize) -> Place
     ensures { result ≡ deeper depth }
 {
@@ -106,7 +106,7 @@ fn deeper(depth: usize) -> Place
     }
 }
 
-/// The place behind a byte of a comment.
+/// The state after a byte of a comment.
 fn comment_step(depth: usize, byte: u8) -> Place
     ensures { result ≡ comment_step depth byte }
 {
@@ -117,7 +117,7 @@ fn comment_step(depth: usize, byte: u8) -> Place
     }
 }
 
-/// The place behind a byte of a text that isn't its closing quote.
+/// The state after a byte of a string other than its closing quote.
 fn text_step(quote: u8, depth: usize, byte: u8) -> Place
     ensures { result ≡ text_step quote depth byte }
 {
@@ -128,7 +128,7 @@ fn text_step(quote: u8, depth: usize, byte: u8) -> Place
     }
 }
 
-/// Whether a document may end at a place.
+/// Whether a document may end in this state.
 pub fn may_stand(place: Place) -> bool
     ensures { result ≡ may_stand place }
 {

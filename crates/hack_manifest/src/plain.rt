@@ -1,4 +1,5 @@
-//! Documents of one plain pair, of which `toml` needn't make the tree to tell that they stand.
+//! Documents of one plain pair, for which `toml` needn't build a tree to show that they parse
+//! alone.
 
 ghost use Rattle.std.specs.Prelude.{◌≡◌, ◌<◌, ◌≤◌, true, false, Some, length, IsTrue, IfSome};
 ghost use Rattle.std.specs.List.{prefix_len};
@@ -13,8 +14,8 @@ use std::alloc::Global;
 use toml_parser::text::{first, skip, skip_blank, skip_ws};
 use toml_parser::{dotted_key, quoted, starts_string, unquoted};
 
-/// Whether a text is a document of one key with a text, a word, or an array of such. Where that
-/// isn't said, `toml` is to be asked.
+/// Whether a text is a document of one key with a string, a boolean, a number, a date, or an array
+/// of such. Where the result is false, `toml` has to be asked.
 pub fn is_plain_pair(alloc: Global, text: &str) -> bool
     ensures { IsTrue result → stands text.now ≡ true }
 {
@@ -28,7 +29,7 @@ pub fn is_plain_pair(alloc: Global, text: &str) -> bool
     }
 }
 
-/// What stands behind a key and `=`.
+/// The text after a key and `=`.
 fn behind_key(alloc: Global, s: &str) -> Option<&str>
     ensures { IfSome result (λ rest. rest_of (key_equals s.now) ≡ Some rest.now) }
 {
@@ -38,7 +39,7 @@ fn behind_key(alloc: Global, s: &str) -> Option<&str>
     }
 }
 
-/// What stands behind a key of one bare name and `=`.
+/// The text after a key of one bare name and `=`.
 fn behind_bare_key(s: &str) -> Option<&str>
     ensures { IfSome result (λ rest. rest_of (key_equals s.now) ≡ Some rest.now) }
 {
@@ -50,7 +51,7 @@ fn behind_bare_key(s: &str) -> Option<&str>
     }
 }
 
-/// What stands behind any key and `=`.
+/// The text after any key and `=`.
 fn behind_dotted_key(alloc: Global, s: &str) -> Option<&str>
     ensures { IfSome result (λ rest. rest_of (key_equals s.now) ≡ Some rest.now) }
 {
@@ -66,7 +67,7 @@ fn behind_dotted_key(alloc: Global, s: &str) -> Option<&str>
     }
 }
 
-/// What stands behind a value that is plain.
+/// The text after a plain value.
 fn behind_value(alloc: Global, s: &str) -> Option<&str>
     ensures { IfSome result (λ rest. rest_of (val 80 s.now) ≡ Some rest.now) }
 {
@@ -79,7 +80,7 @@ fn behind_value(alloc: Global, s: &str) -> Option<&str>
     }
 }
 
-/// What stands behind a text, or a word.
+/// The text after a string, a boolean, a number or a date.
 fn behind_atom(alloc: Global, s: &str) -> Option<&str>
     ensures value { IfSome result (λ rest. rest_of (atom s.now) ≡ Some rest.now) }
     ensures shorter { IfSome result (λ rest. length rest.now < length s.now) }
@@ -91,7 +92,7 @@ fn behind_atom(alloc: Global, s: &str) -> Option<&str>
     }
 }
 
-/// What stands behind a text.
+/// The text after a string.
 fn behind_text(alloc: Global, s: &str) -> Option<&str>
     requires { starts_string s.now ≡ true }
     ensures value { IfSome result (λ rest. rest_of (atom s.now) ≡ Some rest.now) }
@@ -103,7 +104,7 @@ fn behind_text(alloc: Global, s: &str) -> Option<&str>
     }
 }
 
-/// What stands behind a text on one line that has no escapes and isn't empty.
+/// The text after a string on one line that has no escapes and isn't empty.
 fn behind_plain_text(s: &str) -> Option<&str>
     requires { starts_string s.now ≡ true }
     ensures value { IfSome result (λ rest. rest_of (atom s.now) ≡ Some rest.now) }
@@ -119,7 +120,7 @@ fn behind_plain_text(s: &str) -> Option<&str>
     }
 }
 
-/// What stands behind any text.
+/// The text after any string.
 fn behind_any_text(alloc: Global, s: &str) -> Option<&str>
     requires { starts_string s.now ≡ true }
     ensures value { IfSome result (λ rest. rest_of (atom s.now) ≡ Some rest.now) }
@@ -131,7 +132,7 @@ fn behind_any_text(alloc: Global, s: &str) -> Option<&str>
     }
 }
 
-/// What stands behind a word.
+/// The text after a boolean, a number or a date.
 fn behind_word(alloc: Global, s: &str) -> Option<&str>
     requires { starts_string s.now ≡ false }
     ensures value { IfSome result (λ rest. rest_of (atom s.now) ≡ Some rest.now) }
@@ -143,7 +144,7 @@ fn behind_word(alloc: Global, s: &str) -> Option<&str>
     }
 }
 
-/// What stands behind an array's texts and words, and its closing bracket.
+/// The text after the plain items of an array and its closing bracket.
 fn behind_items(alloc: Global, s: &str) -> Option<&str>
     ensures { IfSome result (λ rest. IsBehindItems (val 79) s.now rest.now) }
 {
@@ -166,7 +167,7 @@ fn behind_items(alloc: Global, s: &str) -> Option<&str>
     }
 }
 
-/// What stands behind an item's comma, or the closing bracket with what stands behind it.
+/// The text after an item's comma; or the text from the closing bracket on.
 fn behind_item(s: &str) -> Option<&str>
     ensures value { IfSome result (λ rest. after_element 93 s.now ≡ Some rest.now) }
     ensures within { IfSome result (λ rest. length rest.now ≤ length s.now) }
@@ -181,7 +182,7 @@ fn behind_item(s: &str) -> Option<&str>
     }
 }
 
-/// Whether a line ends here, and no more than blank lines and comments stand behind it.
+/// Whether a line ends here, and only blank lines and comments follow.
 fn is_over(s: &str) -> bool
     ensures { result ≡ is_over s.now }
 {
@@ -191,14 +192,14 @@ fn is_over(s: &str) -> bool
     ends && skip_blank(s, true).is_empty()
 }
 
-/// The bytes of a bare name, and what stands behind them.
+/// The bytes of a bare name, and the text after them.
 fn split_name(s: &str) -> (&str, &str)
     ensures { (result.0.now, result.1.now) ≡ split_while is_bare s.now }
 {
     s.split_at(bare_len(s.as_bytes()))
 }
 
-/// What stands behind the bytes of a bare name.
+/// The text after the bytes of a bare name.
 fn behind_name(s: &str) -> &str
     ensures { result.now ≡ (split_while is_bare s.now).1 }
 {
@@ -217,7 +218,7 @@ pub fn bare_name(s: &str) -> Option<&str>
     }
 }
 
-/// What stands behind the bytes that stand for themselves between such quotes.
+/// The text after the bytes that need no escape between such quotes.
 fn behind_plain(s: &str, quote: u8) -> &str
     requires { quote < 128 }
     ensures rest { result.now ≡ (split_while (is_plain quote false) s.now).1 }
@@ -226,7 +227,7 @@ fn behind_plain(s: &str, quote: u8) -> &str
     &s[plain_len(s.as_bytes(), quote)..]
 }
 
-/// How many bytes at the front are of a bare name.
+/// How many bytes at the start belong to a bare name.
 fn bare_len(bytes: &[u8]) -> usize
     ensures len { result ≡ prefix_len is_bare bytes.now }
     ensures within { result ≤ length bytes.now }
@@ -234,7 +235,7 @@ fn bare_len(bytes: &[u8]) -> usize
     bytes.iter().take_while(|b| is_bare(**b)).count()
 }
 
-/// How many bytes at the front stand for themselves between such quotes.
+/// How many bytes at the start need no escape between such quotes.
 fn plain_len(bytes: &[u8], quote: u8) -> usize
     ensures len { result ≡ prefix_len (is_plain quote false) bytes.now }
     ensures within { result ≤ length bytes.now }
@@ -242,14 +243,14 @@ fn plain_len(bytes: &[u8], quote: u8) -> usize
     bytes.iter().take_while(|b| is_plain(quote, **b)).count()
 }
 
-/// Whether a byte may stand in a bare name.
+/// Whether a byte may be in a bare name.
 fn is_bare(byte: u8) -> bool
     ensures { result ≡ is_bare byte }
 {
     byte.is_ascii_alphanumeric() || byte == b'-' || byte == b'_'
 }
 
-/// Whether a byte stands for itself between such quotes, on one line.
+/// Whether a byte needs no escape between such quotes, on one line.
 fn is_plain(quote: u8, byte: u8) -> bool
     ensures { result ≡ is_plain quote false byte }
 {

@@ -34,7 +34,7 @@ fn ends_line(text: &str, n: usize) -> bool
     n != 0 && (n == text.len() || text.as_bytes()[n - 1] == b'\n')
 }
 
-/// Whether a text stands, where its bytes lead to this place.
+/// Whether a text parses alone, given the scanner's state after it.
 fn stands_at(alloc: Global, place: Place, text: &str) -> Result<bool, AllocError>
     requires { place ≡ behind Start text.now }
     ensures { IfOk result (λ b. b ≡ stands text.now) }
@@ -48,7 +48,8 @@ fn stands_at(alloc: Global, place: Place, text: &str) -> Result<bool, AllocError
     stands_alone(alloc, text)
 }
 
-/// Whether the first n bytes, which lead to this place, are whole lines that stand.
+/// Whether the first n bytes, after which the scanner has this state, are whole lines that parse
+/// alone.
 fn run_stands(alloc: Global, place: Place, text: &str, n: usize) -> Result<bool, AllocError>
     requires within { n ≤ length text.now }
     requires place { place ≡ behind Start (take n text.now) }
@@ -62,7 +63,7 @@ fn run_stands(alloc: Global, place: Place, text: &str, n: usize) -> Result<bool,
     }
 }
 
-/// How long the shortest run of whole lines is that stands.
+/// The length of the shortest run of whole lines that parses alone.
 pub fn first_run(alloc: Global, text: &str) -> Result<Option<usize>, AllocError>
     ensures found { IfOk result (λ o. IfSome o (IsFirstRun text.now)) }
     ensures none { IfOk result (λ o. IfNone o (HasNoRun text.now)) }

@@ -1,4 +1,4 @@
--- An option is found by its name and its letter, and by no other.
+-- An option is found by its own name and letter, and by no other.
 use Rattle.std.specs.Prelude.{ℕ, List, [], ◌∷◌, Bool, true, false, Option, Some, None, IfSome, ◌≡◌, if◌then◌else◌}
 use Rattle.std.specs.Str.{bytes_eq}
 use Rattle.std.proofs.Common.{refl, ap}

@@ -1,4 +1,4 @@
--- The options that words name.
+-- How an option is found by its name or letter.
 use Rattle.std.specs.Prelude.{ℕ, ◌≡◌, ◌↔◌, List, Option, Some}
 use Rattle.hack_options.specs.declared.opt.Opt.{Opt}
 use Rattle.hack_options.specs.declared.table.TheConstants.{ALL}
@@ -8,10 +8,10 @@ use Rattle.hack_options.specs.Table.{option_named, option_lettered}
 abbrev pub long_option : List ℕ → Option Opt
 long_option name = option_named name ALL
 
--- the option of a letter
+-- the option with this letter
 abbrev pub short_option : ℕ → Option Opt
 short_option letter = option_lettered letter ALL
 
--- the answer is the one option of which this holds; none where it holds of none
+-- the answer is the only option for which P holds, or none where P holds for none
 abbrev pub Finds : Option Opt → (Opt → Type 0) → Type 0
 Finds found P = (option : Opt) → (found ≡ Some option) ↔ P option

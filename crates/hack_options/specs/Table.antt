@@ -1,4 +1,4 @@
--- The table of options: how each is written and cut, and how the help shows it.
+-- The table of options: how each is written and parsed, and how the help shows it.
 use Rattle.std.specs.Prelude.{ℕ, List, [], ◌∷◌, ◌==◌, Bool, true, false, Option, Some, None, codes, slice_get, is_some, if◌then◌else◌}
 use Rattle.std.specs.Str.{bytes_eq}
 use denote.Enum.Bare.{sameb}
@@ -9,7 +9,7 @@ use Rattle.hack_options.specs.declared.table.Kind.{Kind}
 use Rattle.hack_options.specs.declared.table.Kind.TheVariants.{Flag, Value, Names, OptionalNames, Help, Version, Refused}
 use Rattle.hack_options.specs.declared.table.Row.{Row}
 
--- a row of the table: how an option is written and cut, and whether and how the help shows it
+-- a row of the table: how an option is written and parsed, and whether and how the help shows it
 pub record Entry : Type 0 where
   pub letter : Option ℕ
   pub letter_shown : Bool
@@ -19,15 +19,16 @@ pub record Entry : Type 0 where
   pub value : List ℕ
   pub in_help : Bool
 
--- what a row says of that
+-- what a row says about these
 abbrev pub entry : Row → Entry
 entry row = record { letter = row.letter; letter_shown = row.letter_shown; name = row.name.now; kind = row.kind; once = row.once; value = row.value.now; in_help = is_some row.told }
 
--- an option without a letter that stands once, with the value that the help shows behind its name
+-- an option without a letter that may be given once, with the value that the help shows after its
+-- name
 abbrev pub once : List ℕ → Kind → List ℕ → Entry
 once name kind value = record { letter = None; letter_shown = true; name = name; kind = kind; once = true; value = value; in_help = true }
 
--- an option without a letter that stands once and takes nothing
+-- an option without a letter that may be given once and takes no value
 abbrev pub flag : List ℕ → Entry
 flag name = once name Flag []
 
@@ -35,7 +36,7 @@ flag name = once name Flag []
 abbrev pub many : List ℕ → Kind → List ℕ → Entry
 many name kind value = record (once name kind value) { once = false }
 
--- the same option, that the one letter of the text names too
+-- the same option, with the one letter of the text as its letter
 abbrev pub or_letter : List ℕ → Entry → Entry
 or_letter text e = record e { letter = slice_get text 0 }
 
@@ -43,7 +44,7 @@ or_letter text e = record e { letter = slice_get text 0 }
 abbrev pub or_hidden_letter : List ℕ → Entry → Entry
 or_hidden_letter text e = record e { letter = slice_get text 0; letter_shown = false }
 
--- the same option, of which the help tells nothing
+-- the same option, left out of the help
 abbrev pub out_of_help : Entry → Entry
 out_of_help e = record e { in_help = false }
 
@@ -95,7 +96,7 @@ entry_of opt.NoDefaultFeatures = out_of_help (many (codes "no-default-features")
 entry_of opt.AllFeatures = out_of_help (many (codes "all-features") Flag [])
 entry_of opt.IncludeDepsFeatures = out_of_help (flag (codes "include-deps-features"))
 
--- what an alias stands for
+-- the option that an alias means
 abbrev pub meaning_of : Opt → Opt
 meaning_of opt.All = opt.Workspace
 meaning_of opt.Skip = opt.ExcludeFeatures
@@ -105,17 +106,17 @@ meaning_of o = o
 abbrev pub same : Opt → Opt → Bool
 same = sameb the_type
 
--- the first option of this name
+-- the first option with this name
 abbrev pub option_named : List ℕ → List Opt → Option Opt
 option_named name [] = None
 option_named name (o ∷ os) = if bytes_eq (entry_of o).name name then Some o else option_named name os
 
--- whether this is the letter
+-- whether the letter is there and is this one
 abbrev pub is_letter : ℕ → Option ℕ → Bool
 is_letter c (Some l) = l == c
 is_letter c None = false
 
--- the first option of this letter
+-- the first option with this letter
 abbrev pub option_lettered : ℕ → List Opt → Option Opt
 option_lettered c [] = None
 option_lettered c (o ∷ os) = if is_letter c (entry_of o).letter then Some o else option_lettered c os

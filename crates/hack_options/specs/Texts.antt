@@ -17,16 +17,17 @@ shown_name o = (entry_of o).name
 abbrev pub shown_option : Opt → List ℕ
 shown_option o = codes "--" ++ shown_name o
 
--- the same, with its alias where messages tell it
+-- the same, with its alias in messages that name it
 abbrev pub shown_with_alias : Opt → List ℕ
 shown_with_alias opt.ExcludeFeatures = codes "--exclude-features (--skip)"
 shown_with_alias o = shown_option o
 
--- the value that the help shows behind the name; nothing where the option takes none, or has it in its name
+-- the value that the help shows after the name; empty where the option takes none, or has it in its
+-- name
 abbrev pub value_of : Opt → List ℕ
 value_of o = (entry_of o).value
 
--- whether a row of the help has just this option's name
+-- whether a row of the help has exactly this option's name
 abbrev pub has_usage : Opt → Bool
 has_usage opt.WorkspaceBehavior = false
 has_usage o = (entry_of o).in_help
@@ -39,16 +40,16 @@ shows_letter o = (entry_of o).letter_shown
 abbrev pub row_usage : Opt → List ℕ
 row_usage o = codes "--" ++ (entry_of o).name ++ codes " " ++ value_of o
 
--- the usage of the option, where the help has it as it was written
+-- the usage of the option where the help has it in the written form, else that form
 abbrev pub usage_or : List ℕ → (Opt → Bool) → Option Opt → List ℕ
 usage_or written in_help None = written
 usage_or written in_help (Some o) = if in_help o then row_usage o else written
 
--- what a message shows as the usage of an option as it was written
+-- what a message shows as the usage of an option in its written form
 abbrev pub usage_text : Usage → List ℕ
 usage_text (Long name) = usage_or (codes "--" ++ name.now) has_usage (long_option name.now)
 usage_text (Short letter) = usage_or (codes "-" ++ encode_utf8 letter) (λ o. has_usage o && shows_letter o) (short_option letter)
 
--- the option whose alias is told
+-- the option that is shown with its alias
 abbrev pub aliased_option : WithAlias → Opt
 aliased_option told = told.option

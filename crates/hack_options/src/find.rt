@@ -1,4 +1,4 @@
-//! Finds the option that a word names.
+//! Finds an option by its name or letter.
 
 ghost use Rattle.std.specs.Prelude.{◌≡◌, Some};
 ghost use Rattle.hack_options.specs.Find.{Finds, long_option, short_option};
@@ -7,7 +7,7 @@ ghost use Rattle.hack_options.specs.Table.{entry_of, option_named, option_letter
 use crate::opt::Opt;
 use crate::table::ALL;
 
-/// The first option of this name.
+/// The first option with this name.
 fn find_name(options: &[Opt], name: &str) -> Option<Opt>
     ensures { result ≡ option_named name.now options.now }
 {
@@ -19,7 +19,7 @@ fn find_name(options: &[Opt], name: &str) -> Option<Opt>
     None
 }
 
-/// The first option of this letter.
+/// The first option with this letter.
 fn find_letter(options: &[Opt], letter: char) -> Option<Opt>
     ensures { result ≡ option_lettered letter options.now }
 {
@@ -31,7 +31,7 @@ fn find_letter(options: &[Opt], letter: char) -> Option<Opt>
     None
 }
 
-/// The option of a long name, written without its two dashes.
+/// The option with this long name, which is given without its two dashes.
 pub fn long(name: &str) -> Option<Opt>
     ensures value { result ≡ long_option name.now }
     ensures each { Finds result (λ option. (entry_of option).name ≡ name.now) }
@@ -39,7 +39,7 @@ pub fn long(name: &str) -> Option<Opt>
     find_name(&ALL, name)
 }
 
-/// The option of a letter.
+/// The option with this letter.
 pub fn short(letter: char) -> Option<Opt>
     ensures value { result ≡ short_option letter }
     ensures each { Finds result (λ option. (entry_of option).letter ≡ Some letter) }

@@ -1,4 +1,4 @@
-//! How the help is laid out.
+//! The layout of the help.
 
 ghost use Rattle.std.specs.Prelude.{◌≡◌, true, false};
 
@@ -24,31 +24,31 @@ const TAIL: &str = "Some common cargo commands are (see all commands with --list
     test        Run the tests
 ";
 
-/// Each line of a text ends before this place.
+/// Lines end before this column.
 const LINE_END: usize = 100;
-/// Where the long form's texts begin.
+/// The column where texts begin in the long form.
 const LONG_INDENT: usize = 12;
-/// Where the short form's texts begin.
+/// The column where texts begin in the short form.
 const SHORT_INDENT: usize = 41;
-/// The places of name and value in the short form.
+/// The columns for name and value in the short form.
 const NAME_PLACES: usize = 32;
 
 /// The help, as `-h` or as `--help` prints it.
 #[derive(Clone, Copy, Debug, PartialEq, Eq)]
 pub struct Help {
-    /// Whether each row has its paragraphs too.
+    /// Whether the rows have their paragraphs too.
     pub long: bool,
 }
 
 impl Help {
-    /// One line a row, as `-h` prints it.
+    /// One line for each row, as `-h` prints it.
     pub fn short() -> Help
         ensures { result.long ≡ false }
     {
         Help { long: false }
     }
 
-    /// Each row with its paragraphs, as `--help` prints it.
+    /// The rows with their paragraphs, as `--help` prints it.
     pub fn long() -> Help
         ensures { result.long ≡ true }
     {
@@ -125,14 +125,14 @@ impl fmt::Display for LongRow {
     }
 }
 
-/// How a row is headed: the letter or its empty places, the name, and the value behind it.
+/// The head of a row: the letter or its blank columns, the name, and the value after it.
 #[derive(Clone, Copy)]
 struct Name {
     option: Opt,
 }
 
 impl Name {
-    /// How many places of the short form the name and the value leave.
+    /// How many columns of the short form remain after the name and the value.
     fn places_left(&self) -> usize {
         let left = NAME_PLACES.saturating_sub("--".len() + self.option.shown_name().len());
         match self.option.row().value {
@@ -157,7 +157,7 @@ impl fmt::Display for Name {
     }
 }
 
-/// So many spaces.
+/// This many spaces.
 #[derive(Clone, Copy)]
 struct Spaces {
     count: usize,
@@ -172,8 +172,8 @@ impl fmt::Display for Spaces {
     }
 }
 
-/// A text cut at its spaces into lines, each but the first with an indent before it. A word is as
-/// wide as it has bytes.
+/// A text broken at its spaces into lines, each but the first after an indent. A word counts as
+/// wide as its bytes.
 #[derive(Clone, Copy)]
 struct Wrapped<'a> {
     text: &'a str,
@@ -183,7 +183,7 @@ struct Wrapped<'a> {
 impl fmt::Display for Wrapped<'_> {
     fn fmt<W: fmt::Write>(&self, f: &mut fmt::Formatter<W>) -> fmt::Result {
         let places = LINE_END.saturating_sub(self.indent);
-        // How many places the line has left.
+        // How many columns the line has left.
         let mut left = places;
         for word in self.text.split(' ') {
             if word.len() + 1 >= left {

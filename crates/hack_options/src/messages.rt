@@ -1,4 +1,4 @@
-//! How messages show options.
+//! How messages name options.
 
 ghost use Rattle.std.specs.Prelude.{Some};
 ghost use Rattle.hack_options.specs.Texts.{shown_with_alias, aliased_option, usage_text};
@@ -7,7 +7,8 @@ use crate::find::{long, short};
 use crate::opt::Opt;
 use std::fmt;
 
-/// An option with its alias behind it, `--exclude-features (--skip)`, in the messages that tell it.
+/// An option with its alias after it, `--exclude-features (--skip)`, in the messages that name
+/// both.
 #[derive(Clone, Copy)]
 pub struct WithAlias {
     pub option: Opt,
@@ -24,9 +25,9 @@ impl fmt::Display for WithAlias {
     }
 }
 
-/// An option as it was written, shown as a message on its usage does: the name and the value of the
-/// help's row that is written so, else the option itself. At an option with no value a space ends
-/// the line.
+/// An option in its written form, as a message on its usage shows it: name and value of the row of
+/// the help that has this form, else the form itself. For an option without a value the line ends
+/// with a space.
 #[derive(Clone, Copy)]
 pub enum Usage<'a> {
     /// The name without its `--`.
@@ -51,7 +52,7 @@ impl fmt::Display for Usage<'_> {
     }
 }
 
-/// The name and the value of an option's row.
+/// Name and value of an option's row.
 #[derive(Clone, Copy)]
 struct RowUsage {
     option: Opt,

@@ -1,4 +1,4 @@
-//! An option, what it stands for, and how it is named.
+//! An option, its meaning if it is an alias, and its names.
 
 ghost use Rattle.std.specs.Prelude.{◌≡◌, ◌↔◌, ◌&&◌, IsTrue, Some};
 ghost use Rattle.hack_options.specs.Table.{entry, entry_of, meaning_of, same};
@@ -15,7 +15,7 @@ use std::fmt;
 #[derive(Clone, Copy, Debug, PartialEq, Eq)]
 pub enum Opt {
     Package,
-    /// Stands for `Workspace`.
+    /// Means `Workspace`.
     All,
     Workspace,
     Exclude,
@@ -25,7 +25,7 @@ pub enum Opt {
     EachFeature,
     FeaturePowerset,
     OptionalDeps,
-    /// Stands for `ExcludeFeatures`.
+    /// Means `ExcludeFeatures`.
     Skip,
     ExcludeFeatures,
     ExcludeNoDefaultFeatures,
@@ -63,7 +63,7 @@ pub enum Opt {
     IncludeDepsFeatures,
 }
 
-/// The option as messages name it. `--workspace-behavior` is named with `cargo`, the only value
+/// The option as messages name it. `--workspace-behavior` is shown with `cargo`, the only value
 /// that it takes.
 impl fmt::Display for Opt {
     ghost output = { λ o. Some (shown_option o) };
@@ -82,7 +82,7 @@ impl Opt {
         Row::of(self)
     }
 
-    /// What an alias stands for; any other option stands for itself.
+    /// The option that an alias means; any other option means itself.
     pub fn means(self) -> Opt
         ensures { result ≡ meaning_of self }
     {
@@ -111,15 +111,15 @@ impl Opt {
         }
     }
 
-    /// The option for a message that tells its alias too.
+    /// The option for a message that names its alias too.
     pub fn with_alias(self) -> WithAlias
         ensures { aliased_option result ≡ self }
     {
         WithAlias { option: self }
     }
 
-    /// Whether a row of the help has just this name: that of `--workspace-behavior` has its value
-    /// too.
+    /// Whether a row of the help has exactly this name: that of `--workspace-behavior` has its
+    /// value too.
     pub(crate) fn has_usage(self) -> bool
         ensures { result ≡ named_in_help self }
     {
@@ -129,7 +129,7 @@ impl Opt {
         }
     }
 
-    /// Whether a row of the help has just this name, and its letter too.
+    /// Whether a row of the help has exactly this name, and its letter too.
     pub(crate) fn has_letter_usage(self) -> bool
         ensures { result ≡ (named_in_help self && letter_in_help self) }
     {

@@ -1,5 +1,5 @@
-//! The table of options. Each has a row: how it is written, how it is cut, and what the help tells
-//! of it.
+//! The table of options. Each option has a row: how it is written and parsed, and what the help
+//! says about it.
 
 ghost use Rattle.std.specs.Prelude.{◌≡◌, IsSome, is_some, false, Some};
 ghost use Rattle.hack_options.specs.Table.{entry, entry_of, out_of_help};
@@ -8,57 +8,55 @@ ghost use Rattle.hack_options.specs.Table.{many as many_entry};
 
 use crate::opt::Opt;
 
-/// A row of the table: how an option is written and cut, and what the help shows of it.
+/// A row of the table: how an option is written and parsed, and what the help shows.
 #[derive(Clone, Copy)]
 pub struct Row {
-    /// The letter behind one dash.
+    /// The letter after one dash.
     pub letter: Option<char>,
-    /// Whether the help shows the letter. `-m` is cut as `--manifest-path`, though the help doesn't
-    /// show it.
+    /// Whether the help shows the letter. `-m` is parsed as `--manifest-path`, though the help
+    /// doesn't show it.
     pub letter_shown: bool,
-    /// The name behind two dashes.
+    /// The name after two dashes.
     pub name: &'static str,
     pub kind: Kind,
-    /// Whether a second use is a fault.
+    /// Whether giving it twice is an error.
     pub once: bool,
-    /// What the help shows behind the name, as `<PATH>`; empty where the option takes no value, or
-    /// has it in its name, as `--workspace-behavior=cargo`.
+    /// What the help shows after the name, such as `<PATH>`; empty where the option takes no value,
+    /// or has it in its name, as in `--workspace-behavior=cargo`.
     pub value: &'static str,
-    /// What the help tells. It has no row for two options of Cargo and for
-    /// `--include-deps-features`.
+    /// The texts of the help. Two options of Cargo and `--include-deps-features` have no row there.
     pub(crate) told: Option<HelpText>,
 }
 
-/// What the help tells of an option.
+/// The texts of the help on an option.
 #[derive(Clone, Copy)]
 pub(crate) struct HelpText {
-    /// What the option does, in a few words with no point at their end.
+    /// What the option does, in a few words without a full stop.
     pub text: &'static str,
-    /// What the long help says beyond that.
+    /// What the long help adds.
     pub paragraphs: &'static [&'static str],
 }
 
-/// What an option takes.
+/// The value that an option takes.
 #[derive(Clone, Copy, Debug, PartialEq, Eq)]
 pub enum Kind {
-    /// Nothing.
+    /// None.
     Flag,
-    /// One value, attached or the next word.
+    /// One value, attached or the next argument.
     Value,
     /// A list of names in one value.
     Names,
-    /// The same, which may be left out.
+    /// The same, and the value may be left out.
     OptionalNames,
-    /// Nothing; it asks for the help as long as no subcommand was met.
+    /// None; it asks for the help unless a subcommand came before it.
     Help,
-    /// Nothing; it asks for the version as long as no subcommand was met.
+    /// None; it asks for the version unless a subcommand came before it.
     Version,
-    /// `=cargo`, which is taken before the words are cut: whatever is left here has another form,
-    /// and is a fault.
+    /// `=cargo`, which is taken out before options are parsed: any form that remains is an error.
     Refused,
 }
 
-/// All options, in the order of the help; those that the help doesn't show stand last.
+/// All options, in the order of the help; those that the help doesn't show come last.
 pub const ALL: [Opt; 45] = [
     Opt::Package,
     Opt::All,
@@ -108,8 +106,8 @@ pub const ALL: [Opt; 45] = [
 ];
 
 impl Row {
-    /// The row of an option. It stands in two parts of one order, `syntax` and `help_text`: a match
-    /// of both takes twice as long to prove.
+    /// The row of an option. It is made of two parts in the same order, `syntax` and `help_text`: a
+    /// single match with both takes twice as long to prove.
     pub(crate) fn of(option: Opt) -> Row
         ensures { entry result ≡ entry_of option }
     {
@@ -119,7 +117,7 @@ impl Row {
         }
     }
 
-    /// The same option, written as a letter too.
+    /// The same option, with a letter too.
     fn with_letter(self, letter: char) -> Row
         ensures { entry result ≡ record (entry self) { letter = Some letter } }
     {
@@ -152,7 +150,7 @@ const WITH_VERSION_RANGE: &str = "This flag can only be used together with --ver
 const ALSO_WITHOUT_DEFAULT: &str =
     "This also includes runs with just --no-default-features flag, and default features.";
 
-/// How the option is written and cut, and the value that is shown for it.
+/// How the option is written and parsed, and the value that the help shows.
 fn syntax(option: Opt) -> Row
     ensures { entry result ≡ out_of_help (entry_of option) }
 {
@@ -209,7 +207,7 @@ fn syntax(option: Opt) -> Row
     }
 }
 
-/// What the help tells of the option, where it has a row for it.
+/// The texts of the help on the option, where it has a row there.
 fn help_text(option: Opt) -> Option<HelpText>
     ensures { is_some result ≡ (entry_of option).in_help }
 {
@@ -379,14 +377,14 @@ fn help_text(option: Opt) -> Option<HelpText>
     }
 }
 
-/// An option that stands once and takes nothing.
+/// An option that may be given once and takes no value.
 fn flag(name: &'static str) -> Row
     ensures { entry result ≡ out_of_help (flag_entry name.now) }
 {
     once(name, Kind::Flag, "")
 }
 
-/// An option that stands once, with the value that the help shows behind its name.
+/// An option that may be given once, with the value that the help shows after its name.
 fn once(name: &'static str, kind: Kind, value: &'static str) -> Row
     ensures { entry result ≡ out_of_help (once_entry name.now kind value.now) }
 {
@@ -401,7 +399,7 @@ fn once(name: &'static str, kind: Kind, value: &'static str) -> Row
     }
 }
 
-/// An option that may be repeated, with the value that the help shows behind its name.
+/// An option that may be repeated, with the value that the help shows after its name.
 fn many(name: &'static str, kind: Kind, value: &'static str) -> Row
     ensures { entry result ≡ out_of_help (many_entry name.now kind value.now) }
 {
@@ -411,14 +409,14 @@ fn many(name: &'static str, kind: Kind, value: &'static str) -> Row
     }
 }
 
-/// A few words.
+/// A help text of a few words.
 fn brief(text: &'static str) -> Option<HelpText>
     ensures { IsSome result }
 {
     help_row(text, &[])
 }
 
-/// A few words, and paragraphs in the long help.
+/// A help text of a few words, with paragraphs in the long help.
 fn help_row(text: &'static str, paragraphs: &'static [&'static str]) -> Option<HelpText>
     ensures { IsSome result }
 {

@@ -45,7 +45,8 @@ Lists-quads_in b = record {
   complete = λ q h. (q.rank, omega (arith, length-quads_in b, h.3), at-quads_in b q.rank q h.3 ∙ same_quad b q h.0 h.1 h.2);
 }
 
--- where each block before `at` ends at the place or before it, and the one at `at` behind it, the place is in that one
+-- where each block before `at` ends at or before the place, and the one at `at` ends after it, the
+-- place is in that one
 pub record IsFound (blocks : List Block) (place at : ℕ) (b : Block) : Type 0 where
   pub bound : at < length blocks
   pub start : (get_or blocks at b).end ≡ sum_by runs_in (take at blocks) + (get_or blocks at b).runs
@@ -96,7 +97,7 @@ ends_rise blocks total sums place i j d low inside t =
       sum_by-take-le runs_in (take (j + 1) blocks) (i + 1),
     ))
 
--- the first block that ends behind the place
+-- the first block that ends after the place
 pub placed : (blocks : List Block) (total place at : ℕ) (b : Block) → AreSums blocks total → place < total → at ≤ length blocks → IsPartitionPoint (λ b. leb b.end place ≡ true) (λ b. leb b.end place ≡ false) blocks at → IsFound blocks place at b
 placed blocks total place at b sums l bound point =
     found blocks total place at b sums l bound

@@ -1,4 +1,4 @@
--- The plan of the groups of a range, and that without a range.
+-- The plan of the groups of a range, and the plan without a range.
 use Rattle.std.proofs.Common.{◌≡◌, ◌↔◌, ℕ, zero, suc, ◌+◌, ◌<◌, List, [], ◌∷◌, length, take, arith, refl, ap, sym, ◌∙◌, subst, inl, inr, get_or, slice_get, Option, Some, None, Bool, true, false}
 use Rattle.std.specs.List.{Contains}
 use Rattle.std.proofs.lemmas.List.{length-take-le, get_or-take, get_or_default}

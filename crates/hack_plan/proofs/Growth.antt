@@ -9,7 +9,7 @@ use Rattle.hack_plan.specs.Quads.{Adds, Overfills, Before, IsLower}
 use Rattle.hack_plan.specs.Parts.{InBlock, InSlot, InVersion}
 use Rattle.hack_plan.proofs.Joins.{Adds-then, Overfills-then}
 
--- each member of a front is below the next element
+-- each member of a prefix is below the next element
 below_next : (xs : List ℕ) (i x : ℕ) → AllPairs (λ a b. a < b) xs → i < length xs → Contains (take i xs) x → x < get_or xs i 0
 below_next xs i x pairs h m =
     let k : m.0 < i = omega (arith, m.1, length-take-le i xs (omega arith)) in

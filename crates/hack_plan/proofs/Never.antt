@@ -1,4 +1,4 @@
--- A plan leaves no cause.
+-- Where there is a plan, no cause to refuse one holds.
 use Rattle.std.proofs.Common.{◌≡◌, ◌⊎◌, ℕ, ◌+◌, ◌*◌, ◌<◌, ◌^◌, List, length, arith, ap, sym, ◌∙◌, subst, inl, inr, Option, Some, None, Bool, true, false, IfSome}
 use Rattle.std.specs.List.{Contains}
 use Rattle.std.proofs.lemmas.List.Elements.{All-contains}
@@ -25,7 +25,7 @@ lowest-same owns v w f g = at_most-both v w (All-contains (IsOver v) owns (Some 
 same_some : {X : Type 0} (a b : X) → Some a ≡ Some b → a ≡ b
 same_some a b e = cc
 
--- a bound stands for one version
+-- a bound of a range denotes one version
 bound-same : (owns : List (Option Version)) (stable : Option Version) (bound : MaybeVersion) (v w : Version) → IsBound owns stable bound v → IsBound owns stable bound w → v ≡ w
 bound-same owns stable (Given given) v w f g = f ∙ sym g
 bound-same owns stable Msrv v w f g = f.2 ∙ ap strip_patch (lowest-same owns f.0 g.0 f.1 g.1) ∙ sym g.2
@@ -77,7 +77,7 @@ list-same : (range : Option VersionRange) (z : Scene) (stable : Option Version) 
 list-same None z stable s t f g v c = subst (λ xs. Contains xs v) (f ∙ sym g) c
 list-same (Some range) z stable s t f g v c = same-steps range z.step (owns_of z) stable s t f g v c
 
--- a plan that is short enough leaves no long list
+-- where a plan is short enough, there is no list of too many places
 pub never-too-many : (z : Scene) (counts : List ℕ) (stable : Option Version) (quads : List Quad) → ArePlaces z counts stable quads → length quads < 2 ^ 32 → HasTooMany z counts stable → ⊥
 never-too-many z counts stable quads p short w =
     not-too-many (IsAdmissible z counts p.0) (IsAdmissible z counts w.0) quads (admissible-same w.0 p.0 (list-same z.range z stable w.0 p.0 w.1 p.1) z counts) p.2 short w.2

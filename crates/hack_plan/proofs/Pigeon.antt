@@ -1,4 +1,4 @@
--- An increasing list with all its elements in another is no longer.
+-- An increasing list whose elements are all in another one is not longer than it.
 use Rattle.std.proofs.Common.{◌≡◌, ◌⊎◌, ℕ, zero, suc, ◌<◌, ◌≤◌, ◌^◌, List, [], ◌∷◌, length, arith, ap, sym, ◌∙◌, subst, inl, inr, get_or, Option, Some, None}
 use Rattle.std.specs.List.{AllPairs, Contains}
 use Rattle.std.proofs.lemmas.List.{get_or_default}
@@ -14,7 +14,7 @@ trio i j = grind arith
 at-place : {X : Type 0} (ys : List X) (x d : X) (c : Contains ys x) → get_or ys c.0 d ≡ x
 at-place ys x d c = get_or_default ys c.0 d x c.1 ∙ c.2
 
--- of two elements of an increasing list, the earlier one stands first
+-- of two elements of an increasing list, the lesser comes first
 stands-first : {X : Type 0} (R : X → X → Type 0) (strict : (a b : X) → R a b → R b a → ⊥) (ys : List X) → AllPairs R ys → (a b : X) (c : Contains ys a) (e : Contains ys b) → R a b → c.0 < e.0
 stands-first {X} R strict ys pairs a b c e r = elim (trio c.0 e.0) [
   | inl l ↦ l
@@ -24,7 +24,7 @@ stands-first {X} R strict ys pairs a b c e r = elim (trio c.0 e.0) [
   ]
 ]
 
--- the element at i stands at i or later in the other list
+-- the element at i is at i or later in the other list
 stands-late : {X : Type 0} (R : X → X → Type 0) (strict : (a b : X) → R a b → R b a → ⊥) (xs ys : List X) → AllPairs R xs → AllPairs R ys → ((x : X) → Contains xs x → Contains ys x) → (i : ℕ) (d : X) → i < length xs → (c : Contains ys (get_or xs i d)) → i ≤ c.0
 stands-late R strict xs ys f g sub zero d l c = omega arith
 stands-late R strict xs ys f g sub (suc i) d l c =
@@ -80,7 +80,7 @@ before-strict a b (inl f) (inr g) = older-apart a.version b.version f (sym g.0)
 before-strict a b (inr f) (inl g) = older-apart b.version a.version g (sym f.0)
 before-strict a b (inr f) (inr g) = slot-strict a b f.1 g.1
 
--- a short list of all that pass leaves no long one
+-- where a short list has all that pass, no long list of such exists
 pub not-too-many : (P Q : Quad → Type 0) (quads : List Quad) → ((q : Quad) → Q q → P q) → Lists P quads → length quads < 2 ^ 32 → AreTooMany Q → ⊥
 not-too-many P Q quads same lists short many =
     let fits : length many.quads ≤ length quads = no-longer Before before-strict many.quads quads many.increasing lists.increasing (λ q c. lists.complete q (same q (All-contains Q many.quads q many.sound c))) in

@@ -1,4 +1,4 @@
--- The places of each version, as the plan grows by a version.
+-- The places of each version, as the plan grows version by version.
 use Rattle.std.proofs.Common.{◌≡◌, ℕ, ◌+◌, ◌<◌, ◌≤◌, List, [], ◌∷◌, ◌++◌, length, take, map, arith, refl, ap, sym, ◌∙◌, subst, get_or, length-append, append_assoc, append-nil, Option, Some, Bool}
 use Rattle.std.specs.List.{All, Contains}
 use Rattle.std.proofs.lemmas.List.{length-map, get_or-map, map-append, take_more}
@@ -60,7 +60,7 @@ All-unmap f P xs h k d l = subst P (get_or-map f xs k d (f d) l) (h k (f d) (ome
 later-than : (v w : Option Version) (added : List Quad) → IsOlder w v → All (IsHere v) added → All (IsLater w) added
 later-than v w added l h = All-weaker (IsHere v) (IsLater w) (λ q e. subst (IsOlder w) (sym e) l) added h
 
--- one version's places behind those before it
+-- one version's places, added after those before it
 tiled-more : (from : ℕ) (ss : List Span) (s : Span) (mid to : ℕ) → AreTiled from ss mid → s.first ≡ mid → mid ≤ s.end → s.end ≡ to → AreTiled from (ss ++ s ∷ []) to
 tiled-more from [] s mid to t first le end = (first ∙ sym t, omega (arith, t), end)
 tiled-more from (x ∷ ss) s mid to t first le end = (t.0, t.1, tiled-more x.end ss s mid to t.2 first le end)
@@ -93,7 +93,7 @@ spans-none p no_quads e = record {
   tiled = subst (λ ss. AreTiled 0 ss (length p.quads)) (sym e) (ap length (sym no_quads));
 }
 
--- a plan that is one version's
+-- a plan of a single version
 pub spans-alone : (whole : Bool) (v : Option Version) (slots : ℕ) (places counts : List ℕ) (old new : Laid) → old.quads ≡ [] → old.spans ≡ [] → Adds (InVersion whole v slots places counts) old.quads new.quads → IsNext v old new → AreSpans (v ∷ []) new
 spans-alone whole v slots places counts old new e f g next =
     spans-next [] v old new g.added g.grown next (spans-none old e f)
@@ -104,7 +104,7 @@ spans-alone whole v slots places counts old new e f g next =
 older-here : (v w : Option Version) (a b : Version) → v ≡ Some a → w ≡ Some b → IsBefore a b → IsOlder v w
 older-here v w a b e f l = rw (e, f) l
 
--- the next group's version behind those before it
+-- the next group's version, added after those before it
 pub spans-group : (s : Scene) (counts : List ℕ) (range : VersionRange) (some : s.range ≡ Some range) (steps : List Version) (groups : List VersionGroup) (are : AreGroups (UsesAt range steps s.packages.items) groups) (i : ℕ) (g : VersionGroup) (at : i < length groups) (is : get_or groups i g ≡ g)
     (whole : Bool) (slots : ℕ) (old new : Laid) → Adds (InGroups s counts steps (take i groups)) [] old.quads → AreSpans (map version_in (take i groups)) old
     → Adds (InVersion whole (Some g.version) slots g.packages.items counts) old.quads new.quads → IsNext (Some g.version) old new → AreSpans (map version_in (take (i + 1) groups)) new

@@ -5,7 +5,7 @@ use Rattle.hack_versions.specs.declared.group.PackageVersion.{PackageVersion}
 use Rattle.hack_versions.specs.Uses.{own_of}
 use Rattle.hack_plan.specs.Scenes.{HaveTwo}
 
--- some package's own version is another than this one's
+-- some package's own version differs from this one's
 abbrev pub Other : List PackageVersion → PackageVersion → Type 0
 Other packages head = (member : PackageVersion) × Contains packages member × (own_of member ≢ own_of head)
 

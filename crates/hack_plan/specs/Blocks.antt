@@ -12,7 +12,7 @@ quad_at b rank = record { version = b.version; slot = b.slot; «package» = b.pa
 abbrev pub quads_in : Block → List Quad
 quads_in b = map (quad_at b) (range_with_len 0 b.runs)
 
--- the places of blocks, one behind the other
+-- the places of blocks, in order
 abbrev pub quads_of : List Block → List Quad
 quads_of blocks = flat_map quads_in blocks
 
@@ -20,7 +20,8 @@ quads_of blocks = flat_map quads_in blocks
 abbrev pub runs_in : Block → ℕ
 runs_in b = b.runs
 
--- each block's end is the sum of the runs up to and with it, and the total is that of all, and no more than 4294967295
+-- each block's end is the sum of the runs up to and including it, and the total is the sum of all,
+-- at most 4294967295
 pub record AreSums (blocks : List Block) (total : ℕ) : Type 0 where
   pub ends : (k : ℕ) (d : Block) → k < length blocks → (slice_index_or blocks k d).end ≡ sum_by runs_in (take (k + 1) blocks)
   pub all : total ≡ sum_by runs_in blocks

@@ -11,15 +11,15 @@ InBlock version slot place runs q = (q.version ≡ version) × (q.slot ≡ slot)
 abbrev pub OfPackage : List ℕ → List ℕ → Quad → Type 0
 OfPackage packages runs q = (p : ℕ) × (q.package ≡ Some p) × Contains packages p × (q.rank < slice_index runs p)
 
--- one version and slot, and one of the packages
+-- one version and slot, and any of the packages
 abbrev pub InSlot : Option Version → ℕ → List ℕ → List ℕ → Quad → Type 0
 InSlot version slot packages runs q = (q.version ≡ version) × (q.slot ≡ slot) × OfPackage packages runs q
 
--- the run of all packages, or one of one of them
+-- the one run for all packages, or a run of any of them
 abbrev pub InWhole : Bool → List ℕ → List ℕ → Quad → Type 0
 InWhole false packages runs q = OfPackage packages runs q
 InWhole true packages runs q = (q.package ≡ None) × (q.rank ≡ 0)
 
--- one version, a slot below the number of slots
+-- one version, and a slot below the number of slots
 abbrev pub InVersion : Bool → Option Version → ℕ → List ℕ → List ℕ → Quad → Type 0
 InVersion whole version slots packages runs q = (q.version ≡ version) × (q.slot < slots) × InWhole whole packages runs q

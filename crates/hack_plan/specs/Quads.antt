@@ -6,37 +6,38 @@ use Rattle.hack_plan.specs.declared.versions.Scene.{Scene}
 use Rattle.hack_plan.specs.declared.places.Quad.{Quad}
 use Rattle.hack_plan.specs.Scenes.{IsStepList, UsesVersion, IsVersion, slots_of}
 
--- the package uses the version, and the rank is below the number of its runs; as cargo does it, one run for all packages
+-- the package uses the version, and the rank is below the number of its runs; where Cargo handles
+-- workspaces, one run for all packages
 abbrev pub HasRun : Bool → Scene → List ℕ → List Version → Quad → Type 0
 HasRun false s counts steps q = (p : ℕ) × (q.package ≡ Some p) × UsesVersion s.range s steps q.version p × (q.rank < slice_index counts p)
 HasRun true s counts steps q = (q.package ≡ None) × (q.rank ≡ 0) × IsVersion s.range s steps q.version
 
--- there is such a run, and the slot is one of the version's
+-- such a run exists, and the slot is one of the version's
 pub record IsAdmissible (s : Scene) (counts : List ℕ) (steps : List Version) (q : Quad) : Type 0 where
   pub run : HasRun s.as_cargo s counts steps q
   pub slot : q.slot < slots_of s q.version
 
--- of two places of packages the first is the lower
+-- of two indexes of packages, the first is the lower
 abbrev pub IsLower : Option ℕ → Option ℕ → Type 0
 IsLower (Some a) (Some b) = a < b
 IsLower None b = ⊥
 IsLower (Some a) None = ⊥
 
--- of two versions the first is the lower
+-- of two versions, the first is the lower
 abbrev pub IsOlder : Option Version → Option Version → Type 0
 IsOlder (Some a) (Some b) = IsBefore a b
 IsOlder None b = ⊥
 IsOlder (Some a) None = ⊥
 
--- by package, rank
+-- ordered by package, rank
 abbrev pub ByPackage : Quad → Quad → Type 0
 ByPackage a b = IsLower a.package b.package ⊎ ((a.package ≡ b.package) × (a.rank < b.rank))
 
--- by slot, package, rank
+-- ordered by slot, package, rank
 abbrev pub BySlot : Quad → Quad → Type 0
 BySlot a b = (a.slot < b.slot) ⊎ ((a.slot ≡ b.slot) × ByPackage a b)
 
--- by version, slot, package, rank
+-- ordered by version, slot, package, rank
 abbrev pub Before : Quad → Quad → Type 0
 Before a b = IsOlder a.version b.version ⊎ ((a.version ≡ b.version) × BySlot a b)
 
@@ -46,7 +47,7 @@ pub record Lists (Passes : Quad → Type 0) (quads : List Quad) : Type 0 where
   pub sound : All Passes quads
   pub complete : (q : Quad) → Passes q → Contains quads q
 
--- the plan: for the steps of the range, just the admissible quadruples, in order
+-- the plan: for the steps of the range, exactly the admissible quadruples, in order
 abbrev pub ArePlaces : Scene → List ℕ → Option Version → List Quad → Type 0
 ArePlaces s counts stable quads = (steps : List Version) × IsStepList s.range s stable steps × Lists (IsAdmissible s counts steps) quads
 
@@ -61,13 +62,13 @@ pub record AreTooMany (Passes : Quad → Type 0) : Type 0 where
 abbrev pub HasTooMany : Scene → List ℕ → Option Version → Type 0
 HasTooMany s counts stable = (steps : List Version) × IsStepList s.range s stable steps × AreTooMany (IsAdmissible s counts steps)
 
--- new is old with just the quadruples that pass behind it, in order
+-- new is old followed by exactly the quadruples that pass, in order
 pub record Adds (Passes : Quad → Type 0) (old new : List Quad) : Type 0 where
   pub added : List Quad
   pub grown : new ≡ old ++ added
   pub lists : Lists Passes added
 
--- old with some quadruples that pass behind it, in order, is too long
+-- old, followed by quadruples that pass, in order, is too long
 pub record Overfills (Passes : Quad → Type 0) (old : List Quad) : Type 0 where
   pub added : List Quad
   pub increasing : AllPairs Before added

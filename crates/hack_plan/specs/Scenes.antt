@@ -1,4 +1,4 @@
--- What a plan is made of: the versions that packages use.
+-- The input of a plan, and the versions that packages use.
 use Rattle.std.specs.Prelude.{ℕ, ◌≡◌, ◌≢◌, ◌<◌, ◌++◌, ◌⊎◌, List, [], length, map, Contains, Option, Some, None, true, false, nat_lt, ◌&&◌, if◌then◌else◌}
 use Rattle.hack_versions.specs.declared.version.Version.{Version}
 use Rattle.hack_versions.specs.declared.version.VersionRange.{VersionRange}
@@ -11,7 +11,7 @@ use Rattle.hack_base.specs.Notes.{Note}
 use Rattle.hack_plan.specs.declared.versions.Scene.{Scene}
 use Rattle.hack_plan.specs.declared.versions.Versions.{Versions}
 
--- a package's own version as the package gives it
+-- a package's own version as its manifest gives it
 abbrev pub given_of : PackageVersion → Option Version
 given_of member = member.rust_version
 
@@ -19,29 +19,29 @@ given_of member = member.rust_version
 abbrev pub owns_of : Scene → List (Option Version)
 owns_of s = map given_of s.packages.items
 
--- the steps of a call: none without a range
+-- the steps of a call; none without a range
 abbrev pub IsStepList : Option VersionRange → Scene → Option Version → List Version → Type 0
 IsStepList None s stable steps = steps ≡ []
 IsStepList (Some range) s stable steps = AreStepsOf range s.step (owns_of s) stable steps
 
--- the package at a place uses the version: "none" without a range
+-- the package at index p uses the version, which is "none" without a range
 abbrev pub UsesVersion : Option VersionRange → Scene → List Version → Option Version → ℕ → Type 0
 UsesVersion None s steps None p = p < length s.packages.items
 UsesVersion (Some range) s steps (Some v) p = UsesAt range steps s.packages.items v p
 UsesVersion None s steps (Some v) p = ⊥
 UsesVersion (Some range) s steps None p = ⊥
 
--- some package uses the version: "none" without a range, and without packages too
+-- some package uses the version; without a range it is "none", also where there are no packages
 abbrev pub IsVersion : Option VersionRange → Scene → List Version → Option Version → Type 0
 IsVersion None s steps v = v ≡ None
 IsVersion (Some range) s steps v = (p : ℕ) × UsesVersion (Some range) s steps v p
 
--- cargo's minor for a version: its own without one
+-- cargo's minor version for a version; its own where that is "none"
 abbrev pub minor_of : ℕ → Option Version → ℕ
 minor_of own None = own
 minor_of own (Some v) = v.minor
 
--- the slots of a version: one for each target below 1.64, else one for all
+-- the slots of a version: one for each target below 1.64, else one for all targets
 abbrev pub slots_of : Scene → Option Version → ℕ
 slots_of s version = if nat_lt 0 s.targets && nat_lt (minor_of s.cargo_minor version) 64 then s.targets else 1
 
@@ -54,16 +54,16 @@ GroupsBy (Some range) s versions = (steps : List Version) × AreStepsOf range s.
 abbrev pub AreVersions : Scene → Versions → Type 0
 AreVersions s versions = GroupsBy s.range s versions
 
--- there is a number of runs for each package, where it counts
+-- each package has a number of runs, where these matter
 abbrev pub AreCounted : Scene → List ℕ → Type 0
 AreCounted s counts = s.as_cargo ≡ false → length counts ≡ length s.packages.items
 
--- what is said of a range: of its patches, and of the packages that it skips
+-- the notices on a range: on its patch numbers, and on the packages that it skips
 abbrev pub AreNotices : Option VersionRange → Scene → Option Version → List Note → Type 0
 AreNotices None s stable notes = notes ≡ []
 AreNotices (Some range) s stable notes = (steps : List Version) × (skips : List Note) × AreStepsOf range s.step (owns_of s) stable steps × AreSkipNotes range steps s.packages.items skips × (notes ≡ range_notes range ++ skips)
 
--- two packages have different own versions, or just one of them has none
+-- two packages have different own versions, or exactly one of them has none
 pub record HaveTwo (packages : List PackageVersion) : Type 0 where
   pub one : PackageVersion
   pub other : PackageVersion
@@ -71,7 +71,7 @@ pub record HaveTwo (packages : List PackageVersion) : Type 0 where
   pub second : Contains packages other
   pub differ : own_of one ≢ own_of other
 
--- one run is to be for packages with different own versions
+-- there is to be one run for packages with different own versions
 abbrev pub IsTwoFault : Scene → RangeFault → Type 0
 IsTwoFault s e = (s.as_cargo ≡ true) × HaveTwo s.packages.items × (e ≡ SingleMsrv)
 

@@ -12,7 +12,8 @@ pub record Laid : Type 0 where
   pub quads : List Quad
   pub spans : List Span
 
--- the plan has older versions, then this one's places from first to end, then later versions
+-- the plan consists of the places of older versions, this one's from first to end, and those of
+-- later versions
 pub record IsSpan (quads : List Quad) (s : Span) : Type 0 where
   pub older : List Quad
   pub here : List Quad
@@ -28,12 +29,12 @@ pub record IsSpan (quads : List Quad) (s : Span) : Type 0 where
 abbrev pub version_in : VersionGroup → Option Version
 version_in group = Some group.version
 
--- the versions of groups: "none" alone without a range
+-- the versions of groups; without a range just "none"
 abbrev pub versions_of : Option VersionRange → List VersionGroup → List (Option Version)
 versions_of None groups = None ∷ []
 versions_of (Some range) groups = map version_in groups
 
--- the version's places are put behind the plan so far
+-- the version's places are appended to the plan so far
 abbrev pub IsNext : Option Version → Laid → Laid → Type 0
 IsNext version old new = new.spans ≡ old.spans ++ record { version = version; first = length old.quads; end = length new.quads } ∷ []
 
@@ -41,12 +42,12 @@ IsNext version old new = new.spans ≡ old.spans ++ record { version = version; 
 abbrev pub version_at : Span → Option Version
 version_at s = s.version
 
--- each version's places begin where those before it end, from the first place to the last
+-- each version's places begin where those before end, from the first place to the last
 abbrev pub AreTiled : ℕ → List Span → ℕ → Type 0
 AreTiled from [] to = from ≡ to
 AreTiled from (s ∷ ss) to = (s.first ≡ from) × (from ≤ s.end) × AreTiled s.end ss to
 
--- each version, in order, with its places, which share out those of the plan
+-- each version, in order, with its places, which partition those of the plan
 pub record AreSpans (versions : List (Option Version)) (p : Laid) : Type 0 where
   pub names : map version_at p.spans ≡ versions
   pub each : All (IsSpan p.quads) p.spans

@@ -14,7 +14,7 @@ use std::marker::Model;
 /// How many places a plan may have.
 const MOST_PLACES: usize = 4_294_967_295;
 
-/// The runs of one version, slot and package, and the number of places up to and with them.
+/// The runs of one version, slot and package, and the number of places up to and including them.
 #[derive(Drop)]
 pub struct Block {
     version: Option<Version>,
@@ -24,7 +24,7 @@ pub struct Block {
     end: usize,
 }
 
-/// Blocks, each with the sum up to and with it.
+/// Blocks, each with the number of places up to and including it.
 #[derive(Drop)]
 pub struct Blocks {
     blocks: Vec<Block>,
@@ -170,7 +170,7 @@ impl Blocks {
         Ok(())
     }
 
-    /// The places of each package in each slot.
+    /// The places of all packages in each slot.
     fn add_packages(
         &mut self,
         version: Option<Version>,

@@ -1,6 +1,6 @@
 //! The plan of a call: which versions its packages use, which runs a package has, all runs in
-//! order, and the numbers of a status line. Nothing here knows a loaded workspace: a `Scene` has
-//! all that counts.
+//! order, and the numbers of a status line. The crate knows no loaded workspace: a `Scene` holds
+//! all that matters.
 #![tactic(auto)]
 
 mod blocks;

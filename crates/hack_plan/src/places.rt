@@ -1,5 +1,5 @@
-//! The plan of a scene: its runs in order. It is kept as blocks with running sums, and a run is
-//! found by halving.
+//! The plan of a scene: its runs in order, kept as blocks with running sums, in which binary search
+//! finds a run.
 
 ghost use Rattle.std.specs.Prelude.{ℕ, ◌≡◌, ◌<◌, ◌≤◌, ◌^◌, ◌⊎◌, ◌↔◌, ◌++◌, ◌∷◌, [], Some, None};
 ghost use Rattle.std.specs.Prelude.{true, false, length, All, AllPairs, Contains, OnOk, OnErr};
@@ -19,7 +19,7 @@ use std::alloc::{AllocError, AllocFailed, Global};
 use std::marker::Model;
 use thiserror::Error;
 
-/// One run: its version (none without a range), its slot, its package by its place among the chosen
+/// One run: its version (none without a range), its slot, its package as an index into the chosen
 /// ones (none where one run is for all), and its rank among the package's runs.
 #[derive(Clone, Copy)]
 pub struct Quad {
@@ -29,7 +29,7 @@ pub struct Quad {
     pub rank: usize,
 }
 
-/// A version, and its places from the first one to the end, which is the next one's first.
+/// A version, and its places: from the first up to the end, which is the first of the next version.
 #[derive(Clone, Copy)]
 pub struct Span {
     pub version: Option<Version>,
@@ -82,8 +82,8 @@ impl Places {
     ghost use Rattle.std.specs.Prelude.{List};
     ghost use Rattle.hack_plan.specs.Spans.{AreSpans, versions_of};
 
-    /// The plan. `versions` are the scene's, and `counts` the number of runs of each package, which
-    /// doesn't matter where one run is for all.
+    /// The plan. `versions` are those of the scene, and `counts` the number of runs of each
+    /// package; `counts` doesn't matter where one run is for all.
     pub fn new(
         alloc: Global,
         scene: &Scene,
@@ -121,7 +121,7 @@ impl Places {
         self.blocks.run(place)
     }
 
-    /// Each version that some package uses, or "none" without a range, with its places. A version
+    /// Each version that some package uses, or "none" without a range, with its places, of which it
     /// may have none.
     pub fn versions(&self) -> &[Span]
         ensures { result.now ≡ self.now.spans }
@@ -144,7 +144,7 @@ impl Places {
         }
     }
 
-    /// Puts the places of one version behind those so far.
+    /// Appends the places of one version.
     fn add(
         &mut self,
         scene: &Scene,
@@ -250,7 +250,7 @@ impl Places {
     }
 }
 
-/// The slots of a version: below 1.64 cargo takes one target at a time.
+/// The number of slots of a version: below 1.64 cargo takes one target at a time.
 pub fn slots(scene: &Scene, version: Option<Version>) -> usize
     ensures { result ≡ slots_of scene.now version }
 {

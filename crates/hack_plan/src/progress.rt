@@ -1,4 +1,4 @@
-//! How far a call has come in its plan.
+//! How far a call has got in its plan.
 
 ghost use Rattle.std.specs.Prelude.{◌<◌, ◌↔◌, ℕ, IsTrue};
 ghost use Rattle.hack_term.specs.Pieces.{InPiece, InJustOnePiece};
@@ -6,7 +6,7 @@ ghost use Rattle.hack_term.specs.declared.partition.PartitionKind.{PartitionKind
 
 use hack_term::partition::Partition;
 
-/// The length of a plan, and how many of its places have been passed.
+/// The length of a plan, and how many of its places are done.
 #[derive(Clone, Copy)]
 pub struct Progress {
     pub total: u64,
@@ -14,13 +14,13 @@ pub struct Progress {
 }
 
 impl Progress {
-    /// Whether the next place is in a piece.
+    /// Whether the next place is in this piece.
     pub fn in_partition(&self, partition: &Partition) -> bool
         requires { self.now.count < self.now.total }
         ensures holds { IsTrue result ↔ InPiece partition.now.kind partition.now.piece
             partition.now.count self.now.total self.now.count }
 
-        // Each place of the plan is in exactly one of the pieces, however they are dealt.
+        // Each place of the plan is in exactly one piece, however places are assigned.
         ensures once { (kind : Kind) (place : ℕ) → place < self.now.total
             → InJustOnePiece kind partition.now.count self.now.total place }
     {

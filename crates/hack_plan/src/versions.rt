@@ -1,5 +1,5 @@
-//! What a plan is made of, and which versions its packages use. It needs no numbers of runs, so
-//! that a bad range is refused before any set of features is made.
+//! The input of a plan, and the versions that its packages use. Numbers of runs aren't needed here,
+//! so that a bad range is refused before any set of features is made.
 
 ghost use Rattle.std.specs.Prelude.{◌≡◌, ◌≢◌, ◌⊎◌, ◌↔◌, IfOk, IfErr, IsTrue, IsSome, IfSome};
 ghost use Rattle.std.specs.Prelude.{Contains, map};
@@ -17,7 +17,7 @@ use hack_versions::rustup::{
 use hack_versions::version::{Version, VersionRange};
 use std::alloc::{AllocError, Global};
 
-/// What a plan is made of, but for the numbers of runs.
+/// The input of a plan, except for the numbers of runs.
 #[derive(Drop)]
 pub struct Scene {
     /// The range of `--version-range` or `--rust-version`.
@@ -26,7 +26,7 @@ pub struct Scene {
     pub step: u16,
     /// Whether one run is for all packages, as under `--workspace-behavior=cargo`.
     pub as_cargo: bool,
-    /// How many targets are given, each once.
+    /// The number of different targets.
     pub targets: usize,
     /// Cargo's own minor version, 0 where it isn't known.
     pub cargo_minor: u32,
@@ -44,7 +44,7 @@ pub struct Versions {
 }
 
 impl Versions {
-    /// The versions, and the notices on patches that the range names and on packages that it skips.
+    /// The versions, with notices on patch numbers in the range and on packages that it skips.
     /// `stable` is the version of the toolchain `stable`.
     pub fn new(
         alloc: Global,
@@ -105,7 +105,7 @@ fn in_range(
     Ok((Versions { stable, groups }, notices))
 }
 
-/// The own versions as the packages give them.
+/// The own versions as the manifests give them.
 fn owns_of(alloc: Global, packages: &[PackageVersion]) -> Result<Vec<Option<Version>>, AllocError>
     ensures { IfOk result (λ owns. owns.items ≡ map given_of packages.now) }
 {
@@ -115,7 +115,7 @@ fn owns_of(alloc: Global, packages: &[PackageVersion]) -> Result<Vec<Option<Vers
         .collect(alloc)
 }
 
-/// A package's own version, without its patch.
+/// A package's own version: its `rust-version` without the patch number.
 fn own(member: &PackageVersion) -> Option<Version>
     ensures { result ≡ own_of member.now }
 {
@@ -131,7 +131,7 @@ fn is_other(member: &PackageVersion, head: &PackageVersion) -> bool
     own(member) != own(head)
 }
 
-/// Whether some package's own version is another than this one's.
+/// Whether some package's own version differs from this one's.
 fn differs(packages: &[PackageVersion], head: &PackageVersion) -> bool
     ensures { IsTrue result ↔ ((member : Member) × Contains packages.now member
         × (own_of member ≢ own_of head.now)) }

@@ -1,4 +1,5 @@
-//! Checks the rows of the table on standard input, and tells of each that is wrong; the status is 1 where one is.
+//! Checks the rows of the table on standard input, and reports each that fails; the status is 1 if
+//! one does.
 #![tactic(auto)]
 
 use hack_tables::check;

@@ -1,4 +1,4 @@
--- One more text, and the feature of it.
+-- One more text, and the feature made of it.
 use Rattle.std.proofs.Common.{◌≡◌, ◌∙◌, ◌&&◌, refl, ap, sym, subst, Some, ℕ, List, [], ◌∷◌, ◌++◌, map, String, string_bytes, string_eq}
 use Rattle.std.specs.Cmp.Lexicographic.{pointwise}
 use Rattle.std.specs.List.{filter_map}
@@ -36,14 +36,14 @@ IsGroup-names names (Normal name) h = absurd h
 IsGroup-names names (Group name list) h = h.1
 IsGroup-names names (Path name slash) h = absurd h
 
--- the names that groups of texts stand for
+-- the names of the groups that are made of texts
 pub groups-names : (texts : List (List ℕ)) (features : List Feature) → AreGroupsOf texts features → map group_of features ≡ map group_names texts
 groups-names [] [] h = refl
 groups-names [] (f ∷ fs) h = absurd h
 groups-names (t ∷ ts) [] h = absurd h
 groups-names (t ∷ ts) (f ∷ fs) h = ap (λ x. x ∷ map group_of fs) (IsGroup-names (group_names t) f h.0) ∙ ap (λ xs. group_names t ∷ xs) (groups-names ts fs h.1)
 
--- the test of names is that of texts
+-- comparing names is the same as comparing texts
 pub same-names : {Y : Type 0} (xs ys : List (String Y)) → pointwise string_eq xs ys ≡ same_names (names_of xs) (names_of ys)
 same-names [] [] = refl
 same-names [] (y ∷ ys) = refl
@@ -60,7 +60,7 @@ one-lift text lift e = rw e refl
 pub lift-some : {Y : Type 0} (texts : List (String Y)) (pairs : List (String Y × Feature)) (text : String Y) (lift : Lift) (pair : String Y × Feature) → AreLifts (filter_map lift_of (map string_bytes texts)) pairs → lift_of (string_bytes text) ≡ Some lift → string_bytes pair.0 ≡ lift.owner → IsGroup lift.group pair.1 → AreLifts (filter_map lift_of (map string_bytes (texts ++ text ∷ []))) (pairs ++ pair ∷ [])
 lift-some texts pairs text lift pair h e k l = subst (λ (ls : List Lift). AreLifts ls (pairs ++ pair ∷ [])) (sym (taken-lifts texts text ∙ ap (λ ls. filter_map lift_of (map string_bytes texts) ++ ls) (one-lift (string_bytes text) lift e))) (AreLifts-more (filter_map lift_of (map string_bytes texts)) pairs lift pair h k l)
 
--- what a text is read as, by the parts that were made of it
+-- the lift that a text is read as, by the parts that were made of it
 pub lift-read : {Y : Type 0} (text owner : List ℕ) (group : List (List ℕ)) (pair : String Y × Feature) → lift_of text ≡ Some (record { owner = owner; group = group }) → string_bytes pair.0 ≡ owner → IsGroup group pair.1 → lift_of text ≡ Some (lift_in pair)
 lift-read text owner group pair h k l = h ∙ ap (λ o. Some (record { owner = o; group = group })) (sym k) ∙ ap (λ g. Some (record { owner = string_bytes pair.0; group = g })) (sym (IsGroup-names group pair.1 l))
 

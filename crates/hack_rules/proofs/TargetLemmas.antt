@@ -1,4 +1,4 @@
--- Texts that are put into a set, and the order in which they come out.
+-- Texts that are inserted into a set, and the order in which they come out.
 use Rattle.std.proofs.Common.{◌≡◌, ◌∙◌, ◌||◌, refl, ap, sym, subst, ℕ, List, [], ◌∷◌, Bool, true, false, Contains, map, String, string_bytes, bytes_eq}
 use Rattle.std.specs.BTreeSet.{insert_key}
 use Rattle.std.specs.Cmp.Lexicographic.{slice_cmp, nat_list_eq_equiv}
@@ -37,7 +37,7 @@ or-move false b c = refl
 same-text : {Y : Type 0} (k x : String Y) → string_cmp k x ≡ Equal → string_bytes k ≡ string_bytes x
 same-text k x e = (bytes_eq-Decides (string_bytes k) (string_bytes x)).0 (sym (is_eq-slice_cmp (string_bytes k) (string_bytes x)) ∙ ap is_eq e)
 
--- a set has what was put into it, and what it had
+-- a set has the text that was put into it, and those that it had
 put-has : {Y : Type 0} (text : List ℕ) (keys : List (String Y)) (key : String Y) → has text (map string_bytes (insert_key string_cmp keys key)) ≡ (bytes_eq text (string_bytes key) || has text (map string_bytes keys))
 put-has text [] key = refl
 put-has text (x ∷ xs) key = cases (put-has text xs key) (string_cmp key x) refl
@@ -51,7 +51,7 @@ put_all-has : {Y : Type 0} (text : List ℕ) (keys texts : List (String Y)) → 
 put_all-has text keys [] = sym (or-none (has text (map string_bytes keys)))
 put_all-has text keys (x ∷ xs) = put_all-has text (insert_key string_cmp keys x) xs ∙ ap (λ b. b || has text (map string_bytes xs)) (put-has text keys x) ∙ or-move (bytes_eq text (string_bytes x)) (has text (map string_bytes keys)) (has text (map string_bytes xs))
 
--- a set of texts has the same texts
+-- a set made of texts has the same texts
 pub put_all-same : {Y : Type 0} (texts : List (String Y)) → AreSame (map string_bytes (put_all [] texts)) (map string_bytes texts)
 put_all-same texts text = (there, back)
   where
@@ -67,7 +67,7 @@ put_all-same texts text = (there, back)
     back : Contains (map string_bytes texts) text → Contains (map string_bytes (put_all [] texts)) text
     back h = found (map string_bytes (put_all [] texts)) (put_all-has text [] texts ∙ listed (map string_bytes texts) h)
 
--- the keys of a set rise by their bytes
+-- the keys of a set ascend by their bytes
 pub keys-rising : {Y : Type 0} (keys : List (String Y)) → IsStrictlySortedBy string_cmp keys → AreRising (map string_bytes keys)
 unfolding IsStrictlySortedBy
 keys-rising [] h = tt

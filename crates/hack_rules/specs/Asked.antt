@@ -1,4 +1,4 @@
--- What uses of options ask for: the fields of the arguments.
+-- The fields of the arguments, as uses of options ask for them.
 use Rattle.std.specs.Prelude.{ℕ, ◌||◌, ◌&&◌, not, ◌++◌, ◌-◌, List, [], ◌∷◌, Bool, false, if◌then◌else◌}
 use Rattle.std.specs.Prelude.{Option, Some, None, Result, Ok, Err, option_map, option_and_then}
 use Rattle.std.specs.Prelude.{codes, nat_lt, bytes_eq}
@@ -26,17 +26,17 @@ use Rattle.hack_rules.specs.CliLists.{names_given}
 use Rattle.hack_rules.specs.Listed.{Listed}
 use Rattle.hack_rules.specs.Rules.{is_nonempty}
 
--- a value, or what stands in its place
+-- a value, or another in its place
 abbrev pub or_else : {A : Type 0} → A → Option A → A
 or_else other None = other
 or_else other (Some a) = a
 
--- the first that is there
+-- the first value that is there
 abbrev pub or_next : {A : Type 0} → Option A → Option A → Option A
 or_next None next = next
 or_next (Some a) next = Some a
 
--- the colouring: that of the words, else that of the environment, else auto
+-- the colouring: that of the command line, else that of the environment, else auto
 abbrev pub coloring_asked : Option (List ℕ) → List Use → Coloring
 coloring_asked term_color us = or_else Auto (option_and_then coloring_of (or_next (value_given opt.Color us) term_color))
 
@@ -44,11 +44,11 @@ coloring_asked term_color us = or_else Auto (option_and_then coloring_of (or_nex
 abbrev pub depth_asked : List Use → Option ℕ
 depth_asked us = option_and_then (number_of 64) (value_given opt.Depth us)
 
--- the step between versions, 1 where none is said
+-- the step between versions, 1 where none is given
 abbrev pub step_asked : List Use → ℕ
 step_asked us = or_else 1 (option_and_then (number_of 16) (value_given opt.VersionStep us))
 
--- what a text is read as, where it is a range
+-- a text read as a range, where it is one
 abbrev pub read_range : List ℕ → Option ReadRange
 read_range text = of_reading (range_of text)
   where
@@ -62,22 +62,23 @@ range_asked us =
     if is_given opt.RustVersion us then Some (record { start_inclusive = Msrv; end_inclusive = Msrv })
     else option_map (λ read. read.range) (option_and_then read_range (value_given opt.VersionRange us))
 
--- the range has the old form
+-- the given range is in the old form
 abbrev pub is_old_asked : List Use → Bool
 is_old_asked us = or_else false (option_map (λ read. read.old) (option_and_then read_range (value_given opt.VersionRange us)))
 
--- an option --message-format, which cargo has
+-- an option --message-format, which belongs to cargo
 abbrev pub is_message_format : Use → Bool
 is_message_format (Unknown (LongFlag name) value) = bytes_eq name (codes "message-format")
 is_message_format (Unknown (ShortFlag letter) value) = false
 is_message_format (Known option flag value) = false
 is_message_format (Word word) = false
 
--- how the environment groups lines, unless cargo's messages are formatted
+-- how lines are grouped by the environment, unless cargo's messages are formatted
 abbrev pub group_found : Bool → List Use → LogGroup
 group_found github us = if github && not (list_any is_message_format us) then group.GithubActions else group.None
 
--- how lines are grouped: not at all in a list of commands, else as the words say, else as the environment
+-- how lines are grouped: not at all in a list of commands, else by the option, else by the
+-- environment
 abbrev pub log_group_asked : Bool → List Use → LogGroup
 log_group_asked github us =
     if is_given opt.PrintCommandList us then group.None
@@ -87,7 +88,7 @@ log_group_asked github us =
 abbrev pub piece_asked : List Use → Option PieceNumbers
 piece_asked us = option_and_then piece_of (value_given opt.Partition us)
 
--- how places are dealt to pieces
+-- how places are assigned to pieces
 abbrev pub kind_asked : List Use → PartitionKind
 kind_asked us = or_else Block (option_and_then kind_of (value_given opt.PartitionKind us))
 
@@ -95,11 +96,11 @@ kind_asked us = or_else Block (option_and_then kind_of (value_given opt.Partitio
 abbrev pub verbose_words : ℕ → List (List ℕ)
 verbose_words count = if nat_lt 1 count then (codes "-" ++ repeat (count - 1) (codes "v")) ∷ [] else []
 
--- the words that are passed on to cargo in front
+-- the arguments that are passed on to cargo before --
 abbrev pub leading_asked : WorkspaceBehavior → List Use → List (List ℕ)
 leading_asked behavior us = leading_of behavior us ++ verbose_words (count_of opt.Verbose us)
 
--- the features that are excluded from the combinations: those of --features are always there
+-- the features excluded from combinations: those of --features are enabled anyway
 abbrev pub excluded_asked : List Use → List (List ℕ)
 excluded_asked us = names_given opt.ExcludeFeatures us ++ names_given opt.Features us
 

@@ -11,14 +11,15 @@ use Rattle.hack_rules.specs.declared.fault.CliFault.TheVariants as fault
 use Rattle.hack_rules.specs.CliFaults.{fault_of}
 use Rattle.hack_rules.specs.Rules.{Verdict, Lists, Refused, is_among}
 
--- with no subcommand cargo's list is asked, or manifests are edited alone
+-- without a subcommand cargo's list is asked for, or the call only edits manifests
 abbrev pub bare_verdict : WorkspaceBehavior → Option (List ℕ) → List Use → Option Verdict
 bare_verdict behavior (Some word) us = None
 bare_verdict behavior None us =
     if is_among (leading_of behavior us) (codes "--list") then Some Lists
     else if is_given opt.RemoveDevDeps us then None else Some (Refused NoSubcommand)
 
--- what uses come to by that rule: they go on, they ask for cargo's list, or there is no subcommand
+-- the outcome of uses by that rule: they go on, they ask for cargo's list, or the subcommand is
+-- missing
 abbrev pub GoesOn : Result Bool CliFault → Option Verdict → Type 0
 GoesOn (Ok true) bare = bare ≡ Some Lists
 GoesOn (Ok false) bare = bare ≡ None

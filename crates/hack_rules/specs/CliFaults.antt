@@ -1,4 +1,4 @@
--- Why words are refused, without where the texts of a fault lie in memory.
+-- Why a command line is refused, without where the texts of an error lie in memory.
 use Rattle.std.specs.Prelude.{ℕ, ◌≡◌, List, Option, Some, None, Result, Ok, Err, MatchOption}
 use Rattle.std.specs.Prelude.{string_bytes, option_map}
 use Rattle.hack_options.specs.declared.opt.Opt.{Opt}
@@ -16,7 +16,7 @@ use Rattle.hack_rules.specs.declared.fault.Beside.{Beside}
 use Rattle.hack_rules.specs.declared.fault.CliFault.{CliFault}
 use Rattle.hack_rules.specs.declared.fault.CliFault.TheVariants as code
 
--- why words are refused
+-- why a command line is refused
 pub data Fault : Type 0 where
   NoWord : Fault
   NotHack : List ℕ → Fault
@@ -41,18 +41,18 @@ pub data Fault : Type 0 where
   LiftForm : List ℕ → Fault
   LiftGroup : List ℕ → Fault
 
--- the fault of a log group; none where memory ran out
+-- the error of a log group; none where memory ran out
 abbrev pub log_group_fault_of : LogGroupFault → Option Fault
 log_group_fault_of log_group.Memory = None
 log_group_fault_of (log_group.Name text) = Some (LogGroup (string_bytes text))
 
--- the fault of a piece or of its kind; none where memory ran out
+-- the error of a piece or of its kind; none where memory ran out
 abbrev pub partition_fault_of : PartitionFault → Option Fault
 partition_fault_of partition.Memory = None
 partition_fault_of (partition.Piece text) = Some (Partition (string_bytes text))
 partition_fault_of (partition.Kind text) = Some (PartitionKind (string_bytes text))
 
--- the fault of the code; none where memory ran out
+-- the error that the code returns; none where memory ran out
 abbrev pub fault_of : CliFault → Option Fault
 fault_of code.Memory = None
 fault_of code.NoWord = Some NoWord
@@ -77,28 +77,28 @@ fault_of (code.Partition fault) = partition_fault_of fault
 fault_of (code.LiftForm found) = Some (LiftForm (string_bytes found))
 fault_of (code.LiftGroup found) = Some (LiftGroup (string_bytes found))
 
--- a fault of a cut among those of words; want of memory is told as that alone
+-- a parse error as an error of the command line; out of memory is reported alone
 abbrev pub told_of_cut : CutFault → CliFault
 told_of_cut cut.Memory = code.Memory
 told_of_cut fault = code.Cut fault
 
--- a fault of a range among those of words; want of memory is told as that alone
+-- an error of a range as one of the command line; out of memory is reported alone
 abbrev pub told_of_range : VersionFault → CliFault
 told_of_range version.Memory = code.Memory
 told_of_range fault = code.Range fault
 
--- a fault of a log group among those of words; want of memory is told as that alone
+-- an error of a log group as one of the command line; out of memory is reported alone
 abbrev pub told_of_log_group : LogGroupFault → CliFault
 told_of_log_group log_group.Memory = code.Memory
 told_of_log_group fault = code.LogGroup fault
 
--- a fault of a piece or its kind among those of words; want of memory is told as that alone
+-- an error of a piece or its kind as one of the command line; out of memory is reported alone
 abbrev pub told_of_partition : PartitionFault → CliFault
 told_of_partition partition.Memory = code.Memory
 told_of_partition fault = code.Partition fault
 
--- a check passes just where its rule has no fault, and else gives that fault, unless memory ran out,
--- which is told as that alone
+-- a check passes exactly where its rule gives no error, and else gives that error, unless memory
+-- ran out, which is reported alone
 abbrev pub Checks : {A : Type 0} → Result A CliFault → Option Fault → Type 0
 Checks (Ok a) rule = rule ≡ None
 Checks (Err e) rule = MatchOption (fault_of e) (e ≡ code.Memory) (λ fault. rule ≡ Some fault)

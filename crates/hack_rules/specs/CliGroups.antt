@@ -5,14 +5,14 @@ use Rattle.hack_features.specs.Feature.{IsGroup, IsNormal, group_of}
 use Rattle.hack_rules.specs.CliLists.{Lift, lift_of}
 use Rattle.hack_base.specs.Lists.{group_names}
 
--- one group for each text, of the names in it
+-- one group for each text, with the names in it
 abbrev pub AreGroupsOf : List (List ℕ) → List Feature → Type 0
 AreGroupsOf [] [] = Unit {0}
 AreGroupsOf [] (feature ∷ features) = ⊥
 AreGroupsOf (text ∷ texts) [] = ⊥
 AreGroupsOf (text ∷ texts) (feature ∷ features) = IsGroup (group_names text) feature × AreGroupsOf texts features
 
--- one feature of that name for each name
+-- one feature for each name, called by it
 abbrev pub AreNormalsOf : List (List ℕ) → List Feature → Type 0
 AreNormalsOf [] [] = Unit {0}
 AreNormalsOf [] (feature ∷ features) = ⊥
@@ -30,6 +30,6 @@ AreLifts (lift ∷ lifts) (pair ∷ pairs) = (string_bytes pair.0 ≡ lift.owner
 abbrev pub lift_in : {Y : Type 0} → String Y × Feature → Lift
 lift_in pair = record { owner = string_bytes pair.0; group = group_of pair.1 }
 
--- these are what the texts are read as, one for each
+-- these are the lifts that the texts are read as, one for each
 abbrev pub AreReadAs : {Y Z : Type 0} → List (String Y) → List (String Z × Feature) → Type 0
 AreReadAs texts pairs = map (λ text. lift_of (string_bytes text)) texts ≡ map (λ pair. Some (lift_in pair)) pairs

@@ -17,7 +17,7 @@ names_given o us = flat_map list_names (values_given o us)
 abbrev pub groups_given : Opt → List Use → List (List (List ℕ))
 groups_given o us = map group_names (values_given o us)
 
--- the names of a list that may be left out; empty ones count
+-- the names of a value that may be left out; empty names count
 abbrev pub names_or_none : Option (List ℕ) → List (List ℕ)
 names_or_none None = []
 names_or_none (Some text) = group_names (without_quotes text)
@@ -31,7 +31,7 @@ pub record Lift : Type 0 where
   pub owner : List ℕ
   pub group : List (List ℕ)
 
--- PACKAGE=FEATURES, cut at its first `=`, with a package and two features or more
+-- PACKAGE=FEATURES, split at its first `=`, with a package and two features or more
 abbrev pub lift_of : List ℕ → Option Lift
 lift_of text = of_rest (front_of 61 text) (rest_of 61 text)
   where
@@ -55,7 +55,7 @@ abbrev pub first_failing : (List ℕ → Bool) → List (List ℕ) → Option (L
 first_failing test [] = None
 first_failing test (text ∷ texts) = if test text then first_failing test texts else Some text
 
--- a text lifts a group
+-- a text lifts a group, as PACKAGE=FEATURES
 abbrev pub is_lift : List ℕ → Bool
 is_lift text = is_some (lift_of text)
   where
@@ -63,7 +63,7 @@ is_lift text = is_some (lift_of text)
     is_some (Some lift) = true
     is_some None = false
 
--- the names of a text that lifts a group are those of one of these groups
+-- a text lifts a group whose names are those of one of these groups
 abbrev pub lifts_one_of : List (List (List ℕ)) → List ℕ → Bool
 lifts_one_of groups text = is_one (lift_of text)
   where
@@ -71,15 +71,15 @@ lifts_one_of groups text = is_one (lift_of text)
     is_one (Some lift) = list_any (same_names lift.group) groups
     is_one None = false
 
--- the first value of another form
+-- the error of the first value that isn't PACKAGE=FEATURES
 abbrev pub lift_form : List Use → Option Fault
 lift_form us = option_map LiftForm (first_failing is_lift (values_given opt.AllowTogether us))
 
--- the first value whose names are those of none of these groups
+-- the error of the first value whose names are those of none of these groups
 abbrev pub lift_group : List (List (List ℕ)) → List Use → Option Fault
 lift_group exclusive us = option_map LiftGroup (first_failing (lifts_one_of exclusive) (values_given opt.AllowTogether us))
 
--- the first of two faults
+-- the first of two errors
 abbrev pub first_fault_of : Option Fault → Option Fault → Option Fault
 first_fault_of (Some fault) later = Some fault
 first_fault_of None later = later

@@ -1,4 +1,4 @@
--- What is wrong with the texts of options.
+-- What is wrong with the values of options.
 use Rattle.std.specs.Prelude.{ℕ, ◌==◌, List, Option, Some, None, Result, Ok, Err, if◌then◌else◌}
 use Rattle.hack_base.specs.Numbers.{number_of}
 use Rattle.hack_versions.specs.Readings.{BadRange, range_of}
@@ -6,7 +6,7 @@ use Rattle.hack_term.specs.Groups.{log_group_of}
 use Rattle.hack_term.specs.Partitions.{piece_of, kind_of}
 use Rattle.hack_rules.specs.CliFaults.{Fault, Number, ZeroStep, LogGroup, Partition, PartitionKind, Range}
 
--- the fault of a text, unless something is read
+-- the error of a text, unless it could be read
 abbrev pub unless_read : {A : Type 0} → Fault → Option A → Option Fault
 unless_read fault (Some a) = None
 unless_read fault None = Some fault
@@ -23,7 +23,7 @@ step_fault text = of_number (number_of 16 text)
     of_number (Some n) = if n == 0 then Some ZeroStep else None
     of_number None = Some (Number text)
 
--- a kind of log groups goes by its name
+-- a kind of log groups is given by its name
 abbrev pub log_group_fault : List ℕ → Option Fault
 log_group_fault text = unless_read (LogGroup text) (log_group_of text)
 
@@ -31,15 +31,15 @@ log_group_fault text = unless_read (LogGroup text) (log_group_of text)
 abbrev pub partition_fault : List ℕ → Option Fault
 partition_fault text = unless_read (Partition text) (piece_of text)
 
--- a kind of pieces goes by its name
+-- a kind of pieces is given by its name
 abbrev pub kind_fault : List ℕ → Option Fault
 kind_fault text = unless_read (PartitionKind text) (kind_of text)
 
--- the fault of a range, unless it was read
+-- the error of a range, unless it could be read
 abbrev pub bad_range_fault : {A : Type 0} → Result A BadRange → Option Fault
 bad_range_fault (Ok a) = None
 bad_range_fault (Err bad) = Some (Range bad)
 
--- a range of versions
+-- the error of a range of versions
 abbrev pub range_fault : List ℕ → Option Fault
 range_fault text = bad_range_fault (range_of text)

@@ -1,4 +1,4 @@
--- The rules behind that on a missing subcommand.
+-- The rules that are checked after the one on a missing subcommand.
 use Rattle.std.specs.Prelude.{ℕ, ◌&&◌, ◌||◌, List, [], ◌∷◌, Bool, Option, Some, None, nat_lt}
 use Rattle.hack_options.specs.declared.opt.Opt.{Opt}
 use Rattle.hack_options.specs.declared.opt.Opt.TheVariants as opt
@@ -11,12 +11,12 @@ use Rattle.hack_rules.specs.CliValues.{step_fault, log_group_fault, partition_fa
 use Rattle.hack_rules.specs.Listed.{Listed}
 use Rattle.hack_rules.specs.Rules.{fault_if, first_of, of_value, needs, clash}
 
--- an option that wants a newer rustup, where its minor version is known
+-- an option that needs a newer rustup, where rustup's minor version is known
 abbrev pub rustup_rule : Opt → Option ℕ → List Use → Option Fault
 rustup_rule option None us = None
 rustup_rule option (Some minor) us = fault_if (is_given option us && nat_lt minor 23) (OldRustup option)
 
--- a range of versions is asked
+-- a range of versions is given
 abbrev pub is_ranged : List Use → Bool
 is_ranged us = is_given opt.VersionRange us || is_given opt.RustVersion us
 
@@ -47,7 +47,7 @@ lift_rules l us =
     ∷ first_fault_of (lift_form us) (lift_group l.exclusive us)
     ∷ []
 
--- the rules behind that on a missing subcommand
+-- the rules that are checked after the one on a missing subcommand
 abbrev pub rules_after : Option ℕ → Listed → List Use → List (Option Fault)
 rules_after rustup l us =
     first_of (range_rules rustup us)

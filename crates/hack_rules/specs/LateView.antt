@@ -6,7 +6,7 @@ use Rattle.hack_rules.specs.CliGroups.{AreLifts}
 use Rattle.hack_rules.specs.CliLists.{lifts_given}
 use Rattle.hack_rules.specs.declared.late.Late.{Late}
 
--- what uses ask for of versions, log groups and pieces
+-- what uses of options ask for about versions, log groups and pieces
 pub record IsLate (github_actions : Bool) (us : List Use) (late : Late) : Type 0 where
   pub range : late.versions.range ≡ range_asked us
   pub old : late.versions.is_old ≡ is_old_asked us

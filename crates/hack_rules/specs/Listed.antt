@@ -1,4 +1,4 @@
--- The lists of features that rules look at.
+-- The lists of features that the rules need.
 use Rattle.std.specs.Prelude.{ℕ, List, Option}
 use Rattle.hack_options.specs.declared.opt.Opt.TheVariants as opt
 use Rattle.hack_uses.specs.Uses.{Use}
@@ -13,7 +13,7 @@ pub record Listed : Type 0 where
   pub groups : List (List (List ℕ))
   pub exclusive : List (List (List ℕ))
 
--- what uses list
+-- the lists that uses of options give
 abbrev pub listed_by : List Use → Listed
 listed_by us = record {
   features = names_given opt.Features us;

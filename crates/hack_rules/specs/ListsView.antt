@@ -1,11 +1,11 @@
--- The lists of the code, as rules look at them.
+-- The lists in the code, as the rules see them.
 use Rattle.std.specs.Prelude.{option_map}
 use Rattle.hack_features.specs.Feature.{groups_of}
 use Rattle.hack_base.specs.Names.{names_of}
 use Rattle.hack_rules.specs.Listed.{Listed}
 use Rattle.hack_rules.specs.declared.listed.Lists.{Lists}
 
--- what the lists have
+-- the contents of the lists
 abbrev pub listed_in : Lists → Listed
 listed_in lists = record {
   features = names_of lists.features.items;

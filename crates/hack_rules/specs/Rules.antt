@@ -1,4 +1,5 @@
--- What rules on uses of options are made of, each the fault that it gives, if any; and what rules come to.
+-- The parts that rules on uses of options are made of, each with the error that it gives, if any;
+-- and the verdict of rules.
 use Rattle.std.specs.Prelude.{ℕ, ◌&&◌, not, List, [], ◌∷◌, Bool, Option, Some, None, length, nat_lt, bytes_eq, option_and_then, if◌then◌else◌}
 use Rattle.std.specs.List.{list_any}
 use Rattle.hack_options.specs.declared.opt.Opt.{Opt}
@@ -6,43 +7,43 @@ use Rattle.hack_uses.specs.Uses.{Use, is_given}
 use Rattle.hack_rules.specs.declared.fault.Beside.{Beside}
 use Rattle.hack_rules.specs.CliFaults.{Fault, Needs, Clash}
 
--- a fault where a test is true
+-- an error where a test is true
 abbrev pub fault_if : Bool → Fault → Option Fault
 fault_if b fault = if b then Some fault else None
 
--- the first of some faults
+-- the first of some errors
 abbrev pub first_of : List (Option Fault) → Option Fault
 first_of [] = None
 first_of (Some fault ∷ faults) = Some fault
 first_of (None ∷ faults) = first_of faults
 
--- the fault of a value, where there is one
+-- the error of a value, where there is a value
 abbrev pub of_value : (List ℕ → Option Fault) → Option (List ℕ) → Option Fault
 of_value rule value = option_and_then rule value
 
--- an option that is there though nothing that it stands beside is
+-- the error of an option that is given without any of those that it needs
 abbrev pub needs : Bool → Opt → Beside → Bool → Option Fault
 needs is_there option others others_there = fault_if (is_there && not others_there) (Needs option others)
 
--- two options that don't stand together
+-- the error of two options that exclude each other
 abbrev pub clash : Opt → Opt → List Use → Option Fault
 clash option other us = fault_if (is_given option us && is_given other us) (Clash option other)
 
--- there is an element
+-- the list isn't empty
 abbrev pub is_nonempty : List (List ℕ) → Bool
 is_nonempty names = nat_lt 0 (length names)
 
--- one of the names
+-- the name is one of these
 abbrev pub is_among : List (List ℕ) → List ℕ → Bool
 is_among names name = list_any (λ one. bytes_eq one name) names
 
--- what uses come to
+-- the verdict on uses of options
 pub data Verdict : Type 0 where
   Accepted : Verdict
   Lists : Verdict
   Refused : Fault → Verdict
 
--- refused by the fault, if there is one
+-- refused with the error, if there is one
 abbrev pub refused_by : Option Fault → Verdict → Verdict
 refused_by (Some fault) verdict = Refused fault
 refused_by None verdict = verdict

@@ -1,4 +1,4 @@
--- What uses of options come to by all rules.
+-- The verdict of all rules on uses of options.
 use Rattle.std.specs.Prelude.{ℕ, List, Option}
 use Rattle.hack_uses.specs.declared.behavior.WorkspaceBehavior.{WorkspaceBehavior}
 use Rattle.hack_uses.specs.Uses.{Use, subcommand_of}
@@ -8,7 +8,7 @@ use Rattle.hack_rules.specs.Early.{rules_before}
 use Rattle.hack_rules.specs.Bare.{bare_verdict}
 use Rattle.hack_rules.specs.Late.{rules_after}
 
--- the verdict on uses: the first rule that gives a fault refuses them
+-- the verdict on uses: the first rule that gives an error refuses them
 abbrev pub verdict_of : WorkspaceBehavior → Option (List ℕ) → Option ℕ → List Use → Verdict
 verdict_of behavior term_color rustup us =
     refused_by (first_of (rules_before behavior term_color (listed_by us) us))

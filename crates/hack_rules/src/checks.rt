@@ -11,7 +11,7 @@ use crate::fault::{Beside, CliFault};
 use hack_options::Opt;
 use hack_uses::{Use, given};
 
-/// Refused where an option is there, and nothing that it stands beside is.
+/// Refuses an option that is given without any of those that it needs.
 pub fn needs(there: bool, option: Opt, beside: Beside, others: bool) -> Result<(), CliFault>
     ensures { Checks result (needs_rule there option beside others) }
 {
@@ -21,7 +21,7 @@ pub fn needs(there: bool, option: Opt, beside: Beside, others: bool) -> Result<(
     Ok(())
 }
 
-/// Refused where both options are there.
+/// Refuses two options that are both given.
 pub fn clash(option: Opt, other: Opt, uses: &[Use]) -> Result<(), CliFault>
     ensures { Checks result (clash_rule option other (views uses.now)) }
 {
@@ -31,14 +31,14 @@ pub fn clash(option: Opt, other: Opt, uses: &[Use]) -> Result<(), CliFault>
     Ok(())
 }
 
-/// There is a name.
+/// Whether there is a name.
 pub fn has_some(names: &[String]) -> bool
     ensures { result ≡ is_nonempty (names_of names.now) }
 {
     !names.is_empty()
 }
 
-/// One of the names.
+/// Whether the name is one of these.
 pub fn has(names: &[String], name: &str) -> bool
     ensures { result ≡ is_among (names_of names.now) name.now }
 {

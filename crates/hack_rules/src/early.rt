@@ -1,5 +1,5 @@
-//! The rules before that on a missing subcommand. Each is checked in its order, and the first that
-//! is broken gives the fault.
+//! The rules that are checked before the one on a missing subcommand. They are checked in order,
+//! and the first that is broken gives the error.
 
 ghost use Rattle.std.specs.Prelude.{◌≡◌, IfOk, option_map};
 ghost use Rattle.hack_features.specs.Feature.{groups_of};
@@ -44,7 +44,7 @@ fn group_has(groups: &[Feature], name: &str) -> bool
     false
 }
 
-/// The colouring of the words, else that of the environment.
+/// The colouring of the command line, else that of the environment.
 fn coloring(term_color: Option<&String>, uses: &[Use]) -> Result<Coloring, CliFault>
     ensures rule { Checks result (color_rule (value_given Opt.Color (views uses.now))
         (optional_text_ref term_color.entry)) }
@@ -71,7 +71,7 @@ fn coloring(term_color: Option<&String>, uses: &[Use]) -> Result<Coloring, CliFa
     }
 }
 
-/// Unknown features are ignored in a list of features.
+/// `--ignore-unknown-features` needs a list of features.
 fn beside_lists(lists: &Lists, uses: &[Use]) -> Result<(), CliFault>
     ensures { Checks result (unknown_rule (listed_in lists.now) (views uses.now)) }
 {
@@ -88,7 +88,7 @@ fn is_each(uses: &[Use]) -> bool
     given(Opt::EachFeature, uses) || given(Opt::FeaturePowerset, uses)
 }
 
-/// Refused where the option is there and `--each-feature` and `--feature-powerset` are not.
+/// Refuses the option where neither `--each-feature` nor `--feature-powerset` is given.
 fn needs_each(there: bool, option: Opt, uses: &[Use]) -> Result<(), CliFault>
     ensures { Checks result (needs_rule there option Beside.EachOrPowerset
         (each (views uses.now))) }
@@ -96,7 +96,7 @@ fn needs_each(there: bool, option: Opt, uses: &[Use]) -> Result<(), CliFault>
     needs(there, option, Beside::EachOrPowerset, is_each(uses))
 }
 
-/// What stands beside `--each-feature` or `--feature-powerset`.
+/// Options that need `--each-feature` or `--feature-powerset`.
 fn beside_each(lists: &Lists, uses: &[Use]) -> Result<(), CliFault>
     ensures { Checks result (first_of (each_rules (listed_in lists.now) (views uses.now))) }
 {
@@ -113,7 +113,7 @@ fn beside_each(lists: &Lists, uses: &[Use]) -> Result<(), CliFault>
     needs_each(given(option, uses), option, uses)
 }
 
-/// Refused where the option is there and `--feature-powerset` is not.
+/// Refuses the option where `--feature-powerset` isn't given.
 fn needs_powerset(option: Opt, uses: &[Use]) -> Result<(), CliFault>
     ensures { Checks result (needs_rule (is_given option (views uses.now)) option Beside.Powerset
         (is_given Opt.FeaturePowerset (views uses.now))) }
@@ -122,7 +122,7 @@ fn needs_powerset(option: Opt, uses: &[Use]) -> Result<(), CliFault>
     needs(given(option, uses), option, Beside::Powerset, there)
 }
 
-/// What stands beside `--feature-powerset`.
+/// Options that need `--feature-powerset`.
 fn beside_powerset(uses: &[Use]) -> Result<(), CliFault>
     ensures { Checks result (first_of (powerset_rules (views uses.now))) }
 {
@@ -143,7 +143,7 @@ fn depth(alloc: Global, uses: &[Use]) -> Result<Option<usize>, CliFault>
     }
 }
 
-/// Refused where a use of the option has a single name.
+/// Refuses a use of the option that has a single name.
 fn lists_two(option: Opt, uses: &[Use]) -> Result<(), CliFault>
     ensures { Checks result (single_rule option (views uses.now)) }
 {
@@ -170,7 +170,7 @@ fn groups_list_two(uses: &[Use]) -> Result<(), CliFault>
     lists_two(Opt::AtLeastOneOf, uses)
 }
 
-/// Subcommands beside which some options don't stand.
+/// Subcommands that exclude some options, and `install`, which is refused.
 fn beside_subcommand(uses: &[Use]) -> Result<(), CliFault>
     ensures { Checks result (subcommand_rule (subcommand_of (views uses.now)) (views uses.now)) }
 {
@@ -196,7 +196,7 @@ fn beside_subcommand(uses: &[Use]) -> Result<(), CliFault>
     Ok(())
 }
 
-/// Refused where the option stands beside Cargo's own handling of workspaces.
+/// Refuses the option where Cargo handles workspaces.
 fn beside_cargo(behavior: WorkspaceBehavior, option: Opt, uses: &[Use]) -> Result<(), CliFault>
     ensures { Checks result (cargo_rule behavior option (views uses.now)) }
 {
@@ -227,7 +227,7 @@ fn is_target_name(word: &str) -> bool
     word.starts_with("--example=") || word.starts_with("--test=") || word.starts_with("--bench=")
 }
 
-/// The first word for cargo that picks targets which need dev-dependencies.
+/// The first argument for cargo that selects targets which need dev-dependencies.
 fn target_choice(leading: &[String]) -> Option<&String>
     ensures { optional_text_ref result
         ≡ first_target_word (names_of leading.now) }
@@ -240,7 +240,7 @@ fn target_choice(leading: &[String]) -> Option<&String>
     None
 }
 
-/// No dev-dependencies are left out beside a word that picks targets which need them.
+/// Dev-dependencies can't be left out beside an argument that selects targets which need them.
 fn beside_targets(leading: &[String], uses: &[Use]) -> Result<(), CliFault>
     ensures { Checks result (target_rule (views uses.now)
         (first_target_word (names_of leading.now))) }
@@ -263,7 +263,7 @@ fn beside_targets(leading: &[String], uses: &[Use]) -> Result<(), CliFault>
     Ok(())
 }
 
-/// Features that are listed to be included stand alone.
+/// A list of features to include excludes some options.
 fn beside_includes(lists: &Lists, uses: &[Use]) -> Result<(), CliFault>
     ensures { Checks result (first_of (include_rules (listed_in lists.now) (views uses.now))) }
 {
@@ -286,7 +286,7 @@ fn beside_includes(lists: &Lists, uses: &[Use]) -> Result<(), CliFault>
     Ok(())
 }
 
-/// Options that don't stand together.
+/// Pairs of options that exclude each other.
 fn check_pairs(uses: &[Use]) -> Result<(), CliFault>
     ensures { Checks result (first_of (pair_rules (views uses.now))) }
 {
@@ -298,7 +298,7 @@ fn check_pairs(uses: &[Use]) -> Result<(), CliFault>
     clash(Opt::NoDefaultFeatures, Opt::FeaturePowerset, uses)
 }
 
-/// One of the optional dependencies, where they are named.
+/// Whether the name is one of the optional dependencies, where these are named.
 fn optional_has(names: Option<&Vec<String>>, name: &str) -> bool
     ensures { result ≡ is_optional (option_map
         (λ names. names_of names.now.items) names.entry) name.now }
@@ -328,7 +328,7 @@ fn naming(lists: &Lists, name: &str) -> Option<Opt>
     }
 }
 
-/// No option names a feature that is excluded.
+/// Refuses an option that names a feature which is excluded.
 fn check_excluded(lists: &Lists) -> Result<(), CliFault>
     ensures { Checks result (excluded_rule (listed_in lists.now) (listed_in lists.now).excludes) }
 {
@@ -343,7 +343,8 @@ fn check_excluded(lists: &Lists) -> Result<(), CliFault>
     Ok(())
 }
 
-/// Groups, and what doesn't stand together. `leading` has the words that are passed on to cargo.
+/// Rules on groups, and on options that exclude each other. `leading` has the arguments that are
+/// passed on to cargo.
 fn check_together(
     behavior: WorkspaceBehavior,
     lists: &Lists,
@@ -371,7 +372,7 @@ pub struct Early {
     pub depth: Option<usize>,
 }
 
-/// Colour, what stands beside lists and runs by features, and the depth.
+/// Rules on colour, on options that need lists or runs by features, and on the depth.
 fn check_lists(
     alloc: Global,
     term_color: Option<&String>,
@@ -394,7 +395,7 @@ fn check_lists(
     Ok(Early { coloring, depth })
 }
 
-/// The rules before that on a missing subcommand, and what they read.
+/// Checks the rules before the one on a missing subcommand, and returns what they read.
 pub fn check(
     alloc: Global,
     behavior: WorkspaceBehavior,

@@ -1,4 +1,4 @@
-//! Why the words of a call are refused.
+//! Why a command line is refused.
 
 ghost use Rattle.std.specs.Prelude.{◌≡◌};
 ghost use Rattle.hack_rules.specs.CliFaults.{told_of_cut, told_of_range, told_of_log_group};
@@ -14,7 +14,7 @@ use std::alloc::{AllocError, AllocFailed};
 use std::fmt;
 use thiserror::Error;
 
-/// What an option stands beside.
+/// What an option needs beside it.
 #[derive(Clone, Copy, Debug, PartialEq, Eq)]
 pub enum Beside {
     /// A list of features.
@@ -39,24 +39,24 @@ impl fmt::Display for Beside {
     }
 }
 
-/// Why the words of a call are refused.
+/// Why a command line is refused.
 #[derive(Debug, Drop, Error)]
 pub enum CliFault {
-    /// There is no word.
+    /// There is no argument.
     #[error("expected subcommand 'hack'")]
     NoWord,
-    /// The first word is another one.
+    /// The first argument isn't `hack`.
     #[error("expected subcommand 'hack', found argument '{found}'")]
     NotHack { found: String },
-    /// A word can't be cut into an option.
+    /// An argument can't be parsed into an option.
     #[error("{fault}")]
     Cut { fault: CutFault },
     #[error("argument for --color must be auto, always, or never, but found `{found}`")]
     Color { found: String },
-    /// The same of the environment, where the words don't say a colouring.
+    /// The same for the environment, where the command line gives no colouring.
     #[error("CARGO_TERM_COLOR must be auto, always, or never, but found `{found}`")]
     TermColor { found: String },
-    /// The option stands only beside others, and none of them is there.
+    /// The option needs others, and none of them is given.
     #[error("{name} can only be used together with {beside}", name = .option.with_alias())]
     Needs { option: Opt, beside: Beside },
     #[error("invalid number `{found}`")]
@@ -70,7 +70,7 @@ pub enum CliFault {
     Install,
     #[error("{option} may not be used together with {other}")]
     Clash { option: Opt, other: Opt },
-    /// The word is one that is passed on to cargo.
+    /// The other argument is one that is passed on to cargo.
     #[error("{option} may not be used together with {word}")]
     ClashWord { option: Opt, word: String },
     /// The option names a feature that is excluded.

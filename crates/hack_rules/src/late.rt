@@ -1,5 +1,5 @@
-//! The rules behind that on a missing subcommand: ranges of versions, log groups, pieces of a plan
-//! and lifted groups.
+//! The rules that are checked after the one on a missing subcommand: on ranges of versions, log
+//! groups, pieces of a plan and lifted groups.
 
 ghost use Rattle.std.specs.Prelude.{◌≡◌, IfOk, IfSome, option_map, option_and_then};
 ghost use Rattle.std.specs.List.{list_any};
@@ -30,10 +30,10 @@ use hack_uses::{OwnedFlag, Use, given, value};
 use hack_versions::version::VersionRange;
 use std::alloc::Global;
 
-/// The first minor version of rustup that runs what a range asks for.
+/// The first minor version of rustup that can run what a range asks for.
 const LEAST_RUSTUP: u32 = 23;
 
-/// Refused where the option is there and rustup is known to be too old for it.
+/// Refuses the option where rustup is known to be too old for it.
 fn new_rustup(option: Opt, rustup: Option<u32>, uses: &[Use]) -> Result<(), CliFault>
     ensures { Checks result (rustup_rule option rustup (views uses.now)) }
 {
@@ -46,23 +46,23 @@ fn new_rustup(option: Opt, rustup: Option<u32>, uses: &[Use]) -> Result<(), CliF
     Ok(())
 }
 
-/// A range of versions is asked.
+/// Whether a range of versions is given.
 pub fn is_ranged(uses: &[Use]) -> bool
     ensures { result ≡ ranged (views uses.now) }
 {
     given(Opt::VersionRange, uses) || given(Opt::RustVersion, uses)
 }
 
-/// What is asked of versions.
+/// What the options on versions ask for.
 #[derive(Clone, Copy)]
 pub struct Versions {
     pub range: Option<VersionRange>,
-    /// The range has the form `1.60..1.70`, in place of `1.60..=1.70`.
+    /// The range has the form `1.60..1.70` instead of `1.60..=1.70`.
     pub is_old: bool,
     pub step: u16,
 }
 
-/// The range that is given, and whether it has the old form.
+/// The given range, and whether it has the old form.
 fn said_range(alloc: Global, uses: &[Use]) -> Result<Option<(VersionRange, bool)>, CliFault>
     ensures rule { Checks result (of_value range_fault
         (value_given Opt.VersionRange (views uses.now))) }
@@ -133,7 +133,7 @@ fn is_message_format(one: &Use) -> bool
     }
 }
 
-/// Cargo's messages are formatted, so that lines of ours among them would be in the way.
+/// Whether cargo's messages are formatted: then lines of `cargo hack` would be in the way.
 fn formats_messages(uses: &[Use]) -> bool
     ensures { result ≡ list_any message_format (views uses.now) }
 {
@@ -161,7 +161,7 @@ fn log_group(alloc: Global, github_actions: bool, uses: &[Use]) -> Result<LogGro
     Ok(group)
 }
 
-/// The piece of the plan, with the way in which places are dealt to pieces.
+/// The piece of the plan, and how places are assigned to pieces.
 fn partition(alloc: Global, uses: &[Use]) -> Result<Option<Partition>, CliFault>
     ensures rules { Checks result (first_of (piece_rules (views uses.now))) }
     ensures piece { IfOk result (λ partition.
@@ -213,8 +213,8 @@ pub struct Late {
     pub lifts: Vec<(String, Feature)>,
 }
 
-/// The rules behind that on a missing subcommand, and what they read. `rustup` is its minor
-/// version, where known.
+/// Checks the rules after the one on a missing subcommand, and returns what they read. `rustup` is
+/// its minor version, where known.
 pub fn check(
     alloc: Global,
     rustup: Option<u32>,

@@ -1,6 +1,6 @@
-//! The rules that the options of a call of `cargo hack` keep, in three groups: those before the
-//! rule on a missing subcommand (`early`), that one (`bare`), and those behind it (`late`); and what
-//! they read of the uses of options. Callers take all of this from `hack_words::cli`.
+//! The rules on the options of a call of `cargo hack`, in three groups: those before the rule on a
+//! missing subcommand (`early`), that rule (`bare`), and those after it (`late`); and what they
+//! read of the uses of options. Callers use all of this through `hack_words::cli`.
 #![tactic(auto)]
 
 pub mod bare;

@@ -10,13 +10,13 @@ use hack_options::Opt;
 use hack_uses::Use;
 use std::alloc::{AllocError, Global};
 
-/// The lists of features that a call names, as its words have them.
+/// The lists of features that a call names, as its arguments give them.
 #[derive(Drop)]
 pub struct Lists {
     pub features: Vec<String>,
     pub include_features: Vec<String>,
     pub exclude_features: Vec<String>,
-    /// None where optional dependencies aren't asked for, and empty where all of them are.
+    /// None where `--optional-deps` isn't given; empty means all of them.
     pub optional_deps: Option<Vec<String>>,
     pub group_features: Vec<Feature>,
     pub mutually_exclusive_features: Vec<Feature>,
@@ -27,7 +27,7 @@ impl Lists {
     ghost use Rattle.hack_rules.specs.Listed.{listed_by};
     ghost use Rattle.hack_rules.specs.ListsView.{listed_in};
 
-    /// The lists that uses of options name.
+    /// The lists that uses of options give.
     pub fn of(alloc: Global, uses: &[Use]) -> Result<Lists, AllocError>
         ensures listed { IfOk result (λ lists. listed_in lists ≡ listed_by (views uses.now)) }
         ensures groups { IfOk result (λ lists.

@@ -36,7 +36,7 @@ pub fn names(alloc: Global, option: Opt, uses: &[Use]) -> Result<Vec<String>, Al
     Ok(names)
 }
 
-/// The names of a list that may be left out.
+/// The names of a value that may be left out.
 fn names_or_empty(alloc: Global, text: Option<&String>) -> Result<Vec<String>, AllocError>
     ensures { IfOk result (λ names. map string_bytes names.items
         ≡ names_or_none (optional_text_ref text.entry)) }
@@ -47,7 +47,7 @@ fn names_or_empty(alloc: Global, text: Option<&String>) -> Result<Vec<String>, A
     }
 }
 
-/// The names of `--optional-deps`, where it is used. Empty names count, and without a value there
+/// The names of `--optional-deps`, where it is given. Empty names count, and without a value there
 /// are none.
 pub fn optional_names(alloc: Global, uses: &[Use]) -> Result<Option<Vec<String>>, AllocError>
     ensures { IfOk result (λ names. option_map (λ list. map string_bytes list.items) names
@@ -60,7 +60,7 @@ pub fn optional_names(alloc: Global, uses: &[Use]) -> Result<Option<Vec<String>>
     Ok(Some(names))
 }
 
-/// The group of the names in one text.
+/// The group of names in one text.
 fn group(alloc: Global, text: &str) -> Result<Feature, AllocError>
     ensures { IfOk result (IsGroup (group_names text.now)) }
 {
@@ -126,7 +126,7 @@ pub fn targets(alloc: Global, uses: &[Use]) -> Result<Vec<String>, AllocError>
     in_order(alloc, set)
 }
 
-/// A value of `--allow-together`, cut into its package and its list of features.
+/// A value of `--allow-together`, split into its package and its list of features.
 fn cut_lift(text: &str) -> Option<(&str, &str)>
     ensures { option_map (λ parts. record
         { owner = parts.0.now; group = group_names parts.1.now }) result ≡ lift_of text.now }
@@ -138,7 +138,7 @@ fn cut_lift(text: &str) -> Option<(&str, &str)>
     Some((owner, features))
 }
 
-/// The packages with the groups that the values lift for them, where each value has the form of
+/// Packages, each with the group that a value lifts for it. Each value must have the form of
 /// `--allow-together`.
 fn lifts_of(alloc: Global, texts: &[String]) -> Result<Vec<(String, Feature)>, CliFault>
     ensures lifts { IfOk result (λ lifts.
@@ -161,14 +161,14 @@ fn lifts_of(alloc: Global, texts: &[String]) -> Result<Vec<(String, Feature)>, C
     Ok(lifts)
 }
 
-/// Whether the names of the group are these, in this order.
+/// Whether the group has exactly these names, in this order.
 fn is_named(group: &Feature, names: &[String]) -> bool
     ensures { result ≡ same_names (names_of names.now) (group_of group.now) }
 {
     names == group.as_group()
 }
 
-/// Whether the names of one group are these, in this order.
+/// Whether one group has exactly these names, in this order.
 fn has_names(groups: &[Feature], names: &[String]) -> bool
     ensures { result ≡ list_any (same_names (names_of names.now)) (map group_of groups.now) }
 {
@@ -180,7 +180,7 @@ fn has_names(groups: &[Feature], names: &[String]) -> bool
     false
 }
 
-/// Each value lifts one of the groups. `lifts` is what the values were read as.
+/// Each value must lift one of the groups. `lifts` is what the values were read as.
 fn check_groups(
     groups: &[Feature],
     texts: &[String],
@@ -200,8 +200,8 @@ fn check_groups(
     Ok(())
 }
 
-/// The packages with the exclusion groups that are lifted for them. A value of another form is told
-/// before one whose names are those of no group.
+/// Packages, each with an exclusion group that is lifted for it. A value of a wrong form is
+/// reported before one whose names are those of no group.
 pub fn lifts(
     alloc: Global,
     exclusive: &[Feature],

@@ -1,4 +1,4 @@
-//! What the texts of options are read as that are numbers.
+//! Values of options that are numbers.
 
 ghost use Rattle.std.specs.Prelude.{◌≡◌, IfOk, Some};
 ghost use Rattle.hack_rules.specs.CliFaults.{Checks};

@@ -1,9 +1,9 @@
-//! Calls as questions: what is shown, the words, and behind each `;` what is given besides the
+//! Calls as questions: what is shown, the arguments, and after each `;` what is given besides the
 //! world of the test, as in `err changes: hack check; fails 1 cargo check`.
 //!
-//! Of a whole call the sections of `shown` are shown, where none is named the calls, both streams
-//! and the changes of files; at last comes its status. The other questions are those of the modules
-//! `edits`, `journaled`, `listed`, `sessions`, `steps` and `toolchains`.
+//! Of a whole call the sections of `shown` are shown; if none is named, these are the calls, both
+//! streams and the changes of files. The status comes last. The other questions are those of the
+//! modules `edits`, `journaled`, `listed`, `sessions`, `steps` and `toolchains`.
 
 use crate::edits::edits;
 use crate::journaled::journaled;
@@ -21,7 +21,7 @@ use std::alloc::{AllocError, Global};
 /// The sections of a whole call where none is named.
 const ALL: &str = "calls err out changes";
 
-/// The world that questions are asked of.
+/// The world in which questions are answered.
 #[derive(Clone, Copy)]
 struct Asked<'a> {
     world: &'a str,
@@ -68,7 +68,7 @@ fn called(alloc: Global, world: &str, words: &str, sections: &str) -> Result<Str
     format!(in alloc; "{text}status {status}")
 }
 
-/// Holds rows on a world.
+/// Checks rows in a world.
 pub fn on(alloc: Global, world: &str, rows: &str) -> Result<(), Wrong> {
     let mut asked = Asked { world };
     hold(alloc, &mut asked, rows)

@@ -1,5 +1,5 @@
-//! Manifests that are edited by themselves: `edits` with words answers the notices and the changes
-//! up to the edits, and behind `back` the changes at the end, and how many of those failed.
+//! Manifests that are edited without a call: `edits` with arguments answers the notices and the
+//! changes up to the edits, and after `back` the changes at the end, and how many of those failed.
 
 use crate::asked::on;
 use crate::scene::{Off, Scene, context_of, scene_of};
@@ -20,7 +20,7 @@ fn push_notices(text: &mut String, notices: &[Notice]) -> Result<(), AllocError>
     Ok(())
 }
 
-/// The notices, or the fault.
+/// The notices, or the error.
 fn push_told(
     text: &mut String,
     alloc: Global,

@@ -1,5 +1,5 @@
-//! Calls over files of which one call fails, the first one first: the errors that are told, the paths
-//! that are left with something else than at first, and the status.
+//! Calls on files of which one call fails, from the first on: the errors that are printed, the
+//! paths whose contents differ from those at first, and the status.
 
 use crate::asked::on;
 use crate::worlds::{ROOT, VIRTUAL};
@@ -39,8 +39,8 @@ fn a_package(rt: HostRuntime) -> Result<(), Wrong> {
     )
 }
 
-// Both members are read, and the public one is written; the workspace's manifest, which no member
-// has, is read and written; the lockfile is looked for, and both are written back.
+// Both members are read, and the public one is written; the workspace's manifest, which belongs to
+// no member, is read and written; the lockfile is looked for, and both are written back.
 #[test]
 fn a_workspace(rt: HostRuntime) -> Result<(), Wrong> {
     on(

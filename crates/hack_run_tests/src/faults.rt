@@ -1,4 +1,4 @@
-//! Faults of each stage behind the words.
+//! Errors of each stage after the command line.
 
 use crate::asked::on;
 use crate::worlds::PLAIN;

@@ -1,5 +1,6 @@
-//! Calls over files with a journal: `journal` with words answers the status, the paths that the call
-//! changed, and behind a bar those of its lockfiles. A `-` stands before a path that was removed.
+//! Calls on files with a journal: `journal` with arguments answers the status, how many calls of the
+//! files failed, the paths that the call changed, and after a bar those of its lockfiles. A `-`
+//! precedes a path that was removed.
 
 use crate::asked::on;
 use crate::scene::scene_of;
@@ -10,7 +11,7 @@ use hack_holds::Wrong;
 use hack_run::journaled::run_journaled;
 use std::alloc::{AllocError, Global};
 
-/// The paths that were changed from a place on.
+/// The paths that were changed from an index on.
 fn push_paths(text: &mut String, steps: &[Step], first: usize) -> Result<(), AllocError> {
     for (place, step) in steps.iter().enumerate() {
         if first <= place {
@@ -26,7 +27,7 @@ pub fn journaled(alloc: Global, world: &str, words: &str) -> Result<String, Allo
     let files = files_of(alloc, world)?;
     let lockfiles = files_of(alloc, world)?;
     let journal = String::from_str(alloc, "/w/journal")?;
-    let (status, files, lockfiles): (u8, MemoryFiles, MemoryFiles) = run_journaled(
+    let (status, files, lockfiles, failed): (u8, MemoryFiles, MemoryFiles, u64) = run_journaled(
         alloc,
         scene.words.as_slice(),
         &scene.env,
@@ -38,7 +39,7 @@ pub fn journaled(alloc: Global, world: &str, words: &str) -> Result<String, Allo
         &mut scene.out,
         &mut scene.err,
     );
-    let mut text = format!(in alloc; "status {status}")?;
+    let mut text = format!(in alloc; "status {status}, {failed} failed")?;
     push_paths(&mut text, files.steps(), scene.first)?;
     text.push_str(" |")?;
     push_paths(&mut text, lockfiles.steps(), scene.first)?;
@@ -52,11 +53,11 @@ fn journals(rt: HostRuntime) -> Result<(), Wrong> {
         ROOT,
         r#"
             > journal: hack check
-            | status 0 |
+            | status 0, 0 failed |
 
-            # The journal, the edit, its undoing, which the journal tells already, and no journal.
+            # The journal, the edit, its undoing, which the journal has already, and no journal.
             > journal: hack check --no-dev-deps
-            | status 0 /w/journal /w/Cargo.toml /w/Cargo.toml -/w/journal | /w/Cargo.lock
+            | status 0, 0 failed /w/journal /w/Cargo.toml /w/Cargo.toml -/w/journal | /w/Cargo.lock
         "#,
     )
 }
@@ -68,7 +69,33 @@ fn journals_of_a_workspace(rt: HostRuntime) -> Result<(), Wrong> {
         VIRTUAL,
         r#"
             > journal: hack check --no-private --workspace
-            | status 0 /w/journal /w/Cargo.toml /w/Cargo.toml -/w/journal |
+            | status 0, 0 failed /w/journal /w/Cargo.toml /w/Cargo.toml -/w/journal |
+        "#,
+    )
+}
+
+// However a call ends, the manifest is back and the journal is gone: a run that fails, a plan that is
+// refused after the edit, a list that can't be written. Arguments that are refused change nothing.
+#[test]
+fn journaled_calls_that_fail(rt: HostRuntime) -> Result<(), Wrong> {
+    on(
+        rt.alloc(),
+        ROOT,
+        r#"
+            > journal: hack check --no-dev-deps; fails 101 cargo check --manifest-path Cargo.toml
+            | status 1, 0 failed /w/journal /w/Cargo.toml /w/Cargo.toml -/w/journal | /w/Cargo.lock
+
+            > journal: hack check --each-feature --keep-going --no-dev-deps; fails 101 cargo check --manifest-path Cargo.toml --no-default-features
+            | status 1, 0 failed /w/journal /w/Cargo.toml /w/Cargo.toml -/w/journal | /w/Cargo.lock
+
+            > journal: hack check --no-dev-deps --version-range 1.60..=1.50
+            | status 1, 0 failed /w/journal /w/Cargo.toml /w/Cargo.toml -/w/journal | /w/Cargo.lock
+
+            > journal: hack check --no-dev-deps --print-command-list; broken write 1
+            | status 1, 0 failed /w/journal /w/Cargo.toml /w/Cargo.toml -/w/journal | /w/Cargo.lock
+
+            > journal: hack check --no-dev-deps --each-feature --feature-powerset
+            | status 1, 0 failed |
         "#,
     )
 }

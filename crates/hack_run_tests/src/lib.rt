@@ -1,5 +1,6 @@
-//! Tests of whole calls: words and answers in; status, calls, files and both streams out. Beside
-//! them tests of sessions, and of manifests that are edited for a call and come back.
+//! Tests of whole calls: arguments and answers in; status, calls, files and both streams out.
+//! Besides these there are tests of sessions, and of manifests that are edited for a call and
+//! restored.
 #![tactic(auto)]
 
 #[cfg(test)]

@@ -1,7 +1,7 @@
-//! Steps that are listed: `list` with words answers the lines, how many steps were handed out, and
-//! how many lines failed. `cuts` lets each write of the list fail in turn, and answers the same of
-//! each one, once where it is the same as before: how many line feeds were written, and whether that
-//! is a front of the list. At last comes whether a list has many writes.
+//! Steps that are listed: `list` with arguments answers the lines, how many steps were handed out,
+//! and how many lines failed. `cuts` lets each write of the list fail in turn, and answers the same
+//! for each, leaving out repetitions: how many line feeds were written, and whether that is a
+//! prefix of the list. The last line says whether a list has many writes.
 
 use crate::asked::on;
 use crate::scene::{Off, context_of, scene_of};
@@ -59,7 +59,7 @@ fn list_on<W: Write>(alloc: Global, cx: &Context, list: &mut W) -> Result<(usize
     Ok((handed, lines.failed))
 }
 
-/// What is left of a list.
+/// The result of a list.
 #[derive(Drop)]
 struct Listed {
     text: String,
@@ -107,7 +107,7 @@ fn front_of(text: &str, whole: &str) -> &'static str {
     }
 }
 
-/// What is left of a list that was cut short, beside the whole one.
+/// The result of a list that was cut short, compared with the whole one.
 fn cut_line(alloc: Global, cut: &Listed, whole: &str) -> Result<String, AllocError> {
     let text = cut.text.as_str();
     let front = front_of(text, whole);
@@ -115,7 +115,7 @@ fn cut_line(alloc: Global, cut: &Listed, whole: &str) -> Result<String, AllocErr
     format!(in alloc; "{handed} steps, {failed} failed, {feeds} line feeds, {front}\n")
 }
 
-/// Puts the line of a cut behind the text, unless it is the last one already.
+/// Appends the line of a cut to the text, unless it repeats the last one.
 fn push_cut(text: &mut String, alloc: Global, cut: &Listed, whole: &str) -> Result<(), AllocError> {
     let line = cut_line(alloc, cut, whole)?;
     if text.as_str().ends_with(line.as_str()) {
@@ -124,8 +124,8 @@ fn push_cut(text: &mut String, alloc: Global, cut: &Listed, whole: &str) -> Resu
     text.push_str(line.as_str())
 }
 
-/// Puts what is left by each write that fails behind the text, up to the first that isn't made; how
-/// many are made.
+/// Appends the results of each write that fails to the text, up to the first write that isn't made;
+/// returns how many are made.
 fn push_cuts(text: &mut String, alloc: Global, cx: &Context, whole: &str) -> Result<u64, Off> {
     for failing in 1..=100_u64 {
         let cut = cut_at(alloc, cx, failing)?;
@@ -171,7 +171,7 @@ fn lists(rt: HostRuntime) -> Result<(), Wrong> {
     )
 }
 
-// A list ends at the first line that fails, and goes on behind it where runs go on.
+// A list ends at the first line that fails; it continues after it where runs go on.
 #[test]
 fn each_write_of_a_list_fails(rt: HostRuntime) -> Result<(), Wrong> {
     on(
@@ -186,7 +186,7 @@ fn each_write_of_a_list_fails(rt: HostRuntime) -> Result<(), Wrong> {
             | 4 steps, 0 failed, 4 line feeds, the whole
             | many writes
 
-            # A front is left where the last line fails.
+            # A prefix is left where the last line fails.
             > cuts: hack check --each-feature --keep-going; features a d
             | 4 steps, 1 failed, 3 line feeds, no front
             | 4 steps, 1 failed, 3 line feeds, a front

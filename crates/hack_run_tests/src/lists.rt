@@ -90,3 +90,37 @@ fn output_that_fails(rt: HostRuntime) -> Result<(), Wrong> {
         "#,
     )
 }
+
+// What is listed is gathered, so the list fails at the first full page. Without `--keep-going` the
+// next version's toolchain isn't asked for then.
+#[test]
+fn lists_that_go_on(rt: HostRuntime) -> Result<(), Wrong> {
+    on(
+        rt.alloc(),
+        PLAIN,
+        r#"
+            > calls err: hack check --feature-powerset --version-range 1.60..=1.61 --print-command-list; features a b c d e f g; broken write 1
+            | rustup --version
+            | cargo -vV
+            | rustup run stable cargo -vV
+            | cargo metadata --format-version=1 --no-deps
+            | cargo locate-project
+            | rustup run 1.60 cargo --version
+            | err
+            | error: failed to write the command list
+            | status 1
+
+            > calls err: hack check --feature-powerset --version-range 1.60..=1.61 --print-command-list --keep-going; features a b c d e f g; broken write 1
+            | rustup --version
+            | cargo -vV
+            | rustup run stable cargo -vV
+            | cargo metadata --format-version=1 --no-deps
+            | cargo locate-project
+            | rustup run 1.60 cargo --version
+            | rustup run 1.61 cargo --version
+            | err
+            | error: failed to write the command list
+            | status 1
+        "#,
+    )
+}

@@ -1,4 +1,4 @@
-//! Manifests that are edited for a call: what is told, and then what is written, in order.
+//! Manifests that are edited for a call: what is printed, and then what is written, in order.
 
 use crate::asked::on;
 use crate::worlds::{ROOT, VIRTUAL};
@@ -153,7 +153,7 @@ fn a_private_root(rt: HostRuntime) -> Result<(), Wrong> {
     )
 }
 
-/// No text names the private member, and there is no header behind which its folder could be
+/// No text names the private member, and there is no header after which its folder could be
 /// excluded.
 const UNPLACED: &str = r#"
     members p /w/p/Cargo.toml, q! /w/q/Cargo.toml
@@ -165,7 +165,8 @@ const UNPLACED: &str = r#"
     | [package]
 "#;
 
-/// No text names the private member, and among the excluded folders stands what is no text.
+/// No text names the private member, and the list of excluded folders has a value that is no
+/// string.
 const NUMBERED: &str = r#"
     members p /w/p/Cargo.toml, q! /w/q/Cargo.toml
     file: /w/Cargo.toml

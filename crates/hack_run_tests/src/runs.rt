@@ -107,8 +107,8 @@ fn pieces(rt: HostRuntime) -> Result<(), Wrong> {
     )
 }
 
-/// What is cleaned stands in front of the status line, behind the empty one; where it fails there
-/// is no status line. A run of the whole workspace is on no package.
+/// The cleaning comes before the status line and after the empty one; where it fails there is no
+/// status line. A run of the whole workspace is on no package.
 #[test]
 fn cleanings(rt: HostRuntime) -> Result<(), Wrong> {
     on(

@@ -1,4 +1,4 @@
-//! Where a call is made: the world, with its words, a terminal and both streams.
+//! The scene of a call: the world, with its arguments, a terminal and both streams.
 
 use crate::world::{caller_of, coloring_of, env_of, files_of, number};
 use hack_files::fs::{FailingFiles, FailingWriter, MemoryFiles};
@@ -10,14 +10,14 @@ use hack_versions::rustup::Rustup;
 use hack_words::cli::{Args, CliFault, Env, Parsed};
 use std::alloc::{AllocError, AllocFailed, Global};
 
-/// What a call is made over, and what it leaves behind.
+/// What a call is made with, and the state that it leaves.
 #[derive(Drop)]
 pub struct Scene {
     pub words: Vec<String>,
     pub env: Env,
     pub term: Term,
     pub files: FailingFiles<MemoryFiles>,
-    /// How many changes made the world.
+    /// How many changes it took to make the world.
     pub first: usize,
     pub caller: FakeCaller,
     pub out: FailingWriter<Vec<u8>>,
@@ -95,7 +95,7 @@ fn args_of(alloc: Global, words: &[String], env: &Env) -> Result<Args, Off> {
     }
 }
 
-/// The context of the words, for which the caller and the files are asked.
+/// The context for the arguments, for which the caller and the files are asked.
 pub fn context_of(alloc: Global, scene: &mut Scene) -> Result<Context, Off> {
     let args = args_of(alloc, scene.words.as_slice(), &scene.env)?;
     let mut manager = Manager::new(alloc, true);

@@ -1,6 +1,6 @@
-//! Sessions: `session` drives the plan of the words by a starter, and `context` the whole context,
-//! whose notices it tells. The answer is the fault that stopped it, the report where runs failed,
-//! the calls, both streams, and how many steps want of memory cut short.
+//! Sessions: `session` drives the plan of the arguments by a starter, and `context` the whole
+//! context, whose notices it prints. The answer is the error that stopped it, the report where runs
+//! failed, the calls, both streams, and how many steps were cut short because memory ran out.
 
 use crate::asked::on;
 use crate::scene::{Off, Scene, context_of, scene_of};
@@ -37,7 +37,7 @@ pub fn driven<R: Teller>(alloc: Global, cx: &Context, runner: &mut R) -> Result<
     Ok(drive_plan(alloc, plan, args.partition, args.keep_going, runner)?)
 }
 
-/// Drives a context, and tells its notices.
+/// Drives a context, and prints its notices.
 fn driven_whole<R: Teller>(alloc: Global, cx: &Context, runner: &mut R) -> Result<Session, Off> {
     match drive_context(alloc, cx, "rustup", Ok(Some(STABLE)), runner) {
         Ok(session) => Ok(session),
@@ -45,7 +45,7 @@ fn driven_whole<R: Teller>(alloc: Global, cx: &Context, runner: &mut R) -> Resul
     }
 }
 
-/// What is left of a session.
+/// The result of a session.
 #[derive(Drop)]
 struct Left {
     session: Session,
@@ -233,7 +233,7 @@ fn groups(rt: HostRuntime) -> Result<(), Wrong> {
     )
 }
 
-// What the plan tells comes first.
+// The notices of the plan come first.
 #[test]
 fn contexts(rt: HostRuntime) -> Result<(), Wrong> {
     on(

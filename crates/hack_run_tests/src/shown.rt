@@ -1,4 +1,4 @@
-//! What is shown of a scene behind a call, section by section; one that has nothing is left out.
+//! What is shown of a scene after a call, section by section; empty ones are left out.
 
 use crate::scene::Scene;
 use crate::world::{ASKED, push_all};
@@ -6,7 +6,7 @@ use hack_files::fs::Step;
 use hack_process::process::FakeCaller;
 use std::alloc::{AllocError, Global};
 
-/// The calls, each a line.
+/// The calls, one line for each.
 pub fn push_calls(text: &mut String, alloc: Global, caller: &FakeCaller) -> Result<(), AllocError> {
     let mut calls = String::new(alloc);
     for made in caller.made() {
@@ -18,7 +18,7 @@ pub fn push_calls(text: &mut String, alloc: Global, caller: &FakeCaller) -> Resu
     }
 }
 
-/// What was written, behind its name.
+/// What was written, after its name.
 pub fn push_bytes(
     text: &mut String,
     alloc: Global,
@@ -40,7 +40,7 @@ fn push_change(text: &mut String, alloc: Global, step: &Step) -> Result<(), Allo
     }
 }
 
-/// The changes from one place up to another: a path, and what it holds from then on.
+/// The changes from one index up to another: a path, and what it holds from then on.
 pub fn push_changes(
     text: &mut String,
     alloc: Global,
@@ -78,7 +78,7 @@ fn is_back(steps: &[Step], first: &Step) -> bool {
     is_back
 }
 
-/// The paths that hold something else than at first, a line each.
+/// The paths whose contents differ from those at first, one line for each.
 fn push_left(text: &mut String, steps: &[Step], first: usize) -> Result<(), AllocError> {
     for (place, step) in steps.iter().enumerate() {
         if place < first && !is_back(steps, step) {
@@ -89,7 +89,7 @@ fn push_left(text: &mut String, steps: &[Step], first: usize) -> Result<(), Allo
 }
 
 /// A section: `calls`, `err` and `out`, the `errors` among the lines of `err`, the `changes` of
-/// files, and the paths that are `left` with something else than at first.
+/// files, and the paths that are `left` with contents that differ from those at first.
 fn push_section(
     text: &mut String,
     alloc: Global,
@@ -108,7 +108,7 @@ fn push_section(
     }
 }
 
-/// The sections of these names.
+/// The sections with these names.
 pub fn push_sections(
     text: &mut String,
     alloc: Global,

@@ -1,5 +1,5 @@
-//! The steps of a session: `steps` with words answers those that are handed out, each a line, with
-//! how it ended. `failing step N` says which one fails, from 1.
+//! The steps of a session: `steps` with arguments answers those that are handed out, one line for
+//! each, with its outcome. `failing step N` says which one fails, from 1.
 
 use crate::asked::on;
 use crate::scene::{Off, context_of, scene_of};
@@ -18,7 +18,7 @@ fn outcome(place: u64, failing: u64) -> Outcome {
     }
 }
 
-/// Tells the session how its next step ended, where there is one.
+/// Gives the session the outcome of its next step, if there is one.
 fn end_next(session: &mut Session, outcome: Outcome) {
     match session.next() {
         Some(_) => session.done(outcome),
@@ -84,8 +84,8 @@ fn steps_in_order(rt: HostRuntime) -> Result<(), Wrong> {
     )
 }
 
-// A preparation that fails stops the session, a run where runs don't go on, and a skipped place
-// never.
+// A preparation that fails stops the session; a run does unless runs go on; a skipped place never
+// does.
 #[test]
 fn a_step_that_fails(rt: HostRuntime) -> Result<(), Wrong> {
     on(

@@ -1,5 +1,5 @@
-//! Toolchains that rustup adds: `toolchain` with a name and targets answers the calls, and the fault
-//! or `ok`. What is printed goes nowhere here: whole calls show it.
+//! Toolchains that rustup adds: `toolchain` with a name and targets answers the calls, and the
+//! error or `ok`. Output is discarded here: whole calls show it.
 
 use crate::asked::on;
 use crate::scene::{Scene, scene_of, words_of};
@@ -99,7 +99,7 @@ fn toolchains_that_are_tried(rt: HostRuntime) -> Result<(), Wrong> {
     )
 }
 
-// They are added at once.
+// They are added with one command.
 #[test]
 fn toolchains_with_targets(rt: HostRuntime) -> Result<(), Wrong> {
     on(

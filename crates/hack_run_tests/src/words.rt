@@ -1,4 +1,4 @@
-//! Words: what is printed, what is refused, what is told of them, and rustup's version.
+//! Command lines: what is printed, what is refused, their notices, and rustup's version.
 
 use crate::asked::on;
 use crate::worlds::PLAIN;

@@ -3,7 +3,7 @@
 //! - `members p /w/p/Cargo.toml, q! /w/q/Cargo.toml`: the members with their manifests; `q` is
 //!   private. They have the `features a b`, the optional dependencies `optional d`, and the
 //!   rust-version `own "1.61"`.
-//! - `file: PATH`: a file, whose lines follow, each behind `|`. A line `+ features` is a line for
+//! - `file: PATH`: a file, whose lines follow, each after `|`. A line `+ features` is a line for
 //!   each feature.
 //! - `fails STATUS LINE`, `missing LINE`, `says LINE = TEXT` and `writes LINE = TEXT`: a command
 //!   that fails, one whose program isn't there, and one that writes a text, with a line feed or
@@ -18,7 +18,8 @@ use hack_term::term::Coloring;
 use hack_words::cli::Env;
 use std::alloc::{AllocError, Global};
 
-/// The questions of each call behind its words, a line each. They are told as `asked`.
+/// The questions of each call after its arguments are read, one line each. They are shown as
+/// `asked`.
 pub const ASKED: &str = "cargo -vV
 rustup run stable cargo -vV
 cargo metadata --format-version=1 --no-deps
@@ -40,7 +41,7 @@ static ANSWERS: [(&str, &str); 5] = [
     ),
 ];
 
-/// Puts the parts behind the text.
+/// Appends the parts to the text.
 pub fn push_all(text: &mut String, parts: &[&str]) -> Result<(), AllocError> {
     for part in parts {
         text.push_str(part)?;
@@ -52,7 +53,7 @@ fn behind<'a>(line: &'a str, word: &str) -> Option<&'a str> {
     line.strip_prefix(word)?.strip_prefix(" ")
 }
 
-/// What stands behind the first line that begins with a word; empty where there is none.
+/// The text after this word in the first line that begins with it; empty where there is none.
 pub fn given<'a>(world: &'a str, word: &str) -> &'a str {
     for line in world.lines() {
         if let Some(rest) = behind(line.trim_start(), word) {
@@ -62,12 +63,12 @@ pub fn given<'a>(world: &'a str, word: &str) -> &'a str {
     ""
 }
 
-/// The number behind the first line that begins with a word, or 0.
+/// The number after the word in the first line that begins with it, or 0.
 pub fn number(world: &str, word: &str) -> u64 {
     given(world, word).parse::<u64>().unwrap_or(0)
 }
 
-/// What is given, each behind a semicolon, and then the world below it.
+/// What is given, separated by semicolons, followed by the world below.
 pub fn world_of(alloc: Global, givens: &str, below: &str) -> Result<String, AllocError> {
     let mut world = String::new(alloc);
     for line in givens.split("; ") {
@@ -85,7 +86,7 @@ fn push_between(text: &mut String, place: usize, between: &'static str) -> Resul
     }
 }
 
-/// Puts names behind the text, each with a front and an end, and something between them.
+/// Appends names to the text, each with a prefix and a suffix, and a separator between them.
 fn push_each(
     text: &mut String,
     names: &str,
@@ -109,7 +110,7 @@ fn name_of(member: &str) -> (&str, bool) {
     }
 }
 
-/// What cargo tells of the features and optional dependencies of each member.
+/// What cargo reports of the features and optional dependencies of each member.
 fn push_features(text: &mut String, world: &str) -> Result<(), AllocError> {
     let end = r#"","optional":true,"rename":null}"#;
     push_each(text, given(world, "optional"), ",", r#"{"name":""#, end)?;
@@ -117,7 +118,7 @@ fn push_features(text: &mut String, world: &str) -> Result<(), AllocError> {
     push_each(text, given(world, "features"), ",", "\"", "\":[]")
 }
 
-/// What cargo tells of a member.
+/// What cargo reports of a member.
 fn push_package(text: &mut String, world: &str, member: &str) -> Result<(), AllocError> {
     let (name, is_private) = name_of(member);
     let path = member.split_once(' ').unwrap_or((member, "")).1;
@@ -155,7 +156,7 @@ fn push_ids(text: &mut String, world: &str) -> Result<(), AllocError> {
     Ok(())
 }
 
-/// What cargo tells of the workspace.
+/// What cargo reports of the workspace.
 fn metadata(alloc: Global, world: &str) -> Result<String, AllocError> {
     let mut text = String::from_str(alloc, r#"{"packages":["#)?;
     push_packages(&mut text, world)?;
@@ -183,7 +184,7 @@ fn answer_text(
     caller.answer(line, End::Status(0), text.as_bytes(), b"")
 }
 
-/// Has the caller answer as a line says.
+/// Makes the caller answer as a line says.
 fn answer_line(alloc: Global, caller: &mut FakeCaller, line: &str) -> Result<(), AllocError> {
     let (kind, rest) = line.split_once(' ').unwrap_or((line, ""));
     match kind {

@@ -1,6 +1,6 @@
-//! The worlds that several modules ask questions of. `world` says what a line means.
+//! The worlds that several modules use. `world` says what a line means.
 
-/// The package `p`, over a cargo 1.90 that is stable's.
+/// The package `p`, with a cargo 1.90 that is stable's.
 pub const PLAIN: &str = r#"
     members p /w/Cargo.toml
     file: /w/Cargo.toml

@@ -1,4 +1,4 @@
--- Names joined in two turns, and one text of several.
+-- Names joined in two steps, and one text of several.
 use Rattle.std.proofs.Common.{◌≡◌, ℕ, ◌+◌, ◌<◌, List, [], ◌∷◌, ◌++◌, length, take, drop, get_or, map, refl, ap, sym, ◌∙◌, append_assoc, append-nil, suc, zero, Option, Some, None, codes}
 use Rattle.std.specs.List.{flat_map, filter_map, join_with_byte, slice_get, slice_index_or}
 use Rattle.std.specs.Option.{unwrap_or}
@@ -7,13 +7,13 @@ use Rattle.std.proofs.lemmas.List.Elements.{filter_map-append}
 use Rattle.hack_process.specs.CommandTexts.{with_names}
 use Rattle.hack_runs.specs.Commands.{names_at}
 
--- a first name that is names joined
+-- joining where the first name is itself joined names
 join-join : (x : List ℕ) (xs : List (List ℕ)) (y : List ℕ) (ys : List (List ℕ)) → join_with_byte 44 (join_with_byte 44 (x ∷ xs) ∷ y ∷ ys) ≡ join_with_byte 44 (x ∷ xs ++ y ∷ ys)
 join-join x [] y ys = refl
 join-join x (z ∷ zs) y ys =
     append_assoc x (44 ∷ join_with_byte 44 (z ∷ zs)) (44 ∷ join_with_byte 44 (y ∷ ys)) ∙ ap (λ l. x ++ (44 ∷ l)) (join-join z zs y ys)
 
--- names appended in two turns
+-- names appended in two steps
 pub appended-append : (list : Option (List ℕ)) (xs ys : List (List ℕ)) → with_names (with_names list xs) ys ≡ with_names list (xs ++ ys)
 appended-append list [] ys = refl
 appended-append None (x ∷ xs) [] = ap (λ l. Some (join_with_byte 44 (x ∷ l))) (sym (append-nil xs))
@@ -34,6 +34,6 @@ one-at f [] i x e = absurd (cc)
 one-at f (y ∷ ys) zero x e = ap (λ o. f (unwrap_or o y) ∷ []) e
 one-at f (y ∷ ys) (suc i) x e = one-at f ys i x e
 
--- what one more element gives
+-- the result of one more element
 pub found-more : {X Y : Type 0} (f : X → Option Y) (xs : List X) (i : ℕ) (d : X) → i < length xs → filter_map f (take i xs) ++ filter_map f (get_or xs i d ∷ []) ≡ filter_map f (take (i + 1) xs)
 found-more f xs i d lt = sym (ap (filter_map f) (take_more xs i d lt) ∙ filter_map-append f (take i xs) (get_or xs i d ∷ []))

@@ -1,4 +1,4 @@
--- Versions with their preparations, one behind another.
+-- Versions with their preparations, one after another.
 use Rattle.std.proofs.Common.{◌≡◌, arith, ℕ, ◌+◌, ◌<◌, List, [], ◌∷◌, ◌++◌, length, take, get_or, map, refl, ap, sym, subst, suc, zero, ◌∙◌, Option, Some, None, Bool, IsTrue, true, ◌↔◌}
 use Rattle.std.specs.List.{filter_map, slice_get, cons_option}
 use Rattle.std.specs.Option.{unwrap_or}
@@ -13,7 +13,7 @@ use Rattle.hack_runs.specs.Prepared.{span_of, number_of, preparations_of, IsPrep
 abbrev pub AreReady : Bool → Bool → List Version → List PlanVersion → Type 0
 AreReady locked cleans numbers versions = (place : ℕ) (v : PlanVersion) → slice_get versions place ≡ Some v → IsPrepared locked cleans numbers place v
 
--- an element of a list with one more behind it is one of the list's, or that one
+-- an element of a list to which one was appended is one of the list's, or that one
 pub cases-push : {X : Type 0} (P : ℕ → X → Type 0) (xs : List X) (x : X) → ((k : ℕ) (y : X) → slice_get xs k ≡ Some y → P k y) → P (length xs) x → (k : ℕ) (y : X) → slice_get (xs ++ x ∷ []) k ≡ Some y → P k y
 cases-push P [] x all last zero y e = subst (P 0) (some-is x y e) last
   where
@@ -30,7 +30,7 @@ ready-more locked cleans numbers flags versions v place remakes are set here mad
     cases-push (IsPrepared locked cleans numbers) versions v before
     (subst (λ k. IsPrepared locked cleans numbers k v) (sym here) (record { remakes = remakes; exact = ((λ t. (are place).0 (set.0 t)), (λ r. set.1 ((are place).1 r))); made = made }))
 
--- as many versions as places passed
+-- there are as many versions as spans so far
 pub as-many : (spans : List Span) (versions : List PlanVersion) (i : ℕ) → i < length spans → map span_of versions ≡ take i spans → length versions ≡ i
 as-many spans versions i lt are = sym (length-map versions span_of) ∙ ap length are ∙ length-take-le i spans (omega arith)
 

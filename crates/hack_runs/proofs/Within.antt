@@ -1,4 +1,4 @@
--- The runs of a plan's packages are theirs.
+-- The runs in a plan are runs of its packages.
 use Rattle.std.proofs.Common.{◌≡◌, arith, ℕ, ◌<◌, List, [], ◌∷◌, length, map, sym, subst, suc, zero, Option, Some, None, Bool, true, false, IsSomeAnd, slice_index}
 use Rattle.std.specs.List.{slice_get}
 use Rattle.hack_versions.specs.declared.version.Version.{Version}
@@ -16,7 +16,7 @@ run-of [] (suc p) rank lt = absurd (omega arith)
 run-of (k ∷ ks) zero rank lt = lt
 run-of (k ∷ ks) (suc p) rank lt = run-of ks p rank lt
 
--- a run that there is
+-- a run that exists
 run-in : (packages : List PlanPackage) (s : Scene) (steps : List Version) (q : Quad) (whole : Bool) → HasRun whole s (counts_in packages) steps q → IsRunOf (map package_view packages) q.package q.rank
 run-in packages s steps q false run = subst (λ o. IsRunOf (map package_view packages) o q.rank) (sym run.1) (run-of packages run.0 q.rank run.3)
 run-in packages s steps q true run = subst (λ o. IsRunOf (map package_view packages) o q.rank) (sym run.0) tt

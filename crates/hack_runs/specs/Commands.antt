@@ -13,17 +13,17 @@ use Rattle.hack_runs.specs.View.{CallView, PackageView, PlanView}
 abbrev pub toolchain_of : Version → List ℕ
 toolchain_of v = codes "1." ++ decimal v.minor
 
--- the program of a version's commands: rustup's, or cargo's without a version
+-- the program of a version's commands: rustup, or cargo without a version
 abbrev pub program_of : CallView → Option Version → List ℕ
 program_of c None = c.cargo
 program_of c (Some v) = c.rustup
 
--- the words that make rustup run the cargo of a version
+-- the arguments that make rustup run the cargo of a version
 abbrev pub leading_of : Option Version → List (List ℕ)
 leading_of None = []
 leading_of (Some v) = codes "run" ∷ toolchain_of v ∷ codes "cargo" ∷ []
 
--- each target is a slot of its own: there are some, and cargo takes one at a time
+-- each target is a separate slot: there are some, and cargo takes one at a time
 abbrev pub is_split : CallView → Option Version → Bool
 is_split c version = nat_lt 0 (length c.targets) && nat_lt (minor_of c.cargo_minor version) 64
 
@@ -31,16 +31,16 @@ is_split c version = nat_lt 0 (length c.targets) && nat_lt (minor_of c.cargo_min
 abbrev pub targets_in : CallView → Option Version → ℕ → List (List ℕ)
 targets_in c version slot = if is_split c version then take 1 (drop slot c.targets) else c.targets
 
--- a target behind its option
+-- a target after its option
 abbrev pub target_pair : List ℕ → List (List ℕ)
 target_pair target = codes "--target" ∷ target ∷ []
 
--- a manifest's path behind its option
+-- a manifest's path after its option
 abbrev pub manifest_words : Option (List ℕ) → List (List ℕ)
 manifest_words None = []
 manifest_words (Some path) = codes "--manifest-path" ∷ path ∷ []
 
--- the word that says which features a run has
+-- the argument that says which features a run has
 abbrev pub run_words : PackageRun → List (List ℕ)
 run_words Plain = []
 run_words AllFeatures = codes "--all-features" ∷ []
@@ -58,11 +58,11 @@ run_names candidates AllFeatures = []
 run_names candidates NoDefaultFeatures = []
 run_names candidates (Set s) = names_at candidates s
 
--- a command with the words that the call hands on
+-- a command with the arguments that the call passes on
 abbrev pub call_command : CallView → Option Version → List (List ℕ) → List (List ℕ) → Command
 call_command c version own names = record { program = program_of c version; strip_program_path = false; leading = leading_of version; passed = c.passed; own = own; features = with_names None names; trailing = c.trailing }
 
--- the command of a run that is for all packages
+-- the command of a run for all packages
 abbrev pub whole_command : CallView → Option Version → ℕ → Command
 whole_command c version slot = call_command c version (flat_map target_pair (targets_in c version slot)) c.features
 
@@ -70,12 +70,12 @@ whole_command c version slot = call_command c version (flat_map target_pair (tar
 abbrev pub run_command : CallView → Option Version → ℕ → PackageView → PackageRun → Command
 run_command c version slot k run = call_command c version (flat_map target_pair (targets_in c version slot) ++ manifest_words k.manifest_path ++ run_words run) (k.features ++ run_names k.candidates run)
 
--- the command of a run of a package by its rank, or of one for all
+-- the command of a package's run by its rank, or of a run for all packages
 abbrev pub ranked_command : CallView → Option Version → ℕ → Option PackageView → ℕ → Command
 ranked_command c version slot None rank = whole_command c version slot
 ranked_command c version slot (Some k) rank = run_command c version slot k (slice_index_or k.runs rank Plain)
 
--- the package of a place among the chosen ones
+-- the package of a place, as an index into the chosen ones
 abbrev pub package_at : List PackageView → Option ℕ → Option PackageView
 package_at packages None = None
 package_at packages (Some p) = slice_get packages p
@@ -89,7 +89,7 @@ name_in (Some k) = Some k.name
 abbrev pub command_of_quad : PlanView → Quad → Command
 command_of_quad plan q = ranked_command plan.call q.version q.slot (package_at plan.packages q.package) q.rank
 
--- a command of cargo itself, without words that are handed on
+-- a command of cargo itself, without arguments that are passed on
 abbrev pub plain_command : List ℕ → List (List ℕ) → List (List ℕ) → Command
 plain_command program leading own = record { program = program; strip_program_path = false; leading = leading; passed = []; own = own; features = None; trailing = [] }
 
@@ -97,15 +97,15 @@ plain_command program leading own = record { program = program; strip_program_pa
 abbrev pub locked_words : Bool → List (List ℕ)
 locked_words locked = if locked then codes "--locked" ∷ [] else []
 
--- the package that is cleaned, where it is one
+-- the package whose artifacts are removed, if it is a single one
 abbrev pub cleaned_words : Option PackageView → List (List ℕ)
 cleaned_words None = []
 cleaned_words (Some k) = codes "--package" ∷ k.name ∷ []
 
--- the command that removes artifacts: those of a package, or all
+-- the command that removes the artifacts of a package, or all artifacts
 abbrev pub clean_command : CallView → Option PackageView → Command
 clean_command c cleaned = plain_command c.cargo [] (codes "clean" ∷ locked_words c.locked ++ cleaned_words cleaned)
 
--- the command that makes the lockfile anew
+-- the command that regenerates the lockfile
 abbrev pub lockfile_command : CallView → Version → Command
 lockfile_command c v = plain_command c.rustup (leading_of (Some v)) (codes "generate-lockfile" ∷ manifest_words c.current_manifest)

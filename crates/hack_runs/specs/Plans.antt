@@ -1,4 +1,4 @@
--- What holds of each plan.
+-- What holds for each plan.
 use Rattle.std.specs.Prelude.{ℕ, ◌≡◌, ◌<◌, List, [], ◌∷◌, map, length, Option, Some, None, All, IsSomeAnd, slice_get}
 use Rattle.hack_versions.specs.declared.version.Version.{Version}
 use Rattle.hack_plan.specs.Spans.{AreSpans}
@@ -7,12 +7,12 @@ use Rattle.hack_runs.specs.declared.parts.PlanPackage.{PlanPackage}
 use Rattle.hack_runs.specs.View.{PackageView, PlanView, package_view}
 use Rattle.hack_runs.specs.Prepared.{span_of}
 
--- a run of a package is one of its runs
+-- a run of a package is one of that package's runs
 abbrev pub IsRunOf : List PackageView → Option ℕ → ℕ → Type 0
 IsRunOf packages None rank = Unit {0}
 IsRunOf packages (Some p) rank = IsSomeAnd (slice_get packages p) (λ k. rank < length k.runs)
 
--- the runs of packages are theirs
+-- each place's run is one of its package's
 abbrev pub AreRuns : List PackageView → List Quad → Type 0
 AreRuns packages quads = All (λ q. IsRunOf packages q.package q.rank) quads
 

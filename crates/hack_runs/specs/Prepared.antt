@@ -11,7 +11,7 @@ use Rattle.hack_runs.specs.declared.parts.Preparation.TheVariants.{Toolchain, Lo
 abbrev pub span_of : PlanVersion → Span
 span_of v = record { version = v.version; first = v.first; end = v.end }
 
--- the version, if it is one
+-- the version, if there is one
 abbrev pub number_of : PlanVersion → Option Version
 number_of v = v.version
 
@@ -20,20 +20,21 @@ abbrev pub where_asked : Bool → Preparation → List Preparation
 where_asked true p = p ∷ []
 where_asked false p = []
 
--- the toolchain, then the lockfile where it is made anew, then the cleaning where it is asked for; nothing without a version
+-- the toolchain, then the lockfile where it is regenerated, then the cleaning where it is asked
+-- for; nothing without a version
 abbrev pub preparations_of : Option Version → ℕ → Bool → Bool → List Preparation
 preparations_of None place remakes cleans = []
 preparations_of (Some v) place remakes cleans = Toolchain place ∷ where_asked remakes (Lockfile place) ++ where_asked cleans (Clean place)
 
--- the lockfile is made anew before the version at a place
+-- the lockfile is regenerated before the version at an index
 abbrev pub Remakes : Bool → List Version → ℕ → Type 0
 Remakes locked versions place = (locked ≡ false) × NeedsLockfile versions place
 
--- the flags that are set are those of the versions before which the lockfile is made anew
+-- the flags that are set are those of the versions before which the lockfile is regenerated
 abbrev pub AreFlags : Bool → List Version → List Bool → Type 0
 AreFlags locked versions flags = (place : ℕ) → (slice_get flags place ≡ Some true) ↔ Remakes locked versions place
 
--- the version at a place has its preparations
+-- the version at an index has its preparations
 pub record IsPrepared (locked cleans : Bool) (versions : List Version) (place : ℕ) (v : PlanVersion) : Type 0 where
   pub remakes : Bool
   pub exact : IsTrue remakes ↔ Remakes locked versions place

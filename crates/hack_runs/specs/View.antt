@@ -9,7 +9,7 @@ use Rattle.hack_runs.specs.declared.parts.CallWords.{CallWords}
 use Rattle.hack_runs.specs.declared.parts.PlanPackage.{PlanPackage}
 use Rattle.hack_runs.specs.declared.parts.PlanVersion.{PlanVersion}
 
--- what all commands of a call share
+-- what all commands of a call have in common
 pub record CallView : Type 0 where
   pub cargo : List ℕ
   pub rustup : List ℕ
@@ -24,7 +24,7 @@ pub record CallView : Type 0 where
   pub current_manifest : Option (List ℕ)
   pub dir : List ℕ
 
--- a chosen package: its candidates, each with the names that it stands for, and its runs by rank
+-- a chosen package: its candidates, each with the names of its features, and its runs by rank
 pub record PackageView : Type 0 where
   pub name : List ℕ
   pub manifest_path : Option (List ℕ)
@@ -32,7 +32,7 @@ pub record PackageView : Type 0 where
   pub candidates : List (List (List ℕ))
   pub runs : List PackageRun
 
--- a plan: its places as quadruples in order, its versions, and what its commands are made of
+-- a plan: its places as quadruples in order, its versions, and what its commands are made from
 pub record PlanView : Type 0 where
   pub call : CallView
   pub packages : List PackageView
@@ -43,6 +43,6 @@ pub record PlanView : Type 0 where
 abbrev pub call_view : CallWords → CallView
 call_view w = record { cargo = string_bytes w.cargo; rustup = string_bytes w.rustup; passed = map string_bytes w.passed.items; trailing = map string_bytes w.trailing.items; features = map string_bytes w.features.items; targets = map string_bytes w.targets.items; cargo_minor = w.cargo_minor; locked = w.locked; clean_per_run = w.clean_per_run; clean_per_version = w.clean_per_version; current_manifest = optional_text w.current_manifest; dir = string_bytes w.dir }
 
--- a package as its texts and runs
+-- a package with its texts as bytes, and its runs
 abbrev pub package_view : PlanPackage → PackageView
 package_view p = record { name = string_bytes p.name; manifest_path = optional_text p.manifest_path; features = map string_bytes p.features.items; candidates = groups_of p.candidates.items; runs = runs_in p.runs }

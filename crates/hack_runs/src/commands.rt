@@ -32,7 +32,7 @@ pub fn toolchain(alloc: Global, version: Version) -> Result<String, AllocError>
 }
 
 impl CallWords {
-    /// The command of cargo for a version, without words of its own.
+    /// The command of cargo for a version, without further arguments.
     fn program<'a>(
         &self,
         alloc: Global,
@@ -53,7 +53,7 @@ impl CallWords {
         }
     }
 
-    /// The command that starts with the words that are handed on.
+    /// The command that starts with the arguments that are passed on.
     fn handing_on(
         &self,
         alloc: Global,
@@ -67,7 +67,7 @@ impl CallWords {
         Ok(command)
     }
 
-    /// Whether each target is a slot of its own.
+    /// Whether each target is a separate slot.
     fn is_split(&self, version: Option<Version>) -> bool
         ensures { result ≡ is_split (call_view self.now) version }
     {
@@ -88,7 +88,7 @@ impl CallWords {
         one_at(self.targets.as_slice(), slot)
     }
 
-    /// The command of a run that is for all packages.
+    /// The command of a run for all packages.
     pub fn whole(
         &self,
         alloc: Global,
@@ -104,8 +104,8 @@ impl CallWords {
         Ok(command)
     }
 
-    /// The command of a package's run, which has the candidates at `positions` where it is one of a
-    /// set.
+    /// The command of a package's run; where it is the run of a set, `positions` are those of the
+    /// set's candidates.
     pub fn run(
         &self,
         alloc: Global,
@@ -127,7 +127,7 @@ impl CallWords {
         Ok(command)
     }
 
-    /// The command that removes artifacts: those of a package, or all.
+    /// The command that removes the artifacts of a package, or all artifacts.
     pub fn cleaning(
         &self,
         alloc: Global,
@@ -146,7 +146,7 @@ impl CallWords {
         Ok(command)
     }
 
-    /// The command that makes the lockfile anew by the cargo of a version.
+    /// The command that regenerates the lockfile with the cargo of a version.
     pub fn lockfile(
         &self,
         alloc: Global,
@@ -162,7 +162,7 @@ impl CallWords {
     }
 }
 
-/// The one text at a place, if there is one.
+/// The text at an index, if there is one.
 fn one_at(texts: &[String], place: usize) -> &[String]
     ensures { map string_bytes result.now ≡ take 1 (drop place (map string_bytes texts.now)) }
 {
@@ -182,7 +182,7 @@ fn add_pair(command: &mut ProcessBuilder<'_>, option: &str, value: &str) -> Resu
     command.arg(value)
 }
 
-/// Adds each target behind its option.
+/// Adds each target after its option.
 fn add_targets(command: &mut ProcessBuilder<'_>, targets: &[String]) -> Result<(), AllocError>
     ensures { OnOk result (command_of command.new ≡ record (command_of command.old) {
       own = (command_of command.old).own
@@ -195,7 +195,7 @@ fn add_targets(command: &mut ProcessBuilder<'_>, targets: &[String]) -> Result<(
     Ok(())
 }
 
-/// Adds a manifest's path behind its option.
+/// Adds a manifest's path after its option.
 fn add_manifest(command: &mut ProcessBuilder<'_>, path: &Option<String>) -> Result<(), AllocError>
     ensures { OnOk result (command_of command.new ≡ record (command_of command.old) {
       own = (command_of command.old).own ++ manifest_words (optional_text path.now);
@@ -207,7 +207,7 @@ fn add_manifest(command: &mut ProcessBuilder<'_>, path: &Option<String>) -> Resu
     }
 }
 
-/// Adds the word that says which features a run has.
+/// Adds the argument that says which features a run has.
 fn add_run(command: &mut ProcessBuilder<'_>, run: Run) -> Result<(), AllocError>
     ensures { (positions : List ℕ) → OnOk result (command_of command.new
         ≡ record (command_of command.old) {
@@ -222,7 +222,7 @@ fn add_run(command: &mut ProcessBuilder<'_>, run: Run) -> Result<(), AllocError>
     }
 }
 
-/// The names that the candidate at a place stands for.
+/// The names of the features of the candidate at an index.
 fn names_of(candidates: &[Feature], place: usize) -> &[String]
     ensures { map string_bytes result.now ≡ slice_index_or (groups_of candidates.now) place [] }
 {
@@ -249,7 +249,7 @@ fn add_names(
     Ok(())
 }
 
-/// Appends the features that the words name, and those of the run's set, where it is one of a set.
+/// Appends the features of `--features`, and those of the run's set, if it has one.
 fn add_features(
     command: &mut ProcessBuilder<'_>,
     member: &PlanPackage,
@@ -271,7 +271,7 @@ fn add_features(
     }
 }
 
-/// Adds the package that is cleaned, where it is one.
+/// Adds the package whose artifacts are removed, if it is a single one.
 fn add_cleaned(
     command: &mut ProcessBuilder<'_>,
     member: Option<&PlanPackage>,

@@ -1,4 +1,4 @@
-//! The plan of a call with its commands: what is run, in order, byte for byte.
+//! The plan of a call with its commands: what is run, in order, with all bytes.
 #![tactic(auto)]
 
 mod commands;

@@ -1,23 +1,23 @@
-//! What a plan's commands are made of.
+//! What a plan's commands are made from.
 
 use hack_features::Feature;
 use hack_plan::runs::Runs;
 use hack_versions::version::Version;
 
-/// What all commands of a call share.
+/// What all commands of a call have in common.
 #[derive(Drop)]
 pub struct CallWords {
-    /// Cargo's program, which runs where no range of versions is asked for.
+    /// The program to run as cargo, where no range of versions is given.
     pub cargo: String,
-    /// Rustup's program, which runs the cargo of a version.
+    /// The program to run as rustup, which runs the cargo of a version.
     pub rustup: String,
-    /// The words handed on to cargo.
+    /// The arguments passed on to cargo.
     pub passed: Vec<String>,
-    /// Those behind `--`.
+    /// The arguments after `--`.
     pub trailing: Vec<String>,
-    /// The features of `--features`, for a run that is for all packages.
+    /// The features of `--features`, for a run for all packages.
     pub features: Vec<String>,
-    /// The targets, each once, in the order of their bytes.
+    /// The targets without duplicates, in the order of their bytes.
     pub targets: Vec<String>,
     /// Cargo's own minor version, 0 where it isn't known.
     pub cargo_minor: u32,
@@ -27,10 +27,10 @@ pub struct CallWords {
     pub clean_per_run: bool,
     /// Whether artifacts are removed before the runs of each version.
     pub clean_per_version: bool,
-    /// The path of the current package's manifest as a command is given it, where there is one and
-    /// commands are given paths.
+    /// The path of the current package's manifest as a command is given it; none where there is no
+    /// current package, or commands get no paths.
     pub current_manifest: Option<String>,
-    /// The current folder, inside which texts show paths.
+    /// The current folder; messages show paths relative to it.
     pub dir: String,
 }
 
@@ -40,27 +40,27 @@ pub struct PlanPackage {
     pub name: String,
     /// The path of its manifest as a command is given it; none with `--no-manifest-path`.
     pub manifest_path: Option<String>,
-    /// Those features of `--features` that its runs are given.
+    /// The features of `--features` that its runs get.
     pub features: Vec<String>,
-    /// The candidates that its sets are made of.
+    /// The candidates from which its sets are made.
     pub candidates: Vec<Feature>,
     pub runs: Runs,
 }
 
-/// What is done before the runs of a version. It has the version's place in the plan's list of
+/// What is done before the runs of a version. It holds the version's index in the plan's list of
 /// versions.
 #[derive(Clone, Copy, Debug, PartialEq, Eq)]
 pub enum Preparation {
-    /// The version's toolchain is installed where it isn't there.
+    /// The version's toolchain is installed if it is missing.
     Toolchain(usize),
-    /// The lockfile is made anew.
+    /// The lockfile is regenerated.
     Lockfile(usize),
     /// The artifacts of earlier versions are removed.
     Clean(usize),
 }
 
-/// A version, what is done before its runs, and its places from the first one to the end, which is
-/// the next one's first. Without a range there is one without a version.
+/// A version, what is done before its runs, and its places: from the first up to the end, which is
+/// the first of the next version. Without a range there is a single entry, without a version.
 #[derive(Drop)]
 pub struct PlanVersion {
     pub version: Option<Version>,

@@ -70,12 +70,13 @@ impl Plan {
         self.places.len()
     }
 
-    /// Each version that some package uses, or the one "none" without a range, in order, with what
-    /// is done before its runs. A version may have no place.
+    /// Each version that some package uses, or the single "none" without a range, in order, with
+    /// what is done before its runs. A version may have no place.
     pub fn versions(&self) -> &[PlanVersion]
         ensures value { result.now ≡ self.now.versions }
 
-        // The places of each begin where those before it end, from the first place to the last.
+        // The places of each version begin where those before end, from the first place to the
+        // last.
         ensures tiled { AreTiled 0 (map span_of self.now.versions) (length self.now.quads) }
     {
         self.versions.as_slice()
@@ -140,15 +141,15 @@ impl Plan {
         )
     }
 
-    /// The command that removes the artifacts of all packages, before the runs of a version.
+    /// The command that removes all artifacts, before the runs of a version.
     pub fn cleaning(&self, alloc: Global) -> Result<ProcessBuilder<'_>, AllocError>
         ensures { IfOk result (λ command. command_of command ≡ clean_command self.now.call None) }
     {
         self.words.cleaning(alloc, None)
     }
 
-    /// The command that removes the artifacts of a place's package, or of all where its run is for
-    /// all, before the run.
+    /// The command that removes the artifacts of a place's package before its run, or all artifacts
+    /// where the run is for all packages.
     pub fn run_cleaning(
         &self,
         alloc: Global,
@@ -163,7 +164,7 @@ impl Plan {
         self.words.cleaning(alloc, self.package_of(quad))
     }
 
-    /// The command that makes the lockfile anew by the cargo of a version.
+    /// The command that regenerates the lockfile with the cargo of a version.
     pub fn lockfile(
         &self,
         alloc: Global,
@@ -175,7 +176,7 @@ impl Plan {
         self.words.lockfile(alloc, version)
     }
 
-    /// Rustup's program.
+    /// The program to run as rustup.
     pub fn rustup(&self) -> &str
         ensures { result.now ≡ self.now.call.rustup }
     {
@@ -189,7 +190,7 @@ impl Plan {
         self.words.targets.as_slice()
     }
 
-    /// The current folder, inside which texts show paths.
+    /// The current folder; messages show paths relative to it.
     pub fn dir(&self) -> &str
         ensures { result.now ≡ self.now.call.dir }
     {
@@ -228,7 +229,7 @@ impl Plan {
         }
     }
 
-    /// The plan of a scene, whose packages these are, and whose versions.
+    /// The plan of a scene with these packages and versions.
     pub fn of_scene(
         alloc: Global,
         words: CallWords,

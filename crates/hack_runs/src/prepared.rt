@@ -13,8 +13,8 @@ use hack_versions::rustup::lockfile_before;
 use hack_versions::version::Version;
 use std::alloc::{AllocError, Global};
 
-/// The versions of a plan, from their places. Under `locked` no lockfile is made anew, and with
-/// `clean` artifacts are removed before each version.
+/// The versions of a plan, from their places. With `locked` the lockfile is never regenerated, and
+/// with `clean` artifacts are removed before each version.
 pub fn prepared(
     alloc: Global,
     spans: &[Span],
@@ -53,7 +53,7 @@ fn version(
     })
 }
 
-/// Whether the flag at a place is set.
+/// Whether the flag at an index is set.
 fn is_set(flags: &[bool], place: usize) -> bool
     ensures { IsTrue result ↔ (slice_get flags.now place ≡ Some true) }
 {
@@ -63,7 +63,7 @@ fn is_set(flags: &[bool], place: usize) -> bool
     }
 }
 
-/// Before which of the versions the lockfile is made anew.
+/// Before which of the versions the lockfile is regenerated.
 fn lockfile_flags(alloc: Global, spans: &[Span], locked: bool) -> Result<Vec<bool>, AllocError>
     ensures { IfOk result (λ flags. AreFlags locked (filter_map version_at spans.now) flags.items) }
 {
@@ -74,7 +74,7 @@ fn lockfile_flags(alloc: Global, spans: &[Span], locked: bool) -> Result<Vec<boo
     lockfile_before(alloc, versions.as_slice(), locked)
 }
 
-/// Adds the version of a span, where it is one.
+/// Adds the version of a span, if it has one.
 fn add_version(versions: &mut Vec<Version>, span: &Span) -> Result<(), AllocError>
     ensures { OnOk result (versions.new.items
         ≡ versions.old.items ++ filter_map version_at (span.now ∷ [])) }

@@ -1,15 +1,15 @@
--- Words on a line, and the last of them.
+-- Arguments on a line, and the last of them.
 use Rattle.std.proofs.Common.{◌≡◌, ℕ, ◌-◌, ◌<◌, List, [], ◌∷◌, ◌++◌, length, map, get_or, bytes_eq, arith, refl, ap, sym, ◌∙◌, suc}
 use Rattle.std.specs.List.{join_by}
 use Rattle.std.proofs.lemmas.List.Folds.{flat_map-map}
 use Rattle.hack_stand.specs.Words.{ends_with_word}
 
--- words that stand in memory, joined
+-- arguments in memory, joined
 pub join-map : {X : Type 0} (f : X → List ℕ) (sep : List ℕ) (xs : List X) → join_by f sep xs ≡ join_by (λ word. word) sep (map f xs)
 join-map f sep [] = refl
 join-map f sep (x ∷ xs) = ap (λ l. f x ++ l) (sym (flat_map-map (λ part. sep ++ part) f xs))
 
--- the word at the last place decides
+-- the last argument decides
 pub last-decides : {X : Type 0} (f : X → List ℕ) (word : List ℕ) (xs : List X) (d : X) → 0 < length xs
     → ends_with_word word (map f xs) ≡ bytes_eq (f (get_or xs (length xs - 1) d)) word
 last-decides f word [] d some = absurd (omega arith)

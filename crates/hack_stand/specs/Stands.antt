@@ -1,4 +1,4 @@
--- What a program that stands in for cargo or rustup does with the files of a folder.
+-- What a program that replaces cargo or rustup in tests does with the files of a folder.
 use Rattle.std.specs.Prelude.{◌≡◌, ◌++◌, ℕ, List, [], Option, Some, MatchOption, codes}
 use Rattle.std.specs.Prelude.{string_bytes, unwrap_or, if◌then◌else◌}
 use Rattle.std.specs.Str.{IsUtf8}
@@ -12,17 +12,16 @@ use Rattle.hack_stand.specs.Words.{has_line, line_of, printed_by}
 abbrev pub file_in : List ℕ → List ℕ → List ℕ
 file_in dir name = dir ++ (codes "/" ++ name)
 
--- what a path holds, nothing where there is no file
+-- the contents at a path, empty where there is no file
 abbrev pub held_or_none : Option (List ℕ) → List ℕ
 held_or_none held = unwrap_or held []
 
--- the status of a call that is noted: 101 where the folder's list of failing calls has its line
+-- the status of a call that is recorded: 101 where the folder's list of failing calls has its line
 abbrev pub noted_status : List ℕ → List ℕ → Contents → ℕ
 noted_status dir line old =
     if has_line line (held_or_none (old (file_in dir (codes "fail")))) then 101 else 0
 
--- a call's line stands at the end of the notes, all other files hold what they held, and nothing is
--- printed
+-- a call's line is appended to the record, all other files are unchanged, and nothing is printed
 pub record Notes (dir line : List ℕ) (old new : Contents) (output : List ℕ) (status : ℕ)
     : Type 0 where
   pub noted : new (file_in dir (codes "calls"))
@@ -31,38 +30,38 @@ pub record Notes (dir line : List ℕ) (old new : Contents) (output : List ℕ) 
   pub silent : output ≡ []
   pub ended : status ≡ noted_status dir line old
 
--- a file is printed, and all files hold what they held
+-- a file is printed, and all files are unchanged
 pub record Prints (dir name : List ℕ) (old new : Contents) (output : List ℕ) (status : ℕ)
     : Type 0 where
   pub printed : old (file_in dir name) ≡ Some output
   pub kept : KeepsAll old new
   pub ended : status ≡ 0
 
--- what a stand-in does with its words in a folder: it prints a file, or notes the call
+-- what a stand-in does with its arguments in a folder: it prints a file, or records the call
 abbrev pub Stands : Tool → List ℕ → List (List ℕ) → Contents → Contents → List ℕ → ℕ → Type 0
 Stands tool dir words old new output status = MatchOption (printed_by tool words)
     (Notes dir (line_of words) old new output status)
     (λ name. Prints dir name old new output status)
 
--- a file of this folder
+-- the path is a file of this folder
 abbrev pub IsIn : List ℕ → List ℕ → Type 0
 IsIn dir path = (name : List ℕ) × (path ≡ file_in dir name)
 
--- a file can't be read, which was counted, or memory is out
+-- a file can't be read, which was counted, or memory ran out
 abbrev pub IsFailedRead : List ℕ → ℕ → ℕ → FsFault → Type 0
 IsFailedRead path before now (Read p) = (string_bytes p ≡ path) × GrowsBy 1 before now
 IsFailedRead path before now (Write p) = ⊥
 IsFailedRead path before now (NotText p) = ⊥
 IsFailedRead path before now Memory = Unit {0}
 
--- a file of the folder can't be read or written, which was counted, or memory is out
+-- a file of the folder can't be read or written, which was counted, or memory ran out
 abbrev pub IsDeviceFault : List ℕ → ℕ → ℕ → FsFault → Type 0
 IsDeviceFault dir before now (Read path) = IsIn dir (string_bytes path) × GrowsBy 1 before now
 IsDeviceFault dir before now (Write path) = IsIn dir (string_bytes path) × GrowsBy 1 before now
 IsDeviceFault dir before now (NotText path) = ⊥
 IsDeviceFault dir before now Memory = Unit {0}
 
--- why a stand-in can't answer: the same, or the list of failing calls is no text
+-- why a stand-in can't answer: the same, or the list of failing calls is not UTF-8
 abbrev pub IsStandFault : List ℕ → Type 0 → Contents → ℕ → ℕ → FsFault → Type 0
 IsStandFault dir tells old before now (NotText path) =
     (string_bytes path ≡ file_in dir (codes "fail")) × GrowsBy 0 before now

@@ -1,4 +1,4 @@
--- What the words of a call ask for.
+-- What the arguments of a call ask for.
 use Rattle.std.specs.Prelude.{ℕ, Bool, false, List, [], ◌∷◌, Option, Some, None, codes, bytes_eq}
 use Rattle.std.specs.Prelude.{if◌then◌else◌}
 use Rattle.std.specs.List.{list_any, join_by}
@@ -6,17 +6,17 @@ use Rattle.std.specs.Str.Lines.{lines}
 use Rattle.hack_stand.specs.declared.stand.Tool.{Tool}
 use Rattle.hack_stand.specs.declared.stand.Tool.TheVariants.{Cargo, Rustup}
 
--- one of these words is this
+-- this is one of the arguments
 abbrev pub has_word : List ℕ → List (List ℕ) → Bool
 has_word word words = list_any (λ w. bytes_eq w word) words
 
--- the last word is this
+-- this is the last argument
 abbrev pub ends_with_word : List ℕ → List (List ℕ) → Bool
 ends_with_word word [] = false
 ends_with_word word (w ∷ []) = bytes_eq w word
 ends_with_word word (w ∷ v ∷ words) = ends_with_word word (v ∷ words)
 
--- this is the only word
+-- this is the only argument
 abbrev pub is_lone_word : List ℕ → List (List ℕ) → Bool
 is_lone_word word [] = false
 is_lone_word word (w ∷ []) = bytes_eq w word
@@ -27,7 +27,7 @@ abbrev pub version_file : Tool → List ℕ
 version_file Cargo = codes "version"
 version_file Rustup = codes "stable"
 
--- the file that is printed for these words, if one is
+-- the file that is printed for these arguments, if any
 abbrev pub printed_by : Tool → List (List ℕ) → Option (List ℕ)
 printed_by tool words =
     if ends_with_word (codes "-vV") words then Some (version_file tool)
@@ -35,7 +35,7 @@ printed_by tool words =
     else (if has_word (codes "metadata") words then Some (codes "metadata.json")
     else (if has_word (codes "locate-project") words then Some (codes "locate.json") else None)))
 
--- words on one line
+-- arguments on one line
 abbrev pub line_of : List (List ℕ) → List ℕ
 line_of words = join_by (λ word. word) (codes " ") words
 

@@ -1,5 +1,5 @@
-//! A whole call of a stand-in: its words, the folder that it answers from, its streams and its exit
-//! status.
+//! A whole call of a stand-in: its arguments, the folder that it answers from, its streams and its
+//! exit status.
 
 ghost use Rattle.std.specs.Prelude.{◌≡◌, ◌≢◌, IfOk, drop};
 ghost use Rattle.std.specs.Vec.Iter.{into_iter_items};
@@ -34,9 +34,9 @@ impl From<AllocError> for CallFault {
     }
 }
 
-/// What a stand-in does, and its exit status: that of `stand` for the words behind the first of the
-/// arguments, or 2 where it can't answer, which a line on `err` tells. `dir` is what `env::var`
-/// answers for the variable `STAND_DIR`, and `arguments` what `env::args` does.
+/// What a stand-in does, and its exit status: that of `stand` for the arguments after the first
+/// one, or 2 where it can't answer, which is reported on `err`. `dir` is what `env::var` returned
+/// for the variable `STAND_DIR`, and `arguments` what `env::args` did.
 pub fn call<F: Files, O: Write, E: Write>(
     alloc: Global,
     tool: Tool,
@@ -58,7 +58,7 @@ pub fn call<F: Files, O: Write, E: Write>(
     }
 }
 
-/// The status of a call that is answered.
+/// The status of a call that could be answered.
 fn answer<F: Files, O: Write>(
     alloc: Global,
     tool: Tool,
@@ -89,7 +89,7 @@ fn answer<F: Files, O: Write>(
     }
 }
 
-/// The words behind the program's name.
+/// The arguments after the program's name.
 fn words_of(alloc: Global, arguments: Args) -> Result<Vec<String>, AllocError>
     ensures { IfOk result (λ words. words.items ≡ drop 1 (into_iter_items arguments)) }
 {

@@ -1,5 +1,5 @@
-//! Programs for tests that stand in for cargo and rustup: they answer from the files of a folder,
-//! and note there what else they were asked.
+//! Programs that replace cargo and rustup in tests: they answer from the files of a folder, and
+//! record there what else they were asked.
 #![tactic(auto)]
 
 pub mod call;

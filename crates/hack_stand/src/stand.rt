@@ -1,7 +1,7 @@
-//! What a stand-in answers to its words. A word `-vV` at the end asks for the version, the lone
-//! word `--version` for that of rustup, `metadata` for the records of the workspace and
-//! `locate-project` for its root: each is a file of the folder. All else is noted as a line of the
-//! file `calls`, and fails where the file `fail` has that line.
+//! What a stand-in answers to its arguments. `-vV` as the last argument asks for the version,
+//! `--version` alone for that of rustup, `metadata` for the records of the workspace and
+//! `locate-project` for its root: each is a file of the folder. All else is recorded as a line of
+//! the file `calls`, and fails where the file `fail` has that line.
 
 ghost use Rattle.std.specs.Prelude.{◌≡◌, ◌++◌, IfOk, IfErr, OnOk, Some, map, string_bytes, codes};
 ghost use Rattle.std.specs.Prelude.{option_copied};
@@ -15,7 +15,7 @@ use hack_files::fs;
 use hack_files::fs::{FileFault, Files, FsFault};
 use std::alloc::{AllocError, Global};
 
-/// Which program is stood in for.
+/// Which program is replaced.
 #[derive(Clone, Copy)]
 pub enum Tool {
     Cargo,
@@ -29,8 +29,8 @@ pub struct Stood {
     pub status: u8,
 }
 
-/// What a stand-in answers to its words from the files of a folder: 101 is the status where the
-/// folder says that the call fails, and else it is 0.
+/// What a stand-in answers to its arguments from the files of a folder. The status is 101 where the
+/// folder says that the call fails, and else 0.
 pub fn stand<F: Files>(
     alloc: Global,
     tool: Tool,
@@ -50,7 +50,7 @@ pub fn stand<F: Files>(
     }
 }
 
-/// The file that is printed for these words, if one is.
+/// The file that is printed for these arguments, if any.
 fn printed(tool: Tool, words: &[String]) -> Option<&'static str>
     ensures { option_copied result ≡ printed_by tool (map string_bytes words.now) }
 {
@@ -120,7 +120,7 @@ fn print<F: Files>(alloc: Global, files: &mut F, dir: &str, name: &str) -> Resul
     Ok(Stood { output, status: 0 })
 }
 
-/// Notes a call, which fails where the folder says so.
+/// Records a call, which fails where the folder says so.
 fn note<F: Files>(
     alloc: Global,
     files: &mut F,
@@ -143,14 +143,14 @@ fn note<F: Files>(
     })
 }
 
-/// Words on one line.
+/// Arguments on one line.
 fn joined(alloc: Global, words: &[String]) -> Result<String, AllocError>
     ensures { IfOk result (λ line. string_bytes line ≡ line_of (map string_bytes words.now)) }
 {
     words.join(alloc, " ")
 }
 
-/// The status of a call that is noted.
+/// The status of a call that is recorded.
 fn status_of<F: Files>(alloc: Global, files: &mut F, dir: &str, line: &str) -> Result<u8, FsFault>
     ensures ok { IfOk result (λ status. F.tells →
         status ≡ noted_status dir.now line.now (F.bytes_at files.old)) }
@@ -178,7 +178,7 @@ fn has_line(text: &str, line: &str) -> bool
     text.lines().any(|found| found == line)
 }
 
-/// Puts a line at the end of the notes.
+/// Appends a line to the record of calls.
 fn append<F: Files>(alloc: Global, files: &mut F, dir: &str, line: &str) -> Result<(), FsFault>
     ensures noted { OnOk result (F.tells → F.bytes_at files.new (file_in dir.now (codes "calls"))
         ≡ Some (held_or_none (F.bytes_at files.old (file_in dir.now (codes "calls")))
@@ -195,7 +195,7 @@ fn append<F: Files>(alloc: Global, files: &mut F, dir: &str, line: &str) -> Resu
     fs::write(alloc, files, path.as_str(), &notes)
 }
 
-/// What a file holds, and nothing where there is none.
+/// The contents of a file, empty where there is none.
 fn read_if_there<F: Files>(alloc: Global, files: &mut F, path: &str) -> Result<Vec<u8>, FsFault>
     ensures ok { IfOk result (λ bytes. F.tells →
         bytes.items ≡ held_or_none (F.bytes_at files.old path.now)) }

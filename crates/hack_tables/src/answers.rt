@@ -1,10 +1,10 @@
-//! Each kind of row, and the call that answers it.
+//! The kinds of rows, and the call that answers each.
 
 use crate::table::Group;
 use crate::{commands, lists, packages, paths, stored, uses, versions, words};
 use std::alloc::{AllocError, Global};
 
-/// The answer to the words of a row; none for a kind that there is not.
+/// The answer to the arguments of a row; none for an unknown kind.
 pub(crate) fn answer(
     alloc: Global,
     group: &Group,
@@ -34,7 +34,7 @@ pub(crate) fn answer(
     commands::answer(alloc, group, words)
 }
 
-/// The word at a place; the empty text where there is none.
+/// The argument at an index; empty where there is none.
 pub(crate) fn word(words: &[String], place: usize) -> &str {
     match words.get(place) {
         Some(word) => word.as_str(),
@@ -42,7 +42,7 @@ pub(crate) fn word(words: &[String], place: usize) -> &str {
     }
 }
 
-/// A text that is there, or `none`.
+/// A text, or `none` where there is none.
 pub(crate) fn or_none(alloc: Global, text: Option<&str>) -> Result<String, AllocError> {
     String::from_str(alloc, text.unwrap_or("none"))
 }
@@ -52,7 +52,7 @@ pub(crate) fn yes(alloc: Global, holds: bool) -> Result<String, AllocError> {
     String::from_str(alloc, if holds { "yes" } else { "no" })
 }
 
-/// The texts, each behind a bar but the first; `nothing` where there is none.
+/// The texts, separated by bars; `nothing` where there is none.
 pub(crate) fn joined(alloc: Global, texts: &[String]) -> Result<String, AllocError> {
     let mut text = String::new(alloc);
     for (place, part) in texts.iter().enumerate() {

@@ -1,12 +1,12 @@
-//! Lists of commands: from words and the bytes of a feature map to the bytes of the list, or the
-//! first fault.
+//! Lists of commands: from arguments and the bytes of a feature map to the bytes of the list, or
+//! the first error.
 
 use crate::table::Group;
 use hack_powerset_list::powerset_list;
 use std::alloc::{AllocError, Global};
 
-/// `powerset-list`: the lines for the input, which is the first word, and the words behind it, or
-/// the fault.
+/// `powerset-list`: the lines for the input, which is the first argument, and the arguments after
+/// it, or the error.
 pub(crate) fn answer(
     alloc: Global,
     group: &Group,

@@ -1,6 +1,6 @@
-//! Tables of rows as plain text: each row has the words that a public call is asked with, and the
-//! text of its answer. A new row is a line of text and costs no proof. `hack_rows` checks the rows
-//! that stand in its file `stdin`.
+//! Tables of rows as plain text: each row has the arguments of a public call, and the text of its
+//! answer. A new row is a line of text and needs no proof. `hack_rows` checks the rows in its file
+//! `stdin`.
 #![tactic(auto)]
 
 mod answers;

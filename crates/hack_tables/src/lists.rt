@@ -1,5 +1,5 @@
-//! Texts that stand for themselves: lists of names in one word, pieces of a plan, colours and log
-//! groups.
+//! Texts that are read by themselves: lists of names in one argument, pieces of a plan, colours and
+//! log groups.
 
 use crate::answers::{joined, word, yes};
 use crate::table::Group;
@@ -8,9 +8,9 @@ use hack_term::partition::{Partition, PartitionKind};
 use hack_term::term::{Coloring, LogGroup};
 use std::alloc::{AllocError, Global};
 
-/// `group`, `list`: the names in one word. `has a separator`. `piece`, `kind of pieces`,
-/// `coloring`, `log group`: what the text is read as, or its fault. `places`: those that a piece
-/// has of a total, as a block or, with the setting `turn`, dealt in turn.
+/// `group`, `list`: the names in one argument. `has a separator`. `piece`, `kind of pieces`,
+/// `coloring`, `log group`: what the text is read as, or its error. `places`: those that a piece
+/// has of a total, as a block or, with the setting `turn`, assigned in rotation.
 pub(crate) fn answer(
     alloc: Global,
     group: &Group,
@@ -75,7 +75,7 @@ fn piece_text(alloc: Global, text: &str) -> Result<String, AllocError> {
     }
 }
 
-/// The places of a total that the piece has, each with a space behind it.
+/// The places of a total that the piece has, each followed by a space.
 fn places_text(alloc: Global, turn: bool, text: &str, total: &str) -> Result<String, AllocError> {
     let partition = match Partition::parse(alloc, text) {
         Ok(partition) if turn => partition.with_kind(PartitionKind::Turn),

@@ -23,7 +23,7 @@ pub(crate) fn answer(
     }
 }
 
-/// The package of the group's settings `name`, `version` and `id`.
+/// The package that the group's settings `name`, `version` and `id` describe.
 fn package_of(alloc: Global, group: &Group) -> Result<Package, AllocError> {
     Ok(Package {
         id: String::from_str(alloc, group.setting("id").unwrap_or(""))?,

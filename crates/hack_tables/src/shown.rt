@@ -20,7 +20,7 @@ pub(crate) fn notices_text(alloc: Global, notices: &[Notice]) -> Result<String, 
     Ok(text)
 }
 
-/// The names of fields, each behind `; ` but for the first, with their values.
+/// The names of fields with their values, separated by `; `.
 #[derive(Drop)]
 struct Fields {
     text: String,
@@ -40,7 +40,7 @@ impl Fields {
         self.text.push_str(value)
     }
 
-    /// The value of a field that has one.
+    /// A field that has a value.
     fn option(&mut self, name: &str, value: Option<&String>) -> Result<(), AllocError> {
         match value {
             Some(value) => self.text(name, value.as_str()),
@@ -58,7 +58,7 @@ impl Fields {
         Ok(())
     }
 
-    /// The texts of a list, each behind `=` or `|`.
+    /// The texts of a list, each after `=` or `|`.
     fn values(&mut self, texts: &[String]) -> Result<(), AllocError> {
         for (place, text) in texts.iter().enumerate() {
             self.text.push_str(if place == 0 { "=" } else { "|" })?;
@@ -76,7 +76,7 @@ impl Fields {
         self.values(texts)
     }
 
-    /// Features that there are.
+    /// Features, unless there are none.
     fn features(
         &mut self,
         alloc: Global,
@@ -90,7 +90,7 @@ impl Fields {
         self.texts(name, &texts)
     }
 
-    /// Packages, and for each the group that is lifted.
+    /// Packages, each with the group that is lifted for it.
     fn lifts(&mut self, alloc: Global, lifts: &[(String, Feature)]) -> Result<(), AllocError> {
         let mut texts = Vec::new(alloc);
         for (package, group) in lifts {
@@ -100,7 +100,7 @@ impl Fields {
     }
 }
 
-/// Words and names.
+/// Fields with texts.
 fn show_texts(fields: &mut Fields, args: &Args) -> Result<(), AllocError> {
     fields.texts("leading_args", &args.leading_args)?;
     fields.texts("trailing_args", &args.trailing_args)?;
@@ -118,7 +118,7 @@ fn show_texts(fields: &mut Fields, args: &Args) -> Result<(), AllocError> {
     Ok(())
 }
 
-/// Features and groups of them.
+/// Fields with features and groups of them.
 fn show_features(alloc: Global, fields: &mut Fields, args: &Args) -> Result<(), AllocError> {
     fields.features(alloc, "include_features", &args.include_features)?;
     fields.features(alloc, "group_features", &args.group_features)?;
@@ -128,7 +128,7 @@ fn show_features(alloc: Global, fields: &mut Fields, args: &Args) -> Result<(), 
     fields.features(alloc, "at_least_one_of", &args.at_least_one_of)
 }
 
-/// Numbers.
+/// Fields with numbers.
 fn show_numbers(alloc: Global, fields: &mut Fields, args: &Args) -> Result<(), AllocError> {
     if let Some(depth) = args.depth {
         fields.text("depth", format!(in alloc; "{depth}")?.as_str())?;
@@ -150,7 +150,7 @@ fn show_numbers(alloc: Global, fields: &mut Fields, args: &Args) -> Result<(), A
     Ok(())
 }
 
-/// What is one of two or three ways.
+/// Fields with two or three possible values.
 fn show_ways(fields: &mut Fields, args: &Args) -> Result<(), AllocError> {
     fields.flags(&[
         (args.log_group == LogGroup::GithubActions, "github-actions"),
@@ -160,7 +160,7 @@ fn show_ways(fields: &mut Fields, args: &Args) -> Result<(), AllocError> {
     ])
 }
 
-/// What is asked, or isn't.
+/// Fields that are true or false.
 fn show_flags(fields: &mut Fields, args: &Args) -> Result<(), AllocError> {
     fields.flags(&[
         (args.no_manifest_path, "no_manifest_path"),
@@ -188,8 +188,8 @@ fn show_flags(fields: &mut Fields, args: &Args) -> Result<(), AllocError> {
     ])
 }
 
-/// The fields that aren't as words without options leave them: those with words and names,
-/// features, numbers, ways, and last what is asked.
+/// The fields that differ from those of a command line without options: first texts, then features,
+/// numbers, fields with few values, and flags.
 pub(crate) fn args_text(alloc: Global, args: &Args) -> Result<String, AllocError> {
     let mut fields = Fields {
         text: String::new(alloc),

@@ -1,12 +1,12 @@
-//! What a real cargo told of a workspace, read as records.
+//! What a real cargo reported about a workspace, read as records.
 
 use crate::answers::{joined, or_none, word, yes};
 use crate::table::Group;
 use hack_metadata::metadata::{Metadata, MetadataFault, Node, Package, PackageId, object_of};
 use std::alloc::{AllocError, Global};
 
-/// `metadata`: what the stored answer `json`, as a cargo of the minor version `minor` gave it,
-/// tells of the workspace, or of the package that the second word names.
+/// `metadata`: what the stored answer `json`, which a cargo of the minor version `minor` gave, says
+/// about the workspace, or about the package that the second argument names.
 pub(crate) fn answer(
     alloc: Global,
     group: &Group,
@@ -42,7 +42,7 @@ fn told(alloc: Global, metadata: &Metadata, what: &str, name: &str) -> Result<St
     }
 }
 
-/// The first member of a name.
+/// The first member with this name.
 fn named(metadata: &Metadata, name: &str) -> Option<PackageId> {
     for id in &metadata.workspace_members {
         if let Some(package) = metadata.find(*id) {

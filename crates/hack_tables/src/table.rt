@@ -1,10 +1,10 @@
 //! The form of a table, and the check of its rows.
 //!
-//! A line `[kind] A sentence.` begins a group of rows, of one kind of question, and says the rule
-//! that they show. A line `@ name value` says what the rows of the group are asked with. A row is a
-//! line `> question`, whose words stand between spaces, and the lines of its answer, each behind `|
-//! `. In both `\s` is a space, `\n` a line feed, `\r` a carriage return, `\t` a tab, `\0` nothing
-//! and `\\` a backslash. Empty lines and those that begin with `#` are left out.
+//! A line `[kind] A sentence.` begins a group of rows for one kind of question; the sentence is the
+//! rule that they show. A line `@ name value` is a setting for the rows of the group. A row is a
+//! line `> question`, whose arguments are separated by spaces, followed by the lines of its answer,
+//! each after `| `. In both `\s` is a space, `\n` a line feed, `\r` a carriage return, `\t` a tab,
+//! `\0` nothing and `\\` a backslash. Empty lines and those that begin with `#` are ignored.
 
 use crate::answers::answer;
 use std::alloc::{AllocError, AllocFailed, Global};
@@ -15,10 +15,10 @@ use thiserror::Error;
 /// Why a table can't be checked.
 #[derive(Debug, Drop, Error)]
 pub enum Fault {
-    /// The line, from 1, has no form of a table, or stands where it may not.
+    /// The line, from 1, isn't one of a table, or isn't allowed at its place.
     #[error("line {0} is no line of a table here")]
     Line(u64),
-    /// A group of this line, from 1, has a kind that there is not.
+    /// The group at this line, from 1, has an unknown kind.
     #[error("line {0} names no kind of rows")]
     Kind(u64),
     #[error("failed to write")]
@@ -39,24 +39,24 @@ impl<T: Drop> From<AllocFailed<T>> for Fault {
     }
 }
 
-/// How many rows there were, and how many of them were wrong.
+/// How many rows there were, and how many of them failed.
 #[derive(Clone, Copy, Debug, PartialEq, Eq)]
 pub struct Counts {
     pub rows: u64,
     pub wrong: u64,
 }
 
-/// What the rows of a group are asked with.
+/// The settings for the rows of a group.
 #[derive(Drop)]
 pub(crate) struct Group {
     pub(crate) kind: String,
-    /// Names with their values; a name may stand without one.
+    /// Names with their values, which may be empty.
     settings: Vec<(String, String)>,
     line: u64,
 }
 
 impl Group {
-    /// The value of a setting, where it is given.
+    /// The value of a setting, if it is given.
     pub(crate) fn setting(&self, name: &str) -> Option<&str> {
         for (known, value) in self.settings.as_slice() {
             if known.as_str() == name {
@@ -71,7 +71,7 @@ impl Group {
     }
 }
 
-/// A row: its question as it is written, and the text of the answer that is wanted.
+/// A row: its question as it is written, and the text of the expected answer.
 #[derive(Drop)]
 struct Row {
     question: String,
@@ -79,7 +79,7 @@ struct Row {
     line: u64,
 }
 
-/// A text in which each backslash begins another character.
+/// A text with each backslash and the character after it replaced by what they mean.
 fn unescaped(alloc: Global, text: &str) -> Result<String, AllocError> {
     let mut made = String::new(alloc);
     let mut escaped = false;
@@ -104,7 +104,7 @@ fn unescaped(alloc: Global, text: &str) -> Result<String, AllocError> {
     Ok(made)
 }
 
-/// The words of a question.
+/// The arguments of a question.
 pub(crate) fn words_of(alloc: Global, question: &str) -> Result<Vec<String>, AllocError> {
     let mut words = Vec::new(alloc);
     if question.is_empty() {
@@ -116,14 +116,13 @@ pub(crate) fn words_of(alloc: Global, question: &str) -> Result<Vec<String>, All
     Ok(words)
 }
 
-/// What stands behind a line's mark and one space.
+/// The text after a line's mark and one space.
 fn behind<'a>(line: &'a str, mark: &str) -> Option<&'a str> {
     let rest = line.strip_prefix(mark)?;
     Some(rest.strip_prefix(" ").unwrap_or(rest))
 }
 
-/// A table that is being checked: the group and the row whose lines are being read, and what was
-/// counted.
+/// A table during its check: the group and the row whose lines are being read, and the counts.
 #[derive(Drop)]
 struct Reading {
     alloc: Global,
@@ -133,7 +132,7 @@ struct Reading {
 }
 
 impl Reading {
-    /// Asks the question of the row that was read last, and tells of it where its answer is another
+    /// Asks the question of the row that was read last, and reports it if its answer is another
     /// one.
     fn judge<W: Write>(&mut self, out: &mut W) -> Result<(), Fault> {
         let row = match self.row.take() {
@@ -171,7 +170,7 @@ impl Reading {
         Ok(())
     }
 
-    /// Takes a setting.
+    /// Reads a setting.
     fn set(&mut self, text: &str, line: u64) -> Result<(), Fault> {
         let (name, value) = text.split_once(' ').unwrap_or((text, ""));
         let name = String::from_str(self.alloc, name)?;
@@ -193,7 +192,7 @@ impl Reading {
         Ok(())
     }
 
-    /// Takes a line of an answer.
+    /// Reads a line of an answer.
     fn want(&mut self, text: &str, line: u64, is_first: bool) -> Result<(), Fault> {
         let text = unescaped(self.alloc, text)?;
         match &mut self.row {
@@ -209,7 +208,7 @@ impl Reading {
     }
 }
 
-/// Tells of a row whose answer is another one.
+/// Reports a row whose answer is another one.
 fn tell<W: Write>(out: &mut W, group: &Group, row: &Row, found: &str) -> io::Result<()> {
     let line = row.line;
     let kind = group.kind.as_str();
@@ -221,8 +220,8 @@ fn tell<W: Write>(out: &mut W, group: &Group, row: &Row, found: &str) -> io::Res
     )
 }
 
-/// Checks the rows of a table, and tells of each wrong one to `out`: its line, its question, what
-/// was found and what was wanted.
+/// Checks the rows of a table, and reports each that fails to `out`: its line, its question, the
+/// answer that was found and the expected one.
 pub fn check<W: Write>(alloc: Global, text: &str, out: &mut W) -> Result<Counts, Fault> {
     let mut reading = Reading {
         alloc,

@@ -1,4 +1,4 @@
-//! Words cut into options, and what uses of options say.
+//! Arguments parsed into options, and what uses of options say.
 
 use crate::answers::{joined, or_none, word, yes};
 use crate::table::Group;
@@ -11,10 +11,10 @@ use hack_uses::{
 };
 use std::alloc::{AllocError, Global};
 
-/// `cuts`: the options and words that a parser cuts. `passed`: the words that are passed on, what
-/// is asked, or the fault. `subcommand`: of the uses of the words. `value`, `values`: of those
-/// behind the first word, which names an option. `usage`, `usage of a letter`, `named`: how an
-/// option is shown.
+/// `cuts`: the items that a parser reads. `passed`: the arguments that are passed on, the text that
+/// is asked for, or the error. `subcommand`: from the uses. `value`, `values`: from the uses in the
+/// arguments after the first one, which names an option. `usage`, `usage of a letter`, `named`: how
+/// an option is shown.
 pub(crate) fn answer(
     alloc: Global,
     group: &Group,
@@ -37,7 +37,7 @@ pub(crate) fn answer(
     Ok(Some(text))
 }
 
-/// The same words once more.
+/// A copy of the arguments.
 fn copied(alloc: Global, words: &[String]) -> Result<Vec<String>, AllocError> {
     let mut copies = Vec::new(alloc);
     for word in words {
@@ -46,7 +46,7 @@ fn copied(alloc: Global, words: &[String]) -> Result<Vec<String>, AllocError> {
     Ok(copies)
 }
 
-/// The text of the next cut; none behind the last; where it is refused, the option and the value
+/// The text of the next item; none after the last; where it is refused, the option and the value
 /// that nobody took.
 fn cut(alloc: Global, parser: &mut Parser) -> Result<Option<String>, AllocError> {
     match parser.cut() {
@@ -58,7 +58,7 @@ fn cut(alloc: Global, parser: &mut Parser) -> Result<Option<String>, AllocError>
     }
 }
 
-/// The first twenty cuts of the words.
+/// The first twenty items of the arguments.
 fn cuts(alloc: Global, words: &[String]) -> Result<String, AllocError> {
     let mut parser = Parser::from_args(alloc, copied(alloc, words)?);
     let mut texts = Vec::new(alloc);
@@ -71,7 +71,7 @@ fn cuts(alloc: Global, words: &[String]) -> Result<String, AllocError> {
     joined(alloc, &texts)
 }
 
-/// The uses of words that are cut without a fault and ask nothing; none of others.
+/// The uses of arguments that are parsed without an error and ask for no text; none for others.
 fn uses_of(alloc: Global, words: &[String]) -> Result<Vec<Use>, AllocError> {
     match all_uses(alloc, copied(alloc, words)?) {
         Ok(Cuts::Uses(uses)) => Ok(uses),
@@ -79,7 +79,7 @@ fn uses_of(alloc: Global, words: &[String]) -> Result<Vec<Use>, AllocError> {
     }
 }
 
-/// The text of the fault, what is asked, or the words that are passed on.
+/// The text of the error, the text that is asked for, or the arguments that are passed on.
 fn passed(
     alloc: Global,
     behavior: WorkspaceBehavior,
@@ -102,7 +102,7 @@ fn option_of(group: &Group) -> Option<Opt> {
     }
 }
 
-/// The option of the first word, and the uses of the others.
+/// The option that the first argument names, and the uses in the others.
 fn asked(alloc: Global, words: &[String]) -> Result<Option<(Opt, Vec<Use>)>, AllocError> {
     match words.split_first() {
         Some((name, words)) => match long(name.as_str()) {
@@ -113,7 +113,7 @@ fn asked(alloc: Global, words: &[String]) -> Result<Option<(Opt, Vec<Use>)>, All
     }
 }
 
-/// The first value that the uses give the option, whether it is given at all, or `not given`.
+/// The first value that the uses give the option, else whether it is given, or `not given`.
 fn value_text(alloc: Global, words: &[String]) -> Result<String, AllocError> {
     let (option, uses) = match asked(alloc, words)? {
         Some(asked) => asked,
@@ -128,7 +128,7 @@ fn value_text(alloc: Global, words: &[String]) -> Result<String, AllocError> {
     }
 }
 
-/// All the values of the option's uses, and how often it is used.
+/// All values that the uses give the option, and how often it is used.
 fn values_text(alloc: Global, words: &[String]) -> Result<String, AllocError> {
     let (option, uses) = match asked(alloc, words)? {
         Some(asked) => asked,
@@ -140,7 +140,7 @@ fn values_text(alloc: Global, words: &[String]) -> Result<String, AllocError> {
     Ok(text)
 }
 
-/// How usage shows the option of a letter.
+/// How usage shows the option with this letter.
 fn usage_of_a_letter(alloc: Global, text: &str) -> Result<String, AllocError> {
     match text.chars().next() {
         Some(letter) => format!(in alloc; "{}", Usage::Short(letter)),
@@ -148,8 +148,8 @@ fn usage_of_a_letter(alloc: Global, text: &str) -> Result<String, AllocError> {
     }
 }
 
-/// How messages name the option of a name, alone and with its alias, and whether it stands for
-/// another one.
+/// How messages name the option with this name, alone and with its alias, and whether it is an
+/// alias.
 fn named(alloc: Global, name: &str) -> Result<String, AllocError> {
     match long(name) {
         Some(option) => {
@@ -161,8 +161,7 @@ fn named(alloc: Global, name: &str) -> Result<String, AllocError> {
     }
 }
 
-/// The names, groups, targets or lifted groups that the uses of the words give, or the fault of the
-/// last.
+/// The names, groups, targets or lifted groups that the uses give, or the error of the last.
 fn given_text(
     alloc: Global,
     group: &Group,

@@ -1,5 +1,5 @@
-//! Versions and ranges of them, their steps, which package uses which, and what cargo and rustup
-//! answer.
+//! Versions and ranges of them, their steps, which package uses which version, and the answers of
+//! cargo and rustup.
 
 ghost use Rattle.std.specs.Prelude.{◌<◌};
 
@@ -14,9 +14,9 @@ use hack_versions::version::{Version, VersionRange};
 use std::alloc::{AllocError, Global};
 
 /// `version`, `range`, `minor of rustup`, `release of cargo`: what the text is read as, or its
-/// fault; `host of cargo`. `steps`, `groups`, `how many groups`: of a range, where stable is 1.70
+/// error; `host of cargo`. `steps`, `groups`, `how many groups`: of a range, where stable is 1.70
 /// and each package has its own version or none. `lockfiles`: before which versions the lockfile is
-/// made.
+/// generated.
 pub(crate) fn answer(
     alloc: Global,
     group: &Group,
@@ -47,7 +47,7 @@ pub(crate) fn answer(
     Ok(Some(text))
 }
 
-/// The range, and whether it has the form that is deprecated.
+/// The range, and whether it has the deprecated form.
 fn range_text(alloc: Global, text: &str) -> Result<String, AllocError> {
     match VersionRange::parse(alloc, text) {
         Ok((range, true)) => format!(in alloc; "{range} deprecated"),
@@ -64,12 +64,12 @@ fn at(minor: u32) -> Version {
     }
 }
 
-/// The version of a text that is one.
+/// The version that a text is, if it is one.
 fn version_of(alloc: Global, text: &str) -> Option<Version> {
     Version::parse(alloc, text).ok()
 }
 
-/// The packages' own versions, as the group has them; a word that is no version stands for none.
+/// The packages' own versions, as the group gives them; an argument that is no version means none.
 fn owns_of(alloc: Global, group: &Group) -> Result<Vec<Option<Version>>, AllocError> {
     let mut owns = Vec::new(alloc);
     for text in group.setting("own").unwrap_or("").split_whitespace() {
@@ -78,7 +78,7 @@ fn owns_of(alloc: Global, group: &Group) -> Result<Vec<Option<Version>>, AllocEr
     Ok(owns)
 }
 
-/// The range of a text, that of `--rust-version` for `own`.
+/// The range that a text is; that of `--rust-version` for `own`.
 fn range_of(alloc: Global, text: &str) -> Option<VersionRange> {
     match text {
         "own" => Some(VersionRange::msrv()),
@@ -96,7 +96,7 @@ fn step_of(group: &Group) -> u16
     }
 }
 
-/// The steps of a range with the notices behind them, or the fault.
+/// The steps of a range followed by the notices, or the error.
 fn steps_text(alloc: Global, group: &Group, text: &str) -> Result<String, AllocError> {
     let owns = owns_of(alloc, group)?;
     let range = match range_of(alloc, text) {
@@ -109,7 +109,7 @@ fn steps_text(alloc: Global, group: &Group, text: &str) -> Result<String, AllocE
     }
 }
 
-/// Versions, each with a space behind it, and notices, each on a line.
+/// Versions, each followed by a space, and notices, each on a line.
 fn told(alloc: Global, versions: &[Version], notices: &[Notice]) -> Result<String, AllocError> {
     let mut text = String::new(alloc);
     for version in versions {
@@ -134,8 +134,7 @@ fn packages_of(alloc: Global, owns: &[Option<Version>]) -> Result<Vec<PackageVer
     Ok(packages)
 }
 
-/// Which version has which packages, then the notices, or just how many versions there are, or the
-/// fault.
+/// Each version with its packages, then the notices; or only the number of versions; or the error.
 fn groups_text(
     alloc: Global,
     group: &Group,
@@ -180,7 +179,7 @@ fn grouped(
     Ok(text)
 }
 
-/// For each version whether the lockfile is made before it.
+/// For each version, whether the lockfile is generated before it.
 fn lockfiles_text(alloc: Global, group: &Group, words: &[String]) -> Result<String, AllocError> {
     let mut versions = Vec::new(alloc);
     for text in words {

@@ -1,4 +1,4 @@
-//! The words of `cargo hack`: what they come to, and the fields that they give.
+//! The command line of `cargo hack`: its outcome, and the fields that it gives.
 
 use crate::answers::yes;
 use crate::shown::{args_text, notices_text};
@@ -10,9 +10,9 @@ use std::alloc::{AllocError, Global};
 
 type Answer = Result<(Parsed, Vec<Notice>), CliFault>;
 
-/// `words`: what the words come to, with its notices, or the fault. `fields`: the fields that
-/// aren't as words without options leave them. `wants rustup`: whether rustup's version is wanted.
-/// `environment`: what is looked up of variables.
+/// `words`: the outcome of a command line with its notices, or the error. `fields`: the fields that
+/// differ from those of a command line without options. `wants rustup`: whether rustup's version is
+/// needed. `environment`: what is read from variables.
 pub(crate) fn answer(
     alloc: Global,
     group: &Group,
@@ -28,8 +28,8 @@ pub(crate) fn answer(
     Ok(Some(text))
 }
 
-/// An environment that says nothing but, where it does, how cargo colours its lines and that GitHub
-/// Actions runs the call.
+/// An environment in which at most the colouring for cargo and the variable of GitHub Actions are
+/// set.
 fn env_of(alloc: Global, color: Option<&str>, github_actions: bool) -> Result<Env, AllocError> {
     let term_color = match color {
         Some(color) => Some(String::from_str(alloc, color)?),
@@ -45,21 +45,21 @@ fn env_of(alloc: Global, color: Option<&str>, github_actions: bool) -> Result<En
     })
 }
 
-/// The answer to the words, in the group's environment and with its rustup.
+/// The answer to the command line, in the group's environment and with its rustup.
 fn parsed(alloc: Global, group: &Group, words: &[String]) -> Result<Answer, AllocError> {
     let env = env_of(alloc, group.setting("color"), group.has("github"))?;
     Ok(Args::parse(alloc, words, &env, rustup_of(alloc, group)?))
 }
 
-/// The fields that the words of a line give, or their fault, as rows of `fields` have them:
-/// in an environment that says nothing, and with a rustup that is new enough.
+/// The fields that the arguments on a line give, or their error, as in rows of `fields`: in an
+/// empty environment, with a rustup that is new enough.
 pub fn fields(alloc: Global, line: &str) -> Result<String, AllocError> {
     let words = words_of(alloc, line)?;
     let env = env_of(alloc, None, false)?;
     fields_text(alloc, Args::parse(alloc, &words, &env, Rustup::Known(26)))
 }
 
-/// The group's rustup: of this minor version, unknown for this reason, or one that is new enough.
+/// The group's rustup: with this minor version, unknown for this reason, or one that is new enough.
 fn rustup_of(alloc: Global, group: &Group) -> Result<Rustup, AllocError> {
     if let Some(reason) = group.setting("unknown-rustup") {
         return Ok(Rustup::Unknown(String::from_str(alloc, reason)?));
@@ -68,7 +68,7 @@ fn rustup_of(alloc: Global, group: &Group) -> Result<Rustup, AllocError> {
     Ok(Rustup::Known(minor.unwrap_or(26)))
 }
 
-/// What is printed behind `print: `, `short help`, `long help`, `list` or `args`.
+/// The text to print after `print: `, `short help`, `long help`, `list` or `args`.
 fn parsed_text(alloc: Global, parsed: Parsed) -> Result<String, AllocError> {
     match parsed {
         Parsed::Print(text) => printed_text(alloc, text.as_str()),
@@ -77,7 +77,7 @@ fn parsed_text(alloc: Global, parsed: Parsed) -> Result<String, AllocError> {
     }
 }
 
-/// The text that is printed, or which help it is.
+/// The text to print, or which help it is.
 fn printed_text(alloc: Global, text: &str) -> Result<String, AllocError> {
     let short = format!(in alloc; "{}", Help::short())?;
     if text == short.as_str() {
@@ -90,7 +90,7 @@ fn printed_text(alloc: Global, text: &str) -> Result<String, AllocError> {
     format!(in alloc; "print: {text}")
 }
 
-/// The fault, or what the words come to; then the notices, each behind a line feed.
+/// The error or the outcome, followed by the notices, each after a line feed.
 fn answer_text(alloc: Global, answer: Answer) -> Result<String, AllocError> {
     let (parsed, notices) = match answer {
         Ok(answer) => answer,
@@ -101,8 +101,8 @@ fn answer_text(alloc: Global, answer: Answer) -> Result<String, AllocError> {
     Ok(text)
 }
 
-/// The fields that aren't as words without options leave them; of words that give no arguments,
-/// what they come to.
+/// The fields that differ from those of a command line without options; where there are no
+/// arguments, the outcome.
 fn fields_text(alloc: Global, answer: Answer) -> Result<String, AllocError> {
     let (parsed, _) = match answer {
         Ok(answer) => answer,
@@ -114,7 +114,7 @@ fn fields_text(alloc: Global, answer: Answer) -> Result<String, AllocError> {
     }
 }
 
-/// The fields of the environment of variables, each `NAME=value`.
+/// The fields of the environment that these variables make, each given as `NAME=value`.
 fn env_text(alloc: Global, vars: &[String]) -> Result<String, AllocError> {
     let mut pairs = Vec::new(alloc);
     for var in vars {

@@ -41,7 +41,7 @@ in_block m count total place p h l = at (div_ceil total count) (div_ceil-positiv
       λ w. div-eq_of_lt-le c w.0 (omega (arith, w.1, before-next m c p)),
     )
 
--- each place is in just one piece
+-- each place is in exactly one piece
 pub in_just_one : (count total : ℕ) → 0 < count → (kind : PartitionKind) (place : ℕ) → place < total → InJustOnePiece kind count total place
 in_just_one count total h Block place l =
     let covers : place < count * div_ceil total count = omega (arith, div_ceil-covers total count h) in
@@ -63,11 +63,11 @@ take-more n m xs =
     ∙ ap (λ t. take n (take (n + m) xs) ++ t) (sym (drop-take n m xs))
     ∙ take-append-drop n (take (n + m) xs)
 
--- a slice behind a front is a longer front
+-- a prefix and the slice after it are a longer prefix
 take-slice : {A : Type 0} (a b : ℕ) (xs : List A) → a ≤ b → take a xs ++ slice_range xs a b ≡ take b xs
 take-slice a b xs h = take-more a (b - a) xs ∙ ap (λ (n : ℕ). take n xs) (omega arith)
 
--- the blocks behind the first j
+-- the blocks after the first j
 blocks-behind : {A : Type 0} (c j n : ℕ) (xs : List A) → take (j * c) xs ++ flat_map (λ m. slice_range xs ((m - 1) * c) (m * c)) (range_with_len (j + 1) n) ≡ take ((j + n) * c) xs
 blocks-behind c j zero xs = append-nil (take (j * c) xs) ∙ ap (λ (k : ℕ). take (k * c) xs) none
   where

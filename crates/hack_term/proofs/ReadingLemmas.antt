@@ -1,4 +1,4 @@
--- What a text is read as, where it names a piece.
+-- A text that names a piece is read as it.
 use Rattle.std.proofs.Common.{◌≡◌, ◌≢◌, ℕ, ◌<◌, ◌≤◌, ◌&&◌, ◌++◌, List, [], ◌∷◌, Bool, true, false, not, cond}
 use Rattle.std.proofs.Common.{length, get_or, nat_lt, lt-ltb, append_assoc, option_and_then, Option, Some, None}
 use Rattle.std.proofs.Common.{arith, refl, ap, sym, subst, ◌∙◌}
@@ -14,7 +14,7 @@ use Rattle.hack_term.proofs.TextLemmas.{IsNumber-no_slash}
 Some-same : {A : Type 0} {a b : A} → Some a ≡ Some b → a ≡ b
 Some-same e = cc
 
--- m/n where m is from 1 to n
+-- m/n, where m is from 1 to n
 within : (m n : ℕ) → 0 < m → m ≤ n → piece_if (Some m) (Some n) ≡ Some (record { piece = m; count = n })
 within m n l w =
     let a : nat_lt 0 m ≡ true = lt-ltb _ _ l in

@@ -1,4 +1,4 @@
--- Where the text of a piece is cut.
+-- Where the text of a piece is split.
 use Rattle.std.proofs.Common.{◌≡◌, ◌≢◌, ℕ, zero, suc, ◌<◌, ◌≤◌, List, [], ◌∷◌, ◌==◌, Bool, true, false, length, drop, get_or, slice_index, cond, arith, refl, sym, subst, ◌∙◌, append_assoc, lit<, Some, None}
 use denote.Ref.{Bor}
 use Rattle.std.proofs.lemmas.Bool.Decides.{nat_tests}
@@ -28,7 +28,7 @@ IsNumber-no_slash text n h = signed-no_slash (slice_index text 0 == 43) text h.0
 pub uncut-no_piece : (text : List ℕ) → IsSplitOnceResult 47 text None → IsNoPiece text
 uncut-no_piece text cut m n p = split_after 47 text p.0 p.1 None cut (lit< tt) (p.2 ∙ append_assoc p.0 (47 ∷ []) p.1) (IsNumber-no_slash p.0 m p.3)
 
--- a piece is cut at its one slash
+-- a piece is split at its only slash
 pub cut-piece : (text : List ℕ) (a b : Bor (List ℕ)) → IsSplitOnceResult 47 text (Some (a, b)) → (m n : ℕ) → IsPiece text m n → IsNumber 64 a.now m × IsNumber 64 b.now n × (0 < m) × (m ≤ n)
 cut-piece text a b cut m n p =
     let e = split_after 47 text p.0 p.1 (Some (a, b)) cut (lit< tt) (p.2 ∙ append_assoc p.0 (47 ∷ []) p.1) (IsNumber-no_slash p.0 m p.3) in

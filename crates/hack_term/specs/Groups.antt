@@ -14,7 +14,7 @@ abbrev pub group_name : LogGroup → List ℕ
 group_name None = codes "none"
 group_name GithubActions = codes "github-actions"
 
--- the text names no kind of groups
+-- the text isn't the name of a kind of groups
 abbrev pub IsNoGroup : List ℕ → Type 0
 IsNoGroup text = (group : LogGroup) → text ≡ group_name group → ⊥
 
@@ -30,12 +30,12 @@ abbrev pub RefusesGroup : List ℕ → LogGroupFault → Type 0
 RefusesGroup text (Name s) = (string_bytes s ≡ text) × IsNoGroup text
 RefusesGroup text Memory = Unit {0}
 
--- the line that opens a group, on the output
+-- the line that opens a group, on `out`
 abbrev pub opening_line : LogGroup → List ℕ → List ℕ
 opening_line None text = []
 opening_line GithubActions text = line (codes "::group::") text
 
--- the line in place of a group, where the errors go
+-- the line that replaces it where lines aren't grouped, on `err`
 abbrev pub message_line : LogGroup → Coloring → List ℕ → List ℕ
 message_line None coloring text = info_line coloring text
 message_line GithubActions coloring text = []

@@ -1,4 +1,4 @@
--- The lines that a user is told.
+-- The lines that are printed for a user.
 use Rattle.std.specs.Prelude.{◌≡◌, ℕ, List, [], ◌∷◌, ◌++◌, codes, bytes_eq, true}
 use Rattle.std.specs.Prelude.{Option, Some, None, if◌then◌else◌}
 use Rattle.hack_base.specs.declared.notice.NoticeKind.{NoticeKind}
@@ -14,7 +14,7 @@ coloring_name Auto = codes "auto"
 coloring_name Always = codes "always"
 coloring_name Never = codes "never"
 
--- the text is that of no colouring
+-- the text isn't the name of a colouring
 abbrev pub IsNoColoring : List ℕ → Type 0
 IsNoColoring text = (coloring : Coloring) → text ≡ coloring_name coloring → ⊥
 
@@ -30,25 +30,26 @@ coloring_of text =
 abbrev pub look : List ℕ → List ℕ
 look code = 27 ∷ codes "[" ++ code ++ codes "m"
 
--- what begins a line: a word, a colon and a space, in bold and the word in a colour where it is coloured
+-- the start of a line: a word, a colon and a space; if coloured, it is bold and the word has a
+-- colour
 abbrev pub label : Coloring → List ℕ → List ℕ → List ℕ
 label Auto color word = word ++ codes ": "
 label Never color word = word ++ codes ": "
 label Always color word = look (codes "0") ++ look (codes "1") ++ color ++ word ++ look (codes "0") ++ look (codes "1") ++ codes ":" ++ look (codes "0") ++ codes " "
 
--- what begins the line of an information
+-- the start of an info line
 abbrev pub info_label : Coloring → List ℕ
 info_label coloring = label coloring [] (codes "info")
 
--- what begins the line of a warning, in yellow
+-- the start of a warning, in yellow
 abbrev pub warning_label : Coloring → List ℕ
 warning_label coloring = label coloring (look (codes "33")) (codes "warning")
 
--- what begins the line of an error, in red
+-- the start of an error, in red
 abbrev pub error_label : Coloring → List ℕ
 error_label coloring = label coloring (look (codes "31")) (codes "error")
 
--- the line of an information
+-- an info line
 abbrev pub info_line : Coloring → List ℕ → List ℕ
 info_line coloring text = line (info_label coloring) text
 
@@ -66,7 +67,7 @@ notice_line coloring Info text = info_line coloring text
 notice_line coloring Warn text = warning_line coloring text
 notice_line coloring QuietWarn text = warning_line coloring text
 
--- what a notice leaves: one that warns is noted, a quiet one is not
+-- what is recorded after a notice: a warning is, unless it is a quiet one
 abbrev pub after_notice : Term → NoticeKind → Term
 after_notice term Info = term
 after_notice term Warn = record term { warn = true }

@@ -8,13 +8,13 @@ use Rattle.hack_term.specs.declared.partition.PartitionKind.TheVariants.{Block, 
 use Rattle.hack_term.specs.declared.partition.PartitionFault.{PartitionFault}
 use Rattle.hack_term.specs.declared.partition.PartitionFault.TheVariants.{Piece, Kind, Memory}
 
--- the text m/n of piece m of n
+-- the text is m/n, for piece m of n
 abbrev pub IsPiece : List ℕ → ℕ → ℕ → Type 0
 IsPiece text m n =
     (before : List ℕ) × (behind : List ℕ) × (text ≡ before ++ codes "/" ++ behind)
     × IsNumber 64 before m × IsNumber 64 behind n × (0 < m) × (m ≤ n)
 
--- the text is that of no piece
+-- the text isn't m/n for any piece
 abbrev pub IsNoPiece : List ℕ → Type 0
 IsNoPiece text = (m n : ℕ) → IsPiece text m n → ⊥
 
@@ -23,14 +23,14 @@ pub record PieceNumbers : Type 0 where
   pub piece : ℕ
   pub count : ℕ
 
--- both numbers, where the first is from 1 and at most the second
+-- both numbers, where the first is at least 1 and at most the second
 abbrev pub piece_if : Option ℕ → Option ℕ → Option PieceNumbers
 piece_if (Some m) (Some n) =
     if nat_lt 0 m && not (nat_lt n m) then Some (record { piece = m; count = n }) else None
 piece_if (Some m) None = None
 piece_if None n = None
 
--- the piece that a text names, if it names one: m/n, cut at the first slash
+-- the piece that a text names, if it names one: m/n, split at the first slash
 abbrev pub piece_of : List ℕ → Option PieceNumbers
 piece_of text =
     option_and_then (λ rest. piece_if (number_of 64 (front_of 47 text)) (number_of 64 rest))
@@ -47,7 +47,7 @@ abbrev pub kind_name : PartitionKind → List ℕ
 kind_name Block = codes "block"
 kind_name Turn = codes "turn"
 
--- the text is that of no kind
+-- the text isn't the name of a kind
 abbrev pub IsNoKind : List ℕ → Type 0
 IsNoKind text = (kind : PartitionKind) → text ≡ kind_name kind → ⊥
 

@@ -5,19 +5,20 @@ use Rattle.std.specs.List.{slice_range, flat_map, range_with_len}
 use Rattle.hack_term.specs.declared.partition.PartitionKind.{PartitionKind}
 use Rattle.hack_term.specs.declared.partition.PartitionKind.TheVariants.{Block, Turn}
 
--- piece m of count has the place: under block its slice does, all slices being as long as the total over count, rounded up; under turn the places are dealt to the pieces one after the other
+-- piece m of count has the place: under block its slice does, where all slices are as long as the
+-- total divided by count, rounded up; under turn the places are assigned to the pieces in rotation
 abbrev pub InPiece : PartitionKind → ℕ → ℕ → ℕ → ℕ → Type 0
 InPiece Block m count total place = ((m - 1) * div_ceil total count ≤ place) × (place < m * div_ceil total count)
 InPiece Turn m count total place = place % count ≡ m - 1
 
--- one of the pieces has the place, and no other
+-- exactly one of the pieces has the place
 abbrev pub InJustOnePiece : PartitionKind → ℕ → ℕ → ℕ → Type 0
 InJustOnePiece kind count total place = (m : ℕ) × (0 < m) × (m ≤ count) × InPiece kind m count total place × ((k : ℕ) → 0 < k → k ≤ count → InPiece kind k count total place → k ≡ m)
 
--- block m of count: the slice of the plan at the places of piece m, cut at the plan's end
+-- block m of count: the slice of the plan at the places of piece m, cut off at the plan's end
 abbrev pub block : {A : Type 0} → ℕ → ℕ → List A → List A
 block m count plan = slice_range plan ((m - 1) * div_ceil (length plan) count) (m * div_ceil (length plan) count)
 
--- the blocks from the first to the last, one behind the other
+-- the blocks from the first to the last, concatenated
 abbrev pub joined_blocks : {A : Type 0} → ℕ → List A → List A
 joined_blocks count plan = flat_map (λ m. block m count plan) (range_with_len 1 count)

@@ -1,4 +1,4 @@
-//! Groups of lines in a log that can be folded.
+//! Groups of lines in a log, which can be folded.
 
 ghost use Rattle.std.specs.Prelude.{◌≡◌, ◌↔◌, ◌⊎◌, IsTrue, IfOk, IfErr, MatchResult, OnOk};
 ghost use Rattle.std.specs.Prelude.{IsSome, Some, None as Nothing};
@@ -14,10 +14,10 @@ use std::io;
 use std::io::Write;
 use thiserror::Error;
 
-/// Why a log group can't be read.
+/// Why a kind of log groups can't be read.
 #[derive(Debug, Drop, Error)]
 pub enum LogGroupFault {
-    /// The text names none.
+    /// The text isn't the name of one.
     #[error("argument for --log-group must be none or github-actions, but found `{0}`")]
     Name(String),
     #[error("out of memory")]
@@ -37,13 +37,13 @@ impl From<AllocError> for LogGroupFault {
 /// How the lines of one command are grouped.
 #[derive(Clone, Copy, Debug, PartialEq, Eq)]
 pub enum LogGroup {
-    /// They aren't.
+    /// Not at all.
     None,
     /// Between `::group::` and `::endgroup::`, which the runners of GitHub Actions fold.
     GithubActions,
 }
 
-/// A group of lines that is open. It has no `Drop`, so it must be ended.
+/// An open group of lines. It has no `Drop`, so it must be ended.
 pub struct LogGroupGuard {
     _open: (),
 }
@@ -63,7 +63,7 @@ impl LogGroup {
         }
     }
 
-    /// The group for a process, which may run under GitHub Actions.
+    /// The kind of groups for a process, which may run under GitHub Actions.
     pub fn auto(github_actions: bool) -> LogGroup
         ensures { (result ≡ LogGroup.GithubActions) ↔ IsTrue github_actions }
     {
@@ -75,7 +75,7 @@ impl LogGroup {
     }
 
     /// Opens a group with the text on `out`, or writes an info line with it on `err`. The group
-    /// counts as open even where the write of its line fails, so the fault comes beside the guard.
+    /// counts as open even where that write fails, so the error is returned beside the guard.
     pub fn print<O: Write, E: Write>(
         self,
         term: &Term,
@@ -104,7 +104,7 @@ impl LogGroup {
 }
 
 impl LogGroupGuard {
-    /// Ends the group by its line.
+    /// Writes the line that ends the group.
     pub fn end<O: Write>(self, out: &mut O) -> io::Result<()>
         ensures line { OnOk result (Appends (O.contents out.old) (O.contents out.new)
             closing_line) }

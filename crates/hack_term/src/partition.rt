@@ -1,4 +1,4 @@
-//! A piece of a plan, as one machine of several runs it: `m/n` is the m-th of n pieces.
+//! A piece of a plan, which one of several machines runs: `m/n` is the m-th of n pieces.
 
 ghost use Rattle.std.specs.Prelude.{◌≡◌, ◌<◌, ◌≤◌, ◌↔◌, ◌⊎◌, List, ℕ, IsTrue};
 ghost use Rattle.std.specs.Prelude.{IfOk, IfErr, MatchResult, IfSome, IfNone, Some, None};
@@ -10,13 +10,13 @@ ghost use Rattle.hack_term.specs.Partitions.{kind_name, RefusesKind, kind_of};
 use std::alloc::{AllocError, Global};
 use thiserror::Error;
 
-/// Why a piece, or the way in which places are dealt to pieces, can't be read.
+/// Why a piece, or a kind of pieces, can't be read.
 #[derive(Debug, Drop, Error)]
 pub enum PartitionFault {
-    /// The text is no `m/n` with numbers `0 < m <= n`.
+    /// The text isn't `m/n` with numbers `0 < m <= n`.
     #[error("bad or out-of-range partition: {0}")]
     Piece(String),
-    /// The text names no kind.
+    /// The text isn't the name of a kind.
     #[error("argument for --partition-kind must be block or turn, but found `{0}`")]
     Kind(String),
     #[error("out of memory")]
@@ -33,12 +33,12 @@ impl From<AllocError> for PartitionFault {
     }
 }
 
-/// How the places of a plan are dealt to its pieces.
+/// How the places of a plan are assigned to its pieces.
 #[derive(Clone, Copy, Debug, PartialEq, Eq)]
 pub enum PartitionKind {
-    /// Each piece is a slice, all but the last ones of one length.
+    /// Each piece is a slice; all slices but the last ones have the same length.
     Block,
-    /// Place by place to one piece after the other, again and again.
+    /// Places are assigned to the pieces in rotation.
     Turn,
 }
 
@@ -90,7 +90,7 @@ fn read_piece(text: &str) -> Option<Partition>
 }
 
 impl Partition {
-    /// Reads `m/n`, the m-th of n pieces, which are blocks.
+    /// Reads `m/n`, the m-th of n pieces, with the kind `Block`.
     pub fn parse(alloc: Global, text: &str) -> Result<Partition, PartitionFault>
         ensures piece { IfOk result (λ p. IsPiece text.now p.piece p.count) }
         ensures blocks { IfOk result (λ p. p.kind ≡ PartitionKind.Block) }
@@ -105,7 +105,7 @@ impl Partition {
         }
     }
 
-    /// The same piece, to which the places are dealt as `kind` says.
+    /// The same piece, with places assigned as `kind` says.
     pub fn with_kind(self, kind: PartitionKind) -> Partition
         ensures { result ≡ record self { kind = kind } }
     {
@@ -122,12 +122,12 @@ impl Partition {
         ensures holds { IsTrue result
             ↔ InPiece self.now.kind self.now.piece self.now.count total place }
 
-        // Each place is in exactly one of the pieces, however they are dealt.
+        // Each place is in exactly one of the pieces, however places are assigned.
         ensures once { (kind : Kind) (p : ℕ) → p < total
             → InJustOnePiece kind self.now.count total p }
 
-        // The blocks of any plan, one behind the other, are the plan, the empty one too. Its places
-        // may be of any type: numbers stand for them.
+        // The blocks of any plan, concatenated, are the plan, also where it is empty. Its places
+        // may be of any type: here they are numbers.
         ensures joined { (plan : List ℕ) → joined_blocks self.now.count plan ≡ plan }
     {
         match self.kind {

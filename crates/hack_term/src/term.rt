@@ -1,6 +1,6 @@
-//! Lines for the user, and what they leave behind for the exit status. A line goes to a writer that
-//! is handed in, and takes no memory. The answer is Ok where the whole line was written, and else
-//! the fault of the write, which a caller may ignore; a front of the line was written then.
+//! Lines for the user, and what they mean for the exit status. A line is written to a given writer,
+//! and needs no memory. The result is Ok where the whole line was written, and else the error of
+//! the write, which a caller may ignore; then a prefix of the line was written.
 
 ghost use Rattle.std.specs.Prelude.{◌≡◌, ◌↔◌, ◌≤◌, ◌⊎◌, IsTrue, IfSome, IfNone, OnOk, true, false};
 ghost use Rattle.std.specs.Prelude.{string_bytes};
@@ -21,7 +21,7 @@ use std::io::Write;
 /// Whether the word that begins a line is coloured.
 #[derive(Clone, Copy, Debug, PartialEq, Eq)]
 pub enum Coloring {
-    /// As `Never`: nobody looks whether the writer is a terminal.
+    /// Same as `Never`: nothing checks whether the writer is a terminal.
     Auto,
     Always,
     Never,
@@ -75,14 +75,14 @@ fn error_label(coloring: Coloring) -> &'static str
 pub struct Term {
     pub coloring: Coloring,
     pub verbose: bool,
-    /// An error was told.
+    /// An error was reported.
     pub error: bool,
-    /// A warning was told that counts.
+    /// A warning was reported that counts.
     pub warn: bool,
 }
 
 impl Term {
-    /// A terminal to which nothing was told yet.
+    /// A terminal on which nothing was reported yet.
     pub fn new(coloring: Coloring, verbose: bool) -> Term
         ensures { result ≡
             record { coloring = coloring; verbose = verbose; error = false; warn = false } }
@@ -95,7 +95,7 @@ impl Term {
         }
     }
 
-    /// Writes a line behind `info: `.
+    /// Writes a line that begins with `info: `.
     pub fn info<W: Write>(&self, text: &str, out: &mut W) -> io::Result<()>
         ensures line { OnOk result (Appends (W.contents out.old) (W.contents out.new)
             (info_line self.now.coloring text.now)) }
@@ -105,7 +105,7 @@ impl Term {
         write_line(info_label(self.coloring), text, out)
     }
 
-    /// Writes a line behind `warning: `. The warning is noted in any case.
+    /// Writes a line that begins with `warning: `. The warning is recorded even if the write fails.
     pub fn warn<W: Write>(&mut self, text: &str, out: &mut W) -> io::Result<()>
         ensures noted { self.new ≡ record self.old { warn = true } }
         ensures line { OnOk result (Appends (W.contents out.old) (W.contents out.new)
@@ -117,7 +117,7 @@ impl Term {
         write_line(warning_label(self.coloring), text, out)
     }
 
-    /// Writes a line behind `error: `. The error is noted in any case.
+    /// Writes a line that begins with `error: `. The error is recorded even if the write fails.
     pub fn error<W: Write>(&mut self, text: &str, out: &mut W) -> io::Result<()>
         ensures noted { self.new ≡ record self.old { error = true } }
         ensures line { OnOk result (Appends (W.contents out.old) (W.contents out.new)
@@ -129,7 +129,7 @@ impl Term {
         write_line(error_label(self.coloring), text, out)
     }
 
-    /// Writes a notice as its kind says.
+    /// Writes a notice as its kind requires.
     pub fn notice<W: Write>(&mut self, notice: &Notice, out: &mut W) -> io::Result<()>
         ensures noted { self.new ≡ after_notice self.old notice.now.kind }
         ensures line { OnOk result (Appends (W.contents out.old) (W.contents out.new)

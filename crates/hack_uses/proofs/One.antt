@@ -1,4 +1,4 @@
--- What the words come to is one.
+-- Arguments have one outcome.
 use Rattle.std.proofs.Common.{◌≡◌, ℕ, List, [], ◌∷◌, ◌++◌, append-nil, append_assoc, Ok, Err, Some, None, ◌∙◌, ap, sym, refl, subst, Result, Option, IfSome}
 use Rattle.hack_lexopt.specs.Cuts.{Left}
 use Rattle.hack_lexopt.specs.Parsers.{start}
@@ -9,11 +9,11 @@ use Rattle.hack_uses.specs.Faults.{Fault, fault_of}
 use Rattle.hack_uses.specs.Uses.{Use, views}
 use Rattle.hack_uses.specs.Reads.{Reading, Met, End, Prints, Fails, read_of, Reads, Ends, IsLast, GivesUses, GivesNoOther}
 
--- a use is not the last
+-- the reading of a use is never the last
 met-last : (u : Use) (l : Left) (r : Reading) → Met u l ≡ r → IsLast r → ⊥
 met-last u l r e last = subst (λ x. IsLast x → ⊥) e (λ h. h) last
 
--- behind the uses before, what is read of old is one
+-- after the same earlier uses, reading from one state has one result
 pub reads-one : (before : List Use) (old : Left) (us vs : List Use) (l m : Left) (r s : Reading) → Reads before old us l → read_of (before ++ us) l ≡ r → IsLast r → Reads before old vs m → read_of (before ++ vs) m ≡ s → IsLast s → (us ≡ vs) × (r ≡ s)
 reads-one before old [] [] l m r s a x p b y q = (refl, sym x ∙ ap (λ (z : Left). read_of (before ++ []) z) (a ∙ sym b) ∙ y)
 reads-one before old [] (v ∷ vs) l m r s a x p b y q = absurd (met-last v b.0 r (sym b.1 ∙ at-old) p)
@@ -44,11 +44,11 @@ reads-one before old (u ∷ us) (v ∷ vs) l m r s a x p b y q = joined (reads-o
     joined : (us ≡ vs) × (r ≡ s) → (u ∷ us ≡ v ∷ vs) × (r ≡ s)
     joined rest = (ap (λ w. w ∷ us) one ∙ ap (λ ws. v ∷ ws) rest.0, rest.1)
 
--- what the words come to is one
+-- arguments have one outcome
 pub ends-one : (words : List (List ℕ)) (us vs : List Use) (r s : Reading) → Ends words us r → IsLast r → Ends words vs s → IsLast s → (us ≡ vs) × (r ≡ s)
 ends-one words us vs r s a p b q = reads-one [] (start words) us vs a.0 b.0 r s a.1 a.2 p b.1 b.2 q
 
--- an answer that the words come to tells whatever they come to
+-- the answer that the arguments lead to excludes any other
 pub gives-no-other : (answer : Result Cuts CutFault) (words : List (List ℕ)) → GivesUses answer words → GivesNoOther answer words
 gives-no-other (Ok (cuts.Uses us)) words gives vs s ends last = let one = ends-one words (views us.items) vs End s gives tt ends last in (one.0, sym one.1)
 gives-no-other (Ok (cuts.Asks print)) words gives vs s ends last = sym (ends-one words gives.0 vs (Prints print) s gives.1 tt ends last).1

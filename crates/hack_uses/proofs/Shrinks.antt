@@ -1,4 +1,4 @@
--- What a use that is read leaves: less than before.
+-- Reading a use leaves less to read than before.
 use Rattle.std.proofs.Common.{◌≡◌, ◌+◌, ◌<◌, ◌≤◌, ℕ, List, [], ◌∷◌, ◌&&◌, ◌++◌, append-nil, append_assoc, Ok, Some, ◌∙◌, true, false, length, ap, sym, refl, Err, None, Option, Result, zero, suc, cond, codes, nat_lt, nat_eq, subst, drop, encode_utf8, length-drop, arith}
 use Rattle.std.specs.List.{starts_with, position_or_len, after_first}
 use Rattle.std.proofs.lemmas.Str.{length-encode, len_utf8_bounds}
@@ -16,7 +16,7 @@ use Rattle.hack_uses.specs.Faults.{Flag, LongFlag, ShortFlag, Repeat, LoneQuote}
 use Rattle.hack_uses.specs.Uses.{Use, Known, Unknown, is_given, subcommand_of}
 use Rattle.hack_uses.specs.Reads.{Reading, Met, End, Prints, Fails, is_quote, is_bare, unknown_option, with_value, with_names, with_names_or_none, question, help_of, by_kind, known_option, removed_of, similar_of, other, by_name, by_letter, of_cut, refused_value, of_next, read_of, Reads, flag_left}
 
--- how much is left of the words
+-- a measure of how much is left to read
 abbrev pub weight_of : Untaken → ℕ
 weight_of Nothing = 0
 weight_of (Pending value) = 1
@@ -47,7 +47,7 @@ word_weight w = elim (is_long w) as (λ b. weight_of (cond b (pending_of (drop 2
   | false ↦ elim (is_chain w) as (λ b. weight_of (cond b (after_letter (drop 1 w)) Nothing) < length w + 2) [ true ↦ omega (arith, letter_weight (first_letter (drop 1 w)) (drop 1 w), length-drop 1 w) | false ↦ omega arith ]
 ]
 
--- a cut leaves less
+-- reading an item leaves less
 after_cut-smaller : (o : Option Cut) (t : Untaken) (ws : List (List ℕ)) (cut : Cut) → next_cut (record { option = o; untaken = t; words = ws }) ≡ Ok (Some cut) → weight (after_cut (record { option = o; untaken = t; words = ws })) < weight (record { option = o; untaken = t; words = ws })
 after_cut-smaller o (Pending v) ws cut h = cc
 after_cut-smaller o (Chain letters) ws cut h =
@@ -68,14 +68,14 @@ after_optional-le o (Chain letters) ws = omega arith
 after_optional-le o Nothing [] = omega arith
 after_optional-le o Nothing (w ∷ ws) = elim (is_plain w) as (λ b. 0 + words_weight (cond b ws (w ∷ ws)) ≤ 0 + words_weight (w ∷ ws)) [ true ↦ omega arith | false ↦ omega arith ]
 
--- where a use is read, this holds of what is left
+-- where a use was read, P holds for what is left
 abbrev Leaves : (Left → Type 0) → Reading → Type 0
 Leaves P (Met u left) = P left
 Leaves P End = Unit {0}
 Leaves P (Prints print) = Unit {0}
 Leaves P (Fails fault) = Unit {0}
 
--- whatever is taken as a value, this still holds of what is left
+-- P still holds for what is left, whatever is taken as a value
 abbrev Kept : (Left → Type 0) → Type 0
 Kept P = (l : Left) → P l → P (after_attached l) × P (after_value l) × P (after_optional l)
 
@@ -134,7 +134,7 @@ refused-no_use (Some flag) (Some v) u l h = cc
 refused-no_use (Some flag) None u l h = cc
 refused-no_use None v u l h = cc
 
--- what holds behind each cut, and whatever is taken as a value, holds behind a use that is read
+-- what holds after each item, and whatever is taken as a value, holds after a use that was read
 read-leaves : (P : Left → Type 0) (k : Kept P) (us : List Use) (l : Left) (u : Use) (new : Left) → ((cut : Cut) → next_cut l ≡ Ok (Some cut) → P (after_cut l)) → read_of us l ≡ Met u new → P new
 read-leaves P k us l u new behind h = cases (next_cut l) refl
   where
@@ -143,14 +143,14 @@ read-leaves P k us l u new behind h = cases (next_cut l) refl
     cases (Ok None) e = let none = sym (ap (λ r. of_next r us l) e) ∙ h in cc
     cases (Err fault) e = absurd (refused-no_use (flag_left l.option) (unexpected_of l.untaken) u new (sym (ap (λ r. of_next r us l) e) ∙ h))
 
--- less than this is left
+-- the measure of what is left is below n
 abbrev Below : ℕ → Left → Type 0
 Below n l = weight l < n
 
 kept-below : (n : ℕ) → Kept (Below n)
 kept-below n l p = (omega arith, omega (arith, after_value-le l.option l.untaken l.words), omega (arith, after_optional-le l.option l.untaken l.words))
 
--- a use that is read leaves less
+-- reading a use leaves less
 pub read-smaller : (us : List Use) (l : Left) (u : Use) (new : Left) → read_of us l ≡ Met u new → weight new < weight l
 read-smaller us l u new h = read-leaves (Below (weight l)) (kept-below (weight l)) us l u new (λ cut e. after_cut-smaller l.option l.untaken l.words cut e) h
 

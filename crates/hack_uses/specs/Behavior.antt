@@ -3,7 +3,7 @@ use Rattle.std.specs.Prelude.{Bool, true, false}
 use Rattle.hack_uses.specs.declared.behavior.WorkspaceBehavior.{WorkspaceBehavior}
 use Rattle.hack_uses.specs.declared.behavior.WorkspaceBehavior.TheVariants.{Cargo, Default}
 
--- Cargo does
+-- Cargo handles it
 abbrev pub is_cargo : WorkspaceBehavior → Bool
 is_cargo Cargo = true
 is_cargo Default = false

@@ -1,4 +1,4 @@
--- Options as they were written, and why words can't be cut into them.
+-- Options as they were written, and why arguments can't be parsed into them.
 use Rattle.std.specs.Prelude.{ℕ, List, Option, Some, None, string_bytes}
 use Rattle.hack_base.specs.Names.{optional_text}
 use Rattle.hack_lexopt.specs.Cuts.{Cut, LongCut, ShortCut, ValueCut, as_written}
@@ -8,7 +8,7 @@ use Rattle.hack_uses.specs.declared.fault.OwnedFlag.TheVariants as owned
 use Rattle.hack_uses.specs.declared.fault.CutFault.{CutFault}
 use Rattle.hack_uses.specs.declared.fault.CutFault.TheVariants as code
 
--- an option as it was written: the name behind its --, or the letter behind its -
+-- an option as it was written: the name after its --, or the letter after its -
 pub data Flag : Type 0 where
   LongFlag : List ℕ → Flag
   ShortFlag : ℕ → Flag
@@ -18,13 +18,13 @@ abbrev pub flag_seen : OwnedFlag → Flag
 flag_seen (owned.Long name) = LongFlag (string_bytes name)
 flag_seen (owned.Short letter) = ShortFlag letter
 
--- the option of a cut; none for a value
+-- the option that an item is; none for a value
 abbrev pub flag_in : Cut → Option Flag
 flag_in (LongCut name) = Some (LongFlag name)
 flag_in (ShortCut letter) = Some (ShortFlag letter)
 flag_in (ValueCut word) = None
 
--- the cut that an option comes from
+-- the item that an option comes from
 abbrev pub cut_by : Flag → Cut
 cut_by (LongFlag name) = LongCut name
 cut_by (ShortFlag letter) = ShortCut letter
@@ -33,8 +33,9 @@ cut_by (ShortFlag letter) = ShortCut letter
 abbrev pub flag_text : Flag → List ℕ
 flag_text flag = as_written (cut_by flag)
 
--- why a word can't be cut: a value is missing, or not expected; an option is repeated, behind this subcommand;
--- a list of names is a lone quote sign; --workspace-behavior has another form; a name was removed, or is nearly an option's
+-- why an argument is refused: a value is missing, or not expected; an option is repeated (after
+-- this subcommand); a list of names is a lone quote sign; --workspace-behavior has another form; a
+-- name was removed, or resembles an option's
 pub data Fault : Type 0 where
   Missing : Flag → Fault
   Unexpected : Flag → List ℕ → Fault
@@ -44,7 +45,7 @@ pub data Fault : Type 0 where
   Removed : List ℕ → Opt → Fault
   Similar : List ℕ → Opt → Option (List ℕ) → Fault
 
--- the fault of the words that a `CutFault` tells; none where memory ran out
+-- the error that a `CutFault` reports; none where memory ran out
 abbrev pub fault_of : CutFault → Option Fault
 fault_of code.Memory = None
 fault_of (code.Missing flag) = Some (Missing (flag_seen flag))

@@ -1,4 +1,4 @@
--- The words that uses pass on to cargo, and how often an option is used.
+-- The arguments that uses of options pass on to cargo, and how often an option is used.
 use Rattle.std.specs.Prelude.{ℕ, ◌+◌, List, [], ◌∷◌, ◌++◌, Bool, true, false, Option, Some, None, codes, if◌then◌else◌}
 use Rattle.std.specs.List.{flat_map}
 use Rattle.hack_options.specs.declared.opt.Opt.{Opt}
@@ -13,7 +13,8 @@ abbrev pub count_of : Opt → List Use → ℕ
 count_of o [] = 0
 count_of o (u ∷ us) = (if is_use_of o u then 1 else 0) + count_of o us
 
--- an option of the table that is passed on too; some are only where cargo handles the workspace
+-- an option of the table that is also passed on to cargo; some are only where cargo handles the
+-- workspace
 abbrev pub passes : WorkspaceBehavior → Opt → Bool
 passes behavior opt.Locked = true
 passes behavior opt.NoDefaultFeatures = true
@@ -25,23 +26,23 @@ passes behavior opt.Exclude = is_cargo behavior
 passes behavior opt.Workspace = is_cargo behavior
 passes behavior o = false
 
--- an unknown option and the rest of its word, in one word
+-- an unknown option and the rest of its argument, in one argument
 abbrev pub word_of : Flag → Option (List ℕ) → List ℕ
 word_of flag None = flag_text flag
 word_of (LongFlag name) (Some value) = flag_text (LongFlag name) ++ (codes "=" ++ value)
 word_of (ShortFlag c) (Some value) = flag_text (ShortFlag c) ++ value
 
--- an option, and its value as a word of its own
+-- an option, followed by its value as a separate argument
 abbrev pub with_value : List ℕ → Option (List ℕ) → List (List ℕ)
 with_value word None = word ∷ []
 with_value word (Some value) = word ∷ value ∷ []
 
--- the words that a use passes on to cargo
+-- the arguments that a use passes on to cargo
 abbrev pub words_passed : WorkspaceBehavior → Use → List (List ℕ)
 words_passed behavior (Word word) = word ∷ []
 words_passed behavior (Unknown flag value) = word_of flag value ∷ []
 words_passed behavior (Known o flag value) = if passes behavior o then with_value (flag_text flag) value else []
 
--- the words that all uses pass on to cargo, in order
+-- the arguments that all uses pass on to cargo, in order
 abbrev pub leading_of : WorkspaceBehavior → List Use → List (List ℕ)
 leading_of behavior us = flat_map (words_passed behavior) us

@@ -1,4 +1,4 @@
--- How words are read as uses of options, one cut after the other.
+-- How arguments are read as uses of options, one after the other.
 use Rattle.std.specs.Prelude.{ℕ, ◌≡◌, List, [], ◌∷◌, ◌++◌, ◌==◌, ◌&&◌, ◌||◌, Bool, Option, Some, None, Result, Ok, Err, codes, if◌then◌else◌, IfSome}
 use Rattle.std.specs.Str.{bytes_eq}
 use Rattle.hack_lexopt.specs.Cuts.{Cut, LongCut, ShortCut, ValueCut, Left, next_cut, after_cut, attached_value, after_attached, value_of, after_value, optional_of, after_optional, unexpected_of}
@@ -20,7 +20,8 @@ use Rattle.hack_uses.specs.declared.fault.CutFault.{CutFault}
 use Rattle.hack_uses.specs.Faults.{Flag, LongFlag, ShortFlag, Fault, Missing, Unexpected, Repeat, LoneQuote, BehaviorForm, Removed, Similar, fault_of, flag_in}
 use Rattle.hack_uses.specs.Uses.{Use, Known, Unknown, Word, view, views, is_given, subcommand_of}
 
--- what is read: a use and what is left behind it, the end of the words, a question for a text, or a fault
+-- the result of reading: a use and what is left after it, the end of the arguments, a request to
+-- print a text, or an error
 pub data Reading : Type 0 where
   Met : Use → Left → Reading
   End : Reading
@@ -31,22 +32,22 @@ pub data Reading : Type 0 where
 abbrev pub is_quote : List ℕ → Bool
 is_quote value = bytes_eq value (codes "'") || bytes_eq value (codes "\"")
 
--- the letters n, q and r, which never take the rest of their word
+-- the letters n, q and r, which never take the rest of their argument as a value
 abbrev pub is_bare : ℕ → Bool
 is_bare letter = (letter == 110) || (letter == 113) || (letter == 114)
 
--- an option that is not in the table, with the rest of its word
+-- an option that is not in the table, with the rest of its argument
 abbrev pub unknown_option : Flag → Left → Reading
 unknown_option (LongFlag name) left = Met (Unknown (LongFlag name) (attached_value left.untaken)) (after_attached left)
 unknown_option (ShortFlag letter) left =
     if is_bare letter then Met (Unknown (ShortFlag letter) None) left else Met (Unknown (ShortFlag letter) (attached_value left.untaken)) (after_attached left)
 
--- an option that wants a value, at the value that stands there
+-- an option that takes a value, with the value that comes next
 abbrev pub with_value : Opt → Flag → Option (List ℕ) → Left → Reading
 with_value o flag (Some value) left = Met (Known (meaning_of o) flag (Some value)) left
 with_value o flag None left = Fails (Missing flag)
 
--- an option that wants a list of names
+-- an option that takes a list of names
 abbrev pub with_names : Opt → Flag → Option (List ℕ) → Left → Reading
 with_names o flag (Some value) left = if is_quote value then Fails (LoneQuote flag) else Met (Known (meaning_of o) flag (Some value)) left
 with_names o flag None left = Fails (Missing flag)
@@ -56,7 +57,8 @@ abbrev pub with_names_or_none : Opt → Flag → Option (List ℕ) → Left → 
 with_names_or_none o flag (Some value) left = if is_quote value then Fails (LoneQuote flag) else Met (Known (meaning_of o) flag (Some value)) left
 with_names_or_none o flag None left = Met (Known (meaning_of o) flag None) left
 
--- a question for a text while no subcommand was met, and then an option like one that is not in the table
+-- a request to print a text, if no subcommand came before it; else an option like one that is not
+-- in the table
 abbrev pub question : Print → Option (List ℕ) → Flag → Left → Reading
 question print None flag left = Prints print
 question print (Some subcommand) flag left = unknown_option flag left
@@ -66,7 +68,7 @@ abbrev pub help_of : Flag → Print
 help_of (LongFlag name) = LongHelp
 help_of (ShortFlag letter) = ShortHelp
 
--- an option of the table, by what it takes
+-- an option of the table, read by the value that it takes
 abbrev pub by_kind : Kind → List Use → Opt → Flag → Left → Reading
 by_kind kind.Flag us o flag left = Met (Known (meaning_of o) flag None) left
 by_kind kind.Value us o flag left = with_value o flag (value_of left) (after_value left)
@@ -76,18 +78,18 @@ by_kind kind.Help us o flag left = question (help_of flag) (subcommand_of us) fl
 by_kind kind.Version us o flag left = question Version (subcommand_of us) flag left
 by_kind kind.Refused us o flag left = Fails BehaviorForm
 
--- an option of the table: a repeat of one that stands once comes before its value is wanted
+-- an option of the table: a forbidden repeat is reported before a missing value
 abbrev pub known_option : List Use → Opt → Flag → Left → Reading
 known_option us o flag left =
     if (entry_of o).once && is_given (meaning_of o) us then Fails (Repeat flag o (subcommand_of us)) else by_kind (entry_of o).kind us o flag left
 
--- the option that serves in place of one of this name that was removed
+-- the option that replaces a removed one of this name
 abbrev pub removed_of : List ℕ → Option Opt
 removed_of name =
     if bytes_eq name (codes "ignore-non-exist-features") then Some opt.IgnoreUnknownFeatures else (
     if bytes_eq name (codes "skip-no-default-features") then Some opt.ExcludeNoDefaultFeatures else None)
 
--- the option that this name is nearly
+-- the option whose name this one resembles
 abbrev pub similar_of : List ℕ → Option Opt
 similar_of name =
     if bytes_eq name (codes "no-dev-dep") then Some opt.NoDevDeps else (
@@ -99,7 +101,7 @@ similar_of name =
     if bytes_eq name (codes "include-dep-features") || bytes_eq name (codes "include-dep-feature") || bytes_eq name (codes "include-deps-feature") then Some opt.IncludeDepsFeatures else (
     if bytes_eq name (codes "ignore-unknown-feature") then Some opt.IgnoreUnknownFeatures else None)))))))
 
--- a name that is not in the table, by the options that serve in its place and that it is nearly
+-- a name that is not in the table, given the option that replaces it and the one that it resembles
 abbrev pub other : Option Opt → Option Opt → List Use → List ℕ → Left → Reading
 other (Some instead) meant us name left = Fails (Removed name instead)
 other None (Some meant) us name left = Fails (Similar name meant (subcommand_of us))
@@ -109,23 +111,23 @@ other None None us name left = unknown_option (LongFlag name) left
 abbrev pub other_name : List Use → List ℕ → Left → Reading
 other_name us name left = other (removed_of name) (similar_of name) us name left
 
--- a long option, by its option of the table
+-- a long option, given its option of the table
 abbrev pub by_name : Option Opt → List Use → List ℕ → Left → Reading
 by_name (Some o) us name left = known_option us o (LongFlag name) left
 by_name None us name left = other_name us name left
 
--- a letter, by its option of the table
+-- a letter, given its option of the table
 abbrev pub by_letter : Option Opt → List Use → ℕ → Left → Reading
 by_letter (Some o) us letter left = known_option us o (ShortFlag letter) left
 by_letter None us letter left = unknown_option (ShortFlag letter) left
 
--- what a cut comes to behind these uses
+-- the result of an item after these uses
 abbrev pub of_cut : List Use → Cut → Left → Reading
 of_cut us (LongCut name) left = by_name (long_option name) us name left
 of_cut us (ShortCut letter) left = by_letter (short_option letter) us letter left
 of_cut us (ValueCut word) left = Met (Word word) left
 
--- the option that was cut last, where one was
+-- the last option that was read, if any
 abbrev pub flag_left : Option Cut → Option Flag
 flag_left (Some cut) = flag_in cut
 flag_left None = None
@@ -136,51 +138,52 @@ refused_value (Some flag) (Some value) = Fails (Unexpected flag value)
 refused_value (Some flag) None = End
 refused_value None value = End
 
--- what the next cut comes to, or its refusal
+-- the result of the next item, or of its refusal
 abbrev pub of_next : Result (Option Cut) LexFault → List Use → Left → Reading
 of_next (Err fault) us left = refused_value (flag_left left.option) (unexpected_of left.untaken)
 of_next (Ok None) us left = End
 of_next (Ok (Some cut)) us left = of_cut us cut (after_cut left)
 
--- what is read next behind these uses
+-- what is read next after these uses
 abbrev pub read_of : List Use → Left → Reading
 read_of us left = of_next (next_cut left) us left
 
--- one step read this, and left the rest; or memory ran out
+-- one step reads r and leaves the parser as new; or memory ran out
 abbrev pub Gives : Result Step CutFault → Left → Reading → Type 0
 Gives (Ok (code.Met u)) new r = r ≡ Met (view u) new
 Gives (Ok code.End) new r = r ≡ End
 Gives (Ok (code.Asks print)) new r = r ≡ Prints print
 Gives (Err e) new r = IfSome (fault_of e) (λ fault. r ≡ Fails fault)
 
--- behind the uses before, these are read of old, one after another, and leave new
+-- after the uses `before`, these are read from old, one after another, and leave new
 abbrev pub Reads : List Use → Left → List Use → Left → Type 0
 Reads before old [] new = new ≡ old
 Reads before old (u ∷ us) new = (mid : Left) × (read_of before old ≡ Met u mid) × Reads (before ++ u ∷ []) mid us new
 
--- these uses are read of the words, and behind them this
+-- these uses are read from the arguments, and then r
 abbrev pub Ends : List (List ℕ) → List Use → Reading → Type 0
 Ends words us r = (left : Left) × Reads [] (start words) us left × (read_of us left ≡ r)
 
--- what the words come to: all their uses, a question for a text, or the first fault of a cut; or memory ran out
+-- the outcome of the arguments: all their uses, a request to print a text, or the first parse
+-- error; or memory ran out
 abbrev pub GivesUses : Result Cuts CutFault → List (List ℕ) → Type 0
 GivesUses (Ok (cuts.Uses us)) words = Ends words (views us.items) End
 GivesUses (Ok (cuts.Asks print)) words = (us : List Use) × Ends words us (Prints print)
 GivesUses (Err e) words = IfSome (fault_of e) (λ fault. (us : List Use) × Ends words us (Fails fault))
 
--- a reading behind which no use is read
+-- a reading after which no use is read
 abbrev pub IsLast : Reading → Type 0
 IsLast (Met u left) = ⊥
 IsLast End = Unit
 IsLast (Prints print) = Unit
 IsLast (Fails fault) = Unit
 
--- an answer tells that these uses were read, and behind them this; or memory ran out
+-- the answer says that these uses were read, and then r; or memory ran out
 abbrev pub Tells : Result Cuts CutFault → List Use → Reading → Type 0
 Tells (Ok (cuts.Uses us)) vs r = (views us.items ≡ vs) × (r ≡ End)
 Tells (Ok (cuts.Asks print)) vs r = r ≡ Prints print
 Tells (Err e) vs r = IfSome (fault_of e) (λ fault. r ≡ Fails fault)
 
--- whatever the words come to, this answer tells it: where a cut is at fault, no uses are answered
+-- the answer is right about any outcome of the arguments: after a parse error, no uses are returned
 abbrev pub GivesNoOther : Result Cuts CutFault → List (List ℕ) → Type 0
 GivesNoOther answer words = (us : List Use) → (r : Reading) → Ends words us r → IsLast r → Tells answer us r

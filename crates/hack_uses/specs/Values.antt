@@ -1,10 +1,10 @@
--- What the uses of an option give it.
+-- The values that uses give to an option.
 use Rattle.std.specs.Prelude.{ℕ, List, [], ◌∷◌, Option, Some, None, if◌then◌else◌}
 use Rattle.hack_options.specs.declared.opt.Opt.{Opt}
 use Rattle.hack_options.specs.Table.{same}
 use Rattle.hack_uses.specs.Uses.{Use, Known, Unknown, Word}
 
--- the value of the first use that has one, for an option that stands once
+-- the value of the first use that has one, for an option that may be given once
 abbrev pub value_given : Opt → List Use → Option (List ℕ)
 value_given o [] = None
 value_given o (Known p flag (Some value) ∷ us) = if same p o then Some value else value_given o us

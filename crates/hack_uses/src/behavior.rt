@@ -1,4 +1,4 @@
-//! Who handles a workspace, which decides what of the words is passed on to cargo.
+//! Who handles a workspace; this decides which arguments are passed on to cargo.
 
 ghost use Rattle.std.specs.Prelude.{◌≡◌, if◌then◌else◌};
 
@@ -12,7 +12,7 @@ pub enum WorkspaceBehavior {
 }
 
 impl WorkspaceBehavior {
-    /// The behaviour where Cargo's own is asked for, or not.
+    /// The behaviour that was asked for: Cargo's own, or the default.
     pub fn new(cargo: bool) -> WorkspaceBehavior
         ensures { result ≡ (if cargo then WorkspaceBehavior.Cargo else WorkspaceBehavior.Default) }
     {

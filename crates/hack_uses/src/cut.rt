@@ -1,4 +1,4 @@
-//! Cuts the words into uses, one after the other.
+//! Parses arguments into uses of options, one after the other.
 
 ghost use Rattle.std.specs.Prelude.{map, string_bytes};
 ghost use Rattle.hack_lexopt.specs.Parsers.{left_in};
@@ -11,7 +11,7 @@ use hack_lexopt::{Arg, Next, Parser};
 use hack_options::{Opt, long, short};
 use std::alloc::Global;
 
-/// What the words ask to be printed.
+/// The text that the arguments ask to be printed.
 #[derive(Clone, Copy, Debug, PartialEq, Eq)]
 pub enum Print {
     ShortHelp,
@@ -19,25 +19,26 @@ pub enum Print {
     Version,
 }
 
-/// What one cut, or an option and its value, comes to.
+/// One item, or an option with its value.
 #[derive(Debug, Drop)]
 pub enum Use {
-    /// An option of the table. `option` is what an alias stands for, `flag` what was written.
+    /// An option of the table. `option` is never an alias but what it means; `flag` is what was
+    /// written.
     Known {
         option: Opt,
         flag: OwnedFlag,
         value: Option<String>,
     },
-    /// Another option, and the rest of its word.
+    /// Another option, and the rest of its argument.
     Unknown {
         flag: OwnedFlag,
         value: Option<String>,
     },
-    /// A word that no option takes.
+    /// An argument that no option takes.
     Word(String),
 }
 
-/// What is read next of the words.
+/// What is read next.
 #[derive(Drop)]
 pub(crate) enum Step {
     Met(Use),
@@ -45,7 +46,7 @@ pub(crate) enum Step {
     Asks(Print),
 }
 
-/// The next use behind the uses so far, or what else is next.
+/// The next use after the uses so far, or what comes instead of one.
 fn read(alloc: Global, parser: &mut Parser, uses: &[Use]) -> Result<Step, CutFault>
     ensures { Gives result (left_in parser.new) (read_of (views uses.now) (left_in parser.old)) }
 {
@@ -73,16 +74,16 @@ fn read(alloc: Global, parser: &mut Parser, uses: &[Use]) -> Result<Step, CutFau
     }
 }
 
-/// What all the words come to.
+/// The outcome of all arguments.
 #[derive(Debug, Drop)]
 pub enum Cuts {
     /// All their uses.
     Uses(Vec<Use>),
-    /// A text is to be printed, and the words behind the question are not read.
+    /// A text is to be printed; the arguments after this request are not read.
     Asks(Print),
 }
 
-/// The uses, one cut after the other.
+/// All uses, read one after the other.
 fn cut_all(alloc: Global, words: Vec<String>) -> Result<Cuts, CutFault>
     ensures { GivesUses result (map string_bytes words.items) }
 {
@@ -97,8 +98,8 @@ fn cut_all(alloc: Global, words: Vec<String>) -> Result<Cuts, CutFault>
     }
 }
 
-/// All uses of the words, a question for a text, or the first fault of a cut. Words behind a
-/// question aren't judged.
+/// All uses of options, a request to print a text, or the first parse error. Arguments after such a
+/// request aren't checked.
 pub fn all_uses(alloc: Global, words: Vec<String>) -> Result<Cuts, CutFault>
     ensures uses { GivesUses result (map string_bytes words.items) }
     ensures one { GivesNoOther result (map string_bytes words.items) }

@@ -1,4 +1,4 @@
-//! Options as they were written, and why words can't be cut into them.
+//! Options as they were written, and why arguments can't be parsed into them.
 
 ghost use Rattle.std.specs.Prelude.{◌≡◌, IfOk, Some, option_map};
 ghost use Rattle.hack_lexopt.specs.Parsers.{cut_in, flag_cut};
@@ -10,7 +10,7 @@ use std::alloc::{AllocError, AllocFailed, Global};
 use std::fmt;
 use thiserror::Error;
 
-/// An option as it was written. Its text is that, `--name` or `-c`.
+/// An option as it was written. It is displayed as that, `--name` or `-c`.
 #[derive(Debug, PartialEq, Eq, Drop)]
 pub enum OwnedFlag {
     /// The name without its `--`.
@@ -19,7 +19,7 @@ pub enum OwnedFlag {
 }
 
 impl OwnedFlag {
-    /// The option of a cut; none for a value.
+    /// The option that an item is; none for a value.
     pub fn new(alloc: Global, arg: Arg<'_>) -> Result<Option<OwnedFlag>, AllocError>
         ensures { IfOk result (λ flag. option_map flag_seen flag ≡ flag_in (cut_in arg.entry)) }
     {
@@ -30,7 +30,7 @@ impl OwnedFlag {
         }
     }
 
-    /// The option of a refusal.
+    /// The option of a refused value.
     pub(crate) fn of(alloc: Global, option: Flag<'_>) -> Result<OwnedFlag, AllocError>
         ensures { IfOk result (λ flag. Some (flag_seen flag) ≡ flag_in (flag_cut option.entry)) }
     {
@@ -40,7 +40,7 @@ impl OwnedFlag {
         }
     }
 
-    /// The cut that the option comes from.
+    /// The item that the option comes from.
     pub fn as_arg(&self) -> Arg<'_>
         ensures { cut_in result ≡ cut_by (flag_seen self.now) }
     {
@@ -50,7 +50,7 @@ impl OwnedFlag {
         }
     }
 
-    /// How messages show the use of the option.
+    /// How messages show the usage of the option.
     fn usage(&self) -> Usage<'_> {
         match self {
             OwnedFlag::Long(name) => Usage::Long(name.as_str()),
@@ -70,7 +70,7 @@ impl fmt::Display for OwnedFlag {
     }
 }
 
-/// The subcommand behind `cargo hack`, where one was met.
+/// The subcommand after `cargo hack`, if one was given.
 #[derive(Drop)]
 struct Behind<'a>(&'a Option<String>);
 
@@ -83,10 +83,10 @@ impl fmt::Display for Behind<'_> {
     }
 }
 
-/// Why words can't be cut into options.
+/// Why arguments can't be parsed into options.
 #[derive(Debug, Drop, Error)]
 pub enum CutFault {
-    /// An option wants a value, and no word is left.
+    /// An option needs a value, and no argument is left.
     #[error("missing argument for option '{flag}'")]
     Missing {
         flag: OwnedFlag,
@@ -97,8 +97,8 @@ pub enum CutFault {
         flag: OwnedFlag,
         value: String,
     },
-    /// An option that stands once is there again; `option` is the one that `flag` names,
-    /// `subcommand` the one that was met so far.
+    /// An option that may be given once is repeated; `option` is the one that `flag` names, and
+    /// `subcommand` the one that came before it, if any.
     #[error("The argument '{flag}' was provided more than once, but cannot be used multiple times\n\nUSAGE:\n    cargo hack{sub} {usage}\n\nFor more information try --help\n", sub = Behind(.subcommand), usage = .flag.usage())]
     Repeat {
         flag: OwnedFlag,
@@ -113,13 +113,14 @@ pub enum CutFault {
     /// `--workspace-behavior` has another form than `--workspace-behavior=cargo`.
     #[error("argument for --workspace-behavior must be cargo and in form of --workspace-behavior=cargo")]
     BehaviorForm,
-    /// The option of this name was removed; `instead` serves in its place.
+    /// The option of this name was removed; `instead` replaces it.
     #[error("--{name} was removed, use {instead} instead")]
     Removed {
         name: String,
         instead: Opt,
     },
-    /// The name is nearly that of the option `meant`; `subcommand` is the one that was met so far.
+    /// The name resembles that of the option `meant`; `subcommand` is the one that came before, if
+    /// any.
     #[error("Found argument '--{name}' which wasn't expected, or isn't valid in this context\n        Did you mean {meant}?\n\nUSAGE:\n    cargo hack{sub} {meant}\n\nFor more information try --help\n", sub = Behind(.subcommand))]
     Similar {
         name: String,

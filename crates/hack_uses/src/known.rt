@@ -1,4 +1,4 @@
-//! What an option comes to: one of the table by what it takes, another by its name.
+//! How an option is read: one of the table by the value that it takes, another by its name.
 
 ghost use Rattle.std.specs.Prelude.{◌≡◌, ◌&&◌, IfOk, string_bytes};
 ghost use Rattle.hack_base.specs.Names.{optional_text};
@@ -30,7 +30,7 @@ fn is_quote(value: &str) -> bool
     value == "'" || value == "\""
 }
 
-/// The subcommand that was met so far, where one was.
+/// The subcommand that came before, if any.
 fn subcommand_text(uses: &[Use]) -> Result<Option<String>, AllocError>
     ensures { IfOk result (λ word. optional_text word ≡ subcommand_of (views uses.now)) }
 {
@@ -40,7 +40,7 @@ fn subcommand_text(uses: &[Use]) -> Result<Option<String>, AllocError>
     }
 }
 
-/// An option of the table is met.
+/// The use of an option of the table.
 fn meet(option: Opt, flag: OwnedFlag, value: Option<String>) -> Step
     ensures { result ≡ Step.Met (Use.Known option flag value) }
 {
@@ -51,8 +51,8 @@ fn meet(option: Opt, flag: OwnedFlag, value: Option<String>) -> Step
     })
 }
 
-/// An option that is not in the table, and the rest of its word. Cargo's `-n`, `-q` and `-r` take
-/// no value, so that what follows them in their word is cut on.
+/// An option that is not in the table, and the rest of its argument. Cargo's `-n`, `-q` and `-r`
+/// take no value, so the letters after them are read as options.
 pub(crate) fn cut_unknown(
     alloc: Global,
     parser: &mut Parser,
@@ -68,8 +68,8 @@ pub(crate) fn cut_unknown(
     Ok(Step::Met(Use::Unknown { flag, value }))
 }
 
-/// A question for a text while no subcommand was met; behind one, the subcommand is asked in place
-/// of us.
+/// A request to print a text, if no subcommand came before it; else the request is passed on to the
+/// subcommand.
 fn question(
     alloc: Global,
     parser: &mut Parser,
@@ -97,7 +97,7 @@ fn help(flag: &OwnedFlag) -> Print
     }
 }
 
-/// An option that wants a value, with the one that stands there.
+/// An option that takes a value, with the value that comes next.
 fn with_value(
     alloc: Global,
     parser: &mut Parser,
@@ -115,7 +115,7 @@ fn with_value(
     }
 }
 
-/// An option that wants a list of names, with the one that stands there.
+/// An option that takes a list of names, with the list that comes next.
 fn with_names(
     alloc: Global,
     parser: &mut Parser,
@@ -134,7 +134,7 @@ fn with_names(
     }
 }
 
-/// An option whose list of names may be left out, with the one that stands there.
+/// An option whose list of names may be left out, with the list if one comes next.
 fn with_names_or_none(
     alloc: Global,
     parser: &mut Parser,
@@ -151,7 +151,7 @@ fn with_names_or_none(
     }
 }
 
-/// An option of the table that is no repeat, and its value where it takes one.
+/// An option of the table that is no repeat, with its value if it takes one.
 fn by_kind(
     alloc: Global,
     parser: &mut Parser,
@@ -177,14 +177,14 @@ fn by_kind(
     }
 }
 
-/// Whether an option that stands once was met before, by its name or its alias.
+/// Whether an option that may be given once was given before, by its name or its alias.
 fn is_repeat(option: Opt, uses: &[Use]) -> bool
     ensures { result ≡ ((entry_of option).once && is_given (meaning_of option) (views uses.now)) }
 {
     option.row().once && given(option.means(), uses)
 }
 
-/// An option of the table, and its value where it takes one.
+/// An option of the table, with its value if it takes one.
 pub(crate) fn cut_known(
     alloc: Global,
     parser: &mut Parser,
@@ -205,7 +205,7 @@ pub(crate) fn cut_known(
     by_kind(alloc, parser, uses, option, flag)
 }
 
-/// The option to use in place of one of older versions that was removed.
+/// The option to use instead of one of older versions that was removed.
 fn replacement_of(name: &str) -> Option<Opt>
     ensures { result ≡ removed_of name.now }
 {
@@ -218,7 +218,7 @@ fn replacement_of(name: &str) -> Option<Opt>
     }
 }
 
-/// The option that the name is nearly: mostly its singular or plural.
+/// The option whose name this one resembles: mostly as its singular or plural.
 fn similar(name: &str) -> Option<Opt>
     ensures { result ≡ similar_of name.now }
 {

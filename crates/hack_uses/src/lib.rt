@@ -1,5 +1,5 @@
-//! The uses of options that words make, or the first fault of a cut; what uses give to options, and
-//! pass on.
+//! The uses of options on a command line, or the first parse error; what uses give to options, and
+//! pass on to cargo.
 #![tactic(auto)]
 
 mod behavior;

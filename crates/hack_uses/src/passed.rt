@@ -1,4 +1,4 @@
-//! The words that uses pass on to cargo.
+//! The arguments that uses of options pass on to cargo.
 
 ghost use Rattle.std.specs.Prelude.{◌≡◌, ◌++◌, IfOk, OnOk, map, string_bytes};
 ghost use Rattle.hack_base.specs.Names.{optional_text};
@@ -11,7 +11,7 @@ use crate::{Use, WorkspaceBehavior};
 use hack_options::Opt;
 use std::alloc::{AllocError, Global};
 
-/// Whether an option of the table is passed on too.
+/// Whether an option of the table is also passed on to cargo.
 fn is_passed(behavior: WorkspaceBehavior, option: Opt) -> bool
     ensures { result ≡ passes behavior option }
 {
@@ -24,7 +24,7 @@ fn is_passed(behavior: WorkspaceBehavior, option: Opt) -> bool
     }
 }
 
-/// An unknown option and the rest of its word, in one word.
+/// An unknown option and the rest of its argument, in one argument.
 fn joined_word(
     alloc: Global,
     flag: &OwnedFlag,
@@ -40,7 +40,7 @@ fn joined_word(
     }
 }
 
-/// The words that one use passes on to cargo.
+/// The arguments that one use passes on to cargo.
 fn pass(
     alloc: Global,
     leading: &mut Vec<String>,
@@ -69,7 +69,7 @@ fn pass(
     Ok(())
 }
 
-/// The words that are passed on to cargo, but for the counted `-v`.
+/// The arguments that are passed on to cargo, without the counted `-v`.
 pub fn leading(
     alloc: Global,
     behavior: WorkspaceBehavior,

@@ -1,4 +1,4 @@
-//! What uses say of an option.
+//! What uses say about an option.
 
 ghost use Rattle.std.specs.Prelude.{◌≡◌, IfOk, map, string_bytes};
 ghost use Rattle.hack_base.specs.Names.{optional_text_ref};
@@ -10,7 +10,7 @@ use crate::Use;
 use hack_options::Opt;
 use std::alloc::{AllocError, Global};
 
-/// Whether the option was used. An alias counts as the option that it stands for.
+/// Whether the option was used. An alias counts as the option that it means.
 pub fn given(option: Opt, uses: &[Use]) -> bool
     ensures { result ≡ is_given option (views uses.now) }
 {
@@ -24,7 +24,7 @@ pub fn given(option: Opt, uses: &[Use]) -> bool
     false
 }
 
-/// The first word that no option takes; the later ones are its arguments.
+/// The first argument that no option takes; later ones are arguments of this subcommand.
 pub fn subcommand(uses: &[Use]) -> Option<&String>
     ensures { optional_text_ref result ≡ subcommand_of (views uses.now) }
 {
@@ -36,7 +36,7 @@ pub fn subcommand(uses: &[Use]) -> Option<&String>
     None
 }
 
-/// The value of the option's first use that has one, for an option that stands once.
+/// The value of the option's first use that has one, for an option that may be given once.
 pub fn value(option: Opt, uses: &[Use]) -> Option<&String>
     ensures { optional_text_ref result
         ≡ value_given option (views uses.now) }

@@ -1,4 +1,4 @@
--- The order that versions have in code is that of definitions; lists that it sorts.
+-- The code orders versions as the definitions do; lists that are sorted by this order.
 use Rattle.std.proofs.Common.{◌≡◌, ◌↔◌, ◌+◌, ℕ, arith, true, List, length, get_or, rules, refl, ap, sym, ◌∙◌, subst, inl, inr, Result, Ok, Err, Option, Some, None, [], ◌∷◌, map}
 use Rattle.std.specs.List.{AllPairs, Contains, dedup, filter_map, cons_option}
 use Rattle.std.proofs.lemmas.List.Elements.{Contains-push, Contains-push_cases, Contains-append_left, Contains-append_right, Contains-append_cases}
@@ -106,7 +106,7 @@ given-more ys os v (Some w) h = (
   ],
 )
 
--- what a list of options gives
+-- the versions that a list of options has
 pub given-all : {X : Type 0} (f : X → Option Version) (xs : List X) (v : Version) → Contains (filter_map f xs) v ↔ Contains (map f xs) (Some v)
 given-all f [] v = (λ k. absurd (omega (arith, k.1)), λ k. absurd (omega (arith, k.1)))
 given-all f (x ∷ xs) v = given-more (filter_map f xs) (map f xs) v (f x) (given-all f xs v)

@@ -1,4 +1,4 @@
--- What the texts of versions and ranges are read as, where a call says how they are written.
+-- How the texts of versions and ranges are read, where a contract says how they are written.
 use Rattle.std.proofs.Common.{◌≡◌, ◌≢◌, ◌⊎◌, inl, inr, ℕ, ◌==◌, ◌++◌, List, [], ◌∷◌, Bool, true, false, drop, nat_eq, codes, Option, Some, None, Result, Ok, Err, IsTrue, IsSomeAnd, MatchOption, option_map, arith, refl, ap, sym, subst, ◌∙◌}
 use Rattle.std.specs.List.{starts_with}
 use Rattle.std.proofs.lemmas.Bool.Decides.{nat_tests, Decides-eqb}
@@ -28,7 +28,7 @@ Refused-as f r fault.MissingMinor h = ap (read_as f) h
 Refused-as f r (fault.BadNumber s) h = ap (read_as f) h
 Refused-as f r (fault.OpenInclusive s) h = ap (read_as f) h
 
--- the first of two readings went well
+-- the first of two readings succeeded
 Refused-next : {A B : Type 0} (f : A → Result B BadRange) (r : Result A BadRange) (a : A) (e : VersionFault) → r ≡ Ok a → IsRefusedBy (f a) e → IsRefusedBy (then_read f r) e
 Refused-next {A} f r a e h k = subst (λ (x : Result A BadRange). IsRefusedBy (then_read f x) e) (sym h) k
 
@@ -128,7 +128,7 @@ end-bad front back e (inr (inl h)) = subst (λ (t : List ℕ). IsRefusedBy (end_
 end-bad front [] e (inr (inr h)) = absurd (h.1.0 refl)
 end-bad front (b ∷ bs) e (inr (inr h)) = rw (not-equals b bs h.0) (Refused-as (ends true) (bound_of Stable (b ∷ bs)) e (bound-bad Stable (b ∷ bs) e h.1))
 
--- cuts
+-- splits
 
 abbrev has_dots : List ℕ → Bool
 has_dots text = starts_with nat_eq text (codes "..")

@@ -1,4 +1,4 @@
--- What the texts of versions and of ranges of versions are read as.
+-- How texts are read as versions and as ranges of versions.
 use Rattle.std.specs.Prelude.{◌≡◌, ℕ, ◌==◌, List, [], ◌∷◌, Bool, true, false, if◌then◌else◌}
 use Rattle.std.specs.Prelude.{Option, Some, None, Result, Ok, Err, MatchOption, option_map}
 use Rattle.std.specs.Prelude.{codes, drop, nat_eq, string_bytes}
@@ -19,24 +19,24 @@ pub data BadRange : Type 0 where
   BadNumber : List ℕ → BadRange
   OpenInclusive : List ℕ → BadRange
 
--- what a fault says of a text; nothing where memory ran out
+-- what an error says about a text; nothing where memory ran out
 abbrev pub bad_range_of : VersionFault → Option BadRange
 bad_range_of fault.Memory = None
 bad_range_of fault.MissingMinor = Some MissingMinor
 bad_range_of (fault.BadNumber text) = Some (BadNumber (string_bytes text))
 bad_range_of (fault.OpenInclusive text) = Some (OpenInclusive (string_bytes text))
 
--- a text is not read, for the reason that the fault says, unless memory ran out
+-- a text is refused for the reason in the error, unless memory ran out
 abbrev pub IsRefusedBy : {A : Type 0} → Result A BadRange → VersionFault → Type 0
 IsRefusedBy reading e = MatchOption (bad_range_of e) (e ≡ fault.Memory) (λ bad. reading ≡ Err bad)
 
--- what is read of what was read so far, unless that was refused
+-- the next reading, applied to what was read so far unless that was refused
 abbrev pub then_read : {A B : Type 0} →
     (A → Result B BadRange) → Result A BadRange → Result B BadRange
 then_read f (Ok a) = f a
 then_read f (Err bad) = Err bad
 
--- what was read, turned into another value
+-- what was read, converted to another value
 abbrev pub read_as : {A B : Type 0} → (A → B) → Result A BadRange → Result B BadRange
 read_as f (Ok a) = Ok (f a)
 read_as f (Err bad) = Err bad
@@ -50,24 +50,24 @@ or_bad text None = Err (BadNumber text)
 abbrev pub part_of : List ℕ → Result ℕ BadRange
 part_of text = or_bad text (number_of 32 text)
 
--- a version of these parts, with what stands behind the second dot
+-- a version with these parts, given the text after the second dot
 abbrev pub with_patch : ℕ → ℕ → Option (List ℕ) → Result Version BadRange
 with_patch major minor None = Ok (record { major = major; minor = minor; patch = None })
 with_patch major minor (Some text) =
     read_as (λ patch. record { major = major; minor = minor; patch = Some patch }) (part_of text)
 
--- a version of this major part, with what stands behind the first dot
+-- a version with this major part, given the text after the first dot
 abbrev pub with_minor : ℕ → Option (List ℕ) → Result Version BadRange
 with_minor major None = Err MissingMinor
 with_minor major (Some text) =
     then_read (λ minor. with_patch major minor (rest_of 46 text)) (part_of (front_of 46 text))
 
--- a version, cut at its first two dots
+-- a version, split at its first two dots
 abbrev pub version_of : List ℕ → Result Version BadRange
 version_of text =
     then_read (λ major. with_minor major (rest_of 46 text)) (part_of (front_of 46 text))
 
--- a bound of a range: a version, or what the empty text stands for
+-- a bound of a range: a version, or the bound that an empty text means
 abbrev pub bound_of : MaybeVersion → List ℕ → Result MaybeVersion BadRange
 bound_of empty [] = Ok empty
 bound_of empty (b ∷ bs) = read_as Given (version_of (b ∷ bs))
@@ -77,25 +77,25 @@ pub record End : Type 0 where
   pub bound : MaybeVersion
   pub old : Bool
 
--- what stands behind `..=`: a version
+-- the text after `..=`: a version
 abbrev pub behind_equals : List ℕ → List ℕ → Result End BadRange
 behind_equals front [] = Err (OpenInclusive front)
 behind_equals front (c ∷ cs) =
     read_as (λ bound. record { bound = bound; old = false }) (bound_of Stable (c ∷ cs))
 
--- what stands behind `..`: nothing, `=` and a version, or a version alone, which is the old form
+-- the text after `..`: nothing, `=` and a version, or a version alone, which is the old form
 abbrev pub end_of : List ℕ → List ℕ → Result End BadRange
 end_of front [] = Ok (record { bound = Stable; old = false })
 end_of front (b ∷ bs) =
     if b == 61 then behind_equals front bs
     else read_as (λ bound. record { bound = bound; old = true }) (bound_of Stable (b ∷ bs))
 
--- both sides of a cut
+-- both sides of a split
 pub record Sides : Type 0 where
   pub front : List ℕ
   pub back : List ℕ
 
--- a text cut at its first `..`, if it has one
+-- a text split at its first `..`, if it has one
 abbrev pub at_dots : List ℕ → Option Sides
 at_dots [] = None
 at_dots (b ∷ bs) =
@@ -108,14 +108,15 @@ pub record ReadRange : Type 0 where
   pub range : VersionRange
   pub old : Bool
 
--- a start and an end
+-- a range with this start and end
 abbrev pub with_end : End → MaybeVersion → ReadRange
 with_end end start = record {
   range = record { start_inclusive = start; end_inclusive = end.bound };
   old = end.old;
 }
 
--- a range of these sides: its end is read before its start, and without `..` the text is its start
+-- a range with these sides: its end is read before its start, and without `..` the whole text is
+-- its start
 abbrev pub range_at : List ℕ → Option Sides → Result ReadRange BadRange
 range_at text None =
     read_as (with_end (record { bound = Stable; old = false })) (bound_of Msrv text)
@@ -123,6 +124,6 @@ range_at text (Some sides) =
     then_read (λ end. read_as (with_end end) (bound_of Msrv sides.front))
     (end_of sides.front sides.back)
 
--- a range, cut at its first `..`
+-- a range, split at its first `..`
 abbrev pub range_of : List ℕ → Result ReadRange BadRange
 range_of text = range_at text (at_dots text)

@@ -1,4 +1,4 @@
--- What words come to once their uses are judged.
+-- What a command line leads to once its uses of options are judged.
 use Rattle.std.proofs.Common.{◌≡◌, ℕ, List, Option, Some, None, Err, IfSome, MatchOption, ap, refl, sym, subst, ◌∙◌}
 use Rattle.hack_uses.specs.declared.behavior.WorkspaceBehavior.{WorkspaceBehavior}
 use Rattle.hack_uses.specs.Faults.{Fault as WrongCut, fault_of as cut_fault_of}
@@ -29,7 +29,7 @@ printed-answers around behavior cut trailing us print (code.Args args) notes end
 printed-answers around behavior cut trailing us print (code.Print text) notes ends h = (print, (us, Prints print, ends, refl), h.0, h.1)
 printed-answers around behavior cut trailing us print code.List notes ends h = absurd h
 
--- a fault of a cut, as the call tells it
+-- a parse error, as the call reports it
 pub cut-told : (words : List (List ℕ)) (e : CutFault) → IfSome (cut_fault_of e) (λ wrong. (us : List Use) × Ends words us (Fails wrong)) → GivesCuts (Err (told_of_cut e)) words
 cut-told words cut.Memory h = refl
 cut-told words (cut.Missing flag) h = (h.0, _, refl, h.1)
@@ -51,12 +51,12 @@ judged-refuses around behavior cut trailing us Q None ends h = h
 pub fault-refuses : (around : Around) (behavior : WorkspaceBehavior) (cut trailing : List (List ℕ)) (us : List Use) (e : CliFault) → Ends cut us End → MatchOption (fault_of e) (e ≡ fault.Memory) (λ told. outcome_of around behavior trailing us ≡ Faulty told) → Refuses (ComesFrom around (Cuts behavior cut trailing)) e
 fault-refuses around behavior cut trailing us e ends h = judged-refuses around behavior cut trailing us (e ≡ fault.Memory) (fault_of e) ends h
 
--- where no rule before is broken, a refusal of bare uses is the verdict
+-- where no earlier rule is broken, a refusal for a missing subcommand is the verdict
 pub bare-refused : (o : Option Fault) (Q : Type 0) (early : Option Fault) (bare : Option Verdict) (after : Verdict) → early ≡ None → MatchOption o Q (λ told. bare ≡ Some (Refused told)) → MatchOption o Q (λ told. refused_by early (verdict_or bare after) ≡ Refused told)
 bare-refused (Some told) Q early bare after e h = ap (λ x. refused_by x (verdict_or bare after)) e ∙ ap (λ b. refused_by None (verdict_or b after)) h
 bare-refused None Q early bare after e h = h
 
--- what words come to is one thing
+-- a command line has one outcome
 
 end-last : (around : Around) (behavior : WorkspaceBehavior) (trailing : List (List ℕ)) (us : List Use) (r : Reading) (o : Outcome) → IsEnd around behavior trailing us r o → IsLast r
 end-last around behavior trailing us (Met one left) o h = h
@@ -81,7 +81,7 @@ from-one around (Cuts behavior cut trailing) a b h k =
 pub outcome-one : (around : Around) (words : List (List ℕ)) (a b : Outcome) → ComesTo around words a → ComesTo around words b → a ≡ b
 outcome-one around words a b = from-one around (start_of words) a b
 
--- an answer is no fault
+-- an answer is never an error
 pub answers-never : (around : Around) (words : List (List ℕ)) (parsed : Parsed) (notes : List Note) → Answers around (ComesTo around words) parsed notes → BreakNoRule around words
 answers-never around words (code.Args args) notes h told k = absurd (let e = outcome-one around words _ _ h.3 k in cc e)
 answers-never around words code.List notes h told k = absurd (let e = outcome-one around words _ _ h.1 k in cc e)

@@ -1,4 +1,4 @@
--- What is answered to the words of a call.
+-- How the code answers a command line.
 use Rattle.std.specs.Prelude.{◌≡◌, ℕ, List, [], Result, Ok, Err, MatchOption, string_bytes, codes}
 use Rattle.hack_base.specs.Names.{optional_text}
 use Rattle.hack_uses.specs.declared.behavior.WorkspaceBehavior.{WorkspaceBehavior}
@@ -28,11 +28,11 @@ use Rattle.hack_rules.specs.Rules.{Verdict, Accepted, Lists, Refused}
 use Rattle.hack_rules.specs.Verdicts.{verdict_of}
 use Rattle.hack_words.specs.RustupView.{known_of, unknown_of}
 
--- what is known beside the words
+-- what is known besides the command line
 abbrev pub around_of : Env → Rustup → Around
 around_of env rustup = record { term_color = optional_text env.term_color; github_actions = env.github_actions; rustup = known_of rustup; unknown = unknown_of rustup }
 
--- the same, as the code hands it on
+-- the same, from the code's record
 abbrev pub around_in : Surroundings → Around
 around_in around = around_of around.env.now around.rustup.now
 
@@ -40,7 +40,7 @@ around_in around = around_of around.env.now around.rustup.now
 abbrev pub verdict_around : WorkspaceBehavior → Around → List Use → Verdict
 verdict_around behavior around us = verdict_of behavior around.term_color around.rustup us
 
--- what the rules leave is their verdict, and what they read
+-- the rules return their verdict, and what they read
 abbrev pub Judges : Result Checked CliFault → WorkspaceBehavior → Around → List Use → Type 0
 Judges (Ok checked.List) behavior around us = verdict_around behavior around us ≡ Lists
 Judges (Ok (checked.Accepted early late)) behavior around us =
@@ -54,19 +54,19 @@ IsJudged around behavior trailing us (code.Args args) notes =
 IsJudged around behavior trailing us code.List notes = (outcome_of around behavior trailing us ≡ Listing us) × (notes ≡ unknown_notes us)
 IsJudged around behavior trailing us (code.Print text) notes = ⊥
 
--- the text that is printed for the version; those of the help are shown by tests
+-- the text printed for the version; tests check those of the help
 abbrev pub IsText : Print → List ℕ → Type 0
 IsText Version text = text ≡ codes "cargo-hack 0.6.46\n"
 IsText ShortHelp text = Unit {0}
 IsText LongHelp text = Unit {0}
 
--- the answer to words that ask for a text
+-- the answer to a command line that asks for a text
 abbrev pub IsPrinted : Print → CodeParsed → List Note → Type 0
 IsPrinted print (code.Print text) notes = IsText print (string_bytes text) × (notes ≡ [])
 IsPrinted print (code.Args args) notes = ⊥
 IsPrinted print code.List notes = ⊥
 
--- the answer, with its notices, to words of which it is told what they come to
+-- the answer, with its notices, to a command line whose outcome `Comes` says
 abbrev pub Answers : Around → (Outcome → Type 0) → CodeParsed → List Note → Type 0
 Answers around Comes (code.Args args) notes =
     (behavior : WorkspaceBehavior) × (trailing : List (List ℕ)) × (us : List Use) × Comes (Parsed behavior trailing us)
@@ -74,16 +74,17 @@ Answers around Comes (code.Args args) notes =
 Answers around Comes code.List notes = (us : List Use) × Comes (Listing us) × (notes ≡ unknown_notes us)
 Answers around Comes (code.Print text) notes = (print : Print) × Comes (Printed print) × IsText print (string_bytes text) × (notes ≡ [])
 
--- a fault that the words come to; memory may run out in place of any, and is told as that alone, not inside another fault
+-- an error of the command line, or out of memory, which is reported by itself and never inside
+-- another error
 abbrev pub Refuses : (Outcome → Type 0) → CliFault → Type 0
 Refuses Comes e = MatchOption (fault_of e) (e ≡ fault.Memory) (λ told. Comes (Faulty told))
 
--- the cuts of words, with a fault as one of the call
+-- the parsed uses of options, or a parse error as an error of the call
 abbrev pub GivesCuts : Result Cuts CliFault → List (List ℕ) → Type 0
 GivesCuts (Ok (cuts.Uses us)) words = Ends words (views us.items) End
 GivesCuts (Ok (cuts.Asks print)) words = (us : List Use) × Ends words us (Prints print)
 GivesCuts (Err e) words = MatchOption (fault_of e) (e ≡ fault.Memory) (λ told. (us : List Use) × (cut : CutFault) × (told ≡ Cut cut) × Ends words us (Fails cut))
 
--- words come to no fault
+-- the command line leads to no error
 abbrev pub BreakNoRule : Around → List (List ℕ) → Type 0
 BreakNoRule around words = (told : Fault) → ComesTo around words (Faulty told) → ⊥

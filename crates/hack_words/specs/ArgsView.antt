@@ -1,4 +1,4 @@
--- What arguments say, field by field.
+-- What the fields of `Args` hold, one by one.
 use Rattle.std.specs.Prelude.{ℕ, ◌≡◌, List, Bool, Option, IfSome, option_map}
 use Rattle.hack_base.specs.Names.{names_of, optional_text}
 use Rattle.hack_options.specs.declared.opt.Opt.TheVariants as opt
@@ -35,7 +35,7 @@ pub record HasFlags (us : List Use) (args : Args) : Type 0 where
   pub exclude_no_default_features : args.exclude_no_default_features ≡ excludes_no_default (listed_by us) us
   pub exclude_all_features : args.exclude_all_features ≡ excludes_all (listed_by us) us
 
--- the words and lists of words
+-- the arguments for cargo, and the lists of texts
 pub record HasTexts (behavior : WorkspaceBehavior) (us : List Use) (args : Args) : Type 0 where
   pub leading_args : names_of args.leading_args.items ≡ leading_asked behavior us
   pub subcommand : optional_text args.subcommand ≡ subcommand_of us
@@ -55,7 +55,7 @@ pub record HasFeatures (us : List Use) (args : Args) : Type 0 where
   pub mutually_exclusive_features : AreGroupsOf (values_given opt.MutuallyExclusiveFeatures us) args.mutually_exclusive_features.items
   pub at_least_one_of : AreGroupsOf (values_given opt.AtLeastOneOf us) args.at_least_one_of.items
 
--- what the rules read, as it was read
+-- what the rules read is carried over unchanged
 pub record Carries (read : Read) (args : Args) : Type 0 where
   pub trailing_args : args.trailing_args ≡ read.call.trailing
   pub workspace_behavior : args.workspace_behavior ≡ read.call.behavior
@@ -67,7 +67,7 @@ pub record Carries (read : Read) (args : Args) : Type 0 where
   pub partition : args.partition ≡ read.late.partition
   pub allow_together : args.allow_together ≡ read.late.lifts
 
--- the values that are read beside the environment
+-- the values, read from the options and the environment
 pub record HasValues (term_color : Option (List ℕ)) (github_actions : Bool) (behavior : WorkspaceBehavior) (trailing : List (List ℕ)) (us : List Use) (args : Args) : Type 0 where
   pub trailing_args : names_of args.trailing_args.items ≡ trailing
   pub workspace_behavior : args.workspace_behavior ≡ behavior

@@ -1,24 +1,24 @@
--- What a call looks up beside its words.
+-- What a call reads from its environment.
 use Rattle.std.specs.Prelude.{◌≡◌, ℕ, List, [], ◌∷◌, Bool, true, false, Option, Some, None, String, string_bytes, codes, map, bytes_eq, if◌then◌else◌}
 use Rattle.hack_base.specs.Names.{optional_text}
 use Rattle.hack_rules.specs.Asked.{or_else, or_next}
 use Rattle.hack_words.specs.declared.cli.env.Env.{Env}
 
--- a variable of the environment
+-- an environment variable
 pub record Variable : Type 0 where
   pub name : List ℕ
   pub value : List ℕ
 
--- the variables, each a name and its value
+-- the variables as pairs of a name and its value
 abbrev pub vars_of : {Y : Type 0} → List (String Y × String Y) → List Variable
 vars_of vars = map (λ v. record { name = string_bytes v.0; value = string_bytes v.1 }) vars
 
--- the value of the first variable of a name
+-- the value of the first variable of this name
 abbrev pub variable : List ℕ → List Variable → Option (List ℕ)
 variable name [] = None
 variable name (v ∷ vars) = if bytes_eq v.name name then Some v.value else variable name vars
 
--- a variable of that name is there
+-- a variable of this name is set
 abbrev pub is_set : List ℕ → List Variable → Bool
 is_set name vars = is_some (variable name vars)
   where
@@ -26,7 +26,7 @@ is_set name vars = is_some (variable name vars)
     is_some (Some value) = true
     is_some None = false
 
--- the environment of variables and of the current folder
+-- the environment read from these variables and the current folder
 pub record IsEnv (vars : List Variable) (current_dir : List ℕ) (env : Env) : Type 0 where
   pub term_color : optional_text env.term_color ≡ variable (codes "CARGO_TERM_COLOR") vars
   pub github_actions : env.github_actions ≡ is_set (codes "GITHUB_ACTIONS") vars

@@ -1,4 +1,4 @@
--- How the words of a call begin, before they are cut into options.
+-- The start of a command line, before options are parsed.
 use Rattle.std.specs.Prelude.{ℕ, List, [], ◌∷◌, not, ◌||◌, Bool, None, codes, length, nat_lt, nat_eq, bytes_eq, if◌then◌else◌}
 use Rattle.std.specs.List.{filter, list_any, starts_with}
 use Rattle.hack_options.specs.declared.opt.Opt.TheVariants as opt
@@ -7,44 +7,45 @@ use Rattle.hack_uses.specs.declared.behavior.WorkspaceBehavior.TheVariants.{Carg
 use Rattle.hack_uses.specs.Faults.{LongFlag, Repeat}
 use Rattle.hack_rules.specs.CliFaults.{Fault, NoWord, NotHack, Cut}
 
--- the words up to the first --
+-- the arguments before the first --
 abbrev pub front_words : List (List ℕ) → List (List ℕ)
 front_words [] = []
 front_words (w ∷ ws) = if bytes_eq w (codes "--") then [] else w ∷ front_words ws
 
--- the words behind the first --
+-- the arguments after the first --
 abbrev pub trailing_words : List (List ℕ) → List (List ℕ)
 trailing_words [] = []
 trailing_words (w ∷ ws) = if bytes_eq w (codes "--") then ws else trailing_words ws
 
--- the word that asks for Cargo's own handling of workspaces
+-- the argument that leaves workspaces to Cargo
 abbrev pub is_behavior : List ℕ → Bool
 is_behavior w = bytes_eq w (codes "--workspace-behavior=cargo")
 
--- the words that are cut: those in front without that word
+-- the arguments that are parsed: those before -- without that argument
 abbrev pub cut_words : List (List ℕ) → List (List ℕ)
 cut_words ws = filter (λ w. not (is_behavior w)) ws
 
--- how often that word stands in front
+-- how often that argument occurs before --
 abbrev pub behaviors : List (List ℕ) → ℕ
 behaviors ws = length (filter is_behavior ws)
 
--- who handles workspaces: Cargo where that word stands in front
+-- who handles workspaces: Cargo where that argument occurs before --
 abbrev pub behavior_said : List (List ℕ) → WorkspaceBehavior
 behavior_said ws = if nat_lt 0 (behaviors ws) then Cargo else Default
 
--- how words begin: a fault, or who handles workspaces, the words that are cut, and those behind --
+-- the start of a command line: an error, or who handles workspaces, the arguments to parse, and
+-- those after --
 pub data Start : Type 0 where
   Refuses : Fault → Start
   Cuts : WorkspaceBehavior → List (List ℕ) → List (List ℕ) → Start
 
--- with the words in front and behind --
+-- the start, given the arguments before and after --
 abbrev pub start_with : List (List ℕ) → List (List ℕ) → Start
 start_with front trailing =
     if nat_lt 1 (behaviors front) then Refuses (Cut (Repeat (LongFlag (codes "workspace-behavior")) opt.WorkspaceBehavior None))
     else Cuts (behavior_said front) (cut_words front) trailing
 
--- the first word is hack
+-- the first argument is hack
 abbrev pub start_of : List (List ℕ) → Start
 start_of [] = Refuses NoWord
 start_of (w ∷ ws) = if bytes_eq w (codes "hack") then start_with (front_words ws) (trailing_words ws) else Refuses (NotHack w)
@@ -57,10 +58,10 @@ is_range_option w = bytes_eq w (codes "--rust-version") || bytes_eq w (codes "--
 abbrev pub has_range : List ℕ → Bool
 has_range w = starts_with nat_eq w (codes "--version-range=")
 
--- one of both
+-- either of the two
 abbrev pub is_range_word : List ℕ → Bool
 is_range_word w = is_range_option w || has_range w
 
--- a word before the first -- asks for a range of versions
+-- an argument before the first -- asks for a range of versions
 abbrev pub wants_rustup : List (List ℕ) → Bool
 wants_rustup ws = list_any is_range_word (front_words ws)

@@ -1,4 +1,4 @@
--- How the words of a call begin, as the code answers it.
+-- The start of a command line, as the code returns it.
 use Rattle.std.specs.Prelude.{ℕ, ◌≡◌, List, true, false, None, Result, Ok, Err, MatchOption, codes, nat_lt}
 use Rattle.hack_base.specs.Names.{names_of}
 use Rattle.hack_options.specs.declared.opt.Opt.TheVariants as opt
@@ -10,16 +10,16 @@ use Rattle.hack_words.specs.declared.cli.start.Start.{Start as CodeStart}
 use Rattle.hack_rules.specs.CliFaults.{fault_of, Cut}
 use Rattle.hack_words.specs.Start.{Start, Refuses, Cuts, start_of, behaviors, behavior_said, cut_words}
 
--- how words begin that the code has looked at
+-- the start that the code has read
 abbrev pub start_in : CodeStart → Start
 start_in start = Cuts start.behavior (names_of start.words.items) (names_of start.trailing.items)
 
--- what the code answers is how the words begin
+-- the code returns the start of the command line
 abbrev pub Begins : Result CodeStart CliFault → List (List ℕ) → Type 0
 Begins (Ok start) words = start_of words ≡ start_in start
 Begins (Err e) words = MatchOption (fault_of e) (e ≡ fault.Memory) (λ told. start_of words ≡ Refuses told)
 
--- what the code takes out of the words in front, or the fault of a second one
+-- what the code takes out of the arguments before --, or the error that the argument is repeated
 abbrev pub TakesOut : Result Front CliFault → List (List ℕ) → Type 0
 TakesOut (Ok taken) front = (nat_lt 1 (behaviors front) ≡ false) × (taken.behavior ≡ behavior_said front) × (names_of taken.words.items ≡ cut_words front)
 TakesOut (Err e) front = MatchOption (fault_of e) (e ≡ fault.Memory) (λ told. (nat_lt 1 (behaviors front) ≡ true) × (told ≡ Cut (Repeat (LongFlag (codes "workspace-behavior")) opt.WorkspaceBehavior None)))

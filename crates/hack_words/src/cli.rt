@@ -1,4 +1,4 @@
-//! The words of a call of `cargo hack`, read into its options.
+//! The command line of `cargo hack`, parsed into `Args`.
 
 mod args;
 mod env;

@@ -1,4 +1,4 @@
-//! What is made of the words of a call, and how the user is told of it.
+//! The command line of a call, parsed and checked, with notices on it.
 #![tactic(auto)]
 
 pub mod cli;

@@ -1,5 +1,5 @@
-//! The program `powerset-list` once more, so that the gate runs it on words that it refuses: status 1, and no line of
-//! a list.
+//! The program `powerset-list` again, which the gate runs on arguments that it refuses: status 1,
+//! and no list.
 #![tactic(auto)]
 
 use hack_powerset_list::call_powerset_list;

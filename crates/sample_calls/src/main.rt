@@ -1,8 +1,8 @@
-//! Calls of `cargo hack`, as a user of the library makes them: over a caller and files in memory, so
-//! that no cargo is asked and nothing is built. Standard input has what cargo reports of the
-//! workspace, on a line, and each manifest after a line `== PATH`. With arguments the call of these
-//! is made, else three calls on the workspace in `examples`. Prints each call, its messages, and its
-//! list. The bench times such calls.
+//! Calls of `cargo hack`, as a user of the library makes them: with a caller and files in memory,
+//! so that no cargo runs and nothing is built. Standard input has what cargo reports of the
+//! workspace, on one line, and each manifest after a line `== PATH`. With arguments, these are the
+//! call that is made; else there are three calls on the workspace in `examples`. Prints each call,
+//! its messages, and its list. The bench times such calls.
 #![tactic(auto)]
 
 use cargo_hack::cli::Env;
@@ -20,11 +20,11 @@ const CALLS: [&str; 3] = [
     "hack test --feature-powerset --ignore-private --exclude-features default,binary,json --keep-going",
 ];
 
-/// A command for which cargo fails: these two features don't build together.
+/// A command that cargo fails: these two features don't build together.
 const FAILING: &str =
     "cargo test --manifest-path codec/Cargo.toml --no-default-features --features compact,trace";
 
-/// A caller that answers as cargo does where it told this of the workspace.
+/// A caller that answers like a cargo that reported this of the workspace.
 fn caller(alloc: Global, told: &str) -> Result<FakeCaller, AllocError> {
     let mut caller = FakeCaller::new(alloc, End::Status(0));
     for (line, answer) in [
@@ -41,7 +41,7 @@ fn caller(alloc: Global, told: &str) -> Result<FakeCaller, AllocError> {
     Ok(caller)
 }
 
-/// What cargo tells of the workspace, and files with its manifests.
+/// What cargo reports of the workspace, and files with its manifests.
 fn workspace(alloc: Global, input: &str) -> Result<(String, MemoryFiles), AllocError> {
     let mut files = MemoryFiles::new(alloc);
     let mut parts = input.split("\n== ");

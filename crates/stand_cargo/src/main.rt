@@ -1,4 +1,4 @@
-//! Stands in for cargo in tests: it answers from the files of the folder `STAND_DIR`.
+//! Replaces cargo in tests: it answers from the files of the folder `STAND_DIR`.
 #![tactic(auto)]
 
 use hack_files::fs::Disk;

@@ -1,7 +1,7 @@
-//! Texts of features that name development dependencies. `features ..` are those behind the tables
-//! of a package: d1 is a dependency of both kinds, d2 of development alone, d3 of a target, d4 of
-//! development for a target alone, and d5 of development and of a build script. The answer is what
-//! an edit leaves of them.
+//! Texts of features that name development dependencies. `features ..` are those after the tables
+//! of a package: d1 is a normal and a development dependency, d2 only for development, d3 of a
+//! target, d4 for development and only for a target, and d5 for development and for a build script.
+//! The answer is what an edit leaves of them.
 
 use crate::edits::{edited, on};
 use hack_holds::Wrong;
@@ -13,8 +13,8 @@ static TABLES: &str =
 static DEV_TABLES: &str =
     r#"[dev-dependencies]\nd1 = "1"\nd2 = "1"\nd5 = "1"\n[target.'cfg(unix)'.dev-dependencies]\nd4 = "1"\nd3 = "1"\n"#;
 
-/// What becomes of the features behind the tables, or all that is left where the tables aren't
-/// what stays of them.
+/// The remaining features after the tables; or the whole text where the tables aren't the expected
+/// ones.
 pub fn thinned(alloc: Global, features: &str) -> Result<String, AllocError> {
     let shown = format!(in alloc; "{TABLES}{DEV_TABLES}[features]\\n{features}")?;
     let answer = edited(alloc, shown.as_str())?;

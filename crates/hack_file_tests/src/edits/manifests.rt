@@ -1,12 +1,12 @@
-//! Manifests in the forms that crates have. Each stands as what an edit does to it, line by line: a
-//! line behind `-` goes, one behind `+` comes, and one behind a space stays.
+//! Manifests in the forms that crates have. Each is shown with what an edit does to it, line by
+//! line: a line after `-` is removed, one after `+` is added, and one after a space stays.
 
 use crate::edits::on;
 use crate::text::push_shown;
 use hack_holds::Wrong;
 use std::alloc::{AllocError, Global};
 
-/// Holds a row for each manifest: what an edit makes of it.
+/// Checks a row for each manifest: what an edit makes of it.
 fn changed(alloc: Global, manifests: &[&str]) -> Result<(), Wrong> {
     let mut rows = String::new(alloc);
     for lines in manifests {
@@ -23,7 +23,7 @@ fn push_row(rows: &mut String, lines: &str) -> Result<(), AllocError> {
     rows.push('\n')
 }
 
-/// Puts the lines that stay behind the rows, and those with the mark.
+/// Appends the lines that stay, and those with the mark, to the rows.
 fn push_side(rows: &mut String, lines: &str, mark: char) -> Result<(), AllocError> {
     for line in lines.split_inclusive('\n') {
         if let Some(rest) = line.strip_prefix(' ') {

@@ -21,7 +21,7 @@ pub fn without(alloc: Global, question: &str) -> Result<String, AllocError> {
     given(alloc, outcome)
 }
 
-/// The text of a fault.
+/// The text of an error.
 pub fn fault(alloc: Global, name: &str) -> Result<String, AllocError> {
     let fault = match name {
         "Toml" => ManifestFault::Toml,

@@ -1,10 +1,10 @@
-//! The files of the system, in a folder for each test.
+//! The files of the system, in a separate folder for each test.
 //!
-//! Beside the questions of all files there are `new folder` and `remove folder`, about the one of
-//! the test, and these, which ask the system itself: `folder: NAME` makes one, `mode 600: NAME`
-//! gives a file these permissions, `mode: NAME` tells them, `content: NAME` is what a file holds,
-//! `link: NAME` makes a link to `target`, `is link: NAME` tells whether there is one, `second name:
-//! NAME` gives the file `a` one more name, and `names` tells how many names the folder holds.
+//! Besides the questions of all files there are `new folder` and `remove folder`, about the folder
+//! of the test, and these, which ask the system itself: `folder: NAME` makes one, `mode 600: NAME`
+//! gives a file these permissions, `mode: NAME` returns them, `content: NAME` is the content of a
+//! file, `link: NAME` makes a link to `target`, `is link: NAME` asks whether there is one, `second
+//! name: NAME` gives the file `a` one more name, and `names` asks how many names the folder has.
 
 use crate::files::{CALLS, answer, hold_over, path_of, truth};
 use crate::text::quoted;
@@ -34,7 +34,7 @@ where
     Err(io::Error::from(ErrorKind::AlreadyExists))
 }
 
-/// How many names the folder holds.
+/// How many names the folder has.
 fn names<R: rt::Files + AllocGlobal + Clone + Drop>(rt: &R, folder: &str) -> io::Result<String> {
     let mut count = 0usize;
     for entry in fs::read_dir(rt, folder)? {
@@ -102,7 +102,7 @@ where
         }
     }
 
-    /// Answers a question about the whole folder, or one that all files are asked.
+    /// Answers a question about the whole folder, or one of those for all files.
     fn whole(&mut self, alloc: Global, question: &str) -> Result<String, AllocError> {
         let folder = self.folder.as_str();
         match question {
@@ -143,7 +143,7 @@ where
     }
 }
 
-/// Holds rows over a new folder of the system, which is removed where they hold.
+/// Checks rows on a new folder of the system, which is removed where they pass.
 fn on_disk<R>(rt: &R, rows: &str) -> Result<(), Wrong>
 where
     R: rt::Files + env::Env + AllocGlobal + Clone + Drop,

@@ -1,9 +1,9 @@
-//! Files and writers of which one call fails.
+//! Files and writers with one failing call.
 //!
-//! `calls N` makes seven calls over new files of which call N fails, and tells their answers and
-//! how many failed. `writes N` makes three writes to a new writer of which write N fails, and
-//! flushes: it tells what is written, and which of them fail. The other questions are about files
-//! that the test makes; `failures below` are those of the files in memory that they stand on.
+//! `calls N` makes seven calls to new files of which call N fails, and shows their answers and how
+//! many failed. `writes N` makes three writes to a new writer of which write N fails, and flushes:
+//! it shows what is written, and which of them fail. The other questions are about files that the
+//! test makes; `failures below` are those of the files in memory beneath them.
 
 use crate::files::answer;
 use crate::text::{number, number_of};
@@ -12,7 +12,7 @@ use hack_holds::{Ask, Wrong, hold};
 use std::alloc::{AllocError, Global};
 use std::io::Write;
 
-/// Files in memory of which the call with that number fails.
+/// Files in memory of which the call with this number fails.
 fn failing_files(alloc: Global, call: u64) -> FailingFiles<MemoryFiles> {
     FailingFiles::new(MemoryFiles::new(alloc), call)
 }
@@ -75,7 +75,7 @@ fn push_failed<W: Write>(text: &mut String, writer: &mut W) -> Result<(), AllocE
     Ok(())
 }
 
-/// Holds rows over files of which a call fails.
+/// Checks rows on files of which one call fails.
 fn on(alloc: Global, call: u64, rows: &str) -> Result<(), Wrong> {
     let files = failing_files(alloc, call);
     hold(alloc, &mut Failing { files }, rows)

@@ -1,5 +1,5 @@
-//! What `read`, `read_to_string` and `write` answer over any files: the bytes as a list, the text
-//! between quotes, `ok`, or the text of the fault. `put a x\xff` writes bytes that are no text.
+//! What `read`, `read_to_string` and `write` return for any files: the bytes as a list, the quoted
+//! text, `ok`, or the text of the error. `put a x\xff` writes bytes that are not UTF-8.
 
 use crate::files::short::Short;
 use crate::files::{hold_over, truth};
@@ -43,7 +43,7 @@ pub fn put<F: Files>(
     }
 }
 
-/// Whether the fault of reading is the one of this path.
+/// Whether the error of reading is the one of this path.
 pub fn is_of_path<F: Files>(
     alloc: Global,
     files: &mut F,

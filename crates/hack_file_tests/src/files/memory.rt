@@ -1,4 +1,4 @@
-//! Files in memory. Beside the questions of all files there are `changes`, how many were made, and
+//! Files in memory. Besides the questions of all files there are `changes`, how many were made, and
 //! `list of changes`.
 
 use crate::files::{CALLS, answer, hold_over};

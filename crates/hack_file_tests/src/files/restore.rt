@@ -1,15 +1,16 @@
-//! Files that come back: `a`, `b` and `c` hold `edited`, and a manager keeps `old a` and so on.
+//! Files that are restored: `a`, `b` and `c` hold `edited`, and a manager keeps `old a` and so on.
 //!
 //! A question restores all files. Its answer is how many failed, as the manager and as the files
-//! count them, whether an error was told, the lines that were told, and what the files hold then.
+//! count them, whether an error was reported, the lines that were printed, and what the files hold
+//! then.
 //!
 //! - `quiet N` and `colored N`: call N of the files fails.
-//! - `line N`: call 1 of the files and line N of what is told fail. What is told isn't shown.
-//! - `needed` and `needless`: `a` is kept where files are to come back, and `b` always.
-//! - `last N`: first the last file alone is restored, of which call N fails. The answer begins with
-//!   the fault and with what the files hold after it; then `new` is written to `c`.
-//! - `empty`: nothing is kept, and the last file alone is restored before all of them. The answer
-//!   begins with the fault and ends with the number of changes to the files.
+//! - `line N`: call 1 of the files and line N of the output fail. The output isn't shown.
+//! - `needed` and `needless`: `a` is kept only where files are to be restored, and `b` always.
+//! - `last N`: first only the last file is restored, of which call N fails. The answer begins with
+//!   the error and with what the files hold after it; then `new` is written to `c`.
+//! - `empty`: nothing is kept, and only the last file is restored before all of them. The answer
+//!   begins with the error and ends with the number of changes to the files.
 
 use crate::files::faults::text_of;
 use crate::files::held;
@@ -22,18 +23,17 @@ use std::alloc::{AllocError, Global};
 
 static PATHS: [&str; 3] = ["a", "b", "c"];
 
-/// The files, and where it is told what is restored.
+/// The files, and where messages on them are printed.
 #[derive(Drop)]
 struct Given {
     files: FailingFiles<MemoryFiles>,
     term: Term,
     err: FailingWriter<Vec<u8>>,
-    /// Whether the answer shows what is told.
+    /// Whether the answer shows what is printed.
     is_shown: bool,
 }
 
-/// Files that hold `edited` at each path. Where there is no memory, they hold less, and no row
-/// holds.
+/// Files that hold `edited` at each path. If memory runs out they hold less, and no row passes.
 fn edited(alloc: Global, call: u64, line: u64, term: Term) -> Given {
     let mut files = MemoryFiles::new(alloc);
     for path in &PATHS {

@@ -1,9 +1,9 @@
-//! A call that edits a manifest and a lockfile, of which the journal keeps the manifest alone.
+//! A call that edits a manifest and a lockfile, of which the journal keeps only the manifest.
 
 use crate::journal::on;
 use hack_holds::Wrong;
 
-/// A manifest and a lockfile, each of them edited.
+/// A manifest and a lockfile, both edited.
 static EDITED: &str = "
     > below: write w/Cargo.toml one
     | ok
@@ -41,7 +41,7 @@ fn lockfiles_pass_the_journal_by(rt: HostRuntime) -> Result<(), Wrong> {
     )
 }
 
-// Nor is a journal left where a lockfile alone is removed.
+// Nor is a journal left where only a lockfile is removed.
 #[test]
 fn no_journal_is_left_once_both_are_back(rt: HostRuntime) -> Result<(), Wrong> {
     on(

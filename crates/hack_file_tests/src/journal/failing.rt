@@ -1,8 +1,8 @@
-//! Calls over files of which one call fails. A write that fails leaves its file empty.
+//! Calls on files of which one call fails. A write that fails leaves its file empty.
 //!
-//! `edit N` edits the file `a`, makes a new one, `c`, and puts both back over files of which call N
-//! fails. It ends at the first failure. The answer is how many files a recovery
-//! puts back then, or its fault, and what the paths hold.
+//! `edit N` edits the file `a`, makes a new one, `c`, and restores both, on files of which call N
+//! fails. It ends at the first failure. The answer is how many files a recovery restores then, or
+//! its error, and the contents at the paths.
 
 use crate::files::held;
 use crate::journal::{journaled, on, recovered, replayed};
@@ -33,7 +33,7 @@ fn edited(alloc: Global, call: &str) -> Result<MemoryFiles, AllocError> {
     }
 }
 
-/// What is told of the recovery, and what the paths hold then.
+/// The result of the recovery, and the contents at the paths then.
 pub fn left(alloc: Global, call: &str) -> Result<String, AllocError> {
     let mut files = edited(alloc, call)?;
     let told = recovered(alloc, &mut files)?;
@@ -42,7 +42,7 @@ pub fn left(alloc: Global, call: &str) -> Result<String, AllocError> {
 }
 
 // The journal is written by calls 3 and 6, the files by 4, 7 and 8. Where one of these leaves its
-// file empty, somebody has to look at it. On a disk that writes whole files they are as all others.
+// file empty, a user has to look at it. On a disk that writes whole files they are like all others.
 #[test]
 fn each_call_fails_in_turn(rt: HostRuntime) -> Result<(), Wrong> {
     on(

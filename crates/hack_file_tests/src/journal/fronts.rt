@@ -3,8 +3,8 @@
 use crate::journal::on;
 use hack_holds::Wrong;
 
-/// Edits two files, one of them twice, makes a new one, and puts all back. Each edit stands behind
-/// its journal, and the last change is the removal of the journal.
+/// Edits two files, one of them twice, makes a new one, and restores all. The journal is written
+/// before each edit, and the last change is the removal of the journal.
 static EDITED: &str = r"
     > below: write a one\n\ntwo\n
     | ok
@@ -130,7 +130,7 @@ fn nothing_written_no_journal(rt: HostRuntime) -> Result<(), Wrong> {
     )
 }
 
-// The journal is none of the files, and is kept while a file isn't back.
+// The journal isn't one of the files, and is kept until all files are restored.
 #[test]
 fn the_journal_is_none_of_the_files(rt: HostRuntime) -> Result<(), Wrong> {
     on(

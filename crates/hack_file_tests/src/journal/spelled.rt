@@ -1,8 +1,8 @@
 //! The text of a journal.
 //!
-//! `spell PATH; BYTES` is the text of a file that held these bytes and is to be removed, `entries
-//! TEXT` are the entries that a text is read back as, or the fault, and `torn TEXT` is how long the
-//! text is, and each length of a front that isn't refused as no journal.
+//! `spell PATH; BYTES` is the text for a file that held these bytes and is to be removed, `entries
+//! TEXT` are the entries that a text is read back as, or the error, and `torn TEXT` is the length
+//! of the text, and the length of each prefix that isn't refused as no journal.
 
 use crate::journal::on;
 use crate::text::{plain, push_shown, shown};

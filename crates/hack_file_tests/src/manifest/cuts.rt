@@ -1,5 +1,5 @@
-//! The pieces that texts are cut into, a line each: the names of its path, each after a `/`, and
-//! its text. What is left behind the last piece comes last, after `tail`.
+//! The pieces that texts are cut into, one line for each: the names of its path, each after a `/`,
+//! and its text. What remains after the last piece comes last, after `tail`.
 
 use crate::manifest::on;
 use crate::text::{plain, push_shown};

@@ -1,4 +1,4 @@
-//! What manifests say, and their faults.
+//! What manifests say, and their errors.
 
 use crate::manifest::on;
 use crate::text::{plain, shown};
@@ -7,7 +7,7 @@ use hack_manifest::manifest::{Manifest, ManifestFault, manifest_is_one};
 use std::alloc::{AllocError, Global};
 use std::collections::BTreeMap;
 
-/// The text of a fault.
+/// The text of an error.
 pub fn told(alloc: Global, fault: &ManifestFault) -> Result<String, AllocError> {
     format!(in alloc; "{fault}")
 }

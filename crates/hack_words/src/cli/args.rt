@@ -1,4 +1,4 @@
-//! What a call asks for.
+//! The parsed arguments of a call.
 
 ghost use Rattle.std.specs.Prelude.{◌≡◌, ◌++◌, IfOk, OnOk, codes, string_bytes};
 ghost use Rattle.std.specs.List.{repeat};
@@ -24,13 +24,13 @@ use hack_uses::{Use, WorkspaceBehavior, count, given, subcommand, value, values}
 use hack_versions::version::VersionRange;
 use std::alloc::{AllocError, Global};
 
-/// What a call asks for.
+/// The parsed arguments of a call.
 #[derive(Drop)]
 pub struct Args {
-    /// Words for cargo, in order: the subcommand, options that are unknown here, and those that are
-    /// for both.
+    /// Arguments for cargo, in order: the subcommand, options that `cargo hack` doesn't know, and
+    /// those that both know.
     pub leading_args: Vec<String>,
-    /// The words behind the first `--`.
+    /// The arguments after the first `--`.
     pub trailing_args: Vec<String>,
     pub subcommand: Option<String>,
     pub manifest_path: Option<String>,
@@ -56,38 +56,38 @@ pub struct Args {
     pub print_command_list: bool,
     /// `--version-range`, or the packages' own versions for `--rust-version`.
     pub version_range: Option<VersionRange>,
-    /// From 1.
+    /// At least 1.
     pub version_step: u16,
     pub log_group: LogGroup,
     pub workspace_behavior: WorkspaceBehavior,
     pub coloring: Coloring,
-    /// None where they aren't asked for, and empty where all of them are.
+    /// None where the option isn't given; empty means all of them.
     pub optional_deps: Option<Vec<String>>,
     pub include_features: Vec<Feature>,
     pub include_deps_features: bool,
-    /// The features that no combination has: those of `--exclude-features`, and those of
-    /// `--features`, which are always there.
+    /// The features that are in no combination: those of `--exclude-features`, and those of
+    /// `--features`, which every run has anyway.
     pub exclude_features: Vec<String>,
     /// The run without default features is left out; other options imply it too.
     pub exclude_no_default_features: bool,
     /// The run with all features is left out; other options imply it too.
     pub exclude_all_features: bool,
-    /// The most features of one combination.
+    /// The largest number of features in one combination.
     pub depth: Option<usize>,
     pub group_features: Vec<Feature>,
     pub mutually_exclusive_features: Vec<Feature>,
-    /// Packages, and for each an exclusion group that isn't applied to it.
+    /// Packages, each with a group of mutually exclusive features that doesn't apply to it.
     pub allow_together: Vec<(String, Feature)>,
     pub at_least_one_of: Vec<Feature>,
-    /// Features that each run has.
+    /// Features that are enabled in each run.
     pub features: Vec<String>,
-    /// Sorted by their bytes, each once.
+    /// Sorted by bytes, without duplicates.
     pub target: Vec<String>,
     pub no_default_features: bool,
     pub verbose: bool,
 }
 
-/// The words that say `-v` to cargo: once less than it was said.
+/// The argument that passes `-v` on to cargo: one `v` less than was given.
 fn verbose_word(alloc: Global, times: usize) -> Result<String, AllocError>
     ensures { IfOk result (λ word. string_bytes word ≡ codes "-" ++ repeat times (codes "v")) }
 {
@@ -98,7 +98,7 @@ fn verbose_word(alloc: Global, times: usize) -> Result<String, AllocError>
     Ok(word)
 }
 
-/// Passes `-v` on to cargo, once less than it was said.
+/// Passes `-v` on to cargo, once less than it was given.
 fn pass_verbose(alloc: Global, leading: &mut Vec<String>, said: usize) -> Result<(), AllocError>
     ensures { OnOk result (names_of leading.new.items
         ≡ names_of leading.old.items ++ verbose_words said) }
@@ -109,7 +109,7 @@ fn pass_verbose(alloc: Global, leading: &mut Vec<String>, said: usize) -> Result
     Ok(())
 }
 
-/// Whether the run without default features is left out: there is always another one.
+/// Whether the run without default features is left out.
 fn leaves_no_default(lists: &Lists, uses: &[Use]) -> bool
     ensures { result ≡ excludes_no_default (listed_in lists.now) (views uses.now) }
 {
@@ -118,8 +118,8 @@ fn leaves_no_default(lists: &Lists, uses: &[Use]) -> bool
         || has_some(lists.include_features.as_slice())
 }
 
-/// Whether the run with all features is left out: it would have some that are excluded, or exclude
-/// each other.
+/// Whether the run with all features is left out: it would have features that are excluded, or that
+/// exclude each other.
 fn leaves_all(lists: &Lists, uses: &[Use]) -> bool
     ensures { result ≡ excludes_all (listed_in lists.now) (views uses.now) }
 {
@@ -135,18 +135,18 @@ fn ignores_private(uses: &[Use]) -> bool
     given(Opt::IgnorePrivate, uses) || given(Opt::NoPrivate, uses)
 }
 
-/// A call that is cut, with what its uses of options give.
+/// A parsed call, with what its uses of options give.
 #[derive(Drop)]
 pub struct Call {
     pub behavior: WorkspaceBehavior,
-    /// The words that are passed on to cargo, but for the counted `-v`.
+    /// The arguments passed on to cargo, without the counted `-v`.
     pub passed: Vec<String>,
-    /// The words behind the first `--`.
+    /// The arguments after the first `--`.
     pub trailing: Vec<String>,
     pub lists: Lists,
 }
 
-/// A call that keeps the rules, with what they read.
+/// A call that keeps the rules, with what the rules read.
 #[derive(Drop)]
 pub struct Read {
     pub call: Call,
@@ -159,7 +159,7 @@ impl Args {
     ghost use Rattle.hack_rules.specs.CliGroups.{AreGroupsOf};
     ghost use Rattle.hack_rules.specs.Listed.{listed_by};
 
-    /// The arguments that uses of options and what was read of them say.
+    /// The arguments, from the uses of options and from what the rules read.
     pub(crate) fn of(alloc: Global, read: Read, uses: &[Use]) -> Result<Args, AllocError>
         requires passed { names_of read.call.passed.items
             ≡ leading_of read.call.behavior (views uses.now) }

@@ -1,4 +1,4 @@
-//! What a call looks up beside its words: variables of the environment, and the current folder.
+//! What a call reads from its environment: variables, and the current folder.
 
 ghost use Rattle.std.specs.Prelude.{◌≡◌, IfOk, string_bytes};
 ghost use Rattle.hack_base.specs.Names.{optional_text_ref};
@@ -9,12 +9,12 @@ ghost use Rattle.hack_words.specs.EnvView.{vars_of};
 use hack_base::copies::copy_of;
 use std::alloc::{AllocError, Global};
 
-/// What a call looks up beside its words.
+/// What a call reads from its environment.
 #[derive(Debug, Drop)]
 pub struct Env {
-    /// `CARGO_TERM_COLOR`, cargo's own setting of colours.
+    /// `CARGO_TERM_COLOR`, cargo's own colour setting.
     pub term_color: Option<String>,
-    /// Whether `GITHUB_ACTIONS` is set, as it is where GitHub Actions runs the call.
+    /// Whether `GITHUB_ACTIONS` is set, as GitHub Actions does.
     pub github_actions: bool,
     /// Whether `CARGO_HACK_DENY_WARNINGS` is set, so that a warning makes the call fail.
     pub deny_warnings: bool,
@@ -22,7 +22,7 @@ pub struct Env {
     pub cargo: String,
     /// The program to run as rustup: `CARGO_HACK_RUSTUP`, else `rustup`.
     pub rustup: String,
-    /// The current folder, empty where it isn't known.
+    /// The current folder; empty where it isn't known.
     pub current_dir: String,
 }
 
@@ -56,7 +56,7 @@ fn value_or(alloc: Global, value: Option<&String>, other: &str) -> Result<String
 }
 
 impl Env {
-    /// The environment of variables, each a name and its value, and of the current folder.
+    /// Reads the variables, each a name and its value, and the current folder.
     pub fn new(
         alloc: Global,
         vars: &[(String, String)],

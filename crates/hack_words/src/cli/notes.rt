@@ -1,4 +1,4 @@
-//! What the user is told of words that are accepted.
+//! Notices on an accepted command line.
 
 ghost use Rattle.std.specs.Prelude.{◌≡◌, ◌++◌, IfOk, OnOk, true, codes, string_bytes};
 ghost use Rattle.hack_base.specs.Names.{optional_text_ref};
@@ -22,7 +22,7 @@ fn unknown_text(alloc: Global) -> Result<String, AllocError>
     )
 }
 
-/// Tells that unknown features are not ignored everywhere.
+/// Reports that unknown features are not ignored everywhere.
 pub fn tell_unknown(alloc: Global, notices: &mut Vec<Notice>, told: bool) -> Result<(), AllocError>
     ensures { OnOk result (AddsNotes notices.old notices.new
         (note_if told NoticeKind.QuietWarn unknown_words)) }
@@ -39,7 +39,7 @@ fn rustup_text(alloc: Global, why: &str) -> Result<String, AllocError>
     format!(in alloc; "unable to determine rustup version; assuming latest stable rustup: {why}")
 }
 
-/// Tells that rustup's version isn't known, where a range is asked.
+/// Reports that rustup's version isn't known, where a range is given.
 pub fn tell_rustup(
     alloc: Global,
     notices: &mut Vec<Notice>,
@@ -65,7 +65,7 @@ fn inclusive(alloc: Global, front: &str, back: &str) -> Result<String, AllocErro
     format!(in alloc; "{front}..={back}")
 }
 
-/// A range in its new form.
+/// A range rewritten in its new form.
 fn new_form(alloc: Global, text: &str) -> Result<String, AllocError>
     ensures { IfOk result (λ newer. string_bytes newer ≡ newer_form text.now) }
 {
@@ -81,7 +81,7 @@ fn old_text(alloc: Global, newer: &str) -> Result<String, AllocError>
     format!(in alloc; "using `..` for inclusive range is deprecated; consider using `{newer}`")
 }
 
-/// Tells that a range has the old form.
+/// Reports that a range has the old form.
 pub fn tell_old(
     alloc: Global,
     notices: &mut Vec<Notice>,
@@ -123,7 +123,7 @@ fn edits_text(alloc: Global, flags: &str) -> Result<String, AllocError>
     )
 }
 
-/// Tells that manifests are edited while commands run.
+/// Reports that manifests are edited while commands run.
 pub fn tell_edits(
     alloc: Global,
     notices: &mut Vec<Notice>,

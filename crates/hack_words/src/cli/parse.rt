@@ -1,4 +1,4 @@
-//! Words into arguments, or the first fault.
+//! A command line into arguments, or the first error.
 
 ghost use Rattle.std.specs.Prelude.{ℕ, List, ◌≡◌, IfOk, IfErr, MatchOption, OnOk, map};
 ghost use Rattle.std.specs.Prelude.{string_bytes};
@@ -33,7 +33,7 @@ use hack_uses::{Cuts, Print, Use, WorkspaceBehavior, all_uses, given, leading, v
 use hack_versions::rustup::Rustup;
 use std::alloc::{AllocError, Global};
 
-/// What the words of a call ask for.
+/// What a command line asks for.
 #[derive(Drop)]
 pub enum Parsed {
     Args(Args),
@@ -43,14 +43,14 @@ pub enum Parsed {
     List,
 }
 
-/// What a call looks up beside its words.
+/// What a call reads besides its command line.
 #[derive(Clone, Copy)]
 struct Surroundings<'a> {
     env: &'a Env,
     rustup: &'a Rustup,
 }
 
-/// What the rules leave.
+/// What the rules return.
 #[derive(Drop)]
 enum Checked {
     List,
@@ -66,7 +66,7 @@ fn known_minor(rustup: &Rustup) -> Option<u32>
     }
 }
 
-/// All rules, in order.
+/// Checks all rules, in order.
 fn keep_rules(
     alloc: Global,
     around: Surroundings<'_>,
@@ -94,7 +94,7 @@ fn keep_rules(
     Ok(Checked::Accepted { early, late })
 }
 
-/// The notices on accepted words, behind those that were told already.
+/// Adds the remaining notices on an accepted command line.
 fn tell(
     alloc: Global,
     notices: &mut Vec<Notice>,
@@ -112,14 +112,14 @@ fn tell(
     tell_edits(alloc, notices, given(Opt::NoDevDeps, uses), no_private)
 }
 
-/// Whether unknown features are asked to be ignored where they aren't.
+/// Whether unknown features are to be ignored where they can't be.
 fn ignores_in_vain(lists: &Lists, uses: &[Use]) -> bool
     ensures { result ≡ in_vain (listed_in lists.now) (views uses.now) }
 {
     given(Opt::IgnoreUnknownFeatures, uses) && has_some(lists.include_features.as_slice())
 }
 
-/// What uses of options come to.
+/// The outcome of uses of options.
 fn judge_uses(
     alloc: Global,
     around: Surroundings<'_>,
@@ -159,7 +159,7 @@ fn judge_uses(
     Ok((Parsed::Args(Args::of(alloc, read, uses)?), notices))
 }
 
-/// The text that the words ask to be printed.
+/// The text that the command line asks to be printed.
 fn text_of(alloc: Global, print: Print) -> Result<String, AllocError>
     ensures { IfOk result (λ text. IsText print (string_bytes text)) }
 {
@@ -170,14 +170,14 @@ fn text_of(alloc: Global, print: Print) -> Result<String, AllocError>
     }
 }
 
-/// All uses of the words that are cut, or what else they come to.
+/// All parsed uses of options, or what parsing ends with instead.
 fn cut(alloc: Global, words: Vec<String>) -> Result<Cuts, CliFault>
     ensures { GivesCuts result (map string_bytes words.items) }
 {
     Ok(all_uses(alloc, words)?)
 }
 
-/// The answer to words that ask for a text.
+/// The answer to a command line that asks for a text.
 fn print_answer(alloc: Global, print: Print) -> Result<(Parsed, Vec<Notice>), AllocError>
     ensures { IfOk result (λ answer. IsPrinted print answer.0 (map note_of answer.1.items)) }
 {
@@ -185,7 +185,7 @@ fn print_answer(alloc: Global, print: Print) -> Result<(Parsed, Vec<Notice>), Al
     Ok((Parsed::Print(text), Vec::new(alloc)))
 }
 
-/// What words come to that begin so.
+/// The outcome of a command line, given its start.
 fn parse_start(
     alloc: Global,
     around: Surroundings<'_>,
@@ -208,7 +208,7 @@ fn parse_start(
     }
 }
 
-/// What words come to, or the fault of the first rule that they break.
+/// The outcome of a command line, or the error of the first rule that it breaks.
 fn read_words(
     alloc: Global,
     around: Surroundings<'_>,
@@ -224,16 +224,15 @@ fn read_words(
     parse_start(alloc, around, start)
 }
 
-/// The law that what words come to is one thing. It does nothing; its contract is the law.
+/// The law that a command line has one outcome. It does nothing; its contract is the law.
 pub fn outcome_is_one()
     ensures { (around : Around) (words : List (List ℕ)) (a b : Outcome) → ComesTo around words a
         → ComesTo around words b → a ≡ b }
 {}
 
 impl Args {
-    /// What the words behind the program's name ask for, with what the user is to be told of them;
-    /// or the fault of the first rule that they break. `rustup` counts where a range of versions is
-    /// asked.
+    /// What the arguments after the program's name ask for, with the notices on them; or the error
+    /// of the first rule that they break. `rustup` matters where a range of versions is given.
     pub fn parse(
         alloc: Global,
         words: &[String],

@@ -1,4 +1,4 @@
-//! How the words of a call begin, before they are cut into options.
+//! The start of a command line, before options are parsed.
 
 ghost use Rattle.std.specs.Prelude.{◌≡◌, IfOk};
 ghost use Rattle.hack_base.specs.Names.{names_of};
@@ -14,7 +14,7 @@ use hack_rules::fault::CliFault;
 use hack_uses::{CutFault, OwnedFlag, WorkspaceBehavior};
 use std::alloc::{AllocError, Global};
 
-/// The words in front of the first `--`, and those behind it.
+/// The arguments before the first `--`, and those after it.
 fn split_at_dashes(words: &[String]) -> (&[String], &[String])
     ensures front { names_of result.0.now ≡ front_words (names_of words.now) }
     ensures trailing { names_of result.1.now ≡ trailing_words (names_of words.now) }
@@ -39,7 +39,7 @@ fn has_range(word: &str) -> bool
     word.starts_with("--version-range=")
 }
 
-/// Whether rustup's own version has to be asked for before these words are read: where a word
+/// Whether rustup must be asked for its own version before these arguments are parsed: where one
 /// before the first `--` asks for a range of versions.
 pub fn wants_rustup(words: &[String]) -> bool
     ensures { result ≡ rustup_wanted (names_of words.now) }
@@ -59,14 +59,14 @@ fn is_behavior(word: &str) -> bool
     word == "--workspace-behavior=cargo"
 }
 
-/// The words in front of `--`, without those that ask for Cargo's own handling of workspaces.
+/// The arguments before `--`, without the one that leaves workspaces to Cargo.
 #[derive(Drop)]
 struct Front {
     behavior: WorkspaceBehavior,
     words: Vec<String>,
 }
 
-/// Takes out the word that asks for Cargo's own handling of workspaces, which stands once.
+/// Takes out the argument that leaves workspaces to Cargo, which is allowed once.
 fn taken_out(alloc: Global, front: &[String]) -> Result<Front, CliFault>
     ensures { TakesOut result (names_of front.now) }
 {
@@ -91,18 +91,18 @@ fn taken_out(alloc: Global, front: &[String]) -> Result<Front, CliFault>
     Ok(Front { behavior, words })
 }
 
-/// What words begin with.
+/// The start of a command line.
 #[derive(Drop)]
 pub struct Start {
     pub behavior: WorkspaceBehavior,
-    /// The words that are cut into options.
+    /// The arguments that are parsed into options.
     pub words: Vec<String>,
-    /// Those behind the first `--`.
+    /// The arguments after the first `--`.
     pub trailing: Vec<String>,
 }
 
 impl Start {
-    /// The first word is `hack`; what is behind it is cut, up to the first `--`.
+    /// The first argument must be `hack`. The arguments after it are parsed, up to the first `--`.
     pub fn of(alloc: Global, words: &[String]) -> Result<Start, CliFault>
         ensures { Begins result (names_of words.now) }
     {

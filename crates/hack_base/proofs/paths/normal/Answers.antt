@@ -10,7 +10,7 @@ use Rattle.hack_base.proofs.paths.normal.Goals as goal
 abbrev joined : List ℕ → Bool → List ℕ
 joined p rooted = join_by (λ part. part) (codes "/") (kept_of rooted (slice_split is_slash p))
 
--- the path that they make
+-- the path that these make
 abbrev path_of : List ℕ → Bool → List ℕ
 path_of p rooted = (if rooted then codes "/" else []) ++ joined p rooted
 

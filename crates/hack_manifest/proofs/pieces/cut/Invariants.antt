@@ -7,7 +7,7 @@ use Rattle.hack_manifest.proofs.RunLemmas.{last_header}
 use Rattle.hack_manifest.specs.View.{piece_view}
 use Rattle.hack_manifest.proofs.pieces.cut.Given as goal
 
--- what the rest is cut into stands behind what was found
+-- the pieces of the rest come after those found
 abbrev pub invariant-pieces : goal.invariant-pieces
 invariant-pieces l = record {
   utf8 : IsUtf8 l.rest;

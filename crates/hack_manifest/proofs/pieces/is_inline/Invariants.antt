@@ -3,6 +3,6 @@ use Rattle.hack_manifest.specs.Manifest.{is_inline}
 use Rattle.hack_manifest.specs.View.{slice_view}
 use Rattle.hack_manifest.proofs.pieces.is_inline.Given as goal
 
--- some piece that is left has just that name exactly where some piece has
+-- a remaining piece has exactly this name just where some piece has
 abbrev pub invariant-loop-piece : goal.invariant-loop-piece
 invariant-loop-piece l = is_inline l.name (slice_view (drop l.piece-index l.pieces)) ≡ is_inline l.name (slice_view l.pieces)

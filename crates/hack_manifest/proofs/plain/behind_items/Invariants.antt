@@ -5,7 +5,7 @@ use Rattle.toml.specs.Parse.{val}
 use Rattle.hack_manifest.proofs.PairLemmas.{HasPassed}
 use Rattle.hack_manifest.proofs.plain.behind_items.Given as goal
 
--- the items go on at the rest
+-- reading the items continues at the rest
 abbrev pub invariant-items : goal.invariant-items
 invariant-items l = record { utf8 : shadow (Utf8 l.rest); passed : HasPassed (val 79) l.s l.rest }
 

@@ -4,7 +4,7 @@ use Rattle.hack_manifest.specs.Places.{behind}
 use Rattle.hack_manifest.specs.Runs.{IsRun}
 use Rattle.hack_manifest.proofs.runs.first_run.Given as goal
 
--- no run so far, and the place behind these bytes
+-- no run so far, and the state after these bytes
 abbrev pub invariant-loop-i : goal.invariant-loop-i
 invariant-loop-i l = record {
   none : (m : ℕ) → m < l.i + 1 → IsRun l.text m → ⊥;
