@@ -198,8 +198,9 @@ def example():
 
 
 def lengths():
-    """How long the documents are; what a script wrote between two marks doesn't count as a line."""
-    words = sum(len(read(it).split()) for it in documents())
+    """How long the README and docs are; what a script wrote between two marks doesn't count."""
+    counted = [it for it in documents() if it.name not in ("CHANGELOG.md", "CONTRIBUTING.md")]
+    words = sum(len(re.sub(r"(?s)<!-- written by .*?<!-- up to here -->", "", read(it)).split()) for it in counted)
     yield f"{words} words, at most {MOST_WORDS}", words <= MOST_WORDS
     for it in documents():
         if it.name in MOST_LINES:
