@@ -5,7 +5,7 @@ ghost use Rattle.std.specs.Prelude.{vec_len};
 ghost use Rattle.std.specs.Fmt.{with_newline};
 ghost use Rattle.std.specs.Io.KnownBytes.{Appends, Keeps, append_known};
 
-use hack_session::session::Lines;
+use hack_session::session::{LineFault, Lines};
 use std::alloc::{AllocError, Global};
 use std::io::{ErrorKind, Write};
 use std::{fmt, io};
@@ -22,6 +22,8 @@ pub(crate) struct GatheredLines<'a, O: Write> {
     pub(crate) gathered: &'a mut Vec<u8>,
     /// How many lines could not be written.
     pub(crate) failed: u64,
+    /// Whether memory ran out for one of them.
+    pub(crate) short: bool,
 }
 
 impl<O: Write> Lines for GatheredLines<'_, O> {
@@ -43,8 +45,9 @@ impl<O: Write> Lines for GatheredLines<'_, O> {
     fn line<D: fmt::Display + Drop>(&mut self, text: D) -> Result<(), fmt::Error> {
         match put_line(self.alloc, self.out, self.gathered, text) {
             Ok(()) => Ok(()),
-            Err(fmt::Error) => {
+            Err(fault) => {
                 self.failed = self.failed.saturating_add(1);
+                self.short |= fault == LineFault::Memory;
                 Err(fmt::Error)
             }
         }
@@ -75,6 +78,7 @@ pub(crate) fn gather_on<'a, O: Write>(
         out,
         gathered,
         failed: 0,
+        short: false,
     }
 }
 
@@ -84,7 +88,7 @@ fn put_line<O: Write, D: fmt::Display + Drop>(
     out: &mut O,
     gathered: &mut Vec<u8>,
     text: D,
-) -> fmt::Result
+) -> Result<(), LineFault>
     ensures written { OnOk result (IfSome (with_newline (D.output text))
         (Appends (append_known (O.contents out.old) gathered.old.items)
         (append_known (O.contents out.new) gathered.new.items))) }
@@ -94,12 +98,12 @@ fn put_line<O: Write, D: fmt::Display + Drop>(
     let mut line = String::new(alloc);
     match line.writeln(text) {
         Ok(()) => gather(out, gathered, line.as_str()),
-        Err(AllocError) => Err(fmt::Error),
+        Err(AllocError) => Err(LineFault::Memory),
     }
 }
 
 /// Gathers a text. Where there is no room for it, what is gathered is written before.
-fn gather<O: Write>(out: &mut O, gathered: &mut Vec<u8>, text: &str) -> fmt::Result
+fn gather<O: Write>(out: &mut O, gathered: &mut Vec<u8>, text: &str) -> Result<(), LineFault>
     ensures written { OnOk result (Appends (append_known (O.contents out.old) gathered.old.items)
         (append_known (O.contents out.new) gathered.new.items) text.now) }
     ensures missed { OnErr result (Keeps (append_known (O.contents out.old) gathered.old.items)
@@ -110,18 +114,18 @@ fn gather<O: Write>(out: &mut O, gathered: &mut Vec<u8>, text: &str) -> fmt::Res
     }
     match write_gathered(out, gathered) {
         Ok(()) => push(gathered, text),
-        Err(_) => Err(fmt::Error),
+        Err(_) => Err(LineFault::Unwritten),
     }
 }
 
 /// Puts a text behind what is gathered.
-fn push(gathered: &mut Vec<u8>, text: &str) -> fmt::Result
+fn push(gathered: &mut Vec<u8>, text: &str) -> Result<(), LineFault>
     ensures written { OnOk result (gathered.new.items ≡ gathered.old.items ++ text.now) }
     ensures missed { OnErr result (gathered.new.items ≡ gathered.old.items) }
 {
     match gathered.extend_from_slice(text.as_bytes()) {
         Ok(()) => Ok(()),
-        Err(AllocError) => Err(fmt::Error),
+        Err(AllocError) => Err(LineFault::Memory),
     }
 }
 

@@ -30,6 +30,8 @@ struct Listed {
     fault: Option<ProcessFault>,
     /// How many lines were not written.
     failed: u64,
+    /// Whether memory ran out for one of them.
+    short: bool,
 }
 
 /// Writes the commands of the chosen piece of a context's plan. Toolchains and lockfiles are made
@@ -110,6 +112,7 @@ fn hand_to_lister<C: Caller, O: Write, E: Write>(
         refused,
         fault,
         failed: lines.failed,
+        short: lines.short,
     }
 }
 
@@ -149,6 +152,7 @@ fn end_of_list(listed: Listed, flushed: bool) -> Result<(), RunFault>
         refused,
         fault,
         failed,
+        short,
     } = listed;
     let refused = match refused {
         Ok(refused) => refused,
@@ -161,7 +165,16 @@ fn end_of_list(listed: Listed, flushed: bool) -> Result<(), RunFault>
         return Err(RunFault::Memory);
     }
     if failed > 0 || !flushed {
-        return Err(RunFault::Unlisted);
+        return Err(unlisted(short));
     }
     Ok(())
+}
+
+/// Why a line is missing: memory ran out, or it can't be written.
+fn unlisted(short: bool) -> RunFault {
+    if short {
+        RunFault::Memory
+    } else {
+        RunFault::Unlisted
+    }
 }
