@@ -9,6 +9,9 @@ For each of N workspaces (300) and arguments it also asks for the pieces 1/n to 
 numbers n from 1 to 7 (all): each is compared with the piece of the definitions, and joined they have to be the list.
 Where the definitions have no plan, status 1, no list and one of the errors that hold are wanted. Cargo and rustup are
 shell scripts with stored answers. Where a case fails, its arguments, its workspace and both lists are printed.
+
+With `--strength` the definitions leave open which sets a sample has. So the sets of a package are those listed ones whose
+commands are in the whole list; they have to show each pattern that a listed set shows, and all else is compared as above.
 The last line is `N passed, M failed`, of cases, and the status is 1 where one failed.
 """
 import argparse
@@ -87,6 +90,11 @@ class Choice:
     def is_within(self, chosen):
         return self.depth is None or len(chosen) <= self.depth
 
+    def settings(self, chosen):
+        """For each candidate whether it is on in the set: whether the set enables each of its names."""
+        enabled = set().union(*(self.enabled[name] for name in self.names(chosen)))
+        return tuple(enabled.issuperset(names) for names in self.candidates)
+
     def listed(self):
         """The sets that pass all of it, in their order."""
         places = range(len(self.candidates))
@@ -102,6 +110,16 @@ class Choice:
 def order(one, other):
     """The set that has the greatest position which is in just one of the two comes later."""
     return 1 if max(set(one) ^ set(other)) in one else -1
+
+
+def patterns(settings, strength):
+    """The patterns of at most so many candidates that settings show: each candidate's place, and whether it is on."""
+    places = range(len(settings))
+    return {
+        tuple((place, settings[place]) for place in some)
+        for size in range(min(strength, len(settings)) + 1)
+        for some in itertools.combinations(places, size)
+    }
 
 
 # ---- Words, which are a list of uses of options.
@@ -137,6 +155,7 @@ class Asked:
         self.optional = [part for it in self.values("--optional-deps") for part in ([] if it is None else parts(it))]
         self.targets = sorted(set(self.values("--target")))
         self.depth = int(self.values("--depth")[0]) if self.has("--depth") else None
+        self.strength = int(self.values("--strength")[0]) if self.has("--strength") else None
         self.step = int((self.values("--version-step") or ["1"])[0])
         self.range = None
         if self.has("--rust-version"):
@@ -243,8 +262,9 @@ def pool(workspace, package):
     return normal, optional, deps
 
 
-def runs_of(workspace, asked, package):
-    """The runs of a package: `plain`, `all`, `none`, or a set as the list of its features' texts."""
+def runs_of(workspace, asked, package, sample):
+    """The runs of a package: `plain`, `all`, `none`, or a set as the list of its features' texts. `sample` picks of the
+    listed sets those of the package's sample."""
     normal, optional, deps = pool(workspace, package)
     singles = asked.include
     if not singles:
@@ -264,7 +284,10 @@ def runs_of(workspace, asked, package):
         lifted = [names for name, names in asked.lifted if name == package["name"]]
         exclusive = [group for group in asked.exclusive if group not in lifted]
         names = [names for _, names in candidates]
-        sets = Choice(package["record"], names, asked.depth, asked.required, exclusive).listed()
+        choice = Choice(package["record"], names, asked.depth, asked.required, exclusive)
+        sets = choice.listed()
+        if asked.strength is not None:
+            sets = sample(choice, sets, [[candidates[place][0] for place in it] for it in sets])
         keeps_all = bool(optional) and not (
             asked.has("--optional-deps") and not asked.optional and asked.depth is None)
     elif asked.has("--each-feature"):
@@ -387,17 +410,21 @@ def cleaning(workspace, asked):
 
 
 class Plan:
-    """The versions that are used, and the places in order, each with its text; or causes why there is none."""
+    """The versions that are used, and the places in order, each with its text; or causes why there is none. `whole`
+    is the whole list that the program printed, which says what sets a sample has."""
 
-    def __init__(self, workspace, asked):
-        self.workspace, self.asked, self.causes = workspace, asked, []
+    def __init__(self, workspace, asked, whole):
+        self.workspace, self.asked, self.whole, self.causes, self.faults = workspace, asked, whole, [], []
         chosen = chosen_packages(workspace, asked, self.causes)
         used = uses_of(workspace, asked, chosen, self.causes)
         self.versions, self.places, self.texts = sorted(used), [], []
         if self.causes:
             return
         packages = dict(chosen)
-        runs = {place: runs_of(workspace, asked, it) for place, it in chosen}
+        runs = {}
+        for place, it in chosen:
+            version = next((version for version in self.versions if place in used[version]), None)
+            runs[place] = runs_of(workspace, asked, it, functools.partial(self.sample, it, version))
         if asked.own_handling:
             places = {(version, slot, None, 0) for version in used for slot in self.slots(version)}
         else:
@@ -409,6 +436,22 @@ class Plan:
             }
         self.places = sorted(places, key=lambda it: (it[0], it[1], -1 if it[2] is None else it[2], it[3]))
         self.texts = [command(workspace, asked, it, packages, runs) for it in self.places]
+
+    def sample(self, package, version, choice, sets, texts):
+        """Those of the listed sets whose commands the whole list has, and a fault where they miss a pattern."""
+        if version is None or self.asked.own_handling:
+            return sets
+        lines, found = self.whole.splitlines(keepends=True), []
+        for it, text in zip(sets, texts):
+            place = (version, self.slots(version)[0], 0, 0)
+            line = command(self.workspace, self.asked, place, {0: package}, {0: [text]}).splitlines(keepends=True)[-1]
+            if line in lines:
+                lines.remove(line)
+                found.append(it)
+        shown = {pattern for it in found for pattern in patterns(choice.settings(it), self.asked.strength)}
+        missed = [(it, patterns(choice.settings(it), self.asked.strength) - shown) for it in sets]
+        self.faults += [f"in {package['name']} no run shows {min(them)}, which {it} shows" for it, them in missed if them]
+        return found
 
     def all_slots(self):
         return {slot for version in self.versions for slot in self.slots(version)}
@@ -465,13 +508,13 @@ def joined_fault(plan, kind, pieces):
 
 def try_case(program, workspace, uses, trailing, counts):
     """What is wrong in a case, if something is, and how many lines, pieces and refusals were compared."""
-    plan = Plan(workspace, Asked(uses, trailing))
     words = [word for it in uses for word in it.words] + (["--"] + trailing if trailing else [])
     ran = call(program, workspace, words)
+    plan = Plan(workspace, Asked(uses, trailing), ran.stdout)
     if plan.causes:
         return refusal(plan.causes, ran), (0, 0, 1)
     wanted = plan.piece("block", 1, 1)
-    fault, pieces = difference(wanted, ran), 0
+    fault, pieces = difference(wanted, ran) or next(iter(plan.faults), None), 0
     for count, kind in itertools.product(counts, ("block", "turn")):
         told_pieces = []
         for number in range(1, count + 1):

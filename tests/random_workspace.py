@@ -163,6 +163,8 @@ class Words:
         """What chooses among the sets of a powerset."""
         if self.chance(0.3):
             self.add("--depth", str(self.rng.choice([0, 1, 1, 2, 2, 3, 10])))
+        if self.chance(0.35):
+            self.add("--strength", str(self.rng.choice([1, 2, 2, 2, 3, 9])))
         for option, likelihood in (("--group-features", 0.25), ("--mutually-exclusive-features", 0.35),
                                    ("--at-least-one-of", 0.25)):
             for _ in range(self.rng.choice([1, 1, 2]) if self.chance(likelihood) else 0):
@@ -261,7 +263,9 @@ class Words:
             self.add("--target", target)
         for option, likelihood in (("--clean-per-run", 0.15), ("--no-manifest-path", 0.2), ("--locked", 0.1),
                                    ("--keep-going", 0.05), ("--no-dev-deps", 0.05)):
-            if self.chance(likelihood):
+            # (without paths a line doesn't show of which package's sample it is)
+            is_sampled = option == "--no-manifest-path" and any(it.name == "--strength" for it in self.uses)
+            if self.chance(likelihood) and not is_sampled:
                 self.add(option)
         for _ in range(self.rng.choice([0, 0, 0, 1, 2, 3])):
             self.add("--verbose", None, self.rng.choice(["-v", "--verbose"]))

@@ -86,6 +86,14 @@ REPORT = ["", "failed commands:", "    codec:"] + [
     f"        `cargo check --no-default-features --features {features}`" for features in FAILED
 ] + [""]
 
+# A sample of the sets, and the last lines: what the failed runs have in common.
+SAMPLE = ["check", "--package", "codec", "--feature-powerset", "--strength", "3", "--keep-going",
+          "--exclude-features", "default", "--mutually-exclusive-features", "binary,json"]
+SUSPECTS = [
+    "info: in codec the failed runs have one of these, and the passed runs have none:",
+    "info:     compact on, trace on",
+]
+
 # Calls that edit manifests, with their status, and which of these lines they print.
 MODIFIES = "info: {} modifies real `Cargo.toml` while cargo-hack is running and restores it when finished"
 EDITS = {
@@ -186,7 +194,7 @@ def main():
     if len(sys.argv) != 2:
         sys.exit(__doc__)
     program = os.path.realpath(sys.argv[1])
-    checks = len(CALLS) + len(EDITS) + 2
+    checks = len(CALLS) + len(EDITS) + 3
     if not has_cargo():
         print(f"no cargo and rustc that answer here: {checks} calls skipped")
         print(f"0 passed, 0 failed, {checks} skipped")
@@ -211,6 +219,8 @@ def main():
                 tell("the report", difference(REPORT, report))
         for name, (words, status, wanted) in EDITS.items():
             tell(name, edit_fault(program, folder, words, status, wanted))
+        sampled = call(program, folder, SAMPLE)
+        tell("a sample", difference(SUSPECTS, sampled.stderr.splitlines()[-len(SUSPECTS):]))
         listed = call(program, folder, SETS + ["--print-command-list"])
         tell("a list of commands", difference(LIST, listed.stdout.splitlines()))
     print(f"{checks - failed} passed, {failed} failed, 0 skipped")

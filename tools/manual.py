@@ -4,7 +4,7 @@
 usage: tools/manual.py CARGO_HACK           writes man/ and completions/
        tools/manual.py --check CARGO_HACK   writes nothing, and says which of them isn't what it would write
 
-The options that the help leaves out, as cargo-hack's does, are in HIDDEN below. The status is 1 where a file is stale.
+The options that the help leaves out are in HIDDEN below. The status is 1 where a file is stale.
 """
 
 import pathlib
@@ -19,6 +19,7 @@ HIDDEN = [
     ("--no-default-features", "Run without the default features. This is Cargo's own option."),
     ("--all-features", "Run with all features. This is Cargo's own option."),
     ("--include-deps-features", "Use the features of dependencies as features of the package."),
+    ("--strength <NUM>", "Run a sample of the powerset, a few sets that show each pattern of at most NUM features."),
 ]
 
 # The values that an option takes, where they are few.

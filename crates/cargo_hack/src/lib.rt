@@ -10,6 +10,7 @@ pub mod plan;
 pub mod powerset_list;
 pub mod run;
 pub mod rustup;
+pub mod suspects;
 
 pub use hack_base::{notice, paths};
 pub use hack_load::{cargo, context, metadata, process};

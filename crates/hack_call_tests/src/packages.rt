@@ -6,6 +6,7 @@ ghost use Rattle.hack_load.specs.ContextView.{context_view};
 use crate::shown::{name_of, push_notices};
 use crate::workspace::push_all;
 use hack_base::notice::Notice;
+use hack_features::SampleFault;
 use hack_load::context::Context;
 use hack_metadata::metadata::{Metadata, PackageId};
 use hack_packages::determine::{determine_kind, determine_package_list};
@@ -110,9 +111,14 @@ fn push_member(
 ) -> Result<(), AllocError>
     requires { Contains (context_view cx.now).metadata.workspace_members id.index }
 {
-    let (runs, notices) = determine_kind(alloc, cx, id, single)?;
-    push_runs(text, alloc, &runs)?;
-    push_notices(text, notices.as_slice())
+    match determine_kind(alloc, cx, id, single) {
+        Ok((runs, notices)) => {
+            push_runs(text, alloc, &runs)?;
+            push_notices(text, notices.as_slice())
+        }
+        Err(SampleFault::TooManyQuestions) => text.push_str("too many questions"),
+        Err(SampleFault::Memory) => Err(AllocError),
+    }
 }
 
 /// The runs of each member, and the notices. `single` says whether it counts as the only package.

@@ -31,6 +31,8 @@ range-cause cx ids single notes s latest (fault.Version e) chosen of_call (inl m
 range-cause cx ids single notes s latest (fault.Version e) chosen of_call (inr bad) = absurd bad
 range-cause cx ids single notes s latest (fault.Range e) chosen of_call (inl m) = absurd (cc)
 range-cause cx ids single notes s latest (fault.Range e) chosen of_call (inr bad) = inr (record { ids = ids; single = single; notes = notes; scene = s; chosen = chosen; of_call = of_call; bad = bad })
+range-cause cx ids single notes s latest (fault.TooManyQuestions name) chosen of_call (inl e) = absurd (cc)
+range-cause cx ids single notes s latest (fault.TooManyQuestions name) chosen of_call (inr bad) = absurd bad
 range-cause cx ids single notes s latest fault.TooManyRuns chosen of_call (inl e) = absurd (cc)
 range-cause cx ids single notes s latest fault.TooManyRuns chosen of_call (inr bad) = absurd bad
 

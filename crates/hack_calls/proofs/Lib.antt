@@ -8,3 +8,4 @@ mod MadeLemmas
 mod SceneLemmas
 mod OnceLemmas
 mod NeverLemmas
+mod SampleLemmas

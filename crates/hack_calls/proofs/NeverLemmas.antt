@@ -13,7 +13,7 @@ use Rattle.hack_versions.specs.declared.rustup.RangeFault.{RangeFault}
 use Rattle.hack_versions.specs.declared.version.Version.{Version}
 use Rattle.hack_versions.specs.declared.version.VersionFault.{VersionFault}
 use Rattle.hack_calls.specs.Calls.{ArePlanned, HasBadOwn, IsSceneOf}
-use Rattle.hack_calls.specs.Made.{IsCause, IsCauseBy, IsCauseOf, run_counts}
+use Rattle.hack_calls.specs.Made.{IsSureCause, IsSureCauseBy, IsSureCauseOf, run_counts}
 use Rattle.hack_calls.specs.declared.fault.PlanFault.{PlanFault}
 use Rattle.hack_calls.specs.declared.fault.PlanFault.TheVariants as fault
 use Rattle.hack_calls.proofs.OnceLemmas.{chosen-once, counts-once, scenes-agree}
@@ -35,8 +35,11 @@ pub record IsSound (cx : ContextRecord) (latest : Option Version) : Type 0 where
   pub in_range : (e : RangeFault) → ¬ IsVersionsFault scene.range scene latest e
   pub fits : ¬ HasTooMany scene (run_counts packages) latest
 
--- then no cause holds
-pub no-cause : (cx : ContextRecord) (latest : Option Version) → IsSound cx latest → (e : PlanFault) → ¬ IsCause cx latest e
+no-strength : {X : Type 0} {x : X} (o : Option X) → o ≡ None → o ≡ Some x → ⊥
+no-strength o e f = cc
+
+-- then no sure cause holds
+pub no-cause : (cx : ContextRecord) (latest : Option Version) → IsSound cx latest → (e : PlanFault) → ¬ IsSureCause cx latest e
 no-cause cx latest h fault.Memory bad = bad
 no-cause cx latest h (fault.Stable text) bad = bad
 no-cause cx latest h (fault.Packages e) bad = h.known e bad
@@ -45,14 +48,16 @@ no-cause cx latest h (fault.Range e) bad =
     let ids = chosen-once cx bad.ids h.ids bad.single h.single bad.notes h.notes bad.chosen h.chosen in
     let agree = scenes-agree cx h.ids bad.scene h.scene (subst (λ l. IsSceneOf cx l bad.scene) ids bad.of_call) h.of_call in
     h.in_range e (fault-same bad.scene h.scene agree latest e bad.bad)
-no-cause cx latest h fault.TooManyRuns bad =
+no-cause cx latest h (fault.TooManyQuestions name) both = no-strength cx.args.strength both.0 both.1.wide.2.wide.given
+no-cause cx latest h fault.TooManyRuns both =
+    let bad = both.1 in
     let ids = chosen-once cx bad.ids h.ids bad.single h.single bad.notes h.notes bad.chosen h.chosen in
     let agree = scenes-agree cx h.ids bad.scene h.scene (subst (λ l. IsSceneOf cx l bad.scene) ids bad.of_call) h.of_call in
     let planned = subst (λ l. ArePlanned cx bad.single l bad.packages bad.on_features) ids bad.planned in
-    let counts = counts-once cx h.ids bad.single h.single bad.packages h.packages bad.on_features h.on_features planned h.planned in
+    let counts = counts-once cx both.0 h.ids bad.single h.single bad.packages h.packages bad.on_features h.on_features planned h.planned in
     h.fits (subst (λ ns. HasTooMany h.scene ns latest) counts (many-same bad.scene h.scene agree (run_counts bad.packages) latest bad.many))
 
--- a cause that depends on the answer for `stable` is one for this version
-pub cause-by : (subcommand : Option (String Global)) (stable : Result (Option Version) (String Global)) (latest : Option Version) (cx : ContextRecord) (e : PlanFault) → stable ≡ Ok latest → IsCauseOf subcommand stable cx e → IsCause cx latest e
+-- a sure cause that depends on the answer for `stable` is one for this version
+pub cause-by : (subcommand : Option (String Global)) (stable : Result (Option Version) (String Global)) (latest : Option Version) (cx : ContextRecord) (e : PlanFault) → stable ≡ Ok latest → IsSureCauseOf subcommand stable cx e → IsSureCause cx latest e
 cause-by None stable latest cx e is bad = absurd bad
-cause-by (Some name) stable latest cx e is bad = subst (λ s. IsCauseBy s cx e) is bad
+cause-by (Some name) stable latest cx e is bad = subst (λ s. IsSureCauseBy s cx e) is bad

@@ -5,16 +5,17 @@ use Rattle.std.specs.List.{AllZip}
 use Rattle.std.proofs.lemmas.List.Elements.{All-contains}
 use Rattle.std.proofs.lemmas.Option.{same_Some}
 use Rattle.hack_base.specs.Names.{Name}
+use Rattle.hack_features.specs.Rules.{IsListed}
 use Rattle.hack_features.specs.Sets.{IsBefore, IsListing, Pairwise}
 use Rattle.hack_features.proofs.CoverLemmas.{before_trans}
 use Rattle.hack_base.proofs.Members.{Contains-cons_cases, Contains-head, Contains-tail, Contains-nil}
 use Rattle.hack_load.specs.Contexts.{ContextRecord, rust_version_at}
 use Rattle.hack_load.proofs.FeatureLemmas.{each-join}
 use Rattle.hack_metadata.specs.Records.{PackageRecord}
-use Rattle.hack_packages.specs.Candidates.{Known, Wishes}
+use Rattle.hack_packages.specs.Candidates.{Known, Wishes, candidates}
 use Rattle.hack_packages.specs.CandidatesView.{wishes}
 use Rattle.hack_packages.specs.ContextMembers.{AreChosen, current_name, known_as, members_in}
-use Rattle.hack_packages.specs.Kinds.{AreRuns, AreSets, RunsBy, asks, options_of}
+use Rattle.hack_packages.specs.Kinds.{ArePowersets, AreRuns, AreSets, RunsBy, asks, choice_of, options_of}
 use Rattle.hack_packages.specs.Members.{Choosing, Collects, ends, taken, left, IsAbout, IsMatched, IsPackageList, Keeps, Member, is_skipped, names_some}
 use Rattle.hack_packages.specs.MembersView.{choosing_of}
 use Rattle.hack_plan.specs.Runs.{PackageRun, runs_from}
@@ -123,34 +124,37 @@ ordered-once (x ∷ xs) (y ∷ ys) ox oy f g =
 listing-once : (n : ℕ) (P : List ℕ → Type 0) (xs ys : List (List ℕ)) → IsListing n P xs → IsListing n P ys → xs ≡ ys
 listing-once n P xs ys h k = ordered-once xs ys h.ordered k.ordered (λ s c. (k.exact s).1 ((h.exact s).0 c)) (λ s c. (h.exact s).1 ((k.exact s).0 c))
 
-sets-once : (b : Bool) (w : Wishes) (p : Known) (xs ys : List (List ℕ)) → AreSets b w p xs → AreSets b w p ys → xs ≡ ys
-sets-once true w p xs ys h k = listing-once _ _ xs ys h k
-sets-once false w p xs ys h k = h ∙ sym k
+sets-once : (b : Bool) (w : Wishes) (p : Known) (xs ys : List (List ℕ)) → w.strength ≡ None → AreSets b w p xs → AreSets b w p ys → xs ≡ ys
+sets-once true w p xs ys all h k =
+    let c = choice_of w p in
+    let n = length (candidates w p) in
+    listing-once n (IsListed c) xs ys (subst (λ o. ArePowersets o c n xs) all h) (subst (λ o. ArePowersets o c n ys) all k)
+sets-once false w p xs ys all h k = h ∙ sym k
 
-runs-once : (b : Bool) (w : Wishes) (p : Known) (xs ys : List PackageRun) → RunsBy b w p xs → RunsBy b w p ys → xs ≡ ys
-runs-once true w p xs ys h k = h.made ∙ ap (runs_from (options_of w p)) (sets-once w.powerset w p h.sets k.sets h.are_sets k.are_sets) ∙ sym k.made
-runs-once false w p xs ys h k = h ∙ sym k
+runs-once : (b : Bool) (w : Wishes) (p : Known) (xs ys : List PackageRun) → w.strength ≡ None → RunsBy b w p xs → RunsBy b w p ys → xs ≡ ys
+runs-once true w p xs ys all h k = h.made ∙ ap (runs_from (options_of w p)) (sets-once w.powerset w p h.sets k.sets all h.are_sets k.are_sets) ∙ sym k.made
+runs-once false w p xs ys all h k = h ∙ sym k
 
 -- a package with its runs, as in a plan
 abbrev HasRuns : ContextRecord → ℕ → PackageView → Type 0
 HasRuns cx id k = (single : Bool) × (notes : List Note) × IsPlanned cx single id k notes
 
-package-once : (cx : ContextRecord) (id : ℕ) (k l : PackageView) → HasRuns cx id k → HasRuns cx id l → length k.runs ≡ length l.runs
-package-once cx id k l h i =
+package-once : (cx : ContextRecord) → cx.args.strength ≡ None → (id : ℕ) (k l : PackageView) → HasRuns cx id k → HasRuns cx id l → length k.runs ≡ length l.runs
+package-once cx all id k l h i =
     let a = h.2 in
     let b = i.2 in
     let pkg = same_Some a.pkg b.pkg (sym a.known ∙ b.known) in
     let features = same_Some a.features b.features (sym a.loaded ∙ b.loaded) in
     let runs = subst (λ q. AreRuns (wishes cx.args) (known_as q b.features) k.runs) pkg (subst (λ f. AreRuns (wishes cx.args) (known_as a.pkg f) k.runs) features a.runs) in
-    ap (λ (rs : List PackageRun). length rs) (runs-once (asks (wishes cx.args)) (wishes cx.args) (known_as b.pkg b.features) k.runs l.runs runs b.runs)
+    ap (λ (rs : List PackageRun). length rs) (runs-once (asks (wishes cx.args)) (wishes cx.args) (known_as b.pkg b.features) k.runs l.runs all runs b.runs)
 
 planned-each : (cx : ContextRecord) (single : Bool) (ids : List ℕ) (packages : List PackageView) (notes : List Note) → ArePlanned cx single ids packages notes → AllZip (HasRuns cx) ids packages
 planned-each cx single ids packages notes begins = tt
 planned-each cx single _ _ _ (adds {ids} {packages} {notes} {id} {k} {more} before is) =
     each-join (HasRuns cx) ids (id ∷ []) packages (k ∷ []) (planned-each cx single ids packages notes before) ((single, more, is), tt)
 
--- the number of runs of each chosen package is determined
-pub counts-once : (cx : ContextRecord) (ids : List ℕ) (single one : Bool) (packages others : List PackageView) (notes more : List Note) → ArePlanned cx single ids packages notes → ArePlanned cx one ids others more → run_counts packages ≡ run_counts others
-counts-once cx ids single one packages others notes more h k =
+-- the number of runs of each chosen package is determined, where there are no samples
+pub counts-once : (cx : ContextRecord) → cx.args.strength ≡ None → (ids : List ℕ) (single one : Bool) (packages others : List PackageView) (notes more : List Note) → ArePlanned cx single ids packages notes → ArePlanned cx one ids others more → run_counts packages ≡ run_counts others
+counts-once cx all ids single one packages others notes more h k =
     map-alike (λ (p q : PackageView). length p.runs ≡ length q.runs) (λ p. length p.runs) (λ p q e. e) packages others
-    (zip-alike (HasRuns cx) (λ (p q : PackageView). length p.runs ≡ length q.runs) (package-once cx) ids packages others (planned-each cx single ids packages notes h) (planned-each cx one ids others more k))
+    (zip-alike (HasRuns cx) (λ (p q : PackageView). length p.runs ≡ length q.runs) (package-once cx all) ids packages others (planned-each cx single ids packages notes h) (planned-each cx one ids others more k))

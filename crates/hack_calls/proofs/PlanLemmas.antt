@@ -1,5 +1,5 @@
 -- The chosen packages of a plan in parallel lists, and what the plan covers.
-use Rattle.std.proofs.Common.{◌≡◌, refl, sym, ap, subst, ◌∙◌, arith, ℕ, zero, suc, ◌<◌, List, [], ◌∷◌, ◌++◌, ◌⊎◌, inl, inr, length, get_or, Bool, true, false, Option, Some, option_map}
+use Rattle.std.proofs.Common.{◌≡◌, refl, sym, ap, subst, ◌∙◌, arith, ℕ, zero, suc, ◌<◌, List, [], ◌∷◌, ◌++◌, ◌⊎◌, inl, inr, length, get_or, Bool, true, false, Option, None, Some, option_map}
 use Rattle.std.specs.Prelude.{IsSomeAnd, IsTrue, ◌↔◌, slice_get}
 use Rattle.std.proofs.lemmas.List.{length-append}
 use Rattle.std.proofs.lemmas.Option.{slice_get-map, slice_get_read, get_or_from_slice_get}
@@ -84,12 +84,12 @@ planned-at cx single _ _ _ place id (adds {ids} {packages} {notes} {id = last} {
     ]
 
 -- where there isn't one run for all packages
-not-all : (b : Bool) (P : Type 0) → IsTrue b ↔ P → ¬ P → b ≡ false
+pub not-all : (b : Bool) (P : Type 0) → IsTrue b ↔ P → ¬ P → b ≡ false
 not-all true P iff other = absurd (other (iff.0 refl))
 not-all false P iff other = refl
 
 -- a rank of a package's runs is below their number
-below-count : (packages : List PackageView) (place rank : ℕ) (k : PackageView) → slice_get packages place ≡ Some k → rank < length k.runs → rank < get_or (run_counts packages) place 0
+pub below-count : (packages : List PackageView) (place rank : ℕ) (k : PackageView) → slice_get packages place ≡ Some k → rank < length k.runs → rank < get_or (run_counts packages) place 0
 below-count packages place rank k at lt =
     let there = slice_get-map (λ (m : PackageView). length m.runs) packages place ∙ ap (option_map (λ (m : PackageView). length m.runs)) at in
     subst (λ n. rank < n) (sym (get_or_from_slice_get (run_counts packages) place (length k.runs) 0 there)) lt
@@ -113,8 +113,8 @@ cover-at cx rustup latest plan notes h each place id p features version slot s u
     }
 
 -- under a powerset a plan covers the sets of its packages
-pub covers : (cx : ContextRecord) (rustup : List ℕ) (latest : Option Version) (plan : PlanView) (notes : List Note) → IsPlan cx rustup latest plan notes → cx.args.feature_powerset ≡ true → ¬ (cx.args.workspace_behavior ≡ Cargo) → AreCovered cx latest plan
-covers cx rustup latest plan notes h powerset each = record {
+pub covers : (cx : ContextRecord) (rustup : List ℕ) (latest : Option Version) (plan : PlanView) (notes : List Note) → IsPlan cx rustup latest plan notes → cx.args.feature_powerset ≡ true → cx.args.strength ≡ None → ¬ (cx.args.workspace_behavior ≡ Cargo) → AreCovered cx latest plan
+covers cx rustup latest plan notes h powerset all each = record {
   ids = h.ids;
   single = h.single;
   notes = h.on_packages;
@@ -127,6 +127,6 @@ covers cx rustup latest plan notes h powerset each = record {
       let m = planned-at cx h.single h.ids plan.packages h.on_features place id h.planned at in
       let same_p = same_some m.3.pkg p (sym m.3.known ∙ known) in
       let same_f = same_some m.3.features features (sym m.3.loaded ∙ loaded) in
-      let covering = subst (λ q. AreCovering (wishes cx.args) (known_as q features) m.0.runs) same_p (subst (λ f. AreCovering (wishes cx.args) (known_as m.3.pkg f) m.0.runs) same_f (m.3.covered powerset)) in
+      let covering = subst (λ q. AreCovering (wishes cx.args) (known_as q features) m.0.runs) same_p (subst (λ f. AreCovering (wishes cx.args) (known_as m.3.pkg f) m.0.runs) same_f (m.3.covered powerset all)) in
       cover-at cx rustup latest plan notes h (not-all h.scene.as_cargo _ h.of_call.as_cargo each) place id p features version slot s uses within m.0 m.2 covering selection wanted;
 }

@@ -1,5 +1,5 @@
 -- The powersets of a plan's packages.
-use Rattle.std.proofs.Common.{◌≡◌, ◌≢◌, refl, sym, ap, subst, ◌∙◌, arith, ℕ, ◌+◌, ◌-◌, ◌<◌, List, [], ◌∷◌, ◌++◌, ◌⊎◌, inl, inr, length, map, take, drop, get_or, Bool, true, false, not, Option, Some, All, Contains}
+use Rattle.std.proofs.Common.{◌≡◌, ◌≢◌, refl, sym, ap, subst, ◌∙◌, arith, ℕ, ◌+◌, ◌-◌, ◌<◌, List, [], ◌∷◌, ◌++◌, ◌⊎◌, inl, inr, length, map, take, drop, get_or, Bool, true, false, not, Option, None, Some, All, Contains}
 use Rattle.std.specs.Prelude.{IsSomeAnd, slice_get, nat_lt, ◌&&◌, ◌||◌, ◌==◌, if◌then◌else◌}
 use Rattle.std.specs.List.{filter_map}
 use Rattle.std.proofs.lemmas.Bool.{eqb-true}
@@ -12,7 +12,7 @@ use Rattle.hack_metadata.specs.Records.{PackageRecord}
 use Rattle.hack_packages.specs.Candidates.{Wishes, Known, candidates}
 use Rattle.hack_packages.specs.CandidatesView.{wishes}
 use Rattle.hack_packages.specs.ContextMembers.{known_as}
-use Rattle.hack_packages.specs.Kinds.{AreSets, AreSetRuns, AreRuns, RunsBy, choice_of, options_of}
+use Rattle.hack_packages.specs.Kinds.{ArePowersets, AreSets, AreSetRuns, AreRuns, RunsBy, choice_of, options_of}
 use Rattle.hack_plan.specs.Runs.{PackageRun, Plain, AllFeatures, NoDefaultFeatures, Set, allows_two, is_plain, in_turn, keeps_all, run_if, last_first, runs_from, with_last_first}
 use Rattle.hack_plan.specs.declared.runs.RunOptions.{RunOptions}
 use Rattle.hack_runs.specs.View.{PackageView, PlanView}
@@ -46,7 +46,7 @@ pairwise-turned R flip xs ys p =
     pairwise-append R ys xs both.1 both.0 (λ k d l. λ i e m. flip (get_or xs i e) (get_or ys k d) (both.2 i e m k d l))
 
 -- sets in order are pairwise different
-apart : (sets : List (List ℕ)) → Pairwise IsBefore sets → Pairwise (λ s t. s ≢ t) sets
+pub apart : (sets : List (List ℕ)) → Pairwise IsBefore sets → Pairwise (λ s t. s ≢ t) sets
 apart [] p = tt
 apart (s ∷ sets) p = (λ k d l. λ same. let b = subst (IsBefore s) (sym same) (p.0 k d l) in b.absent b.present, apart sets p.1)
 
@@ -65,15 +65,15 @@ from-last_first n xs t c = subst (λ ys. Contains ys t) (take-append-drop n xs)
       | inr w ↦ Contains-append_left (take n xs) (drop n xs) t w
     ])
 
-in-turned : {X : Type 0} (b : Bool) (xs : List X) (t : X) → Contains xs t → Contains (with_last_first b xs) t
+pub in-turned : {X : Type 0} (b : Bool) (xs : List X) (t : X) → Contains xs t → Contains (with_last_first b xs) t
 in-turned false xs t c = c
 in-turned true xs t c = in-last_first (length xs - 1) xs t c
 
-from-turned : {X : Type 0} (b : Bool) (xs : List X) (t : X) → Contains (with_last_first b xs) t → Contains xs t
+pub from-turned : {X : Type 0} (b : Bool) (xs : List X) (t : X) → Contains (with_last_first b xs) t → Contains xs t
 from-turned false xs t c = c
 from-turned true xs t c = from-last_first (length xs - 1) xs t c
 
-apart-turned : (b : Bool) (sets : List (List ℕ)) → Pairwise (λ s t. s ≢ t) sets → Pairwise (λ s t. s ≢ t) (with_last_first b sets)
+pub apart-turned : (b : Bool) (sets : List (List ℕ)) → Pairwise (λ s t. s ≢ t) sets → Pairwise (λ s t. s ≢ t) (with_last_first b sets)
 apart-turned false sets p = p
 apart-turned true sets p =
     pairwise-turned (λ s t. s ≢ t) (λ s t differ same. differ (sym same)) (take (length sets - 1) sets) (drop (length sets - 1) sets)
@@ -98,7 +98,7 @@ no-sets : (sets : List (List ℕ)) → (length sets == 0) ≡ true → sets ≡ 
 no-sets [] e = refl
 no-sets (s ∷ ss) e = absurd (omega (arith, eqb-true (length (s ∷ ss)) 0 e))
 
-sets_of-runs : (o : RunOptions) (sets : List (List ℕ)) (plain : Bool) → is_plain o sets ≡ plain → (b : Bool) × (sets_of (runs_from o sets) ≡ with_last_first b sets)
+pub sets_of-runs : (o : RunOptions) (sets : List (List ℕ)) (plain : Bool) → is_plain o sets ≡ plain → (b : Bool) × (sets_of (runs_from o sets) ≡ with_last_first b sets)
 sets_of-runs o sets true is = (
   false,
   subst (λ p. sets_of (if p then Plain ∷ [] else (run_if (keeps_all o) AllFeatures ++ run_if (not o.exclude_no_default_features) NoDefaultFeatures) ++ map Set (in_turn o sets)) ≡ sets) (sym is)
@@ -113,16 +113,17 @@ sets_of-runs o sets false is =
           ∙ sets_of-map (in_turn o sets)),
     )
 
-or-true : (a : Bool) → (a || true) ≡ true
+pub or-true : (a : Bool) → (a || true) ≡ true
 or-true true = refl
 or-true false = refl
 
 -- the runs of a package under a powerset
-powerset : (w : Wishes) (p : Known) (runs : List PackageRun) → w.powerset ≡ true → AreRuns w p runs → IsPowerset (choice_of w p) runs
-powerset w p runs is made =
+powerset : (w : Wishes) (p : Known) (runs : List PackageRun) → w.powerset ≡ true → w.strength ≡ None → AreRuns w p runs → IsPowerset (choice_of w p) runs
+powerset w p runs is all made =
     let asked = ap (λ b. w.each || b) is ∙ or-true w.each in
     let h : AreSetRuns w p runs = subst (λ b. RunsBy b w p runs) asked made in
-    let listing : AreSets true w p h.sets = subst (λ b. AreSets b w p h.sets) is h.are_sets in
+    let picked : AreSets true w p h.sets = subst (λ b. AreSets b w p h.sets) is h.are_sets in
+    let listing : ArePowersets None (choice_of w p) (length (candidates w p)) h.sets = subst (λ o. ArePowersets o (choice_of w p) (length (candidates w p)) h.sets) all picked in
     let sets = sets_of-runs (options_of w p) h.sets (is_plain (options_of w p) h.sets) refl in
     let same = ap sets_of h.made ∙ sets.1 in
     record {
@@ -134,8 +135,8 @@ powerset w p runs is made =
     }
 
 -- under a powerset each chosen package of a plan has its powerset
-pub powersets : (cx : ContextRecord) (rustup : List ℕ) (latest : Option Version) (plan : PlanView) (notes : List Note) → IsPlan cx rustup latest plan notes → cx.args.feature_powerset ≡ true → HavePowersets cx plan
-powersets cx rustup latest plan notes h is = record {
+pub powersets : (cx : ContextRecord) (rustup : List ℕ) (latest : Option Version) (plan : PlanView) (notes : List Note) → IsPlan cx rustup latest plan notes → cx.args.feature_powerset ≡ true → cx.args.strength ≡ None → HavePowersets cx plan
+powersets cx rustup latest plan notes h is all = record {
   ids = h.ids;
   single = h.single;
   notes = h.on_packages;
@@ -146,5 +147,5 @@ powersets cx rustup latest plan notes h is = record {
       let same_p = same_some m.3.pkg p (sym m.3.known ∙ known) in
       let same_f = same_some m.3.features features (sym m.3.loaded ∙ loaded) in
       let runs = subst (λ q. AreRuns (wishes cx.args) (known_as q features) m.0.runs) same_p (subst (λ f. AreRuns (wishes cx.args) (known_as m.3.pkg f) m.0.runs) same_f m.3.runs) in
-      subst (λ o. IsSomeAnd o (λ (k : PackageView). IsPowerset (choice_at cx p features) k.runs)) (sym m.2) (powerset (wishes cx.args) (known_as p features) m.0.runs is runs);
+      subst (λ o. IsSomeAnd o (λ (k : PackageView). IsPowerset (choice_at cx p features) k.runs)) (sym m.2) (powerset (wishes cx.args) (known_as p features) m.0.runs is all runs);
 }

@@ -18,7 +18,7 @@ use Rattle.hack_uses.specs.declared.behavior.WorkspaceBehavior.TheVariants.{Carg
 use Rattle.hack_packages.specs.Candidates.{candidates, candidate_notes}
 use Rattle.hack_packages.specs.CandidatesView.{wishes}
 use Rattle.hack_packages.specs.ContextMembers.{known_as}
-use Rattle.hack_packages.specs.Kinds.{AreRuns, AreCovering}
+use Rattle.hack_packages.specs.Kinds.{AreRuns, AreCovering, AreRunSettings, IsUnsampled, choice_of}
 use Rattle.hack_plan.specs.Runs.{Plain}
 use Rattle.hack_plan.specs.Scenes.{slots_of}
 use Rattle.hack_plan.specs.declared.versions.Scene.{Scene}
@@ -102,7 +102,35 @@ IsOwnFault cx ids (fault.Stable text) = ⊥
 IsOwnFault cx ids (fault.Packages e) = ⊥
 IsOwnFault cx ids (fault.Version e) = HasBadOwn cx ids e
 IsOwnFault cx ids (fault.Range e) = ⊥
+IsOwnFault cx ids (fault.TooManyQuestions name) = ⊥
 IsOwnFault cx ids fault.TooManyRuns = ⊥
+
+-- a package of this name and these features has no sample
+pub record HasNoSampleAt (cx : ContextRecord) (id : ℕ) (name : Name) : Type 0 where
+  pub pkg : PackageRecord
+  pub features : Features
+  pub known : package_at cx id ≡ Some pkg
+  pub loaded : features_at cx id ≡ Some features
+  pub called : name ≡ pkg.name
+  pub wide : IsUnsampled (wishes cx.args) (known_as pkg features)
+
+-- one of the packages, of this name, has no sample
+abbrev pub HasNoSample : ContextRecord → List ℕ → Name → Type 0
+HasNoSample cx ids name = (id : ℕ) × Contains ids id × HasNoSampleAt cx id name
+
+-- the error says that this package has no sample
+abbrev pub IsRunsFault : ContextRecord → ℕ → PlanFault → Type 0
+IsRunsFault cx id fault.Memory = ⊥
+IsRunsFault cx id (fault.Stable text) = ⊥
+IsRunsFault cx id (fault.Packages e) = ⊥
+IsRunsFault cx id (fault.Version e) = ⊥
+IsRunsFault cx id (fault.Range e) = ⊥
+IsRunsFault cx id (fault.TooManyQuestions name) = HasNoSampleAt cx id (string_bytes name)
+IsRunsFault cx id fault.TooManyRuns = ⊥
+
+-- the error says that one of these packages has no sample
+abbrev pub HasRunsFault : ContextRecord → List ℕ → PlanFault → Type 0
+HasRunsFault cx ids e = (id : ℕ) × Contains ids id × IsRunsFault cx id e
 
 -- a chosen package in the plan: its texts, the features of `--features` that it gets, and its runs
 pub record IsPlanned (cx : ContextRecord) (single : Bool) (id : ℕ) (k : PackageView) (notes : List Note) : Type 0 where
@@ -115,7 +143,8 @@ pub record IsPlanned (cx : ContextRecord) (single : Bool) (id : ℕ) (k : Packag
   pub given : k.features ≡ passed_for cx (Some id)
   pub candidates : (k.candidates ≡ candidates (wishes cx.args) (known_as pkg features)) ⊎ (k.runs ≡ Plain ∷ [])
   pub runs : AreRuns (wishes cx.args) (known_as pkg features) k.runs
-  pub covered : cx.args.feature_powerset ≡ true → AreCovering (wishes cx.args) (known_as pkg features) k.runs
+  pub covered : cx.args.feature_powerset ≡ true → cx.args.strength ≡ None → AreCovering (wishes cx.args) (known_as pkg features) k.runs
+  pub settings : AreRunSettings cx.args.strength (choice_of (wishes cx.args) (known_as pkg features)) k.runs k.settings
   pub told : notes ≡ candidate_notes single (wishes cx.args) (known_as pkg features)
 
 -- the chosen packages, in order, and the notices on their features

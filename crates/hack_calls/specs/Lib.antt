@@ -2,4 +2,5 @@ pub mod Calls
 pub mod Covered
 pub mod Made
 pub mod Powersets
+pub mod Samples
 pub mod Turned

@@ -1,5 +1,5 @@
 -- The plan of a call, and the causes to refuse it.
-use Rattle.std.specs.Prelude.{ℕ, ◌≡◌, ◌++◌, List, [], map, length, Bool, Option, Some, None, Result, Ok, Err}
+use Rattle.std.specs.Prelude.{ℕ, ◌≡◌, ◌++◌, List, [], map, length, string_bytes, Bool, Option, Some, None, Result, Ok, Err}
 use Rattle.std.specs.declared.string.String.{String}
 use Rattle.std.specs.declared.alloc.Global.{Global}
 use Rattle.hack_base.specs.Names.{Name}
@@ -14,7 +14,7 @@ use Rattle.hack_plan.specs.Scenes.{AreVersions, AreNotices, IsVersionsFault}
 use Rattle.hack_plan.specs.Spans.{versions_of}
 use Rattle.hack_plan.specs.declared.versions.Scene.{Scene}
 use Rattle.hack_plan.specs.declared.versions.Versions.{Versions}
-use Rattle.hack_calls.specs.Calls.{IsSceneOf, ArePlanned, HasBadOwn, call_of, left_out_notes}
+use Rattle.hack_calls.specs.Calls.{IsSceneOf, ArePlanned, HasBadOwn, HasNoSample, call_of, left_out_notes}
 use Rattle.hack_runs.specs.Plans.{AreLaid}
 use Rattle.hack_runs.specs.Prepared.{ArePrepared}
 use Rattle.hack_runs.specs.View.{PackageView, PlanView}
@@ -100,6 +100,14 @@ pub record AreTooManyRuns (cx : ContextRecord) (latest : Option Version) : Type 
   pub planned : ArePlanned cx single ids packages on_features
   pub many : HasTooMany scene (run_counts packages) latest
 
+-- the sample of one of the chosen packages, of this name, needs too many questions
+pub record IsTooWide (cx : ContextRecord) (name : Name) : Type 0 where
+  pub ids : List ℕ
+  pub single : Bool
+  pub notes : List Note
+  pub chosen : AreChosen cx ids single notes
+  pub wide : HasNoSample cx ids name
+
 -- the causes to refuse a call with a subcommand, where `stable` is this version
 abbrev pub IsCause : ContextRecord → Option Version → PlanFault → Type 0
 IsCause cx latest fault.Memory = ⊥
@@ -107,7 +115,19 @@ IsCause cx latest (fault.Stable text) = ⊥
 IsCause cx latest (fault.Packages e) = IsChoiceFault cx e
 IsCause cx latest (fault.Version e) = IsBadVersion cx e
 IsCause cx latest (fault.Range e) = IsBadRange cx latest e
+IsCause cx latest (fault.TooManyQuestions name) = IsTooWide cx (string_bytes name)
 IsCause cx latest fault.TooManyRuns = AreTooManyRuns cx latest
+
+-- the causes that leave no plan, whatever samples are found: with a strength another sample could have too many runs, or need
+-- too many questions
+abbrev pub IsSureCause : ContextRecord → Option Version → PlanFault → Type 0
+IsSureCause cx latest fault.Memory = ⊥
+IsSureCause cx latest (fault.Stable text) = ⊥
+IsSureCause cx latest (fault.Packages e) = IsChoiceFault cx e
+IsSureCause cx latest (fault.Version e) = IsBadVersion cx e
+IsSureCause cx latest (fault.Range e) = IsBadRange cx latest e
+IsSureCause cx latest (fault.TooManyQuestions name) = (cx.args.strength ≡ None) × IsTooWide cx (string_bytes name)
+IsSureCause cx latest fault.TooManyRuns = (cx.args.strength ≡ None) × AreTooManyRuns cx latest
 
 -- the causes, given the answer for `stable`: its error, or one of the causes above
 abbrev pub IsCauseBy : Result (Option Version) (String Global) → ContextRecord → PlanFault → Type 0
@@ -119,6 +139,16 @@ abbrev pub IsCauseOf : Option (String Global) → Result (Option Version) (Strin
 IsCauseOf None stable cx e = ⊥
 IsCauseOf (Some subcommand) stable cx e = IsCauseBy stable cx e
 
+-- the sure causes, given the answer for `stable`: its error, or one of the sure causes above
+abbrev pub IsSureCauseBy : Result (Option Version) (String Global) → ContextRecord → PlanFault → Type 0
+IsSureCauseBy (Ok latest) cx e = IsSureCause cx latest e
+IsSureCauseBy (Err text) cx e = e ≡ fault.Stable text
+
+-- the sure causes to refuse a call: it has a subcommand, and a sure cause holds
+abbrev pub IsSureCauseOf : Option (String Global) → Result (Option Version) (String Global) → ContextRecord → PlanFault → Type 0
+IsSureCauseOf None stable cx e = ⊥
+IsSureCauseOf (Some subcommand) stable cx e = IsSureCauseBy stable cx e
+
 -- the error says that the packages aren't known
 abbrev pub IsListFault : ContextRecord → PlanFault → Type 0
 IsListFault cx fault.Memory = ⊥
@@ -126,6 +156,7 @@ IsListFault cx (fault.Stable text) = ⊥
 IsListFault cx (fault.Packages e) = IsChoiceFault cx e
 IsListFault cx (fault.Version e) = ⊥
 IsListFault cx (fault.Range e) = ⊥
+IsListFault cx (fault.TooManyQuestions name) = ⊥
 IsListFault cx fault.TooManyRuns = ⊥
 
 -- the error says that the range is refused
@@ -135,4 +166,5 @@ IsRangeFault s latest (fault.Stable text) = ⊥
 IsRangeFault s latest (fault.Packages e) = ⊥
 IsRangeFault s latest (fault.Version e) = ⊥
 IsRangeFault s latest (fault.Range e) = IsVersionsFault s.range s latest e
+IsRangeFault s latest (fault.TooManyQuestions name) = ⊥
 IsRangeFault s latest fault.TooManyRuns = ⊥

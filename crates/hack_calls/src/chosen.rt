@@ -1,6 +1,6 @@
 //! The chosen packages, as a plan needs them.
 
-ghost use Rattle.std.specs.Prelude.{◌≡◌, All, Contains, IfOk, map};
+ghost use Rattle.std.specs.Prelude.{◌≡◌, ◌⊎◌, All, Contains, IfErr, IfOk, map};
 ghost use Rattle.hack_features.specs.Feature.{groups_of};
 ghost use Rattle.hack_base.specs.Names.{names_of, names_behind};
 ghost use Rattle.hack_packages.specs.KindsView.{candidates_in, runs_of};
@@ -9,12 +9,13 @@ ghost use Rattle.hack_metadata.specs.View.{place_at};
 ghost use Rattle.hack_load.specs.ContextView.{context_view};
 ghost use Rattle.hack_base.specs.Notes.{note_of};
 ghost use Rattle.hack_runs.specs.View.{package_view};
-ghost use Rattle.hack_calls.specs.Calls.{IsPlanned, ArePlanned};
+ghost use Rattle.hack_calls.specs.Calls.{IsPlanned, ArePlanned, IsRunsFault, HasRunsFault};
 
+use crate::fault::PlanFault;
 use crate::words::given_path;
 use hack_base::copies::copies;
 use hack_base::notice::Notice;
-use hack_features::Feature;
+use hack_features::{Feature, SampleFault};
 use hack_load::context::Context;
 use hack_load::process::features_for;
 use hack_metadata::metadata::PackageId;
@@ -42,18 +43,27 @@ fn chosen_package(
     cx: &Context,
     id: PackageId,
     single: bool,
-) -> Result<(PlanPackage, Vec<Notice>), AllocError>
+) -> Result<(PlanPackage, Vec<Notice>), PlanFault>
     requires { Contains (context_view cx.now).metadata.workspace_members id.index }
-    ensures { IfOk result (λ answer. IsPlanned (context_view cx.now) single id.index
+    ensures ok { IfOk result (λ answer. IsPlanned (context_view cx.now) single id.index
         (package_view answer.0) (map note_of answer.1.items)) }
+    ensures err { IfErr result (λ e. (e ≡ PlanFault.Memory)
+        ⊎ IsRunsFault (context_view cx.now) id.index e) }
 {
     let _ = cx.workspace_members();
     let _ = cx.pkg_features(id);
-    let (found, notices) = determine_kind(alloc, cx, id, single)?;
+    let pkg = cx.packages(id);
+    let (found, notices) = match determine_kind(alloc, cx, id, single) {
+        Ok(answer) => answer,
+        Err(SampleFault::Memory) => return Err(PlanFault::Memory),
+        Err(SampleFault::TooManyQuestions) => {
+            let name = String::from_str(alloc, pkg.name.as_str())?;
+            return Err(PlanFault::TooManyQuestions(name));
+        }
+    };
     let (candidates, runs) = parts_of(alloc, found.kind)?;
     let (given, _) = features_for(alloc, cx, id)?;
     let features = copies(alloc, given.as_slice())?;
-    let pkg = cx.packages(id);
     let bare = cx.args().no_manifest_path;
     let planned = PlanPackage {
         name: String::from_str(alloc, pkg.name.as_str())?,
@@ -61,6 +71,7 @@ fn chosen_package(
         features,
         candidates,
         runs,
+        settings: found.settings,
     };
     Ok((planned, notices))
 }
@@ -72,18 +83,24 @@ pub(crate) fn chosen_packages(
     cx: &Context,
     ids: &[PackageId],
     single: bool,
-) -> Result<(Vec<PlanPackage>, Vec<Notice>), AllocError>
+) -> Result<(Vec<PlanPackage>, Vec<Notice>), PlanFault>
     requires { All (λ id. Contains (context_view cx.now).metadata.workspace_members id.index)
         ids.now }
-    ensures { IfOk result (λ answer. ArePlanned (context_view cx.now) single (map place_at ids.now)
-        (map package_view answer.0.items) (map note_of answer.1.items)) }
+    ensures ok { IfOk result (λ answer. ArePlanned (context_view cx.now) single
+        (map place_at ids.now) (map package_view answer.0.items) (map note_of answer.1.items)) }
+    ensures err { IfErr result (λ e. (e ≡ PlanFault.Memory)
+        ⊎ HasRunsFault (context_view cx.now) (map place_at ids.now) e) }
 {
     let mut packages = Vec::with_capacity(alloc, ids.len())?;
     let mut notices = Vec::new(alloc);
     for id in ids {
-        let (package, mut told) = chosen_package(alloc, cx, *id, single)?;
-        packages.push(package)?;
-        notices.append(&mut told)?;
+        match chosen_package(alloc, cx, *id, single) {
+            Ok((package, mut told)) => {
+                packages.push(package)?;
+                notices.append(&mut told)?;
+            }
+            Err(fault) => return Err(fault),
+        }
     }
     Ok((packages, notices))
 }

@@ -27,6 +27,9 @@ pub enum PlanFault {
     /// The range is refused, or a package under it.
     #[error("{0}")]
     Range(RangeFault),
+    /// The sample of this package, which a strength asks for, needs too many questions.
+    #[error("the sample of package `{0}` needs too many questions; use --depth or fewer groups")]
+    TooManyQuestions(String),
     /// There are more than 4294967295 places.
     #[error("too many runs")]
     TooManyRuns,

@@ -1,7 +1,7 @@
 //! The plan of a call: what is run, in order, given what was loaded.
 
 ghost use Rattle.std.specs.Prelude.{◌≡◌, ◌⊎◌, All, Contains, IfOk, IfErr, IfSome, IsSome, map};
-ghost use Rattle.std.specs.Prelude.{List, ℕ, Option, Ok, true};
+ghost use Rattle.std.specs.Prelude.{List, ℕ, None, Option, Ok, Some, true};
 ghost use Rattle.hack_metadata.specs.View.{place_at};
 ghost use Rattle.hack_load.specs.ContextView.{context_view};
 ghost use Rattle.hack_packages.specs.ContextMembers.{AreChosen, IsChoiceFault};
@@ -13,8 +13,9 @@ ghost use Rattle.hack_runs.specs.View.{call_view};
 ghost use Rattle.hack_calls.specs.Calls.{IsSceneOf, HasBadOwn, call_of};
 ghost use Rattle.hack_calls.specs.Covered.{AreCovered};
 ghost use Rattle.hack_calls.specs.Made.{IsPlan, IsCause, IsPlanOf, IsCauseOf, IsListFault};
-ghost use Rattle.hack_calls.specs.Made.{IsRangeFault};
+ghost use Rattle.hack_calls.specs.Made.{IsRangeFault, IsSureCause, IsSureCauseOf};
 ghost use Rattle.hack_calls.specs.Powersets.{HavePowersets};
+ghost use Rattle.hack_calls.specs.Samples.{HaveSamples, ArePatternsHeld};
 
 use crate::chosen::chosen_packages;
 use crate::fault::{PlanFault, of_packages, of_places, of_range};
@@ -52,6 +53,7 @@ pub fn plan_of(
     ensures covered { (latest : Option Version) → stable ≡ Ok latest
         → IsSome (context_view cx.now).args.subcommand
         → (context_view cx.now).args.feature_powerset ≡ true
+        → (context_view cx.now).args.strength ≡ None
         → ¬ ((context_view cx.now).args.workspace_behavior ≡ Cargo)
         → IfOk result (λ answer. AreCovered (context_view cx.now) latest answer.0) }
 
@@ -59,11 +61,28 @@ pub fn plan_of(
     // once.
     ensures powersets { IsSome (context_view cx.now).args.subcommand
         → (context_view cx.now).args.feature_powerset ≡ true
+        → (context_view cx.now).args.strength ≡ None
         → IfOk result (λ answer. HavePowersets (context_view cx.now) answer.0) }
 
-    // Where a plan is returned no cause holds: the call is refused exactly where one does.
+    // With a strength they are a sample of these: each of its sets is listed, and none is there
+    // twice; and each pattern of at most so many candidates that some listed set shows is shown.
+    ensures samples { (strength : ℕ) → IsSome (context_view cx.now).args.subcommand
+        → (context_view cx.now).args.feature_powerset ≡ true
+        → (context_view cx.now).args.strength ≡ Some strength
+        → IfOk result (λ answer. HaveSamples (context_view cx.now) strength answer.0) }
+
+    // Each such pattern has a place, for each package, each version that it uses and each slot.
+    ensures patterns { (strength : ℕ) (latest : Option Version) → stable ≡ Ok latest
+        → IsSome (context_view cx.now).args.subcommand
+        → (context_view cx.now).args.feature_powerset ≡ true
+        → (context_view cx.now).args.strength ≡ Some strength
+        → ¬ ((context_view cx.now).args.workspace_behavior ≡ Cargo)
+        → IfOk result (λ answer. ArePatternsHeld (context_view cx.now) strength latest answer.0) }
+
+    // Where a plan is returned no cause holds: the call is refused exactly where one does. (With a
+    // strength the number of runs is that of the sample that was found.)
     ensures never { IfOk result (λ _. (e : PlanFault)
-        → ¬ IsCauseOf (context_view cx.now).args.subcommand stable (context_view cx.now) e) }
+        → ¬ IsSureCauseOf (context_view cx.now).args.subcommand stable (context_view cx.now) e) }
     ensures err { IfErr result (λ e. (e ≡ PlanFault.Memory)
         ⊎ IsCauseOf (context_view cx.now).args.subcommand stable (context_view cx.now) e) }
 {
@@ -91,9 +110,11 @@ fn plan_by(
         (map note_of answer.1.items)) }
     ensures covered { (rustup : List ℕ) → call_view words ≡ call_of (context_view cx.now) rustup
         → (context_view cx.now).args.feature_powerset ≡ true
+        → (context_view cx.now).args.strength ≡ None
         → ¬ ((context_view cx.now).args.workspace_behavior ≡ Cargo)
         → IfOk result (λ answer. AreCovered (context_view cx.now) latest answer.0) }
-    ensures never { IfOk result (λ _. (e : PlanFault) → ¬ IsCause (context_view cx.now) latest e) }
+    ensures never { IfOk result (λ _. (e : PlanFault)
+        → ¬ IsSureCause (context_view cx.now) latest e) }
     ensures err { IfErr result (λ e. (e ≡ PlanFault.Memory)
         ⊎ IsCause (context_view cx.now) latest e) }
 {
@@ -101,7 +122,10 @@ fn plan_by(
     let scene = scene(alloc, cx, list.ids.as_slice())?;
     let (versions, mut on_range) = versions_of(alloc, &scene, latest)?;
     let ids = list.ids.as_slice();
-    let (packages, mut on_features) = chosen_packages(alloc, cx, ids, list.is_single)?;
+    let (packages, mut on_features) = match chosen_packages(alloc, cx, ids, list.is_single) {
+        Ok(answer) => answer,
+        Err(fault) => return Err(fault),
+    };
     let mut on_left_out = left_out(alloc, cx, ids, &scene, &versions)?;
     let plan = match Plan::of_scene(alloc, words, packages, &scene, &versions) {
         Ok(plan) => plan,

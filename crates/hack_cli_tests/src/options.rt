@@ -87,7 +87,7 @@ fn options_by_name(rt: HostRuntime) -> Result<(), Wrong> {
         rt.alloc(),
         "
             > all by name
-            | 45
+            | 46
             > long:
             | none
             > long: al
@@ -164,6 +164,8 @@ fn rows(rt: HostRuntime) -> Result<(), Wrong> {
             | GroupFeatures group-features Value often
             > row: partition-kind
             | PartitionKind partition-kind Value once
+            > row: strength
+            | Strength strength Value once
             > row: workspace-behavior
             | WorkspaceBehavior workspace-behavior Refused often
             > row: help
@@ -191,8 +193,10 @@ fn options_in_messages(rt: HostRuntime) -> Result<(), Wrong> {
 | --workspace-behavior=cargo|--workspace-behavior=cargo|no
 > include-deps-features
 | --include-deps-features|--include-deps-features|no
+> strength
+| --strength|--strength|no
 ",
-        "0 of 6 are wrong",
+        "0 of 7 are wrong",
     )
 }
 

@@ -281,6 +281,21 @@ const LATE: &str = r"[words] There is a subcommand, or a list is asked for.
 | --allow-together requires PACKAGE=FEATURES with two or more features, but found `p`
 > hack check --feature-powerset --mutually-exclusive-features a,b --allow-together p=b,a
 | --allow-together names no group of --mutually-exclusive-features: `p=b,a`
+[words] The strength of a sample.
+> hack check --each-feature --strength 2
+| --strength can only be used together with --feature-powerset
+> hack check --feature-powerset --strength x
+| invalid number `x`
+> hack check --feature-powerset --strength 0
+| --strength cannot be zero
+> hack check --feature-powerset --strength 2 --strength 3
+| The argument '--strength' was provided more than once, but cannot be used multiple times
+|
+| USAGE:
+|     cargo hack check --strength
+|
+| For more information try --help
+|
 [words] Notices.
 > hack check --each-feature --ignore-unknown-features --include-features a
 | args
@@ -292,5 +307,5 @@ const LATE: &str = r"[words] There is a subcommand, or a list is asked for.
 
 #[test]
 fn rules_behind_the_subcommand(rt: HostRuntime) -> Result<(), Wrong> {
-    checked(rt.alloc(), LATE, "0 of 19 are wrong")
+    checked(rt.alloc(), LATE, "0 of 23 are wrong")
 }

@@ -8,6 +8,7 @@
 //! - `count 24`: how many sets each of the three enumerations finds, and whether `pruned` asks few
 //!   questions: some, at most 24, and as many as are counted; `listed` asks no more.
 //! - `sample 2`: the sets of a sample of strength 2, by the places of their candidates.
+//! - `settings 0,2`: which candidates are on in this set; `settings_of_all`: with all features.
 //! - `powerset`: the sets of the numbers 1 to 4.
 //! - `order 0 1 0,1`: how each set compares with each.
 
@@ -113,6 +114,33 @@ fn sample(
         Err(SampleFault::Memory) => return Err(AllocError),
     }
     Ok(text)
+}
+
+/// Which candidates are on, by their places.
+fn on_text(alloc: Global, row: &[bool]) -> Result<String, AllocError> {
+    let mut text = String::new(alloc);
+    for (place, on) in row.iter().enumerate() {
+        push_between(&mut text, place, " ")?;
+        text.push_str(if *on { "on" } else { "off" })?;
+    }
+    Ok(text)
+}
+
+fn settings(
+    alloc: Global,
+    case: &Case,
+    refs: &[&Feature],
+    set: &[usize],
+) -> Result<String, AllocError> {
+    let rules = rules_of(alloc, case, refs)?;
+    let row = rules.settings(alloc, set)?;
+    on_text(alloc, row.as_slice())
+}
+
+fn settings_of_all(alloc: Global, case: &Case, refs: &[&Feature]) -> Result<String, AllocError> {
+    let rules = rules_of(alloc, case, refs)?;
+    let row = rules.settings_of_all(alloc)?;
+    on_text(alloc, row.as_slice())
 }
 
 /// Puts the set that covers this one behind the text.
@@ -272,6 +300,8 @@ fn answer(alloc: Global, scene: &str, question: &str) -> Result<String, AllocErr
         "all" => all(alloc, &case, refs),
         "ask" => may_follow(alloc, &case, refs, set.as_slice(), next),
         "sample" => sample(alloc, &case, refs, word.parse::<usize>().unwrap_or(0)),
+        "settings" => settings(alloc, &case, refs, set.as_slice()),
+        "settings_of_all" => settings_of_all(alloc, &case, refs),
         "count" => count(alloc, &case, refs, word.parse::<u128>().unwrap_or(0)),
         _ => of_sets(alloc, kind, rest),
     }

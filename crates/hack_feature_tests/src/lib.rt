@@ -27,6 +27,8 @@ mod samples;
 #[cfg(test)]
 mod scenes;
 #[cfg(test)]
+mod settings;
+#[cfg(test)]
 mod shown;
 #[cfg(test)]
 mod streams;

@@ -1,14 +1,14 @@
 -- What a sample of sets, as truth values, says of sets of positions.
-use Rattle.std.proofs.Common.{◌≡◌, ◌≢◌, ℕ, zero, suc, ◌+◌, ◌<◌, ◌≤◌, List, [], ◌∷◌, ◌++◌, length, get_or, map, take, replicate, refl, sym, ◌∙◌, ap, subst, arith, Bool, true, false, ◌⊎◌, inl, inr, ◌↔◌, IsTrue, All, AllPairs, Contains}
+use Rattle.std.proofs.Common.{◌≡◌, ◌≢◌, ℕ, zero, suc, ◌+◌, ◌<◌, ◌≤◌, List, [], ◌∷◌, ◌++◌, length, get_or, map, take, replicate, refl, sym, ◌∙◌, ap, subst, arith, Bool, true, false, inl, inr, ◌↔◌, IsTrue, All, AllPairs, Contains}
 use Rattle.std.specs.Prelude.{◌&&◌, ◌||◌, ◌==◌}
 use Rattle.std.specs.List.{list_all, list_any, range_with_len}
-use Rattle.std.proofs.lemmas.Bool.{and_parts, and_from, cases_lt}
+use Rattle.std.proofs.lemmas.Bool.{and_parts, and_from}
 use Rattle.std.proofs.lemmas.Bool.Decides.{eqb_tells}
-use Rattle.std.proofs.lemmas.List.{take_all, get_or-replicate, get_or_past}
+use Rattle.std.proofs.lemmas.List.{take_all, get_or-replicate}
 use Rattle.std.proofs.Math.ListN.{get_or-map}
 use Rattle.std.proofs.lemmas.List.FromFn.{get_or-map-range_with_len, length-map-range_with_len}
 use Rattle.std.proofs.lemmas.List.Folds.{list_all-append}
-use Rattle.std.proofs.lemmas.List.Elements.{All-map, All-weaker, All-contains, All-nil, Contains-get_or}
+use Rattle.std.proofs.lemmas.List.Elements.{All-map, All-weaker, All-contains, Contains-get_or}
 use Rattle.hack_base.proofs.Members.{Contains-nil, Contains-head, Contains-map}
 use Rattle.hack_base.proofs.Passes.{some_passes, any_passes, all_pass, each_passes}
 use Rattle.hack_samples.specs.Sets.{has, has_one_of, has_each, is_on}
@@ -31,6 +31,7 @@ use Rattle.hack_features.proofs.Listing.{selection_none, selection_push, selecti
 use Rattle.hack_features.proofs.CoverLemmas.{ordered, set_enables_iff}
 use Rattle.hack_features.proofs.MemberLemmas.{seen-hit, seen-missed, member_iff, meet-either, both_told}
 use Rattle.hack_features.proofs.RuleLemmas.{tables_of, placed_of, permitted_iff, required_iff_whole}
+use Rattle.hack_features.proofs.SettingLemmas.{at_any}
 
 selection-by : (s : List Bool) (k : ℕ) → k < length s → (b : Bool) → has s k ≡ b → IsSelection k (positions_of (take k s)) → IsSelection (suc k) (positions_of (take (k + 1) s))
 selection-by s k lt true e h = subst (IsSelection (suc k)) (sym (seen-hit s k lt e)) (selection_push k (positions_of (take k s)) h)
@@ -141,14 +142,8 @@ module _ (r : Rules) where
   low s e = (selected (length c.candidates) s (e ∙ sym all_of)).below
 
   -- the places of a candidate's names
-  at_by : (p : ℕ) → (p < length c.candidates) ⊎ (length c.candidates ≤ p) → AreAt names (get_or cands p []) (names_at c p)
-  at_by p (inl lt) = (placed_of r).candidates_at.each p lt
-  at_by p (inr le) =
-      subst (λ l. AreAt names l (names_at c p)) (sym (get_or_past cands p [] (omega (arith, (placed_of r).candidates_at.count))))
-      (subst (λ l. AreAt names [] l) (sym (get_or_past c.candidates p [] le)) (record { within = All-nil (λ p. p < length names); same = refl }))
-
   at : (p : ℕ) → AreAt names (get_or cands p []) (names_at c p)
-  at p = at_by p (cases_lt p (length c.candidates))
+  at p = at_any names cands c.candidates (placed_of r).candidates_at p
 
   -- a member that provides a name
   one-provides : (s : List Bool) (y : ℕ) → has_one_of s (providers_of marks cands y) ≡ set_enables_test marks cands (positions_of s) y

@@ -17,7 +17,7 @@ use hack_samples::{Allowed, SampleFault, sample};
 use std::alloc::{AllocError, Global};
 
 /// Whether one of the names leads to `y`.
-fn one_leads(routes: &Routes, names: &[usize], y: usize) -> bool
+pub(crate) fn one_leads(routes: &Routes, names: &[usize], y: usize) -> bool
     ensures { result ≡ one_leads (rows_of routes.now.marks.items) y names.now }
 {
     for x in names {

@@ -55,6 +55,7 @@ long_option-name opt.Version = refl
 long_option-name opt.NoDefaultFeatures = refl
 long_option-name opt.AllFeatures = refl
 long_option-name opt.IncludeDepsFeatures = refl
+long_option-name opt.Strength = refl
 
 pub short_option-letter : (o : Opt) → IfSome (entry_of o).letter (λ c. short_option c ≡ Some o)
 short_option-letter opt.Package = refl
@@ -102,6 +103,7 @@ short_option-letter opt.Version = refl
 short_option-letter opt.NoDefaultFeatures = tt
 short_option-letter opt.AllFeatures = tt
 short_option-letter opt.IncludeDepsFeatures = tt
+short_option-letter opt.Strength = tt
 
 -- ---- an option that is found has the name, or the letter
 

@@ -95,6 +95,7 @@ entry_of opt.Version = or_letter (codes "V") (many (codes "version") Version [])
 entry_of opt.NoDefaultFeatures = out_of_help (many (codes "no-default-features") Flag [])
 entry_of opt.AllFeatures = out_of_help (many (codes "all-features") Flag [])
 entry_of opt.IncludeDepsFeatures = out_of_help (flag (codes "include-deps-features"))
+entry_of opt.Strength = out_of_help (once (codes "strength") Value (codes "<NUM>"))
 
 -- the option that an alias means
 abbrev pub meaning_of : Opt → Opt

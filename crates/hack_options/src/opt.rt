@@ -61,6 +61,7 @@ pub enum Opt {
     NoDefaultFeatures,
     AllFeatures,
     IncludeDepsFeatures,
+    Strength,
 }
 
 /// The option as messages name it. `--workspace-behavior` is shown with `cargo`, the only value

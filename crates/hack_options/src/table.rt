@@ -24,7 +24,8 @@ pub struct Row {
     /// What the help shows after the name, such as `<PATH>`; empty where the option takes no value,
     /// or has it in its name, as in `--workspace-behavior=cargo`.
     pub value: &'static str,
-    /// The texts of the help. Two options of Cargo and `--include-deps-features` have no row there.
+    /// The texts of the help. Two options of Cargo, `--include-deps-features` and `--strength` have
+    /// no row there.
     pub(crate) told: Option<HelpText>,
 }
 
@@ -57,7 +58,7 @@ pub enum Kind {
 }
 
 /// All options, in the order of the help; those that the help doesn't show come last.
-pub const ALL: [Opt; 45] = [
+pub const ALL: [Opt; 46] = [
     Opt::Package,
     Opt::All,
     Opt::Workspace,
@@ -103,6 +104,7 @@ pub const ALL: [Opt; 45] = [
     Opt::NoDefaultFeatures,
     Opt::AllFeatures,
     Opt::IncludeDepsFeatures,
+    Opt::Strength,
 ];
 
 impl Row {
@@ -204,6 +206,7 @@ fn syntax(option: Opt) -> Row
         Opt::NoDefaultFeatures => many("no-default-features", Kind::Flag, ""),
         Opt::AllFeatures => many("all-features", Kind::Flag, ""),
         Opt::IncludeDepsFeatures => flag("include-deps-features"),
+        Opt::Strength => once("strength", Kind::Value, "<NUM>"),
     }
 }
 
@@ -373,7 +376,8 @@ fn help_text(option: Opt) -> Option<HelpText>
         ),
         Opt::Help => brief("Prints help information"),
         Opt::Version => brief("Prints version information"),
-        Opt::NoDefaultFeatures | Opt::AllFeatures | Opt::IncludeDepsFeatures => None,
+        Opt::NoDefaultFeatures | Opt::AllFeatures => None,
+        Opt::IncludeDepsFeatures | Opt::Strength => None,
     }
 }
 

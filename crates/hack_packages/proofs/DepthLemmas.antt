@@ -1,5 +1,5 @@
 -- Sets of one candidate: those that a powerset lists are each candidate alone, and their runs are those of each feature.
-use Rattle.std.proofs.Common.{◌≡◌, ◌∙◌, ◌≢◌, ℕ, zero, suc, ◌+◌, ◌<◌, ◌≤◌, List, [], ◌∷◌, ◌++◌, length, map, Contains, All, Option, Some, Bool, true, false, not, inl, inr, refl, ap, sym, subst, arith}
+use Rattle.std.proofs.Common.{◌≡◌, ◌∙◌, ◌≢◌, ℕ, zero, suc, ◌+◌, ◌<◌, ◌≤◌, List, [], ◌∷◌, ◌++◌, length, map, Contains, All, Option, None, Some, Bool, true, false, not, inl, inr, refl, ap, sym, subst, arith}
 use Rattle.std.specs.Prelude.{nat_lt, ◌&&◌, ◌||◌, if◌then◌else◌}
 use Rattle.std.specs.List.{range_with_len}
 use Rattle.std.proofs.lemmas.Bool.{lt-ltb}
@@ -13,7 +13,7 @@ use Rattle.hack_features.proofs.Listing.{selection_none, selection_push, selecti
 use Rattle.hack_features.proofs.CoverLemmas.{before_trans}
 use Rattle.hack_plan.specs.Runs.{PackageRun, Plain, AllFeatures, NoDefaultFeatures, Set, is_plain, keeps_all, run_if, with_last_first, in_turn, allows_two, is_unlimited}
 use Rattle.hack_packages.specs.Candidates.{Wishes, Known, candidates, lifted_for}
-use Rattle.hack_packages.specs.Kinds.{AreSetRuns, AreRuns, AreSets, RunsBy, IsDepthOne, as_each, asks, choice_of, options_of}
+use Rattle.hack_packages.specs.Kinds.{ArePowersets, AreSetRuns, AreRuns, AreSets, RunsBy, IsDepthOne, as_each, asks, choice_of, options_of}
 
 in-none : {X : Type 0} (x : X) → Contains [] x → ⊥
 in-none x c = absurd (omega (arith, c.1))
@@ -157,7 +157,8 @@ depth-one w p runs h some are =
     let asked : asks w ≡ true = ap (λ b. w.each || b) h.powerset ∙ or-true w.each in
     let r : AreSetRuns w p runs = subst (λ b. RunsBy b w p runs) asked are in
     let n = length (candidates w p) in
-    let listing : IsListing n (IsListed (choice_of w p)) r.sets = subst (λ b. AreSets b w p r.sets) h.powerset r.are_sets in
+    let picked : AreSets true w p r.sets = subst (λ b. AreSets b w p r.sets) h.powerset r.are_sets in
+    let listing : ArePowersets None (choice_of w p) n r.sets = subst (λ o. ArePowersets o (choice_of w p) n r.sets) h.all picked in
     let none : unlifted_groups w.exclusive (lifted_for w p.name) ≡ [] = ap (λ l. unlifted_groups l (lifted_for w p.name)) h.exclusive in
     let same : r.sets ≡ singles n = all-single n (choice_of w p) r.sets h.depth none h.at_least_one_of listing in
     let o = options_of w p in

@@ -3,3 +3,5 @@ pub mod CandidateLemmas
 pub mod KindLemmas
 pub mod PackageLemmas
 pub mod DepthLemmas
+pub mod RowLemmas
+pub mod SampleLemmas

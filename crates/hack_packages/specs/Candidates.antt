@@ -23,6 +23,7 @@ pub record Wishes : Type 0 where
   pub each : Bool
   pub powerset : Bool
   pub depth : Option ℕ
+  pub strength : Option ℕ
   pub optional_deps : Option (List Name)
   pub deps_features : Bool
   pub included : List Names

@@ -1,11 +1,15 @@
 -- Which runs a package has.
-use Rattle.std.specs.Prelude.{◌≡◌, ℕ, List, [], ◌∷◌, Bool, true, false, not, ◌||◌, Option, None, Some, length, Contains}
-use Rattle.std.specs.List.{flat_map, slice_index_or}
+use Rattle.std.specs.Prelude.{◌≡◌, ◌≤◌, ℕ, List, [], ◌∷◌, Bool, true, false, not, ◌||◌, Option, None, Some, length, Contains}
+use Rattle.std.specs.List.{flat_map, slice_index_or, AllZip}
 use Rattle.hack_base.specs.Names.{Name}
 use Rattle.hack_features.specs.Sets.{IsListing, IsSelection, singles}
 use Rattle.hack_features.specs.Rules.{Choice, IsListed, IsWanted, Covers, unlifted_groups}
+use Rattle.hack_features.specs.Samples.{IsSample, CoversPatterns}
+use Rattle.hack_features.specs.Settings.{AreSettings, AreSettingsOfAll}
+use Rattle.hack_features.specs.View as rules
+use Rattle.hack_features.specs.declared.rules.Rules.{Rules}
 use Rattle.hack_plan.specs.declared.runs.RunOptions.{RunOptions}
-use Rattle.hack_plan.specs.Runs.{PackageRun, Plain, Set, is_plain, runs_from}
+use Rattle.hack_plan.specs.Runs.{PackageRun, Plain, AllFeatures, NoDefaultFeatures, Set, is_plain, runs_from}
 use Rattle.hack_packages.specs.Candidates.{Names, Wishes, Known, candidates, is_bare, lifted_for}
 
 -- what the sets of a package are chosen from
@@ -30,9 +34,15 @@ options_of w p = record {
   exclude_no_default_features = w.exclude_no_default_features;
 }
 
--- the sets of a package: under a powerset those that are listed, else each candidate alone
+-- the sets of a powerset: all that are listed, or with a strength a sample of them, which shows each pattern of at most so
+-- many candidates that some listed set shows
+abbrev pub ArePowersets : Option ℕ → Choice → ℕ → List (List ℕ) → Type 0
+ArePowersets None c n sets = IsListing n (IsListed c) sets
+ArePowersets (Some strength) c n sets = IsSample c n sets × CoversPatterns c n strength sets
+
+-- the sets of a package: under a powerset those that are listed or a sample of them, else each candidate alone
 abbrev pub AreSets : Bool → Wishes → Known → List (List ℕ) → Type 0
-AreSets true w p sets = IsListing (length (candidates w p)) (IsListed (choice_of w p)) sets
+AreSets true w p sets = ArePowersets w.strength (choice_of w p) (length (candidates w p)) sets
 AreSets false w p sets = sets ≡ singles (length (candidates w p))
 
 -- the runs are those of the package's sets
@@ -72,13 +82,39 @@ abbrev pub AreCovering : Wishes → Known → List PackageRun → Type 0
 AreCovering w p runs = (s : List ℕ) → IsSelection (length (candidates w p)) s → IsWanted (choice_of w p) s
     → (t : List ℕ) × Covers (choice_of w p) s t × Contains runs (Set t)
 
+-- the row says which candidates are on in a run: those that its set enables, or that all features do
+abbrev pub IsRowOf : Choice → PackageRun → List Bool → Type 0
+IsRowOf c Plain row = AreSettings c [] row
+IsRowOf c AllFeatures row = AreSettingsOfAll c row
+IsRowOf c NoDefaultFeatures row = AreSettings c [] row
+IsRowOf c (Set s) row = AreSettings c s row
+
+-- with a strength there is a row for each run, else none
+abbrev pub AreRunSettings : Option ℕ → Choice → List PackageRun → List (List Bool) → Type 0
+AreRunSettings None c runs rows = rows ≡ []
+AreRunSettings (Some strength) c runs rows = AllZip (IsRowOf c) runs rows
+
+-- how many questions are asked at most for the sample of a package
+abbrev pub most_questions : ℕ
+most_questions = 20000000
+
+-- the package has no sample: rules of its choice were asked as many questions for one as are asked at most
+pub record IsUnsampled (w : Wishes) (p : Known) : Type 0 where
+  pub strength : ℕ
+  pub powerset : w.powerset ≡ true
+  pub given : w.strength ≡ Some strength
+  pub asked : Rules
+  pub made_for : rules.choice_of asked ≡ choice_of w p
+  pub spent : most_questions ≤ rules.asked_of asked
+
 -- the names of the candidates at the positions, one after another
 abbrev pub names_at : List Names → List ℕ → List Name
 names_at list positions = flat_map (λ p. slice_index_or list p []) positions
 
--- the call asks for a powerset of sets of one candidate, and for no exclusions and none of which some feature is wanted
+-- the call asks for all sets of one candidate, and for no exclusions and none of which some feature is wanted
 pub record IsDepthOne (w : Wishes) : Type 0 where
   pub powerset : w.powerset ≡ true
+  pub all : w.strength ≡ None
   pub depth : w.depth ≡ Some 1
   pub exclusive : w.exclusive ≡ []
   pub at_least_one_of : w.at_least_one_of ≡ []

@@ -6,7 +6,9 @@ use Rattle.hack_plan.specs.RunsView.{runs_in}
 use Rattle.hack_packages.specs.declared.kind.Kind.{Kind}
 use Rattle.hack_packages.specs.declared.kind.Kind.TheVariants.{Normal, Each, Powerset}
 use Rattle.hack_packages.specs.Candidates.{Names, Wishes, Known, candidates}
-use Rattle.hack_packages.specs.Kinds.{HasPlainRun, HasSetRuns}
+use Rattle.hack_packages.specs.Kinds.{HasPlainRun, HasSetRuns, IsUnsampled}
+use Rattle.hack_samples.specs.declared.fault.SampleFault.{SampleFault}
+use Rattle.hack_samples.specs.declared.fault.SampleFault.TheVariants.{Memory, TooManyQuestions}
 
 -- the runs of a kind, by rank
 abbrev pub runs_of : Kind → List PackageRun
@@ -25,3 +27,8 @@ abbrev pub IsKind : Wishes → Known → Kind → Type 0
 IsKind w p Normal = HasPlainRun w p
 IsKind w p (Each list runs) = (w.each ≡ true) × (w.powerset ≡ false) × (groups_of list.items ≡ candidates w p) × HasSetRuns w p (runs_in runs)
 IsKind w p (Powerset list runs) = (w.powerset ≡ true) × (groups_of list.items ≡ candidates w p) × HasSetRuns w p (runs_in runs)
+
+-- why a package has no runs, besides memory: its sample needs too many questions
+abbrev pub IsRunsFault : Wishes → Known → SampleFault → Type 0
+IsRunsFault w p Memory = ⊥
+IsRunsFault w p TooManyQuestions = IsUnsampled w p

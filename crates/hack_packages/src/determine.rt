@@ -1,6 +1,6 @@
 //! Which packages a loaded call runs on, and which runs each of them has.
 
-ghost use Rattle.std.specs.Prelude.{◌≡◌, ◌<◌, ◌⊎◌, Contains, IfOk, IfErr, Some, length, map, true};
+ghost use Rattle.std.specs.Prelude.{◌≡◌, ◌<◌, ◌⊎◌, Contains, IfOk, IfErr, None, Some, length, map, true};
 ghost use Rattle.std.specs.Prelude.{option_copied};
 ghost use Rattle.hack_load.specs.Contexts.{IsWhole, package_at, features_at};
 ghost use Rattle.hack_load.specs.ContextView.{context_view};
@@ -11,7 +11,9 @@ ghost use Rattle.hack_packages.specs.MembersView.{member_view};
 ghost use Rattle.hack_packages.specs.Candidates.{candidate_notes};
 ghost use Rattle.hack_packages.specs.CandidatesView.{wishes};
 ghost use Rattle.hack_packages.specs.Kinds.{AreRuns, AreCovering, IsDepthOne, as_each};
-ghost use Rattle.hack_packages.specs.KindsView.{IsKind, runs_of};
+ghost use Rattle.hack_packages.specs.Kinds.{AreRunSettings, choice_of};
+ghost use Rattle.hack_features.specs.Sets.{rows_of};
+ghost use Rattle.hack_packages.specs.KindsView.{IsKind, IsRunsFault, runs_of};
 ghost use Rattle.hack_packages.specs.ContextMembers.{member_at, members_in, name_at as named_at};
 ghost use Rattle.hack_packages.specs.ContextMembers.{current_name as current_called};
 ghost use Rattle.hack_packages.specs.ContextMembers.{AreChosen, IsChoiceFault, known_as};
@@ -21,6 +23,7 @@ use crate::kind::{PackageRuns, determine_runs};
 use crate::member::Member;
 use crate::packages::{PackageList, choose_packages};
 use hack_base::notice::Notice;
+use hack_features::SampleFault;
 use hack_load::context::Context;
 use hack_metadata::metadata::PackageId;
 use std::alloc::{AllocError, Global};
@@ -96,7 +99,7 @@ pub fn determine_kind(
     context: &Context,
     id: PackageId,
     single: bool,
-) -> Result<(PackageRuns, Vec<Notice>), AllocError>
+) -> Result<(PackageRuns, Vec<Notice>), SampleFault>
     requires { Contains (context_view context.now).metadata.workspace_members id.index }
     ensures id { IfOk result (λ answer. answer.0.id ≡ id) }
     ensures kind { (p : PackageRecord) (features : Loaded)
@@ -110,11 +113,13 @@ pub fn determine_kind(
         → IfOk result (λ answer. AreRuns (wishes (context_view context.now).args)
         (known_as p features) (runs_of answer.0.kind)) }
 
-    // Under a powerset each set of candidates that has to be covered has a run that covers it.
+    // Under a powerset of all sets, each set of candidates that has to be covered has a run that
+    // covers it.
     ensures covered { (p : PackageRecord) (features : Loaded)
         → package_at (context_view context.now) id.index ≡ Some p
         → features_at (context_view context.now) id.index ≡ Some features
         → (context_view context.now).args.feature_powerset ≡ true
+        → (context_view context.now).args.strength ≡ None
         → IfOk result (λ answer. AreCovering (wishes (context_view context.now).args)
         (known_as p features) (runs_of answer.0.kind)) }
 
@@ -131,6 +136,20 @@ pub fn determine_kind(
         → features_at (context_view context.now) id.index ≡ Some features
         → IfOk result (λ answer. map note_of answer.1.items
         ≡ candidate_notes single (wishes (context_view context.now).args) (known_as p features)) }
+
+    ensures settings { (p : PackageRecord) (features : Loaded)
+        → package_at (context_view context.now) id.index ≡ Some p
+        → features_at (context_view context.now) id.index ≡ Some features
+        → IfOk result (λ answer. AreRunSettings (context_view context.now).args.strength
+        (choice_of (wishes (context_view context.now).args) (known_as p features))
+        (runs_of answer.0.kind) (rows_of answer.0.settings.items)) }
+
+    // Besides memory only a sample that needs too many questions is an error.
+    ensures err { (p : PackageRecord) (features : Loaded)
+        → package_at (context_view context.now) id.index ≡ Some p
+        → features_at (context_view context.now) id.index ≡ Some features
+        → IfErr result (λ e. (e ≡ SampleFault.Memory)
+        ⊎ IsRunsFault (wishes (context_view context.now).args) (known_as p features) e) }
 {
     let _ = context.workspace_members();
     let pkg = context.packages(id);

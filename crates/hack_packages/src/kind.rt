@@ -1,7 +1,7 @@
 //! The runs of a package, and its candidates.
 
-ghost use Rattle.std.specs.Prelude.{◌≡◌, ◌<◌, ◌++◌, [], IfOk};
-ghost use Rattle.std.specs.Prelude.{OnOk, Some, length, map, slice_get, true};
+ghost use Rattle.std.specs.Prelude.{◌≡◌, ◌<◌, ◌⊎◌, ◌++◌, [], IfErr, IfOk};
+ghost use Rattle.std.specs.Prelude.{None, OnOk, Some, length, map, slice_get, string_bytes, true};
 ghost use Rattle.std.specs.List.{slice_index_or};
 ghost use Rattle.hack_features.specs.Feature.{groups_of, candidates_of};
 ghost use Rattle.hack_features.specs.Forest.{sets_in};
@@ -15,12 +15,17 @@ ghost use Rattle.hack_packages.specs.CandidatesView.{wishes, known_of_package};
 ghost use Rattle.hack_packages.specs.Kinds.{AreSets, AreRuns, options_of};
 ghost use Rattle.hack_packages.specs.Kinds.{takes_all as all_taken, names_at};
 ghost use Rattle.hack_packages.specs.Kinds.{AreCovering, choice_of, IsDepthOne, as_each};
-ghost use Rattle.hack_packages.specs.KindsView.{IsKind, runs_of, candidates_in};
+ghost use Rattle.hack_packages.specs.Kinds.{IsRowOf, AreRunSettings};
+ghost use Rattle.hack_packages.specs.Candidates.{lifted_for};
+ghost use Rattle.hack_features.specs.Sets.{rows_of};
+ghost use Rattle.hack_features.specs.View.{choice_of as rules_choice, size_of, asked_of};
+ghost use Rattle.std.specs.List.{AllZip};
+ghost use Rattle.hack_packages.specs.KindsView.{IsKind, IsRunsFault, runs_of, candidates_in};
 
 use crate::candidates::{candidates, is_bare, notes_on};
 use crate::lifts::lifted_groups;
 use hack_base::notice::Notice;
-use hack_features::{Feature, FeatureSets, Rules};
+use hack_features::{Feature, FeatureSets, Rules, SampleFault};
 use hack_load::features::Features;
 use hack_metadata::metadata::{Package, PackageId};
 use hack_plan::runs::{Run, RunOptions, Runs};
@@ -37,7 +42,7 @@ pub enum Kind {
         candidates: Vec<Feature>,
         runs: Runs,
     },
-    /// A run for each set of candidates that is listed, and those without.
+    /// A run for each set of candidates that is listed, or of a sample, and those without.
     Powerset {
         candidates: Vec<Feature>,
         runs: Runs,
@@ -132,6 +137,8 @@ pub struct PackageRuns {
     pub kind: Kind,
     /// How many runs there are.
     pub feature_count: usize,
+    /// With a strength, for each run which candidates are on in it; else nothing.
+    pub settings: Vec<Vec<bool>>,
     ghost counted: { feature_count ≡ length (runs_of kind) },
 }
 
@@ -155,40 +162,75 @@ fn all_of<'a>(alloc: Global, features: &'a [Feature]) -> Result<Vec<&'a Feature>
     Ok(all)
 }
 
-/// The sets of candidates that are listed.
-fn listed_sets(
+/// The rules of the package for these candidates, all of them.
+fn rules_of<'a>(
     alloc: Global,
-    args: &Args,
-    pkg: &Package,
-    candidates: &[Feature],
-) -> Result<FeatureSets, AllocError>
-    ensures sets { (features : Loaded)
-        → groups_of candidates.now ≡ are_candidates (wishes args.now)
+    args: &'a Args,
+    pkg: &'a Package,
+    all: &'a [&'a Feature],
+    lifted: &'a [bool],
+) -> Result<Rules<'a>, AllocError>
+    ensures choice { (features : Loaded)
+        → candidates_of all.now ≡ are_candidates (wishes args.now)
         (known_of_package pkg.now features)
-        → IfOk result (λ sets. AreSets true (wishes args.now) (known_of_package pkg.now features)
-        (sets_in
-        sets)) }
-    ensures covers { (features : Loaded)
-        → groups_of candidates.now ≡ are_candidates (wishes args.now)
-        (known_of_package pkg.now features)
-        → IfOk result (λ sets. AreCovers (choice_of (wishes args.now)
-        (known_of_package pkg.now features))
-        (length (are_candidates (wishes args.now) (known_of_package pkg.now features)))
-        (sets_in sets)) }
+        → lifted.now ≡ lifted_for (wishes args.now) (string_bytes pkg.now.name)
+        → IfOk result (λ rules. rules_choice rules
+        ≡ choice_of (wishes args.now) (known_of_package pkg.now features)) }
+    ensures size { IfOk result (λ rules. size_of rules ≡ length all.now) }
+    ensures fresh { IfOk result (λ rules. asked_of rules ≡ 0) }
 {
-    let lifted = lifted_groups(alloc, args, pkg.name.as_str())?;
-    let all = all_of(alloc, candidates)?;
-    let mut rules = Rules::new(
+    Rules::new(
         alloc,
-        all.as_slice(),
+        all,
         args.depth,
         args.at_least_one_of.as_slice(),
         args.mutually_exclusive_features.as_slice(),
         &pkg.features,
-        lifted.as_slice(),
-    )?;
-    let found = rules.listed(alloc)?;
-    Ok(found.sets)
+        lifted,
+    )
+}
+
+/// How many questions are asked at most for the sample of a package: more than any that is tried in
+/// the tests needs, and asked in seconds.
+const MOST_QUESTIONS: u64 = 20_000_000;
+
+/// The sets of candidates that are listed, or with a strength a sample of them.
+fn powerset_sets(
+    alloc: Global,
+    args: &Args,
+    pkg: &Package,
+    candidates: &[Feature],
+) -> Result<FeatureSets, SampleFault>
+    ensures sets { (features : Loaded)
+        → groups_of candidates.now ≡ are_candidates (wishes args.now)
+        (known_of_package pkg.now features)
+        → IfOk result (λ sets. AreSets true (wishes args.now) (known_of_package pkg.now features)
+        (sets_in sets)) }
+    ensures covers { (features : Loaded)
+        → groups_of candidates.now ≡ are_candidates (wishes args.now)
+        (known_of_package pkg.now features)
+        → args.now.strength ≡ None
+        → IfOk result (λ sets. AreCovers (choice_of (wishes args.now)
+        (known_of_package pkg.now features))
+        (length (are_candidates (wishes args.now) (known_of_package pkg.now features)))
+        (sets_in sets)) }
+    ensures err { (features : Loaded)
+        → groups_of candidates.now ≡ are_candidates (wishes args.now)
+        (known_of_package pkg.now features)
+        → args.now.feature_powerset ≡ true
+        → IfErr result (λ e. (e ≡ SampleFault.Memory)
+        ⊎ IsRunsFault (wishes args.now) (known_of_package pkg.now features) e) }
+{
+    let lifted = lifted_groups(alloc, args, pkg.name.as_str())?;
+    let all = all_of(alloc, candidates)?;
+    let mut rules = rules_of(alloc, args, pkg, all.as_slice(), lifted.as_slice())?;
+    match args.strength {
+        Some(strength) => rules.sample(alloc, strength, MOST_QUESTIONS),
+        None => {
+            let found = rules.listed(alloc)?;
+            Ok(found.sets)
+        }
+    }
 }
 
 /// The sets of a package.
@@ -197,7 +239,7 @@ fn sets_of(
     args: &Args,
     pkg: &Package,
     candidates: &[Feature],
-) -> Result<FeatureSets, AllocError>
+) -> Result<FeatureSets, SampleFault>
     ensures sets { (features : Loaded)
         → groups_of candidates.now ≡ are_candidates (wishes args.now)
         (known_of_package pkg.now features)
@@ -207,15 +249,21 @@ fn sets_of(
         → groups_of candidates.now ≡ are_candidates (wishes args.now)
         (known_of_package pkg.now features)
         → args.now.feature_powerset ≡ true
+        → args.now.strength ≡ None
         → IfOk result (λ sets. AreCovers (choice_of (wishes args.now)
         (known_of_package pkg.now features))
         (length (are_candidates (wishes args.now) (known_of_package pkg.now features)))
         (sets_in sets)) }
+    ensures err { (features : Loaded)
+        → groups_of candidates.now ≡ are_candidates (wishes args.now)
+        (known_of_package pkg.now features)
+        → IfErr result (λ e. (e ≡ SampleFault.Memory)
+        ⊎ IsRunsFault (wishes args.now) (known_of_package pkg.now features) e) }
 {
     if args.feature_powerset {
-        listed_sets(alloc, args, pkg, candidates)
+        powerset_sets(alloc, args, pkg, candidates)
     } else {
-        FeatureSets::singles(alloc, candidates.len())
+        Ok(FeatureSets::singles(alloc, candidates.len())?)
     }
 }
 
@@ -252,10 +300,13 @@ fn kind_of(
     args: &Args,
     pkg: &Package,
     features: &Features,
-) -> Result<Kind, AllocError>
+) -> Result<Kind, SampleFault>
     ensures kind { IfOk result (IsKind (wishes args.now) (known_of_package pkg.now features.now)) }
     ensures covered { IfOk result (λ kind. args.now.feature_powerset ≡ true
+        → args.now.strength ≡ None
         → AreCovering (wishes args.now) (known_of_package pkg.now features.now) (runs_of kind)) }
+    ensures err { IfErr result (λ e. (e ≡ SampleFault.Memory)
+        ⊎ IsRunsFault (wishes args.now) (known_of_package pkg.now features.now) e) }
 {
     if !args.each_feature && !args.feature_powerset {
         return Ok(Kind::Normal);
@@ -274,6 +325,61 @@ fn kind_of(
     }
 }
 
+/// Which candidates are on in a run. A plain run has no set.
+fn settings_in(
+    alloc: Global,
+    rules: &Rules,
+    run: Run,
+    positions: &[usize],
+) -> Result<Vec<bool>, AllocError>
+    ensures { IfOk result (λ row. IsRowOf (rules_choice rules.now)
+        (run_of run positions.now) row.items) }
+{
+    match run {
+        Run::AllFeatures => rules.settings_of_all(alloc),
+        Run::Features => rules.settings(alloc, positions),
+        Run::Plain => rules.settings(alloc, &[]),
+        Run::NoDefaultFeatures => rules.settings(alloc, &[]),
+    }
+}
+
+/// For each run of the kind which candidates are on in it.
+fn rows_of_runs(alloc: Global, rules: &Rules, kind: &Kind) -> Result<Vec<Vec<bool>>, AllocError>
+    ensures { IfOk result (λ rows. AllZip (IsRowOf (rules_choice rules.now))
+        (runs_of kind.now) (rows_of rows.items)) }
+{
+    let mut rows = Vec::new(alloc);
+    let mut positions = Vec::new(alloc);
+    for rank in 0..kind.count() {
+        let run = kind.run(rank, &mut positions)?;
+        let row = settings_in(alloc, rules, run, positions.as_slice())?;
+        rows.push(row)?;
+    }
+    Ok(rows)
+}
+
+/// With a strength, for each run of the kind which candidates are on in it.
+fn run_settings(
+    alloc: Global,
+    args: &Args,
+    pkg: &Package,
+    features: &Features,
+    kind: &Kind,
+) -> Result<Vec<Vec<bool>>, AllocError>
+    ensures { IfOk result (λ rows. AreRunSettings args.now.strength
+        (choice_of (wishes args.now) (known_of_package pkg.now features.now))
+        (runs_of kind.now) (rows_of rows.items)) }
+{
+    if args.strength.is_none() {
+        return Ok(Vec::new(alloc));
+    }
+    let candidates = candidates(alloc, args, pkg, features)?;
+    let lifted = lifted_groups(alloc, args, pkg.name.as_str())?;
+    let all = all_of(alloc, &candidates)?;
+    let rules = rules_of(alloc, args, pkg, all.as_slice(), lifted.as_slice())?;
+    rows_of_runs(alloc, &rules, kind)
+}
+
 /// The runs of a package, and what the user is told of its features. `single` says whether it is
 /// the only package that is left after exclusions.
 pub fn determine_runs(
@@ -283,15 +389,17 @@ pub fn determine_runs(
     pkg: &Package,
     features: &Features,
     single: bool,
-) -> Result<(PackageRuns, Vec<Notice>), AllocError>
+) -> Result<(PackageRuns, Vec<Notice>), SampleFault>
     ensures id { IfOk result (λ answer. answer.0.id ≡ id) }
     ensures kind { IfOk result (λ answer.
         IsKind (wishes args.now) (known_of_package pkg.now features.now) answer.0.kind) }
     ensures runs { IfOk result (λ answer.
         AreRuns (wishes args.now) (known_of_package pkg.now features.now) (runs_of answer.0.kind)) }
 
-    // Under a powerset each set of candidates that has to be covered has a run that covers it.
+    // Under a powerset of all sets, each set of candidates that has to be covered has a run that
+    // covers it.
     ensures covered { IfOk result (λ answer. args.now.feature_powerset ≡ true
+        → args.now.strength ≡ None
         → AreCovering (wishes args.now) (known_of_package pkg.now features.now)
         (runs_of answer.0.kind)) }
 
@@ -302,14 +410,24 @@ pub fn determine_runs(
         answer.0.kind)) }
     ensures notices { IfOk result (λ answer. map note_of answer.1.items
         ≡ candidate_notes single (wishes args.now) (known_of_package pkg.now features.now)) }
+
+    ensures settings { IfOk result (λ answer. AreRunSettings args.now.strength
+        (choice_of (wishes args.now) (known_of_package pkg.now features.now))
+        (runs_of answer.0.kind) (rows_of answer.0.settings.items)) }
+
+    // Besides memory only a sample that needs too many questions is an error.
+    ensures err { IfErr result (λ e. (e ≡ SampleFault.Memory)
+        ⊎ IsRunsFault (wishes args.now) (known_of_package pkg.now features.now) e) }
 {
     let notices = notes_on(alloc, args, pkg, features, single)?;
     let kind = kind_of(alloc, args, pkg, features)?;
     let feature_count = kind.count();
+    let settings = run_settings(alloc, args, pkg, features, &kind)?;
     let runs = PackageRuns {
         id,
         kind,
         feature_count,
+        settings,
     };
     Ok((runs, notices))
 }

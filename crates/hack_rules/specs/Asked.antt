@@ -44,6 +44,10 @@ coloring_asked term_color us = or_else Auto (option_and_then coloring_of (or_nex
 abbrev pub depth_asked : List Use → Option ℕ
 depth_asked us = option_and_then (number_of 64) (value_given opt.Depth us)
 
+-- the strength of the sample
+abbrev pub strength_asked : List Use → Option ℕ
+strength_asked us = option_and_then (number_of 64) (value_given opt.Strength us)
+
 -- the step between versions, 1 where none is given
 abbrev pub step_asked : List Use → ℕ
 step_asked us = or_else 1 (option_and_then (number_of 16) (value_given opt.VersionStep us))

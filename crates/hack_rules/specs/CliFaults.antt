@@ -34,7 +34,7 @@ pub data Fault : Type 0 where
   NoSubcommand : Fault
   OldRustup : Opt → Fault
   Range : BadRange → Fault
-  ZeroStep : Fault
+  Zero : Opt → Fault
   LogGroup : List ℕ → Fault
   Partition : List ℕ → Fault
   PartitionKind : List ℕ → Fault
@@ -71,7 +71,7 @@ fault_of (code.Excluded feature option) = Some (Excluded (string_bytes feature) 
 fault_of code.NoSubcommand = Some NoSubcommand
 fault_of (code.OldRustup option) = Some (OldRustup option)
 fault_of (code.Range fault) = option_map Range (bad_range_of fault)
-fault_of code.ZeroStep = Some ZeroStep
+fault_of (code.Zero option) = Some (Zero option)
 fault_of (code.LogGroup fault) = log_group_fault_of fault
 fault_of (code.Partition fault) = partition_fault_of fault
 fault_of (code.LiftForm found) = Some (LiftForm (string_bytes found))

@@ -7,7 +7,7 @@ use Rattle.hack_uses.specs.Values.{value_given}
 use Rattle.hack_rules.specs.declared.fault.Beside.TheVariants as beside
 use Rattle.hack_rules.specs.CliFaults.{Fault, OldRustup}
 use Rattle.hack_rules.specs.CliLists.{lift_form, lift_group, first_fault_of}
-use Rattle.hack_rules.specs.CliValues.{step_fault, log_group_fault, partition_fault, kind_fault, range_fault}
+use Rattle.hack_rules.specs.CliValues.{step_fault, strength_fault, log_group_fault, partition_fault, kind_fault, range_fault}
 use Rattle.hack_rules.specs.Listed.{Listed}
 use Rattle.hack_rules.specs.Rules.{fault_if, first_of, of_value, needs, clash}
 
@@ -47,6 +47,13 @@ lift_rules l us =
     ∷ first_fault_of (lift_form us) (lift_group l.exclusive us)
     ∷ []
 
+-- the rules on the strength of a sample
+abbrev pub strength_rules : List Use → List (Option Fault)
+strength_rules us =
+    needs (is_given opt.Strength us) opt.Strength beside.Powerset (is_given opt.FeaturePowerset us)
+    ∷ of_value strength_fault (value_given opt.Strength us)
+    ∷ []
+
 -- the rules that are checked after the one on a missing subcommand
 abbrev pub rules_after : Option ℕ → Listed → List Use → List (Option Fault)
 rules_after rustup l us =
@@ -54,4 +61,5 @@ rules_after rustup l us =
     ∷ of_value log_group_fault (value_given opt.LogGroup us)
     ∷ first_of (piece_rules us)
     ∷ first_of (lift_rules l us)
+    ∷ first_of (strength_rules us)
     ∷ []

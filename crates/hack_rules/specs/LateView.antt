@@ -1,12 +1,12 @@
 -- What the later rules read.
 use Rattle.std.specs.Prelude.{◌≡◌, Bool, List, IfSome, option_map}
 use Rattle.hack_uses.specs.Uses.{Use}
-use Rattle.hack_rules.specs.Asked.{range_asked, is_old_asked, step_asked, log_group_asked, piece_asked, kind_asked}
+use Rattle.hack_rules.specs.Asked.{range_asked, is_old_asked, step_asked, log_group_asked, piece_asked, kind_asked, strength_asked}
 use Rattle.hack_rules.specs.CliGroups.{AreLifts}
 use Rattle.hack_rules.specs.CliLists.{lifts_given}
 use Rattle.hack_rules.specs.declared.late.Late.{Late}
 
--- what uses of options ask for about versions, log groups and pieces
+-- what uses of options ask for about versions, log groups, pieces, lifted groups and samples
 pub record IsLate (github_actions : Bool) (us : List Use) (late : Late) : Type 0 where
   pub range : late.versions.range ≡ range_asked us
   pub old : late.versions.is_old ≡ is_old_asked us
@@ -15,3 +15,4 @@ pub record IsLate (github_actions : Bool) (us : List Use) (late : Late) : Type 0
   pub piece : option_map (λ p. record { piece = p.piece; count = p.count }) late.partition ≡ piece_asked us
   pub kind : IfSome late.partition (λ p. p.kind ≡ kind_asked us)
   pub lifts : AreLifts (lifts_given us) late.lifts.items
+  pub strength : late.strength ≡ strength_asked us

@@ -83,8 +83,8 @@ pub enum CliFault {
     /// The text of `--version-range` is no range.
     #[error("{fault}")]
     Range { fault: VersionFault },
-    #[error("--version-step cannot be zero")]
-    ZeroStep,
+    #[error("{option} cannot be zero")]
+    Zero { option: Opt },
     #[error("{fault}")]
     LogGroup { fault: LogGroupFault },
     /// The text of `--partition` is no piece, or that of `--partition-kind` no kind.

@@ -1,5 +1,5 @@
 //! The rules that are checked after the one on a missing subcommand: on ranges of versions, log
-//! groups, pieces of a plan and lifted groups.
+//! groups, pieces of a plan, lifted groups and the strength of a sample.
 
 ghost use Rattle.std.specs.Prelude.{◌≡◌, IfOk, IfSome, option_map, option_and_then};
 ghost use Rattle.std.specs.List.{list_any};
@@ -7,16 +7,17 @@ ghost use Rattle.hack_uses.specs.Uses.{view, views};
 ghost use Rattle.hack_uses.specs.Values.{value_given};
 ghost use Rattle.hack_rules.specs.Asked.{read_range, range_asked, is_old_asked, step_asked};
 ghost use Rattle.hack_rules.specs.Asked.{is_message_format as message_format, log_group_asked};
-ghost use Rattle.hack_rules.specs.Asked.{piece_asked, kind_asked};
+ghost use Rattle.hack_rules.specs.Asked.{piece_asked, kind_asked, strength_asked};
 ghost use Rattle.hack_rules.specs.CliFaults.{Checks};
 ghost use Rattle.hack_rules.specs.CliGroups.{AreLifts};
 ghost use Rattle.hack_rules.specs.CliLists.{lifts_given};
 ghost use Rattle.hack_rules.specs.CliValues.{range_fault, step_fault, log_group_fault};
+ghost use Rattle.hack_rules.specs.CliValues.{strength_fault};
 ghost use Rattle.hack_rules.specs.LateView.{IsLate};
 ghost use Rattle.hack_rules.specs.ListsView.{listed_in};
 ghost use Rattle.hack_rules.specs.Rules.{first_of, of_value};
 ghost use Rattle.hack_rules.specs.Late.{rustup_rule, is_ranged as ranged, range_rules, piece_rules};
-ghost use Rattle.hack_rules.specs.Late.{lift_rules, rules_after};
+ghost use Rattle.hack_rules.specs.Late.{lift_rules, strength_rules, rules_after};
 
 use crate::checks::{clash, needs};
 use crate::fault::{Beside, CliFault};
@@ -203,6 +204,29 @@ fn lifts(alloc: Global, lists: &Lists, uses: &[Use]) -> Result<Vec<(String, Feat
     named::lifts(alloc, lists.mutually_exclusive_features.as_slice(), uses)
 }
 
+/// The number that the option gives.
+fn given_strength(alloc: Global, uses: &[Use]) -> Result<Option<usize>, CliFault>
+    ensures rule { Checks result (of_value strength_fault
+        (value_given Opt.Strength (views uses.now))) }
+    ensures value { IfOk result (λ strength. strength ≡ strength_asked (views uses.now)) }
+{
+    match value(Opt::Strength, uses) {
+        Some(text) => Ok(Some(values::strength(alloc, text.as_str())?)),
+        None => Ok(None),
+    }
+}
+
+/// The strength of a sample, which needs a powerset.
+fn strength(alloc: Global, uses: &[Use]) -> Result<Option<usize>, CliFault>
+    ensures rules { Checks result (first_of (strength_rules (views uses.now))) }
+    ensures value { IfOk result (λ strength. strength ≡ strength_asked (views uses.now)) }
+{
+    let option = Opt::Strength;
+    let there = given(Opt::FeaturePowerset, uses);
+    needs(given(option, uses), option, Beside::Powerset, there)?;
+    given_strength(alloc, uses)
+}
+
 /// What these rules read while they check.
 #[derive(Drop)]
 pub struct Late {
@@ -211,6 +235,7 @@ pub struct Late {
     pub partition: Option<Partition>,
     /// Packages, and for each an exclusion group that is lifted for it.
     pub lifts: Vec<(String, Feature)>,
+    pub strength: Option<usize>,
 }
 
 /// Checks the rules after the one on a missing subcommand, and returns what they read. `rustup` is
@@ -230,10 +255,12 @@ pub fn check(
     let log_group = log_group(alloc, github_actions, uses)?;
     let partition = partition(alloc, uses)?;
     let lifts = lifts(alloc, lists, uses)?;
+    let strength = strength(alloc, uses)?;
     Ok(Late {
         versions,
         log_group,
         partition,
         lifts,
+        strength,
     })
 }

@@ -2,10 +2,11 @@
 
 ghost use Rattle.std.specs.Prelude.{◌≡◌, IfOk, Some};
 ghost use Rattle.hack_rules.specs.CliFaults.{Checks};
-ghost use Rattle.hack_rules.specs.CliValues.{depth_fault, step_fault};
+ghost use Rattle.hack_rules.specs.CliValues.{depth_fault, step_fault, strength_fault};
 ghost use Rattle.hack_base.specs.Numbers.{number_of};
 
 use crate::fault::CliFault;
+use hack_options::Opt;
 use std::alloc::Global;
 
 fn whole(text: &str) -> Option<usize>
@@ -39,8 +40,26 @@ pub fn step(alloc: Global, text: &str) -> Result<u16, CliFault>
     ensures checks { Checks result (step_fault text.now) }
 {
     match short(text) {
-        Some(0) => Err(CliFault::ZeroStep),
+        Some(0) => Err(CliFault::Zero {
+            option: Opt::VersionStep,
+        }),
         Some(step) => Ok(step),
+        None => Err(CliFault::Number {
+            found: String::from_str(alloc, text)?,
+        }),
+    }
+}
+
+/// The strength of a sample.
+pub fn strength(alloc: Global, text: &str) -> Result<usize, CliFault>
+    ensures value { IfOk result (λ n. number_of 64 text.now ≡ Some n) }
+    ensures checks { Checks result (strength_fault text.now) }
+{
+    match whole(text) {
+        Some(strength) if strength > 0 => Ok(strength),
+        Some(_) => Err(CliFault::Zero {
+            option: Opt::Strength,
+        }),
         None => Err(CliFault::Number {
             found: String::from_str(alloc, text)?,
         }),

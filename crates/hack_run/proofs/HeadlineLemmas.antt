@@ -1,7 +1,9 @@
 -- The headline, put together from the plan and its session.
-use Rattle.std.proofs.Common.{◌≡◌, sym, subst, List, Option, None, Result, true, IsSome, Global, String, length}
+use Rattle.std.proofs.Common.{◌≡◌, sym, subst, List, ℕ, Option, None, Some, Result, Ok, true, IsSome, Global, String, length}
 use Rattle.hack_calls.specs.Made.{IsPlanOf}
 use Rattle.hack_calls.specs.Powersets.{HavePowersets}
+use Rattle.hack_calls.specs.Samples.{HaveSamples, ArePatternsHeld}
+use Rattle.hack_uses.specs.declared.behavior.WorkspaceBehavior.TheVariants.{Cargo}
 use Rattle.hack_base.specs.Names.{Name}
 use Rattle.hack_load.specs.Contexts.{ContextRecord}
 use Rattle.hack_runs.specs.View.{PlanView}
@@ -23,10 +25,12 @@ shared plan = record {
 
 -- the session of a context's plan and the chosen piece, driven to its end
 pub handed_out : (cx : ContextRecord) (stable : Result (Option Version) (String Global)) (rustup : Name) (t : Course) (plan : PlanView) (notes : List Note) (given : Args) → given ≡ cx.args
-    → IsPlanOf cx.args.subcommand stable cx rustup plan notes → (IsSome cx.args.subcommand → cx.args.feature_powerset ≡ true → HavePowersets cx plan)
+    → IsPlanOf cx.args.subcommand stable cx rustup plan notes → (IsSome cx.args.subcommand → cx.args.feature_powerset ≡ true → cx.args.strength ≡ None → HavePowersets cx plan)
+    → ((strength : ℕ) → IsSome cx.args.subcommand → cx.args.feature_powerset ≡ true → cx.args.strength ≡ Some strength → HaveSamples cx strength plan)
+    → ((strength : ℕ) (latest : Option Version) → stable ≡ Ok latest → IsSome cx.args.subcommand → cx.args.feature_powerset ≡ true → cx.args.strength ≡ Some strength → ¬ (cx.args.workspace_behavior ≡ Cargo) → ArePatternsHeld cx strength latest plan)
     → t.plan ≡ plan → t.keep_going ≡ cx.args.keep_going → IsSchedule given.partition plan t.schedule → next_of t ≡ None → IsHistory t → HandsOut given.partition (length plan.quads) t
     → IsHandedOut cx stable rustup t
-handed_out cx stable rustup t plan notes given args planned powersets same goes_on schedule complete history runs = record {
+handed_out cx stable rustup t plan notes given args planned powersets samples patterns same goes_on schedule complete history runs = record {
   notes = notes;
   plan = subst (λ (p : PlanView). IsPlanOf cx.args.subcommand stable cx rustup p notes) (sym same) planned;
   schedule = subst (λ (p : PlanView). IsSchedule cx.args.partition p t.schedule) (sym same) (subst (λ (a : Args). IsSchedule a.partition plan t.schedule) args schedule);
@@ -35,5 +39,7 @@ handed_out cx stable rustup t plan notes given args planned powersets same goes_
   complete = complete;
   runs = subst (λ (p : PlanView). HandsOut cx.args.partition (length p.quads) t) (sym same) (subst (λ (a : Args). HandsOut a.partition (length plan.quads) t) args runs);
   pieces = shared t.plan.quads;
-  powersets = λ some powerset. subst (λ (p : PlanView). HavePowersets cx p) (sym same) (powersets some powerset);
+  powersets = λ some powerset all. subst (λ (p : PlanView). HavePowersets cx p) (sym same) (powersets some powerset all);
+  samples = λ strength some powerset sampled. subst (λ (p : PlanView). HaveSamples cx strength p) (sym same) (samples strength some powerset sampled);
+  patterns = λ strength latest is some powerset sampled each. subst (λ (p : PlanView). ArePatternsHeld cx strength latest p) (sym same) (patterns strength latest is some powerset sampled each);
 }

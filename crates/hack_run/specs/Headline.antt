@@ -1,8 +1,10 @@
 -- The headline: what is handed out for a context, whatever comes of its steps.
-use Rattle.std.specs.Prelude.{ℕ, ◌≡◌, ◌<◌, true, List, Option, None, Result, IsSome, length}
+use Rattle.std.specs.Prelude.{ℕ, ◌≡◌, ◌<◌, true, List, Option, None, Some, Result, Ok, IsSome, length}
 use Rattle.std.proofs.Common.{Global, String}
 use Rattle.hack_calls.specs.Made.{IsPlanOf}
 use Rattle.hack_calls.specs.Powersets.{HavePowersets}
+use Rattle.hack_calls.specs.Samples.{HaveSamples, ArePatternsHeld}
+use Rattle.hack_uses.specs.declared.behavior.WorkspaceBehavior.TheVariants.{Cargo}
 use Rattle.hack_base.specs.Names.{Name}
 use Rattle.hack_load.specs.Contexts.{ContextRecord}
 use Rattle.hack_session.specs.Handouts.{HandsOut}
@@ -22,7 +24,9 @@ pub record AreShared {A : Type 0} (plan : List A) : Type 0 where
 -- The session's plan is the context's: exactly the admissible runs, in order. Its schedule is that of the chosen piece; what was
 -- handed out is a front of it with its outcomes, in which no element but the last stops, and there is no next step. The runs
 -- handed out are the chosen piece of the plan, in order, each place once, until a step stops or the piece ends. The pieces share
--- out the plan, and under a powerset each package's sets are exactly the listed ones, each once.
+-- out the plan. Under a powerset each package's sets are exactly the listed ones, each once; or with a strength a sample of
+-- them, and the plan has a place for each pattern of at most so many candidates that some listed set shows, for each package,
+-- version and slot.
 pub record IsHandedOut (cx : ContextRecord) (stable : Result (Option Version) (String Global)) (rustup : Name) (t : Course) : Type 0 where
   pub notes : List Note
   pub plan : IsPlanOf cx.args.subcommand stable cx rustup t.plan notes
@@ -32,4 +36,7 @@ pub record IsHandedOut (cx : ContextRecord) (stable : Result (Option Version) (S
   pub complete : next_of t ≡ None
   pub runs : HandsOut cx.args.partition (length t.plan.quads) t
   pub pieces : AreShared t.plan.quads
-  pub powersets : IsSome cx.args.subcommand → cx.args.feature_powerset ≡ true → HavePowersets cx t.plan
+  pub powersets : IsSome cx.args.subcommand → cx.args.feature_powerset ≡ true → cx.args.strength ≡ None → HavePowersets cx t.plan
+  pub samples : (strength : ℕ) → IsSome cx.args.subcommand → cx.args.feature_powerset ≡ true → cx.args.strength ≡ Some strength → HaveSamples cx strength t.plan
+  pub patterns : (strength : ℕ) (latest : Option Version) → stable ≡ Ok latest → IsSome cx.args.subcommand → cx.args.feature_powerset ≡ true
+      → cx.args.strength ≡ Some strength → ¬ (cx.args.workspace_behavior ≡ Cargo) → ArePatternsHeld cx strength latest t.plan

@@ -1,7 +1,7 @@
 //! What a call runs: the plan of what is loaded, handed out to a runner.
 
 ghost use Rattle.std.specs.Prelude.{◌≡◌, ◌⊎◌, IfErr, IfOk, List, map};
-ghost use Rattle.hack_calls.specs.Made.{IsCauseOf, IsPlanOf};
+ghost use Rattle.hack_calls.specs.Made.{IsCauseOf, IsPlanOf, IsSureCauseOf};
 ghost use Rattle.hack_load.specs.ContextView.{context_view};
 ghost use Rattle.hack_runs.specs.View.{PlanView};
 ghost use Rattle.hack_base.specs.Notes.{Note, note_of};
@@ -45,7 +45,9 @@ pub fn drive_context<R: Teller>(
     // The runs handed out are the chosen piece of the plan, in order, each place once, until a
     // preparation fails, a run fails and runs don't go on, or the piece ends. The plan is exactly
     // the admissible runs, in order; each of its places is in exactly one of the pieces, and the
-    // blocks joined are the plan. A package's powerset is exactly the listed sets, each once.
+    // blocks joined are the plan. A package's powerset is exactly the listed sets, each once; or
+    // with a strength a sample of them, and for each pattern of at most so many candidates that some
+    // listed set shows the plan has a place, for each package, version and slot.
     ensures headline { IfOk result
         (IsHandedOut (context_view cx.now) stable rustup.now) }
 
@@ -57,9 +59,10 @@ pub fn drive_context<R: Teller>(
         × R.told notes runner.old mid × R.ran s.plan s.handed mid runner.new) }
 
     // Refused exactly where there is no plan: an answer has no cause, and a refusal has one, unless
-    // memory was refused.
+    // memory was refused. (With a strength the number of runs is that of the sample that was
+    // found.)
     ensures never { IfOk result (λ _. (e : PlanFault)
-        → ¬ IsCauseOf (context_view cx.now).args.subcommand stable (context_view cx.now) e) }
+        → ¬ IsSureCauseOf (context_view cx.now).args.subcommand stable (context_view cx.now) e) }
     ensures err { IfErr result (λ e. (e ≡ PlanFault.Memory)
         ⊎ IsCauseOf (context_view cx.now).args.subcommand stable (context_view cx.now) e) }
 

@@ -12,6 +12,7 @@ use hack_calls::fault::PlanFault;
 use hack_load::context::Context;
 use hack_process::process::{Caller, ProcessFault};
 use hack_session::session::{Handed, Outcome, Session, Starter, Step};
+use hack_session::suspect_notes::suspect_notes;
 use hack_term::term::Term;
 use hack_versions::version::Version;
 use hack_words::cli::Args;
@@ -45,6 +46,7 @@ pub(crate) fn start<C: Caller, O: Write, E: Write>(
         Err(fault) => return Err(RunFault::Plan(fault)),
     };
     report(alloc, &session, term, err)?;
+    explain(alloc, cx.args(), &session, term, err)?;
     match fault {
         Some(fault) => Err(RunFault::Process(fault)),
         None => Ok(()),
@@ -128,6 +130,29 @@ fn report<E: Write>(
     let text = format!(in alloc; "{report}")?;
     let _ = err.write_all(b"\n");
     let _ = term.error(&text, err);
+    Ok(())
+}
+
+/// Reports which small patterns of candidates only failed runs show, where a sample of sets was run
+/// to its end.
+fn explain<E: Write>(
+    alloc: Global,
+    args: &Args,
+    session: &Session,
+    term: &Term,
+    err: &mut E,
+) -> Result<(), AllocError> {
+    let Some(strength) = args.strength else {
+        return Ok(());
+    };
+    if !args.keep_going || is_unprepared(session.handed()) {
+        return Ok(());
+    }
+    let explained = session.suspects(alloc, strength)?;
+    let notices = suspect_notes(alloc, session.plan(), explained.as_slice())?;
+    for notice in notices.as_slice() {
+        let _ = term.info(notice.text.as_str(), err);
+    }
     Ok(())
 }
 

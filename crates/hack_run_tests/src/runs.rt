@@ -56,6 +56,58 @@ fn a_failed_run(rt: HostRuntime) -> Result<(), Wrong> {
     )
 }
 
+// With a strength the report is followed by what only failed runs have; where all failed, by
+// nothing.
+#[test]
+fn what_failed_runs_have_in_common(rt: HostRuntime) -> Result<(), Wrong> {
+    on(
+        rt.alloc(),
+        PLAIN,
+        r#"
+            > hack check --feature-powerset --strength 2 --keep-going; features a b; fails 101 cargo check --manifest-path Cargo.toml --no-default-features --features a,b
+            | asked
+            | cargo check --manifest-path Cargo.toml --no-default-features
+            | cargo check --manifest-path Cargo.toml --no-default-features --features a,b
+            | cargo check --manifest-path Cargo.toml --no-default-features --features a
+            | cargo check --manifest-path Cargo.toml --no-default-features --features b
+            | err
+            | info: running `cargo check --no-default-features` on p (1/4)
+            |
+            | info: running `cargo check --no-default-features --features a,b` on p (2/4)
+            | error: process didn't exit successfully: `cargo check --manifest-path Cargo.toml --no-default-features --features a,b` (exit status: 101)
+            |
+            | info: running `cargo check --no-default-features --features a` on p (3/4)
+            |
+            | info: running `cargo check --no-default-features --features b` on p (4/4)
+            |
+            | error: failed to run 1 commands
+            |
+            | failed commands:
+            |     p:
+            |         `cargo check --manifest-path Cargo.toml --no-default-features --features a,b`
+            |
+            | info: in p the failed runs have one of these, and the passed runs have none:
+            | info:     a on, b on
+            | status 1
+
+            > hack check --feature-powerset --strength 2 --keep-going --exclude-no-default-features; features a; fails 101 cargo check --manifest-path Cargo.toml --no-default-features --features a
+            | asked
+            | cargo check --manifest-path Cargo.toml --no-default-features --features a
+            | err
+            | info: running `cargo check --no-default-features --features a` on p (1/1)
+            | error: process didn't exit successfully: `cargo check --manifest-path Cargo.toml --no-default-features --features a` (exit status: 101)
+            |
+            | error: failed to run 1 commands
+            |
+            | failed commands:
+            |     p:
+            |         `cargo check --manifest-path Cargo.toml --no-default-features --features a`
+            |
+            | status 1
+        "#,
+    )
+}
+
 #[test]
 fn pieces(rt: HostRuntime) -> Result<(), Wrong> {
     on(

@@ -31,6 +31,10 @@ is_split c version = nat_lt 0 (length c.targets) && nat_lt (minor_of c.cargo_min
 abbrev pub targets_in : CallView → Option Version → ℕ → List (List ℕ)
 targets_in c version slot = if is_split c version then take 1 (drop slot c.targets) else c.targets
 
+-- the target of a slot that has one of its own
+abbrev pub slot_target : CallView → Option Version → ℕ → Option (List ℕ)
+slot_target c version slot = if is_split c version then slice_get c.targets slot else None
+
 -- a target after its option
 abbrev pub target_pair : List ℕ → List (List ℕ)
 target_pair target = codes "--target" ∷ target ∷ []

@@ -2,6 +2,7 @@
 use Rattle.std.specs.Prelude.{ℕ, Bool, List, Option, string_bytes, map}
 use Rattle.hack_base.specs.Names.{optional_text}
 use Rattle.hack_features.specs.Feature.{groups_of}
+use Rattle.hack_features.specs.Sets.{rows_of}
 use Rattle.hack_plan.specs.Runs.{PackageRun}
 use Rattle.hack_plan.specs.RunsView.{runs_in}
 use Rattle.hack_plan.specs.declared.places.Quad.{Quad}
@@ -24,13 +25,15 @@ pub record CallView : Type 0 where
   pub current_manifest : Option (List ℕ)
   pub dir : List ℕ
 
--- a chosen package: its candidates, each with the names of its features, and its runs by rank
+-- a chosen package: its candidates, each with the names of its features, its runs by rank, and with a strength which
+-- candidates are on in each run
 pub record PackageView : Type 0 where
   pub name : List ℕ
   pub manifest_path : Option (List ℕ)
   pub features : List (List ℕ)
   pub candidates : List (List (List ℕ))
   pub runs : List PackageRun
+  pub settings : List (List Bool)
 
 -- a plan: its places as quadruples in order, its versions, and what its commands are made from
 pub record PlanView : Type 0 where
@@ -45,4 +48,4 @@ call_view w = record { cargo = string_bytes w.cargo; rustup = string_bytes w.rus
 
 -- a package with its texts as bytes, and its runs
 abbrev pub package_view : PlanPackage → PackageView
-package_view p = record { name = string_bytes p.name; manifest_path = optional_text p.manifest_path; features = map string_bytes p.features.items; candidates = groups_of p.candidates.items; runs = runs_in p.runs }
+package_view p = record { name = string_bytes p.name; manifest_path = optional_text p.manifest_path; features = map string_bytes p.features.items; candidates = groups_of p.candidates.items; runs = runs_in p.runs; settings = rows_of p.settings.items }

@@ -1,7 +1,7 @@
 //! The commands of a plan.
 
 ghost use Rattle.std.specs.Prelude.{◌≡◌, ◌++◌, ◌∷◌, [], Some, None, map, option_map, IfOk, OnOk};
-ghost use Rattle.std.specs.Prelude.{List, ℕ, take, drop, string_bytes, codes};
+ghost use Rattle.std.specs.Prelude.{List, ℕ, take, drop, string_bytes, codes, slice_get};
 ghost use Rattle.std.specs.List.{flat_map, slice_index_or};
 ghost use Rattle.hack_base.specs.Names.{optional_text};
 ghost use Rattle.hack_features.specs.Feature.{groups_of};
@@ -13,7 +13,7 @@ ghost use Rattle.hack_runs.specs.Commands.{toolchain_of, program_of, leading_of,
 ghost use Rattle.hack_runs.specs.Commands.{targets_in, target_pair, manifest_words, run_words};
 ghost use Rattle.hack_runs.specs.Commands.{names_at, run_names, call_command, whole_command};
 ghost use Rattle.hack_runs.specs.Commands.{run_command, plain_command, locked_words, cleaned_words};
-ghost use Rattle.hack_runs.specs.Commands.{clean_command, lockfile_command};
+ghost use Rattle.hack_runs.specs.Commands.{clean_command, lockfile_command, slot_target};
 
 use crate::parts::{CallWords, PlanPackage};
 use hack_features::Feature;
@@ -76,6 +76,17 @@ impl CallWords {
             Some(version) => version.minor,
         };
         !self.targets.is_empty() && minor < 64
+    }
+
+    /// The target of a slot that has one of its own.
+    pub(crate) fn slot_target(&self, version: Option<Version>, slot: usize) -> Option<&str>
+        ensures { option_map (λ target. target.now) result
+            ≡ slot_target (call_view self.now) version slot }
+    {
+        if !self.is_split(version) {
+            return None;
+        }
+        text_at(self.targets.as_slice(), slot)
     }
 
     /// The targets of a slot.
@@ -163,6 +174,17 @@ impl CallWords {
 }
 
 /// The text at an index, if there is one.
+fn text_at(texts: &[String], place: usize) -> Option<&str>
+    ensures { option_map (λ text. text.now) result
+        ≡ slice_get (map string_bytes texts.now) place }
+{
+    match texts.get(place) {
+        Some(text) => Some(text.as_str()),
+        None => None,
+    }
+}
+
+/// The text at an index as a list, if there is one.
 fn one_at(texts: &[String], place: usize) -> &[String]
     ensures { map string_bytes result.now ≡ take 1 (drop place (map string_bytes texts.now)) }
 {

@@ -45,6 +45,8 @@ pub struct PlanPackage {
     /// The candidates from which its sets are made.
     pub candidates: Vec<Feature>,
     pub runs: Runs,
+    /// With a strength, for each run which candidates are on in it; else nothing.
+    pub settings: Vec<Vec<bool>>,
 }
 
 /// What is done before the runs of a version. It holds the version's index in the plan's list of

@@ -9,7 +9,7 @@ ghost use Rattle.hack_runs.specs.Prepared.{span_of};
 ghost use Rattle.hack_runs.specs.View.{package_view};
 ghost use Rattle.hack_runs.specs.Commands.{command_of_quad, clean_command, lockfile_command};
 ghost use Rattle.hack_runs.specs.Commands.{package_at};
-ghost use Rattle.hack_runs.specs.Commands.{name_in, ranked_command};
+ghost use Rattle.hack_runs.specs.Commands.{name_in, ranked_command, slot_target};
 ghost use Rattle.hack_runs.specs.Plans.{counts_in};
 
 pub use crate::commands::toolchain;
@@ -80,6 +80,21 @@ impl Plan {
         ensures tiled { AreTiled 0 (map span_of self.now.versions) (length self.now.quads) }
     {
         self.versions.as_slice()
+    }
+
+    /// The chosen packages.
+    pub fn packages(&self) -> &[PlanPackage]
+        ensures { map package_view result.now ≡ self.now.packages }
+    {
+        self.packages.as_slice()
+    }
+
+    /// The version, slot, package and rank of a place.
+    pub fn quad(&self, place: usize) -> Quad
+        requires { place < length self.now.quads }
+        ensures { slice_get self.now.quads place ≡ Some result }
+    {
+        self.places.run(place)
     }
 
     /// The run at a place, with its command.
@@ -188,6 +203,14 @@ impl Plan {
         ensures { map string_bytes result.now ≡ self.now.call.targets }
     {
         self.words.targets.as_slice()
+    }
+
+    /// The target of a slot that has one of its own.
+    pub fn slot_target(&self, version: Option<Version>, slot: usize) -> Option<&str>
+        ensures { option_map (λ target. target.now) result
+            ≡ slot_target self.now.call version slot }
+    {
+        self.words.slot_target(version, slot)
     }
 
     /// The current folder; messages show paths relative to it.

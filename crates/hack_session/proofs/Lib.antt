@@ -7,3 +7,5 @@ pub mod Headline
 pub mod ListLemmas
 pub mod ReportLemmas
 pub mod DriveLemmas
+pub mod SuspectLemmas
+pub mod SuspectNoteLemmas

@@ -8,3 +8,5 @@ pub mod Statuses
 pub mod Lists
 pub mod Joins
 pub mod Reports
+pub mod Suspects
+pub mod SuspectNotes

@@ -13,3 +13,5 @@ mod screen;
 pub mod session;
 mod starter;
 mod step;
+pub mod suspect_notes;
+pub mod suspects;

@@ -7,7 +7,7 @@ use Rattle.hack_uses.specs.Uses.{Use, is_given, subcommand_of}
 use Rattle.hack_uses.specs.Values.{value_given, values_given}
 use Rattle.hack_words.specs.declared.cli.args.Args.{Args}
 use Rattle.hack_words.specs.declared.cli.args.Read.{Read}
-use Rattle.hack_rules.specs.Asked.{coloring_asked, depth_asked, range_asked, step_asked, log_group_asked, piece_asked, kind_asked, leading_asked, excluded_asked, excludes_no_default, excludes_all, ignores_private}
+use Rattle.hack_rules.specs.Asked.{coloring_asked, depth_asked, strength_asked, range_asked, step_asked, log_group_asked, piece_asked, kind_asked, leading_asked, excluded_asked, excludes_no_default, excludes_all, ignores_private}
 use Rattle.hack_rules.specs.CliGroups.{AreGroupsOf, AreNormalsOf, AreLifts}
 use Rattle.hack_rules.specs.CliLists.{names_given, optional_given, lifts_given}
 use Rattle.hack_rules.specs.Listed.{listed_by}
@@ -66,6 +66,7 @@ pub record Carries (read : Read) (args : Args) : Type 0 where
   pub log_group : args.log_group ≡ read.late.log_group
   pub partition : args.partition ≡ read.late.partition
   pub allow_together : args.allow_together ≡ read.late.lifts
+  pub strength : args.strength ≡ read.late.strength
 
 -- the values, read from the options and the environment
 pub record HasValues (term_color : Option (List ℕ)) (github_actions : Bool) (behavior : WorkspaceBehavior) (trailing : List (List ℕ)) (us : List Use) (args : Args) : Type 0 where
@@ -79,6 +80,7 @@ pub record HasValues (term_color : Option (List ℕ)) (github_actions : Bool) (b
   pub piece : option_map (λ p. record { piece = p.piece; count = p.count }) args.partition ≡ piece_asked us
   pub kind : IfSome args.partition (λ p. p.kind ≡ kind_asked us)
   pub allow_together : AreLifts (lifts_given us) args.allow_together.items
+  pub strength : args.strength ≡ strength_asked us
 
 -- all fields
 pub record IsAsked (term_color : Option (List ℕ)) (github_actions : Bool) (behavior : WorkspaceBehavior) (trailing : List (List ℕ)) (us : List Use) (args : Args) : Type 0 where

@@ -74,6 +74,9 @@ pub struct Args {
     pub exclude_all_features: bool,
     /// The largest number of features in one combination.
     pub depth: Option<usize>,
+    /// How many candidates a pattern has at most that the sample of a powerset shows: in place of
+    /// all listed sets a few that show each such pattern. `None`: all listed sets.
+    pub strength: Option<usize>,
     pub group_features: Vec<Feature>,
     pub mutually_exclusive_features: Vec<Feature>,
     /// Packages, each with a group of mutually exclusive features that doesn't apply to it.
@@ -228,6 +231,7 @@ impl Args {
             exclude_no_default_features,
             exclude_all_features,
             depth: early.depth,
+            strength: late.strength,
             group_features,
             mutually_exclusive_features,
             allow_together: late.lifts,

@@ -1,4 +1,4 @@
-use Rattle.std.proofs.Common.{◌∙◌, sym, ap, subst, List, map, All, Contains}
+use Rattle.std.proofs.Common.{◌≡◌, ◌⊎◌, ◌∙◌, sym, ap, subst, List, map, All, Contains}
 use Rattle.std.proofs.lemmas.List.{length-map}
 use Rattle.std.proofs.lemmas.Result.{err_from_is_err_and}
 use Rattle.hack_load.specs.ContextView.{context_view}
@@ -10,11 +10,13 @@ use Rattle.hack_runs.specs.Prepared.{ArePrepared}
 use Rattle.hack_runs.specs.View.{CallView, package_view}
 use Rattle.hack_base.specs.Notes.{note_of}
 use Rattle.hack_versions.specs.declared.version.VersionFault.{VersionFault}
-use Rattle.hack_calls.specs.Calls.{IsSceneOf, ArePlanned, HasBadOwn, left_out_notes}
+use Rattle.hack_calls.specs.Calls.{IsSceneOf, ArePlanned, HasBadOwn, HasRunsFault, left_out_notes}
 use Rattle.hack_calls.specs.Made.{run_counts}
 use Rattle.hack_calls.proofs.CauseLemmas.{range-cause, places-cause, counts-same, all-told}
 use Rattle.hack_calls.proofs.NeverLemmas.{no-cause}
 use Rattle.hack_calls.proofs.PlanLemmas.{members-length, planned-length, covers}
+use Rattle.hack_calls.proofs.SampleLemmas.{sample-cause}
+use Rattle.hack_calls.specs.declared.fault.PlanFault.TheVariants as fault
 use Rattle.hack_calls.proofs.plan.plan_by.Goals as goal
 
 pub returns-in_err-versions-clause-err : goal.returns-in_err-versions-clause-err
@@ -38,8 +40,8 @@ of_scene-requires-clause-packages c =
     let cx = context_view c.args.cx.now in
     let ids = c.in_ok-list.list.ids.items in
     let of_call = subst (λ l. IsSceneOf cx (map place_at l) c.in_ok-scene.scene) c.as_slice.ensures.value c.in_ok-scene.ensures.ok in
-    let planned = subst (λ l. ArePlanned cx c.in_ok-list.list.is_single (map place_at l) (map package_view c.in_ok-packages.packages.items) (map note_of c.in_ok-packages.on_features.items)) c.as_slice-ids.ensures.value c.in_ok-packages.ensures in
-    sym (length-map c.in_ok-packages.packages.items package_view)
+    let planned = subst (λ l. ArePlanned cx c.in_ok-list.list.is_single (map place_at l) (map package_view c.in-Ok.answer.0.items) (map note_of c.in-Ok.answer.1.items)) c.as_slice-ids.ensures.value c.in-Ok.ensures.ok in
+    sym (length-map c.in-Ok.answer.0.items package_view)
     ∙ sym (planned-length cx c.in_ok-list.list.is_single (map place_at ids) _ _ planned)
     ∙ members-length cx (map place_at ids) c.in_ok-scene.scene.packages.items of_call.members
 
@@ -47,9 +49,16 @@ pub returns-in-Err-clause-err : goal.returns-in-Err-clause-err
 returns-in-Err-clause-err c =
     let cx = context_view c.args.cx.now in
     let ids = c.in_ok-list.list.ids.items in
+    let cause = subst (λ (l : List PackageId). (c.in-Err.fault ≡ fault.Memory) ⊎ HasRunsFault cx (map place_at l) c.in-Err.fault) c.as_slice-ids.ensures.value c.in-Err.ensures.err in
+    sample-cause cx (map place_at ids) c.in_ok-list.list.is_single (map note_of c.in_ok-list.notices.items) c.args.latest c.in-Err.fault c.in_ok-list.ensures.ok cause
+
+pub returns-in-Err-of_scene-clause-err : goal.returns-in-Err-of_scene-clause-err
+returns-in-Err-of_scene-clause-err c =
+    let cx = context_view c.args.cx.now in
+    let ids = c.in_ok-list.list.ids.items in
     let of_call = subst (λ l. IsSceneOf cx (map place_at l) c.in_ok-scene.scene) c.as_slice.ensures.value c.in_ok-scene.ensures.ok in
-    let planned = subst (λ l. ArePlanned cx c.in_ok-list.list.is_single (map place_at l) (map package_view c.in_ok-packages.packages.items) (map note_of c.in_ok-packages.on_features.items)) c.as_slice-ids.ensures.value c.in_ok-packages.ensures in
-    rw c.of_places.ensures (places-cause cx (map place_at ids) c.in_ok-list.list.is_single (map note_of c.in_ok-list.notices.items) c.in_ok-scene.scene c.in_ok-versions.versions.stable c.args.latest c.in_ok-packages.packages.items (map note_of c.in_ok-packages.on_features.items) c.in-Err.fault c.in_ok-list.ensures.ok of_call planned c.in_ok-versions.ensures.stable c.in-Err.ensures.err)
+    let planned = subst (λ l. ArePlanned cx c.in_ok-list.list.is_single (map place_at l) (map package_view c.in-Ok.answer.0.items) (map note_of c.in-Ok.answer.1.items)) c.as_slice-ids.ensures.value c.in-Ok.ensures.ok in
+    rw c.of_places.ensures (places-cause cx (map place_at ids) c.in_ok-list.list.is_single (map note_of c.in_ok-list.notices.items) c.in_ok-scene.scene c.in_ok-versions.versions.stable c.args.latest c.in-Ok.answer.0.items (map note_of c.in-Ok.answer.1.items) c.in-Err-of_scene.fault c.in_ok-list.ensures.ok of_call planned c.in_ok-versions.ensures.stable c.in-Err-of_scene.ensures.err)
 
 pub returns-clause-ok : goal.returns-clause-ok
 returns-clause-ok c = λ rustup call.
@@ -57,11 +66,11 @@ returns-clause-ok c = λ rustup call.
     let ids = c.in_ok-list.list.ids.items in
     let single = c.in_ok-list.list.is_single in
     let scene = c.in_ok-scene.scene in
-    let plan = c.in-Ok.plan in
-    let packages = c.in_ok-packages.packages.items in
-    let on_features = map note_of c.in_ok-packages.on_features.items in
-    let counts = ap run_counts c.in-Ok.ensures.packages ∙ counts-same packages in
-    let planned = subst (λ l. ArePlanned cx single (map place_at l) (map package_view packages) on_features) c.as_slice-ids.ensures.value c.in_ok-packages.ensures in
+    let plan = c.in-Ok-of_scene.plan in
+    let packages = c.in-Ok.answer.0.items in
+    let on_features = map note_of c.in-Ok.answer.1.items in
+    let counts = ap run_counts c.in-Ok-of_scene.ensures.packages ∙ counts-same packages in
+    let planned = subst (λ l. ArePlanned cx single (map place_at l) (map package_view packages) on_features) c.as_slice-ids.ensures.value c.in-Ok.ensures.ok in
     record {
       ids = map place_at ids;
       single = single;
@@ -75,23 +84,23 @@ returns-clause-ok c = λ rustup call.
       of_range = c.in_ok-versions.ensures.ok;
       newest = c.in_ok-versions.ensures.stable;
       ranged = c.in_ok-versions.ensures.notices;
-      planned = subst (λ ks. ArePlanned cx single (map place_at ids) ks on_features) (sym c.in-Ok.ensures.packages) planned;
-      call = c.in-Ok.ensures.call ∙ call;
-      places = subst (λ ns. ArePlaces scene ns c.args.latest plan.quads) (sym counts) (subst (λ v. ArePlaces scene (counts_in packages) v plan.quads) c.in_ok-versions.ensures.stable c.in-Ok.ensures.quads);
-      laid = c.in-Ok.ensures.spans;
-      prepared = subst (λ (k : CallView). ArePrepared k.locked k.clean_per_version plan.versions) call c.in-Ok.ensures.prepared;
-      told = all-told c.in_ok-list.notices.items c.in_ok-packages.on_features.items c.in_ok-versions.on_range.items c.in_ok-on_left_out.on_left_out.items c.append.new.self.items c.append-2.new.self.items c.append-3.new.self.items
+      planned = subst (λ ks. ArePlanned cx single (map place_at ids) ks on_features) (sym c.in-Ok-of_scene.ensures.packages) planned;
+      call = c.in-Ok-of_scene.ensures.call ∙ call;
+      places = subst (λ ns. ArePlaces scene ns c.args.latest plan.quads) (sym counts) (subst (λ v. ArePlaces scene (counts_in packages) v plan.quads) c.in_ok-versions.ensures.stable c.in-Ok-of_scene.ensures.quads);
+      laid = c.in-Ok-of_scene.ensures.spans;
+      prepared = subst (λ (k : CallView). ArePrepared k.locked k.clean_per_version plan.versions) call c.in-Ok-of_scene.ensures.prepared;
+      told = all-told c.in_ok-list.notices.items c.in-Ok.answer.1.items c.in_ok-versions.on_range.items c.in_ok-on_left_out.on_left_out.items c.append.new.self.items c.append-2.new.self.items c.append-3.new.self.items
           (left_out_notes cx (map place_at ids) scene c.in_ok-versions.versions.groups.items)
           c.in_ok-append.ensures.items c.in_ok-append-2.ensures.items c.in_ok-append-3.ensures.items
           (c.in_ok-on_left_out.ensures ∙ ap (λ (l : List PackageId). left_out_notes cx (map place_at l) scene c.in_ok-versions.versions.groups.items) c.as_slice-ids.ensures.value);
       readable = subst (λ (l : List PackageId). (e : VersionFault) → ¬ HasBadOwn cx (map place_at l) e) c.as_slice.ensures.value c.in_ok-scene.ensures.never;
       in_range = c.in_ok-versions.ensures.never;
-      fits = λ many. c.in-Ok.ensures.never (subst (λ v. HasTooMany scene (counts_in packages) v) (sym c.in_ok-versions.ensures.stable) (subst (λ ns. HasTooMany scene ns c.args.latest) counts many));
+      fits = λ many. c.in-Ok-of_scene.ensures.never (subst (λ v. HasTooMany scene (counts_in packages) v) (sym c.in_ok-versions.ensures.stable) (subst (λ ns. HasTooMany scene ns c.args.latest) counts many));
     }
 
 pub returns-clause-covered : goal.returns-clause-covered
-returns-clause-covered c = λ rustup call powerset each.
-    covers (context_view c.args.cx.now) rustup c.args.latest c.in-Ok.plan _ (returns-clause-ok c rustup call) powerset each
+returns-clause-covered c = λ rustup call powerset all each.
+    covers (context_view c.args.cx.now) rustup c.args.latest c.in-Ok-of_scene.plan _ (returns-clause-ok c rustup call) powerset all each
 
 pub returns-clause-never : goal.returns-clause-never
 returns-clause-never c =
@@ -99,8 +108,8 @@ returns-clause-never c =
     let ids = c.in_ok-list.list.ids.items in
     let single = c.in_ok-list.list.is_single in
     let scene = c.in_ok-scene.scene in
-    let packages = c.in_ok-packages.packages.items in
-    let on_features = map note_of c.in_ok-packages.on_features.items in
+    let packages = c.in-Ok.answer.0.items in
+    let on_features = map note_of c.in-Ok.answer.1.items in
     no-cause cx c.args.latest (record {
       ids = map place_at ids;
       single = single;
@@ -110,9 +119,9 @@ returns-clause-never c =
       on_features = on_features;
       chosen = c.in_ok-list.ensures.ok;
       of_call = subst (λ l. IsSceneOf cx (map place_at l) scene) c.as_slice.ensures.value c.in_ok-scene.ensures.ok;
-      planned = subst (λ l. ArePlanned cx single (map place_at l) (map package_view packages) on_features) c.as_slice-ids.ensures.value c.in_ok-packages.ensures;
+      planned = subst (λ l. ArePlanned cx single (map place_at l) (map package_view packages) on_features) c.as_slice-ids.ensures.value c.in-Ok.ensures.ok;
       known = c.in_ok-list.ensures.never;
       readable = subst (λ (l : List PackageId). (e : VersionFault) → ¬ HasBadOwn cx (map place_at l) e) c.as_slice.ensures.value c.in_ok-scene.ensures.never;
       in_range = c.in_ok-versions.ensures.never;
-      fits = λ many. c.in-Ok.ensures.never (subst (λ v. HasTooMany scene (counts_in packages) v) (sym c.in_ok-versions.ensures.stable) (subst (λ ns. HasTooMany scene ns c.args.latest) (counts-same packages) many));
+      fits = λ many. c.in-Ok-of_scene.ensures.never (subst (λ v. HasTooMany scene (counts_in packages) v) (sym c.in_ok-versions.ensures.stable) (subst (λ ns. HasTooMany scene ns c.args.latest) (counts-same packages) many));
     })

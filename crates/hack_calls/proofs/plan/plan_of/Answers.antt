@@ -4,12 +4,14 @@ use Rattle.hack_load.specs.ContextView.{context_view}
 use Rattle.hack_base.specs.Notes.{note_of}
 use Rattle.hack_words.specs.declared.cli.args.Args.{Args}
 use Rattle.hack_calls.specs.Covered.{AreCovered}
-use Rattle.hack_calls.specs.Made.{IsPlan, IsPlanOf, IsCause, IsCauseOf}
+use Rattle.hack_calls.specs.Made.{IsPlan, IsPlanOf, IsSureCause, IsSureCauseOf}
 use Rattle.hack_calls.specs.declared.fault.PlanFault.{PlanFault}
 use Rattle.hack_calls.specs.Powersets.{HavePowersets}
 use Rattle.hack_calls.proofs.MadeLemmas.{by-subcommand, same-latest}
 use Rattle.hack_calls.proofs.NeverLemmas.{cause-by}
 use Rattle.hack_calls.proofs.PowersetLemmas.{powersets}
+use Rattle.hack_calls.proofs.SampleLemmas.{samples, patterns}
+use Rattle.hack_calls.specs.Samples.{HaveSamples, ArePatternsHeld}
 use Rattle.hack_calls.proofs.plan.plan_of.Goals as goal
 
 pub returns-in-Ok-clause-ok : goal.returns-in-Ok-clause-ok
@@ -22,20 +24,36 @@ returns-in-Ok-clause-ok c =
     (c.plan_by.ensures.ok c.args.rustup.now c.in_ok-words.ensures)
 
 pub returns-in-Ok-clause-covered : goal.returns-in-Ok-clause-covered
-returns-in-Ok-clause-covered c = λ latest is _ powerset each.
+returns-in-Ok-clause-covered c = λ latest is _ powerset all each.
     let cx = context_view c.args.cx.now in
     let same = same-latest c.args.stable c.in-Ok.latest latest c.in-Ok.is is in
-    subst (λ v. IfOk c.plan_by.result (λ answer. AreCovered cx v answer.0)) same (c.plan_by.ensures.covered c.args.rustup.now c.in_ok-words.ensures powerset each)
+    subst (λ v. IfOk c.plan_by.result (λ answer. AreCovered cx v answer.0)) same (c.plan_by.ensures.covered c.args.rustup.now c.in_ok-words.ensures powerset all each)
 
 pub returns-in-Ok-clause-powersets : goal.returns-in-Ok-clause-powersets
-returns-in-Ok-clause-powersets c = λ _ powerset.
+returns-in-Ok-clause-powersets c = λ _ powerset all.
     let cx = context_view c.args.cx.now in
     IfOk-weaker c.plan_by.result (λ answer. IsPlan cx c.args.rustup.now c.in-Ok.latest answer.0 (map note_of answer.1.items)) (λ answer. HavePowersets cx answer.0)
-    (λ answer h. powersets cx c.args.rustup.now c.in-Ok.latest answer.0 (map note_of answer.1.items) h powerset)
+    (λ answer h. powersets cx c.args.rustup.now c.in-Ok.latest answer.0 (map note_of answer.1.items) h powerset all)
     (c.plan_by.ensures.ok c.args.rustup.now c.in_ok-words.ensures)
+
+pub returns-in-Ok-clause-samples : goal.returns-in-Ok-clause-samples
+returns-in-Ok-clause-samples c = λ strength _ powerset given.
+    let cx = context_view c.args.cx.now in
+    IfOk-weaker c.plan_by.result (λ answer. IsPlan cx c.args.rustup.now c.in-Ok.latest answer.0 (map note_of answer.1.items)) (λ answer. HaveSamples cx strength answer.0)
+    (λ answer h. samples cx c.args.rustup.now c.in-Ok.latest answer.0 (map note_of answer.1.items) strength h powerset given)
+    (c.plan_by.ensures.ok c.args.rustup.now c.in_ok-words.ensures)
+
+pub returns-in-Ok-clause-patterns : goal.returns-in-Ok-clause-patterns
+returns-in-Ok-clause-patterns c = λ strength latest is _ powerset given each.
+    let cx = context_view c.args.cx.now in
+    let same = same-latest c.args.stable c.in-Ok.latest latest c.in-Ok.is is in
+    subst (λ v. IfOk c.plan_by.result (λ answer. ArePatternsHeld cx strength v answer.0)) same
+    (IfOk-weaker c.plan_by.result (λ answer. IsPlan cx c.args.rustup.now c.in-Ok.latest answer.0 (map note_of answer.1.items)) (λ answer. ArePatternsHeld cx strength c.in-Ok.latest answer.0)
+      (λ answer h. patterns cx c.args.rustup.now c.in-Ok.latest answer.0 (map note_of answer.1.items) strength h powerset given each)
+      (c.plan_by.ensures.ok c.args.rustup.now c.in_ok-words.ensures))
 
 pub returns-in-Ok-clause-never : goal.returns-in-Ok-clause-never
 returns-in-Ok-clause-never c =
     let cx = context_view c.args.cx.now in
-    IfOk-weaker c.plan_by.result (λ _. (e : PlanFault) → ¬ IsCause cx c.in-Ok.latest e) (λ _. (e : PlanFault) → ¬ IsCauseOf cx.args.subcommand c.args.stable cx e)
+    IfOk-weaker c.plan_by.result (λ _. (e : PlanFault) → ¬ IsSureCause cx c.in-Ok.latest e) (λ _. (e : PlanFault) → ¬ IsSureCauseOf cx.args.subcommand c.args.stable cx e)
     (λ answer never e bad. never e (cause-by cx.args.subcommand c.args.stable c.in-Ok.latest cx e c.in-Ok.is bad)) c.plan_by.ensures.never

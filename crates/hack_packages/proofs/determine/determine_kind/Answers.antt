@@ -1,4 +1,4 @@
-use Rattle.std.proofs.Common.{◌≡◌, ◌∙◌, ◌<◌, length, IfOk, Some, map, sym, subst, true}
+use Rattle.std.proofs.Common.{◌≡◌, ◌∙◌, ◌<◌, length, IfOk, IfErr, ◌⊎◌, None, Some, map, sym, subst, true}
 use Rattle.std.proofs.lemmas.Result.{IfOk-weaker}
 use Rattle.hack_load.specs.ContextView.{context_view}
 use Rattle.hack_load.specs.declared.features.Features.{Features}
@@ -7,9 +7,11 @@ use Rattle.hack_base.specs.Notes.{note_of}
 use Rattle.hack_words.specs.declared.cli.args.Args.{Args}
 use Rattle.hack_packages.specs.Candidates.{candidate_notes}
 use Rattle.hack_packages.specs.CandidatesView.{wishes}
-use Rattle.hack_packages.specs.Kinds.{AreRuns, AreCovering, IsDepthOne, as_each}
-use Rattle.hack_packages.specs.KindsView.{IsKind, runs_of}
+use Rattle.hack_packages.specs.Kinds.{AreRuns, AreCovering, AreRunSettings, IsDepthOne, as_each, choice_of}
+use Rattle.hack_packages.specs.KindsView.{IsKind, IsRunsFault, runs_of}
 use Rattle.hack_packages.specs.ContextMembers.{known_as}
+use Rattle.hack_features.specs.Sets.{rows_of}
+use Rattle.hack_samples.specs.declared.fault.SampleFault.TheVariants as fault
 use Rattle.hack_packages.proofs.determine.determine_kind.Goals as goal
 
 pub packages-pkg-requires : goal.packages-pkg-requires
@@ -38,13 +40,23 @@ returns-clause-notices c = λ (p : PackageRecord) (f : Features) ep ef.
     c.args-2.ensures (sym ep ∙ c.packages-pkg.ensures) (sym ef ∙ c.pkg_features-features.ensures) c.determine_runs.ensures.notices
 
 pub returns-clause-covered : goal.returns-clause-covered
-returns-clause-covered c = λ (p : PackageRecord) (f : Features) ep ef powerset.
-    let before : IfOk c.determine_runs.result (λ answer. (context_view c.args.context.now).args.feature_powerset ≡ true → AreCovering (wishes (context_view c.args.context.now).args) (known_as p f) (runs_of answer.0.kind)) =
-    moved (λ (args : Args) (q : PackageRecord) (g : Features). IfOk c.determine_runs.result (λ answer. args.feature_powerset ≡ true → AreCovering (wishes args) (known_as q g) (runs_of answer.0.kind))) _ _ _ _ _ _
+returns-clause-covered c = λ (p : PackageRecord) (f : Features) ep ef powerset all.
+    let before : IfOk c.determine_runs.result (λ answer. (context_view c.args.context.now).args.feature_powerset ≡ true → (context_view c.args.context.now).args.strength ≡ None → AreCovering (wishes (context_view c.args.context.now).args) (known_as p f) (runs_of answer.0.kind)) =
+    moved (λ (args : Args) (q : PackageRecord) (g : Features). IfOk c.determine_runs.result (λ answer. args.feature_powerset ≡ true → args.strength ≡ None → AreCovering (wishes args) (known_as q g) (runs_of answer.0.kind))) _ _ _ _ _ _
     c.args-2.ensures (sym ep ∙ c.packages-pkg.ensures) (sym ef ∙ c.pkg_features-features.ensures) c.determine_runs.ensures.covered in
-    IfOk-weaker c.determine_runs.result _ _ (λ answer h. h powerset) before
+    IfOk-weaker c.determine_runs.result _ _ (λ answer h. h powerset all) before
 
 pub returns-clause-depth_one : goal.returns-clause-depth_one
 returns-clause-depth_one c = λ (p : PackageRecord) (f : Features) ep ef.
     moved (λ (args : Args) (q : PackageRecord) (g : Features). IfOk c.determine_runs.result (λ answer. IsDepthOne (wishes args) → 0 < length (known_as q g).optional → AreRuns (as_each (wishes args)) (known_as q g) (runs_of answer.0.kind))) _ _ _ _ _ _
     c.args-2.ensures (sym ep ∙ c.packages-pkg.ensures) (sym ef ∙ c.pkg_features-features.ensures) c.determine_runs.ensures.depth_one
+
+pub returns-clause-settings : goal.returns-clause-settings
+returns-clause-settings c = λ (p : PackageRecord) (f : Features) ep ef.
+    moved (λ (args : Args) (q : PackageRecord) (g : Features). IfOk c.determine_runs.result (λ answer. AreRunSettings args.strength (choice_of (wishes args) (known_as q g)) (runs_of answer.0.kind) (rows_of answer.0.settings.items))) _ _ _ _ _ _
+    c.args-2.ensures (sym ep ∙ c.packages-pkg.ensures) (sym ef ∙ c.pkg_features-features.ensures) c.determine_runs.ensures.settings
+
+pub returns-clause-err : goal.returns-clause-err
+returns-clause-err c = λ (p : PackageRecord) (f : Features) ep ef.
+    moved (λ (args : Args) (q : PackageRecord) (g : Features). IfErr c.determine_runs.result (λ e. (e ≡ fault.Memory) ⊎ IsRunsFault (wishes args) (known_as q g) e)) _ _ _ _ _ _
+    c.args-2.ensures (sym ep ∙ c.packages-pkg.ensures) (sym ef ∙ c.pkg_features-features.ensures) c.determine_runs.ensures.err

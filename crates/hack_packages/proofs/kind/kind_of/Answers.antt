@@ -9,12 +9,12 @@ use Rattle.hack_packages.proofs.KindLemmas.{covering-runs}
 use Rattle.hack_packages.proofs.kind.kind_of.Goals as goal
 
 pub returns-then-args-clause-covered : goal.returns-then-args-clause-covered
-returns-then-args-clause-covered c = λ powerset.
+returns-then-args-clause-covered c = λ powerset all.
     let w : Wishes = wishes c.args.args.now in
     let p : Known = known_of_package c.args.pkg.now c.args.features.now in
     let sets : List (List ℕ) = sets_in c.in_ok-sets.sets in
     let some : is_plain (options_of w p) sets ≡ false =
     ap (λ o. is_plain o sets) (sym c.options-options.ensures) ∙ sym (c.is_plain.ensures sets (sym c.len.ensures.same)) ∙ c.if-is_plain.false in
     covering-runs w p sets _ some
-    (c.in_ok-sets.ensures.covers c.args.features.now (ap groups_of c.deref.ensures.value ∙ c.in_ok-candidates.ensures) powerset)
+    (c.in_ok-sets.ensures.covers c.args.features.now (ap groups_of c.deref.ensures.value ∙ c.in_ok-candidates.ensures) powerset all)
     (c.in_ok-runs.ensures ∙ ap (λ o. runs_from o sets) c.options-options.ensures)

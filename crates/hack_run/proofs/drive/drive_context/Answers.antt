@@ -10,7 +10,7 @@ use Rattle.hack_run.proofs.drive.drive_context.Goals as goal
 pub returns-clause-headline : goal.returns-clause-headline
 returns-clause-headline g c =
     handed_out (context_view c.args.cx.now) c.args.stable c.args.rustup.now c.in_ok-session.session c.in_ok-plan.plan (map note_of c.in_ok-plan.notices.items) c.args-3.result.now c.args-3.ensures
-    c.in_ok-plan.ensures.ok c.in_ok-plan.ensures.powersets c.in_ok-session.ensures.plan (c.in_ok-session.ensures.keep_going ∙ ap (λ (a : Args). a.keep_going) c.args-2.ensures) c.in_ok-session.ensures.schedule c.in_ok-session.ensures.complete c.in_ok-session.ensures.history c.in_ok-session.ensures.hands_out
+    c.in_ok-plan.ensures.ok c.in_ok-plan.ensures.powersets c.in_ok-plan.ensures.samples c.in_ok-plan.ensures.patterns c.in_ok-session.ensures.plan (c.in_ok-session.ensures.keep_going ∙ ap (λ (a : Args). a.keep_going) c.args-2.ensures) c.in_ok-session.ensures.schedule c.in_ok-session.ensures.complete c.in_ok-session.ensures.history c.in_ok-session.ensures.hands_out
 
 pub returns-clause-ran : goal.returns-clause-ran
 returns-clause-ran g c =

@@ -1,0 +1,5 @@
+//! Which small patterns of candidates only failed runs show, and the notices on them.
+
+pub use hack_session::suspect_notes::suspect_notes;
+pub use hack_session::suspects::{Explained, Part};
+pub use hack_suspects::{Outcome, SuspectFault, finds_faults, suspects};

@@ -1,0 +1,144 @@
+-- Lemmas on the parts with failed runs, and on what came of a part's runs.
+use Rattle.std.proofs.Common.{◌≡◌, ◌≢◌, ℕ, ◌+◌, ◌<◌, List, [], ◌∷◌, ◌++◌, length, get_or, take, map, refl, sym, ◌∙◌, ap, subst, arith, Bool, true, false, ◌⊎◌, inl, inr, ◌↔◌, All, Contains, Some, None}
+use Rattle.std.proofs.lemmas.List.{take_more}
+use Rattle.std.proofs.lemmas.List.Elements.{Contains-get_or, Contains-append_left, Contains-append_right, Contains-append_cases, Contains-push, Contains-push_cases}
+use Rattle.std.proofs.lemmas.List.Quantifiers.{all_pairs_push}
+use Rattle.hack_runs.specs.View.{PlanView}
+use Rattle.hack_plan.specs.declared.places.Quad.{Quad}
+use Rattle.hack_suspects.specs.Suspects.{Outcome as Run_outcome}
+use Rattle.hack_session.specs.declared.step.Handed.{Handed}
+use Rattle.hack_session.specs.declared.step.Outcome.{Outcome}
+use Rattle.hack_session.specs.declared.step.Outcome.TheVariants.{Passed, Failed}
+use Rattle.hack_session.specs.declared.suspects.Part.{Part}
+use Rattle.std.proofs.Common.{Result, Ok, Err, IfOk}
+use Rattle.std.specs.Prelude.{slice_get}
+use Rattle.std.specs.List.{slice_index_or}
+use Rattle.std.proofs.lemmas.List.{map-append}
+use Rattle.hack_suspects.specs.declared.suspect.Outcome.{Outcome as Ran}
+use Rattle.hack_suspects.specs.Suspects.{outcomes_of}
+use Rattle.hack_session.specs.Histories.{Course}
+use Rattle.hack_session.specs.Suspects.{AreExplained, ExplainedView, IsExplained, outcome_of, part_explained, settings_in}
+use Rattle.hack_session.specs.Suspects.{AreDistinct, AreOutcomes, HasFailed, is_failed, part_at, part_where, part_of, quad_of}
+
+bools-differ : {b : Bool} → b ≡ true → b ≡ false → ⊥
+bools-differ p q = let e : true ≡ false = sym p ∙ q in cc
+
+failed-is : (o : Outcome) → is_failed o ≡ true → o ≡ Failed
+failed-is Passed e = absurd (bools-differ e refl)
+failed-is Failed e = refl
+
+empty-none : {X : Type 0} (x : X) → Contains [] x → ⊥
+empty-none x h = omega (arith, h.1)
+
+-- a step alone is a failed run of a part
+pub failed-single : (plan : PlanView) (h : Handed) (part : Part) → is_failed h.outcome ≡ true → part_at plan h ≡ Some part → HasFailed plan (h ∷ []) part
+failed-single plan h part failed of = record { by = h; among = Contains-push [] h; failed = failed-is h.outcome failed; of = of }
+
+pub single-failed : (plan : PlanView) (h : Handed) (part : Part) → HasFailed plan (h ∷ []) part → (is_failed h.outcome ≡ true) × (part_at plan h ≡ Some part)
+single-failed plan h part f =
+    elim (Contains-push_cases [] h f.by f.among) [
+      | inl none ↦ absurd (empty-none f.by none)
+      | inr e ↦ (ap (λ (x : Handed). is_failed x.outcome) e ∙ ap is_failed f.failed, ap (part_at plan) e ∙ f.of)
+    ]
+
+pub none-failed : (plan : PlanView) (h : Handed) (part : Part) → is_failed h.outcome ≡ false → HasFailed plan (h ∷ []) part → ⊥
+none-failed plan h part passed f = bools-differ (single-failed plan h part f).0 passed
+
+pub no-part : (plan : PlanView) (h : Handed) (part : Part) → part_at plan h ≡ None → HasFailed plan (h ∷ []) part → ⊥
+no-part plan h part none f = let e : Some part ≡ None = sym (single-failed plan h part f).1 ∙ none in cc
+
+-- failed runs among earlier and later steps
+pub failed-before : (plan : PlanView) (xs ys : List Handed) (part : Part) → HasFailed plan xs part → HasFailed plan (xs ++ ys) part
+failed-before plan xs ys part f = record { by = f.by; among = Contains-append_left xs ys f.by f.among; failed = f.failed; of = f.of }
+
+pub failed-after : (plan : PlanView) (xs ys : List Handed) (part : Part) → HasFailed plan ys part → HasFailed plan (xs ++ ys) part
+failed-after plan xs ys part f = record { by = f.by; among = Contains-append_right xs ys f.by f.among; failed = f.failed; of = f.of }
+
+pub failed-cases : (plan : PlanView) (xs ys : List Handed) (part : Part) → HasFailed plan (xs ++ ys) part → HasFailed plan xs part ⊎ HasFailed plan ys part
+failed-cases plan xs ys part f =
+    elim (Contains-append_cases xs ys f.by f.among) [
+      | inl a ↦ inl (record { by = f.by; among = a; failed = f.failed; of = f.of })
+      | inr b ↦ inr (record { by = f.by; among = b; failed = f.failed; of = f.of })
+    ]
+
+-- the parts that are listed are those of one more step
+pub parts-more : (plan : PlanView) (before : List Handed) (h : Handed) (old new : List Part) → ((part : Part) → Contains new part ↔ (Contains old part ⊎ HasFailed plan (h ∷ []) part)) → ((part : Part) → Contains old part ↔ HasFailed plan before part)
+    → (part : Part) → Contains new part ↔ HasFailed plan (before ++ h ∷ []) part
+parts-more plan before h old new more are part = (
+  λ c. elim ((more part).0 c) [ inl o ↦ failed-before plan before (h ∷ []) part ((are part).0 o) | inr f ↦ failed-after plan before (h ∷ []) part f ],
+  λ f. elim (failed-cases plan before (h ∷ []) part f) [ inl b ↦ (more part).1 (inl ((are part).1 b)) | inr g ↦ (more part).1 (inr g) ],
+)
+
+-- no part is added
+pub parts-same : (parts : List Part) (Q : Part → Type 0) → ((part : Part) → Q part → ⊥) → (part : Part) → Contains parts part ↔ (Contains parts part ⊎ Q part)
+parts-same parts Q not part = (λ c. inl c, λ s. elim s [ inl c ↦ c | inr q ↦ absurd (not part q) ])
+
+-- the part that is added is that of a failed step
+pub parts-added : (plan : PlanView) (h : Handed) (added : Part) (old new : List Part) → is_failed h.outcome ≡ true → part_at plan h ≡ Some added → ((part : Part) → Contains new part ↔ (Contains old part ⊎ (added ≡ part)))
+    → (part : Part) → Contains new part ↔ (Contains old part ⊎ HasFailed plan (h ∷ []) part)
+parts-added plan h added old new failed of more part = (
+  λ c. elim ((more part).0 c) [ inl o ↦ inl o | inr e ↦ inr (failed-single plan h part failed (of ∙ ap Some e)) ],
+  λ s. elim s [ inl o ↦ (more part).1 (inl o) | inr f ↦ (more part).1 (inr (same added part (sym of ∙ (single-failed plan h part f).1))) ],
+)
+  where
+    same : (a b : Part) → Some a ≡ Some b → a ≡ b
+    same a b e = cc
+
+pub there-already : (parts : List Part) (part : Part) → Contains parts part → (other : Part) → Contains parts other ↔ (Contains parts other ⊎ (part ≡ other))
+there-already parts part there other = (λ c. inl c, λ s. elim s [ inl c ↦ c | inr e ↦ subst (Contains parts) e there ])
+
+pub one-more : (parts : List Part) (part : Part) (other : Part) → Contains (parts ++ part ∷ []) other ↔ (Contains parts other ⊎ (part ≡ other))
+one-more parts part other = (
+  λ c. Contains-push_cases parts part other c,
+  λ s. elim s [ inl c ↦ Contains-append_left parts (part ∷ []) other c | inr e ↦ subst (Contains (parts ++ part ∷ [])) e (Contains-push parts part) ],
+)
+
+pub distinct-more : (parts : List Part) (part : Part) → (Contains parts part → ⊥) → AreDistinct parts → AreDistinct (parts ++ part ∷ [])
+distinct-more parts part not distinct = all_pairs_push (λ one other. one ≢ other) parts part distinct (λ k d lt e. not (subst (Contains parts) e (Contains-get_or parts k d lt)))
+
+-- none of one more is the part
+pub not-among-more : (parts : List Part) (i : ℕ) (part : Part) → i < length parts → (Contains (take i parts) part → ⊥) → ((d : Part) → get_or parts i d ≢ part) → Contains (take (i + 1) parts) part → ⊥
+not-among-more parts i part lt not differs c =
+    elim (Contains-push_cases (take i parts) (get_or parts i part) part (subst (λ l. Contains l part) (take_more parts i part lt) c)) [
+      | inl before ↦ not before
+      | inr e ↦ differs part e
+    ]
+
+-- a step of another part, or of none, adds nothing
+pub no-quad : (plan : PlanView) (h : Handed) (part : Part) → quad_of plan h.step ≡ None → part_at plan h ≢ Some part
+no-quad plan h part none e = let f : None ≡ Some part = sym (ap part_where none) ∙ e in cc
+
+pub other-quad : (plan : PlanView) (h : Handed) (q : Quad) (part : Part) → quad_of plan h.step ≡ Some q → part_of q ≢ Some part → part_at plan h ≢ Some part
+other-quad plan h q part is other e = other (sym (ap part_where is) ∙ e)
+
+pub parts-step : (plan : PlanView) (xs : List Handed) (i : ℕ) (d : Handed) (old new : List Part) → i < length xs → ((part : Part) → Contains new part ↔ (Contains old part ⊎ HasFailed plan (get_or xs i d ∷ []) part)) → ((part : Part) → Contains old part ↔ HasFailed plan (take i xs) part)
+    → (part : Part) → Contains new part ↔ HasFailed plan (take (i + 1) xs) part
+parts-step plan xs i d old new lt more are = subst (λ l. (part : Part) → Contains new part ↔ HasFailed plan l part) (sym (take_more xs i d lt)) (parts-more plan (take i xs) (get_or xs i d) old new more are)
+
+pub outcomes-step : (plan : PlanView) (part : Part) (xs : List Handed) (i : ℕ) (d : Handed) (outcomes : List Run_outcome) → i < length xs → AreOutcomes plan part (take i xs ++ get_or xs i d ∷ []) outcomes → AreOutcomes plan part (take (i + 1) xs) outcomes
+outcomes-step plan part xs i d outcomes lt came = subst (λ l. AreOutcomes plan part l outcomes) (sym (take_more xs i d lt)) came
+
+-- what came of one more run is added
+pub outcome-pushed : (plan : PlanView) (part : Part) (q : Quad) (outcome : Outcome) (old new : List Ran) (run : Ran) → new ≡ old ++ run ∷ [] → run.on.items ≡ slice_index_or (settings_in (slice_get plan.packages part.package)) q.rank [] → run.failed ≡ is_failed outcome
+    → outcomes_of new ≡ outcomes_of old ++ outcome_of plan part q outcome ∷ []
+outcome-pushed plan part q outcome old new run more on failed =
+    let plain : Ran → Run_outcome = λ r. record { on = r.on.items; failed = r.failed } in
+    let row : Run_outcome → List Run_outcome = λ o. outcomes_of old ++ o ∷ [] in
+    ap outcomes_of more ∙ map-append plain old (run ∷ [])
+    ∙ ap (λ (l : List Bool). row (record { on = l; failed = run.failed })) on
+    ∙ ap (λ (b : Bool). row (record { on = slice_index_or (settings_in (slice_get plan.packages part.package)) q.rank []; failed = b })) failed
+
+pub if_ok_both : {X E : Type 0} (P Q R : X → Type 0) (r : Result X E) → ((x : X) → P x → Q x → R x) → IfOk r P → IfOk r Q → IfOk r R
+if_ok_both P Q R (Ok x) f p q = f x p q
+if_ok_both P Q R (Err e) f p q = p
+
+-- the parts that are explained are those that failed
+pub explained-by : (t : Course) (strength : ℕ) (plan : PlanView) (handed : List Handed) (parts slice : List Part) (all : List ExplainedView) → plan ≡ t.plan → handed ≡ t.handed → slice ≡ parts
+    → AreDistinct parts → ((part : Part) → Contains parts part ↔ HasFailed plan handed part) → map part_explained all ≡ slice → All (IsExplained plan handed strength) all → AreExplained t strength all
+explained-by t strength plan handed parts slice all p h s once exactly same each =
+    let is : parts ≡ map part_explained all = sym (same ∙ s) in
+    record {
+      once = subst AreDistinct is once;
+      exactly = λ part. subst (λ l. Contains l part ↔ HasFailed t.plan t.handed part) is (subst (λ w. Contains parts part ↔ HasFailed w t.handed part) p (subst (λ g. Contains parts part ↔ HasFailed plan g part) h (exactly part)));
+      explained = subst (λ w. All (IsExplained w t.handed strength) all) p (subst (λ g. All (IsExplained plan g strength) all) h each);
+    }

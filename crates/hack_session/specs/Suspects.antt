@@ -1,0 +1,111 @@
+-- Which small patterns explain the failed runs of a plan.
+use Rattle.std.specs.Prelude.{ℕ, ◌≡◌, ◌≢◌, ◌<◌, ◌≤◌, ◌*◌, ◌++◌, ◌↔◌, List, [], ◌∷◌, Bool, true, false, Option, Some, None, All, AllPairs, Contains, length, map, option_map, slice_get}
+use Rattle.std.specs.List.{slice_index_or}
+use Rattle.hack_plan.specs.declared.places.Quad.{Quad}
+use Rattle.hack_runs.specs.View.{PackageView, PlanView}
+use Rattle.hack_samples.specs.Sets.{rows_of}
+use Rattle.hack_samples.specs.declared.sets.Setting.{Setting}
+use Rattle.hack_suspects.specs.Suspects.{Outcome as Run_outcome, AreSuspects, choices}
+use Rattle.hack_session.specs.declared.step.Step.{Step}
+use Rattle.hack_session.specs.declared.step.Step.TheVariants.{Prepare, Skip, Run}
+use Rattle.hack_session.specs.declared.step.Outcome.{Outcome}
+use Rattle.hack_session.specs.declared.step.Outcome.TheVariants.{Passed, Failed}
+use Rattle.hack_session.specs.declared.step.Handed.{Handed}
+use Rattle.hack_session.specs.declared.suspects.Part.{Part}
+use Rattle.hack_session.specs.declared.suspects.Explained.{Explained}
+use Rattle.hack_session.specs.Histories.{Course}
+
+-- the runs of a version, a slot and a package
+abbrev pub part_in : Quad → Option ℕ → Option Part
+part_in q None = None
+part_in q (Some place) = Some (record { version = q.version; slot = q.slot; «package» = place })
+
+-- the part of a run, where it is for a single package
+abbrev pub part_of : Quad → Option Part
+part_of q = part_in q q.package
+
+-- the run of a step, where it has one
+abbrev pub quad_of : PlanView → Step → Option Quad
+quad_of plan (Prepare preparation) = None
+quad_of plan (Skip place) = None
+quad_of plan (Run place) = slice_get plan.quads place
+
+-- the part of a run, where there is one
+abbrev pub part_where : Option Quad → Option Part
+part_where None = None
+part_where (Some q) = part_of q
+
+-- the part that a handed step is a run of, where it is one of a single package
+abbrev pub part_at : PlanView → Handed → Option Part
+part_at plan h = part_where (quad_of plan h.step)
+
+-- for each run of a package which candidates are on in it
+abbrev pub settings_in : Option PackageView → List (List Bool)
+settings_in None = []
+settings_in (Some k) = k.settings
+
+-- how many candidates a package has
+abbrev pub count_in : Option PackageView → ℕ
+count_in None = 0
+count_in (Some k) = length k.candidates
+
+-- an outcome is that the run failed
+abbrev pub is_failed : Outcome → Bool
+is_failed Passed = false
+is_failed Failed = true
+
+-- what came of a part's run: which candidates were on in it, and whether it failed
+abbrev pub outcome_of : PlanView → Part → Quad → Outcome → Run_outcome
+outcome_of plan part q outcome = record { on = slice_index_or (settings_in (slice_get plan.packages part.package)) q.rank []; failed = is_failed outcome }
+
+-- what came of the part's runs among the handed steps, in order
+pub data AreOutcomes (plan : PlanView) (part : Part) : List Handed → List Run_outcome → Type 0 where
+  starts : AreOutcomes plan part [] []
+  ran : {handed : List Handed} {outcomes : List Run_outcome} (h : Handed) (q : Quad) → AreOutcomes plan part handed outcomes → quad_of plan h.step ≡ Some q → part_of q ≡ Some part
+      → AreOutcomes plan part (handed ++ h ∷ []) (outcomes ++ outcome_of plan part q h.outcome ∷ [])
+  passes : {handed : List Handed} {outcomes : List Run_outcome} (h : Handed) → AreOutcomes plan part handed outcomes → part_at plan h ≢ Some part → AreOutcomes plan part (handed ++ h ∷ []) outcomes
+
+-- a part, and the suspects of its runs, or none where there are too many patterns to look at
+pub record ExplainedView : Type 0 where
+  pub part : Part
+  pub suspects : Option (List (List Setting))
+
+-- the same without where it lies in memory
+abbrev pub explained_view : Explained → ExplainedView
+explained_view e = record { part = e.part; suspects = option_map (λ found. rows_of found.items) e.suspects }
+
+-- the part of what is explained
+abbrev pub part_explained : ExplainedView → Part
+part_explained e = e.part
+
+-- so many patterns are looked at
+abbrev pub most_patterns : ℕ
+most_patterns = 1000000000
+
+-- these are all the suspects, and none are listed just where there are too many patterns to look at
+abbrev pub AreFound : List Run_outcome → ℕ → ℕ → Option (List (List Setting)) → Type 0
+AreFound outcomes n strength None = most_patterns < length outcomes * choices n strength
+AreFound outcomes n strength (Some found) = AreSuspects outcomes n strength found × (length outcomes * choices n strength ≤ most_patterns)
+
+-- the part is explained by what came of its runs
+pub record IsExplained (plan : PlanView) (handed : List Handed) (strength : ℕ) (e : ExplainedView) : Type 0 where
+  pub outcomes : List Run_outcome
+  pub came : AreOutcomes plan e.part handed outcomes
+  pub found : AreFound outcomes (count_in (slice_get plan.packages e.part.package)) strength e.suspects
+
+-- some run of the part failed
+pub record HasFailed (plan : PlanView) (handed : List Handed) (part : Part) : Type 0 where
+  pub by : Handed
+  pub among : Contains handed by
+  pub failed : by.outcome ≡ Failed
+  pub of : part_at plan by ≡ Some part
+
+-- each is listed once
+abbrev pub AreDistinct : List Part → Type 0
+AreDistinct parts = AllPairs (λ one other. one ≢ other) parts
+
+-- just the parts with failed runs are explained, each once
+pub record AreExplained (t : Course) (strength : ℕ) (all : List ExplainedView) : Type 0 where
+  pub once : AreDistinct (map part_explained all)
+  pub exactly : (part : Part) → Contains (map part_explained all) part ↔ HasFailed t.plan t.handed part
+  pub explained : All (IsExplained t.plan t.handed strength) all

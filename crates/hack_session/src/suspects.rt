@@ -1,0 +1,307 @@
+//! Which small patterns explain the failed runs of a session, where a covering sample of sets was
+//! run.
+
+ghost use Rattle.std.specs.Prelude.{◌≡◌, ◌≢◌, ◌⊎◌, ◌↔◌, ◌++◌, ◌∷◌, [], List, Some, IfOk, OnOk};
+ghost use Rattle.std.specs.Prelude.{All, Contains, MatchBool, length, map, option_map, slice_get};
+ghost use Rattle.std.specs.List.{slice_index_or};
+ghost use Rattle.hack_samples.specs.Sets.{rows_of};
+ghost use Rattle.hack_suspects.specs.Suspects.{outcomes_of};
+ghost use Rattle.hack_session.specs.Suspects.{AreDistinct, AreExplained, AreFound, AreOutcomes};
+ghost use Rattle.hack_session.specs.Suspects.{HasFailed, IsExplained, count_in, explained_view};
+ghost use Rattle.hack_session.specs.Suspects.{is_failed, part_at, part_explained, part_of, quad_of};
+ghost use Rattle.hack_session.specs.Suspects.{settings_in};
+
+use crate::session::Session;
+use crate::step::{Handed, Outcome, Step};
+use hack_plan::places::Quad;
+use hack_runs::plan::Plan;
+use hack_samples::Setting;
+use hack_suspects::{Outcome as RunOutcome, SuspectFault};
+use hack_versions::version::Version;
+use std::alloc::{AllocError, Global};
+
+/// How many patterns are looked at for the runs of a part.
+const MOST_PATTERNS: u64 = 1_000_000_000;
+
+/// The runs of one version, one slot and one package.
+#[derive(Clone, Copy, Debug, PartialEq, Eq)]
+pub struct Part {
+    /// None where no range of versions is given.
+    pub version: Option<Version>,
+    pub slot: usize,
+    /// The package, as an index into the plan's packages.
+    pub package: usize,
+}
+
+/// A part with a failed run, and the small patterns that explain which of its runs failed.
+#[derive(Drop)]
+pub struct Explained {
+    pub part: Part,
+    /// The suspects; none where there are too many patterns to look at.
+    pub suspects: Option<Vec<Vec<Setting>>>,
+}
+
+impl Session {
+    /// For each version, slot and package with a failed run the patterns of at most `strength`
+    /// candidates that explain which runs failed, in the order of the first failures.
+    pub fn suspects(&self, alloc: Global, strength: usize) -> Result<Vec<Explained>, AllocError>
+        ensures { IfOk result (λ all. AreExplained self.now strength
+            (map explained_view all.items)) }
+    {
+        let plan = self.plan();
+        let handed = self.handed();
+        let parts = failed_parts(alloc, plan, handed)?;
+        explain_all(alloc, plan, handed, parts.as_slice(), strength)
+    }
+}
+
+/// The parts with a failed run, in the order of their first failures, each once.
+fn failed_parts(alloc: Global, plan: &Plan, handed: &[Handed]) -> Result<Vec<Part>, AllocError>
+    ensures once { IfOk result (λ parts. AreDistinct parts.items) }
+    ensures exactly { IfOk result (λ parts. (part : Part) → Contains parts.items part
+        ↔ HasFailed plan.now handed.now part) }
+{
+    let mut parts = Vec::new(alloc);
+    for one in handed {
+        add_failed(plan, *one, &mut parts)?;
+    }
+    Ok(parts)
+}
+
+/// Adds the part of a failed run, unless it is there.
+fn add_failed(plan: &Plan, handed: Handed, parts: &mut Vec<Part>) -> Result<(), AllocError>
+    ensures once { OnOk result (AreDistinct parts.old.items → AreDistinct parts.new.items) }
+    ensures exactly { OnOk result ((part : Part) → Contains parts.new.items part
+        ↔ (Contains parts.old.items part ⊎ HasFailed plan.now (handed ∷ []) part)) }
+{
+    if !is_failed(handed.outcome) {
+        return Ok(());
+    }
+    match part_at(plan, handed) {
+        Some(part) => add_once(parts, part),
+        None => Ok(()),
+    }
+}
+
+/// Adds a part, unless it is there.
+fn add_once(parts: &mut Vec<Part>, part: Part) -> Result<(), AllocError>
+    ensures once { OnOk result (AreDistinct parts.old.items → AreDistinct parts.new.items) }
+    ensures exactly { OnOk result ((other : Part) → Contains parts.new.items other
+        ↔ (Contains parts.old.items other ⊎ (part ≡ other))) }
+{
+    if is_among(parts.as_slice(), part) {
+        return Ok(());
+    }
+    parts.push(part)?;
+    Ok(())
+}
+
+/// Whether a part is one of these.
+fn is_among(parts: &[Part], part: Part) -> bool
+    ensures { MatchBool result (Contains parts.now part) (Contains parts.now part → ⊥) }
+{
+    for one in parts {
+        if is_same(*one, part) {
+            return true;
+        }
+    }
+    false
+}
+
+/// Whether two parts are the same.
+fn is_same(one: Part, other: Part) -> bool
+    ensures { MatchBool result (one ≡ other) (one ≢ other) }
+{
+    one == other
+}
+
+/// Explains each of the parts.
+fn explain_all(
+    alloc: Global,
+    plan: &Plan,
+    handed: &[Handed],
+    parts: &[Part],
+    strength: usize,
+) -> Result<Vec<Explained>, AllocError>
+    ensures parts { IfOk result (λ all. map part_explained (map explained_view all.items)
+        ≡ parts.now) }
+    ensures explained { IfOk result (λ all. All (IsExplained plan.now handed.now strength)
+        (map explained_view all.items)) }
+{
+    let mut all = Vec::new(alloc);
+    for part in parts {
+        all.push(explain(alloc, plan, handed, *part, strength)?)?;
+    }
+    Ok(all)
+}
+
+/// Explains the failed runs of a part.
+fn explain(
+    alloc: Global,
+    plan: &Plan,
+    handed: &[Handed],
+    part: Part,
+    strength: usize,
+) -> Result<Explained, AllocError>
+    ensures part { IfOk result (λ e. e.part ≡ part) }
+    ensures explained { IfOk result (λ e. IsExplained plan.now handed.now strength
+        (explained_view e)) }
+{
+    let outcomes = outcomes(alloc, plan, part, handed)?;
+    let candidates = candidates_in(plan, part.package);
+    let suspects = look(alloc, outcomes.as_slice(), candidates, strength)?;
+    Ok(Explained { part, suspects })
+}
+
+/// The suspects; none where there are too many patterns to look at.
+fn look(
+    alloc: Global,
+    outcomes: &[RunOutcome],
+    candidates: usize,
+    strength: usize,
+) -> Result<Option<Vec<Vec<Setting>>>, AllocError>
+    ensures { IfOk result (λ found. AreFound (outcomes_of outcomes.now) candidates strength
+        (option_map (λ patterns. rows_of patterns.items) found)) }
+{
+    match hack_suspects::suspects(alloc, outcomes, candidates, strength, MOST_PATTERNS) {
+        Ok(found) => Ok(Some(found)),
+        Err(SuspectFault::Memory) => Err(AllocError),
+        Err(SuspectFault::TooManyPatterns) => Ok(None),
+    }
+}
+
+/// What came of the runs of a part.
+fn outcomes(
+    alloc: Global,
+    plan: &Plan,
+    part: Part,
+    handed: &[Handed],
+) -> Result<Vec<RunOutcome>, AllocError>
+    ensures { IfOk result (λ outcomes. AreOutcomes plan.now part handed.now
+        (outcomes_of outcomes.items)) }
+{
+    let mut outcomes = Vec::new(alloc);
+    for one in handed {
+        add_outcome(alloc, plan, part, *one, &mut outcomes)?;
+    }
+    Ok(outcomes)
+}
+
+/// Adds what came of a handed step, if it is a run of the part.
+fn add_outcome(
+    alloc: Global,
+    plan: &Plan,
+    part: Part,
+    handed: Handed,
+    outcomes: &mut Vec<RunOutcome>,
+) -> Result<(), AllocError>
+    ensures { OnOk result ((before : List Handed)
+        → AreOutcomes plan.now part before (outcomes_of outcomes.old.items)
+        → AreOutcomes plan.now part (before ++ handed ∷ []) (outcomes_of outcomes.new.items)) }
+{
+    let Some(quad) = quad_of(plan, handed.step) else {
+        return Ok(());
+    };
+    if !is_in(quad, part) {
+        return Ok(());
+    }
+    let on = Vec::from_slice(alloc, settings_at(plan, part.package, quad.rank))?;
+    let failed = is_failed(handed.outcome);
+    outcomes.push(RunOutcome { on, failed })?;
+    Ok(())
+}
+
+/// Whether a run is of the part.
+fn is_in(quad: Quad, part: Part) -> bool
+    ensures { MatchBool result (part_of quad ≡ Some part) (part_of quad ≢ Some part) }
+{
+    match part_of(quad) {
+        Some(own) => is_same(own, part),
+        None => false,
+    }
+}
+
+/// The part of a run; none where it is for all packages.
+fn part_of(quad: Quad) -> Option<Part>
+    ensures { result ≡ part_of quad }
+{
+    match quad.package {
+        Some(package) => Some(Part {
+            version: quad.version,
+            slot: quad.slot,
+            package,
+        }),
+        None => None,
+    }
+}
+
+/// The part that a handed step is a run of.
+fn part_at(plan: &Plan, handed: Handed) -> Option<Part>
+    ensures { result ≡ part_at plan.now handed }
+{
+    match quad_of(plan, handed.step) {
+        Some(quad) => part_of(quad),
+        None => None,
+    }
+}
+
+/// The version, slot, package and rank of a step that is a run.
+fn quad_of(plan: &Plan, step: Step) -> Option<Quad>
+    ensures { result ≡ quad_of plan.now step }
+{
+    match step {
+        Step::Run(place) => quad_at(plan, place),
+        Step::Prepare(_) | Step::Skip(_) => None,
+    }
+}
+
+/// The version, slot, package and rank of a place.
+fn quad_at(plan: &Plan, place: usize) -> Option<Quad>
+    ensures { result ≡ slice_get plan.now.quads place }
+{
+    if place >= plan.len() {
+        return None;
+    }
+    Some(plan.quad(place))
+}
+
+/// Whether a run failed.
+fn is_failed(outcome: Outcome) -> bool
+    ensures { result ≡ is_failed outcome }
+{
+    match outcome {
+        Outcome::Passed => false,
+        Outcome::Failed => true,
+    }
+}
+
+/// Which candidates of a package are on in the run at a rank.
+fn settings_at(plan: &Plan, place: usize, rank: usize) -> &[bool]
+    ensures { result.now
+        ≡ slice_index_or (settings_in (slice_get plan.now.packages place)) rank [] }
+{
+    match plan.packages().get(place) {
+        Some(member) => row_at(member.settings.as_slice(), rank),
+        None => &[],
+    }
+}
+
+/// The row at an index; empty past the last.
+fn row_at(rows: &[Vec<bool>], place: usize) -> &[bool]
+    ensures { result.now ≡ slice_index_or (rows_of rows.now) place [] }
+{
+    match rows.get(place) {
+        Some(row) => row.as_slice(),
+        None => &[],
+    }
+}
+
+/// How many candidates a package has.
+fn candidates_in(plan: &Plan, place: usize) -> usize
+    ensures { result ≡ count_in (slice_get plan.now.packages place) }
+{
+    match plan.packages().get(place) {
+        Some(member) => member.candidates.len(),
+        None => 0,
+    }
+}

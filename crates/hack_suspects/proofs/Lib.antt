@@ -1,0 +1,4 @@
+pub mod PatternLemmas
+pub mod ChoiceLemmas
+pub mod SuspectLemmas
+pub mod FaultLemmas

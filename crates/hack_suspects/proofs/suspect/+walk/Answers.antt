@@ -1,0 +1,90 @@
+use Rattle.std.proofs.Common.{◌≡◌, ◌∙◌, ◌<◌, ◌≤◌, ◌-◌, ◌+◌, ◌++◌, ◌∷◌, [], sym, ap, subst, ℕ, List, Bool, length, arith, rules, false, refl}
+use Rattle.std.specs.Prelude.{slice_get, Some}
+use Rattle.std.proofs.lemmas.List.{append-nil, length_push}
+use Rattle.std.proofs.lemmas.Bool.{ltb-false}
+use Rattle.std.proofs.lemmas.Option.{slice_get_within, slice_get_read}
+use Rattle.std.proofs.lemmas.Result.{on_ok_weaker}
+use Rattle.std.proofs.lemmas.List.Elements.{All-push}
+use Rattle.hack_samples.specs.Sets.{rows_of}
+use Rattle.hack_suspects.specs.Suspects.{Outcome, IsShown, RowShows, Rises, outcomes_of}
+use Rattle.hack_suspects.specs.Walks.{FindsFrom, PatternsAreKept}
+use Rattle.hack_samples.specs.declared.sets.Setting.{Setting}
+use Rattle.hack_suspects.proofs.PatternLemmas.{rises-more, rises-wider}
+use Rattle.hack_suspects.proofs.SuspectLemmas.{finds-here, finds-all, finds-step, finds-kept}
+use Rattle.hack_suspects.proofs.suspect.+walk.Goals as goal
+
+pub add-requires-clause-rises : goal.add-requires-clause-rises
+add-requires-clause-rises t c = rises-wider 0 c.args.first c.args.search.now.candidates c.args.pattern.items c.requires.rises c.requires.first
+
+pub returns-then-not-passed_shows-clause-all : goal.returns-then-not-passed_shows-clause-all
+returns-then-not-passed_shows-clause-all t c =
+    let outcomes : List Outcome = outcomes_of c.args.search.now.outcomes.now in
+    let none = subst (λ (p : List Setting). IsShown false outcomes p → ⊥) (ap (λ (p : List Setting). p ++ []) c.as_slice.ensures.value ∙ append-nil c.args.pattern.items) c.if-not-passed_shows.ensures in
+    on_ok_weaker c.add.result
+    (finds-here outcomes c.args.search.now.candidates c.args.search.now.strength c.args.search.now.row.now c.args.pattern.items c.args.first c.args.more (rows_of c.add.new.found.items) c.requires.row c.requires.shown none)
+    c.add.ensures.added
+
+pub returns-in_default-clause-all : goal.returns-in_default-clause-all
+returns-in_default-clause-all t c =
+    let row : List Bool = c.args.search.now.row.now in
+    let past : length row ≤ c.loop-candidate.candidate = ltb-false c.loop-candidate.candidate (length row) (sym c.in_default.ensures.lookup.0) in
+    finds-all (outcomes_of c.args.search.now.outcomes.now) c.args.search.now.candidates c.args.search.now.strength row c.args.pattern.items c.args.first c.loop-candidate.candidate c.args.more
+    (rows_of c.loop-candidate.found.items) c.loop-candidate.invariant.passed c.loop-candidate.invariant.all
+    (λ x below shown. let lt : x.candidate < length row = slice_get_within row x.candidate x.on shown in omega arith)
+
+pub walk-requires : goal.walk-requires
+walk-requires t c =
+    let row : List Bool = c.args.search.now.row.now in
+    let f : ℕ = c.loop-candidate.candidate in
+    let x : Setting = record { candidate = f; on = c.in-Some.on.now } in
+    let e : c.in_ok-next.next.items ≡ c.args.pattern.items ++ x ∷ [] = c.in_ok-next.ensures ∙ ap (λ p. p ++ x ∷ []) c.as_slice-in-loop-candidate.ensures.value in
+    let size : length c.in_ok-next.next.items ≡ length c.args.pattern.items + 1 = ap length e ∙ length_push c.args.pattern.items x in
+    let here : slice_get row f ≡ Some x.on = slice_get_read row (length row) f x.on refl c.in-Some.ensures.lookup.3.0 c.in-Some.ensures.lookup.1 in (
+      search rules,
+      (
+        subst (Rises 0 (f + 1)) (sym e) (rises-more 0 c.args.first c.args.pattern.items x c.requires.rises (omega arith) (omega (arith, c.loop-candidate.auto.candidate))),
+        (
+          omega (arith, c.loop-candidate-test.true),
+          (
+            omega (arith, size, c.requires.small, c.if-more-eq0.false),
+            (
+              c.requires.row,
+              (
+                subst (RowShows row) (sym e) (All-push (λ setting. slice_get row setting.candidate ≡ Some setting.on) c.args.pattern.items x c.requires.shown here),
+                c.loop-candidate.invariant.sound,
+              ),
+            ),
+          ),
+        ),
+      ),
+    )
+
+pub loop-candidate-preserved : goal.loop-candidate-preserved
+loop-candidate-preserved t c =
+    let outcomes : List Outcome = outcomes_of c.args.search.now.outcomes.now in
+    let n : ℕ = c.args.search.now.candidates in
+    let t' : ℕ = c.args.search.now.strength in
+    let row : List Bool = c.args.search.now.row.now in
+    let pattern : List Setting = c.args.pattern.items in
+    let f : ℕ = c.loop-candidate.candidate in
+    let on : Bool = c.in-Some.on.now in
+    let x : Setting = record { candidate = f; on = on } in
+    let e : c.in_ok-next.next.items ≡ pattern ++ x ∷ [] = c.in_ok-next.ensures ∙ ap (λ p. p ++ x ∷ []) c.as_slice-in-loop-candidate.ensures.value in
+    let before = rows_of c.loop-candidate.found.items in
+    let now = rows_of c.walk.new.found.items in
+    let here : slice_get row f ≡ Some on = slice_get_read row (length row) f on refl c.in-Some.ensures.lookup.3.0 c.in-Some.ensures.lookup.1 in
+    let kept : PatternsAreKept before now = c.in_ok-walk.ensures.kept in
+    record {
+      sound = c.in_ok-walk.ensures.sound;
+      kept = λ p h. kept p (c.loop-candidate.invariant.kept p h);
+      passed = c.loop-candidate.invariant.passed;
+      all = finds-step outcomes n t' row pattern c.args.first f (c.args.more - 1) on now here
+          (λ y le lt shown. finds-kept outcomes n t' row (pattern ++ y ∷ []) (y.candidate + 1) (c.args.more - 1) before now kept (c.loop-candidate.invariant.all y le lt shown))
+          (subst (λ p. FindsFrom outcomes n t' row p (f + 1) (c.args.more - 1) now) e c.in_ok-walk.ensures.all);
+    }
+
+pub returns-clause-all : goal.returns-clause-all
+returns-clause-all t c =
+    finds-all (outcomes_of c.args.search.now.outcomes.now) c.args.search.now.candidates c.args.search.now.strength c.args.search.now.row.now c.args.pattern.items c.args.first c.loop-candidate.candidate c.args.more
+    (rows_of c.loop-candidate.found.items) c.loop-candidate.invariant.passed c.loop-candidate.invariant.all
+    (λ x below shown. omega (arith, below, c.loop-candidate-test.false))

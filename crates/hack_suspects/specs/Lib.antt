@@ -1,0 +1,3 @@
+pub mod Suspects
+pub mod Faults
+pub mod Walks

@@ -1,0 +1,80 @@
+-- Which small patterns explain the failed runs.
+use Rattle.std.specs.Prelude.{◌≡◌, ◌<◌, ◌≤◌, ◌+◌, ◌⊎◌, ◌↔◌, ℕ, zero, suc, List, [], ◌∷◌, Bool, true, false, Some, All, AllPairs, Contains, length, map, slice_get}
+use Rattle.hack_samples.specs.declared.sets.Setting.{Setting}
+use Rattle.hack_suspects.specs.declared.suspect.Outcome.{Outcome as Run}
+use Rattle.hack_suspects.specs.declared.suspect.SuspectFault.{SuspectFault}
+use Rattle.hack_suspects.specs.declared.suspect.SuspectFault.TheVariants.{Memory, TooManyPatterns}
+
+-- a run: for each candidate whether it is on, and whether the run failed
+pub record Outcome : Type 0 where
+  pub on : List Bool
+  pub failed : Bool
+
+-- the runs, without where they lie in memory
+abbrev pub outcomes_of : List Run → List Outcome
+outcomes_of runs = map (λ run. record { on = run.on.items; failed = run.failed }) runs
+
+-- the row shows the pattern: each of its candidates is on or off in it as the pattern says
+abbrev pub RowShows : List Bool → List Setting → Type 0
+RowShows row pattern = All (λ setting. slice_get row setting.candidate ≡ Some setting.on) pattern
+
+-- some run shows the pattern, and failed or passed as said
+pub record IsShown (failed : Bool) (outcomes : List Outcome) (pattern : List Setting) : Type 0 where
+  pub by : Outcome
+  pub among : Contains outcomes by
+  pub ended : by.failed ≡ failed
+  pub shows : RowShows by.on pattern
+
+-- some failed run shows the pattern, and no passed one does
+pub record IsSuspicious (outcomes : List Outcome) (pattern : List Setting) : Type 0 where
+  pub failed : IsShown true outcomes pattern
+  pub passed : IsShown false outcomes pattern → ⊥
+
+-- the candidates of the pattern increase, from at least the first and below n
+abbrev pub Rises : ℕ → ℕ → List Setting → Type 0
+Rises first n [] = Unit {0}
+Rises first n (setting ∷ pattern) = (first ≤ setting.candidate) × (setting.candidate < n) × Rises (setting.candidate + 1) n pattern
+
+-- a part of the pattern: it with some of its settings left out, or none
+abbrev pub IsPart : List Setting → List Setting → Type 0
+IsPart [] [] = Unit {0}
+IsPart (setting ∷ part) [] = ⊥
+IsPart [] (kept ∷ pattern) = Unit {0}
+IsPart (setting ∷ part) (kept ∷ pattern) = ((setting ≡ kept) × IsPart part pattern) ⊎ IsPart (setting ∷ part) pattern
+
+-- a suspicious pattern of at most t of the candidates below n, of which no proper part is suspicious
+pub record IsSuspect (outcomes : List Outcome) (n t : ℕ) (pattern : List Setting) : Type 0 where
+  pub rises : Rises 0 n pattern
+  pub small : length pattern ≤ t
+  pub suspicious : IsSuspicious outcomes pattern
+  pub minimal : (part : List Setting) → IsPart part pattern → length part < length pattern → IsSuspicious outcomes part → ⊥
+
+-- a setting is before another: its candidate is lower, or it has the same one off and the other has it on
+abbrev pub Precedes : Setting → Setting → Type 0
+Precedes a b = (a.candidate < b.candidate) ⊎ ((a.candidate ≡ b.candidate) × (a.on ≡ false) × (b.on ≡ true))
+
+-- at the first place where the patterns differ, the one has a setting that is before the other's
+abbrev pub DiffersBefore : List Setting → List Setting → Type 0
+DiffersBefore [] q = ⊥
+DiffersBefore (a ∷ p) [] = ⊥
+DiffersBefore (a ∷ p) (b ∷ q) = Precedes a b ⊎ ((a ≡ b) × DiffersBefore p q)
+
+-- a pattern is before another: it is shorter, or as long and before it where they first differ
+abbrev pub IsBefore : List Setting → List Setting → Type 0
+IsBefore p q = (length p < length q) ⊎ ((length p ≡ length q) × DiffersBefore p q)
+
+-- these are all the suspects, each before all later ones
+pub record AreSuspects (outcomes : List Outcome) (n t : ℕ) (found : List (List Setting)) : Type 0 where
+  pub ordered : AllPairs IsBefore found
+  pub exactly : (pattern : List Setting) → Contains found pattern ↔ IsSuspect outcomes n t pattern
+
+-- how many choices there are of at most t of n candidates
+abbrev pub choices : ℕ → ℕ → ℕ
+choices zero t = 1
+choices (suc n) zero = 1
+choices (suc n) (suc t) = choices n (suc t) + choices n t
+
+-- why there is no list of suspects: where it is for too many patterns, there are more than the most
+abbrev pub IsRefused : ℕ → ℕ → SuspectFault → Type 0
+IsRefused most patterns Memory = Unit {0}
+IsRefused most patterns TooManyPatterns = most < patterns

@@ -1,0 +1,36 @@
+-- What a walk over the patterns of a failed run's row has found.
+use Rattle.std.specs.Prelude.{◌≡◌, ◌<◌, ◌≤◌, ◌-◌, ◌^◌, ◌++◌, ℕ, suc, min, List, Bool, true, All, AllPairs, Contains, length}
+use Rattle.std.specs.List.{slice_index_or}
+use Rattle.hack_suspects.specs.Suspects.{Outcome, RowShows, Rises, IsSuspect, IsBefore, choices}
+use Rattle.hack_samples.specs.declared.sets.Setting.{Setting}
+
+-- the row is that of a failed run
+pub record IsFailedRow (outcomes : List Outcome) (row : List Bool) : Type 0 where
+  pub by : Outcome
+  pub among : Contains outcomes by
+  pub ended : by.failed ≡ true
+  pub is : by.on ≡ row
+
+-- these are suspects, each before all later ones
+pub record AreSomeSuspects (outcomes : List Outcome) (n t : ℕ) (found : List (List Setting)) : Type 0 where
+  pub ordered : AllPairs IsBefore found
+  pub sound : All (IsSuspect outcomes n t) found
+
+-- each suspect that the row shows is found, if it is the pattern with up to so many more settings, of candidates from the first on
+abbrev pub FindsFrom : List Outcome → ℕ → ℕ → List Bool → List Setting → ℕ → ℕ → List (List Setting) → Type 0
+FindsFrom outcomes n t row pattern first more found =
+    (rest : List Setting) → Rises first n rest → length rest ≤ more → RowShows row (pattern ++ rest) → IsSuspect outcomes n t (pattern ++ rest) → Contains found (pattern ++ rest)
+
+-- the later patterns have all of the earlier
+abbrev pub PatternsAreKept : List (List Setting) → List (List Setting) → Type 0
+PatternsAreKept earlier later = (pattern : List Setting) → Contains earlier pattern → Contains later pattern
+
+-- among the patterns the other one belongs at the place: those in front are before it, and it is before those after the place
+pub record PatternFits (found : List (List Setting)) (pattern : List Setting) (place : ℕ) : Type 0 where
+  pub within : place ≤ length found
+  pub in_front : (k : ℕ) (d : List Setting) → k < place → IsBefore (slice_index_or found k d) pattern
+  pub later : (k : ℕ) (d : List Setting) → place ≤ k → k < length found → IsBefore pattern (slice_index_or found k d)
+
+-- at each place stands how many choices there are of at most one more of n candidates than the place says, up to the greatest number
+abbrev pub CountsChoices : ℕ → List ℕ → Type 0
+CountsChoices n counts = (k d : ℕ) → k < length counts → slice_index_or counts k d ≡ min (choices n (suc k)) (2 ^ 128 - 1)

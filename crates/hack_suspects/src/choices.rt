@@ -1,0 +1,38 @@
+//! How many choices there are of a few of the candidates.
+
+ghost use Rattle.std.specs.Prelude.{◌≡◌, ◌+◌, ◌-◌, ◌^◌, ℕ, suc, length, min, IfOk};
+ghost use Rattle.hack_suspects.specs.Suspects.{choices};
+ghost use Rattle.hack_suspects.specs.Walks.{CountsChoices};
+
+use std::alloc::{AllocError, Global};
+
+/// How many choices there are of at most `strength` of the candidates; the greatest `u128` where
+/// there are more.
+pub(crate) fn choices(alloc: Global, candidates: usize, strength: usize) -> Result<u128, AllocError>
+    ensures { IfOk result (λ n. n ≡ min (choices candidates strength) (2 ^ 128 - 1)) }
+{
+    let size = strength.min(candidates);
+    let mut counts = vec![in alloc; 1; size]?;
+    for _candidate in 0..candidates {
+        add_candidate(&mut counts);
+    }
+    Ok(match counts.last() {
+        Some(all) => *all,
+        None => 1,
+    })
+}
+
+/// Counts the choices among one more candidate. At each place stands how many choices there are of
+/// at most one more candidate than the place says.
+fn add_candidate(counts: &mut Vec<u128>)
+    ensures size { length counts.new.items ≡ length counts.old.items }
+    ensures counts { (n : ℕ) → CountsChoices n counts.old.items
+        → CountsChoices (n + 1) counts.new.items }
+{
+    let mut fewer: u128 = 1;
+    for place in 0..counts.len() {
+        let count = counts[place];
+        counts[place] = count.saturating_add(fewer);
+        fewer = count;
+    }
+}

@@ -1,0 +1,13 @@
+//! Suspects: once a package has run with a covering sample of its sets, the small patterns that
+//! explain which of its runs failed.
+//!
+//! A pattern says of some candidates that they are on, and of some that they are off. A suspect is
+//! one that some failed run shows and no passed one, and of which no smaller part is such a
+//! pattern.
+#![tactic(auto)]
+
+mod choices;
+mod patterns;
+pub mod suspect;
+
+pub use suspect::{Outcome, SuspectFault, finds_faults, suspects};

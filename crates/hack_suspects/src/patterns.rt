@@ -1,0 +1,108 @@
+//! Patterns of settings: which rows show them, and their order.
+
+ghost use Rattle.std.specs.Prelude.{◌≡◌, ◌≢◌, ℕ, List, length, Some, slice_get, OnOk};
+ghost use Rattle.std.specs.Prelude.{MatchBool, MatchOption, AllPairs, Contains, ◌⊎◌};
+ghost use Rattle.std.specs.Ordering.{MatchOrdering};
+ghost use Rattle.hack_samples.specs.Sets.{rows_of};
+ghost use Rattle.hack_suspects.specs.Suspects.{RowShows, Precedes, DiffersBefore, IsBefore};
+ghost use Rattle.hack_suspects.specs.Walks.{PatternsAreKept, PatternFits};
+
+use hack_samples::Setting;
+use std::alloc::AllocError;
+use std::cmp::Ordering;
+
+/// Whether the setting's candidate is on or off in the row as the setting says.
+fn row_has(row: &[bool], setting: Setting) -> bool
+    ensures { MatchBool result (slice_get row.now setting.candidate ≡ Some setting.on)
+        (slice_get row.now setting.candidate ≢ Some setting.on) }
+{
+    match row.get(setting.candidate) {
+        Some(on) => *on == setting.on,
+        None => false,
+    }
+}
+
+/// Whether the row shows the pattern.
+pub(crate) fn row_shows(row: &[bool], pattern: &[Setting]) -> bool
+    ensures { MatchBool result (RowShows row.now pattern.now)
+        (RowShows row.now pattern.now → ⊥) }
+{
+    for setting in pattern {
+        if !row_has(row, *setting) {
+            return false;
+        }
+    }
+    true
+}
+
+/// Compares two settings: by the candidate, and of one candidate off comes first.
+fn compare_settings(one: Setting, other: Setting) -> Ordering
+    ensures { MatchOrdering result (Precedes one other) (one ≡ other) (Precedes other one) }
+{
+    match one.candidate.cmp(&other.candidate) {
+        Ordering::Less => Ordering::Less,
+        Ordering::Equal => one.on.cmp(&other.on),
+        Ordering::Greater => Ordering::Greater,
+    }
+}
+
+/// Compares two patterns of the same length by the first place where they differ.
+fn compare_places(one: &[Setting], other: &[Setting]) -> Ordering
+    requires { length one.now ≡ length other.now }
+    ensures { MatchOrdering result (DiffersBefore one.now other.now) (one.now ≡ other.now)
+        (DiffersBefore other.now one.now) }
+{
+    for place in 0..one.len() {
+        match compare_settings(one[place], other[place]) {
+            Ordering::Less => return Ordering::Less,
+            Ordering::Equal => {}
+            Ordering::Greater => return Ordering::Greater,
+        }
+    }
+    Ordering::Equal
+}
+
+/// Compares two patterns: a shorter one comes first.
+fn compare(one: &[Setting], other: &[Setting]) -> Ordering
+    ensures { MatchOrdering result (IsBefore one.now other.now) (one.now ≡ other.now)
+        (IsBefore other.now one.now) }
+{
+    match one.len().cmp(&other.len()) {
+        Ordering::Less => Ordering::Less,
+        Ordering::Equal => compare_places(one, other),
+        Ordering::Greater => Ordering::Greater,
+    }
+}
+
+/// Where among patterns in order another one belongs; None where it is one of them.
+fn place_of(found: &[Vec<Setting>], pattern: &[Setting]) -> Option<usize>
+    requires { AllPairs IsBefore (rows_of found.now) }
+    ensures { MatchOption result (Contains (rows_of found.now) pattern.now)
+        (PatternFits (rows_of found.now) pattern.now) }
+{
+    for place in 0..found.len() {
+        match compare(found[place].as_slice(), pattern) {
+            Ordering::Less => {}
+            Ordering::Equal => return None,
+            Ordering::Greater => return Some(place),
+        }
+    }
+    Some(found.len())
+}
+
+/// Puts a pattern among those in order, unless it is one of them.
+pub(crate) fn put(found: &mut Vec<Vec<Setting>>, pattern: Vec<Setting>) -> Result<(), AllocError>
+    requires { AllPairs IsBefore (rows_of found.old.items) }
+    ensures ordered { OnOk result (AllPairs IsBefore (rows_of found.new.items)) }
+    ensures kept { OnOk result (PatternsAreKept (rows_of found.old.items)
+        (rows_of found.new.items)) }
+    ensures added { OnOk result (Contains (rows_of found.new.items) pattern.items) }
+    ensures only { OnOk result ((p : List Setting) → Contains (rows_of found.new.items) p
+        → Contains (rows_of found.old.items) p ⊎ (p ≡ pattern.items)) }
+{
+    let Some(place) = place_of(found.as_slice(), pattern.as_slice()) else {
+        return Ok(());
+    };
+    found.insert(place, pattern)?;
+    Ok(())
+}

@@ -1,0 +1,241 @@
+//! Which small patterns explain the failed runs of a package: those that some failed run shows and
+//! no passed one, and that have no smaller such part.
+
+ghost use Rattle.std.specs.Prelude.{◌≡◌, ◌<◌, ◌≤◌, ◌+◌, ◌*◌, ◌++◌, ◌∷◌, ◌-◌, ◌^◌, ℕ, List, []};
+ghost use Rattle.std.specs.Prelude.{false, min};
+ghost use Rattle.std.specs.Prelude.{Contains, length, remove, IfOk, IfErr, OnOk, MatchBool};
+ghost use Rattle.hack_samples.specs.Sets.{rows_of};
+ghost use Rattle.hack_suspects.specs.Suspects.{outcomes_of, choices, RowShows, IsShown, Rises};
+ghost use Rattle.hack_suspects.specs.Suspects.{IsSuspect, AreSuspects, IsRefused, Outcome as Plain};
+ghost use Rattle.hack_suspects.specs.Faults.{FailBy, FaultsAreFound};
+ghost use Rattle.hack_suspects.specs.Walks.{IsFailedRow, AreSomeSuspects, FindsFrom};
+ghost use Rattle.hack_suspects.specs.Walks.{PatternsAreKept};
+
+use crate::choices::choices;
+use crate::patterns::{put, row_shows};
+use hack_samples::Setting;
+use std::alloc::{AllocError, AllocFailed, Global};
+use thiserror::Error;
+
+/// A run of a package: for each of its candidates whether it is on, and whether the run failed.
+#[derive(Drop)]
+pub struct Outcome {
+    pub on: Vec<bool>,
+    pub failed: bool,
+}
+
+/// Why there is no list of suspects.
+#[derive(Debug, Drop, PartialEq, Eq, Error)]
+pub enum SuspectFault {
+    #[error("out of memory")]
+    Memory,
+    /// There are more patterns to look at than may be looked at.
+    #[error("too many patterns")]
+    TooManyPatterns,
+}
+
+impl From<AllocError> for SuspectFault {
+    ghost use Rattle.hack_suspects.specs.declared.suspect.SuspectFault.TheVariants.{Memory};
+
+    ghost from_gives = { λ _ e. e ≡ Memory };
+
+    fn from(_e: AllocError) -> SuspectFault {
+        SuspectFault::Memory
+    }
+}
+
+impl<T: Drop> From<AllocFailed<T>> for SuspectFault {
+    ghost use Rattle.hack_suspects.specs.declared.suspect.SuspectFault.TheVariants.{Memory};
+
+    ghost from_gives = { λ _ e. e ≡ Memory };
+
+    fn from(_e: AllocFailed<T>) -> SuspectFault {
+        SuspectFault::Memory
+    }
+}
+
+/// The suspects: each pattern of at most `strength` candidates, in increasing order, that some
+/// failed run shows and no passed one, and of which no smaller part is such a pattern.
+///
+/// A shorter one comes first; of equal length the first setting that differs decides, where the
+/// lower candidate comes first, and off before on. Where a run failed and none passed, the empty
+/// pattern is the only suspect. For each failed run the search looks at no more patterns than there
+/// are choices of candidates for one: where outcomes times choices are more than `most`, it isn't
+/// begun.
+pub fn suspects(
+    alloc: Global,
+    outcomes: &[Outcome],
+    candidates: usize,
+    strength: usize,
+    most: u64,
+) -> Result<Vec<Vec<Setting>>, SuspectFault>
+    ensures ok { IfOk result (λ found. AreSuspects (outcomes_of outcomes.now) candidates strength
+        (rows_of found.items)) }
+    ensures never { OnOk result (length outcomes.now * choices candidates strength ≤ most) }
+    ensures err { IfErr result (IsRefused most
+        (length outcomes.now * choices candidates strength)) }
+{
+    let patterns = choices(alloc, candidates, strength)?;
+    if too_many(outcomes.len(), patterns, most) {
+        return Err(SuspectFault::TooManyPatterns);
+    }
+    let mut found = Vec::new(alloc);
+    for outcome in outcomes {
+        if outcome.failed {
+            let search = Search {
+                outcomes,
+                row: outcome.on.as_slice(),
+                candidates,
+                strength,
+            };
+            walk(alloc, &search, &mut found, Vec::new(alloc), 0, strength)?;
+        }
+    }
+    Ok(found)
+}
+
+/// If the runs failed just where they show one of some faults, each a pattern of at most so many
+/// candidates, then each fault that some run shows is a suspect or has one as a part.
+pub fn finds_faults()
+    ensures { (outcomes : List Plain) (n t : ℕ) (faults : List (List Setting))
+        → FailBy faults outcomes → FaultsAreFound outcomes n t faults }
+{}
+
+/// Whether this many outcomes times choices are more than the most. The greatest `u128` stands for
+/// that many choices and more.
+fn too_many(outcomes: usize, patterns: u128, most: u64) -> bool
+    ensures { (n : ℕ) → patterns ≡ min n (2 ^ 128 - 1)
+        → MatchBool result (most < outcomes * n) (outcomes * n ≤ most) }
+{
+    patterns.saturating_mul(outcomes as u128) > u128::from(most)
+}
+
+/// Where suspects are searched.
+#[derive(Clone, Copy)]
+struct Search<'a> {
+    outcomes: &'a [Outcome],
+    /// What was on in a failed run.
+    row: &'a [bool],
+    candidates: usize,
+    strength: usize,
+}
+
+/// Adds the suspects that the row shows and that are the pattern with up to `more` settings of
+/// candidates from `first` on.
+fn walk(
+    alloc: Global,
+    search: &Search<'_>,
+    found: &mut Vec<Vec<Setting>>,
+    pattern: Vec<Setting>,
+    first: usize,
+    more: usize,
+) -> Result<(), AllocError>
+    requires rises { Rises 0 first pattern.items }
+    requires first { first ≤ search.now.candidates }
+    requires small { length pattern.items + more ≤ search.now.strength }
+    requires row { IsFailedRow (outcomes_of search.now.outcomes.now) search.now.row.now }
+    requires shown { RowShows search.now.row.now pattern.items }
+    requires sound { AreSomeSuspects (outcomes_of search.now.outcomes.now) search.now.candidates
+        search.now.strength (rows_of found.old.items) }
+    ensures sound { OnOk result (AreSomeSuspects (outcomes_of search.now.outcomes.now)
+        search.now.candidates search.now.strength (rows_of found.new.items)) }
+    ensures kept { OnOk result (PatternsAreKept (rows_of found.old.items)
+        (rows_of found.new.items)) }
+    ensures all { OnOk result (FindsFrom (outcomes_of search.now.outcomes.now)
+        search.now.candidates search.now.strength search.now.row.now pattern.items first more
+        (rows_of found.new.items)) }
+{
+    if !passed_shows(search.outcomes, pattern.as_slice(), &[]) {
+        return add(search, found, pattern);
+    }
+    if more == 0 {
+        return Ok(());
+    }
+    for candidate in first..search.candidates {
+        let Some(on) = search.row.get(candidate) else {
+            return Ok(());
+        };
+        let setting = Setting { candidate, on: *on };
+        let next = with(alloc, pattern.as_slice(), setting)?;
+        walk(alloc, search, found, next, candidate + 1, more - 1)?;
+    }
+    Ok(())
+}
+
+/// Adds the pattern if it is a suspect.
+fn add(
+    search: &Search<'_>,
+    found: &mut Vec<Vec<Setting>>,
+    pattern: Vec<Setting>,
+) -> Result<(), AllocError>
+    requires rises { Rises 0 search.now.candidates pattern.items }
+    requires small { length pattern.items ≤ search.now.strength }
+    requires row { IsFailedRow (outcomes_of search.now.outcomes.now) search.now.row.now }
+    requires shown { RowShows search.now.row.now pattern.items }
+    requires passed { IsShown false (outcomes_of search.now.outcomes.now) pattern.items → ⊥ }
+    requires sound { AreSomeSuspects (outcomes_of search.now.outcomes.now) search.now.candidates
+        search.now.strength (rows_of found.old.items) }
+    ensures sound { OnOk result (AreSomeSuspects (outcomes_of search.now.outcomes.now)
+        search.now.candidates search.now.strength (rows_of found.new.items)) }
+    ensures kept { OnOk result (PatternsAreKept (rows_of found.old.items)
+        (rows_of found.new.items)) }
+    ensures added { OnOk result (IsSuspect (outcomes_of search.now.outcomes.now)
+        search.now.candidates search.now.strength pattern.items
+        → Contains (rows_of found.new.items) pattern.items) }
+{
+    if !is_minimal(search.outcomes, pattern.as_slice()) {
+        return Ok(());
+    }
+    put(found, pattern)
+}
+
+/// The pattern with one more setting.
+fn with(alloc: Global, pattern: &[Setting], setting: Setting) -> Result<Vec<Setting>, AllocError>
+    ensures { IfOk result (λ more. more.items ≡ pattern.now ++ setting ∷ []) }
+{
+    let mut more = Vec::from_slice(alloc, pattern)?;
+    more.push(setting)?;
+    Ok(more)
+}
+
+/// Whether without any one of its settings some passed run shows the pattern.
+fn is_minimal(outcomes: &[Outcome], pattern: &[Setting]) -> bool
+    ensures { MatchBool result ((place : ℕ) → place < length pattern.now
+        → IsShown false (outcomes_of outcomes.now) (remove pattern.now place))
+        ((place : ℕ) × (place < length pattern.now)
+        × (IsShown false (outcomes_of outcomes.now) (remove pattern.now place) → ⊥)) }
+{
+    for place in 0..pattern.len() {
+        if !passed_shows(outcomes, &pattern[..place], &pattern[place + 1..]) {
+            return false;
+        }
+    }
+    true
+}
+
+/// Whether some passed run shows the pattern of these two parts.
+fn passed_shows(outcomes: &[Outcome], front: &[Setting], rest: &[Setting]) -> bool
+    ensures { MatchBool result (IsShown false (outcomes_of outcomes.now) (front.now ++ rest.now))
+        (IsShown false (outcomes_of outcomes.now) (front.now ++ rest.now) → ⊥) }
+{
+    for outcome in outcomes {
+        if passes_with(outcome, front, rest) {
+            return true;
+        }
+    }
+    false
+}
+
+/// Whether the run passed and shows the pattern of these two parts.
+fn passes_with(run: &Outcome, front: &[Setting], rest: &[Setting]) -> bool
+    ensures { MatchBool result
+        ((run.now.failed ≡ false) × RowShows run.now.on.items (front.now ++ rest.now))
+        ((run.now.failed ≡ false) × RowShows run.now.on.items (front.now ++ rest.now)
+        → ⊥) }
+{
+    if run.failed {
+        return false;
+    }
+    let row = run.on.as_slice();
+    row_shows(row, front) && row_shows(row, rest)
+}
