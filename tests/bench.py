@@ -1,6 +1,7 @@
 #!/usr/bin/env python3
-"""Prints the wall time, the peak memory and the number of lines of powerset-list on growing feature maps, and the times
-of packages grouped by version, of a large answer of cargo read, and of whole calls over a cargo and files in memory.
+"""Prints the wall time, the peak memory and the number of lines of powerset-list on growing feature maps, the times of
+packages grouped by version, of a large answer of cargo read, and of whole calls over a cargo and files in memory, and the
+sizes of covering samples beside the least possible ones and the powersets'.
 
 usage: tests/bench.py PROGRAM [ROWS [CALLS]]      PROGRAM: powerset-list; ROWS, CALLS: the built hack_rows and sample_calls
 
@@ -8,7 +9,9 @@ Nothing here passes or fails by its time. The time is the least of three runs wh
 stands how often `cat` takes as long for the same bytes, since machines differ. The memory is the program's own, by GNU
 time (`-` where that is missing): what a child of this script holds before it is loaded doesn't count.
 """
+import itertools
 import json
+import math
 import os
 import shutil
 import subprocess
@@ -57,9 +60,8 @@ CASES += [
 ]
 
 
-
-def told_by_cargo(packages, features):
-    """What `cargo metadata` prints of a workspace of so many packages with so many features each."""
+def told_by_cargo(packages, features, dependencies=()):
+    """What `cargo metadata` prints of a workspace of so many packages with these features and optional dependencies."""
     ids = [f"path+file:///w/p{i}#1.0.0" for i in range(packages)]
     told = {"workspace_members": ids, "resolve": None, "workspace_root": "/w"}
     told["packages"] = [
@@ -67,8 +69,8 @@ def told_by_cargo(packages, features):
             "id": it,
             "name": f"p{i}",
             "version": "1.0.0",
-            "dependencies": [],
-            "features": without_edges(features),
+            "dependencies": [{"name": name, "optional": True, "rename": None} for name in dependencies],
+            "features": {**features, **{name: [f"dep:{name}"] for name in dependencies}},
             "manifest_path": f"/w/p{i}/Cargo.toml",
             "publish": None,
             "rust_version": None,
@@ -86,7 +88,7 @@ TABLES = [
     ),
     (
         "2,000 packages with 50 features, as cargo tells",
-        f"[metadata] It is read.\n@ minor 95\n@ json {told_by_cargo(2000, 50)}\n> version p1999\n| 1.0.0\n",
+        f"[metadata] It is read.\n@ minor 95\n@ json {told_by_cargo(2000, without_edges(50))}\n> version p1999\n| 1.0.0\n",
     ),
 ]
 
@@ -115,14 +117,17 @@ def with_long_array(lines):
     return f'[package]\nname = "p"\n\n[features]\na = [\n{texts}]\n\n[dev-dependencies]\ne3 = "1"\n'
 
 
-def with_features(count):
-    """A manifest with so many features, none of which enables another."""
-    return '[package]\nname = "p"\nversion = "0.1.0"\n\n[features]\n' + "".join(f"{it} = []\n" for it in names(count))
+def with_features(features, dependencies=()):
+    """A manifest with these features and optional dependencies."""
+    lines = ["[package]", 'name = "p"', 'version = "0.1.0"', "", "[features]"]
+    lines += [f"{name} = {json.dumps(values)}" for name, values in features.items()]
+    lines += ["", "[dependencies]", *(f'{name} = {{ version = "1", optional = true }}' for name in dependencies)]
+    return "\n".join([*lines, ""])
 
 
-def workspace(members, text):
+def workspace(members, text, features=None, dependencies=()):
     """What sample_calls reads: a workspace of so many members that all have this manifest."""
-    parts = [told_by_cargo(members, 0), "== /w/Cargo.toml", "[workspace]"]
+    parts = [told_by_cargo(members, features or {}, dependencies), "== /w/Cargo.toml", "[workspace]"]
     for i in range(members):
         parts += [f"== /w/p{i}/Cargo.toml", text]
     return "\n".join(parts)
@@ -137,11 +142,86 @@ CALLS = [
     ("a manifest of 1,000 lines, edited", workspace(1, with_dev(1000)), [*NONE, "--no-dev-deps"]),
     ("an array over 1,000 lines, edited", workspace(1, with_long_array(1000)), [*NONE, "--no-dev-deps"]),
     ("100 members with 120 lines each, each feature run", workspace(100, manifest(120)), ["hack", "check", "--workspace", "--each-feature"]),
-    ("16 free features, all sets listed", workspace(1, with_features(16)), [*LIST, "--feature-powerset"]),
-    ("20 free features, one place listed", workspace(1, with_features(20)), [*LIST, "--feature-powerset", "--partition", "1/1048577"]),
-    ("1,000 versions over 50 members, listed", workspace(50, with_features(1)), [*LIST, "--each-feature", "--version-range", "1.1..=1.1000"]),
-    ("200 members with 10 features each, listed", workspace(200, with_features(10)), [*LIST, "--each-feature"]),
+    ("16 free features, all sets listed", workspace(1, with_features(without_edges(16))), [*LIST, "--feature-powerset"]),
+    ("20 free features, one place listed", workspace(1, with_features(without_edges(20))), [*LIST, "--feature-powerset", "--partition", "1/1048577"]),
+    ("1,000 versions over 50 members, listed", workspace(50, with_features(without_edges(1))), [*LIST, "--each-feature", "--version-range", "1.1..=1.1000"]),
+    ("200 members with 10 features each, listed", workspace(200, with_features(without_edges(10))), [*LIST, "--each-feature"]),
 ]
+
+
+# ---- Covering samples.
+
+
+def least_for_pairs(n):
+    """The least number of sets that show each pattern of two of n free features (Katona; Kleitman and Spencer)."""
+    return next(size for size in itertools.count(1) if n <= math.comb(size - 1, -(-size // 2)))
+
+
+def large_crate():
+    """Features and optional dependencies, 60 in all, as a large crate has them: chains, a default, backends of which one
+    is needed, runtimes that exclude each other."""
+    features = {"std": ["alloc"], "alloc": [], "default": ["std", "codec0", "native"]}
+    features |= {f"level{i}": [f"level{i - 1}"] if i else [] for i in range(6)}
+    features |= {f"codec{i}": ["alloc"] if i % 2 else [] for i in range(8)}
+    features |= {it: [] for it in ("native", "rustls", "openssl", "runtime0", "runtime1", "runtime2")}
+    features |= {f"extra{i}": [f"extra{i // 3}"] if i % 4 == 3 else [] for i in range(27)}
+    return features, [f"dependency{i}" for i in range(10)]
+
+
+def group(count):
+    return ",".join(names(20)[:count])
+
+
+FREE = [(2, n) for n in (6, 10, 20, 50, 100, 200)] + [(3, n) for n in (6, 10, 20, 50)]
+WITH_DEFAULT = {**without_edges(19), "default": [f"f{i:02}" for i in range(5)]}
+LARGE = ["--optional-deps", "--mutually-exclusive-features", "native,rustls,openssl", "--mutually-exclusive-features"]
+LARGE += ["runtime0,runtime1,runtime2", "--at-least-one-of", "native,rustls,openssl"]
+
+# Titles, strengths, features, optional dependencies, and arguments.
+SAMPLES = [(f"{n} features without edges", strength, without_edges(n), [], []) for strength, n in FREE]
+SAMPLES += [
+    ("20 features, 4 exclude each other", 2, without_edges(20), [], ["--mutually-exclusive-features", group(4)]),
+    ("20 features, default enables 5", 2, WITH_DEFAULT, [], []),
+    ("20 features, one of 3 is required", 2, without_edges(20), [], ["--at-least-one-of", group(3)]),
+    (
+        "20 features, all three of these",
+        2,
+        WITH_DEFAULT,
+        [],
+        ["--mutually-exclusive-features", group(4), "--at-least-one-of", "f10,f11,f12"],
+    ),
+    ("60 features as a large crate has them", 2, *large_crate(), LARGE),
+]
+
+
+def print_samples(calls, path, listed):
+    """Prints how many sets samples have, the least number where it is known, and how many sets there are in all."""
+    print(f"{'sample':40}{'strength':>9}{'sets':>6}{'least':>7}{'all sets':>11}{'seconds':>9}{'MiB':>7}")
+    base = [*LIST, "--feature-powerset", "--exclude-no-default-features", "--exclude-all-features"]
+    for title, strength, features, dependencies, options in SAMPLES:
+        with open(path, "w", encoding="utf-8") as out:
+            out.write(workspace(1, with_features(features, dependencies), features, dependencies))
+        is_free = not options and not any(features.values())
+        count = len(features) + len(dependencies)
+        words = [calls, *base, *options, "--strength", str(strength)]
+        sets = commands_of(words, path, listed)
+        least = least_for_pairs(count) if is_free and strength == 2 else "-"
+        every = f"{2.0**count - 1:,.0f}" if is_free and count <= 20 else f"{2.0**count:.0e}" if is_free else "-"
+        if not is_free and count <= 20:
+            every = f"{commands_of([calls, *base, *options], path, listed):,}"
+        figures = f"{seconds_of(words, path):9.3f}{memory_of(words, path):>7}"
+        print(f"{title:40}{strength:9}{sets:6}{least:>7}{every:>11}{figures}", flush=True)
+
+
+def commands_of(words, path, listed):
+    """How many commands a call lists."""
+    with open(path, "rb") as given, open(listed, "wb") as out:
+        subprocess.run(words, stdin=given, stdout=out, check=True)
+    with open(listed, encoding="utf-8") as written:
+        return sum(line.startswith("cargo check ") for line in written)
+
+
+# ---- Measuring.
 
 
 def seconds_of(words, path):
@@ -199,6 +279,8 @@ def main():
                 out.write(text)
             seconds = seconds_of([os.path.abspath(words[0]), *words[1:]], path)
             print(f"{title:48}{seconds:9.3f}", flush=True)
+        for calls in sys.argv[3:4]:
+            print_samples(os.path.abspath(calls), path, listed)
 
 
 if __name__ == "__main__":

@@ -12,6 +12,8 @@ shell scripts with stored answers. Where a case fails, its arguments, its worksp
 
 With `--strength` the definitions leave open which sets a sample has. So the sets of a package are those listed ones whose
 commands are in the whole list; they have to show each pattern that a listed set shows, and all else is compared as above.
+Then the plan or a piece of it is run, over a cargo that fails on some of its commands. What is told of suspects has to be
+what follows from the definition for these outcomes, by looking at all patterns.
 The last line is `N passed, M failed`, of cases, and the status is 1 where one failed.
 """
 import argparse
@@ -23,9 +25,10 @@ import random
 import re
 import sys
 import tempfile
+from collections import namedtuple
 
 sys.dont_write_bytecode = True
-from random_workspace import call, lay_out, parts, random_words, random_workspace  # noqa: E402
+from random_workspace import call, lay_out, parts, random_words, random_workspace, write  # noqa: E402
 
 # ---- Features: what a map says, and which sets are listed.
 
@@ -38,6 +41,10 @@ def closure(name, edges):
         if not more:
             return found
         found |= more
+
+
+# A run of a set: the places of its candidates, and their texts.
+Set = namedtuple("Set", "places texts")
 
 
 class Choice:
@@ -92,8 +99,17 @@ class Choice:
 
     def settings(self, chosen):
         """For each candidate whether it is on in the set: whether the set enables each of its names."""
-        enabled = set().union(*(self.enabled[name] for name in self.names(chosen)))
+        return self.on_by(self.names(chosen))
+
+    def on_by(self, names):
+        enabled = set().union(*(self.enabled[name] for name in names))
         return tuple(enabled.issuperset(names) for names in self.candidates)
+
+    def settings_of(self, run):
+        """The same for a run. One without a set has all features or none."""
+        if isinstance(run, Set):
+            return self.settings(run.places)
+        return self.on_by(self.features if run == "all" else [])
 
     def listed(self):
         """The sets that pass all of it, in their order."""
@@ -122,12 +138,30 @@ def patterns(settings, strength):
     }
 
 
+def suspects(outcomes, strength):
+    """The patterns of at most so many candidates that a failed run shows and no passed run does, those alone of which no
+    smaller part is one too: the shorter ones first, then by place, off before on. An outcome is a run's settings, and
+    whether it failed."""
+    shown = {failed: set() for failed in (False, True)}
+    for settings, failed in outcomes:
+        shown[failed] |= patterns(settings, strength)
+    found = shown[True] - shown[False]
+    minimal = [
+        it for it in found if not any(part in found for size in range(len(it)) for part in itertools.combinations(it, size))
+    ]
+    return sorted(minimal, key=lambda it: (len(it), it))
+
+
 # ---- Words, which are a list of uses of options.
 
 # These are passed on as they are written.
 PASSED = ("subcommand", "unknown", "--locked", "--all-features", "--no-default-features")
 # And these with Cargo's own handling of the workspace, with their value as a word of its own.
 PASSED_TO_CARGO = ("--manifest-path", "--package", "--exclude", "--workspace")
+
+
+# With it nothing is run.
+LISTED = "--print-command-list"
 
 
 def list_names(text):
@@ -263,8 +297,8 @@ def pool(workspace, package):
 
 
 def runs_of(workspace, asked, package, sample):
-    """The runs of a package: `plain`, `all`, `none`, or a set as the list of its features' texts. `sample` picks of the
-    listed sets those of the package's sample."""
+    """The runs of a package: `plain`, `all`, `none`, or a set. `sample` picks of the listed sets those of the package's
+    sample."""
     normal, optional, deps = pool(workspace, package)
     singles = asked.include
     if not singles:
@@ -280,18 +314,22 @@ def runs_of(workspace, asked, package, sample):
             for group in asked.groups
             if not asked.has("--ignore-unknown-features") or all(name in known for name in group)
         ]
+
+    def with_texts(sets):
+        return [Set(it, [candidates[place][0] for place in it]) for it in sets]
+
     if asked.has("--feature-powerset"):
         lifted = [names for name, names in asked.lifted if name == package["name"]]
         exclusive = [group for group in asked.exclusive if group not in lifted]
         names = [names for _, names in candidates]
         choice = Choice(package["record"], names, asked.depth, asked.required, exclusive)
-        sets = choice.listed()
+        sets = with_texts(choice.listed())
         if asked.strength is not None:
-            sets = sample(choice, sets, [[candidates[place][0] for place in it] for it in sets])
+            sets = sample(choice, sets)
         keeps_all = bool(optional) and not (
             asked.has("--optional-deps") and not asked.optional and asked.depth is None)
     elif asked.has("--each-feature"):
-        sets = [(place,) for place in range(len(candidates))]
+        sets = with_texts((place,) for place in range(len(candidates)))
         keeps_all = bool(optional) or len(normal) > 1
     else:
         return ["plain"]
@@ -301,7 +339,7 @@ def runs_of(workspace, asked, package, sample):
     if asked.has("--feature-powerset") and not keeps_all and len(sets) > 1 and (asked.depth is None or asked.depth > 1):
         sets = sets[-1:] + sets[:-1]
     front = ["all"] * keeps_all + ["none"] * (not asked.drops_none)
-    return front + [[candidates[place][0] for place in it] for it in sets]
+    return front + sets
 
 
 # ---- Versions. One is its major and its minor version; the patch that a range names only warns.
@@ -371,6 +409,10 @@ def uses_of(workspace, asked, packages, causes):
 # ---- The plan, and its pieces.
 
 
+def last_line(text):
+    return text.splitlines(keepends=True)[-1]
+
+
 def stem(program):
     name = program.rsplit("/", 1)[1]
     return name.rsplit(".", 1)[0] if "." in name[1:] else name
@@ -396,7 +438,7 @@ def command(workspace, asked, place, packages, runs):
         words += ["--manifest-path", under(own["manifest_path"], workspace["folder"])]
     if run != "plain":
         words.append("--all-features" if run == "all" else "--no-default-features")
-    passed += run if isinstance(run, list) else []
+    passed += run.texts if isinstance(run, Set) else []
     words += ["--features", ",".join(passed)] if passed else []
     words += ["--"] + asked.trailing if asked.trailing else []
     lines = []
@@ -415,13 +457,15 @@ class Plan:
 
     def __init__(self, workspace, asked, whole):
         self.workspace, self.asked, self.whole, self.causes, self.faults = workspace, asked, whole, [], []
+        # What the sets of a package are chosen from, by its name.
+        self.choices = {}
         chosen = chosen_packages(workspace, asked, self.causes)
         used = uses_of(workspace, asked, chosen, self.causes)
         self.versions, self.places, self.texts = sorted(used), [], []
         if self.causes:
             return
-        packages = dict(chosen)
-        runs = {}
+        self.packages = packages = dict(chosen)
+        self.runs = runs = {}
         for place, it in chosen:
             version = next((version for version in self.versions if place in used[version]), None)
             runs[place] = runs_of(workspace, asked, it, functools.partial(self.sample, it, version))
@@ -437,21 +481,27 @@ class Plan:
         self.places = sorted(places, key=lambda it: (it[0], it[1], -1 if it[2] is None else it[2], it[3]))
         self.texts = [command(workspace, asked, it, packages, runs) for it in self.places]
 
-    def sample(self, package, version, choice, sets, texts):
+    def sample(self, package, version, choice, sets):
         """Those of the listed sets whose commands the whole list has, and a fault where they miss a pattern."""
+        self.choices[package["name"]] = choice
         if version is None or self.asked.own_handling:
             return sets
         lines, found = self.whole.splitlines(keepends=True), []
-        for it, text in zip(sets, texts):
+        for it in sets:
             place = (version, self.slots(version)[0], 0, 0)
-            line = command(self.workspace, self.asked, place, {0: package}, {0: [text]}).splitlines(keepends=True)[-1]
+            line = last_line(command(self.workspace, self.asked, place, {0: package}, {0: [it]}))
             if line in lines:
                 lines.remove(line)
                 found.append(it)
-        shown = {pattern for it in found for pattern in patterns(choice.settings(it), self.asked.strength)}
-        missed = [(it, patterns(choice.settings(it), self.asked.strength) - shown) for it in sets]
+        shown = {pattern for it in found for pattern in patterns(choice.settings_of(it), self.asked.strength)}
+        missed = [(it, patterns(choice.settings_of(it), self.asked.strength) - shown) for it in sets]
         self.faults += [f"in {package['name']} no run shows {min(them)}, which {it} shows" for it, them in missed if them]
         return found
+
+    def settings(self, place):
+        """Which candidates of its package are on in the run at the place."""
+        _, _, package, rank = place
+        return self.choices[self.packages[package]["name"]].settings_of(self.runs[package][rank])
 
     def all_slots(self):
         return {slot for version in self.versions for slot in self.slots(version)}
@@ -464,16 +514,79 @@ class Plan:
 
     def piece(self, kind, number, count):
         """The list of a piece: before each version its cleaning, where asked for, then its places that the piece has."""
-        size = -(-len(self.places) // count)
+        kept = set(self.ranks(kind, number, count))
         text = ""
         for version in self.versions:
             if version and self.asked.has("--clean-per-version"):
                 text += cleaning(self.workspace, self.asked) + "\n"
-            for place, it in enumerate(self.places):
-                has = place // size == number - 1 if kind == "block" else place % count == number - 1
-                if it[0] == version and has:
-                    text += self.texts[place]
+            for rank, it in enumerate(self.places):
+                if it[0] == version and rank in kept:
+                    text += self.texts[rank]
         return text
+
+    def ranks(self, kind, number, count):
+        """Which places of the plan a piece has."""
+        size = -(-len(self.places) // count)
+        ranks = range(len(self.places))
+        return [it for it in ranks if (it // size if kind == "block" else it % count) == number - 1]
+
+
+# ---- What is told of suspects.
+
+
+def commands_to_fail(rng, plan):
+    """Some commands of the plan: those of which a run shows one of a few patterns, and one more."""
+    failing, places = set(), [it for it in plan.places if it[2] is not None]
+    for _ in range(rng.choice([1, 1, 2, 3])):
+        place = rng.choice(places)
+        settings = plan.settings(place)
+        some = rng.sample(range(len(settings)), min(len(settings), rng.randint(1, 3)))
+        for rank, it in enumerate(plan.places):
+            if it[2] == place[2] and all(plan.settings(it)[one] == settings[one] for one in some):
+                failing.add(last_line(plan.texts[rank]))
+    return failing | set(rng.sample([last_line(it) for it in plan.texts], rng.randint(0, 1)))
+
+
+def told_of_suspects(plan, ranks, failing):
+    """What is told after these places were run, where these commands fail: of the version, slot and package that failed
+    first, then of the next."""
+    outcomes, told = {}, []
+    for rank in ranks:
+        part, failed = plan.places[rank][:3], last_line(plan.texts[rank]) in failing
+        outcomes.setdefault(part, []).append((plan.settings(plan.places[rank]), failed))
+    failed_first = dict.fromkeys(plan.places[it][:3] for it in ranks if last_line(plan.texts[it]) in failing)
+    for version, slot, package in failed_first:
+        own = plan.packages[package]["name"]
+        found = suspects(outcomes[version, slot, package], plan.asked.strength)
+        lines = [
+            ", ".join(f"{','.join(plan.choices[own].candidates[place])} {'on' if is_on else 'off'}" for place, is_on in it)
+            for it in found
+        ]
+        if found in ([], [()]):
+            continue
+        where = own + (f" on 1.{version}" if version else "")
+        where += f" for {slot[0]}" if len(slot) == 1 and (version or plan.workspace["minor"] or 0) < 64 else ""
+        told.append(f"info: in {where} the failed runs have one of these, and the passed runs have none:")
+        told += [f"info:     {it}" for it in lines[:20]]
+        told += [f"info:     and {len(lines) - 20} more"] if len(lines) > 20 else []
+    return told
+
+
+def fault_of_suspects(program, plan, words, rng):
+    """What is wrong with what is told of suspects, where some runs of the plan or a piece fail."""
+    count = rng.choice([1, 1, 2, 3])
+    kind, number = rng.choice(["block", "turn"]), rng.randint(1, count)
+    failing = commands_to_fail(rng, plan)
+    write(plan.workspace["failing"], "".join(it.split(" ", 1)[1] for it in sorted(failing)))
+    words = ["--partition", f"{number}/{count}", "--partition-kind", kind] + [it for it in words if it != LISTED]
+    ran = call(program, plan.workspace, ["--keep-going"] * ("--keep-going" not in words) + words)
+    ranks = plan.ranks(kind, number, count)
+    wanted = told_of_suspects(plan, ranks, failing)
+    found = [it for it in ran.stderr.splitlines() if it.startswith(("info: in ", "info:     "))]
+    status = int(any(last_line(plan.texts[it]) in failing for it in ranks))
+    if (ran.returncode, found) == (status, wanted):
+        return None
+    return f"{words}, failing:\n{''.join(failing)}status {ran.returncode}, {ran.stderr}\nwanted:\n{wanted}\ntold:\n{found}"
 
 
 # ---- Comparing.
@@ -506,13 +619,14 @@ def joined_fault(plan, kind, pieces):
     return None if "".join(pieces) == plan.piece("block", 1, 1) else f"the pieces by {kind} don't make the list: {pieces}"
 
 
-def try_case(program, workspace, uses, trailing, counts):
-    """What is wrong in a case, if something is, and how many lines, pieces and refusals were compared."""
+def try_case(program, workspace, uses, trailing, counts, rng):
+    """What is wrong in a case, if something is, and how many lines, pieces, refusals and reports of suspects were
+    compared."""
     words = [word for it in uses for word in it.words] + (["--"] + trailing if trailing else [])
     ran = call(program, workspace, words)
     plan = Plan(workspace, Asked(uses, trailing), ran.stdout)
     if plan.causes:
-        return refusal(plan.causes, ran), (0, 0, 1)
+        return refusal(plan.causes, ran), (0, 0, 1, 0)
     wanted = plan.piece("block", 1, 1)
     fault, pieces = difference(wanted, ran) or next(iter(plan.faults), None), 0
     for count, kind in itertools.product(counts, ("block", "turn")):
@@ -526,7 +640,11 @@ def try_case(program, workspace, uses, trailing, counts):
             told_pieces.append(ran.stdout)
             pieces += 1
         fault = fault or joined_fault(plan, kind, told_pieces)
-    return fault, (wanted.count("\n"), pieces, 0)
+    # (each run starts a shell)
+    has_suspects = plan.asked.strength is not None and not plan.asked.own_handling and 0 < len(plan.places) < 200
+    if has_suspects:
+        fault = fault or fault_of_suspects(program, plan, words, rng)
+    return fault, (wanted.count("\n"), pieces, 0, int(has_suspects))
 
 
 def main():
@@ -536,7 +654,7 @@ def main():
         reader.add_argument(option, type=int, default=default)
     asked = reader.parse_args()
     program = os.path.realpath(asked.program)
-    failed, compared = 0, (0, 0, 0)
+    failed, compared = 0, (0, 0, 0, 0)
     for case in range(asked.cases):
         rng = random.Random(f"{asked.seed}/{case}")
         with tempfile.TemporaryDirectory(prefix="slow-plan-") as folder:
@@ -545,13 +663,14 @@ def main():
             lay_out(workspace, f"{folder}/tools")
             uses, trailing = random_words(rng, workspace)
             counts = sorted((case + it) % 7 + 1 for it in range(asked.counts))
-            fault, more = try_case(program, workspace, uses, trailing, counts)
+            fault, more = try_case(program, workspace, uses, trailing, counts, rng)
         compared = tuple(a + b for a, b in zip(compared, more))
         if fault:
             failed += 1
             words = [word for it in uses for word in it.words]
             print(f"case {case} of seed {asked.seed}: {words} -- {trailing}\n{json.dumps(workspace)}\n{fault}")
-    print(f"{asked.cases} workspaces: {compared[0]} lines, {compared[1]} pieces, {compared[2]} refused")
+    lines, pieces, refused, reports = compared
+    print(f"{asked.cases} workspaces: {lines} lines, {pieces} pieces, {refused} refused, {reports} with failing runs")
     print(f"{asked.cases - failed} passed, {failed} failed")
     return 1 if failed else 0
 

@@ -318,6 +318,7 @@ case "$*" in
     --version) echo 'rustup 1.27.1 (54dd3d00f 2024-04-24)';;
     *"metadata "*) printf '%s\\n' {metadata};;
     *locate-project*) printf '%s\\n' {located};;
+    *) ! grep -qxFe "$*" {failing};;
 esac
 """
 
@@ -375,7 +376,8 @@ def write(path, text):
 
 
 def lay_out(workspace, tools):
-    """The files of a workspace, and the stand-ins for cargo and rustup."""
+    """The files of a workspace, and the stand-ins for cargo and rustup. These fail where their arguments are a line of
+    the file `failing`."""
     root = workspace["root"]
     members = [it for it in workspace["packages"] if it["id"] in workspace["members"]]
     write(f"{root}/Cargo.toml", "")
@@ -384,7 +386,9 @@ def lay_out(workspace, tools):
         write(it["manifest_path"], manifest(it))
     with open(f"{root}/Cargo.toml", "a", encoding="utf-8") as it:
         it.write('\n[workspace]\nmembers = ["*"]\n')
-    text = STAND_IN.format(stable=told(workspace["stable"]), version=told(workspace["minor"]),
+    workspace["failing"] = f"{tools}/failing"
+    write(workspace["failing"], "")
+    text = STAND_IN.format(stable=told(workspace["stable"]), version=told(workspace["minor"]), failing=workspace["failing"],
                            metadata=sheltered(metadata(workspace)), located=sheltered({"root": workspace["located"]}))
     workspace["cargo"], workspace["rustup"] = f"{tools}/cargo", f"{tools}/rustup.sh"
     for tool in (workspace["cargo"], workspace["rustup"]):

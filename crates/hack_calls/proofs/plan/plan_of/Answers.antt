@@ -49,8 +49,8 @@ returns-in-Ok-clause-patterns c = λ strength latest is _ powerset given each.
     let same = same-latest c.args.stable c.in-Ok.latest latest c.in-Ok.is is in
     subst (λ v. IfOk c.plan_by.result (λ answer. ArePatternsHeld cx strength v answer.0)) same
     (IfOk-weaker c.plan_by.result (λ answer. IsPlan cx c.args.rustup.now c.in-Ok.latest answer.0 (map note_of answer.1.items)) (λ answer. ArePatternsHeld cx strength c.in-Ok.latest answer.0)
-      (λ answer h. patterns cx c.args.rustup.now c.in-Ok.latest answer.0 (map note_of answer.1.items) strength h powerset given each)
-      (c.plan_by.ensures.ok c.args.rustup.now c.in_ok-words.ensures))
+    (λ answer h. patterns cx c.args.rustup.now c.in-Ok.latest answer.0 (map note_of answer.1.items) strength h powerset given each)
+    (c.plan_by.ensures.ok c.args.rustup.now c.in_ok-words.ensures))
 
 pub returns-in-Ok-clause-never : goal.returns-in-Ok-clause-never
 returns-in-Ok-clause-never c =

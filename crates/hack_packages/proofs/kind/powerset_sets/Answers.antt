@@ -25,10 +25,11 @@ returns-in-Some-clause-sets c = λ (features : Features) e.
     let size : size_of r ≡ length (candidates w p) = c.in_ok-rules.ensures.size ∙ ap length c.as_slice.ensures.value ∙ sym (length-candidates_of c.in_ok-all.all.items) ∙ ap length (c.in_ok-all.ensures ∙ e) in
     ok-both c.sample.result (λ sets. IsSample (choice_of r) (size_of r) (sets_in sets)) (λ sets. CoversPatterns (choice_of r) (size_of r) c.in-Some.strength (sets_in sets)) (λ sets. kinds.AreSets true w p (sets_in sets))
     (λ sets sample covers.
-        let both : kinds.ArePowersets (Some c.in-Some.strength) (kinds.choice_of w p) (length (candidates w p)) (sets_in sets) =
-        (subst (λ (q : Choice). IsSample q (length (candidates w p)) (sets_in sets)) same (subst (λ n. IsSample (choice_of r) n (sets_in sets)) size sample),
-          subst (λ (q : Choice). CoversPatterns q (length (candidates w p)) c.in-Some.strength (sets_in sets)) same (subst (λ n. CoversPatterns (choice_of r) n c.in-Some.strength (sets_in sets)) size covers)) in
-        subst (λ o. kinds.ArePowersets o (kinds.choice_of w p) (length (candidates w p)) (sets_in sets)) (sym c.in-Some.is) both)
+    let both : kinds.ArePowersets (Some c.in-Some.strength) (kinds.choice_of w p) (length (candidates w p)) (sets_in sets) = (
+      subst (λ (q : Choice). IsSample q (length (candidates w p)) (sets_in sets)) same (subst (λ n. IsSample (choice_of r) n (sets_in sets)) size sample),
+      subst (λ (q : Choice). CoversPatterns q (length (candidates w p)) c.in-Some.strength (sets_in sets)) same (subst (λ n. CoversPatterns (choice_of r) n c.in-Some.strength (sets_in sets)) size covers),
+    ) in
+    subst (λ o. kinds.ArePowersets o (kinds.choice_of w p) (length (candidates w p)) (sets_in sets)) (sym c.in-Some.is) both)
     c.sample.ensures.sample c.sample.ensures.covers
 
 pub returns-in-Some-clause-err : goal.returns-in-Some-clause-err
@@ -52,7 +53,7 @@ returns-clause-sets c = λ (features : Features) e.
     let sets = sets_in c.in_ok-found-in-None.found.sets in
     subst (λ o. kinds.ArePowersets o (kinds.choice_of w p) (length (candidates w p)) sets) (sym c.in-None.is)
     (subst (λ (q : Choice). IsListing (length (candidates w p)) (IsListed q) sets) same
-      (subst (λ n. IsListing n (IsListed (choice_of r)) sets) size c.in_ok-found-in-None.ensures.sets))
+    (subst (λ n. IsListing n (IsListed (choice_of r)) sets) size c.in_ok-found-in-None.ensures.sets))
 
 pub returns-clause-covers : goal.returns-clause-covers
 returns-clause-covers c = λ (features : Features) e all.
