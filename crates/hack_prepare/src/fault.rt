@@ -31,7 +31,7 @@ pub enum PrepareFault {
     /// The path of a private crate has control characters.
     #[error("unsupported form of manifest `{0}`")]
     PathText(String),
-    /// What is left of the text isn't read as the tree that should be left.
+    /// No place is found for a change, or the new text isn't read as the tree that should be left.
     #[error("failed to edit manifest `{0}`")]
     ReadBack(String),
 }
