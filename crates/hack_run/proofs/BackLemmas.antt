@@ -16,7 +16,7 @@ use Rattle.hack_run.specs.Restores.{IsClean}
 pub leaves_none : (held : Contents) (n : ℕ) → LeavesFew (Unit {0}) held held n n
 leaves_none held n = record { spoilt = []; failed = λ low. omega (arith, low); others = λ t q fine. refl }
 
--- what questions leave, what is kept before it is written, and what is brought back
+-- what questions leave, what is kept before it is written, and what is restored
 pub leaves : (tells : Type 0) (files : List Kept) (first asked mid last : Contents) (k n m o r : ℕ) → tells → LeavesFew tells first asked k n → AreSafe files asked mid → Grows n m
     → GrowsBy r m o → Brings files mid last r → LeavesFew (Unit {0}) first last k o
 leaves tells files first asked mid last k n m o r t left safe grows counted brings =

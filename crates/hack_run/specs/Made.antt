@@ -84,19 +84,21 @@ pub record PerformsBehind (cx : ContextRecord) (rustup : Name) (had has : Option
   pub told : AsksStable rustup stable old mid
   pub performs : PerformsOne cx.args.print_command_list cx stable rustup had has mid new
 
--- stable's version was asked for where the range needs it, and then one history of the plan was
--- performed, or nothing was called
+-- stable's version was asked for only where the range needs it, and then one history of the plan
+-- was performed, or nothing was called
 pub record GoesOn (cx : ContextRecord) (rustup : Name) (had has : Option (List ℕ)) (old new : List Call) : Type 0 where
   pub mid : List Call
   pub asked : MayAskStable rustup old mid
   pub needed : ¬ NeedsAnswer cx.args → mid ≡ old
   pub runs : ((new ≡ mid) × Shows cx.args.print_command_list had has []) ⊎ PerformsBehind cx rustup had has old mid new
 
--- after the answers nothing was called or printed, or a context was made of them for the rest
+-- after the answers nothing was called or printed; or a context was made of them, and its plan was
+-- performed at most once
 abbrev pub AfterAnswers : Args → Answers → Name → Option (List ℕ) → Option (List ℕ) → List Call → List Call → Type 0
 AfterAnswers args answers rustup had has old new = ((new ≡ old) × (has ≡ had)) ⊎ ((cx : ContextRecord) × IsContextFrom args answers cx × GoesOn cx rustup had has old new)
 
--- these arguments' questions were asked in order, up to one that ended them, and the rest followed
+-- the questions of these arguments were asked in order, up to one that ended them, and then a plan
+-- was performed at most once
 pub record MakesOnce (tells : Type 0) (args : Args) (env : Env) (held : Contents) (before : ℕ) (had has : Option (List ℕ)) (old new : List Call) : Type 0 where
   pub answers : Answers
   pub now : ℕ

@@ -41,12 +41,12 @@ pub record SendsAll (before now : Option (List ℕ)) (plan : PlanView) (piece : 
   pub sent : Makes (PassesAll plan (filter is_sent_step schedule)) old new
   pub written : Appends before now (flat_map (step_lines plan) schedule)
 
--- what is done: a list, with what its output held and holds, or the runs
+-- `SendsAll` where commands are listed, with what the output held and holds; else `RunsAll`
 abbrev pub Does : Bool → Option (List ℕ) → Option (List ℕ) → PlanView → Option Partition → List Call → List Call → Type 0
 Does true before now plan piece old new = SendsAll before now plan piece old new
 Does false before now plan piece old new = RunsAll plan piece old new
 
--- that is done for a context's plan, made with this answer on stable's version, and a warning is
+-- `Done` holds of a context's plan, made with this answer on stable's version, and a warning is
 -- noted just where one was before, or where a notice of the plan counts as one
 pub record DoesPlan (Done : PlanView → Option Partition → List Call → List Call → Type 0) (cx : ContextRecord) (stable : Result (Option Version) (String Global)) (rustup : Name) (old new : List Call) (before warn : Bool) : Type 0 where
   pub plan : PlanView

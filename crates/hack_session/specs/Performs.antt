@@ -140,7 +140,7 @@ is_memory (NeverExecuted text) = false
 is_memory (NotText text) = false
 is_memory (ByFailure failure) = false
 
--- what holds of commands, by what they returned: with an outcome they ended, or memory was refused
+-- by what commands returned: they ended with an outcome, or memory was refused
 abbrev pub Comes : {T : Type 0} → (Outcome → Type 0) → Type 0 → Result T ProcessFault → Type 0
 Comes ended cut (Ok done) = ended Passed
 Comes ended cut (Err Memory) = cut
