@@ -1,4 +1,4 @@
--- Which texts of features go is said by the tree without its features too.
+-- Which texts of features are removed is the same for the tree without its features.
 use Rattle.std.proofs.Common.{◌≡◌, true, false, ◌&&◌, ◌||◌, not, Option, Some, None, Ordering, Less, Equal, Greater, nat_cmp, is_eq, refl, sym, ap, ◌∙◌, inl, inr}
 use Rattle.std.proofs.lemmas.Bool.{cases_Bool}
 use Rattle.std.proofs.lemmas.Map.Text.{is_eq-slice_cmp}
@@ -15,7 +15,7 @@ use Rattle.hack_edits.specs.Lookup.{normal_key, build_key, has_key, passes, some
 use Rattle.hack_edits.specs.DevTree.{items_left, array_left, arrays_left, features_left, with_features}
 use Rattle.hack_edits.specs.Tables.{remove_member, with_member}
 
--- a key that is another one's beside
+-- a key that differs from another one, which is passed over
 passed : {X : Type 0} (o : Ordering) (x y : X) → is_eq o ≡ false → x ≡ match_ordering o x y x
 passed Less x y h = refl
 passed Equal x y h = absurd (cc)

@@ -85,14 +85,14 @@ or_and true c d h = refl
 or_and false true d h = absurd (false≢true h)
 or_and false false d h = absurd (false≢true h)
 
--- what stands behind a path of development dependencies is theirs
+-- a path that begins with one of development dependencies is theirs too
 is_dev-append : (h k : List (List ℕ)) → is_dev h ≡ true → is_dev (h ++ k) ≡ true
 is_dev-append [] k e = absurd (false≢true e)
 is_dev-append (x ∷ []) k e = or_and (bytes_eq x dev_key) (bytes_eq x target_key) (bytes_eq (name_at (x ∷ k) 2) dev_key) e
 is_dev-append (x ∷ y ∷ []) k e = or_and (bytes_eq x dev_key) (bytes_eq x target_key) (bytes_eq (name_at (x ∷ y ∷ k) 2) dev_key) e
 is_dev-append (x ∷ y ∷ z ∷ h) k e = e
 
--- the header of the text that stays: it is the header, unless that went
+-- the header in the text that stays: it is the header, unless that was removed
 abbrev Follows : List (List ℕ) → List (List ℕ) → Type 0
 Follows header now = (header ≡ now) ⊎ (is_dev header ≡ true)
 
@@ -110,7 +110,7 @@ next-header header p e = rw e
 next-plain : (header : List (List ℕ)) (p : View) → is_header p.text ≡ false → next_header header p ≡ header
 next-plain header p e = rw e
 
--- behind a piece that goes
+-- after a piece that is removed
 follows-gone : (header now : List (List ℕ)) (p : View) → is_dev p.path ≡ true → Follows header now → Follows (next_header header p) now
 follows-gone header now p gone f =
     elim (cases_Bool (is_header p.text)) [
@@ -118,7 +118,7 @@ follows-gone header now p gone f =
       | inr e ↦ let P : List (List ℕ) → Type 0 = λ t. Follows t now in subst P (sym (next-plain header p e)) f
     ]
 
--- behind a piece that stays
+-- after a piece that stays
 follows-kept : (header now : List (List ℕ)) (p : View) → Follows header now → Follows (next_header header p) (next_header now p)
 follows-kept header now p f =
     elim (cases_Bool (is_header p.text)) [
@@ -129,13 +129,13 @@ follows-kept header now p f =
           subst P (sym (next-plain header p e)) (subst Q (sym (next-plain now p e)) f)
     ]
 
--- behind a key, which is no header
+-- after a key, which isn't a header
 follows-plain : (header now : List Name) (p : View) → is_header p.text ≡ false → Follows header now → Follows (next_header header p) now
 follows-plain header now p e f = let P : List Name → Type 0 = λ t. Follows t now in subst P (sym (next-plain header p e)) f
 
 -- ---- what is left
 
--- the text is pieces behind this header, of which none is one of development dependencies
+-- the text is pieces after this header, of which none is one of development dependencies
 record IsCutAgain (header : List Name) (tail text : List ℕ) : Type 0 where
   pieces : List View
   texts : IsCutInto (map (λ p. p.text) pieces) tail text
@@ -166,7 +166,7 @@ with-key header now p part tail text stays f path keeps first again =
     } in
     with-piece now left tail text stays here first (subst P (sym (next-plain now left keeps.still_plain)) again)
 
--- behind a piece that goes, that stays, and that keeps its key
+-- after a piece that is removed, that stays, or that keeps its key
 recut-step : (b : Bool) (p : View) (header now : List Name) (part tail rest new : List ℕ) → is_dev p.path ≡ b → Follows header now → IsPath header p.text p.path
     → IsFirstRun (p.text ++ rest) (length p.text) → (length rest ≡ 0 → length new ≡ 0) → MatchBool b (part ≡ []) ((part ≡ p.text) ⊎ KeepsKey p.text part)
     → ((next : List Name) → Follows (next_header header p) next → IsCutAgain next tail new) → IsCutAgain now tail (part ++ new)

@@ -1,4 +1,4 @@
--- Trees side by side.
+-- Trees that are compared.
 use Rattle.std.proofs.Common.{◌≡◌, ℕ, suc, List, [], ◌∷◌, length, Bool, true, false, ◌&&◌, cond, refl, ap, ◌∙◌, arith, String, Global, BTreeMap, Ordering, Less, Equal, Greater, string_bytes, nat_cmp, is_eq, IsTrue, Result, Ok, Err}
 use Rattle.std.specs.Prelude.{◌↔◌, IfOk, MatchResult}
 use Rattle.std.specs.List.{AllZip}
@@ -26,7 +26,7 @@ same_items-lengths [] (y ∷ ys) h = refl
 same_items-lengths (x ∷ xs) [] h = refl
 same_items-lengths (x ∷ xs) (y ∷ ys) h = and_false (same (view x) (view y)) _ (same_items-lengths xs ys (λ e. h (ap suc e)))
 
--- ---- the map of a table beside the members
+-- ---- the map of a table and the members
 
 members_view-match : (o : Ordering) (a b c : List Entry) → members_view (match_ordering o a b c) ≡ match_ordering o (members_view a) (members_view b) (members_view c)
 members_view-match Less a b c = refl
@@ -55,14 +55,14 @@ at (e ∷ es) false h = refl
 pub is_empty_table-map : (m : BTreeMap (String Global) Value) (b : Bool) → (IsTrue b ↔ (length m.entries ≡ 0)) → b ≡ is_empty_table (table (members_view m.entries))
 is_empty_table-map m b h = at m.entries b h
 
--- entries whose parts are copies of others look alike
+-- entries whose parts are copies of others are seen as the same members
 copied-entries : (es fs : List Entry) → AllZip (λ (p q : Entry). (string_bytes q.0 ≡ string_bytes p.0) × (view q.1 ≡ view p.1)) es fs → members_view fs ≡ members_view es
 copied-entries [] [] h = refl
 copied-entries [] (f ∷ fs) h = absurd h
 copied-entries (e ∷ es) [] h = absurd h
 copied-entries (e ∷ es) (f ∷ fs) h = rw (h.0.0, h.0.1, copied-entries es fs h.1)
 
--- a copy of a table looks like it
+-- a copy of a table is seen as the same
 pub copied-table : {E : Type 0} (r : Result (BTreeMap (String Global) Value) E) (m : BTreeMap (String Global) Value) (P : E → Type 0)
     → MatchResult r (λ n. AllZip (λ (p q : Entry). (string_bytes q.0 ≡ string_bytes p.0) × (view q.1 ≡ view p.1)) m.entries n.entries) P → IfOk r (λ t. table_view t ≡ table_view m)
 copied-table (Ok n) m P h = copied-entries m.entries n.entries h

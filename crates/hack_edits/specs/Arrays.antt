@@ -7,8 +7,8 @@ abbrev pub IsThinned : List ℕ → List ℕ → Type 0
 IsThinned [] new = new ≡ []
 IsThinned (x ∷ old) new = IsThinned old new ⊎ ((rest : List ℕ) × (new ≡ x ∷ rest) × IsThinned old rest)
 
--- The array of a piece begins behind the shortest front that ends in `[` and stands with `]` behind it, and closes
--- with the shortest front that ends in `]` and stands by itself.
+-- The array of a piece begins after the shortest prefix that ends in `[` and parses alone when
+-- followed by `]`, and closes with the shortest prefix that ends in `]` and parses alone.
 pub record IsArray (piece : List ℕ) (n m : ℕ) : Type 0 where
   pub opens : IsFirstFrontTo 91 (93 ∷ []) piece n
   pub closes : IsFirstFrontTo 93 [] piece m

@@ -23,7 +23,7 @@ is_dev_piece p = is_dev p.path
 abbrev pub some_dev : List View → Bool
 some_dev ps = list_any is_dev_piece ps
 
--- the path is that of a feature from whose array texts go
+-- the path is that of a feature from whose array texts are removed
 abbrev pub loses_texts : Members → List Name → Bool
 loses_texts old path = (length path == 2 && bytes_eq (name_at path 0) features_key) && loses_texts_at old (feature (name_at path 1) old)
 
@@ -70,13 +70,14 @@ pub record HasNoDevPiece (text : List ℕ) : Type 0 where
   pub cut : AreCut text pieces tail
   pub none : some_dev pieces ≡ false
 
--- What is left of the pieces, which `toml` reads as what stays of the tree, and of which none is to go.
+-- What is left of the pieces, which `toml` reads as what stays of the tree, and which has no piece
+-- of development dependencies.
 pub record IsEdit (old : Members) (ps : List View) (tail new : List ℕ) : Type 0 where
   pub left : AreLeft old ps tail new
   pub tree : reads_as_left old (parse_document new) ≡ true
   pub done : HasNoDevPiece new
 
--- What removing gives: where there is nothing to take out the text, else an edit of it.
+-- What removing gives: the text where there is nothing to take out, else an edit of it.
 pub record IsWithoutDev (text new : List ℕ) : Type 0 where
   pub old : Members
   pub ps : List View
@@ -103,8 +104,8 @@ pub record HasInlineTarget (text : List ℕ) : Type 0 where
   pub cut : AreCut text ps tail
   pub inline : some_inline old ps ≡ true
 
--- There is something to take out, no inline table holds it, and texts go from an array, or the pieces that stay aren't
--- read as what stays of the tree.
+-- There is something to take out, no inline table holds it, and texts are removed from an array, or
+-- the pieces that stay aren't read as what stays of the tree.
 pub record IsMisread (text : List ℕ) : Type 0 where
   pub old : Members
   pub ps : List View

@@ -10,17 +10,17 @@ use Rattle.hack_edits.specs.Tables.{remove_member, with_member}
 
 -- ---- the features
 
--- the items without the texts that go
+-- the items without the texts that are removed
 abbrev pub items_left : Members → Items → Items
 items_left old no_items = no_items
 items_left old (item d ds) = if item_goes old d then items_left old ds else item d (items_left old ds)
 
--- an array without the texts that go; another value stays
+-- an array without the texts that are removed; another value stays
 abbrev pub array_left : Members → Data → Data
 array_left old (array ds) = array (items_left old ds)
 array_left old d = d
 
--- what stays of each feature, behind what stayed already
+-- what stays of each feature, added to what stayed already
 abbrev pub arrays_left : Members → Members → Members → Members
 arrays_left old kept no_members = kept
 arrays_left old kept (member x d ms) = arrays_left old (with_member x (array_left old d) kept) ms
@@ -35,7 +35,7 @@ abbrev pub with_features : Members → Option Data → Members → Members
 with_features old None ms = ms
 with_features old (Some d) ms = with_member features_key (features_left old d) ms
 
--- a tree without the features' texts that go
+-- a tree without the features' texts that are removed
 abbrev pub without_texts : Members → Members → Members
 without_texts old ms = with_features old (get_member features_key ms) (remove_member features_key ms)
 
@@ -45,7 +45,7 @@ abbrev pub is_empty_table : Data → Bool
 is_empty_table (table no_members) = true
 is_empty_table _ = false
 
--- the members with d at k, but for an empty table
+-- the members with d at k, unless it is an empty table
 abbrev pub put_kept : Name → Data → Members → Members
 put_kept k d ms = if is_empty_table d then ms else with_member k d ms
 
@@ -54,7 +54,7 @@ abbrev pub stripped_target : Bool → Data → Data
 stripped_target true (table ms) = table (remove_member dev_key ms)
 stripped_target drops d = d
 
--- what stays of `target`, behind what stayed already
+-- what stays of `target`, added to what stayed already
 abbrev pub targets_kept : Bool → Members → Members → Members
 targets_kept drops kept no_members = kept
 targets_kept drops kept (member x d ms) = targets_kept drops (put_kept x (stripped_target drops d) kept) ms
@@ -69,13 +69,13 @@ abbrev pub with_target : Bool → Option Data → Members → Members
 with_target drops None ms = ms
 with_target drops (Some d) ms = put_kept target_key (target_kept drops d) ms
 
--- a tree without emptied tables at and under `target`, and without development dependencies where they are to go
+-- a tree without empty tables at and under `target`, and with `drops` without dev-dependencies
 abbrev pub tidied_tree : Bool → Members → Members
 tidied_tree drops ms =
     let top = if drops then remove_member dev_key ms else ms in
     with_target drops (get_member target_key top) (remove_member target_key top)
 
--- ---- a tree beside another
+-- ---- a tree compared with another
 
 -- a tree is what stays of the old one
 abbrev pub stays : Members → Members → Bool

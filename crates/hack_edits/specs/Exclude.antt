@@ -1,4 +1,4 @@
--- The folders that are put into `workspace.exclude`.
+-- The folders that are added to `workspace.exclude`.
 use Rattle.std.specs.Prelude.{◌≡◌, ◌==◌, ℕ, ◌-◌, ◌≤◌, ◌<◌, ◌&&◌, ◌||◌, Bool, true, false, not, Option, Some, if◌then◌else◌, List, [], ◌∷◌, ◌++◌, length, take, drop, slice_index, codes}
 use Rattle.toml.specs.Data.{Members}
 use Rattle.toml.specs.Parse.{parse_document}
@@ -15,7 +15,7 @@ escaped_text (c ∷ cs) = if c == 34 || c == 92 then 92 ∷ c ∷ escaped_text c
 abbrev pub quoted_text : List ℕ → List ℕ
 quoted_text t = 34 ∷ escaped_text t ++ 34 ∷ []
 
--- the texts, each behind `, `
+-- the texts, each after `, `
 abbrev pub each_behind : List Name → List ℕ
 each_behind [] = []
 each_behind (t ∷ ts) = 44 ∷ 32 ∷ quoted_text t ++ each_behind ts
@@ -29,7 +29,7 @@ list_text (t ∷ ts) = quoted_text t ++ each_behind ts
 abbrev pub ends_in_feed : List ℕ → Bool
 ends_in_feed text = not (length text == 0) && slice_index text (length text - 1) == 10
 
--- the header with a line that excludes the folders directly behind it
+-- the header, directly followed by a line that excludes the folders
 abbrev pub with_line : List Name → List ℕ → List ℕ
 with_line ts piece = (if ends_in_feed piece then piece else piece ++ 10 ∷ []) ++ (codes "exclude = [" ++ list_text ts ++ codes "]\n")
 
@@ -50,14 +50,15 @@ are_alike _ _ = false
 abbrev pub reads_alike : List ℕ → List ℕ → Bool
 reads_alike a b = are_alike (parse_document a) (parse_document b)
 
--- The last value of the array that closes with the first m bytes ends with the first k: these end in the quote of a text,
--- and with a bracket behind them they are read as the whole array. (In a comment the bracket would be part of it.)
+-- The last value of the array that closes with the first m bytes ends with the first k: these end
+-- in the quote of a text, and with a bracket after them they are read as the whole array. (In a
+-- comment the bracket would be part of it.)
 pub record EndsLast (piece : List ℕ) (m k : ℕ) : Type 0 where
   pub quote : ends_in_quote (take k piece) ≡ true
   pub alike : reads_alike (take k piece ++ 93 ∷ []) (take m piece) ≡ true
 
--- new is the piece with texts added between the brackets of its array: directly behind the first bracket where it is empty,
--- and else directly behind the last value
+-- new is the piece with texts added between the brackets of its array: directly after the first
+-- bracket where it is empty, and else directly after the last value
 pub record IsAddedInside (filled : Bool) (ts : List Name) (piece new : List ℕ) : Type 0 where
   pub n : ℕ
   pub m : ℕ

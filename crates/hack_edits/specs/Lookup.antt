@@ -53,21 +53,21 @@ is_slash b = b == 47
 abbrev pub is_dev_only : Name → Members → Bool
 is_dev_only name ms = depends dev_key name ms && not (depends normal_key name ms || depends build_key name ms)
 
--- a feature's text goes: its part before the first `/` is the name of a dependency for development alone
+-- a feature's text is removed: before its first `/` it names a dependency for development alone
 abbrev pub goes : Members → Name → Bool
 goes ms text = not (position_or_len is_slash text == length text) && is_dev_only (before_first is_slash text) ms
 
--- an array's item is a text that goes
+-- an array's item is a text that is removed
 abbrev pub item_goes : Members → Data → Bool
 item_goes old (string s) = goes old s
 item_goes old _ = false
 
--- some item of an array is a text that goes
+-- some item of an array is a text that is removed
 abbrev pub some_goes : Members → Items → Bool
 some_goes old no_items = false
 some_goes old (item d ds) = item_goes old d || some_goes old ds
 
--- from the array of that feature texts go
+-- texts are removed from the array of that feature
 abbrev pub loses_texts_at : Members → Option Data → Bool
 loses_texts_at old (Some (array ds)) = some_goes old ds
 loses_texts_at old _ = false

@@ -1,4 +1,4 @@
--- Which members of a workspace go, and which paths have to be excluded.
+-- Which members of a workspace are removed, and which paths have to be excluded.
 use Rattle.std.specs.Prelude.{◌||◌, Bool, false, if◌then◌else◌, List, [], ◌∷◌, codes, fold, map, Option, Some}
 use Rattle.std.specs.BTreeSet.{insert_key}
 use Rattle.std.specs.Cmp.Lexicographic.{slice_cmp}
@@ -41,13 +41,13 @@ abbrev pub unled_by : Name → List Name → Data → List Name
 unled_by root ps (string m) = paths_not_led_to root m ps
 unled_by root ps _ = ps
 
--- the items that stay: to each path the first text goes that leads there
+-- the items that stay: for each path the first text that leads there is removed
 abbrev pub members_left : Name → List Name → Items → Items
 members_left root ps no_items = no_items
 members_left root ps (item d ds) =
     if item_led root ps d then members_left root (unled_by root ps d) ds else item d (members_left root (unled_by root ps d) ds)
 
--- some item goes
+-- some item is removed
 abbrev pub some_led : Name → List Name → Items → Bool
 some_led root ps no_items = false
 some_led root ps (item d ds) = item_led root ps d || some_led root (unled_by root ps d) ds

@@ -14,8 +14,9 @@ use Rattle.hack_edits.specs.Members.{items_at, folders}
 use Rattle.hack_edits.specs.Parts.{AreParts}
 use Rattle.hack_edits.specs.WorkspaceTree.{takes, has_work, reads_without}
 
--- What is made of a piece, where members go or not, and with texts to add: slices are cut out of the array of members,
--- the texts are added to the array that excludes, or in a line behind the header where there is no such array.
+-- What is made of a piece, by whether members are removed, and with texts to add: slices are cut
+-- out of the array of members, and the texts are added to the array that excludes, or in a line
+-- after the header where there is no such array.
 abbrev pub IsMade : Bool → List Name → Members → View → List ℕ → Type 0
 IsMade takes ts ws p part =
     MatchBool (is_pair workspace_key members_key p.path && takes) (IsCutInside p.text part)
@@ -39,7 +40,8 @@ abbrev pub IsMadeOf : Name → List Name → List ℕ → Members → Option Mem
 IsMadeOf root ps text old None new = new ≡ text
 IsMadeOf root ps text old (Some ws) new = MatchBool (has_work root ps ws) (IsWorkspaceEdit root ps text old ws new) (new ≡ text)
 
--- What taking private crates out gives: where there is no workspace, or nothing to take out or add, the text.
+-- What removing private crates gives: the text where there is no workspace, or nothing to take out
+-- or add, else an edit of it.
 pub record IsWithoutPrivate (root : Name) (ps : List Name) (text new : List ℕ) : Type 0 where
   pub old : Members
   pub read : parse_document text ≡ Some old
@@ -68,7 +70,7 @@ abbrev pub is_array_data : Data → Bool
 is_array_data (array ds) = true
 is_array_data d = false
 
--- there is no place for folders to exclude: `exclude` is no array, or is missing under no header
+-- folders can't be excluded: `exclude` isn't an array, or there is none and no header `[workspace]`
 abbrev pub no_place : Option Data → List View → Bool
 no_place (Some d) pieces = not (is_array_data d)
 no_place None pieces = not (some_header pieces)
@@ -93,7 +95,7 @@ pub record HasBadForm (root : Name) (ps : List Name) (text : List ℕ) : Type 0 
   pub cut : AreCut text pieces tail
   pub bad : is_bad_form root ps ws pieces ≡ true
 
--- an edit of a workspace is asked for, which may fail
+-- the text has something to take out or add
 pub record HasWork (root : Name) (ps : List Name) (text : List ℕ) : Type 0 where
   pub old : Members
   pub ws : Members

@@ -30,7 +30,8 @@ IsRecut p part = MatchBool (is_dev p.path) (part ≡ []) ((part ≡ p.text) ⊎ 
 abbrev pub AreRecut : List View → List ℕ → List ℕ → Type 0
 AreRecut ps tail new = AreParts IsRecut ps tail new
 
--- what is left of a piece was put behind a text; where it isn't known to be a piece again, texts go from it
+-- what is left of a piece was appended to a text; where it isn't known to be a piece again, texts
+-- are removed from it
 pub record Leaves (old : Members) (p : View) (known : Bool) (before after : List ℕ) : Type 0 where
   pub part : List ℕ
   pub whole : after ≡ before ++ part

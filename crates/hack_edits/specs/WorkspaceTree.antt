@@ -8,7 +8,7 @@ use Rattle.hack_edits.specs.Members.{members_left, some_led, items_at, folders}
 use Rattle.hack_edits.specs.Same.{same_members}
 use Rattle.hack_edits.specs.Tables.{remove_member, with_member}
 
--- members go
+-- members are removed
 abbrev pub takes : Name → List Name → Members → Bool
 takes root ps ws = some_led root ps (items_at members_key ws)
 
@@ -30,7 +30,7 @@ members_put root ps (Some d) ms = with_member members_key (array_of_members root
 abbrev pub with_members : Name → List Name → Members → Members
 with_members root ps ws = members_put root ps (get_member members_key ws) (remove_member members_key ws)
 
--- the items with texts behind them
+-- the items followed by texts
 abbrev pub with_texts : List Name → Items → Items
 with_texts [] ds = ds
 with_texts (t ∷ ts) ds = with_texts ts (push_item ds (string t))

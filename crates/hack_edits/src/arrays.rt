@@ -1,5 +1,5 @@
-//! Elements cut out of an array of a piece. Which text is an array, and where an element ends, is
-//! asked of `toml`.
+//! Elements cut out of an array of a piece. `toml` decides which text is an array, and where an
+//! element ends.
 
 ghost use Rattle.std.specs.Prelude.{true, false, ◌≡◌, ◌≤◌, ◌<◌, length};
 ghost use Rattle.std.specs.Prelude.{IfOk, IfSome, string_bytes};
@@ -42,7 +42,8 @@ pub fn without_elements(
     }
 }
 
-/// The shortest front that ends in the byte, and stands with `more` behind it.
+/// Returns the length of the shortest prefix that ends in the byte, and parses alone when followed
+/// by `more`.
 pub fn first_front(
     alloc: Global,
     piece: &str,
@@ -60,7 +61,7 @@ pub fn first_front(
     Ok(None)
 }
 
-/// Whether the first n bytes end in the byte, and stand with `more` behind them.
+/// Returns whether the first `n` bytes end in the byte, and parse alone when followed by `more`.
 fn is_front(alloc: Global, piece: &str, n: usize, byte: u8, more: &str) -> Result<bool, AllocError>
     requires within { n ≤ length piece.now }
     requires ascii { byte < 128 }
@@ -75,9 +76,9 @@ fn is_front(alloc: Global, piece: &str, n: usize, byte: u8, more: &str) -> Resul
     stands_alone(alloc, front.as_str())
 }
 
-/// Which bytes between the brackets go with these elements: the space and comments before an
-/// element, its value, and what follows up to its comma; without a comma, the nearest kept comma
-/// before it.
+/// Returns which bytes between the brackets are removed with these elements: the space and comments
+/// before an element, its value, and what follows up to its comma; without a comma, the nearest
+/// kept comma before it.
 fn gone_bytes(alloc: Global, inside: &[u8], goes: &[bool]) -> Result<Vec<bool>, AllocError> {
     let mut gone = Vec::new(alloc);
     gone.resize(inside.len(), false)?;
@@ -103,7 +104,7 @@ fn gone_bytes(alloc: Global, inside: &[u8], goes: &[bool]) -> Result<Vec<bool>, 
     Ok(gone)
 }
 
-/// Where the comma behind an element stands: the first one before which `toml` reads the element.
+/// Returns where the comma after an element is: the first before which `toml` reads the element.
 pub fn comma_behind(alloc: Global, inside: &[u8], from: usize) -> Result<Option<usize>, AllocError>
     ensures { IfOk result (λ o. IfSome o (λ i. (from ≤ i) × (i < length inside.now))) }
 {
@@ -127,7 +128,7 @@ fn is_array(alloc: Global, inside: &str) -> Result<bool, AllocError> {
     stands_alone(alloc, text.as_str())
 }
 
-/// Marks bytes as gone.
+/// Marks bytes as removed.
 fn mark(gone: &mut Vec<bool>, from: usize, to: usize) {
     for i in from..to {
         if let Some(byte) = gone.get_mut(i) {
@@ -136,7 +137,7 @@ fn mark(gone: &mut Vec<bool>, from: usize, to: usize) {
     }
 }
 
-/// Marks the last element, which no comma follows.
+/// Marks the last element, which no comma follows, and the kept comma before it.
 fn mark_last(
     alloc: Global,
     gone: &mut Vec<bool>,
@@ -158,7 +159,8 @@ fn mark_last(
     Ok(())
 }
 
-/// How long a text at the front is, with the space and the comments before it.
+/// Returns the length of a text at the start, with the space and the comments before it; 0 where
+/// there is no text.
 pub fn text_len(alloc: Global, element: &str) -> Result<usize, AllocError>
     ensures { IfOk result (λ n. n ≤ length element.now) }
 {
@@ -172,7 +174,7 @@ pub fn text_len(alloc: Global, element: &str) -> Result<usize, AllocError>
     }
 }
 
-/// The bytes that are not marked as gone.
+/// Returns the bytes that are not marked as removed.
 pub fn thinned(alloc: Global, inside: &[u8], gone: &[bool]) -> Result<Vec<u8>, AllocError>
     ensures { IfOk result (λ v. IsThinned inside.now v.items) }
 {

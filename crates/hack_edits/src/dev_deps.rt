@@ -31,8 +31,8 @@ use hack_manifest::pieces::cut;
 use std::alloc::{AllocError, Global};
 use toml::{Table, Value};
 
-/// The manifest without its development dependencies: without their tables, and without the texts
-/// of features that name them alone. All other bytes stay, in order.
+/// Returns the manifest without its development dependencies: without their tables, and without the
+/// texts in features that name a dependency for development alone. All other bytes stay, in order.
 pub fn remove_dev_deps(alloc: Global, text: &str) -> Result<String, ManifestFault>
     ensures ok { IfOk result (λ s. IsWithoutDev text.now (string_bytes s)) }
     ensures unchanged { HasNoDev text.now → MatchResult result
@@ -54,12 +54,12 @@ pub fn remove_dev_deps(alloc: Global, text: &str) -> Result<String, ManifestFaul
     without_dev_pieces(alloc, old, &cut)
 }
 
-/// Carries a law: what removing gives has nothing to take out, so a second removal changes nothing.
+/// Carries a law: the result of a removal has nothing to take out, so a second one changes nothing.
 pub fn nothing_left()
     ensures { (text new : List ℕ) → IsWithoutDev text new → HasNoDev new }
 {}
 
-/// The edit of a manifest that has something to take out.
+/// Edits a manifest that has something to take out.
 fn without_dev_pieces(alloc: Global, old: Table, cut: &Pieces<'_>) -> Result<String, ManifestFault>
     requires { (text : List ℕ) × AreCut text (pieces_view cut.now) cut.now.tail.now }
     ensures ok { IfOk result (λ s.
@@ -157,8 +157,8 @@ fn join_pieces(
     Ok(Some(Left { text, known }))
 }
 
-/// Puts what is left of a piece behind the text, if the brackets of an array that loses texts are
-/// found, and says whether that is known to be a piece again.
+/// Appends what is left of a piece to the text, if the brackets of an array that loses texts are
+/// found, and returns whether that is known to be a piece again.
 fn push_left(
     alloc: Global,
     old: &Table,
@@ -180,7 +180,7 @@ fn push_left(
     Ok(Some(true))
 }
 
-/// Puts a feature without the texts that go behind the text.
+/// Appends a feature to the text, without its texts that are removed.
 fn push_thinned(
     alloc: Global,
     old: &Table,
@@ -199,7 +199,7 @@ fn push_thinned(
     Ok(Some(known))
 }
 
-/// A feature without the texts that go.
+/// Returns a feature without the texts that are removed.
 fn thinned_feature(
     alloc: Global,
     old: &Table,
@@ -216,7 +216,7 @@ fn thinned_feature(
     }
 }
 
-/// Which items of an array are texts that go.
+/// Returns which items of an array are texts that are removed.
 fn which_go(alloc: Global, old: &Table, value: &Value) -> Result<Vec<bool>, AllocError> {
     let mut goes = Vec::new(alloc);
     if let Value::Array(array) = value {
@@ -227,7 +227,7 @@ fn which_go(alloc: Global, old: &Table, value: &Value) -> Result<Vec<bool>, Allo
     Ok(goes)
 }
 
-/// Whether a path is that of a feature from whose array texts go.
+/// Returns whether a path is that of a feature from whose array texts are removed.
 fn path_loses(old: &Table, path: &[String]) -> bool
     ensures { result ≡ loses_texts (table_view old.now) (names_of path.now) }
 {

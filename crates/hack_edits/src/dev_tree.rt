@@ -42,8 +42,8 @@ fn is_rest(alloc: Global, old: Table, new: Table) -> Result<bool, AllocError>
     Ok(same_table(&expected, &found))
 }
 
-/// A tree without the features' texts that go. What goes is asked of the tree without its features,
-/// which says the same.
+/// Returns a tree without the features' texts that are removed. Which these are is looked up in the
+/// tree without its features, which says the same.
 fn drop_texts(alloc: Global, old: Table) -> Result<Table, AllocError>
     ensures { IfOk result (λ t. table_view t ≡ without_texts (table_view old) (table_view old)) }
 {
@@ -105,7 +105,7 @@ fn strip_array(alloc: Global, old: &Table, value: Value) -> Result<Value, AllocE
     }
 }
 
-/// What stays of an array: the items that are no texts that go.
+/// Returns what stays of an array: all items but the texts that are removed.
 fn kept_items(alloc: Global, old: &Table, items: Array) -> Result<Array, AllocError>
     ensures { IfOk result (λ v. array_view v ≡ items_left (table_view old.now) (array_view items)) }
 {
@@ -118,8 +118,8 @@ fn kept_items(alloc: Global, old: &Table, items: Array) -> Result<Array, AllocEr
     Ok(kept)
 }
 
-/// A tree without emptied tables at and under `target`, and without development dependencies where
-/// they are to go.
+/// Returns a tree without empty tables at and under `target`, and without development dependencies
+/// if `drops` is true.
 fn tidy(alloc: Global, table: Table, drops: bool) -> Result<Table, AllocError>
     ensures { IfOk result (λ t. table_view t ≡ tidied_tree drops (table_view table)) }
 {
@@ -129,7 +129,7 @@ fn tidy(alloc: Global, table: Table, drops: bool) -> Result<Table, AllocError>
     Ok(top)
 }
 
-/// A table without development dependencies at the top, where they are to go.
+/// Returns a table, without development dependencies at the top if `drops` is true.
 fn without_dev(table: Table, drops: bool) -> Table
     ensures { table_view result ≡ (if drops then remove_member dev_key
         (table_view table) else table_view table) }

@@ -1,4 +1,4 @@
-//! The folders of private crates put into `workspace.exclude`, in an array that is there or in a
+//! Adding the folders of private crates to `workspace.exclude`, in an array that is there or in a
 //! line of their own.
 
 ghost use Rattle.std.specs.Prelude.{◌≡◌, ◌≤◌, ◌++◌, map, length, take, true, IfOk};
@@ -15,7 +15,7 @@ use crate::tables::tree_of;
 use hack_base::paths::parent;
 use std::alloc::{AllocError, Global};
 
-/// A piece with the folders of paths added to its array, if its place is found.
+/// Returns a piece with the folders of paths added to its array, if the place for them is found.
 pub fn added_inside(
     alloc: Global,
     piece: &str,
@@ -57,7 +57,7 @@ pub fn added_inside(
     Ok(Some(new))
 }
 
-/// A header with a line behind it that excludes the folders of paths.
+/// Returns a header followed by a line that excludes the folders of paths.
 pub fn with_exclude_line(alloc: Global, piece: &str, paths: &[&str]) -> Result<Vec<u8>, AllocError>
     ensures { IfOk result (λ v. v.items ≡ with_line
         (map parent_of (names_behind paths.now)) piece.now) }
@@ -80,7 +80,7 @@ fn ends_feed(piece: &str) -> bool
     piece.len() != 0 && piece.as_bytes()[piece.len() - 1] == b'\n'
 }
 
-/// Where the last value between the brackets ends, if it is a text.
+/// Returns where the last text between the brackets ends; none where there is no text.
 fn last_end(alloc: Global, bytes: &[u8], n: usize, m: usize) -> Result<Option<usize>, AllocError>
     requires ordered { n ≤ m }
     requires within { m ≤ length bytes.now }
@@ -103,8 +103,8 @@ fn last_end(alloc: Global, bytes: &[u8], n: usize, m: usize) -> Result<Option<us
     Ok(end)
 }
 
-/// Whether the last value of the array that the first m bytes hold ends with the first k: these end
-/// in a quote, and `toml` reads them as the same array where a bracket closes it there.
+/// Returns whether the last value of the array that the first `m` bytes hold ends with the first
+/// `k`: these end in a quote, and with a bracket after them `toml` reads the same array.
 fn ends_last(alloc: Global, piece: &str, k: usize, m: usize) -> Result<bool, AllocError>
     ensures { IfOk result (λ b. b ≡ true → EndsLast piece.now m k) }
 {
@@ -169,7 +169,7 @@ fn element_end(alloc: Global, inside: &[u8], from: usize) -> Result<usize, Alloc
     }
 }
 
-/// Puts the folders of paths in quotes behind others, with `, ` between them.
+/// Appends the folders of paths in quotes, with `, ` between them.
 fn push_listed(out: &mut Vec<u8>, paths: &[&str]) -> Result<(), AllocError>
     ensures { OnOk result (out.new.items
         ≡ out.old.items ++ list_text (map parent_of (names_behind paths.now))) }
@@ -183,7 +183,7 @@ fn push_listed(out: &mut Vec<u8>, paths: &[&str]) -> Result<(), AllocError>
     }
 }
 
-/// Puts the folders of paths in quotes behind others, each behind `, `.
+/// Appends the folders of paths in quotes, each after `, `.
 fn push_behind(out: &mut Vec<u8>, paths: &[&str]) -> Result<(), AllocError>
     ensures { OnOk result (out.new.items
         ≡ out.old.items ++ each_behind (map parent_of (names_behind paths.now))) }
@@ -195,7 +195,7 @@ fn push_behind(out: &mut Vec<u8>, paths: &[&str]) -> Result<(), AllocError>
     Ok(())
 }
 
-/// Puts a text in quotes behind others.
+/// Appends a text in quotes.
 fn push_quoted(out: &mut Vec<u8>, text: &str) -> Result<(), AllocError>
     ensures { OnOk result (out.new.items ≡ out.old.items ++ quoted_text text.now) }
 {
@@ -205,7 +205,7 @@ fn push_quoted(out: &mut Vec<u8>, text: &str) -> Result<(), AllocError>
     Ok(())
 }
 
-/// Puts a text behind others, with `\` before `"` and `\`.
+/// Appends a text, with `\` before `"` and `\`.
 fn push_escaped(out: &mut Vec<u8>, text: &[u8]) -> Result<(), AllocError>
     ensures { OnOk result (out.new.items ≡ out.old.items ++ escaped_text text.now) }
 {

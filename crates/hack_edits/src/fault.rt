@@ -1,14 +1,14 @@
-//! Why a manifest isn't edited.
+//! Why a manifest couldn't be edited.
 
 ghost use Rattle.std.specs.Prelude.{◌≡◌};
 
 use std::alloc::AllocError;
 use thiserror::Error;
 
-/// Why a manifest isn't edited. Whoever knows its path tells it.
+/// Why a manifest couldn't be edited. The caller knows its path.
 #[derive(Debug, PartialEq, Eq, Drop, Error)]
 pub enum ManifestFault {
-    /// The text is no TOML document.
+    /// The text isn't a TOML document.
     #[error("failed to parse manifest as toml")]
     Toml,
     /// An inline table at `target` or under it holds development dependencies.
@@ -17,10 +17,10 @@ pub enum ManifestFault {
     /// The workspace is an inline table, or has no place for crates to exclude.
     #[error("unsupported form of manifest")]
     WorkspaceForm,
-    /// The path of a private crate has control characters, which a text in quotes can't show.
+    /// The path of a private crate has control characters, which a text in quotes can't have.
     #[error("unsupported form of manifest")]
     PathText,
-    /// What is left of the text isn't read as what stays of its tree.
+    /// No place is found for a change, or the new text isn't read as the tree that should be left.
     #[error("failed to edit manifest")]
     ReadBack,
     #[error("out of memory")]

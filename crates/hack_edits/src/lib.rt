@@ -1,5 +1,5 @@
-//! Edits of a manifest's text: a manifest without its development dependencies, and a workspace
-//! without private crates. What is cut into pieces stays whole where it stays, byte for byte.
+//! Edits of a manifest's text: removing its development dependencies, and removing private crates
+//! from its workspace. The text is cut into pieces; those that aren't edited stay byte for byte.
 #![tactic(auto)]
 
 mod arrays;

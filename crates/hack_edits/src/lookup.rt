@@ -75,7 +75,7 @@ pub fn feature_value<'a>(table: &'a Table, name: &str) -> Option<&'a Value>
     }
 }
 
-/// Whether texts go from the array of that feature.
+/// Returns whether texts are removed from the array of that feature.
 pub fn feature_loses(old: &Table, name: &str) -> bool
     ensures { result ≡ loses_texts_at (table_view old.now) (feature name.now (table_view old.now)) }
 {
@@ -88,7 +88,7 @@ pub fn feature_loses(old: &Table, name: &str) -> bool
     }
 }
 
-/// Whether texts go from an array.
+/// Returns whether texts are removed from an array.
 fn any_goes(old: &Table, array: &Array) -> bool
     ensures { result ≡ some_goes (table_view old.now) (array_view array.now) }
 {
@@ -100,7 +100,7 @@ fn any_goes(old: &Table, array: &Array) -> bool
     false
 }
 
-/// Whether an array's item is a text that goes.
+/// Returns whether an array's item is a text that is removed.
 pub fn value_goes(old: &Table, value: &Value) -> bool
     ensures { result ≡ item_goes (table_view old.now) (view value.now) }
 {
@@ -110,7 +110,7 @@ pub fn value_goes(old: &Table, value: &Value) -> bool
     }
 }
 
-/// Whether a feature's text goes with the development dependencies.
+/// Returns whether a feature's text is removed with the development dependencies.
 fn text_goes(old: &Table, text: &str) -> bool
     ensures { result ≡ goes (table_view old.now) text.now }
 {

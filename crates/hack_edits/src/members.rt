@@ -64,18 +64,18 @@ fn put_sorted<'a>(set: &mut BTreeSet<&'a str>, path: &'a str) -> Result<(), Allo
     Ok(())
 }
 
-/// What becomes of the members.
+/// Which members are removed, and which paths have to be excluded.
 #[derive(Drop)]
 pub struct Choice<'a> {
-    /// Which items of the array go.
+    /// Which items of the array are removed.
     pub goes: Vec<bool>,
-    /// Whether some do.
+    /// Whether some are.
     pub some: bool,
-    /// The paths to which none leads.
+    /// The paths to which no item leads.
     pub paths: Vec<&'a str>,
 }
 
-/// What becomes of a workspace's members.
+/// Returns which members of a workspace are removed, and which paths have to be excluded.
 pub fn chosen<'a>(
     alloc: Global,
     root: &str,
@@ -98,7 +98,7 @@ pub fn chosen<'a>(
     }
 }
 
-/// What becomes of the members' items.
+/// Returns the same for the items of the members.
 fn choose<'a>(
     alloc: Global,
     root: &str,
@@ -126,7 +126,7 @@ fn choose<'a>(
     })
 }
 
-/// Where there are no members, none goes, and no path is led to.
+/// Returns the choice where there are no members: none is removed, and no path is led to.
 fn no_choice<'a>(alloc: Global, paths: &[&'a str]) -> Result<Choice<'a>, AllocError>
     ensures some { IfOk result (λ c. c.some ≡ false) }
     ensures paths { IfOk result (λ c. names_behind c.paths.items ≡ names_behind paths.now) }
@@ -219,7 +219,7 @@ fn manifest_of(alloc: Global, root: &str, member: &str) -> Result<String, AllocE
     Ok(found)
 }
 
-/// Whether a manifest to which a member's text leads is that of a path.
+/// Returns whether a manifest to which a member's text leads is the one at a path.
 fn leads_to(alloc: Global, manifest: &str, path: &str) -> Result<bool, AllocError>
     ensures { IfOk result (λ b. (root member : Name) → manifest.now ≡ led_manifest root member
         → b ≡ leads root member path.now) }

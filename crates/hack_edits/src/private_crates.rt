@@ -31,9 +31,9 @@ use hack_manifest::pieces::{cut, is_inline};
 use std::alloc::{AllocError, Global};
 use toml::{Table, Value};
 
-/// The manifest without private crates, which are named by the paths of their manifests. Each is
-/// taken out of the workspace's members by the first text that leads to it; the others are
-/// excluded, in byte order and each once. All other bytes stay, in order.
+/// Returns the manifest without private crates, which are given by the paths of their manifests.
+/// For each path the first of the workspace's members that leads to it is removed; paths to which
+/// none leads are excluded, in byte order and each once. All other bytes stay, in order.
 pub fn remove_private_crates(
     alloc: Global,
     text: &str,
@@ -58,7 +58,7 @@ pub fn remove_private_crates(
     without_ordered(alloc, text, root, ordered.as_slice())
 }
 
-/// The manifest without private crates, whose paths are in order.
+/// Returns the manifest without private crates, whose paths are in order.
 fn without_ordered(
     alloc: Global,
     text: &str,
@@ -98,7 +98,7 @@ fn without_ordered(
     without_private(alloc, text, root, private, workspace, &choice, copy)
 }
 
-/// The edit of a manifest that has something to take out or add.
+/// Edits a manifest that has something to take out or add.
 fn without_private(
     alloc: Global,
     text: &str,
@@ -143,7 +143,7 @@ fn without_private(
     Ok(new)
 }
 
-/// What is made of the pieces, joined.
+/// Returns the edited pieces, joined, if the place of each change is found.
 fn joined_parts(
     alloc: Global,
     workspace: &Table,
@@ -166,7 +166,7 @@ fn joined_parts(
     Ok(Some(new))
 }
 
-/// What is made of a piece, if the place of each change is found.
+/// Returns the edited piece, if the place of each change is found.
 fn made_of(
     alloc: Global,
     workspace: &Table,
@@ -214,7 +214,7 @@ fn is_filled(workspace: &Table) -> bool
     }
 }
 
-/// Whether folders can't be excluded: `exclude` is no array, or there is no place for it.
+/// Returns whether folders can't be excluded: `exclude` isn't an array, or has no place.
 fn lacks_place(workspace: &Table, pieces: &[Piece<'_>]) -> bool
     ensures { result ≡ has_no_place (table_view workspace.now) (slice_view pieces.now) }
 {

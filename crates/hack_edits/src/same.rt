@@ -1,4 +1,4 @@
-//! Trees that are the same, floats and dates by kind alone.
+//! Whether trees are the same; of floats and dates only the kind is compared.
 
 ghost use Rattle.std.specs.Prelude.{◌≡◌};
 ghost use Rattle.toml.specs.View.{view, array_view, table_view};

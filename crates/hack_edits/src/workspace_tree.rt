@@ -220,7 +220,7 @@ fn into_items(alloc: Global, value: Option<Value>) -> Array
     }
 }
 
-/// Puts the folders of paths behind items.
+/// Appends the folders of paths to items.
 fn push_folders(alloc: Global, items: Array, paths: &[&str]) -> Result<Array, AllocError>
     ensures { IfOk result (λ a. array_view a
         ≡ with_texts (map parent_of (names_behind paths.now)) (array_view items)) }

@@ -1,4 +1,4 @@
--- How many calls of files have failed, one step behind another.
+-- How many calls of files have failed, one step after another.
 use Rattle.std.proofs.Common.{◌≡◌, inl, inr, ℕ, Result, Ok, Err, sym, subst, arith}
 use Rattle.hack_base.specs.Names.{Name}
 use Rattle.hack_files.specs.Faults.{IsOfRead, IsOfText, IsOfWrite}
@@ -25,7 +25,7 @@ file_then a b c (fs.Write p) g h = none_then 1 a b c g h
 file_then a b c (fs.NotText p) g h = none_then 0 a b c g h
 file_then a b c fs.Memory g h = h
 
--- none failed, and then a fault came
+-- none failed, and then an error came
 pub fault_then : (a b c : ℕ) (e : PrepareFault) → GrowsBy 0 a b → CountsFault b c e → CountsFault a c e
 fault_then a b c Memory g (inl h) = inl (none_then 0 a b c g h)
 fault_then a b c Memory g (inr h) = inr (none_then 1 a b c g h)
@@ -37,7 +37,7 @@ fault_then a b c (WorkspaceForm p) g h = none_then 0 a b c g h
 fault_then a b c (PathText p) g h = none_then 0 a b c g h
 fault_then a b c (ReadBack p) g h = none_then 0 a b c g h
 
--- none failed, and then this came of it
+-- none failed, and then a step had this result
 pub calls_then : {T : Type 0} (a b c : ℕ) (r : Result T PrepareFault) → GrowsBy 0 a b → CountsCalls b c r → CountsCalls a c r
 calls_then a b c (Ok v) g h = none_then 0 a b c g h
 calls_then a b c (Err e) g h = fault_then a b c e g h
@@ -78,14 +78,14 @@ write-counts path a b (fs.Write p) e h is g = subst (λ x. CountsFault a b x) (s
 write-counts path a b (fs.NotText p) e h is g = absurd h
 write-counts path a b fs.Memory e h is g = subst (λ x. CountsFault a b x) (sym is) (inr g)
 
--- a text isn't read
+-- a file isn't read as a text
 pub text-counts : (path : Name) (tells : Type 0) (held : _) (a b : ℕ) (f : FsFault) (e : PrepareFault) → IsOfText path tells held a b f → IsOfFile f e → CountsFault a b e
 text-counts path tells held a b (fs.Read p) e h is = subst (λ x. CountsFault a b x) (sym is) h.1
 text-counts path tells held a b (fs.Write p) e h is = absurd h
 text-counts path tells held a b (fs.NotText p) e h is = subst (λ x. CountsFault a b x) (sym is) h.1
 text-counts path tells held a b fs.Memory e h is = subst (λ x. CountsFault a b x) (sym is) h
 
--- an edit of a text counts none
+-- an error of editing a text counts none
 pub dev-counts : (path text : Name) (n : ℕ) (e : PrepareFault) → IsDevFault path text e → CountsFault n n e
 dev-counts path text n Memory h = inl (none_failed n)
 dev-counts path text n (Files f) h = absurd h
@@ -106,6 +106,6 @@ private-counts path folder ps text n (WorkspaceForm p) h = none_failed n
 private-counts path folder ps text n (PathText p) h = none_failed n
 private-counts path folder ps text n (ReadBack p) h = none_failed n
 
--- and so does want of memory before any call
+-- and so does out of memory before any call
 pub memory-counts : (n : ℕ) (e : PrepareFault) → e ≡ Memory → CountsFault n n e
 memory-counts n e is = subst (λ x. CountsFault n n x) (sym is) (inl (none_failed n))

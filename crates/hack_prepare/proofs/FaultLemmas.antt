@@ -27,14 +27,14 @@ file_among R S W X G H r w g (fs.Write p) x = w (string_bytes p) x
 file_among R S W X G H r w g (fs.NotText p) x = g (string_bytes p) x
 file_among R S W X G H r w g fs.Memory x = x
 
--- a fault of a part is one of the whole
+-- an error of a part is one of the whole
 pub fault-among : (R S W X G H : Name → Type 0) (P Q : PrepareFault → Type 0) → ((p : Name) → R p → S p) → ((p : Name) → W p → X p) → ((p : Name) → G p → H p) → ((e : PrepareFault) → P e → Q e)
     → (e : PrepareFault) → IsFault R W G P e → IsFault S X H Q e
 fault-among R S W X G H P Q r w g q e (inl x) = inl x
 fault-among R S W X G H P Q r w g q e (inr (inl x)) = inr (inl (x.0, x.1, file_among R S W X G H r w g x.0 x.2))
 fault-among R S W X G H P Q r w g q e (inr (inr x)) = inr (inr (q e x))
 
--- the same of an answer
+-- the same for a result
 pub err-among : {T : Type 0} (R S W X G H : Name → Type 0) (P Q : PrepareFault → Type 0) → ((p : Name) → R p → S p) → ((p : Name) → W p → X p) → ((p : Name) → G p → H p) → ((e : PrepareFault) → P e → Q e)
     → (r : Result T PrepareFault) → IfErr r (IsFault R W G P) → IfErr r (IsFault S X H Q)
 err-among R S W X G H P Q r w g q (Ok v) x = x
@@ -54,7 +54,7 @@ read-fault path (fs.Write p) e h is = absurd h
 read-fault path (fs.NotText p) e h is = absurd h
 read-fault path fs.Memory e h is = inl is
 
--- a text that isn't read
+-- a file that isn't read as a text
 pub text-fault : (path : Name) (asked : Bool) (tells : Type 0) (held : Contents) (P : PrepareFault → Type 0) (before now : _) (f : FsFault) (e : PrepareFault) → asked ≡ true
     → IsOfText path tells (held path) before now f → IsOfFile f e → IsFault (OnlyIf asked path) (OnlyIf asked path) (IsTextless tells held (OnlyIf asked path)) P e
 text-fault path asked tells held P before now (fs.Read p) e on h is = inr (inl (fs.Read p, is, (on, h.0)))
@@ -64,14 +64,14 @@ text-fault path asked tells held P before now fs.Memory e on h is = inl is
 
 -- ---- members
 
--- a member's fault is one of the members'
+-- a member's error is one of the members'
 pub member-fault : (w : Wanted) (ms : List Member) (m : Member) (e : PrepareFault) → Contains ms m → is_alone w m ≡ true → IsFault Nowhere (Only m.path) Nowhere (IsDevFault m.path m.text) e
     → IsFault Nowhere (IsAlonePath w ms) Nowhere (IsMembersFault w ms) e
 member-fault w ms m e among alone x =
     fault-among Nowhere Nowhere (Only m.path) (IsAlonePath w ms) Nowhere Nowhere (IsDevFault m.path m.text) (IsMembersFault w ms) (λ p h. h) (λ p is. alone-path w ms m p among alone is) (λ p h. h)
     (λ e' f. inr (record { member = m; among = among; alone = alone; fault = f })) e x
 
--- a private member at the root is one of the members' faults
+-- a private member at the root is one of the members' errors
 pub root-fault : (w : Wanted) (ms : List Member) (m : Member) → Contains ms m → goes w m ≡ true → is_root w m ≡ true → IsFault Nowhere (IsAlonePath w ms) Nowhere (IsMembersFault w ms) PrivateRoot
 root-fault w ms m among go root = inr (inr (inl (refl, record { member = m; among = among; goes = go; at_root = root })))
 
@@ -140,14 +140,14 @@ alone-edited w ms p h = or_first (list_any (is_alone_at w p) ms) (edits_root w m
 pub root-edited : (w : Wanted) (ms : List Member) (p : Name) → OnlyIf (edits_root w ms) w.root p → IsEdited w ms p
 root-edited w ms p h = or_second (list_any (is_alone_at w p) ms) (edits_root w ms && bytes_eq p w.root) (ap (λ b. b && bytes_eq p w.root) h.0 ∙ (bytes_eq-Decides p w.root).1 h.1)
 
--- a fault of the members is one of all
+-- an error of the members is one of all
 pub members-among : (tells : Type 0) (w : Wanted) (ms : List Member) (start : Contents) (e : PrepareFault)
     → IsFault Nowhere (IsAlonePath w ms) Nowhere (IsMembersFault w ms) e → IsEditsFault w ms tells start e
 members-among tells w ms start e x =
     fault-among Nowhere (IsLookedAt w ms) (IsAlonePath w ms) (IsEdited w ms) Nowhere (IsTextless tells start (IsReadRoot w ms)) (IsMembersFault w ms) (IsUnmade w ms tells start)
     (λ p h. absurd h) (alone-edited w ms) (λ p h. absurd h) (λ e' f. inl f) e x
 
--- a fault of the root is one of all
+-- an error of the root is one of all
 pub root-among : (tells : Type 0) (w : Wanted) (ms : List Member) (start mid : Contents) (e : PrepareFault) → (tells → KeepsApart w ms start mid)
     → IsFault (IsReadRoot w ms) (OnlyIf (edits_root w ms) w.root) (IsTextless tells mid (IsReadRoot w ms)) (IsRootFault w ms tells mid) e → IsEditsFault w ms tells start e
 root-among tells w ms start mid e apart x =
@@ -161,7 +161,7 @@ root-among tells w ms start mid e apart x =
     ))
     (λ e' f. inr (record { text = f.text; asked = f.asked; read = λ t. root-read w ms start mid f.text (apart t) (f.read t); fault = f.fault })) e x
 
--- a fault of the lockfile is one of all
+-- an error of the lockfile is one of all
 pub lock-among : (tells : Type 0) (w : Wanted) (ms : List Member) (start : Contents) (e : PrepareFault)
     → IsFault (Only w.lockfile) Nowhere Nowhere NoFault e → IsEditsFault w ms tells start e
 lock-among tells w ms start e x =
@@ -182,7 +182,7 @@ at-file W Q R T w (fs.Write p) h = w (string_bytes p) h
 at-file W Q R T w (fs.NotText p) h = tt
 at-file W Q R T w fs.Memory h = tt
 
--- a fault that names just such paths
+-- an error that names just such paths
 pub at-write : (R W T : Name → Type 0) (P : PrepareFault → Type 0) (Q : Name → Type 0) → ((p : Name) → W p → Q p) → ((e : PrepareFault) → P e → AtWrite Q e) → (e : PrepareFault) → IsFault R W T P e → AtWrite Q e
 at-write R W T P Q w p e (inl is) = subst (AtWrite Q) (sym is) tt
 at-write R W T P Q w p e (inr (inl x)) = subst (AtWrite Q) (sym x.1) (at-file W Q R T w x.0 x.2)
@@ -205,7 +205,7 @@ at-any Q q (WorkspaceForm p) = tt
 at-any Q q (PathText p) = tt
 at-any Q q (ReadBack p) = tt
 
--- what is so of it
+-- the same for a weaker property
 pub at-wider : (P Q : Name → Type 0) → ((p : Name) → P p → Q p) → (e : PrepareFault) → AtWrite P e → AtWrite Q e
 at-wider P Q to Memory h = tt
 at-wider P Q to PrivateRoot h = tt
@@ -222,7 +222,7 @@ at-wider P Q to (WorkspaceForm p) h = tt
 at-wider P Q to (PathText p) h = tt
 at-wider P Q to (ReadBack p) h = tt
 
--- a fault of an edit is none of a write
+-- an error of an edit isn't one of a write
 edit-at : (Q : Name → Type 0) (P : PrepareFault → Type 0) → ((f : FsFault) → P (Files f) → ⊥) → (e : PrepareFault) → P e → AtWrite Q e
 edit-at Q P none Memory h = tt
 edit-at Q P none PrivateRoot h = tt

@@ -1,4 +1,4 @@
--- The members so far, one more.
+-- The members so far, and one more.
 use Rattle.std.proofs.Common.{◌≡◌, ◌≢◌, inl, inr, ℕ, ◌+◌, ◌<◌, List, [], ◌∷◌, ◌++◌, Bool, true, false, cond, Option, Some, length, get_or, map, take, refl, sym, ◌∙◌, ap, subst, append-nil, append_assoc, arith}
 use Rattle.std.specs.Prelude.{◌&&◌, ◌||◌, not, All, Contains, codes}
 use Rattle.std.specs.List.{filter, filter_map, flat_map}
@@ -36,7 +36,7 @@ pub or_right : (a b : Bool) → (a || b) ≡ false → b ≡ false
 or_right true b e = absurd (true≢false e)
 or_right false b e = e
 
--- a member that goes isn't edited by itself
+-- a member that is removed isn't edited by itself
 pub alone-goes : (w : Wanted) (m : Member) → goes w m ≡ true → is_alone w m ≡ false
 alone-goes w m e = by w.drops_dev w.no_private m.is_private (is_root w m) e
   where
@@ -46,7 +46,7 @@ alone-goes w m e = by w.drops_dev w.no_private m.is_private (is_root w m) e
     by true true false r h = absurd (true≢false (sym h))
     by true false p r h = absurd (true≢false (sym h))
 
--- those that go
+-- those that are removed
 pub gone-more : (w : Wanted) (ms : List Member) (m : Member) (before now : List Name) → before ≡ gone_manifests w ms → now ≡ before ++ m.path ∷ [] → goes w m ≡ true → now ≡ gone_manifests w (ms ++ m ∷ [])
 gone-more w ms m before now is grown e =
     let path : Member → Name = λ x. x.path in
@@ -63,7 +63,7 @@ gone-same w ms m before is e =
     ∙ sym (map-append path (filter (goes w) ms) (filter (goes w) (m ∷ [])))
     ∙ ap (map path) (sym (filter-append (goes w) ms (m ∷ [])))
 
--- what is told of them
+-- the notices on them
 pub told-more : (w : Wanted) (ms : List Member) (m : Member) (old before now : List Note) → before ≡ old ++ flat_map (member_notes w) ms
     → now ≡ before ++ dev_note w.verbose m.path → is_alone w m ≡ true → now ≡ old ++ flat_map (member_notes w) (ms ++ m ∷ [])
 told-more w ms m old before now is grown e =
@@ -140,7 +140,7 @@ turned-fails m failed fails old new more (inl h) = inl h
 turned-fails m failed fails old new more (inr (inl t)) = inr (inl t)
 turned-fails m failed fails old new more (inr (inr f)) = inr (inr (more f))
 
--- each member's manifest holds what it held, or its edit, behind one more
+-- each member's manifest holds what it held, or its edit, after one more
 partly-more : (w : Wanted) (ms : List Member) (m : Member) (failed : Name → Type 0) (old mid new : Contents) → All (λ x. x.path ≡ m.path → x.text ≡ m.text) ms
     → IsTurnedOrNot (failed m.path) mid new m → KeepsOthers m.path mid new → ArePartlyTurned w ms (λ q. ⊥) old mid → ArePartlyTurned w ms failed old new
 partly-more w ms m failed old mid new same now keeps h k d lt is =
@@ -172,7 +172,7 @@ found-more f ids k id m old new lt is found grown so_far =
 one-text : (held : Contents) (ms : List Member) (m : Member) → HoldTexts held ms → HoldsText m held → All (λ x. x.path ≡ m.path → x.text ≡ m.text) ms
 one-text held ms m holds is k d lt same = let here = holds k d lt in let there : held m.path ≡ Some (get_or ms k d).text = ap held (sym same) ∙ here in cc
 
--- one more member's step behind earlier ones
+-- one more member's step, after earlier ones
 pub visited-fails : (tells : Type 0) (w : Wanted) (ms : List Member) (m : Member) (old mid new : Manager) (start held now : Contents) → Contains ms m → is_alone w m ≡ true
     → IsStep tells (λ s. HoldTexts s ms) (IsAlonePath w ms) old mid start held → IsStep tells (HoldsText m) (Only m.path) mid new held now
     → IsStep tells (λ s. HoldTexts s ms) (IsAlonePath w ms) old new start now
@@ -218,7 +218,7 @@ visited-none tells w ms manager held n private told none-gone = (
 )
 
 module _ (tells : Type 0) (w : Wanted) (ms : List Member) (k : ℕ) (m : Member) (one : take (k + 1) ms ≡ take k ms ++ m ∷ []) (old : Manager) (start : Contents) (before : ℕ) (told : List Note) where
-  -- and for one more, which goes
+  -- and for one more, which is removed
   pub visited-goes : (new : Manager) (now : Contents) (after : ℕ) (private more : List Name) (notes : List Note) → goes w m ≡ true → is_root w m ≡ false → more ≡ private ++ m.path ∷ []
       → Visited tells w ms k old new start now before after private told notes → Visited tells w ms (k + 1) old new start now before after more told notes
   visited-goes new now after private more notes go apart grown h =
@@ -264,7 +264,7 @@ module _ (tells : Type 0) (w : Wanted) (ms : List Member) (k : ℕ) (m : Member)
     told-more w (take k ms) m told notes more h.7 grown alone ∙ ap (λ l. told ++ flat_map (member_notes w) l) (sym one),
   )
 
--- what is wanted, by its parts
+-- the edits that are asked for, by their parts
 abbrev pub wanted_of : Args → Bool → Name → Name → Name → Wanted
 wanted_of args drops folder root lockfile = record { drops_dev = drops; no_private = args.no_private; verbose = args.verbose; folder = folder; root = root; lockfile = lockfile }
 
@@ -272,11 +272,11 @@ flat-none : (w : Wanted) (ms : List Member) → w.drops_dev ≡ false → flat_m
 flat-none w [] d = refl
 flat-none w (m ∷ ms) d = ap (λ b. cond (b && not (is_left w m)) (dev_note w.verbose m.path) [] ++ flat_map (member_notes w) ms) d ∙ flat-none w ms d
 
--- where nothing is asked, nothing is told
+-- where nothing is asked for, there is no notice
 pub told-none : (w : Wanted) (ms : List Member) → w.drops_dev ≡ false → w.no_private ≡ false → notes w ms ≡ []
 told-none w ms d n = ap (λ l. l ++ root_notes w ms) (flat-none w ms d) ∙ ap (λ b. cond b (edit_notes w (drops_at_root w ms) (gone_manifests w ms)) []) n
 
--- what is wanted, from what is loaded
+-- the edits that are asked for, from what is loaded
 pub wanted-is : (cx : ContextRecord) (args : Args) (drops : Bool) (folder root lockfile : Name) → args ≡ cx.args → drops ≡ (args.no_dev_deps || args.remove_dev_deps)
     → folder ≡ cx.metadata.workspace_root → root ≡ join_of folder (codes "Cargo.toml") → lockfile ≡ join_of folder (codes "Cargo.lock")
     → wanted_of args drops folder root lockfile ≡ wanted_in cx

@@ -23,7 +23,7 @@ keeps-but w b old new e keeps q free = keeps q (λ is. true≢false (sym (ap (λ
 abbrev pub text_in : Member → Name
 text_in m = m.text
 
--- where members are left to go there are some
+-- a list of paths that isn't empty has some
 pub some-left : (l : List (Bor (List ℕ))) → false ≡ (length l == 0) → has_some (names_behind l) ≡ true
 some-left [] h = absurd (true≢false (sym h))
 some-left (x ∷ xs) h = refl
@@ -72,7 +72,7 @@ text-missed w ms text held h is = by (find (is_root w) ms) h
     by None e = is
     by (Some m) e = absurd (cc)
 
--- ---- what is asked of the root
+-- ---- what is asked for at the root
 
 drops-by : (d r : Bool) → r ≡ true → (d && r) ≡ d
 drops-by true r e = e
@@ -82,7 +82,7 @@ keeps-by : (d r : Bool) → r ≡ false → (d && r) ≡ false
 keeps-by true r e = e
 keeps-by false r e = refl
 
--- where a member stands there, its development dependencies go too
+-- where a member is there, its development dependencies are removed too
 pub drops-found : (w : Wanted) (ms : List Member) → has_root w ms ≡ true → drops_at_root w ms ≡ w.drops_dev
 drops-found w ms e = drops-by w.drops_dev (has_root w ms) e
 
@@ -94,7 +94,7 @@ pub edits-is : (w : Wanted) (ms : List Member) (drops : Bool) (private : List Na
     → edits_root w ms ≡ (drops || has_some private)
 edits-is w ms drops private wanted is same = ap (λ b. b && (drops_at_root w ms || has_some (gone_manifests w ms))) wanted ∙ ap (λ b. b || has_some (gone_manifests w ms)) is ∙ ap (λ l. drops || has_some l) (sym same)
 
--- what is told of it
+-- the notices on it
 pub notes-are : (w : Wanted) (ms : List Member) (drops : Bool) (private : List Name) → w.no_private ≡ true → drops_at_root w ms ≡ drops → private ≡ gone_manifests w ms
     → edit_notes w drops private ≡ root_notes w ms
 notes-are w ms drops private wanted is same =
@@ -149,7 +149,7 @@ free-by : (a b rest : Bool) → b ≡ false → rest ≡ false → ((a && b) || 
 free-by true b rest e f = ap (λ x. x || rest) e ∙ f
 free-by false b rest e f = f
 
--- where no member stands there, none is edited there by itself
+-- where no member is there, none is edited there by itself
 pub alone-free : (w : Wanted) (ms : List Member) → has_root w ms ≡ false → list_any (is_alone_at w w.root) ms ≡ false
 alone-free w [] e = refl
 alone-free w (m ∷ ms) e = free-by (is_alone w m) (is_root w m) (list_any (is_alone_at w w.root) ms) (or_left (is_root w m) (has_root w ms) e) (alone-free w ms (or_right (is_root w m) (has_root w ms) e))
@@ -217,7 +217,7 @@ prepared w ms private old mid late new are holds turned apart made keeps same = 
   others = λ q free. same q ∙ unedited w ms old mid late apart keeps q free;
 }
 
--- ---- what stands where not all is done
+-- ---- what holds where not all is done
 
 -- all is done
 pub partly-all : (w : Wanted) (ms : List Member) (failed : Name → Type 0) (old new : Contents) → IsPrepared w ms old new → IsPartlyPrepared w ms failed old new
@@ -280,7 +280,7 @@ pub partly-read : (tells : Type 0) (w : Wanted) (private : List Name) (text held
 partly-read tells w private text held before between after old mid new is read same quiet h t =
     root-or-not w false private (Only held) (λ x. old w.root ≡ Some x) (GrowsBy 1 between after) (GrowsBy 1 before after) old mid new (same t w.root) (λ x here. read t ∙ ap Some (sym (here ∙ is))) (none_then 1 before between after quiet) (h t)
 
--- what is held is the same before and behind
+-- what is held is the same before and after
 pub prepared-moved : (w : Wanted) (ms : List Member) (first old new last : Contents) → KeepsAll first old → KeepsAll new last → IsPrepared w ms old new → IsPrepared w ms first last
 prepared-moved w ms first old new last same stay h = record {
   alone = λ k d lt is. let t = h.alone k d lt is in let m : Member = get_or ms k d in (t.0, t.1, sym (same m.path) ∙ t.2, stay m.path ∙ t.3, t.4);

@@ -1,4 +1,4 @@
--- Steps of the edits: what is kept, and what comes back.
+-- Steps of the edits: what is kept, and what is restored.
 use Rattle.std.proofs.Common.{◌≡◌, ◌≢◌, ◌⊎◌, inl, inr, List, ◌∷◌, [], ◌++◌, Bool, true, false, cond, Some, refl, sym, ◌∙◌, ap, subst}
 use Rattle.std.specs.Prelude.{◌||◌}
 use Rattle.std.specs.Str.{bytes_eq}
@@ -36,7 +36,7 @@ adds_then : (start : Contents) (a b c : List Kept) → Adds start a b → Adds s
 adds_then start a b _ f none = f
 adds_then start a b _ f (one file g free held) = one file (adds_then start a b _ f g) free held
 
--- one step behind another
+-- one step after another
 pub step_then : (tells : Type 0) (P : Contents → Type 0) (K : Name → Type 0) (a b c : Manager) (x y z : Contents)
     → IsStep tells P K a b x y → IsStep tells P K b c y z → IsStep tells P K a c x z
 step_then tells P K a b c x y z f g = record {

@@ -1,4 +1,4 @@
--- The writes of edits, one behind another.
+-- The writes of edits, one after another.
 use Rattle.std.proofs.Common.{◌≡◌, ◌⊎◌, inl, inr, ℕ, ◌+◌, ◌≤◌, List, [], ◌∷◌, ◌++◌, Bool, true, false, cond, Option, Some, None, Result, Ok, Err, OnOk, OnErr, take, length, arith, refl, sym, ◌∙◌, ap, subst, append-nil}
 use Rattle.std.specs.Prelude.{◌&&◌, ◌||◌, not, MatchBool, MatchOption, option_map}
 use Rattle.std.specs.List.{AllZip, filter, find}
@@ -59,7 +59,7 @@ later-made P t u v m n w f h = (h.0, h.1, makes_more [] h.0 t u v m n w f h.2)
 pub made-still : (P : List Change → Type 0) (t u v : List Change) (m n w : Contents) → MakesSome P t u m n → Makes [] u v n w → MakesSome P t v m w
 made-still P t u v m n w h f = (h.0, h.1, subst (λ l. Makes l t v m w) (append-nil h.0) (makes_more h.0 [] t u v m n w h.2 f))
 
--- where a call was well, or not
+-- where a call succeeded, or not
 on-ok : {T E : Type 0} (A B : Type 0) (r : Result T E) → (A → B) → OnOk r A → OnOk r B
 on-ok A B (Ok v) f h = f h
 on-ok A B (Err e) f h = tt
@@ -287,7 +287,7 @@ module _ (tells : Type 0) (w : Wanted) (ms : List Member) (old mid new : Content
     | inr some ↦ (d.0 ++ r.0, inr (both d.0 r.0 d.1 some), makes_more d.0 r.0 t u v old mid new d.2 r.2)
   ]
 
--- where no member goes the root's manifest isn't written
+-- where private members stay the root's manifest isn't written
 pub unwanted : (tells : Type 0) (w : Wanted) (ms : List Member) (held : Contents) (t : List Change) (m : Contents) → w.no_private ≡ false → MakesSome (AreRootWrites tells w ms held) t t m m
 unwanted tells w ms held t m n = ([], if-unasked (edits_root w ms) (WritesRoot tells w ms held) (ap (λ b. b && (drops_at_root w ms || has_some (gone_manifests w ms))) n), makes_none t m)
 

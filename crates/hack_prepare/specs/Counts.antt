@@ -13,7 +13,7 @@ CountsFile before now (fs.Write p) = GrowsBy 1 before now
 CountsFile before now (fs.NotText p) = GrowsBy 0 before now
 CountsFile before now fs.Memory = ⊥
 
--- so does a fault; want of memory is one call that failed, or none; each other fault is none
+-- an error of a file counts so; out of memory is one failed call, or none; each other error is none
 abbrev pub CountsFault : ℕ → ℕ → PrepareFault → Type 0
 CountsFault before now Memory = GrowsBy 0 before now ⊎ GrowsBy 1 before now
 CountsFault before now (Files f) = CountsFile before now f
@@ -24,7 +24,7 @@ CountsFault before now (WorkspaceForm p) = GrowsBy 0 before now
 CountsFault before now (PathText p) = GrowsBy 0 before now
 CountsFault before now (ReadBack p) = GrowsBy 0 before now
 
--- what comes of it tells how many calls failed: at Ok none, at a fault what the fault counts
+-- the result says how many calls failed: Ok says none, and an error what it counts
 abbrev pub CountsCalls : {T : Type 0} → ℕ → ℕ → Result T PrepareFault → Type 0
 CountsCalls before now (Ok _) = GrowsBy 0 before now
 CountsCalls before now (Err e) = CountsFault before now e

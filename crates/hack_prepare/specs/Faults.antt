@@ -16,7 +16,7 @@ use Rattle.hack_prepare.specs.Steps.{IsRootText}
 use Rattle.hack_prepare.specs.declared.fault.PrepareFault.{PrepareFault}
 use Rattle.hack_prepare.specs.declared.fault.PrepareFault.TheVariants.{Memory, PrivateRoot, Files, Toml, InlineTarget, WorkspaceForm, PathText, ReadBack}
 
--- a fault of the manifest at this path; or memory ran out
+-- an error of the manifest at this path; or memory ran out
 abbrev pub IsEditFault : Name → ManifestFault → PrepareFault → Type 0
 IsEditFault path fault Memory = Unit {0}
 IsEditFault path fault PrivateRoot = ⊥
@@ -27,7 +27,7 @@ IsEditFault path fault (WorkspaceForm p) = (string_bytes p ≡ path) × (fault �
 IsEditFault path fault (PathText p) = (string_bytes p ≡ path) × (fault ≡ edit.PathText)
 IsEditFault path fault (ReadBack p) = (string_bytes p ≡ path) × (fault ≡ edit.ReadBack)
 
--- why the development dependencies of a text, of the manifest at this path, don't go; or memory ran out
+-- why development dependencies can't be removed from this manifest's text; or memory ran out
 abbrev pub IsDevFault : Name → Name → PrepareFault → Type 0
 IsDevFault path text Memory = Unit {0}
 IsDevFault path text PrivateRoot = ⊥
@@ -38,7 +38,7 @@ IsDevFault path text (WorkspaceForm p) = ⊥
 IsDevFault path text (PathText p) = ⊥
 IsDevFault path text (ReadBack p) = (string_bytes p ≡ path) × IsMisread text
 
--- why these private members of a text, of the manifest at this path, don't go; or memory ran out
+-- why these private members can't be removed from this manifest's text; or memory ran out
 abbrev pub IsPrivateFault : Name → Name → List Name → Name → PrepareFault → Type 0
 IsPrivateFault path folder ps text Memory = Unit {0}
 IsPrivateFault path folder ps text PrivateRoot = ⊥
@@ -49,7 +49,7 @@ IsPrivateFault path folder ps text (WorkspaceForm p) = (string_bytes p ≡ path)
 IsPrivateFault path folder ps text (PathText p) = (string_bytes p ≡ path) × HasWork folder ps text × (some_path_control ps ≡ true)
 IsPrivateFault path folder ps text (ReadBack p) = (string_bytes p ≡ path) × HasWork folder ps text
 
--- a fault of a file
+-- an error of a file
 abbrev pub IsOfFile : FsFault → PrepareFault → Type 0
 IsOfFile fs.Memory e = e ≡ Memory
 IsOfFile (fs.Read path) e = e ≡ Files (fs.Read path)
@@ -58,14 +58,14 @@ IsOfFile (fs.NotText path) e = e ≡ Files (fs.NotText path)
 
 -- ---- why nothing more is edited
 
--- a file that is read so, or written so, can't be; or what such a path holds is no text
+-- one of `reads` can't be read, one of `writes` can't be written, or one of `textless` has no text
 abbrev pub IsFileFault : (Name → Type 0) → (Name → Type 0) → (Name → Type 0) → FsFault → Type 0
 IsFileFault reads writes textless (fs.Read p) = reads (string_bytes p)
 IsFileFault reads writes textless (fs.Write p) = writes (string_bytes p)
 IsFileFault reads writes textless (fs.NotText p) = textless (string_bytes p)
 IsFileFault reads writes textless fs.Memory = ⊥
 
--- where a path can't be written, this is so of it
+-- where a path can't be written, this holds of it
 abbrev pub AtFileWrite : (Name → Type 0) → FsFault → Type 0
 AtFileWrite P (fs.Read p) = Unit {0}
 AtFileWrite P (fs.Write p) = P (string_bytes p)
@@ -82,32 +82,32 @@ AtWrite P (WorkspaceForm p) = Unit {0}
 AtWrite P (PathText p) = Unit {0}
 AtWrite P (ReadBack p) = Unit {0}
 
--- memory ran out, or it is a fault of a file, or such a fault
+-- memory ran out, or it is an error of a file at such paths, or an error of this kind
 abbrev pub IsFault : (Name → Type 0) → (Name → Type 0) → (Name → Type 0) → (PrepareFault → Type 0) → PrepareFault → Type 0
 IsFault reads writes textless P e = (e ≡ Memory) ⊎ (((f : FsFault) × (e ≡ Files f) × IsFileFault reads writes textless f) ⊎ P e)
 
--- no fault
+-- no error
 abbrev pub NoFault : PrepareFault → Type 0
 NoFault e = ⊥
 
--- a member's manifest that is edited by itself isn't
+-- a member's manifest that is to be edited by itself can't be
 pub record IsMemberFault (w : Wanted) (ms : List Member) (e : PrepareFault) : Type 0 where
   pub member : Member
   pub among : Contains ms member
   pub alone : is_alone w member ≡ true
   pub fault : IsDevFault member.path member.text e
 
--- why the manifests of members aren't edited: a private member at the root, or a fault of one
+-- why the manifests of members aren't edited: a private member at the root, or an error of one
 abbrev pub IsMembersFault : Wanted → List Member → PrepareFault → Type 0
 IsMembersFault w ms e = ((e ≡ PrivateRoot) × HasPrivateRoot w ms) ⊎ IsMemberFault w ms e
 
--- why a workspace's text isn't edited: its development dependencies don't go, or, behind these, its members
+-- why a workspace's text isn't edited: removing development dependencies fails, or then members
 abbrev pub IsTextFault : Wanted → Bool → List Name → Name → PrepareFault → Type 0
 IsTextFault w drops_dev private text e =
     ((drops_dev ≡ true) × IsDevFault w.root text e)
     ⊎ ((between : Name) × MatchBool drops_dev (IsWithoutDev text between) (between ≡ text) × IsPrivateFault w.root w.folder (in_order private) between e)
 
--- members don't go from the text that is held
+-- members can't be removed from the text that is held
 abbrev pub IsHeldFault : Wanted → List Name → Type 0 → Contents → PrepareFault → Type 0
 IsHeldFault w private tells held e = (has_some private ≡ true) × (text : Name) × (tells → held w.root ≡ Some text) × IsTextFault w false private text e
 
@@ -118,7 +118,7 @@ pub record IsRootFault (w : Wanted) (ms : List Member) (tells : Type 0) (held : 
   pub read : tells → IsRootText w ms held text
   pub fault : IsTextFault w (drops_at_root w ms) (gone_manifests w ms) text e
 
--- an edit isn't made
+-- why an edit isn't made
 abbrev pub IsUnmade : Wanted → List Member → Type 0 → Contents → PrepareFault → Type 0
 IsUnmade w ms tells held e = IsMembersFault w ms e ⊎ IsRootFault w ms tells held e
 

@@ -38,6 +38,6 @@ IsReadRoot w ms p = (edits_root w ms ≡ true) × (has_root w ms ≡ false) × (
 abbrev pub IsLookedAt : Wanted → List Member → Name → Type 0
 IsLookedAt w ms p = IsReadRoot w ms p ⊎ (p ≡ w.lockfile)
 
--- a path that is read so, and what it holds is no text
+-- one of these paths, which are read, and what it holds is no text
 abbrev pub IsTextless : Type 0 → Contents → (Name → Type 0) → Name → Type 0
 IsTextless tells held reads p = reads p × HoldsNoText tells (held p)

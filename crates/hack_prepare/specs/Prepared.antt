@@ -8,20 +8,20 @@ use Rattle.hack_edits.specs.DevDeps.{IsWithoutDev}
 use Rattle.hack_edits.specs.Members.{in_order}
 use Rattle.hack_edits.specs.PrivateCrates.{IsWithoutPrivate}
 
--- what a call wants of the manifests of a workspace
+-- the edits that a call asks for in the manifests of a workspace
 pub record Wanted : Type 0 where
-  -- development dependencies are to go
+  -- development dependencies are to be removed
   pub drops_dev : Bool
-  -- private members are to go
+  -- private members are to be removed
   pub no_private : Bool
-  -- the user is told of each edit
+  -- each edit is reported
   pub verbose : Bool
   -- the folder of the workspace, and the paths of its manifest and its lockfile
   pub folder : Name
   pub root : Name
   pub lockfile : Name
 
--- a member of the workspace, as far as its manifest goes
+-- what is known of a workspace member's manifest
 pub record Member : Type 0 where
   pub path : Name
   pub text : Name
@@ -37,15 +37,15 @@ HoldTexts held ms = All (λ m. held m.path ≡ Some m.text) ms
 abbrev pub edits : Wanted → Bool
 edits w = w.drops_dev || w.no_private
 
--- the member's manifest stands in the folder of the workspace
+-- the member's manifest is in the folder of the workspace
 abbrev pub is_root : Wanted → Member → Bool
 is_root w m = bytes_eq m.path w.root
 
--- the member is taken out of the workspace
+-- the member is removed from the workspace
 abbrev pub goes : Wanted → Member → Bool
 goes w m = w.no_private && m.is_private
 
--- the member goes, or its manifest is edited with the workspace
+-- the member is removed, or its manifest is edited with the workspace's
 abbrev pub is_left : Wanted → Member → Bool
 is_left w m = w.no_private && (m.is_private || is_root w m)
 
@@ -57,16 +57,16 @@ is_alone w m = w.drops_dev && not (is_left w m)
 abbrev pub is_alone_at : Wanted → Name → Member → Bool
 is_alone_at w q m = is_alone w m && bytes_eq m.path q
 
--- the manifests of the members that go
+-- the manifests of the members that are removed
 abbrev pub gone_manifests : Wanted → List Member → List Name
 gone_manifests w ms = map (λ m. m.path) (filter (goes w) ms)
 
--- there are some
+-- the list isn't empty
 abbrev pub has_some : List Name → Bool
 has_some [] = false
 has_some (p ∷ ps) = true
 
--- a member stands in the folder of the workspace
+-- a member's manifest is in the folder of the workspace
 abbrev pub has_root : Wanted → List Member → Bool
 has_root w ms = list_any (is_root w) ms
 
@@ -84,11 +84,11 @@ is_edited w ms q = list_any (is_alone_at w q) ms || (edits_root w ms && bytes_eq
 
 -- ---- what becomes of it
 
--- a path held a text, and now holds what is made of it so
+-- a path held a text, and now holds one that P makes of it
 abbrev pub Turns : (Name → Name → Type 0) → Name → Contents → Contents → Type 0
 Turns P path old new = (text turned : Name) × (old path ≡ Some text) × (new path ≡ Some turned) × P text turned
 
--- a workspace's text is edited: development dependencies go where they are to, and then the members that go
+-- a workspace's text is edited: development dependencies are removed, if they are to, then members
 pub record IsRootEdit (folder : Name) (drops_dev : Bool) (private : List Name) (text turned : Name) : Type 0 where
   pub between : Name
   pub dev : MatchBool drops_dev (IsWithoutDev text between) (between ≡ text)
@@ -104,16 +104,16 @@ pub record IsPrepared (w : Wanted) (ms : List Member) (old new : Contents) : Typ
   pub root : edits_root w ms ≡ true → Turns (IsRootEdit w.folder (drops_at_root w ms) (gone_manifests w ms)) w.root old new
   pub others : KeepsUnedited w ms old new
 
--- a path holds what it held, or what is made of that so, or this has failed
+-- a path holds what it held, or what P makes of that, or this has failed
 abbrev pub TurnsOrStays : Type 0 → (Name → Name → Type 0) → Name → Contents → Contents → Type 0
 TurnsOrStays failed P path old new = (new path ≡ old path) ⊎ (Turns P path old new ⊎ failed)
 
--- each manifest that is edited holds what it held, or its edit, or this is so of its path
+-- each manifest that is edited holds what it held, or its edit, or this has failed for its path
 pub record IsPartlyPrepared (w : Wanted) (ms : List Member) (failed : Name → Type 0) (old new : Contents) : Type 0 where
   pub alone : All (λ m. is_alone w m ≡ true → TurnsOrStays (failed m.path) IsWithoutDev m.path old new) ms
   pub root : edits_root w ms ≡ true → TurnsOrStays (failed w.root) (IsRootEdit w.folder (drops_at_root w ms) (gone_manifests w ms)) w.root old new
 
--- a private member stands in the folder of the workspace, and private members are to go
+-- a private member is in the folder of the workspace, and private members are to be removed
 pub record HasPrivateRoot (w : Wanted) (ms : List Member) : Type 0 where
   pub member : Member
   pub among : Contains ms member

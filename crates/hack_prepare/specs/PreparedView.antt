@@ -1,4 +1,4 @@
--- What a call wants of the manifests, from what is loaded for it.
+-- The edits that a call asks for in manifests, from what is loaded for it.
 use Rattle.std.specs.Prelude.{◌≡◌, ◌⊎◌, ◌||◌, ℕ, Bool, true, List, Option, codes, map, option_and_then, option_map, string_bytes}
 use Rattle.std.specs.List.{filter_map}
 use Rattle.hack_base.specs.PathTexts.{join_of}
@@ -24,7 +24,7 @@ member_view m = record { path = m.path.now; text = m.text.now; is_private = m.is
 abbrev pub members_view : List TheMember → List Member
 members_view ms = map member_view ms
 
--- what is wanted as clauses see it
+-- the edits that are asked for, as clauses see them
 abbrev pub wanted_view : TheWanted → Wanted
 wanted_view w = record { drops_dev = w.drops_dev; no_private = w.no_private; verbose = w.verbose; folder = w.folder.now; root = w.root.now; lockfile = w.lockfile.now }
 
@@ -36,7 +36,7 @@ member_at cx id = option_and_then (λ p. option_map (λ m. record { path = p.man
 abbrev pub members_in : ContextRecord → List Member
 members_in cx = filter_map (member_at cx) cx.metadata.workspace_members
 
--- what is wanted of their manifests
+-- the edits that are asked for in their manifests
 abbrev pub wanted_in : ContextRecord → Wanted
 wanted_in cx = record {
   drops_dev = cx.args.no_dev_deps || cx.args.remove_dev_deps;
@@ -47,7 +47,7 @@ wanted_in cx = record {
   lockfile = join_of cx.metadata.workspace_root (codes "Cargo.lock");
 }
 
--- ---- what is said of manifests, for a context: its members, and what its arguments want of them
+-- ---- what is said of manifests, for a context: its members, and the edits that are asked for
 
 -- each member's manifest holds what was loaded of it
 abbrev pub HoldTextsIn : ContextRecord → Contents → Type 0
@@ -57,7 +57,7 @@ HoldTextsIn cx held = HoldTexts held (members_in cx)
 abbrev pub edits_in : ContextRecord → Bool
 edits_in cx = edits (wanted_in cx)
 
--- a private member stands in the folder of the workspace, and private members are to go
+-- a private member is in the folder of the workspace, and private members are to be removed
 abbrev pub HasPrivateRootIn : ContextRecord → Type 0
 HasPrivateRootIn cx = HasPrivateRoot (wanted_in cx) (members_in cx)
 
@@ -65,7 +65,7 @@ HasPrivateRootIn cx = HasPrivateRoot (wanted_in cx) (members_in cx)
 abbrev pub IsPreparedIn : ContextRecord → Contents → Contents → Type 0
 IsPreparedIn cx = IsPrepared (wanted_in cx) (members_in cx)
 
--- each manifest that is edited holds what it held, or its edit, or this is so of its path
+-- each manifest that is edited holds what it held, or its edit, or this has failed for its path
 abbrev pub IsPartlyPreparedIn : ContextRecord → (Name → Type 0) → Contents → Contents → Type 0
 IsPartlyPreparedIn cx = IsPartlyPrepared (wanted_in cx) (members_in cx)
 
@@ -85,10 +85,10 @@ BeginWritesIn cx tells = BeginWrites tells (wanted_in cx) (members_in cx)
 abbrev pub IsTouchedIn : ContextRecord → Name → Type 0
 IsTouchedIn cx p = (edits_in cx ≡ true) × IsTouched (wanted_in cx) (members_in cx) p
 
--- what the user is told
+-- the notices on the edits
 abbrev pub notes_in : ContextRecord → List Note
 notes_in cx = notes (wanted_in cx) (members_in cx)
 
--- why manifests aren't edited: memory ran out, or they are edited at all, and there is a cause
+-- why manifests aren't edited: memory ran out, or edits are asked for, and there is a cause
 abbrev pub IsPrepareFault : ContextRecord → Type 0 → Contents → PrepareFault → Type 0
 IsPrepareFault cx tells held e = (e ≡ Memory) ⊎ ((edits_in cx ≡ true) × IsEditsFault (wanted_in cx) (members_in cx) tells held e)

@@ -9,7 +9,7 @@ use Rattle.hack_files.specs.declared.restore.Manager.{Manager}
 use Rattle.hack_edits.specs.DevDeps.{IsWithoutDev}
 use Rattle.hack_prepare.specs.Prepared.{Member, Wanted, IsRootEdit, has_some, is_alone, is_alone_at, is_root}
 
--- some calls failed
+-- some calls failed, or none
 abbrev pub Grows : ℕ → ℕ → Type 0
 Grows before now = (k : ℕ) × GrowsBy k before now
 
@@ -17,7 +17,8 @@ Grows before now = (k : ℕ) × GrowsBy k before now
 abbrev pub KeepsOnly : (Name → Type 0) → Manager → Manager → Type 0
 KeepsOnly P old new = (q : Name) → is_kept (registered_files new) q ≡ true → (is_kept (registered_files old) q ≡ true) ⊎ P q
 
--- files were kept behind those that were: each with what its path held at the start, and none whose path was kept already
+-- more files are kept, after those that were: each with what its path held at the start, and none
+-- whose path was kept already
 pub data Adds (start : Contents) (old : List Kept) : List Kept → Type 0 where
   none : Adds start old old
   one : {now : List Kept} (file : Kept) → Adds start old now → is_kept now file.path ≡ false → start file.path ≡ Some file.bytes → Adds start old (now ++ file ∷ [])
@@ -27,8 +28,9 @@ pub record KeepsHeld (old new : List Kept) (start now : Contents) : Type 0 where
   pub added : Adds start old new
   pub others : (q : Name) → is_kept new q ≡ false → now q ≡ start q
 
--- What a step does to the manager and to what files hold: it keeps none but these paths, and where files come back, it keeps
--- what is written, and what is safe stays so, for each start that meets a premise.
+-- What a step does to the manager and to what files hold: it newly keeps none but these paths; and
+-- where files are to be restored, it keeps what it overwrites, and what is safe stays so, for each
+-- start that meets a premise.
 pub record IsStep (tells : Type 0) (P : Contents → Type 0) (K : Name → Type 0) (old new : Manager) (mid held : Contents) : Type 0 where
   pub needs : new.needs_restore ≡ old.needs_restore
   pub unkept : old.needs_restore ≡ false → registered_files new ≡ registered_files old
@@ -56,7 +58,7 @@ IsTurned new m = (turned : Name) × (new m.path ≡ Some turned) × IsWithoutDev
 abbrev pub IsTurnedOrNot : Type 0 → Contents → Contents → Member → Type 0
 IsTurnedOrNot failed old new m = (new m.path ≡ old m.path) ⊎ (IsTurned new m ⊎ failed)
 
--- so does each of these members' that is edited by itself, or this is so of its path
+-- the same for each of these members that is edited by itself, unless this has failed for its path
 abbrev pub ArePartlyTurned : Wanted → List Member → (Name → Type 0) → Contents → Contents → Type 0
 ArePartlyTurned w ms failed old new = All (λ m. is_alone w m ≡ true → IsTurnedOrNot (failed m.path) old new m) ms
 
@@ -85,6 +87,6 @@ MakesRootOrNot w drops_dev private reads failed old new =
 abbrev pub KeepsBut : Wanted → Bool → Contents → Contents → Type 0
 KeepsBut w edited old new = (q : Name) → (edited && bytes_eq q w.root) ≡ false → new q ≡ old q
 
--- what is read of the manifest in the folder of the workspace: a member has it, or it is read now
+-- the text of the manifest in the folder of the workspace: a member's, or what the path holds now
 abbrev pub IsRootText : Wanted → List Member → Contents → Name → Type 0
 IsRootText w ms held text = MatchOption (find (is_root w) ms) (held w.root ≡ Some text) (λ m. text ≡ m.text)

@@ -44,11 +44,11 @@ pub record IsRootWrite (w : Wanted) (drops_dev : Bool) (private : List Name) (re
   pub edit : IsRootEdit w.folder drops_dev private text turned
   pub is : c ≡ puts w.root turned
 
--- what a member has read there; or else what it holds, where files tell it
+-- what a member has read there; or else what it holds, where the files show that
 abbrev pub ReadsRoot : Type 0 → Wanted → List Member → Contents → Name → Type 0
 ReadsRoot tells w ms held text = MatchOption (find (is_root w) ms) (tells → held w.root ≡ Some text) (λ m. text ≡ m.text)
 
--- its write
+-- the write of its edit
 abbrev pub WritesRoot : Type 0 → Wanted → List Member → Contents → Change → Type 0
 WritesRoot tells w ms held = IsRootWrite w (drops_at_root w ms) (gone_manifests w ms) (ReadsRoot tells w ms held)
 

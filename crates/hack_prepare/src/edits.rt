@@ -1,4 +1,4 @@
-//! The edits of a manifest's text, told by the path of the manifest.
+//! The edits of a manifest's text, whose errors name the path of the manifest.
 
 ghost use Rattle.std.specs.Prelude.{IfErr, IfOk, string_bytes};
 ghost use Rattle.hack_base.specs.Names.{names_behind};
@@ -11,7 +11,7 @@ use crate::fault::{PrepareFault, of_edit};
 use hack_edits::manifest::{remove_dev_deps, remove_private_crates};
 use std::alloc::Global;
 
-/// A text without its development dependencies.
+/// Returns a text without its development dependencies.
 pub(crate) fn without_dev(alloc: Global, path: &str, text: &str) -> Result<String, PrepareFault>
     ensures ok { IfOk result (λ new. IsWithoutDev text.now (string_bytes new)) }
     ensures err { IfErr result (IsDevFault path.now text.now) }
@@ -22,7 +22,7 @@ pub(crate) fn without_dev(alloc: Global, path: &str, text: &str) -> Result<Strin
     }
 }
 
-/// A text without private crates, at these paths, of the workspace in a folder.
+/// Returns a text without the private crates at these paths, for the workspace in a folder.
 pub(crate) fn without_private(
     alloc: Global,
     path: &str,

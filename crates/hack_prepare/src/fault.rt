@@ -1,4 +1,4 @@
-//! Why manifests aren't edited.
+//! Why manifests couldn't be edited.
 
 ghost use Rattle.std.specs.Prelude.{◌≡◌};
 ghost use Rattle.hack_prepare.specs.Faults.{IsEditFault, IsOfFile};
@@ -8,18 +8,18 @@ use hack_files::fs::FsFault;
 use std::alloc::{AllocError, AllocFailed, Global};
 use thiserror::Error;
 
-/// Why manifests aren't edited. A fault of a manifest has its path.
+/// Why manifests couldn't be edited. An error of a manifest has its path.
 #[derive(Debug, Drop, PartialEq, Eq, Error)]
 pub enum PrepareFault {
     #[error("out of memory")]
     Memory,
-    /// The package in the folder of the workspace is private, and private members are to go.
+    /// The package in the folder of the workspace is private, and `--no-private` would remove it.
     #[error("--no-private is not supported yet with workspace with private root crate")]
     PrivateRoot,
     /// A file can't be read or written.
     #[error("{0}")]
     Files(FsFault),
-    /// A manifest is no TOML document.
+    /// A manifest isn't a TOML document.
     #[error("failed to parse manifest `{0}` as toml")]
     Toml(String),
     /// An inline table at `target` or under it holds development dependencies.
@@ -31,7 +31,7 @@ pub enum PrepareFault {
     /// The path of a private crate has control characters.
     #[error("unsupported form of manifest `{0}`")]
     PathText(String),
-    /// What is left of the text isn't read as what stays of its tree.
+    /// No place is found for a change, or the new text isn't read as the tree that should be left.
     #[error("failed to edit manifest `{0}`")]
     ReadBack(String),
 }
@@ -58,7 +58,7 @@ impl<T: Drop> From<AllocFailed<T>> for PrepareFault {
     }
 }
 
-/// A fault of an edit, of the manifest at this path.
+/// Returns the error of an edit of the manifest at this path.
 pub(crate) fn of_edit(alloc: Global, fault: ManifestFault, path: &str) -> PrepareFault
     ensures { IsEditFault path.now fault result }
 {
@@ -76,7 +76,7 @@ pub(crate) fn of_edit(alloc: Global, fault: ManifestFault, path: &str) -> Prepar
     }
 }
 
-/// A fault of a file.
+/// Returns the error of a file as one of the edits.
 pub(crate) fn of_file(fault: FsFault) -> PrepareFault
     ensures { IsOfFile fault result }
 {

@@ -1,4 +1,4 @@
-//! Manifests that are edited before the runs of a call, and come back at its end.
+//! Manifests that are edited before the runs of a call, and restored at its end.
 #![tactic(auto)]
 
 mod edits;

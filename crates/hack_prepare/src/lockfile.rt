@@ -1,4 +1,4 @@
-//! The lockfile, which cargo may change, and which comes back.
+//! The lockfile, which cargo may change, and which is restored.
 
 ghost use Rattle.std.specs.Prelude.{◌≡◌, [], OnOk, IfErr, IfSome, true};
 ghost use Rattle.hack_files.specs.Files.{KeepsAll, Makes};

@@ -26,8 +26,8 @@ use hack_files::fs::Files;
 use hack_files::restore::Manager;
 use std::alloc::Global;
 
-/// Takes the development dependencies out of the manifests that are edited by themselves, and
-/// answers the manifests of the members that go.
+/// Removes the development dependencies from the manifests that are edited by themselves, and
+/// returns the manifests of the members that are removed.
 #[tactic(auto, using(crate::proofs::StepLemmas::keeps_none, crate::proofs::WriteLemmas::dev_all))]
 pub(crate) fn edit_members<'a, F: Files>(
     alloc: Global,
@@ -86,7 +86,7 @@ pub(crate) fn edit_members<'a, F: Files>(
     Ok(gone)
 }
 
-/// Takes the development dependencies out of a member's manifest.
+/// Removes the development dependencies from a member's manifest.
 #[tactic(auto, using(crate::proofs::StepLemmas::keeps_none))]
 fn edit_member<F: Files>(
     alloc: Global,

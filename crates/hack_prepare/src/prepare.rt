@@ -38,11 +38,10 @@ use hack_words::cli::Args;
 use std::alloc::Global;
 use std::io::Write;
 
-/// Edits the manifests of the workspace as the arguments of the call ask: with `--no-dev-deps` or
-/// `--remove-dev-deps` development dependencies go, with `--no-private` private members do. What a
-/// file holds is kept before it is written, and so is the lockfile, which cargo may change; the
-/// manager brings them back, unless they are to stay edited. The notices tell of each edit, where
-/// the user wants to know.
+/// Edits the manifests of the workspace as the arguments of the call ask: `--no-dev-deps` and
+/// `--remove-dev-deps` remove development dependencies, `--no-private` removes private members. The
+/// manager keeps what a file holds before it is written, and also the lockfile, which cargo may
+/// change; it restores them, unless the edits are to stay. With `--verbose` each edit has a notice.
 #[tactic(auto, using(crate::proofs::StepLemmas::keeps_none))]
 pub fn prepare<F: Files>(
     alloc: Global,
@@ -57,14 +56,14 @@ pub fn prepare<F: Files>(
     ensures unkept { manager.old.needs_restore ≡ false
         → registered_files manager.new ≡ registered_files manager.old }
 
-    // Whatever comes of it, what was written since comes back.
+    // Whatever comes of it, what the manager keeps restores all that was written.
     ensures safe { F.tells → manager.old.needs_restore ≡ true → (start : Contents)
         → HoldTextsIn (context_view cx.now) start
         → AreSafe (registered_files manager.old) start (F.bytes_at files.old)
         → AreSafe (registered_files manager.new) start (F.bytes_at files.new) }
 
-    // Whatever was kept before: what is kept since is what a path held at the start, and every path
-    // that isn't kept holds what it held then.
+    // Whatever was kept before: each file that is kept since has what its path held at the start,
+    // and every path that isn't kept holds what it held then.
     ensures keeps { F.tells → manager.old.needs_restore ≡ true → (start : Contents)
         → HoldTextsIn (context_view cx.now) start
         → ((path : Name) → is_kept (registered_files manager.old) path ≡ false
@@ -72,7 +71,8 @@ pub fn prepare<F: Files>(
         → KeepsHeld (registered_files manager.old) (registered_files manager.new) start
         (F.bytes_at files.new) }
 
-    // No path is kept but those that are edited and the lockfile, and none where no edit is asked.
+    // No more paths are kept than those that are edited and the lockfile, and none if no edit is
+    // asked for.
     ensures kept { KeepsOnly (IsTouchedIn (context_view cx.now)) manager.old manager.new }
 
     // Each manifest that is edited holds its edit, and every other path what it held.
@@ -80,19 +80,19 @@ pub fn prepare<F: Files>(
         → HoldTextsIn (context_view cx.now) (F.bytes_at files.old)
         → IsPreparedIn (context_view cx.now) (F.bytes_at files.old) (F.bytes_at files.new)) }
 
-    // At a fault too, such a manifest holds its edit, or what it held, unless a call failed.
+    // After an error too, such a manifest holds its edit or what it held, unless a call failed.
     ensures edited { F.tells → HoldTextsIn (context_view cx.now) (F.bytes_at files.old)
         → IsPartlyPreparedIn (context_view cx.now)
         (λ path. GrowsBy 1 (F.failed files.old) (F.failed files.new))
         (F.bytes_at files.old) (F.bytes_at files.new) }
 
-    // Where one can't be written, all others do.
+    // Where one can't be written, this holds of all others.
     ensures spared { IfErr result (AtWrite (λ path. F.tells
         → HoldTextsIn (context_view cx.now) (F.bytes_at files.old)
         → IsPartlyPreparedIn (context_view cx.now) (λ other. other ≡ path)
         (F.bytes_at files.old) (F.bytes_at files.new))) }
 
-    // And every other path holds what it held, whatever the manifests hold.
+    // And every path that isn't edited holds what it held, whatever the manifests hold.
     ensures others { F.tells → KeepsUneditedIn (context_view cx.now)
         (F.bytes_at files.old) (F.bytes_at files.new) }
     ensures lockfile { OnOk result (F.tells → manager.old.needs_restore ≡ true
@@ -105,7 +105,7 @@ pub fn prepare<F: Files>(
         (AreWritesIn (context_view cx.now) F.tells (F.bytes_at files.old))
         (F.trace files.old) (F.trace files.new) (F.bytes_at files.old) (F.bytes_at files.new)) }
 
-    // At a fault the first of these were written.
+    // After an error the first of these writes were made: perhaps none, or all.
     ensures refused { OnErr result (F.whole → MakesSome
         (BeginWritesIn (context_view cx.now) F.tells (F.bytes_at files.old))
         (F.trace files.old) (F.trace files.new) (F.bytes_at files.old) (F.bytes_at files.new)) }
@@ -113,7 +113,7 @@ pub fn prepare<F: Files>(
     ensures told { IfOk result (λ notices.
         map note_of notices.items ≡ notes_in (context_view cx.now)) }
 
-    // A refusal has its cause.
+    // Each error has its cause.
     ensures err { IfErr result
         (IsPrepareFault (context_view cx.now) F.tells (F.bytes_at files.old)) }
 {
@@ -137,14 +137,14 @@ pub fn prepare<F: Files>(
     edit(alloc, &wanted, members.as_slice(), files, manager)
 }
 
-/// Whether development dependencies are to go.
+/// Returns whether development dependencies are to be removed.
 fn drops_dev(args: &Args) -> bool
     ensures { result ≡ (args.now.no_dev_deps || args.now.remove_dev_deps) }
 {
     args.no_dev_deps || args.remove_dev_deps
 }
 
-/// Whether manifests are edited at all.
+/// Returns whether manifests are edited at all.
 fn is_asked(drops_dev: bool, no_private: bool) -> bool
     ensures { result ≡ (drops_dev || no_private) }
 {
@@ -212,7 +212,7 @@ fn edit<F: Files>(
     Ok(notices)
 }
 
-/// Brings back the files that were kept, and answers how many could not be written.
+/// Restores the files that were kept, and returns how many of them couldn't be written.
 pub fn finish<F: Files, W: Write>(
     manager: Manager,
     files: &mut F,

@@ -12,7 +12,7 @@ use hack_files::fs::{Files, write};
 use hack_files::restore::Manager;
 use std::alloc::Global;
 
-/// Puts a text in place of what a manifest holds, which is kept before.
+/// Replaces what a manifest holds by a text. What it held is kept first.
 #[tactic(auto, using(crate::proofs::StepLemmas::keeps_none, crate::proofs::WriteLemmas::makes_none))]
 pub(crate) fn replace<F: Files>(
     alloc: Global,

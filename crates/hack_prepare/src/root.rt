@@ -34,8 +34,8 @@ use hack_files::fs::{Files, read_to_string};
 use hack_files::restore::Manager;
 use std::alloc::{AllocError, Global};
 
-/// Edits the manifest in the folder of the workspace, where that is wanted: `private`
-/// are the manifests of the members that go.
+/// Edits the manifest in the folder of the workspace, where that is wanted: `private` has the
+/// manifests of the members that are removed.
 #[tactic(auto, using(crate::proofs::StepLemmas::keeps_none))]
 pub(crate) fn edit_root<F: Files>(
     alloc: Global,
@@ -105,7 +105,7 @@ pub(crate) fn edit_root<F: Files>(
     }
 }
 
-/// What was read from the manifest of a member in the folder of the workspace.
+/// Returns what was read from the manifest of the member in the folder of the workspace, if any.
 fn root_text<'a>(wanted: &Wanted<'_>, members: &[Member<'a>]) -> Option<&'a str>
     ensures { option_copied result ≡ option_map (λ m. m.text)
         (find (is_root (wanted_view wanted.now)) (members_view members.now)) }
@@ -118,7 +118,7 @@ fn root_text<'a>(wanted: &Wanted<'_>, members: &[Member<'a>]) -> Option<&'a str>
     None
 }
 
-/// Edits a manifest of a workspace alone, which no member has read.
+/// Edits a virtual manifest, which belongs to no member: it is read here.
 #[tactic(auto, using(crate::proofs::StepLemmas::keeps_none))]
 fn edit_virtual<F: Files>(
     alloc: Global,
@@ -241,7 +241,7 @@ fn is_asked(drops_dev: bool, private: &[&str]) -> bool
     drops_dev || !private.is_empty()
 }
 
-/// The text without its development dependencies, where these are to go.
+/// Returns the text, without its development dependencies where these are to be removed.
 fn dev_edit(
     alloc: Global,
     wanted: &Wanted<'_>,
@@ -263,7 +263,7 @@ fn dev_edit(
     without_dev(alloc, wanted.root, text)
 }
 
-/// The text without the members that go, where there are some.
+/// Returns the text without the members that are to be removed, if there are any.
 fn private_edit(
     alloc: Global,
     wanted: &Wanted<'_>,

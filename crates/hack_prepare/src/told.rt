@@ -1,4 +1,4 @@
-//! What the user is told of edits.
+//! The notices on edits.
 
 ghost use Rattle.std.specs.Prelude.{OnOk};
 ghost use Rattle.hack_base.specs.Notes.{AddsNotes};
@@ -7,7 +7,7 @@ ghost use Rattle.hack_prepare.specs.Told.{dev_note, private_note};
 use hack_base::notice::{Notice, NoticeKind, tell};
 use std::alloc::{AllocError, Global};
 
-/// Tells that the development dependencies of a manifest go.
+/// Adds the notice that development dependencies are removed from a manifest, if `told` is true.
 pub(crate) fn tell_dev(
     alloc: Global,
     told: bool,
@@ -20,7 +20,7 @@ pub(crate) fn tell_dev(
     tell(notices, told, NoticeKind::Info, text)
 }
 
-/// Tells that private crates go from the workspace of a manifest.
+/// Adds the notice that private crates are removed from a manifest, if `told` is true.
 pub(crate) fn tell_private(
     alloc: Global,
     told: bool,

@@ -1,4 +1,4 @@
-//! What the arguments of a call want of the manifests, and the members of its workspace.
+//! The edits that a call's arguments ask for, and the members of its workspace.
 
 ghost use Rattle.std.specs.Prelude.{◌≡◌, Contains, IfOk, Some, map};
 ghost use Rattle.hack_load.specs.Contexts.{IsWhole};
@@ -10,14 +10,14 @@ use hack_load::context::Context;
 use hack_metadata::metadata::PackageId;
 use std::alloc::{AllocError, Global};
 
-/// What is wanted of the manifests of a workspace.
+/// The edits that are asked for in the manifests of a workspace.
 #[derive(Clone, Copy)]
 pub(crate) struct Wanted<'a> {
-    /// Whether development dependencies are to go.
+    /// Whether development dependencies are to be removed.
     pub drops_dev: bool,
-    /// Whether private members are to go.
+    /// Whether private members are to be removed.
     pub no_private: bool,
-    /// Whether the user is told of each edit.
+    /// Whether each edit is reported.
     pub verbose: bool,
     /// The folder of the workspace.
     pub folder: &'a str,
@@ -27,7 +27,7 @@ pub(crate) struct Wanted<'a> {
     pub lockfile: &'a str,
 }
 
-/// A member of the workspace, as far as its manifest goes.
+/// What is known of a workspace member's manifest.
 #[derive(Clone, Copy)]
 pub(crate) struct Member<'a> {
     /// The path of its manifest.
@@ -38,28 +38,28 @@ pub(crate) struct Member<'a> {
 }
 
 impl Wanted<'_> {
-    /// Whether the member is taken out of the workspace.
+    /// Returns whether the member is removed from the workspace.
     pub fn goes(&self, member: &Member<'_>) -> bool
         ensures { result ≡ goes (wanted_view self.now) (member_view member.now) }
     {
         self.no_private && member.is_private
     }
 
-    /// Whether the member's manifest stands in the folder of the workspace.
+    /// Returns whether the member's manifest is in the folder of the workspace.
     pub fn is_root(&self, member: &Member<'_>) -> bool
         ensures { result ≡ is_root (wanted_view self.now) (member_view member.now) }
     {
         member.path == self.root
     }
 
-    /// Whether the member's manifest is edited by itself.
+    /// Returns whether the member's manifest is edited by itself.
     pub fn is_alone(&self, member: &Member<'_>) -> bool
         ensures { result ≡ is_alone (wanted_view self.now) (member_view member.now) }
     {
         self.drops_dev && !self.is_left(member)
     }
 
-    /// Whether the member goes, or has its manifest edited with the workspace.
+    /// Returns whether the member is removed, or its manifest is edited with the workspace's.
     fn is_left(&self, member: &Member<'_>) -> bool
         ensures { result ≡ is_left (wanted_view self.now) (member_view member.now) }
     {

@@ -1,4 +1,4 @@
--- Files come back.
+-- Files are restored.
 use Rattle.std.proofs.Common.{◌≡◌, ◌+◌, ◌-◌, ◌<◌, ◌∙◌, ℕ, zero, suc, Bool, true, false, List, [], ◌++◌, Result, Ok, Err, IsOk, IsTrue, OnOk, length, replicate, arith, refl, sym, subst}
 use Rattle.std.proofs.lemmas.List.{length-append, length-replicate}
 use Rattle.std.proofs.lemmas.List.Elements.{Contains-append_left, Contains-append_right}
@@ -16,7 +16,7 @@ use Rattle.hack_run.specs.Restores.{IsClean}
 pub leaves_none : (held : Contents) (n : ℕ) → LeavesFew (Unit {0}) held held n n
 leaves_none held n = record { spoilt = []; failed = λ low. omega (arith, low); others = λ t q fine. refl }
 
--- what questions leave, what is kept before it is written, and what is brought back
+-- what questions leave, what is kept before it is written, and what is restored
 pub leaves : (tells : Type 0) (files : List Kept) (first asked mid last : Contents) (k n m o r : ℕ) → tells → LeavesFew tells first asked k n → AreSafe files asked mid → Grows n m
     → GrowsBy r m o → Brings files mid last r → LeavesFew (Unit {0}) first last k o
 leaves tells files first asked mid last k n m o r t left safe grows counted brings =
@@ -38,7 +38,7 @@ leaves tells files first asked mid last k n m o r t left safe grows counted brin
 pub safe_new : (old new : Manager) (held : Contents) → registered_files old ≡ [] → registered_files new ≡ registered_files old → AreSafe (registered_files new) held held
 safe_new old new held empty same = subst (λ l. AreSafe l held held) (sym (same ∙ empty)) (safe_none held)
 
--- nothing is brought back
+-- nothing is restored
 pub brings_none : (files : List Kept) (old new : Contents) (k : ℕ) → files ≡ [] → Brings files old new k → KeepsAll old new
 brings_none files old new k empty brings =
     let b : Brings [] old new k = subst (λ l. Brings l old new k) empty brings in
@@ -49,7 +49,7 @@ brings_none files old new k empty brings =
 pub kept_none : (first mid last : Manager) → registered_files first ≡ [] → registered_files mid ≡ registered_files first → registered_files last ≡ registered_files mid → registered_files last ≡ []
 kept_none first mid last empty same kept = kept ∙ same ∙ empty
 
--- what an answer leaves of the files
+-- what a question that was answered leaves of the files
 pub whole_keeps : {T E : Type 0} (tells : Type 0) (old new : Contents) (k n : ℕ) (r : Result T E) → OnOk r (GrowsBy 0 k n × (tells → KeepsAll old new)) → OnOk r (tells → KeepsAll old new)
 whole_keeps tells old new k n (Ok v) h = h.1
 whole_keeps tells old new k n (Err e) h = tt
@@ -62,29 +62,29 @@ counted_none n = λ low. omega (arith, low)
 pub clean_none : (returns tells : Type 0) (held : Contents) (n : ℕ) → IsClean returns tells held held n n
 clean_none returns tells held n = (counted_none n, λ back t q. refl)
 
--- nor where a call came to anything without them
+-- the same for what a call returned that touched no file
 pub clean_rest : {T E : Type 0} (quiet returns tells : Type 0) (held : Contents) (n : ℕ) (r : Result T E) → OnOk r (quiet → IsClean returns tells held held n n)
 clean_rest quiet returns tells held n (Ok v) = λ q. clean_none returns tells held n
 clean_rest quiet returns tells held n (Err e) = tt
 
--- what is so for edits that stay by some measure is so by a stronger one
+-- what is clean under a condition is clean under a stronger one
 pub clean_by : {T E : Type 0} (P Q quiet tells : Type 0) (old new : Contents) (k n : ℕ) (r : Result T E) → (Q → P) → OnOk r (quiet → IsClean P tells old new k n) → OnOk r (quiet → IsClean Q tells old new k n)
 clean_by P Q quiet tells old new k n (Ok v) f h = λ q. let c = h q in (c.0, λ back. c.1 (f back))
 clean_by P Q quiet tells old new k n (Err e) f h = tt
 
--- a count that would be told is nothing where nothing is told
+-- a count that is reported where it is above 0 is 0 where nothing is reported
 none_told : (b : Bool) (r : ℕ) → (0 < r → IsTrue b) → b ≡ false → r ≡ 0
 none_told true r told quiet = absurd (cc)
 none_told false zero told quiet = refl
 none_told false (suc r) told quiet = let t : IsTrue false = told (omega arith) in absurd (cc)
 
--- where something came of it, all was loaded and no call of the files failed
+-- where no error was returned, all was loaded and no call of the files failed
 pub counted_ok : {T E U G : Type 0} (came : Result T E) (loaded : Result U G) (u : U) (n m : ℕ) → loaded ≡ Ok u → GrowsBy 0 n m → OnOk came (IsOk loaded × GrowsBy 0 n m)
 counted_ok (Ok v) (Ok w) u n m is counted = (refl, counted)
 counted_ok (Ok v) (Err g) u n m is counted = absurd (cc)
 counted_ok (Err e) loaded u n m is counted = tt
 
--- where all was loaded, edited and brought back, and no call of the files failed
+-- where all was loaded, edited and restored, and no call of the files failed
 pub cleans : {T E U G : Type 0} (tells returns : Type 0) (came : Result T E) (loaded : Result U G) (files : List Kept) (first asked mid last : Contents) (k n m o r : ℕ) (error : Bool)
     → OnOk loaded (GrowsBy 0 k n × (tells → KeepsAll first asked)) → OnOk came (IsOk loaded × GrowsBy 0 n m) → (returns → tells → AreSafe files asked mid)
     → GrowsBy r m o → (0 < r → IsTrue error) → (tells → Brings files mid last r)

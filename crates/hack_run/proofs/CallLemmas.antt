@@ -1,4 +1,4 @@
--- Calls that a question makes, and what is made of its answer.
+-- Calls that a question makes, and what its answer says.
 use Rattle.std.specs.Str.{IsUtf8}
 use Rattle.std.proofs.Common.{◌≡◌, ◌≢◌, ◌∙◌, refl, inl, inr, List, Option, Some, None, Result, Ok, Err, IfOk, IfErr, OnOk, IsSome, Bool, true, false, sym, subst, ◌^◌, ◌-◌, Global, String}
 use Rattle.hack_base.specs.Names.{Name}
@@ -28,42 +28,42 @@ fault_may tells asked shown old new (process.NeverExecuted text) h t = let had =
 fault_may tells asked shown old new (process.Failed failure) h t = let had = h.3 t in inr (had.0, had.2)
 fault_may tells asked shown old new (process.NotText text) h t = let had = h.2 t in inr (had.0, had.2)
 
--- a command that was read may have been called
+-- a command whose output was read may have been called
 pub read_may : (tells : Type 0) (P : String Global → Answer → Type 0) (asked : Asked) (shown : Name) (old new : List Call) (r : Result (String Global) ProcessFault)
     → IfOk r (λ text. tells → Had (P text) asked old new) → IfErr r (IsReadFault tells asked shown old new) → tells → MayAdd asked old new
 read_may tells P asked shown old new (Ok text) ok err t = let had = ok t in inr (had.0, had.2)
 read_may tells P asked shown old new (Err e) ok err t = fault_may tells asked shown old new e err t
 
--- what such a version is, it is also by a weaker measure
+-- a version that has a property has each weaker one
 pub latest_map : (P Q : Version → Type 0) (r : Result (Option Version) (String Global)) → ((v : Version) → P v → Q v) → IsLatest P r → IsLatest Q r
 latest_map P Q (Ok None) f p = absurd p
 latest_map P Q (Ok (Some v)) f p = f v p
 latest_map P Q (Err text) f p = tt
 
--- the same of what a call answers
+-- the same for what a function returns
 pub answer_map : {E : Type 0} (P Q : Version → Type 0) (r : Result (Result (Option Version) (String Global)) E) → ((v : Version) → P v → Q v) → IfOk r (IsLatest P) → IfOk r (IsLatest Q)
 answer_map P Q (Ok s) f p = latest_map P Q s f p
 answer_map P Q (Err e) f p = tt
 
--- what is known of stable, where each version was told
+-- what was asked of stable, where each version was its answer
 pub asks : (tells : Type 0) (rustup : Name) (old new : List Call) (s : Result (Option Version) (String Global)) → IsLatest (λ v. tells → TellsStable rustup v old new) s → tells → AsksStable rustup s old new
 asks tells rustup old new (Ok None) p t = absurd p
 asks tells rustup old new (Ok (Some v)) p t = p t
 asks tells rustup old new (Err text) p t = tt
 
--- the same of what a call answers
+-- the same for what a function returns
 pub asked_stable : {E : Type 0} (tells : Type 0) (rustup : Name) (old new : List Call) (r : Result (Result (Option Version) (String Global)) E)
     → IfOk r (IsLatest (λ v. tells → TellsStable rustup v old new)) → IfOk r (λ s. tells → AsksStable rustup s old new)
 asked_stable tells rustup old new (Ok s) p = asks tells rustup old new s p
 asked_stable tells rustup old new (Err e) p = tt
 
--- where calls come to an end without a fault, they passed
+-- calls that end without an error passed
 pub installed : {T : Type 0} (tells : Type 0) (Ended : List Call → Outcome → Type 0) (Cut : List Call → Type 0) (old new : List Call) (r : Result T ProcessFault)
     → (tells → Makes (λ calls. Comes (Ended calls) (Cut calls) r) old new) → OnOk r (tells → Makes (λ calls. Ended calls Passed) old new)
 installed tells Ended Cut old new (Ok done) h = λ t. let m = h t in record { made = m.made; grown = m.grown; such = m.such }
 installed tells Ended Cut old new (Err e) h = tt
 
--- the answer that was read tells the version
+-- the answer that was read has the version
 pub reads : (tells : Type 0) (rustup answer : Name) (c : Command) (old new : List Call) → c ≡ stable_command rustup
     → (tells → Had (λ told. IsSuccess told.end × IsUtf8 told.stdout × (answer ≡ without_line_ends told.stdout)) (asked_of true c) old new)
     → (v : Version) → TellsRelease (release_part answer) v → tells → ReadsStable rustup v old new
@@ -73,12 +73,12 @@ reads tells rustup answer c old new is had v told t = record {
   told = told;
 }
 
--- behind the toolchain that was made sure of
+-- the same after the toolchain was installed
 pub tells_stable : (tells : Type 0) (rustup : Name) (old mid new : List Call) → (tells → InstallsStable rustup old mid)
     → (v : Version) → (tells → ReadsStable rustup v mid new) → tells → TellsStable rustup v old new
 tells_stable tells rustup old mid new installed v read t = record { mid = mid; installed = installed t; read = read t }
 
--- stable is known where there is no fault
+-- stable's version is known where there is no error
 pub is_known : {E : Type 0} (P : Version → Type 0) (r : Result (Result (Option Version) (String Global)) E) → IfOk r (IsLatest P) → IfOk r (λ s. IfOk s (λ latest. IsSome latest))
 is_known P (Ok (Ok None)) p = absurd p
 is_known P (Ok (Ok (Some v))) p = refl
@@ -96,7 +96,7 @@ asks_rustup tells wants rustup answer c old new (Ok known) is same had told = λ
     }))
 asks_rustup tells wants rustup answer c old new (Err e) is same had told = tt
 
--- a fault but want of memory comes of a command that was asked in vain
+-- an error other than out of memory comes of a command that gave no answer
 in_vain : (tells : Type 0) (asked : Asked) (shown : Name) (old new : List Call) (e : ProcessFault) → e ≢ process.Memory → IsReadFault tells asked shown old new e → tells → AsksInVain asked old new
 in_vain tells asked shown old new process.Memory ne h t = absurd (ne refl)
 in_vain tells asked shown old new process.EmptyProgram ne h t = inl (h.0, h.1 t)
@@ -107,7 +107,7 @@ in_vain tells asked shown old new (process.NeverExecuted text) ne h t = let had 
 in_vain tells asked shown old new (process.Failed failure) ne h t = let had = h.3 t in inr (had.0, (λ s. h.2.0 (had.1.ended ∙ s.0)), had.2)
 in_vain tells asked shown old new (process.NotText text) ne h t = let had = h.2 t in inr (had.0, (λ s. had.1.1 s.1), had.2)
 
--- asking it failed
+-- rustup gave no answer
 pub asks_in_vain : {E : Type 0} (tells : Type 0) (wants : Bool) (rustup shown : Name) (c : Command) (old new : List Call) (r : Result Rustup E) (e : ProcessFault) → wants ≡ true → c ≡ rustup_command rustup
     → IsReadFault tells (asked_of true c) shown old new e → IfOk r IsUnknown → OnOk r (e ≢ process.Memory) → IfOk r (λ known. tells → AsksRustup wants rustup known old new)
 asks_in_vain tells wants rustup shown c old new (Ok known) e is same failed unknown lacks = λ t.

@@ -1,4 +1,4 @@
--- Bytes that are gathered behind those of a writer.
+-- Bytes that are gathered after those of a writer.
 use Rattle.std.proofs.Common.{◌≡◌, ℕ, List, [], Option, Some, None, refl, ap, append-nil}
 use Rattle.std.specs.Io.KnownBytes.{append_known}
 

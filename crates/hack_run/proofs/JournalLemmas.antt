@@ -1,4 +1,4 @@
--- What a call over files with a journal did, behind the removal of the journal.
+-- What a call over files with a journal did, after the journal is removed.
 use Rattle.std.proofs.Common.{◌≡◌, ◌≢◌, ◌⊎◌, ◌∙◌, ◌+◌, ◌-◌, ◌^◌, min, inl, inr, ap, arith, refl, sym, ℕ, Bool, true, false, List, [], ◌∷◌, ◌++◌}
 use Rattle.std.proofs.lemmas.List.{length-append}
 use Rattle.std.proofs.lemmas.List.Elements.{Contains-append_left}
@@ -15,7 +15,7 @@ pub seen_same : (first j : List ℕ) (m n last lockfiles : Contents) → first �
 seen_same first j m n last lockfiles named same is =
     ap (λ c. apart c lockfiles) (sym (without_same j m n same)) ∙ ap (λ c. apart (without j c) lockfiles) (sym is) ∙ ap (λ k. apart (without k last) lockfiles) (sym named)
 
--- what is left of files where the end of the journal may fail
+-- what is left of files where the removal of the journal may fail
 pub leaves_end : (a b c : Contents) (n m : ℕ) → b ≡ c → ((m ≡ n) ⊎ (m ≡ min (n + 1) (2 ^ 64 - 1))) → LeavesFew (Unit {0}) a b 0 n → LeavesFew (Unit {0}) a c 0 m
 leaves_end a b c n m same (inl none) left = record {
   spoilt = left.spoilt;
@@ -32,7 +32,7 @@ leaves_end a b c n m same (inr one) left = let long = length-append left.spoilt 
 pub leaves_nothing : (a b : Contents) (n : ℕ) → n ≡ 0 → LeavesFew (Unit {0}) a b 0 n → KeepsAll a b
 leaves_nothing a b n none left = λ q. left.others tt q (λ bad. absurd (omega (arith, none, left.failed (omega arith), bad.1)))
 
--- a count that ends at nothing was nothing
+-- a count that ends at 0 was 0
 pub none_before : (n m : ℕ) → m ≡ 0 → ((m ≡ n) ⊎ (m ≡ min (n + 1) (2 ^ 64 - 1))) → n ≡ 0
 none_before n m none (inl same) = omega (arith, none, same)
 none_before n m none (inr one) = absurd (omega (arith, none, one))
@@ -45,7 +45,7 @@ same_path j first mid before now all locks p ne = sym (without_at j mid p ne) �
     go true is = locks p is
     go false is = rw is at (all p)
 
--- then each entry's path is back
+-- then each entry's path holds what it held at first
 pub entries_back : (j : List ℕ) (first mid before now : Contents) (es more : List Edit) → KeepFirst j first (es ++ more) → KeepsAll (apart (without j first) before) (apart (without j mid) now) → KeepsLockfiles (without j first) (without j mid) → AreBack es mid
 entries_back j first mid before now [] more keeps all locks = tt
 entries_back j first mid before now (e ∷ es) more keeps all locks = (same_path j first mid before now all locks e.path keeps.1 ∙ keeps.0, entries_back j first mid before now es more keeps.3 all locks)

@@ -1,4 +1,4 @@
--- What a call called, put together from its stages.
+-- The programs that a call called, put together from its stages.
 use Rattle.std.proofs.Common.{◌≡◌, ◌⊎◌, inl, inr, refl, ℕ, Bool, true, false, List, [], Some, None, Option, Result, Ok, Err, OnErr, Global, String}
 use Rattle.hack_base.specs.Names.{Name}
 use Rattle.hack_load.specs.Contexts.{ContextRecord}
@@ -12,7 +12,7 @@ use Rattle.hack_versions.specs.declared.version.Version.{Version}
 use Rattle.hack_run.specs.Made.{GoesOn, MayAskStable, PerformsAtMostOne, Shows}
 use Rattle.hack_run.specs.Questions.{AsksStable, NeedsAnswer}
 
--- where calls come to a fault they failed, or memory was refused
+-- calls that end with an error failed, or memory was refused
 pub fails : {T : Type 0} (tells : Type 0) (Ended : List Call → Outcome → Type 0) (Cut : List Call → Type 0) (old new : List Call) (r : Result T ProcessFault)
     → (tells → Makes (λ calls. Comes (Ended calls) (Cut calls) r) old new) → OnErr r (tells → Makes (λ calls. Ended calls Failed ⊎ Cut calls) old new)
 fails tells Ended Cut old new (Ok done) h = tt
@@ -22,7 +22,7 @@ fails tells Ended Cut old new (Err (process.NeverExecuted text)) h = λ t. let m
 fails tells Ended Cut old new (Err (process.NotText text)) h = λ t. let m = h t in record { made = m.made; grown = m.grown; such = inl m.such }
 fails tells Ended Cut old new (Err (process.Failed failure)) h = λ t. let m = h t in record { made = m.made; grown = m.grown; such = inl m.such }
 
--- behind what was asked of stable
+-- after stable's version was asked for, the plan
 pub goes_on : (cx : ContextRecord) (stable : Result (Option Version) (String Global)) (rustup : Name) (had has : Option (List ℕ)) (old mid new : List Call) → MayAskStable rustup old mid → (¬ NeedsAnswer cx.args → mid ≡ old)
     → AsksStable rustup stable old mid → PerformsAtMostOne cx.args.print_command_list cx stable rustup had has mid new → GoesOn cx rustup had has old new
 goes_on cx stable rustup had has old mid new asked needed told (inl same) = record { mid = mid; asked = asked; needed = needed; runs = inl same }

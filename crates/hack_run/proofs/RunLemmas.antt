@@ -44,7 +44,7 @@ none_kept : (fault : Option ProcessFault) → fault ≡ None → IsSome fault �
 none_kept None n s = cc
 none_kept (Some e) n s = cc
 
--- where no fault is kept and no error was told, each step passed
+-- where no error is kept and none was reported, each step passed
 all_passed : (steps : List Handed) (term : Term) (fault : Option ProcessFault) → (All HasPassed steps ⊎ HasTold term fault) → fault ≡ None → term.error ≡ false → All HasPassed steps
 all_passed steps term fault (inl a) none quiet = a
 all_passed steps term fault (inr (inl told)) none quiet = let e : true ≡ false = sym told ∙ quiet in absurd (cc)
@@ -64,7 +64,7 @@ runs_all plan piece schedule handed old new before now term fault scheduled whol
   };
 }
 
--- a count of refusals that is told as none is nothing
+-- a count of refusals that isn't above 0 is 0
 pub none_refused : {E : Type 0} (n : ℕ) → ◌≡◌ {A = Result Bool E} (Ok (nat_lt 0 n)) (Ok false) → n ≡ 0
 none_refused zero e = refl
 none_refused (suc n) e = let some : nat_lt 0 (suc n) ≡ true = lt-ltb 0 (suc n) (omega arith) in absurd (cc)
@@ -100,7 +100,7 @@ sent_lines plan (Prepare (Clean v)) e = absurd (cc)
 sent_lines plan (Skip place) e = absurd (cc)
 sent_lines plan (Run place) e = absurd (cc)
 
--- steps of a list that leave no count: all are listed, and their lines are written
+-- steps of a list of which none failed: all are listed, and their lines are written
 pub record IsWritten (plan : PlanView) (steps : List Handed) (old new : Page) : Type 0 where
   pub listed : All IsListed steps
   pub written : Appends old.contents new.contents (flat_map (lines_listed plan) steps)
@@ -222,7 +222,7 @@ list_ends (Ok v) refused none short flushed quiet tells cx stable rustup a b c b
       warned = d.warned;
     }
 
--- what was written stays so where what is gathered is written behind it
+-- what was written stays so where what is gathered is written after it
 shown_then : (a b c : Option (List ℕ)) (left text : List ℕ) → GrowsWithin a b text → Keeps b (append_known c left) → GrowsWithin a c text
 shown_then None b c left text w k = ([], tt)
 shown_then (Some x) None c left text w k = absurd w.1

@@ -23,7 +23,7 @@ told_one term note notes = go note.kind (have_warning notes) refl
     go Warn true e = rw e refl
     go Warn false e = rw e refl
 
--- of edits the user is told nothing that counts as a warning
+-- no notice on edits counts as a warning
 none_if : (b : Bool) (text : List ℕ) (rest : List Note) → have_warning (note_if b Info text ++ rest) ≡ have_warning rest
 none_if true text rest = refl
 none_if false text rest = refl
@@ -55,10 +55,10 @@ none_of_all w (m ∷ ms) rest none =
 pub edits_warn_of_nothing : (cx : ContextRecord) → have_warning (notes_in cx) ≡ false
 edits_warn_of_nothing cx = none_of_all (wanted_in cx) (members_in cx) (root_notes (wanted_in cx) (members_in cx)) (none_of_root (wanted_in cx) (members_in cx))
 
--- behind the notices of what is loaded and of its edits
+-- after the notices on what is loaded and on its edits
 pub warned_first : (a b c : Term) (first : List Note) (cx : ContextRecord) → b ≡ after_notes a first → c ≡ after_notes b (notes_in cx) → c.warn ≡ (have_warning first || a.warn)
 warned_first a b c first cx e f = ap (λ (k : Term). k.warn) f ∙ ap (λ (more : Bool). more || b.warn) (edits_warn_of_nothing cx) ∙ ap (λ (k : Term). k.warn) e
 
--- a runner was told notices, and then its steps warned of nothing
+-- a runner printed notices, and then its steps warned of nothing
 pub warned_run : (old start mid last : Term) (notes : List Note) → start ≡ old → mid ≡ after_notes start notes → last.warn ≡ mid.warn → Warned notes old.warn last.warn
 warned_run old start mid last notes e f g = g ∙ ap (λ (k : Term). k.warn) f ∙ ap (λ (k : Term). have_warning notes || k.warn) e

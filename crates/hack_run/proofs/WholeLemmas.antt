@@ -34,7 +34,7 @@ on_ok : {T E : Type 0} (P Q : Type 0) (r : Result T E) → (P → Q) → OnOk r 
 on_ok P Q (Ok v) f p = f p
 on_ok P Q (Err e) f p = tt
 
--- behind a context and what was asked of stable, the runs of its plan
+-- the runs of a context's plan, after stable's version was asked for
 pub follows : {T E : Type 0} (tells told quiet : Type 0) (r : Result T E) (args : Args) (answers : Answers) (rustup : Name) (held last : Contents) (seen : Seen) (old mid new : List Call) (cx : ContextRecord) (stable : Result (Option Version) (String Global))
     → (flag : Bool) → flag ≡ (have_warning (warnings_of (told_version answers.cargo_version)) || seen.warned) → (told → IsPrepared (wanted_in cx) (members_in cx) held last) → IsContextFrom args answers cx → (tells → AsksStable rustup stable old mid) → (¬ NeedsAnswer cx.args → stable ≡ Ok None)
     → OnOk r (quiet → tells → DoesPlan (Does cx.args.print_command_list seen.before seen.now) cx stable rustup mid new flag seen.warn)
@@ -55,7 +55,7 @@ follows tells told quiet r args answers rustup held last seen old mid new cx sta
       edited = λ u _. prepared u;
     }) ran
 
--- what told no error in the end told none before
+-- where no error is reported in the end, none was before
 quiet_before : (X : Type 0) (before now : Bool) → (IsTrue before ⊎ X → IsTrue now) → now ≡ false → before ≡ false
 quiet_before X true now f quiet = let e : true ≡ false = sym (f (inl refl)) ∙ quiet in absurd (cc)
 quiet_before X false now f quiet = refl
@@ -74,7 +74,7 @@ moved T U args answers rustup first asked prepared last seen old new held same s
   edited = λ u e. prepared-moved (wanted_in f.cx) (members_in f.cx) first asked prepared last (same u) (stay u e) (f.edited (held u) e);
 }
 
--- behind the answers, what followed them
+-- a call continued after its questions were answered
 pub performs : {T E : Type 0} (tells told holds X : Type 0) (r : Result T E) (args : Args) (env : Env) (first asked prepared last : Contents) (before later : ℕ) (seen : Seen) (old mid new : List Call) (answers : Answers) (mute now warn : Bool)
     → warn ≡ seen.warn
     → (tells → AreAnswers told args env first before later old mid answers)
@@ -96,17 +96,17 @@ performs tells told holds X r args env first asked prepared last before later se
       follows = subst (λ (w : Bool). Follows told args answers (string_bytes env.rustup) first last (record seen { warn = w }) mid new) (sym same_warn) (moved holds told args answers (string_bytes env.rustup) first asked prepared last seen mid new held same stay g);
     }) follows
 
--- a call that told no error in the end came to no fault
+-- a call that reported no error in the end returned none
 pub comes : {T E : Type 0} (X : Term → Type 0) (r : Result T E) (before now : Term) → OnOk r (before.error ≡ false → X before) → OnOk r (now ≡ before) → OnErr r (now.error ≡ true) → now.error ≡ false → X now
 comes X (Ok v) before now x same told quiet = subst X (sym same) (x (sym (ap (λ (k : Term). k.error) same) ∙ quiet))
 comes X (Err e) before now x same told quiet = let e : true ≡ false = sym told ∙ quiet in absurd (cc)
 
--- a call that came to a fault told an error
+-- a call that returned an error reported one
 pub told_fault : {T E : Type 0} (r : Result T E) (now : Term) → OnErr r (now.error ≡ true) → IsErr r → now.error ≡ true
 told_fault (Ok v) now told is = absurd (cc)
 told_fault (Err e) now told is = told
 
--- behind the notices of arguments
+-- after the notices on the arguments
 pub dressed : (old middle now : Term) (answer : Parsed) (args : Args) (notes : List Note) → answer ≡ parsed.Args args → middle.warn ≡ old.warn → now ≡ after_notes middle notes → now.warn ≡ warned_by answer notes old.warn
 dressed old middle now answer args notes is same told =
     subst (λ (a : Parsed). now.warn ≡ warned_by a notes old.warn) (sym is) (ap (λ (k : Term). k.warn) told ∙ ap (λ (b : Bool). have_warning notes || b) same)
@@ -127,7 +127,7 @@ lists tells told quiet r answer env held last before seen old new is same listed
     subst (λ (a : Parsed). OnOk r (quiet → tells → Obeys told a env held last before seen old new)) (sym is)
     (on_ok (tells → ListsCommands (string_bytes env.cargo) old new) (quiet → tells → Obeys told parsed.List env held last before seen old new) r (λ f q t. (f t, same)) listed)
 
--- the words were read, and what they ask for was done
+-- the command line was parsed, and what it asks for was done
 pub done : {T E : Type 0} (tells told quiet : Type 0) (r : Result T E) (words : List Name) (env : Env) (held last : Contents) (before : ℕ) (seen : Seen) (old mid new : List Call) (rustup : Rustup) (answer : Parsed) (notes : List Note)
     → IsAnswer (around_of env rustup) (ComesTo (around_of env rustup) words) answer notes → (tells → AsksRustup (wants_rustup words) (string_bytes env.rustup) rustup old mid)
     → OnOk r (quiet → tells → Obeys told answer env held last before (record seen { warned = warned_by answer notes seen.warned }) mid new)

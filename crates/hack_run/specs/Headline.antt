@@ -15,8 +15,8 @@ use Rattle.hack_term.specs.declared.partition.PartitionKind.{PartitionKind}
 use Rattle.hack_base.specs.Notes.{Note}
 use Rattle.hack_versions.specs.declared.version.Version.{Version}
 
--- each place of a plan is in exactly one of its pieces, however many there are and however they are dealt; and the blocks, one
--- behind the other, are the plan
+-- each place of a plan is in exactly one of its pieces, for each number of them and each kind of
+-- partition; and the blocks, one after the other, are the plan
 pub record AreShared {A : Type 0} (plan : List A) : Type 0 where
   pub once : (kind : PartitionKind) (count place : ℕ) → 0 < count → place < length plan → InJustOnePiece kind count (length plan) place
   pub blocks : (count : ℕ) → 0 < count → joined_blocks count plan ≡ plan

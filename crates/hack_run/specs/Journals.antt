@@ -4,6 +4,7 @@ use Rattle.hack_files.specs.Files.{Contents}
 use Rattle.hack_journal.specs.Apart.{apart}
 use Rattle.hack_journal.specs.Safe.{without}
 
--- lockfiles are those of other files, and the journal isn't there
+-- what the paths hold: lockfiles what `lockfiles` holds, all others what `files` holds, and the
+-- journal nothing
 abbrev pub contents_seen : List ℕ → Contents → Contents → Contents
 contents_seen journal files lockfiles = apart (without journal files) lockfiles

@@ -1,4 +1,4 @@
--- What a call called, whatever came of it.
+-- The programs that a call called, whatever came of it.
 use Rattle.std.specs.Prelude.{ℕ, ◌≡◌, ◌⊎◌, ◌∷◌, [], Bool, List, Option, Result, codes, false, filter, string_bytes, true}
 use Rattle.std.specs.List.{flat_map}
 use Rattle.std.specs.Io.KnownBytes.{Keeps}
@@ -34,18 +34,19 @@ use Rattle.hack_run.specs.Questions.{AsksRustup, AsksStable, InstallsStable, Nee
 use Rattle.hack_run.specs.Runs.{HandsOver}
 use Rattle.hack_run.specs.Told.{GrowsWithin}
 
--- the steps that call something, by whether commands are listed: a list's own steps call nothing
+-- the steps that call programs: of a list only those that aren't listed, else all
 abbrev pub steps_performed : Bool → List Handed → List Handed
 steps_performed true steps = filter is_sent steps
 steps_performed false steps = steps
 
--- what a list wrote is a front of this text
+-- what a list wrote is a front of this text; nothing is said where commands aren't listed
 abbrev pub Shows : Bool → Option (List ℕ) → Option (List ℕ) → List ℕ → Type 0
 Shows true had has text = GrowsWithin had has text
 Shows false had has text = Unit {0}
 
--- one history of the plan of a context was handed out, where this was asked of stable, and its steps made just these calls, one behind the other;
--- a list wrote nothing but the lines of the steps that passed
+-- one history of a context's plan, made with this answer on stable's version, was handed out, and
+-- its steps made just these calls, one after the other; a list wrote a front of the lines of the
+-- steps that passed, and nothing else
 pub record PerformsOne (listing : Bool) (cx : ContextRecord) (stable : Result (Option Version) (String Global)) (rustup : Name) (had has : Option (List ℕ)) (old new : List Call) : Type 0 where
   pub course : Course
   pub cut : ℕ
@@ -53,46 +54,51 @@ pub record PerformsOne (listing : Bool) (cx : ContextRecord) (stable : Result (O
   pub calls : Makes (λ made. PerformsAll course.plan (steps_performed listing course.handed) made cut) old new
   pub wrote : Shows listing had has (flat_map (lines_written course.plan) course.handed)
 
--- one history was performed, or nothing was called, and nothing listed
+-- one history was performed, or nothing was called and nothing listed
 abbrev pub PerformsAtMostOne : Bool → ContextRecord → Result (Option Version) (String Global) → Name → Option (List ℕ) → Option (List ℕ) → List Call → List Call → Type 0
 PerformsAtMostOne listing cx stable rustup had has old new = ((new ≡ old) × Shows listing had has []) ⊎ PerformsOne listing cx stable rustup had has old new
 
--- a list was handed out so; or nothing was, and the runner was told notices at most
+-- a list was handed out to its end; or nothing was, and the runner printed notices at most
 abbrev pub HandsOverAtMostOne : {R : Type 0} → Type 0 → Option (List ℕ) → Option (List ℕ) → (List Note → R → R → Type 0) → (PlanView → List Handed → R → R → Type 0) → ContextRecord → Result (Option Version) (String Global) → Name → R → R → Type 0
 HandsOverAtMostOne whole had has Told Ran cx stable rustup old new =
     (((new ≡ old) ⊎ ((notes : List Note) × Told notes old new)) × Keeps had has) ⊎ HandsOver whole had has Told Ran cx stable rustup old new
 
--- the toolchain `stable` was tried, and added where that failed, up to what failed or what memory was refused for
+-- installing the toolchain `stable` failed: it was tried, and added where that failed, up to the
+-- command that failed or for which memory was refused
 abbrev pub FailsStable : Name → List Call → List Call → Type 0
 FailsStable rustup old new =
     Makes (λ calls. Installs [] (asked_of true (trial_of rustup (codes "stable"))) (asked_of true (addition_of rustup (codes "stable") [])) calls Failed
     ⊎ BreaksInstall [] (asked_of true (trial_of rustup (codes "stable"))) (asked_of true (addition_of rustup (codes "stable") [])) calls) old new
 
--- stable was asked for at most once: nothing was asked; or the toolchain was made sure of, and its cargo asked at most once; or that failed
+-- stable's version was asked for at most once: nothing was called; or the toolchain is installed,
+-- and its cargo was asked at most once; or installing it failed
 abbrev pub MayAskStable : Name → List Call → List Call → Type 0
 MayAskStable rustup old new =
     (new ≡ old)
     ⊎ (((mid : List Call) × InstallsStable rustup old mid × MayAdd (asked_of true (stable_command rustup)) mid new)
     ⊎ FailsStable rustup old new)
 
--- what stable was asked told this, and then one history of the plan was performed
+-- this was answered on stable's version, and then one history of the plan was performed
 pub record PerformsBehind (cx : ContextRecord) (rustup : Name) (had has : Option (List ℕ)) (old mid new : List Call) : Type 0 where
   pub stable : Result (Option Version) (String Global)
   pub told : AsksStable rustup stable old mid
   pub performs : PerformsOne cx.args.print_command_list cx stable rustup had has mid new
 
--- stable was asked for where the range needs it, and then one history of the plan was performed, or nothing was called
+-- stable's version was asked for only where the range needs it, and then one history of the plan
+-- was performed, or nothing was called
 pub record GoesOn (cx : ContextRecord) (rustup : Name) (had has : Option (List ℕ)) (old new : List Call) : Type 0 where
   pub mid : List Call
   pub asked : MayAskStable rustup old mid
   pub needed : ¬ NeedsAnswer cx.args → mid ≡ old
   pub runs : ((new ≡ mid) × Shows cx.args.print_command_list had has []) ⊎ PerformsBehind cx rustup had has old mid new
 
--- behind what was answered nothing was called and printed, or a context was made of it, and that was gone on with
+-- after the answers nothing was called or printed; or a context was made of them, and its plan was
+-- performed at most once
 abbrev pub AfterAnswers : Args → Answers → Name → Option (List ℕ) → Option (List ℕ) → List Call → List Call → Type 0
 AfterAnswers args answers rustup had has old new = ((new ≡ old) × (has ≡ had)) ⊎ ((cx : ContextRecord) × IsContextFrom args answers cx × GoesOn cx rustup had has old new)
 
--- the questions of these arguments were asked in their order, up to one that ended them, and then that was gone on with
+-- the questions of these arguments were asked in order, up to one that ended them, and then a plan
+-- was performed at most once
 pub record MakesOnce (tells : Type 0) (args : Args) (env : Env) (held : Contents) (before : ℕ) (had has : Option (List ℕ)) (old new : List Call) : Type 0 where
   pub answers : Answers
   pub now : ℕ
@@ -100,17 +106,19 @@ pub record MakesOnce (tells : Type 0) (args : Args) (env : Env) (held : Contents
   pub asked : AreAnswers tells args env held before now old mid answers
   pub behind : AfterAnswers args answers (string_bytes env.rustup) had has mid new
 
--- cargo is asked to list its commands, as a caller is asked
+-- what a caller is asked where cargo is to list its commands
 abbrev pub listing_asked : Name → Asked
 listing_asked cargo = asked_of false (plain_command cargo [] (codes "--list" ∷ []))
 
--- what words ask for was tried once: a history was performed, a text was printed, or cargo was called for its commands
+-- what a command line asks for was tried once: a history was performed, a text was printed, or
+-- cargo was called for its commands
 abbrev pub TriesOnce : Type 0 → Parsed → Env → Contents → ℕ → Option (List ℕ) → Option (List ℕ) → List Call → List Call → Type 0
 TriesOnce tells (parsed.Args args) env held before had has old new = MakesOnce tells args env held before had has old new
 TriesOnce tells (parsed.Print text) env held before had has old new = new ≡ old
 TriesOnce tells parsed.List env held before had has old new = MayAdd (listing_asked (string_bytes env.cargo)) old new × (has ≡ had)
 
--- the words were read, behind what was asked of rustup for them, and what they ask for was tried once
+-- rustup was asked where an argument needs it, the command line was parsed, and what it asks for
+-- was tried once
 pub record TriesRead (tells : Type 0) (words : List Name) (env : Env) (held : Contents) (before : ℕ) (had has : Option (List ℕ)) (old mid new : List Call) : Type 0 where
   pub rustup : Rustup
   pub answer : Parsed
@@ -119,7 +127,8 @@ pub record TriesRead (tells : Type 0) (words : List Name) (env : Env) (held : Co
   pub read : IsAnswer (around_of env rustup) (ComesTo (around_of env rustup) words) answer notes
   pub tried : TriesOnce tells answer env held before had has mid new
 
--- rustup was asked for its version at most, where a word needs it; behind it nothing was called and printed, or what the words ask for was tried once
+-- rustup was asked for its version at most, where an argument needs it; then nothing was called or
+-- printed, or what the command line asks for was tried once
 pub record MadeOnce (tells : Type 0) (words : List Name) (env : Env) (held : Contents) (before : ℕ) (had has : Option (List ℕ)) (old new : List Call) : Type 0 where
   pub mid : List Call
   pub asked : MayAdd (rustup_asked (string_bytes env.rustup)) old mid

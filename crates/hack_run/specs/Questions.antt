@@ -21,15 +21,15 @@ use Rattle.hack_session.specs.Performs.{Installs, Makes}
 use Rattle.hack_session.specs.Toolchains.{addition_of, trial_of}
 use Rattle.hack_session.specs.declared.step.Outcome.TheVariants.{Passed}
 
--- rustup is asked for its version
+-- the command that asks rustup for its version
 abbrev pub rustup_command : Name → Command
 rustup_command rustup = plain_command rustup [] (codes "--version" ∷ [])
 
--- the same, as a caller is asked
+-- the same, as a caller gets it
 abbrev pub rustup_asked : Name → Asked
 rustup_asked rustup = asked_of true (rustup_command rustup)
 
--- an answer tells rustup's minor version; where that isn't known, the answer has a fault
+-- an answer has rustup's minor version; where that isn't known, the answer can't be read
 abbrev pub TellsMinor : Name → Rustup → Type 0
 TellsMinor answer (Known minor) = (v : Version) × TellsRelease (rustup_part answer) v × (minor ≡ v.minor)
 TellsMinor answer (Unknown text) = (fault : VersionTextFault) × IsAnswerFault answer (rustup_part answer) fault
@@ -39,44 +39,45 @@ abbrev pub IsUnknown : Rustup → Type 0
 IsUnknown (Known minor) = ⊥
 IsUnknown (Unknown text) = Unit {0}
 
--- a command was asked in vain: its program has no name, and nothing was called; or it didn't end well, or didn't answer with a text
+-- a command gave no answer: its program has no name, and nothing was called; or it didn't end with
+-- status 0, or its output isn't UTF-8
 abbrev pub AsksInVain : Asked → List Call → List Call → Type 0
 AsksInVain asked old new = ((asked.program ≡ []) × (new ≡ old)) ⊎ Had (λ told. ¬ (IsSuccess told.end × IsUtf8 told.stdout)) asked old new
 
--- rustup was asked, and its answer tells this minor version, or has a fault
+-- rustup was asked, and its answer has this minor version, or can't be read
 pub record ReadsRustup (rustup : Name) (known : Rustup) (old new : List Call) : Type 0 where
   pub answer : Name
   pub read : Had (λ told. IsSuccess told.end × IsUtf8 told.stdout × (answer ≡ without_line_ends told.stdout)) (rustup_asked rustup) old new
   pub told : TellsMinor answer known
 
--- where a word needs it, rustup was asked, and what is known of it is what it told; where it was asked in vain it isn't known. Where no
--- word needs it nothing was asked, and any version will do
+-- where an argument needs it, rustup was asked, and `known` is what its answer says, or unknown
+-- where it gave no answer; else nothing was asked, and `known` is the greatest version number
 abbrev pub AsksRustup : Bool → Name → Rustup → List Call → List Call → Type 0
 AsksRustup false rustup known old new = (known ≡ Known (2 ^ 32 - 1)) × (new ≡ old)
 AsksRustup true rustup known old new = ReadsRustup rustup known old new ⊎ (IsUnknown known × AsksInVain (rustup_asked rustup) old new)
 
--- stable's cargo is asked for its version
+-- the command that asks stable's cargo for its version
 abbrev pub stable_command : Name → Command
 stable_command rustup = plain_command rustup [] (codes "run" ∷ codes "stable" ∷ codes "cargo" ∷ codes "-vV" ∷ [])
 
--- the toolchain `stable` was tried, and added where that failed
+-- the toolchain `stable` is installed: it was tried, and added where that failed
 abbrev pub InstallsStable : Name → List Call → List Call → Type 0
 InstallsStable rustup old new =
     Makes (λ calls. Installs [] (asked_of true (trial_of rustup (codes "stable"))) (asked_of true (addition_of rustup (codes "stable") [])) calls Passed) old new
 
--- stable's cargo told this version
+-- stable's cargo answered with this version
 pub record ReadsStable (rustup : Name) (v : Version) (old new : List Call) : Type 0 where
   pub answer : Name
   pub read : Had (λ told. IsSuccess told.end × IsUtf8 told.stdout × (answer ≡ without_line_ends told.stdout)) (asked_of true (stable_command rustup)) old new
   pub told : TellsRelease (release_part answer) v
 
--- the toolchain was made sure of, and then its cargo told this version
+-- the toolchain is installed, and then its cargo answered with this version
 pub record TellsStable (rustup : Name) (v : Version) (old new : List Call) : Type 0 where
   pub mid : List Call
   pub installed : InstallsStable rustup old mid
   pub read : ReadsStable rustup v mid new
 
--- where there is no fault, there is a version, and it is such
+-- where there is no error, there is a version, and it has the property
 abbrev pub IsLatest : (Version → Type 0) → Result (Option Version) (String Global) → Type 0
 IsLatest P (Ok None) = ⊥
 IsLatest P (Ok (Some v)) = P v
@@ -86,11 +87,11 @@ IsLatest P (Err text) = Unit {0}
 abbrev pub NeedsAnswer : Args → Type 0
 NeedsAnswer args = IsSome args.subcommand × IsSomeAnd args.version_range NeedsStable
 
--- where it does, stable's version is known, unless asking for it failed
+-- where a range of versions needs it, stable's version is known, unless asking for it failed
 abbrev pub IsAnswered : Args → Result (Option Version) (String Global) → Type 0
 IsAnswered args stable = IsSome args.subcommand → IfSome args.version_range (λ range. NeedsStable range → IfOk stable (λ latest. IsSome latest))
 
--- stable's version was asked for, or nothing was; where that failed, its fault has a text
+-- stable's version was asked for, or nothing was; of calls where asking failed nothing is said
 abbrev pub AsksStable : Name → Result (Option Version) (String Global) → List Call → List Call → Type 0
 AsksStable rustup (Ok None) old new = new ≡ old
 AsksStable rustup (Ok (Some v)) old new = TellsStable rustup v old new

@@ -10,13 +10,13 @@ use Rattle.hack_words.specs.declared.cli.env.Env.{Env}
 use Rattle.hack_words.specs.declared.cli.parse.Parsed.{Parsed}
 use Rattle.hack_words.specs.declared.cli.parse.Parsed.TheVariants as parsed
 
--- what words ask for isn't an edit that stays
+-- what the command line asks for isn't an edit that stays
 abbrev pub ComesBack : Parsed → Type 0
 ComesBack (parsed.Args args) = args.remove_dev_deps ≡ false
 ComesBack (parsed.Print text) = Unit {0}
 ComesBack parsed.List = Unit {0}
 
--- the words don't ask for an edit that stays, whatever rustup answers
+-- the command line doesn't ask for an edit that stays, whatever rustup answers
 abbrev pub RestoresEdits : Env → List Name → Type 0
 RestoresEdits env words = (rustup : Rustup) (answer : Parsed) (notes : List Note)
     → IsAnswer (around_of env rustup) (ComesTo (around_of env rustup) words) answer notes → ComesBack answer

@@ -21,7 +21,7 @@ use Rattle.hack_versions.specs.declared.version.Version.{Version}
 use Rattle.hack_run.specs.Headline.{IsHandedOut}
 use Rattle.hack_run.specs.Told.{Warned}
 
--- the calls are those of the steps, one behind the other, each of which passed
+-- the calls are those of the steps, one after the other, each of which passed
 abbrev pub PassesAll : PlanView → List Step → List Call → Type 0
 PassesAll plan [] calls = calls ≡ []
 PassesAll plan (step ∷ steps) calls =
@@ -33,19 +33,21 @@ pub record RunsAll (plan : PlanView) (piece : Option Partition) (old new : List 
   pub scheduled : IsSchedule piece plan schedule
   pub ran : Makes (PassesAll plan schedule) old new
 
--- the same of its toolchains and lockfiles alone: a list makes no other calls; and the output grows by just the lines of the schedule
+-- the same for its toolchains and lockfiles alone, since a list makes no other calls; and the
+-- output grows by just the lines of the schedule
 pub record SendsAll (before now : Option (List ℕ)) (plan : PlanView) (piece : Option Partition) (old new : List Call) : Type 0 where
   pub schedule : List Step
   pub scheduled : IsSchedule piece plan schedule
   pub sent : Makes (PassesAll plan (filter is_sent_step schedule)) old new
   pub written : Appends before now (flat_map (step_lines plan) schedule)
 
--- by whether commands are listed, with what the output held and holds
+-- `SendsAll` where commands are listed, with what the output held and holds; else `RunsAll`
 abbrev pub Does : Bool → Option (List ℕ) → Option (List ℕ) → PlanView → Option Partition → List Call → List Call → Type 0
 Does true before now plan piece old new = SendsAll before now plan piece old new
 Does false before now plan piece old new = RunsAll plan piece old new
 
--- that is done for the plan of a context, where this was asked of stable, and of warnings just the plan's are noted more
+-- `Done` holds of a context's plan, made with this answer on stable's version, and a warning is
+-- noted just where one was before, or where a notice of the plan counts as one
 pub record DoesPlan (Done : PlanView → Option Partition → List Call → List Call → Type 0) (cx : ContextRecord) (stable : Result (Option Version) (String Global)) (rustup : Name) (old new : List Call) (before warn : Bool) : Type 0 where
   pub plan : PlanView
   pub notes : List Note
@@ -53,8 +55,9 @@ pub record DoesPlan (Done : PlanView → Option Partition → List Call → List
   pub done : Done plan cx.args.partition old new
   pub warned : Warned notes before warn
 
--- for a context a list was handed out to its end, and what isn't listed to a runner, whatever came of it; where lines are
--- written whole or not at all, the output grew by just those of the steps that passed
+-- a context's list was handed out to its end, and its steps that aren't listed to a runner,
+-- whatever came of them; where lines are written whole or not at all, the output grew by just those
+-- of the steps that passed
 pub record HandsOver {R : Type 0} (whole : Type 0) (had has : Option (List ℕ)) (Told : List Note → R → R → Type 0) (Ran : PlanView → List Handed → R → R → Type 0) (cx : ContextRecord) (stable : Result (Option Version) (String Global)) (rustup : Name) (old new : R) : Type 0 where
   pub course : Course
   pub handed : IsHandedOut cx stable rustup course
@@ -65,7 +68,7 @@ pub record HandsOver {R : Type 0} (whole : Type 0) (had has : Option (List ℕ))
   pub ran : Ran course.plan (filter is_sent course.handed) mid new
   pub wrote : whole → Appends had has (flat_map (lines_written course.plan) course.handed)
 
--- it was, none of the list failed, and its lines are written
+-- a list was handed out to its end, no listed step failed, and the lines of all are written
 pub record ListsOver {R : Type 0} (whole : Type 0) (before now : Option (List ℕ)) (Told : List Note → R → R → Type 0) (Ran : PlanView → List Handed → R → R → Type 0) (cx : ContextRecord) (stable : Result (Option Version) (String Global)) (rustup : Name) (old new : R) : Type 0 where
   pub over : HandsOver whole before now Told Ran cx stable rustup old new
   pub listed : All IsListed over.course.handed

@@ -1,4 +1,4 @@
--- What notices leave when they are told, and what a call leaves to be seen.
+-- The warnings that notices note, and what is seen of a call.
 use Rattle.std.specs.Prelude.{ℕ, ◌≡◌, ◌||◌, Bool, true, false, List, Option}
 use Rattle.std.specs.List.{list_any}
 use Rattle.std.specs.Io.KnownBytes.{Appends, append_known}
@@ -21,7 +21,8 @@ is_warning note = is_counted note.kind
 abbrev pub have_warning : List Note → Bool
 have_warning notes = list_any is_warning notes
 
--- what told notes leave: a warning is noted where one was before or some of them counts as one, and all else stays
+-- a terminal after these notices: a warning is noted where one was before or some of them counts
+-- as one, and all else stays
 abbrev pub after_notes : Term → List Note → Term
 after_notes term notes = record term { warn = have_warning notes || term.warn }
 
@@ -29,7 +30,8 @@ after_notes term notes = record term { warn = have_warning notes || term.warn }
 abbrev pub Warned : List Note → Bool → Bool → Type 0
 Warned notes warned warn = warn ≡ (have_warning notes || warned)
 
--- what a call leaves to be seen: whether a warning was noted before and is now, and what its output held and holds, where that is told
+-- what is seen of a call: whether a warning was noted before it and after it, and what its output
+-- held before and holds after, where that is known
 pub record Seen : Type 0 where
   pub warned : Bool
   pub warn : Bool

@@ -1,4 +1,4 @@
--- What a call did that told no error.
+-- What a call did that reported no error.
 use Rattle.std.specs.Prelude.{◌≡◌, ◌||◌, ◌∷◌, [], ℕ, Bool, false, true, List, None, Ok, Option, Result, codes, string_bytes}
 use Rattle.std.specs.Io.KnownBytes.{Appends}
 use Rattle.std.proofs.Common.{Global, String}
@@ -32,11 +32,11 @@ use Rattle.hack_run.specs.Questions.{AsksRustup, AsksStable, NeedsAnswer}
 use Rattle.hack_run.specs.Runs.{Does}
 use Rattle.hack_run.specs.Told.{Seen, Warned, have_warning}
 
--- the words are refused, whatever rustup answers
+-- the command line is refused, whatever rustup answers
 abbrev pub AreRefused : Env → List Name → Type 0
 AreRefused env words = (rustup : Rustup) → (told : Fault) × ComesTo (around_of env rustup) words (Faulty told)
 
--- the plan of a context, where this was asked of stable, and nothing unless the range needs it
+-- a context's plan, made with stable's version, which isn't asked for unless the range needs it
 pub record IsPlanned (cx : ContextRecord) (rustup : Name) (old new : List Call) (plan : PlanView) : Type 0 where
   pub stable : Result (Option Version) (String Global)
   pub notes : List Note
@@ -44,8 +44,9 @@ pub record IsPlanned (cx : ContextRecord) (rustup : Name) (old new : List Call) 
   pub needed : ¬ NeedsAnswer cx.args → stable ≡ Ok None
   pub planned : IsPlanOf cx.args.subcommand stable cx rustup plan notes
 
--- From these answers a context was made, from that a plan, and its whole schedule was run or listed. Edits that stay were made
--- of what was held, where the files show that. Of warnings just those of the context and of the plan are noted more.
+-- From these answers a context was made, from that a plan, and its whole schedule was run or
+-- listed. Edits that stay were made of what was held, where the files show that. A warning is noted
+-- just where one was before, or where one of the context's or the plan's notices counts as one.
 pub record Follows (tells : Type 0) (args : Args) (answers : Answers) (rustup : Name) (held last : Contents) (seen : Seen) (old new : List Call) : Type 0 where
   pub cx : ContextRecord
   pub plan : PlanView
@@ -56,7 +57,7 @@ pub record Follows (tells : Type 0) (args : Args) (answers : Answers) (rustup : 
   pub warned : Warned planned.notes (have_warning (warnings_of (told_version answers.cargo_version)) || seen.warned) seen.warn
   pub edited : tells → args.remove_dev_deps ≡ true → IsPrepared (wanted_in cx) (members_in cx) held last
 
--- for these arguments the answers were told or read, and then followed
+-- the questions of these arguments were asked, and the call continued with their answers
 pub record Performs (tells : Type 0) (args : Args) (env : Env) (held last : Contents) (before : ℕ) (seen : Seen) (old new : List Call) : Type 0 where
   pub answers : Answers
   pub now : ℕ
@@ -68,19 +69,21 @@ pub record Performs (tells : Type 0) (args : Args) (env : Env) (held last : Cont
 abbrev pub ListsCommands : Name → List Call → List Call → Type 0
 ListsCommands cargo old new = Had (λ answer. IsSuccess answer.end) (asked_of false (plain_command cargo [] (codes "--list" ∷ []))) old new
 
--- what words ask for was done: the schedule was run or listed, a text was printed, or cargo listed its commands; the last two warn of nothing
+-- what a command line asks for was done: the schedule was run or listed, a text was printed, or
+-- cargo listed its commands; the last two note no warning
 abbrev pub Obeys : Type 0 → Parsed → Env → Contents → Contents → ℕ → Seen → List Call → List Call → Type 0
 Obeys tells (parsed.Args args) env held last before seen old new = Performs tells args env held last before seen old new
 Obeys tells (parsed.Print text) env held last before seen old new = (new ≡ old) × Appends seen.before seen.now (string_bytes text) × (seen.warn ≡ seen.warned)
 Obeys tells parsed.List env held last before seen old new = ListsCommands (string_bytes env.cargo) old new × (seen.warn ≡ seen.warned)
 
--- whether a warning is noted behind the notices of the words; a text is printed without them
+-- whether a warning is noted after the command line's notices; a text is printed without them
 abbrev pub warned_by : Parsed → List Note → Bool → Bool
 warned_by (parsed.Args args) notes warned = have_warning notes || warned
 warned_by (parsed.Print text) notes warned = warned
 warned_by parsed.List notes warned = have_warning notes || warned
 
--- the words were read, behind what was asked of rustup for them, and what they ask for was done, behind a warning of theirs that is noted
+-- rustup was asked where an argument needs it, the command line was parsed and its warning, if any,
+-- noted, and what it asks for was done
 pub record IsDone (tells : Type 0) (words : List Name) (env : Env) (held last : Contents) (before : ℕ) (seen : Seen) (old new : List Call) : Type 0 where
   pub rustup : Rustup
   pub answer : Parsed

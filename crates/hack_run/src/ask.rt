@@ -28,7 +28,8 @@ use hack_words::cli::{Args, Env, wants_rustup};
 use std::alloc::{AllocError, Global};
 use std::io;
 
-/// What is known of rustup, which is asked only where the words need it.
+/// Returns what is known of rustup's version, which is asked for only where the command line has a
+/// range of versions.
 pub(crate) fn rustup_for<C: Caller>(
     alloc: Global,
     words: &[String],
@@ -61,7 +62,7 @@ fn rustup_command<'a>(alloc: Global, env: &Env) -> Result<ProcessBuilder<'a>, Al
     Ok(asked)
 }
 
-/// What is known of rustup where asking it failed.
+/// Returns that rustup's version is unknown, with the error of asking for it as the reason.
 fn unknown_rustup(alloc: Global, fault: ProcessFault) -> Result<Rustup, AllocError>
     ensures unknown { IfOk result IsUnknown }
     ensures failed { OnOk result (fault ≢ ProcessFault.Memory) }
@@ -72,7 +73,7 @@ fn unknown_rustup(alloc: Global, fault: ProcessFault) -> Result<Rustup, AllocErr
     }
 }
 
-/// What rustup's answer tells.
+/// Reads rustup's minor version from its answer. It is unknown where the answer can't be read.
 fn rustup_in(
     alloc: Global,
     asked: &ProcessBuilder<'_>,
@@ -89,7 +90,7 @@ fn rustup_in(
     }
 }
 
-/// What is wrong with the answer to a command, as a text.
+/// Returns the error of reading a command's answer, as a text.
 fn wrong_answer_text(
     alloc: Global,
     fault: VersionTextFault,
@@ -105,7 +106,7 @@ fn shown_fault(alloc: Global, fault: AnswerFault<'_>) -> Result<String, AllocErr
     format!(in alloc; "{fault}")
 }
 
-/// Stable's version where the call needs it, or the text of the fault of asking for it.
+/// Returns stable's version where the call needs it, or the text of the error of asking for it.
 pub(crate) fn stable_for<C: Caller>(
     alloc: Global,
     args: &Args,
@@ -130,7 +131,7 @@ pub(crate) fn stable_for<C: Caller>(
     }
 }
 
-/// Whether a bound of the range is stable's version.
+/// Returns whether a bound of the range is stable's version.
 fn is_stable_asked(args: &Args) -> bool
     ensures no { result ≡ false → IfSome args.now.version_range (λ range. ¬ NeedsStable range) }
     ensures yes { result ≡ true → IsSomeAnd args.now.version_range NeedsStable }
@@ -141,7 +142,7 @@ fn is_stable_asked(args: &Args) -> bool
     }
 }
 
-/// Makes sure that the toolchain is there, and tells nothing of it.
+/// Makes sure that the toolchain `stable` is installed, and prints nothing about it.
 fn install<C: Caller>(
     alloc: Global,
     env: &Env,
@@ -171,7 +172,7 @@ fn install<C: Caller>(
     )
 }
 
-/// The fault of asking, as a text.
+/// Returns the error of asking, as a text.
 fn stable_fault(
     alloc: Global,
     fault: ProcessFault,
@@ -211,7 +212,7 @@ fn stable_version<C: Caller>(
     }
 }
 
-/// What its answer tells.
+/// Reads the version from the answer of stable's cargo.
 fn stable_in(
     alloc: Global,
     asked: &ProcessBuilder<'_>,

@@ -20,19 +20,19 @@ use hack_versions::version::Version;
 use std::alloc::Global;
 use std::io::Write;
 
-/// A runner that tells the user notices too.
+/// A runner that also prints notices for the user.
 pub trait Teller: Runner {
-    /// These notices took the first runner to the second.
+    /// A relation of the runner before and after these notices were printed.
     ghost told: { List Note → Self → Self → Type 0 };
 
-    /// Tells notices, in order.
+    /// Prints notices, in order.
     fn tell(&mut self, notices: &[Notice])
         ensures { told (map note_of notices.now) self.old self.new };
 }
 
-/// Makes the plan of a context, tells its notices, and hands out the steps of the chosen piece to
+/// Makes the plan of a context, prints its notices, and hands out the steps of the chosen piece to
 /// their end. `rustup` is rustup's program; `stable` is the version of the toolchain `stable` where
-/// the range needs it, or the text of the fault of asking for it.
+/// the range needs it, or the text of the error of asking for it.
 pub fn drive_context<R: Teller>(
     alloc: Global,
     cx: &Context,
@@ -45,29 +45,29 @@ pub fn drive_context<R: Teller>(
     // The runs handed out are the chosen piece of the plan, in order, each place once, until a
     // preparation fails, a run fails and runs don't go on, or the piece ends. The plan is exactly
     // the admissible runs, in order; each of its places is in exactly one of the pieces, and the
-    // blocks joined are the plan. A package's powerset is exactly the listed sets, each once; or
-    // with a strength a sample of them, and for each pattern of at most so many candidates that some
-    // listed set shows the plan has a place, for each package, version and slot.
+    // blocks joined are the plan. A package's powerset is exactly the listed sets, each once. With
+    // a strength it is a sample of them; then each pattern of at most that many candidates that
+    // some listed set shows has a place in the plan, for each package, version and slot.
     ensures headline { IfOk result
         (IsHandedOut (context_view cx.now) stable rustup.now) }
 
-    // The runner was told just the plan's notices, and then handed just these steps with these
+    // The runner printed just the plan's notices, and was then handed just these steps with these
     // outcomes, in order.
     ensures ran { IfOk result (λ s. (notes : List Note) × (mid : R)
         × IsPlanOf (context_view cx.now).args.subcommand stable (context_view cx.now) rustup.now
         s.plan notes
         × R.told notes runner.old mid × R.ran s.plan s.handed mid runner.new) }
 
-    // Refused exactly where there is no plan: an answer has no cause, and a refusal has one, unless
-    // memory was refused. (With a strength the number of runs is that of the sample that was
-    // found.)
+    // Where a session is returned no cause holds; an error is a cause that holds, or memory was
+    // refused. (With a strength the number of runs is that of the sample that was found: a session
+    // then rules out just the causes that hold whatever sample is found.)
     ensures never { IfOk result (λ _. (e : PlanFault)
         → ¬ IsSureCauseOf (context_view cx.now).args.subcommand stable (context_view cx.now) e) }
     ensures err { IfErr result (λ e. (e ≡ PlanFault.Memory)
         ⊎ IsCauseOf (context_view cx.now).args.subcommand stable (context_view cx.now) e) }
 
-    // Where it is refused, nothing was handed out: nothing was done at all, or memory was refused
-    // behind the plan, and the runner was told just its notices.
+    // Where the call is refused, nothing was handed out: nothing was done at all, or memory was
+    // refused after the plan was made, and the runner printed just its notices.
     ensures refused { IfErr result (λ e. (runner.new ≡ runner.old)
         ⊎ ((e ≡ PlanFault.Memory) × (plan : PlanView) × (notes : List Note)
         × IsPlanOf (context_view cx.now).args.subcommand stable (context_view cx.now) rustup.now

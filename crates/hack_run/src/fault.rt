@@ -1,4 +1,4 @@
-//! Why a call ends.
+//! The errors that end a call.
 
 use hack_calls::fault::PlanFault;
 use hack_load::context::ContextFault;
@@ -8,18 +8,18 @@ use hack_words::cli::CliFault;
 use std::alloc::{AllocError, AllocFailed};
 use thiserror::Error;
 
-/// Why a call ends.
+/// The error that ended a call.
 #[derive(Debug, Drop, Error)]
 pub(crate) enum RunFault {
     #[error("out of memory")]
     Memory,
-    /// The words are refused.
+    /// The command line is refused.
     #[error("{0}")]
     Words(CliFault),
-    /// What the call needs isn't loaded.
+    /// What the call needs couldn't be loaded.
     #[error("{0}")]
     Context(ContextFault),
-    /// Manifests aren't edited as the call asks.
+    /// The manifests couldn't be edited as the call asks.
     #[error("{0}")]
     Manifests(PrepareFault),
     /// There is no plan.

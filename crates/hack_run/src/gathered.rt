@@ -14,7 +14,7 @@ use std::{fmt, io};
 const ROOM: usize = 8192;
 
 /// Lines on a writer that are gathered, and written together. What can't be written stays gathered.
-/// A line for which there is no room then is left out whole.
+/// A line that then has no room is left out whole.
 #[derive(Drop)]
 pub(crate) struct GatheredLines<'a, O: Write> {
     alloc: Global,
@@ -54,14 +54,14 @@ impl<O: Write> Lines for GatheredLines<'_, O> {
     }
 }
 
-/// Room for what is gathered.
+/// Allocates the buffer in which lines are gathered.
 pub(crate) fn room(alloc: Global) -> Result<Vec<u8>, AllocError>
     ensures { IfOk result (λ gathered. gathered.items ≡ []) }
 {
     Vec::with_capacity(alloc, ROOM)
 }
 
-/// Lines that gather here, none of which failed.
+/// Returns lines that are gathered in this buffer, none of which has failed.
 pub(crate) fn gather_on<'a, O: Write>(
     alloc: Global,
     out: &'a mut O,
@@ -102,7 +102,7 @@ fn put_line<O: Write, D: fmt::Display + Drop>(
     }
 }
 
-/// Gathers a text. Where there is no room for it, what is gathered is written before.
+/// Gathers a text. Where there is no room for it, what is gathered so far is written first.
 fn gather<O: Write>(out: &mut O, gathered: &mut Vec<u8>, text: &str) -> Result<(), LineFault>
     ensures written { OnOk result (Appends (append_known (O.contents out.old) gathered.old.items)
         (append_known (O.contents out.new) gathered.new.items) text.now) }
@@ -118,7 +118,7 @@ fn gather<O: Write>(out: &mut O, gathered: &mut Vec<u8>, text: &str) -> Result<(
     }
 }
 
-/// Puts a text behind what is gathered.
+/// Appends a text to what is gathered.
 fn push(gathered: &mut Vec<u8>, text: &str) -> Result<(), LineFault>
     ensures written { OnOk result (gathered.new.items ≡ gathered.old.items ++ text.now) }
     ensures missed { OnErr result (gathered.new.items ≡ gathered.old.items) }
@@ -164,7 +164,7 @@ fn write_some<O: Write>(out: &mut O, gathered: &mut Vec<u8>) -> io::Result<()>
     }
 }
 
-/// Drops as many bytes from the front.
+/// Drops the first `n` bytes.
 fn drop_front(gathered: &mut Vec<u8>, n: usize)
     requires { n ≤ vec_len gathered.old }
     ensures { gathered.new.items ≡ drop n gathered.old.items }
@@ -174,7 +174,7 @@ fn drop_front(gathered: &mut Vec<u8>, n: usize)
     gathered.truncate(rest);
 }
 
-/// Writes what is gathered at the end; whether all was written.
+/// Writes what is still gathered, flushes the writer, and returns whether both succeeded.
 pub(crate) fn write_last<O: Write>(out: &mut O, gathered: &mut Vec<u8>) -> bool
     ensures kept { Keeps (append_known (O.contents out.old) gathered.old.items)
         (append_known (O.contents out.new) gathered.new.items) }

@@ -25,10 +25,10 @@ use hack_words::cli::Env;
 use std::alloc::Global;
 use std::io::Write;
 
-/// Performs a call as [`run`] does, and answers its exit status, the files, the lockfiles, and how
-/// many calls of these failed. What is changed of the files is noted before in a journal at this
-/// path, where none may stand yet; at the end it goes, unless some file isn't back. Lockfiles,
-/// which cargo changes too, are those of other files.
+/// Performs a call as [`run`] does, and returns its exit status, the files, the lockfiles, and how
+/// many of their calls failed. Each change of the files is first noted in a journal at this path,
+/// where no file may be yet; at the end the journal is removed, unless some file isn't restored.
+/// Lockfiles, which cargo changes too, are those of `lockfiles`.
 pub fn run_journaled<F: Files, L: Files, C: Caller, O: Write, E: Write>(
     alloc: Global,
     words: &[String],
@@ -45,9 +45,8 @@ pub fn run_journaled<F: Files, L: Files, C: Caller, O: Write, E: Write>(
         ↔ (IsTrue term.new.error ⊎ (IsTrue term.new.warn × IsTrue env.now.deny_warnings)) }
     ensures at_most_one { result.0 ≤ 1 }
 
-    // What is refused, what was done where no error was told, and what was called whatever came of
-    // it, is what `run` says; and where no error was told each path holds what it held, unless the
-    // words ask for edits that stay.
+    // The clauses `refused`, `done` and `made` promise what those of `run` do; and where no error
+    // was reported each path holds what it held, unless the command line asks for edits that stay.
     ensures refused { AreRefused env.now (names_of words.now) → (term.new.error ≡ true)
         × (C.tells → MayAdd (rustup_asked (string_bytes env.now.rustup))
         (C.calls runner.old) (C.calls runner.new)) }
@@ -65,9 +64,9 @@ pub fn run_journaled<F: Files, L: Files, C: Caller, O: Write, E: Write>(
         (contents_seen (string_bytes journal) (F.bytes_at files) (L.bytes_at lockfiles))
         (contents_seen (string_bytes journal) (F.bytes_at result.1) (L.bytes_at result.2)) }
 
-    // Files come back, lockfiles too: unless the words ask for edits that stay, each path holds
-    // what it held, but for at most as many paths as calls of the files failed. Where no error was
-    // told, only the end of the journal can have failed.
+    // The files are restored, lockfiles too: unless the command line asks for edits that stay, each
+    // path holds what it held, except for at most as many paths as calls of the files failed. Where
+    // no error was reported, only the removal of the journal can have failed.
     ensures back { RestoresEdits env.now (names_of words.now) → F.tells → L.tells
         → LeavesFew (Unit {0})
         (contents_seen (string_bytes journal) (F.bytes_at files) (L.bytes_at lockfiles))
@@ -75,17 +74,17 @@ pub fn run_journaled<F: Files, L: Files, C: Caller, O: Write, E: Write>(
         0 result.3 }
     ensures few { term.new.error ≡ false → result.3 ≤ 1 }
 
-    // The journal goes: where none stood before, edits don't stay and no call failed, none stands
-    // there.
+    // The journal is removed: where none existed before, edits don't stay and no call failed, none
+    // exists at the end.
     ensures gone { RestoresEdits env.now (names_of words.now) → F.tells → F.whole → L.tells
         → result.3 ≡ 0 → F.bytes_at files (string_bytes journal) ≡ None
         → F.bytes_at result.1 (string_bytes journal) ≡ None }
 
-    // What each call of the files and of the lockfiles keeps is kept by all.
+    // What each single call of the files and of the lockfiles keeps is kept by all of them.
     ensures stays { F.stays files result.1 × L.stays lockfiles result.2 }
 
     // After each front of its changes each path holds what it held at first, or the journal has it:
-    // wherever the call is interrupted, `recover` brings everything back.
+    // wherever the call is interrupted, `recover` restores everything.
     ensures safe { F.tells → F.whole → F.bytes_at files (string_bytes journal) ≡ None
         → StaysSafe (string_bytes journal) (F.bytes_at files)
         (F.trace files) (F.trace result.1) (F.bytes_at files) (F.bytes_at result.1) }
@@ -97,8 +96,8 @@ pub fn run_journaled<F: Files, L: Files, C: Caller, O: Write, E: Write>(
     (status, files.files.into_inner(), files.lockfiles, failed)
 }
 
-/// Removes the journal where all is back, and counts a failure of that. What the journal still has
-/// to keep is the next call's.
+/// Removes the journal where all files are restored, and returns the number of failed calls, with
+/// an error of that counted. What the journal still has to keep is left to the next call.
 fn end_journal<F: Files>(files: &mut Journaled<F>, failed: u64) -> u64
     ensures handed { F.stays files.old.files files.new.files }
     ensures journal { files.new.journal ≡ files.old.journal }

@@ -1,4 +1,4 @@
-//! A whole call of `cargo hack`, from its words to its exit status.
+//! A whole call of `cargo hack`, from its command line to its exit status.
 #![tactic(auto)]
 
 mod ask;

@@ -26,7 +26,7 @@ use std::io::Write;
 struct Listed {
     /// Whether memory was refused, or why there is no plan.
     refused: Result<bool, PlanFault>,
-    /// Why a toolchain or a lockfile failed.
+    /// Why a toolchain or a lockfile couldn't be made.
     fault: Option<ProcessFault>,
     /// How many lines were not written.
     failed: u64,
@@ -34,8 +34,8 @@ struct Listed {
     short: bool,
 }
 
-/// Writes the commands of the chosen piece of a context's plan. Toolchains and lockfiles are made
-/// all the same.
+/// Writes the commands of the chosen piece of a context's plan. Toolchains are still installed, and
+/// lockfiles still made.
 pub(crate) fn list<C: Caller, O: Write, E: Write>(
     alloc: Global,
     cx: &Context,
@@ -70,7 +70,7 @@ pub(crate) fn list<C: Caller, O: Write, E: Write>(
     end_of_list(came, flushed)
 }
 
-/// Hands the plan to a lister over the writer.
+/// Hands the plan to a lister whose lines go to the writer.
 fn hand_to_lister<C: Caller, O: Write, E: Write>(
     alloc: Global,
     cx: &Context,
@@ -116,7 +116,8 @@ fn hand_to_lister<C: Caller, O: Write, E: Write>(
     }
 }
 
-/// Lists the plan on lines, over a runner for what isn't listed; whether memory was refused.
+/// Lists the plan on `out`, with a runner for the steps that aren't listed. Returns whether memory
+/// was refused.
 fn list_over<'a, W: Lines, R: Teller>(
     alloc: Global,
     cx: &Context,
@@ -143,7 +144,7 @@ fn list_over<'a, W: Lines, R: Teller>(
     Ok(lister.refused > 0)
 }
 
-/// How the list ends, where its end was written or not.
+/// Returns how the list ends; `flushed` is whether its last lines were written.
 fn end_of_list(listed: Listed, flushed: bool) -> Result<(), RunFault>
     ensures { OnOk result ((listed.refused ≡ Ok false) × (listed.fault ≡ None)
         × (listed.failed ≡ 0) × (flushed ≡ true)) }
@@ -170,7 +171,7 @@ fn end_of_list(listed: Listed, flushed: bool) -> Result<(), RunFault>
     Ok(())
 }
 
-/// Why a line is missing: memory ran out, or it can't be written.
+/// Returns why a line is missing: memory ran out, or it couldn't be written.
 fn unlisted(short: bool) -> RunFault {
     if short {
         RunFault::Memory

@@ -1,4 +1,4 @@
-//! A whole call of `cargo hack`: what its words ask for is done, and told on the way.
+//! A whole call of `cargo hack`: does what its command line asks for, and reports on the way.
 
 ghost use Rattle.std.specs.Prelude.{◌≡◌, ◌↔◌, ◌⊎◌, ◌≤◌, IsErr, IsTrue, OnOk, false, true};
 ghost use Rattle.std.specs.Prelude.{map, string_bytes};
@@ -25,9 +25,9 @@ use hack_words::cli::{Args, Env, Parsed};
 use std::alloc::Global;
 use std::io::Write;
 
-/// Performs the call of these words, the first of which is `hack`, and answers its exit status.
-/// What is printed goes to `out`, and what is told to `err`, the line of a fault last. The
-/// colouring of the terminal is that of `--color auto`.
+/// Performs a call with these arguments, the first of which is `hack`, and returns its exit status.
+/// Output goes to `out`; messages go to `err`, the line of an error last. Under `--color auto` the
+/// colouring is the one that `term` has.
 pub fn run<F: Files, C: Caller, O: Write, E: Write>(
     alloc: Global,
     words: &[String],
@@ -42,39 +42,39 @@ pub fn run<F: Files, C: Caller, O: Write, E: Write>(
         ↔ (IsTrue term.new.error ⊎ (IsTrue term.new.warn × IsTrue env.now.deny_warnings)) }
     ensures at_most_one { result ≤ 1 }
 
-    // What each call of the files keeps is kept by all.
+    // What each single call of the files keeps (`F.stays`) is kept by all of them together.
     ensures stays { F.stays files.old files.new }
 
-    // Words that are refused whatever rustup answers are told as an error, and then it was asked
-    // for its version at most.
+    // A command line that is refused whatever rustup answers is reported as an error, and then
+    // nothing was called, or just rustup for its version.
     ensures refused { AreRefused env.now (names_of words.now) → (term.new.error ≡ true)
         × (C.tells → MayAdd (rustup_asked (string_bytes env.now.rustup))
         (C.calls runner.old) (C.calls runner.new)) }
 
-    // Where no error was told, what the words ask for was done: the calls end with those of the
-    // whole schedule of the plan, for what was told and read in this call. A list wrote just the
-    // lines of that schedule. A warning is noted just where one was before, or where a notice of
-    // the words, of what was loaded or of the plan counts as one. Under `--remove-dev-deps` each
-    // manifest that is edited holds its edit, and all else what it held.
+    // Where no error was reported, what the command line asks for was done: the calls end with
+    // those of the whole schedule of the plan, which follows from what this call asked and read. A
+    // list wrote just the lines of that schedule. A warning is noted just where one was before, or
+    // where a notice on the command line, on what was loaded or on the plan counts as one. Under
+    // `--remove-dev-deps` each manifest that is edited holds its edit, and all else what it held.
     ensures done { term.new.error ≡ false → C.tells → IsDone F.tells (names_of words.now)
         env.now (F.bytes_at files.old) (F.bytes_at files.new) (F.failed files.old)
         (seen_of term.old.warn term.new (O.contents out.old) (O.contents out.new))
         (C.calls runner.old) (C.calls runner.new) }
 
-    // Whatever comes of the call: behind its questions the steps of one history of the plan made
-    // just their calls, or no step did; and a list printed nothing but the lines of those of them
-    // that passed, in order.
+    // Whatever comes of the call: after its questions the steps of one history of the plan made
+    // just their calls, or no step made one; and a list printed nothing but the lines of the steps
+    // that passed, in order, or the beginning of these lines.
     ensures made { C.tells → MadeOnce F.tells (names_of words.now) env.now
         (F.bytes_at files.old) (F.failed files.old) (O.contents out.old) (O.contents out.new)
         (C.calls runner.old) (C.calls runner.new) }
 
-    // Files come back: unless the words ask for edits that stay, each path holds what it held, but
-    // for at most as many paths as calls of the files failed.
+    // The files are restored: unless the command line asks for edits that stay, each path holds
+    // what it held, except for at most as many paths as calls of the files failed.
     ensures back { RestoresEdits env.now (names_of words.now) → F.tells → LeavesFew (Unit {0})
         (F.bytes_at files.old) (F.bytes_at files.new) (F.failed files.old) (F.failed files.new) }
 
-    // A call of the files that failed is told as an error: where none was told, none failed, and
-    // each path holds what it held, unless the words ask for edits that stay.
+    // A call of the files that failed is reported as an error: where none was reported, none
+    // failed, and each path holds what it held, unless the command line asks for edits that stay.
     ensures clean { term.new.error ≡ false
         → IsClean (RestoresEdits env.now (names_of words.now)) F.tells
         (F.bytes_at files.old) (F.bytes_at files.new)
@@ -85,7 +85,7 @@ pub fn run<F: Files, C: Caller, O: Write, E: Write>(
     term.status(env.deny_warnings)
 }
 
-/// Reads the words, and does what they ask for.
+/// Parses the command line, and does what it asks for.
 fn read<F: Files, C: Caller, O: Write, E: Write>(
     alloc: Global,
     words: &[String],
@@ -135,7 +135,7 @@ fn read<F: Files, C: Caller, O: Write, E: Write>(
     }
 }
 
-/// Does what words ask for, of which the user is told this.
+/// Does what a parsed command line asks for. The notices are those of parsing it.
 fn obey<F: Files, C: Caller, O: Write, E: Write>(
     alloc: Global,
     parsed: Parsed,
@@ -177,7 +177,7 @@ fn obey<F: Files, C: Caller, O: Write, E: Write>(
     }
 }
 
-/// Colours lines as the arguments say, and tells as much as they say.
+/// Sets the colouring and the verbosity of the terminal as the arguments say.
 fn dress(term: &mut Term, args: &Args)
     ensures error { term.new.error ≡ term.old.error }
     ensures warn { term.new.warn ≡ term.old.warn }

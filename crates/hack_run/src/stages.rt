@@ -1,5 +1,5 @@
-//! The stages of a call behind its words: what is loaded, manifests that are edited, the plan, and
-//! its runs or their list.
+//! The stages of a call after its command line is parsed: loading, edits of manifests, the plan,
+//! and its runs or their list.
 
 ghost use Rattle.std.specs.Prelude.{◌≡◌, IfOk, IsOk, OnOk, false, string_bytes, true};
 ghost use Rattle.hack_files.specs.Files.{GrowsBy};
@@ -34,7 +34,8 @@ use hack_words::cli::{Args, Env};
 use std::alloc::Global;
 use std::io::Write;
 
-/// Performs a call with these arguments. Whatever comes of it, the files come back.
+/// Performs a call with these arguments. Whatever comes of it, edited files are restored at the
+/// end, unless the arguments ask for edits that stay.
 pub(crate) fn perform<F: Files, C: Caller, O: Write, E: Write>(
     alloc: Global,
     args: Args,
@@ -78,7 +79,7 @@ pub(crate) fn perform<F: Files, C: Caller, O: Write, E: Write>(
     came
 }
 
-/// Performs a call for which this was answered.
+/// Performs a call, given the answers to its questions.
 fn follow<F: Files, C: Caller, O: Write, E: Write>(
     alloc: Global,
     args: Args,
@@ -125,7 +126,7 @@ fn follow<F: Files, C: Caller, O: Write, E: Write>(
     )
 }
 
-/// Puts together what is loaded.
+/// Makes the context of what is loaded, and prints its notices.
 fn context<E: Write>(
     alloc: Global,
     args: Args,

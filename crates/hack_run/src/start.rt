@@ -53,7 +53,8 @@ pub(crate) fn start<C: Caller, O: Write, E: Write>(
     }
 }
 
-/// A starter that performs runs as the arguments say, with a place for the fault that stops it.
+/// Returns a starter that performs runs as the arguments say. The error that stops it goes to
+/// `fault`.
 pub(crate) fn starter<'a, C: Caller, O: Write, E: Write>(
     alloc: Global,
     args: &Args,
@@ -85,7 +86,7 @@ pub(crate) fn starter<'a, C: Caller, O: Write, E: Write>(
     }
 }
 
-/// Hands the plan to a starter. The fault that stopped it, where it isn't told yet, is kept.
+/// Hands the plan to a starter. The error that stopped it goes to `fault`, unless it was reported.
 fn drive<C: Caller, O: Write, E: Write>(
     alloc: Global,
     cx: &Context,
@@ -110,7 +111,7 @@ fn drive<C: Caller, O: Write, E: Write>(
     Ok(session)
 }
 
-/// Reports the runs that failed, where runs go on behind them and each preparation passed.
+/// Reports the runs that failed, where runs go on after a failed one and each preparation passed.
 fn report<E: Write>(
     alloc: Global,
     session: &Session,
@@ -156,7 +157,7 @@ fn explain<E: Write>(
     Ok(())
 }
 
-/// Whether a preparation failed.
+/// Returns whether a preparation failed.
 fn is_unprepared(handed: &[Handed]) -> bool {
     for one in handed {
         if is_failed_preparation(*one) {

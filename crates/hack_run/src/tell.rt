@@ -1,4 +1,4 @@
-//! What the user is told. A line that can't be written is left out.
+//! Errors and notices for the user. An error of writing them is ignored.
 
 ghost use Rattle.std.specs.Prelude.{◌≡◌, OnErr, OnOk, map, true};
 ghost use Rattle.hack_base.specs.Notes.{note_of};
@@ -13,11 +13,12 @@ use hack_term::term::Term;
 use std::alloc::Global;
 use std::io::Write;
 
-/// How another cargo or rustup is chosen.
+/// The line on how another cargo or rustup is chosen.
 const CHOICE: &str =
     "cargo is chosen by CARGO_HACK_CARGO_SRC or CARGO, and rustup by CARGO_HACK_RUSTUP";
 
-/// Tells a fault; before that of a program that isn't there, how another one is chosen.
+/// Reports an error. Where a program couldn't be started, the line on how to choose another one
+/// comes first.
 pub(crate) fn tell<E: Write>(alloc: Global, fault: &RunFault, term: &mut Term, err: &mut E)
     ensures { term.new ≡ record term.old { error = true } }
 {
@@ -34,7 +35,7 @@ pub(crate) fn tell<E: Write>(alloc: Global, fault: &RunFault, term: &mut Term, e
     }
 }
 
-/// Whether it is that a program can't be started.
+/// Returns whether the error is that a program couldn't be started.
 fn is_missing(fault: &RunFault) -> bool {
     match fault {
         RunFault::Process(fault) => is_never_executed(fault),
@@ -53,7 +54,7 @@ fn is_never_executed(fault: &ProcessFault) -> bool {
     }
 }
 
-/// Tells how a call ended, where that is a fault.
+/// Reports the error that a call ended with, if it ended with one.
 pub(crate) fn tell_end<E: Write>(
     alloc: Global,
     came: Result<(), RunFault>,
@@ -69,7 +70,7 @@ pub(crate) fn tell_end<E: Write>(
     }
 }
 
-/// Tells notices.
+/// Prints notices, and notes a warning where one of them counts as such.
 pub(crate) fn tell_all<E: Write>(notices: &[Notice], term: &mut Term, err: &mut E)
     ensures { term.new ≡ after_notes term.old (map note_of notices.now) }
 {

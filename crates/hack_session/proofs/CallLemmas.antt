@@ -1,4 +1,4 @@
--- What a caller was asked by one command, and by commands behind it.
+-- What a caller was asked by one command, and by commands after it.
 use Rattle.std.proofs.Common.{◌≡◌, ◌≢◌, inl, inr, ℕ, List, [], ◌∷◌, refl, sym, ◌∙◌, append-nil, Result, Ok, Err}
 use Rattle.std.specs.Prelude.{IfErr, OnOk}
 use Rattle.hack_process.specs.declared.caller.End.{End}

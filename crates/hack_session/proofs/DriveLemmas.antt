@@ -1,4 +1,4 @@
--- A drive goes on by a step.
+-- A session after one more step.
 use Rattle.std.proofs.Common.{◌≡◌, List, [], ◌∷◌, ◌++◌, Option, Some, sym, ◌∙◌, ap, subst, append_assoc}
 use Rattle.std.specs.Prelude.{IfSome}
 use Rattle.hack_runs.specs.View.{PlanView}
@@ -11,7 +11,7 @@ pub handed_on : (old new : Course) (step : Step) (outcome : Outcome) → Some st
 handed_on old new step outcome e h =
     subst (λ (o : Option Step). IfSome o (λ s. new ≡ record old { handed = old.handed ++ record { step = s; outcome = outcome } ∷ [] })) (sym e) h
 
--- the session is that of the start, with steps behind its history, which the runner was handed
+-- the session is that of the start, with more steps after its history, which the runner was handed
 pub record Driven (S : Type 0) (ran : PlanView → List Handed → S → S → Type 0) (start t : Course) (a b : S) : Type 0 where
   pub same : IsSameCourse t start
   pub more : List Handed

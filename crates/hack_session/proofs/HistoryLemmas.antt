@@ -1,4 +1,4 @@
--- A history goes on by a step.
+-- A history with one more step.
 use Rattle.std.proofs.Common.{◌≡◌, ℕ, ◌<◌, List, [], ◌∷◌, ◌++◌, length, take, arith, refl, inl, inr, rules, ap, sym, ◌∙◌, get_or, cond, Bool, true, false, Option, Some, None, IsSome, slice_get, ◌||◌, length-append}
 use Rattle.std.specs.List.{list_any}
 use Rattle.std.proofs.lemmas.List.{take_more, map-append, get_or_append_left}

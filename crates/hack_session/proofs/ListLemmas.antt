@@ -35,7 +35,7 @@ shown_lines a b dir clean own first last e f written =
     subst (Appends a b) (ap (λ (x : List ℕ). (x ++ (codes "\n" ++ last)) ++ codes "\n") e ∙ ap (λ (x : List ℕ). (listed_of dir clean ++ (codes "\n" ++ x)) ++ codes "\n") f
     ∙ ap (λ (x : List ℕ). x ++ codes "\n") (sym (append_assoc (listed_of dir clean) (codes "\n") (listed_of dir own))) ∙ append_assoc (line_of dir clean) (listed_of dir own) (codes "\n")) written
 
--- a step that is listed leaves the runner
+-- a step that is listed leaves the runner as it is
 pub record OneListed (whole S : Type 0) (ran : PlanView → List Handed → S → S → Type 0) (plan : PlanView) (h : Handed) (s : S) (old new : Page) : Type 0 where
   pub sent : ran plan (filter is_sent (h ∷ [])) s s
   pub lists : ListsAll whole plan (h ∷ []) old new
@@ -45,7 +45,7 @@ one_listed whole ran plan h s old new e none one =
     let is : is_sent_step h.step ≡ false = sym e in
     record { sent = rw is none; lists = (new, subst (λ (b : Bool). Lists whole b plan h old new) e one, refl) }
 
--- a step that is performed leaves the page
+-- a step that is performed leaves the page as it is
 pub record OneSent (whole S : Type 0) (ran : PlanView → List Handed → S → S → Type 0) (plan : PlanView) (h : Handed) (s t : S) (page : Page) : Type 0 where
   pub sent : ran plan (filter is_sent (h ∷ [])) s t
   pub lists : ListsAll whole plan (h ∷ []) page page

@@ -1,4 +1,4 @@
--- Commands behind commands, and what they come to as a step.
+-- Commands that follow commands, and what they amount to as a step.
 use Rattle.std.proofs.Common.{◌≡◌, ◌≢◌, inl, inr, ℕ, ◌<◌, List, [], ◌∷◌, ◌++◌, refl, sym, ◌∙◌, ap, subst, append_assoc, append-nil, arith, rules, Bool, true, false, Result, Ok, Err, Option, Some, map, length, get_or, zero, suc, if◌then◌else◌}
 use Rattle.std.specs.Prelude.{All, IfSome, string_bytes, slice_get, ◌==◌}
 use Rattle.std.proofs.Common.{String, Global}
@@ -21,7 +21,7 @@ use Rattle.hack_session.specs.Toolchains.{addition_of, toolchain_name, trial_of}
 use Rattle.hack_session.specs.Performs.{Succeeds, Fails, Follows, MayCall, Breaks, Installs, BreaksInstall, InstallsAt, BreaksInstallAt, Comes, Makes, is_memory, run_commands, own_asked, cleaning_asked, Exactly, IsCut, Performs, PerformsAll, HasPerformed, GrowsBy}
 use Rattle.hack_session.proofs.CallLemmas.{One}
 
--- commands in order, by what they answer
+-- the calls of commands in order, by what they returned
 abbrev pub Ran : {T : Type 0} → List Asked → Result T ProcessFault → List Call → Type 0
 Ran commands r calls = Comes (Follows commands calls) (Breaks commands calls) r
 
@@ -36,7 +36,7 @@ comes_map : (T : Type 0) (r : Result T ProcessFault) (A B : Outcome → Type 0) 
 comes_map T (Ok d) A B C D f g h = f Passed h
 comes_map T (Err fault) A B C D f g h = comes_fault T fault A B C D (f Failed) g h
 
--- the one command ended well
+-- the one command ended with status 0
 followed : (asked : Asked) (calls : List Call) → Follows (asked ∷ []) calls Passed → Succeeds asked calls
 followed asked calls (inl h) = absurd (cc (h.1))
 followed asked calls (inr h) = subst (Succeeds asked) (sym (h.2 ∙ ap (λ (l : List Call). h.0 ++ l) h.4.0 ∙ append-nil h.0)) h.3
@@ -56,7 +56,7 @@ twice P Q R a b c f p q = record { made = p.made ++ q.made; grown = q.grown ∙ 
 made_as : (P Q : List Call → Type 0) (a b : List Call) → ((s : List Call) → P s → Q s) → Makes P a b → Makes Q a b
 made_as P Q a b f p = record { made = p.made; grown = p.grown; such = f p.made p.such }
 
--- the first command ended well, and others are behind it
+-- the first command ended with status 0, and others follow it
 pub run_then : (S T : Type 0) (done : S) (r : Result T ProcessFault) (first : Asked) (more : List Asked) (a b c : List Call) → Makes (One {T = S} first (Ok done)) a b → Makes (Ran more r) b c → Makes (Ran (first ∷ more) r) a c
 run_then S T done r first more a b c p q =
     twice (One {T = S} first (Ok done)) (Ran more r) (Ran (first ∷ more) r) a b c
@@ -96,7 +96,7 @@ run_cleaned plan o q own clean e f g b =
 pub ran_as : (T : Type 0) (r : Result T ProcessFault) (cs ds : List Asked) (a b : List Call) → cs ≡ ds → Makes (Ran cs r) a b → Makes (Ran ds r) a b
 ran_as T r cs ds a b e p = subst (λ (l : List Asked). Makes (Ran l r) a b) e p
 
--- what the trial of a toolchain and its addition come to
+-- the calls of a toolchain's trial and its addition, by what they returned
 abbrev pub Installed : {T : Type 0} → List (List ℕ) → Asked → Asked → Result T ProcessFault → List Call → Type 0
 Installed targets try add r calls = Comes (Installs targets try add calls) (BreaksInstall targets try add calls) r
 
@@ -155,7 +155,7 @@ install_as T r plan o v rustup name targets a b e f g h p =
     (subst (λ (x : List ℕ). Makes (Sure rustup x plan.call.targets r) a b) g
     (subst (λ (x : List (List ℕ)). Makes (Sure rustup name x r) a b) h p)))
 
--- a step, by what came of it
+-- the calls of a step, by what it returned
 abbrev pub Did : {T : Type 0} → PlanView → Step → Result T ProcessFault → List Call → Type 0
 Did plan step r calls = Comes (Exactly plan step calls) (IsCut plan step calls) r
 

@@ -1,4 +1,4 @@
--- The steps of a schedule as far as its versions have been taken.
+-- The steps of the versions of a schedule that have been taken so far.
 use Rattle.std.proofs.Common.{◌≡◌, ℕ, ◌+◌, ◌-◌, ◌<◌, ◌≤◌, List, [], ◌∷◌, ◌++◌, map, filter, length, get_or, take, drop, refl, sym, ◌∙◌, ap, subst, arith, rules, Bool, true, false, suc, zero, cond, append_assoc, append-nil}
 use Rattle.std.specs.Prelude.{All}
 use Rattle.std.specs.List.{flat_map, range_with_len}
@@ -16,7 +16,7 @@ use Rattle.hack_session.specs.declared.step.Step.TheVariants.{Prepare, Skip, Run
 use Rattle.hack_session.specs.Histories.{IsStepOf}
 use Rattle.hack_session.specs.Schedules.{mark, places_of, steps_of, is_place}
 
--- a place's step is put behind those of the places before it
+-- a place's step is appended to those of the places before it
 pub push_mark : (f : ℕ → Step) (old now new : List Step) (s : Step) (first place : ℕ) → first ≤ place → now ≡ old ++ map f (range_with_len first (place - first)) → new ≡ now ++ s ∷ [] → s ≡ f place → new ≡ old ++ map f (range_with_len first (place + 1 - first))
 push_mark f old now new s first place le e g h =
     let n : place + 1 - first ≡ place - first + 1 = omega arith in
@@ -50,7 +50,7 @@ tiled_order : (from : ℕ) (vs : List PlanVersion) (to : ℕ) → AreTiled from 
 tiled_order from [] to t = omega (arith, t)
 tiled_order from (v ∷ vs) to t = omega (arith, t.1, tiled_order v.end vs to t.2)
 
--- the version at hand, in front of those that are left behind it
+-- the current version, in front of those that are left
 here : (inside : ℕ → Bool) (total : ℕ) (vs : List PlanVersion) (i : ℕ) (v : PlanVersion) (steps : List Step) → i < length vs → v ≡ get_or vs i v → (l : IsLaid inside total vs i steps) → AreTiled l.next (map span_of (v ∷ drop (i + 1) vs)) total
 here inside total vs i v steps lt is l =
     subst (λ (x : PlanVersion). AreTiled l.next (map span_of (x ∷ drop (i + 1) vs)) total) (sym is)
@@ -62,7 +62,7 @@ laid_within inside total vs i v steps lt is l =
     let t = here inside total vs i v steps lt is l in
     (omega (arith, t.0, t.1), tiled_order v.end (drop (i + 1) vs) total t.2)
 
--- its steps behind those before it
+-- its steps, after those before it
 pub laid_more : (inside : ℕ → Bool) (total : ℕ) (vs : List PlanVersion) (i : ℕ) (v : PlanVersion) (steps new : List Step) → i < length vs → v ≡ get_or vs i v
     → new ≡ (steps ++ map Prepare v.preparations.items) ++ map (mark inside) (places_of v) → IsLaid inside total vs i steps → IsLaid inside total vs (i + 1) new
 laid_more inside total vs i v steps new lt is e l = record {
@@ -74,7 +74,7 @@ laid_more inside total vs i v steps new lt is e l = record {
   left = (here inside total vs i v steps lt is l).2;
 }
 
--- behind the last version
+-- after the last version
 pub laid_all : (inside : ℕ → Bool) (total : ℕ) (vs : List PlanVersion) (i : ℕ) (steps : List Step) → length vs ≤ i → IsLaid inside total vs i steps → steps ≡ flat_map (steps_of inside) vs
 laid_all inside total vs i steps le l = l.steps_are ∙ ap (flat_map (steps_of inside)) (take_all i vs le)
 

@@ -19,7 +19,7 @@ pub join-texts : (sep : List ℕ) (xs : List (String Global)) → join_by string
 join-texts sep [] = refl
 join-texts sep (x ∷ xs) = ap (λ l. string_bytes x ++ l) (sym (flat_map-map (λ text. sep ++ text) string_bytes xs))
 
--- notes that are added twice
+-- notes that are added in two steps
 pub adds-then : {X : Type 0} (old mid new xs ys : List X) → mid ≡ old ++ xs → new ≡ mid ++ ys → new ≡ old ++ (xs ++ ys)
 adds-then old mid new xs ys p q = q ∙ ap (λ l. l ++ ys) p ∙ append_assoc old xs ys
 

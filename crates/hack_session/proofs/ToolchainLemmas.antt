@@ -1,4 +1,4 @@
--- Names of toolchains, and targets in one word.
+-- Names of toolchains, and targets in one argument.
 use Rattle.std.proofs.Common.{◌≡◌, ◌≢◌, ℕ, List, [], ◌∷◌, ◌++◌, refl, sym, ap, ◌∙◌, Bool, true, false, map, length, arith, cond}
 use Rattle.std.proofs.Common.{String, Global}
 use Rattle.std.specs.Prelude.{string_bytes, codes, ◌==◌}

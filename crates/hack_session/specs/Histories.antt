@@ -1,4 +1,4 @@
--- What a session hands out, and what it was told.
+-- What a session hands out, and the outcomes that it records.
 use Rattle.std.specs.Prelude.{ℕ, ◌≡◌, ◌+◌, ◌<◌, ◌++◌, List, ◌∷◌, [], length, map, take, slice_get, slice_index_or, Bool, true, false, not, Option, None, IfSome, if◌then◌else◌}
 use Rattle.std.specs.List.{list_any}
 use Rattle.hack_runs.specs.View.{PlanView}
@@ -8,7 +8,8 @@ use Rattle.hack_session.specs.declared.step.Outcome.{Outcome}
 use Rattle.hack_session.specs.declared.step.Outcome.TheVariants.{Passed, Failed}
 use Rattle.hack_session.specs.declared.step.Handed.{Handed}
 
--- a plan, its schedule, what was handed out of that with its outcomes, and whether runs go on behind a failed one
+-- a plan, its schedule, what was handed out of that with its outcomes, and whether runs go on after
+-- a failed one
 pub record Course : Type 0 where
   pub plan : PlanView
   pub schedule : List Step
@@ -21,7 +22,7 @@ IsStepOf plan (Prepare preparation) = Unit {0}
 IsStepOf plan (Skip place) = place < length plan.quads
 IsStepOf plan (Run place) = place < length plan.quads
 
--- a failed preparation stops, and a failed run does unless runs go on; a skipped place passes whatever is told of it
+-- a failed preparation stops, and a failed run does unless runs go on; a skipped place never stops
 abbrev pub stops_at : Bool → Step → Outcome → Bool
 stops_at keep (Prepare preparation) Failed = true
 stops_at keep (Run place) Failed = not keep
@@ -41,15 +42,15 @@ pub record IsHistory (t : Course) : Type 0 where
   pub front : map step_of t.handed ≡ take (length t.handed) t.schedule
   pub goes : (k : ℕ) (d : Handed) → k + 1 < length t.handed → stops t.keep_going (slice_index_or t.handed k d) ≡ false
 
--- the first element of the schedule behind the history, and none where an element stopped or the schedule ends
+-- the next element of the schedule after the history; none where one stopped or the schedule ends
 abbrev pub next_of : Course → Option Step
 next_of t = if list_any (stops t.keep_going) t.handed then None else slice_get t.schedule (length t.handed)
 
--- new is old with the next step and this outcome behind its history
+-- new is old with the next step and this outcome after its history
 abbrev pub Hands : Course → Outcome → Course → Type 0
 Hands old outcome new = IfSome (next_of old) (λ step. new ≡ record old { handed = old.handed ++ record { step = step; outcome = outcome } ∷ [] })
 
--- the session's plan, schedule and way of going on are those of another
+-- the session's plan, its schedule, and whether its runs go on, are those of another
 pub record IsSameCourse (t other : Course) : Type 0 where
   pub plan : t.plan ≡ other.plan
   pub schedule : t.schedule ≡ other.schedule

@@ -1,4 +1,4 @@
--- Lists of steps, one behind the other: what the laws of a lister need.
+-- Lists of steps, one after the other: what the laws of a lister need.
 use Rattle.std.proofs.Common.{List, [], ◌∷◌, ◌++◌, sym, subst}
 use Rattle.std.specs.Prelude.{filter}
 use Rattle.std.proofs.lemmas.List.Elements.{filter-append}
@@ -6,7 +6,7 @@ use Rattle.hack_runs.specs.View.{PlanView}
 use Rattle.hack_session.specs.declared.step.Handed.{Handed}
 use Rattle.hack_session.specs.Lists.{ListsAll, Page, is_sent}
 
--- steps of a list behind others
+-- steps of a list after others
 pub listed_more : (whole : Type 0) (plan : PlanView) (steps more : List Handed) (a b c : Page) → ListsAll whole plan steps a b → ListsAll whole plan more b c → ListsAll whole plan (steps ++ more) a c
 listed_more whole plan [] more a b c p q = subst (λ (x : Page). ListsAll whole plan more x c) p q
 listed_more whole plan (h ∷ steps) more a b c p q = (p.0, p.1, listed_more whole plan steps more p.0 b c p.2 q)

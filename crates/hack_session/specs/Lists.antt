@@ -15,7 +15,7 @@ use Rattle.hack_session.specs.declared.lines.LineFault.{LineFault}
 use Rattle.hack_session.specs.declared.lines.LineFault.TheVariants.{Unwritten, Memory}
 use Rattle.hack_session.specs.Performs.{GrowsBy}
 
--- a command's line, as it stands in a list
+-- a command's line in a list
 abbrev pub line_of : List ℕ → Command → List ℕ
 line_of dir command = listed_of dir command ++ codes "\n"
 
@@ -73,13 +73,14 @@ abbrev pub Counts : {T E : Type 0} → ℕ → ℕ → Result T E → Type 0
 Counts before now (Ok done) = GrowsBy 0 before now
 Counts before now (Err fault) = GrowsBy 1 before now
 
--- only a line that can't be written counts as a failure, and not want of memory
+-- only a line that can't be written counts as a failure, and not that memory is refused
 abbrev pub CountsLines : {T : Type 0} → ℕ → ℕ → Result T LineFault → Type 0
 CountsLines before now (Ok done) = GrowsBy 0 before now
 CountsLines before now (Err Unwritten) = GrowsBy 1 before now
 CountsLines before now (Err Memory) = GrowsBy 0 before now
 
--- what a list's writer holds, where it tells that; how many lines it failed to write, and how many steps memory cut short
+-- what a list's writer holds, where that is known; how many lines it failed to write; and how many
+-- steps were cut short because memory was refused
 pub record Page : Type 0 where
   pub contents : Option (List ℕ)
   pub failed : ℕ
@@ -99,18 +100,19 @@ pub record Misses (whole : Type 0) (outcome : Outcome) (old new : Page) : Type 0
   pub left : whole → Keeps old.contents new.contents
   pub kept : new.refused ≡ old.refused
 
--- a step failed, since memory cut it short, which is counted, and nothing was written
+-- a step failed, since memory was refused, which is counted, and nothing was written
 pub record Refuses (outcome : Outcome) (old new : Page) : Type 0 where
   pub fails : outcome ≡ Failed
   pub counted : GrowsBy 1 old.refused new.refused
   pub kept : (new.contents ≡ old.contents) × (new.failed ≡ old.failed)
 
--- a step of the list: its lines were written, a write failed, or memory cut it short; one that is performed leaves the page
+-- a step of the list: its lines were written, a write failed, or memory was refused; a step that is
+-- performed leaves the page as it is
 abbrev pub Lists : Type 0 → Bool → PlanView → Handed → Page → Page → Type 0
 Lists whole true plan h old new = new ≡ old
 Lists whole false plan h old new = Writes (step_lines plan h.step) h.outcome old new ⊎ (Misses whole h.outcome old new ⊎ Refuses h.outcome old new)
 
--- steps of a list, one behind the other
+-- steps of a list, one after the other
 abbrev pub ListsAll : Type 0 → PlanView → List Handed → Page → Page → Type 0
 ListsAll whole plan [] old new = new ≡ old
 ListsAll whole plan (h ∷ steps) old new = (mid : Page) × Lists whole (is_sent h) plan h old mid × ListsAll whole plan steps mid new

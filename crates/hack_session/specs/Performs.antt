@@ -19,7 +19,7 @@ use Rattle.hack_session.specs.declared.step.Outcome.{Outcome}
 use Rattle.hack_session.specs.declared.step.Outcome.TheVariants.{Passed, Failed}
 use Rattle.hack_session.specs.declared.step.Handed.{Handed}
 
--- the one call is of this command, whose program has a name, and ended well
+-- the one call is of this command, whose program has a name, and ended with status 0
 pub record Succeeds (asked : Asked) (calls : List Call) : Type 0 where
   pub call : Call
   pub one : calls ≡ call ∷ []
@@ -27,7 +27,7 @@ pub record Succeeds (asked : Asked) (calls : List Call) : Type 0 where
   pub named : asked.program ≢ []
   pub ended : IsSuccess call.answer.end
 
--- the one call is of this command, whose program has a name, and didn't end well
+-- the one call is of this command, whose program has a name, and didn't end with status 0
 pub record Ends (asked : Asked) (calls : List Call) : Type 0 where
   pub call : Call
   pub one : calls ≡ call ∷ []
@@ -35,7 +35,7 @@ pub record Ends (asked : Asked) (calls : List Call) : Type 0 where
   pub named : asked.program ≢ []
   pub ended : ¬ IsSuccess call.answer.end
 
--- a command fails: it is called and doesn't end well, or its program has no name and nothing is called
+-- a command fails: it doesn't end with status 0, or its program has no name and nothing is called
 abbrev pub Fails : Asked → List Call → Type 0
 Fails asked calls = Ends asked calls ⊎ ((asked.program ≡ []) × (calls ≡ []))
 
@@ -101,7 +101,7 @@ trial_asked plan v = asked_of true (trial_of plan.call.rustup (toolchain_of v))
 abbrev pub addition_asked : PlanView → Version → Asked
 addition_asked plan v = asked_of false (addition_of plan.call.rustup (toolchain_of v) plan.call.targets)
 
--- a version's toolchain is made sure of, where the version has a number
+-- the calls that install a version's toolchain, where the version has a number, and their outcome
 abbrev pub InstallsAt : PlanView → Option Version → List Call → Outcome → Type 0
 InstallsAt plan None calls outcome = (calls ≡ []) × (outcome ≡ Passed)
 InstallsAt plan (Some v) calls outcome = Installs plan.call.targets (trial_asked plan v) (addition_asked plan v) calls outcome
@@ -116,7 +116,7 @@ abbrev pub lockfile_commands : PlanView → Option Version → List Asked
 lockfile_commands plan None = []
 lockfile_commands plan (Some v) = asked_of true (lockfile_command plan.call v) ∷ []
 
--- the calls are just those of the step, and it failed exactly where one of them failed so
+-- the calls are just those of the step, which ends with this outcome
 abbrev pub Exactly : PlanView → Step → List Call → Outcome → Type 0
 Exactly plan (Prepare (Toolchain v)) calls outcome = InstallsAt plan (number_at (slice_get plan.versions v)) calls outcome
 Exactly plan (Prepare (Lockfile v)) calls outcome = Follows (lockfile_commands plan (number_at (slice_get plan.versions v))) calls outcome
@@ -140,7 +140,7 @@ is_memory (NeverExecuted text) = false
 is_memory (NotText text) = false
 is_memory (ByFailure failure) = false
 
--- by what commands answer: they ended so, or memory was refused
+-- by what commands returned: they ended with an outcome, or memory was refused
 abbrev pub Comes : {T : Type 0} → (Outcome → Type 0) → Type 0 → Result T ProcessFault → Type 0
 Comes ended cut (Ok done) = ended Passed
 Comes ended cut (Err Memory) = cut
@@ -149,7 +149,7 @@ Comes ended cut (Err (NeverExecuted text)) = ended Failed
 Comes ended cut (Err (NotText text)) = ended Failed
 Comes ended cut (Err (ByFailure failure)) = ended Failed
 
--- new is old with such calls behind it
+-- new is old with such calls after it
 pub record Makes (P : List Call → Type 0) (old new : List Call) : Type 0 where
   pub made : List Call
   pub grown : new ≡ old ++ made
@@ -159,20 +159,22 @@ pub record Makes (P : List Call → Type 0) (old new : List Call) : Type 0 where
 abbrev pub GrowsBy : ℕ → ℕ → ℕ → Type 0
 GrowsBy k old new = old < 2 ^ 64 → new ≡ min (old + k) (2 ^ 64 - 1)
 
--- the calls of a step, and how many steps were cut short: none and the calls are just its own, or memory was refused in this one
+-- the calls of a step, and whether it was cut short: no, and they are just its own; or memory was
+-- refused in it, and it counts as one
 abbrev pub Performs : PlanView → Handed → List Call → ℕ → Type 0
 Performs plan h calls cut =
     (Exactly plan h.step calls h.outcome × (cut ≡ 0))
     ⊎ (IsCut plan h.step calls × (h.outcome ≡ Failed) × (cut ≡ 1))
 
--- the calls of steps, one behind the other, so many of which were cut short
+-- the calls of steps, one after the other, so many of which were cut short
 abbrev pub PerformsAll : PlanView → List Handed → List Call → ℕ → Type 0
 PerformsAll plan [] calls cut = (calls ≡ []) × (cut ≡ 0)
 PerformsAll plan (h ∷ steps) calls cut =
     (first rest : List Call) × (here : ℕ) × (later : ℕ) × (calls ≡ first ++ rest) × (cut ≡ here + later)
     × Performs plan h first here × PerformsAll plan steps rest later
 
--- new is old with the calls of the steps behind it, and the count of steps that memory cut short grew by those cut short
+-- new is old with the calls of the steps after it, and the count of steps that were cut short
+-- because memory was refused grew by those
 pub record HasPerformed (plan : PlanView) (steps : List Handed) (old new : List Call) (before now : ℕ) : Type 0 where
   pub made : List Call
   pub cut : ℕ
@@ -180,6 +182,6 @@ pub record HasPerformed (plan : PlanView) (steps : List Handed) (old new : List 
   pub counted : GrowsBy cut before now
   pub performed : PerformsAll plan steps made cut
 
--- a failure was told: an error line was printed, or a fault is kept for the last line
+-- a failure was reported: an error line was printed, or an error is kept for the last line
 abbrev pub HasTold : Term → Option ProcessFault → Type 0
 HasTold term fault = (term.error ≡ true) ⊎ IsSome fault

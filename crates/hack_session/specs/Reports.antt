@@ -23,7 +23,7 @@ pub record FailedRun : Type 0 where
   pub name : List ℕ
   pub text : List ℕ
 
--- a run at a place as it is told where it failed
+-- a run at a place as it is reported where it failed
 abbrev pub run_at : PlanView → Option Quad → Option FailedRun
 run_at plan None = None
 run_at plan (Some q) = Some (record { name = unwrap_or (name_in (package_at plan.packages q.package)) []; text = text_of true plan.call.dir (command_of_quad plan q) })
@@ -39,11 +39,11 @@ failed_run plan step Passed = None
 abbrev pub failure_of : PlanView → Handed → Option FailedRun
 failure_of plan h = failed_run plan h.step h.outcome
 
--- the failed runs of a session, in order, where runs go on behind them
+-- the failed runs of a session, in order, where runs go on after a failed one; else none
 abbrev pub failures_of : Course → List FailedRun
 failures_of t = if t.keep_going then filter_map (failure_of t.plan) t.handed else []
 
--- the failed runs of a package
+-- a failed run is one of this package
 abbrev pub is_of : List ℕ → FailedRun → Bool
 is_of name run = bytes_eq name run.name
 

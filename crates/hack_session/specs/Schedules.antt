@@ -16,7 +16,7 @@ abbrev pub IsChosen : Option Partition → ℕ → ℕ → Type 0
 IsChosen None total place = Unit {0}
 IsChosen (Some piece) total place = InPiece piece.kind piece.piece piece.count total place
 
--- a test that tells which places are in the chosen piece
+-- a test whether a place is in the chosen piece
 abbrev pub IsTestOf : Option Partition → ℕ → (ℕ → Bool) → Type 0
 IsTestOf piece total inside = (place : ℕ) → place < total → IsTrue (inside place) ↔ IsChosen piece total place
 

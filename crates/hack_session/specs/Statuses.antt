@@ -1,4 +1,4 @@
--- What is told while steps are performed.
+-- The lines that are printed while steps are performed.
 use Rattle.std.specs.Prelude.{ℕ, ◌+◌, Bool, true, false, List, [], ◌++◌, codes, length, Option, Some, None}
 use Rattle.std.specs.Fmt.{decimal}
 use Rattle.hack_process.specs.CommandTexts.{text_of}
@@ -6,11 +6,11 @@ use Rattle.hack_plan.specs.declared.places.Quad.{Quad}
 use Rattle.hack_runs.specs.View.{PlanView}
 use Rattle.hack_runs.specs.Commands.{command_of_quad, name_in, package_at}
 
--- a command that is run outside the plan's places
+-- the line on a command that is run outside the plan's places
 abbrev pub running_text : List ℕ → List ℕ
 running_text command = codes "running " ++ command
 
--- the package that a command is run on, where it is told
+-- the package that a command is run on, where it is shown
 abbrev pub on_text : Option (List ℕ) → List ℕ
 on_text None = []
 on_text (Some name) = codes " on " ++ name
@@ -20,7 +20,7 @@ abbrev pub status_text : List ℕ → List ℕ → Option (List ℕ) → ℕ →
 status_text verb command name number total =
     verb ++ (codes " " ++ (command ++ (on_text name ++ (codes " (" ++ (decimal number ++ (codes "/" ++ (decimal total ++ codes ")")))))))
 
--- the package's name is told, unless all is told at length
+-- the package's name is shown, unless commands are shown in full
 abbrev pub told_name : Bool → Option (List ℕ) → Option (List ℕ)
 told_name true name = None
 told_name false name = name

@@ -1,4 +1,4 @@
--- What the user is told of the small patterns that explain failed runs.
+-- The notices on the small patterns that explain failed runs.
 use Rattle.std.specs.Prelude.{ℕ, ◌-◌, ◌++◌, List, [], ◌∷◌, Bool, true, false, Option, Some, None, codes, length, map, nat_lt, take, slice_get, unwrap_or, if◌then◌else◌}
 use Rattle.std.specs.List.{join_by, list_any, slice_index_or}
 use Rattle.std.specs.Fmt.{decimal}
@@ -32,11 +32,11 @@ abbrev pub place_text : PlanView → Part → List ℕ
 place_text plan part =
     codes "in " ++ (unwrap_or (name_in (slice_get plan.packages part.package)) [] ++ (version_words part.version ++ target_words (slot_target plan.call part.version part.slot)))
 
--- what stands before the suspects
+-- the heading of the suspects
 abbrev pub heading_text : PlanView → Part → List ℕ
 heading_text plan part = place_text plan part ++ codes " the failed runs have one of these, and the passed runs have none:"
 
--- what is told where there are too many patterns to look at
+-- the line on a part with too many patterns to look at
 abbrev pub too_many_text : PlanView → Part → List ℕ
 too_many_text plan part = place_text plan part ++ codes " there are too many patterns to look for what the failed runs have in common"
 
@@ -61,7 +61,7 @@ more_text n = codes "    and " ++ (decimal n ++ codes " more")
 abbrev pub info : List ℕ → Note
 info text = record { kind = Info; text = text }
 
--- so many suspects are shown
+-- how many suspects are shown, at most
 abbrev pub most_lines : ℕ
 most_lines = 20
 
@@ -74,11 +74,12 @@ abbrev pub lines_of : List (List (List ℕ)) → List (List Setting) → List No
 lines_of candidates found =
     map (λ pattern. info (suspect_text candidates pattern)) (take most_lines found) ++ (if nat_lt most_lines (length found) then info (more_text (length found - most_lines)) ∷ [] else [])
 
--- what is told of a part's suspects: nothing where none has a setting, since then all of its runs failed, or none is there
+-- the notices on a part's suspects: none where no suspect has a setting, since then all of the
+-- part's runs failed or there is no suspect
 abbrev pub notes_of : PlanView → Part → Option (List (List Setting)) → List Note
 notes_of plan part None = info (too_many_text plan part) ∷ []
 notes_of plan part (Some found) = if list_any has_setting found then info (heading_text plan part) ∷ lines_of (candidates_in (slice_get plan.packages part.package)) found else []
 
--- what is told of a part that is explained
+-- the notices on a part that is explained
 abbrev pub notes_on : PlanView → ExplainedView → List Note
 notes_on plan e = notes_of plan e.part e.suspects

@@ -78,7 +78,7 @@ explained_view e = record { part = e.part; suspects = option_map (λ found. rows
 abbrev pub part_explained : ExplainedView → Part
 part_explained e = e.part
 
--- so many patterns are looked at
+-- how many patterns are looked at, at most: outcomes times choices of candidates
 abbrev pub most_patterns : ℕ
 most_patterns = 1000000000
 

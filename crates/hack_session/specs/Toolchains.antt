@@ -9,11 +9,11 @@ abbrev pub toolchain_name : List ℕ → List ℕ
 toolchain_name [] = []
 toolchain_name (b ∷ bs) = if b == 43 then bs else b ∷ bs
 
--- the command that fails where a toolchain isn't there
+-- the command that fails where a toolchain isn't installed
 abbrev pub trial_of : List ℕ → List ℕ → Command
 trial_of rustup toolchain = plain_command rustup [] (codes "run" ∷ toolchain ∷ codes "cargo" ∷ codes "--version" ∷ [])
 
--- targets in one word behind their option, where there are any
+-- targets in one argument after their option, where there are any
 abbrev pub target_words : List (List ℕ) → List (List ℕ)
 target_words [] = []
 target_words (target ∷ targets) = codes "--target" ∷ join_by (λ text. text) (codes ",") (target ∷ targets) ∷ []

@@ -1,4 +1,4 @@
-//! Commands that are called over a caller, with what it was asked.
+//! Commands that are run through a caller, and what the caller was asked.
 
 ghost use Rattle.std.specs.Prelude.{◌≡◌, ◌∷◌, [], true, false};
 ghost use Rattle.hack_process.specs.Commands.{asked_of, command_of};
@@ -9,7 +9,7 @@ use hack_process::process::{Caller, ProcessBuilder, ProcessFault};
 use std::alloc::Global;
 use std::io::Write;
 
-/// Runs a command over the streams of this process.
+/// Runs a command with the standard streams of this process.
 pub(crate) fn call<C: Caller>(
     alloc: Global,
     caller: &mut C,
@@ -42,7 +42,7 @@ pub(crate) fn call_quietly<C: Caller>(
     }
 }
 
-/// Runs a command within a group that begins with a text.
+/// Runs a command within a log group that begins with a text.
 pub(crate) fn call_in_group<C: Caller, O: Write, E: Write>(
     alloc: Global,
     caller: &mut C,
@@ -62,7 +62,7 @@ pub(crate) fn call_in_group<C: Caller, O: Write, E: Write>(
     came
 }
 
-/// Whether a command failed for want of memory.
+/// Returns whether a command failed because memory was refused.
 pub(crate) fn is_memory(fault: &ProcessFault) -> bool
     ensures { result ≡ is_want fault.now }
 {

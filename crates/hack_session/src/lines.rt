@@ -1,4 +1,4 @@
-//! What lines are written to, and why they aren't.
+//! Writers of lines, and why a line isn't written.
 
 ghost use Rattle.std.specs.Prelude.{ℕ, List, Option, IfSome, OnErr, OnOk};
 ghost use Rattle.std.specs.Fmt.{with_newline};
@@ -27,20 +27,20 @@ impl From<AllocError> for LineFault {
     }
 }
 
-/// What lines are written to. It counts those that it failed to write.
+/// A writer of lines. It counts those that it failed to write.
 pub trait Lines {
     ghost use Rattle.hack_session.specs.Lists.{Counts};
 
-    /// The bytes that were written, where the type tells them.
+    /// The bytes that were written, where they are known.
     ghost contents: { Self → Option (List ℕ) };
 
-    /// Whether a text that can't be written leaves nothing of it behind.
+    /// Whether a text that can't be written is left out whole.
     ghost whole: { Type 0 };
 
     /// How many lines could not be written. The count stays at its greatest value.
     ghost failed: { Self → ℕ };
 
-    /// What all writes keep, as where the type's references lead.
+    /// What each write keeps, for example which objects the type's references lead to.
     ghost stays: { Self → Self → Type 0 };
 
     /// Writes a text and a line feed.

@@ -27,7 +27,7 @@ pub struct Lister<'a, W: Lines, R: Runner> {
     pub alloc: Global,
     pub out: &'a mut W,
     pub runner: &'a mut R,
-    /// How many steps were cut short for want of memory.
+    /// How many steps were cut short because memory was refused.
     pub refused: u64,
 }
 
@@ -154,7 +154,8 @@ fn put<W: Lines>(out: &mut W, command: &ProcessBuilder<'_>, dir: &str) -> Result
     put_text(out, command.listed(dir))
 }
 
-/// Writes the lines of a cleaning and of the run behind it, in one text: both or none.
+/// Writes the lines of a cleaning and of the run after it as one text. Where `out` writes a text
+/// whole or not at all, both lines are written or neither.
 fn put_two<'a, W: Lines>(
     out: &mut W,
     cleaning: &'a ProcessBuilder<'a>,

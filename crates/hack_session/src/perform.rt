@@ -21,7 +21,7 @@ use hack_versions::version::Version;
 use std::alloc::{AllocError, Global};
 use std::io::Write;
 
-/// Performs a step. `ProcessFault::Memory` tells that it was cut short for want of memory.
+/// Performs a step. `ProcessFault::Memory` means that memory was refused, which cut the step short.
 pub(crate) fn perform<C: Caller, O: Write, E: Write>(
     alloc: Global,
     caller: &mut C,
@@ -50,7 +50,7 @@ pub(crate) fn perform<C: Caller, O: Write, E: Write>(
     }
 }
 
-/// Makes sure that a version's toolchain is there.
+/// Makes sure that a version's toolchain is installed.
 fn install<C: Caller, O: Write, E: Write>(
     alloc: Global,
     caller: &mut C,
@@ -147,7 +147,7 @@ fn clean<C: Caller, O: Write, E: Write>(
     call(alloc, caller, command, dir)
 }
 
-/// Tells that a place is skipped.
+/// Prints that a place is skipped.
 fn skip<O: Write, E: Write>(
     alloc: Global,
     screen: &mut Screen<'_, O, E>,
@@ -190,7 +190,7 @@ fn run<C: Caller, O: Write, E: Write>(
     }
 }
 
-/// Runs a place's own command behind its status.
+/// Prints a place's status, and runs its own command.
 fn run_own<C: Caller, O: Write, E: Write>(
     alloc: Global,
     caller: &mut C,
@@ -240,7 +240,7 @@ fn status(
     format!(in alloc; "{status}")
 }
 
-/// The package's name, unless all is told at length.
+/// Returns the package's name to show: none under `--verbose`, where commands are shown in full.
 fn told_name(verbose: bool, name: Option<&str>) -> Option<&str>
     ensures { option_map (λ name. name.now) result
         ≡ name_told verbose (option_map (λ name. name.now) name.entry) }

@@ -32,7 +32,7 @@ pub struct KeepGoing {
     pub commands: BTreeMap<String, Vec<String>>,
 }
 
-/// The run at a place, told as one that failed.
+/// Returns the run at a place as one that failed.
 fn failure_at(alloc: Global, plan: &Plan, place: usize) -> Result<Option<Failure>, AllocError>
     ensures { IfOk result (λ found. option_map failure_view found
         ≡ run_at plan.now (slice_get plan.now.quads place)) }
@@ -46,7 +46,7 @@ fn failure_at(alloc: Global, plan: &Plan, place: usize) -> Result<Option<Failure
     Ok(Some(Failure { name, text }))
 }
 
-/// The failed run of a step that was handed out, where it is one.
+/// Returns the failed run of a step that was handed out, if the step is one.
 fn failure_in(alloc: Global, plan: &Plan, handed: Handed) -> Result<Option<Failure>, AllocError>
     ensures { IfOk result (λ found. option_map failure_view found ≡ failure_of plan.now handed) }
 {
@@ -73,7 +73,7 @@ fn failures(alloc: Global, plan: &Plan, handed: &[Handed]) -> Result<Vec<Failure
     Ok(failures)
 }
 
-/// The commands of failed runs by the names of their packages.
+/// Groups the commands of failed runs by the names of their packages.
 fn group_by_package(
     alloc: Global,
     failures: &[Failure],
@@ -93,7 +93,7 @@ fn group_by_package(
 }
 
 impl Session {
-    /// The runs that failed, where runs go on behind them.
+    /// Returns the runs that failed, where runs go on after a failed one, and else none.
     pub fn report(&self, alloc: Global) -> Result<KeepGoing, AllocError>
         ensures { IfOk result (IsReport (failures_of self.now)) }
     {
@@ -105,7 +105,7 @@ impl Session {
         })
     }
 
-    /// The failed runs, where runs go on behind them.
+    /// Returns the failed runs, where runs go on after a failed one, and else none.
     fn failures(&self, alloc: Global) -> Result<Vec<Failure>, AllocError>
         ensures { IfOk result (λ failures. map failure_view failures.items
             ≡ failures_of self.now) }

@@ -16,24 +16,24 @@ use std::alloc::{AllocError, Global};
 
 /// Performs steps.
 pub trait Runner {
-    /// The steps of the plan, with their outcomes and in this order, took the first runner to the
-    /// second.
+    /// A relation of the runner before and after these steps of the plan, which ended with these
+    /// outcomes, in this order.
     ghost ran: { PlanView → List HandedStep → Self → Self → Type 0 };
 
-    /// Performs a step of the plan. One that is refused memory has failed.
+    /// Performs a step of the plan. A step for which memory is refused has failed.
     fn step(&mut self, plan: &Plan, step: Step) -> Outcome
         requires { IsStepOf plan.now step }
         ensures { ran plan.now (record { step = step; outcome = result } ∷ []) self.old self.new };
 
-    /// No step takes a runner nowhere.
+    /// Without a step the relation holds of each runner and itself.
     ghost ran_none: { (plan : PlanView) (a : Self) → ran plan [] a a };
 
-    /// Steps behind steps are steps.
+    /// The relations of some steps and of more steps after them give that of all.
     ghost ran_more: { (plan : PlanView) (steps more : List HandedStep) (a b c : Self)
         → ran plan steps a b → ran plan more b c → ran plan (steps ++ more) a c };
 }
 
-/// Hands out the steps of a session to its end, and tells it what came of each.
+/// Hands out the steps of a session to its end, and records what came of each.
 pub fn drive<R: Runner>(session: Session, runner: &mut R) -> Session
     ensures complete { next_of result ≡ None }
     ensures history { IsHistory result }

@@ -13,9 +13,9 @@ use hack_process::process::{Caller, ProcessBuilder, ProcessFault};
 use std::alloc::{AllocError, Global};
 use std::io::Write;
 
-/// Makes sure that rustup has a toolchain, for these targets: it is tried where there are none, and
-/// added where it isn't tried or that fails. One leading `+` of its name is dropped. Without
-/// `print_output` nothing is told, and what rustup writes is dropped.
+/// Makes sure that rustup has a toolchain with these targets. Where there are none, it is tried,
+/// and added if that fails; where there are some, it is added at once. One leading `+` of its name
+/// is dropped. Without `print_output` nothing is printed, and what rustup writes is dropped.
 pub fn install_toolchain<C: Caller, O: Write, E: Write>(
     alloc: Global,
     caller: &mut C,
@@ -47,7 +47,7 @@ pub fn install_toolchain<C: Caller, O: Write, E: Write>(
     try_toolchain(alloc, caller, screen, &trial, &add, print_output, dir)
 }
 
-/// Tries a toolchain by one command, and adds it by another where that fails.
+/// Tries a toolchain with one command, and adds it with another if that fails.
 pub(crate) fn try_toolchain<C: Caller, O: Write, E: Write>(
     alloc: Global,
     caller: &mut C,
@@ -108,7 +108,7 @@ fn without_plus(toolchain: &str) -> &str
     }
 }
 
-/// What stands behind a leading `+`.
+/// Returns what follows a leading `+`; none where there isn't one.
 fn behind_plus(toolchain: &str) -> Option<&str>
     ensures { MatchOption result ((rest : List ℕ) → toolchain.now ≢ 43 ∷ rest)
         (λ name. toolchain.now ≡ 43 ∷ name.now) }
@@ -116,7 +116,7 @@ fn behind_plus(toolchain: &str) -> Option<&str>
     toolchain.strip_prefix('+')
 }
 
-/// The command that fails where a toolchain isn't there.
+/// Makes the command that fails where a toolchain isn't installed.
 fn trial(
     alloc: Global,
     rustup: &str,
@@ -130,7 +130,7 @@ fn trial(
     Ok(command)
 }
 
-/// The command that adds a toolchain.
+/// Makes the command that adds a toolchain.
 fn addition(
     alloc: Global,
     rustup: &str,

@@ -13,8 +13,8 @@ use hack_runs::plan::Plan;
 use hack_term::partition::Partition;
 use std::alloc::{AllocError, Global};
 
-/// The steps of a plan: for each version its preparations and then its places. Those outside the
-/// piece are skipped.
+/// Makes the steps of a plan: for each version its preparations and then its places. Those outside
+/// the piece are skipped.
 pub(crate) fn schedule(
     alloc: Global,
     plan: &Plan,
@@ -36,7 +36,7 @@ pub(crate) fn schedule(
     Ok(steps)
 }
 
-/// Puts preparations behind the steps so far.
+/// Appends preparations to the steps so far.
 fn push_preparations(steps: &mut Vec<Step>, preparations: &[Preparation]) -> Result<(), AllocError>
     ensures { OnOk result (steps.new.items ≡ steps.old.items ++ map Prepared preparations.now) }
 {
@@ -46,7 +46,7 @@ fn push_preparations(steps: &mut Vec<Step>, preparations: &[Preparation]) -> Res
     Ok(())
 }
 
-/// Puts the places from the first to the end behind the steps so far.
+/// Appends the places from `first` up to `end`, without `end`, to the steps so far.
 fn push_places(
     steps: &mut Vec<Step>,
     piece: Option<Partition>,

@@ -1,5 +1,4 @@
-//! The lines of steps: what is told while they are performed. A line that can't be written is left
-//! out.
+//! The lines that are printed while steps are performed. An error of writing them is ignored.
 
 ghost use Rattle.std.specs.Prelude.{◌≡◌, IfOk, Some, option_map, string_bytes};
 ghost use Rattle.hack_process.specs.CommandTexts.{text_of};
@@ -24,7 +23,7 @@ pub struct Screen<'a, O: Write, E: Write> {
 }
 
 impl<O: Write, E: Write> Screen<'_, O, E> {
-    /// Writes the empty line in front of each place but the first, where lines aren't grouped.
+    /// Writes the empty line before each place but the first, where lines aren't grouped.
     pub(crate) fn space(&mut self, place: usize) {
         if place > 0 && self.log_group == LogGroup::None {
             let _ = self.err.write_all(b"\n");
@@ -44,7 +43,7 @@ impl<O: Write, E: Write> Screen<'_, O, E> {
         }
     }
 
-    /// Under verbose, tells the cleaning that is to be run.
+    /// Prints the cleaning that is to be run, if `--verbose` is given.
     pub(crate) fn tell_cleaning(
         &mut self,
         alloc: Global,
@@ -59,7 +58,7 @@ impl<O: Write, E: Write> Screen<'_, O, E> {
     }
 }
 
-/// What is told of a command that is run outside the plan's places.
+/// Returns the line on a command that is run outside the plan's places.
 pub(crate) fn running(
     alloc: Global,
     command: &ProcessBuilder<'_>,
@@ -80,7 +79,7 @@ pub struct Status<'a> {
     pub verb: &'a str,
     /// The command as it is shown.
     pub command: &'a str,
-    /// The package's name, unless it isn't told.
+    /// The package's name, where it is shown.
     pub name: Option<&'a str>,
     /// The place, from 1.
     pub number: usize,
@@ -102,7 +101,7 @@ impl fmt::Display for Status<'_> {
     }
 }
 
-/// The package that a command is run on, where it is told.
+/// The package that a command is run on, where it is shown.
 #[derive(Drop)]
 struct OnName<'a>(Option<&'a str>);
 

@@ -18,8 +18,8 @@ use hack_term::partition::Partition;
 use std::alloc::{AllocError, Global};
 use std::marker::Model;
 
-/// A plan on its way: its steps in order, and what came of those that were handed out. Once it is
-/// made it takes no more memory.
+/// A plan that is under way: its steps in order, and what came of those that were handed out. Once
+/// a session is made, handing out its steps takes no more memory.
 #[derive(Drop)]
 pub struct Session {
     plan: Plan,
@@ -55,7 +55,7 @@ impl Model for Session {
 }
 
 impl Session {
-    /// The session of a plan, of which only the runs in a piece are run, where one is chosen.
+    /// Makes the session of a plan. Where a piece is chosen, only the runs in it are run.
     pub fn new(
         alloc: Global,
         plan: Plan,
@@ -78,7 +78,7 @@ impl Session {
         })
     }
 
-    /// The next step; none where one stopped, or all were handed out.
+    /// Returns the next step; none where one stopped the session, or all were handed out.
     pub fn next(&self) -> Option<Step>
         ensures next { result ≡ next_of self.now }
         ensures of { IfSome result (IsStepOf self.now.plan) }
@@ -89,7 +89,7 @@ impl Session {
         self.schedule.get(self.history.len()).copied()
     }
 
-    /// Tells how the next step ended.
+    /// Records how the next step ended.
     pub fn done(&mut self, outcome: Outcome)
         requires { IsSome (next_of self.old) }
         ensures { Hands self.old outcome self.new }
@@ -100,7 +100,7 @@ impl Session {
         self.history.push(handed).unwrap();
     }
 
-    /// The steps that were handed out, with the outcomes that were told.
+    /// Returns the steps that were handed out, with the outcomes that were recorded.
     pub fn handed(&self) -> &[Handed]
         ensures value { result.now ≡ self.now.handed }
         ensures history { IsHistory self.now }
@@ -108,7 +108,7 @@ impl Session {
         self.history.as_slice()
     }
 
-    /// Whether runs go on behind a failed one.
+    /// Returns whether runs go on after a failed one.
     pub fn keep_going(&self) -> bool
         ensures { result ≡ self.now.keep_going }
     {

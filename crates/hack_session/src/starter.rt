@@ -17,7 +17,7 @@ use hack_term::term::{LogGroup, Term};
 use std::alloc::Global;
 use std::io::Write;
 
-/// Performs steps by commands over a caller, and tells them on writers.
+/// Performs steps by commands through a caller, and prints their lines on writers.
 #[derive(Drop)]
 pub struct Starter<'a, C: Caller, O: Write, E: Write> {
     pub alloc: Global,
@@ -28,11 +28,12 @@ pub struct Starter<'a, C: Caller, O: Write, E: Write> {
     /// Where all other lines go.
     pub err: &'a mut E,
     pub log_group: LogGroup,
-    /// Whether runs go on behind a failed one.
+    /// Whether runs go on after a failed one.
     pub keep_going: bool,
-    /// Why the step failed that stopped the session. It isn't told yet, since its line comes last.
+    /// Why the step failed that stopped the session. It isn't reported yet, since its line comes
+    /// last. Out of memory isn't kept here.
     pub fault: &'a mut Option<ProcessFault>,
-    /// How many steps were cut short for want of memory, which is told at once.
+    /// How many steps were cut short because memory was refused, which is reported at once.
     pub refused: u64,
 }
 
@@ -101,7 +102,7 @@ fn is_run(step: Step) -> bool {
     }
 }
 
-/// Tells a fault at once.
+/// Reports an error at once.
 fn tell_fault<E: Write>(alloc: Global, term: &mut Term, err: &mut E, fault: &ProcessFault)
     ensures { term.new ≡ record term.old { error = true } }
 {

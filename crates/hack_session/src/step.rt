@@ -31,7 +31,7 @@ pub struct Handed {
 }
 
 impl Handed {
-    /// Whether nothing more is handed out behind this. A skipped place passes whatever was told.
+    /// Returns whether no more steps are handed out after this one. A skipped place never stops.
     pub fn stops(&self, keep_going: bool) -> bool
         ensures { result ≡ stops keep_going self.now }
     {

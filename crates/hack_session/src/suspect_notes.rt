@@ -1,4 +1,4 @@
-//! What the user is told of the small patterns that explain failed runs.
+//! The notices on the small patterns that explain failed runs.
 
 ghost use Rattle.std.specs.Prelude.{◌≡◌, ◌++◌, ◌∷◌, ◌-◌, [], IfOk, OnOk, length, map, nat_lt};
 ghost use Rattle.std.specs.Prelude.{codes, option_map, slice_get, string_bytes, take, unwrap_or};
@@ -24,11 +24,12 @@ use hack_samples::Setting;
 use hack_versions::version::Version;
 use std::alloc::{AllocError, Global};
 
-/// How many suspects are shown.
+/// How many suspects are shown at most.
 const MOST_LINES: usize = 20;
 
-/// The notices on the patterns that explain failed runs: for each part with such patterns a
-/// heading, and a line for each of the first twenty.
+/// Returns the notices on the patterns that explain failed runs: for each part with such patterns a
+/// heading, a line for each of the first twenty, and one that counts the others. A part with too
+/// many patterns to look at has a line that says so.
 pub fn suspect_notes(
     alloc: Global,
     plan: &Plan,
@@ -159,7 +160,7 @@ fn add_info(notices: &mut Vec<Notice>, text: String) -> Result<(), AllocError>
     Ok(())
 }
 
-/// What stands before the suspects.
+/// Returns the heading of a part's suspects.
 fn heading_text(alloc: Global, plan: &Plan, part: Part) -> Result<String, AllocError>
     ensures { IfOk result (λ text. string_bytes text ≡ heading_text plan.now part) }
 {
@@ -167,7 +168,7 @@ fn heading_text(alloc: Global, plan: &Plan, part: Part) -> Result<String, AllocE
     format!(in alloc; "{place} the failed runs have one of these, and the passed runs have none:")
 }
 
-/// What is told where there are too many patterns to look at.
+/// Returns the line on a part with too many patterns to look at.
 fn too_many_text(alloc: Global, plan: &Plan, part: Part) -> Result<String, AllocError>
     ensures { IfOk result (λ text. string_bytes text ≡ too_many_text plan.now part) }
 {
@@ -175,7 +176,7 @@ fn too_many_text(alloc: Global, plan: &Plan, part: Part) -> Result<String, Alloc
     too_many_words(alloc, place.as_str())
 }
 
-/// There are too many patterns to look at.
+/// Returns that line, given the text of where the runs were.
 fn too_many_words(alloc: Global, place: &str) -> Result<String, AllocError>
     ensures { IfOk result (λ text. string_bytes text ≡ place.now
         ++ codes " there are too many patterns to look for what the failed runs have in common") }

@@ -20,7 +20,8 @@ use hack_suspects::{Outcome as RunOutcome, SuspectFault};
 use hack_versions::version::Version;
 use std::alloc::{AllocError, Global};
 
-/// How many patterns are looked at for the runs of a part.
+/// For the runs of a part, at most this many patterns are looked at: outcomes times choices of
+/// candidates.
 const MOST_PATTERNS: u64 = 1_000_000_000;
 
 /// The runs of one version, one slot and one package.
@@ -42,8 +43,8 @@ pub struct Explained {
 }
 
 impl Session {
-    /// For each version, slot and package with a failed run the patterns of at most `strength`
-    /// candidates that explain which runs failed, in the order of the first failures.
+    /// Returns for each version, slot and package with a failed run the patterns of at most
+    /// `strength` candidates that explain which runs failed, in the order of the first failures.
     pub fn suspects(&self, alloc: Global, strength: usize) -> Result<Vec<Explained>, AllocError>
         ensures { IfOk result (λ all. AreExplained self.now strength
             (map explained_view all.items)) }
@@ -68,7 +69,7 @@ fn failed_parts(alloc: Global, plan: &Plan, handed: &[Handed]) -> Result<Vec<Par
     Ok(parts)
 }
 
-/// Adds the part of a failed run, unless it is there.
+/// Adds the part of a failed run, unless it was added already.
 fn add_failed(plan: &Plan, handed: Handed, parts: &mut Vec<Part>) -> Result<(), AllocError>
     ensures once { OnOk result (AreDistinct parts.old.items → AreDistinct parts.new.items) }
     ensures exactly { OnOk result ((part : Part) → Contains parts.new.items part
@@ -83,7 +84,7 @@ fn add_failed(plan: &Plan, handed: Handed, parts: &mut Vec<Part>) -> Result<(), 
     }
 }
 
-/// Adds a part, unless it is there.
+/// Adds a part, unless it was added already.
 fn add_once(parts: &mut Vec<Part>, part: Part) -> Result<(), AllocError>
     ensures once { OnOk result (AreDistinct parts.old.items → AreDistinct parts.new.items) }
     ensures exactly { OnOk result ((other : Part) → Contains parts.new.items other

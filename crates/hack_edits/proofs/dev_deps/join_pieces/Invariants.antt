@@ -5,7 +5,7 @@ use Rattle.hack_edits.specs.Recut.{AreRecut}
 use Rattle.hack_manifest.specs.View.{piece_view}
 use Rattle.hack_edits.proofs.dev_deps.join_pieces.Given as goal
 
--- what is left of the rest stands behind what was joined
+-- what is left of the rest comes after what was joined
 abbrev pub invariant-loop-piece : goal.invariant-loop-piece
 invariant-loop-piece l = record {
   left : (more : List ℕ) → AreLeft (table_view l.old) (map piece_view (drop l.piece-index l.pieces)) l.tail more
