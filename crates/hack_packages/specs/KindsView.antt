@@ -1,4 +1,4 @@
--- Kinds of the code, as definitions see them.
+-- What `Kind` shows as plain data.
 use Rattle.std.specs.Prelude.{◌≡◌, List, [], ◌∷◌, true, false}
 use Rattle.hack_features.specs.Feature.{groups_of}
 use Rattle.hack_plan.specs.Runs.{PackageRun, Plain}
