@@ -255,7 +255,7 @@ first_member : (s : List ℕ) → s ≢ [] → (p : ℕ) × Contains s p
 first_member [] n = absurd (n refl)
 first_member (x ∷ s) n = (x, Contains-head x s)
 
--- one turn at the place k: the set without that place, where it is not empty and enables the names there, else as it is
+-- one turn at the place k: the set without it, if that is not empty and enables the names there
 module _ (c : Choice) (s : List ℕ) (hs : IsSelection (length c.candidates) s) (k : ℕ) (kl : k < length s) (kept : List ℕ) (h : Greedy c s (k + 1) kept) where
   at : k < length kept
   at = let r = h.room in omega arith

@@ -1,4 +1,4 @@
--- Sets of names, one name more.
+-- Sets of names, after one more name.
 use Rattle.std.proofs.Common.{◌≡◌, [], List, ◌∷◌, ◌++◌, refl, sym, ◌∙◌, ap, subst, arith, Bool, true, false, cond, IsTrue, ◌⊎◌, inl, inr, ◌↔◌, Contains}
 use Rattle.std.specs.List.{list_any}
 use Rattle.std.specs.Cmp.Lexicographic.{slice_cmp}

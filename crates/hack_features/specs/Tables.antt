@@ -19,7 +19,7 @@ count_at row p = slice_index_or row p 0
 abbrev pub cell : List (List Bool) → ℕ → ℕ → Bool
 cell rows p q = bit (slice_index_or rows p []) q
 
--- the set has at most as many members as the depth, where there is one
+-- the set has at most as many members as the depth, if there is one
 abbrev pub keeps_depth : Option ℕ → List ℕ → Bool
 keeps_depth None s = true
 keeps_depth (Some most) s = nat_le (length s) most

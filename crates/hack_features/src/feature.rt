@@ -1,4 +1,4 @@
-//! A feature of a package: one name, several that go together, or one of a dependency.
+//! A feature of a package: one name, a group of several names, or a feature of a dependency.
 
 ghost use Rattle.std.specs.Prelude.{◌≡◌, ◌↔◌, ◌∷◌, [], ◌++◌, length, Some, IsTrue, IfOk, Any};
 ghost use Rattle.std.specs.Prelude.{Contains, string_bytes};

@@ -109,7 +109,7 @@ impl<'a> Rules<'a> {
         self.given.features.len()
     }
 
-    /// How many positions a permitted set has at most, where a depth is given.
+    /// How many positions a permitted set has at most, if a depth is given.
     pub fn most(&self) -> Option<usize>
         ensures { (s : List ℕ) → IsTrue (may_of self.now s) → IsWithin result s }
     {

@@ -44,8 +44,8 @@ pub(crate) struct Tables {
     /// How many names of the entry's candidate reach the row's exclusion group. Lifted groups have
     /// no row.
     pub hits: Vec<Vec<usize>>,
-    /// Whether the entry's candidate serves the row's at-least-one group. Dropped groups have no
-    /// row.
+    /// Whether the entry's candidate serves the row's at-least-one group. Groups that no key serves
+    /// have no row.
     pub serves: Vec<Vec<bool>>,
 }
 

@@ -98,7 +98,7 @@ IsAbout false c members asked = asked ≡ members_without_names c.everyone c.cur
 abbrev pub is_skipped : Choosing → Member → Bool
 is_skipped c m = c.ignore_private && m.is_private
 
--- a warning, and an information
+-- notices: a warning, and an information
 abbrev pub warning_note : List ℕ → Note
 warning_note text = record { kind = Warn; text = text }
 

@@ -1,4 +1,4 @@
-//! Which packages a loaded call runs on, and which runs each of them has.
+//! Which packages a call runs on, after its context was loaded, and which runs each of them has.
 
 ghost use Rattle.std.specs.Prelude.{◌≡◌, ◌<◌, ◌⊎◌, Contains, IfOk, IfErr, None, Some, length, map, true};
 ghost use Rattle.std.specs.Prelude.{option_copied};
