@@ -255,7 +255,7 @@ first_member : (s : List ℕ) → s ≢ [] → (p : ℕ) × Contains s p
 first_member [] n = absurd (n refl)
 first_member (x ∷ s) n = (x, Contains-head x s)
 
--- one turn at the place k: the set without it, if that is not empty and enables the names there
+-- one turn at the place k: kept without it, if that isn't empty and enables its names, else kept
 module _ (c : Choice) (s : List ℕ) (hs : IsSelection (length c.candidates) s) (k : ℕ) (kl : k < length s) (kept : List ℕ) (h : Greedy c s (k + 1) kept) where
   at : k < length kept
   at = let r = h.room in omega arith
