@@ -24,7 +24,7 @@ use Rattle.hack_features.specs.Sets.{IsSelection, IsBefore}
 use Rattle.hack_features.specs.Rules.{Choice, names_at, IsEnabledBy, EnableTheSame, IsRedundant, Serves, IsRequired, IsWanted, IsFirstCover}
 use Rattle.hack_features.specs.Cover.{set_enables_test, covers_test}
 
--- membership of a number can be told
+-- a number is a member of a list, or it isn't
 
 member_by : (p : ℕ) (x : ℕ) (s : List ℕ) → (x ≡ p) ⊎ (x ≢ p) → Contains s p ⊎ (¬ Contains s p) → Contains (x ∷ s) p ⊎ (¬ Contains (x ∷ s) p)
 member_by p x s (inl e) rest = inl (subst (λ y. Contains (x ∷ s) y) e (Contains-head x s))
@@ -57,7 +57,7 @@ before_trans s t u a b =
       ]
     ]
 
--- one set before, the same as, or behind another
+-- one set is before another, the same, or after it
 abbrev pub Ordered : List ℕ → List ℕ → Type 0
 Ordered s t = IsBefore s t ⊎ ((s ≡ t) ⊎ IsBefore t s)
 
@@ -102,7 +102,7 @@ ordered_within (suc fuel) n s t le hs ht = ordered_cases n s t hs ht (last_of s)
 pub ordered : (n : ℕ) (s t : List ℕ) → IsSelection n s → IsSelection n t → Ordered s t
 ordered n s t hs ht = ordered_within (length s) n s t (omega arith) hs ht
 
--- what marks tell of enabling
+-- what marks say of enabling
 module _ (c : Choice) (names : List Name) (keys : List Bool) (marks : List (List Bool)) (all each : List (List ℕ)) (h : ArePlaced Enabling c.map c.candidates c.at_least_one_of names keys marks all each) where
   pub set_enables_iff : (s : List ℕ) → All (λ p. p < length c.candidates) s → (y : ℕ) → y < length names → (set_enables_test marks all s y ≡ true) ↔ IsEnabledBy c s (name_at names y)
   set_enables_iff s low y ly =
@@ -165,7 +165,7 @@ module _ (n : ℕ) (s : List ℕ) (h : IsSelection n s) where
   pub rises : (i j : ℕ) → i < j → j < length s → get_or s i 0 < get_or s j 0
   rises i j lt in' = h.increasing i j 0 lt in'
 
-  -- a greater element stands at a later place
+  -- a greater element is at a later place
   pub later : (k j : ℕ) → k < length s → j < length s → get_or s k 0 < get_or s j 0 → k < j
   later k j kl jl lt = elim (cases_order k j) [
     | inl e ↦ absurd (let same : get_or s k 0 ≡ get_or s j 0 = ap (λ i. get_or s i 0) e in omega arith)
@@ -196,7 +196,7 @@ bytes_tell-by : (x y : Name) (b : Bool) → bytes_eq x y ≡ b → (x ≡ y) ⊎
 bytes_tell-by x y true e = inl ((bytes_eq-Decides x y).0 e)
 bytes_tell-by x y false e = inr (λ s. let t : bytes_eq x y ≡ true = (bytes_eq-Decides x y).1 s in let z : true ≡ false = sym t ∙ e in cc)
 
--- whether two names are the same can be told
+-- two names are the same, or they aren't
 bytes_tell : (x y : Name) → (x ≡ y) ⊎ (x ≢ y)
 bytes_tell x y = bytes_tell-by x y (bytes_eq x y) refl
 
@@ -231,7 +231,7 @@ pub record IsRival (c : Choice) (s u : List ℕ) : Type 0 where
   pub inside : All (Contains s) u
   pub same : EnableTheSame c s u
 
--- kept is s, less those members from the place k on that the others cover
+-- kept is s without those members from the place k on whose names the others enable
 pub record Greedy (c : Choice) (s : List ℕ) (k : ℕ) (kept : List ℕ) : Type 0 where
   pub selection : IsSelection (length c.candidates) kept
   pub wanted : IsWanted c kept
@@ -255,7 +255,7 @@ first_member : (s : List ℕ) → s ≢ [] → (p : ℕ) × Contains s p
 first_member [] n = absurd (n refl)
 first_member (x ∷ s) n = (x, Contains-head x s)
 
--- one turn at the place k: the set without that place, where it is not empty and enables the names there, else as it is
+-- one turn at the place k: kept without it, if that isn't empty and enables its names, else kept
 module _ (c : Choice) (s : List ℕ) (hs : IsSelection (length c.candidates) s) (k : ℕ) (kl : k < length s) (kept : List ℕ) (h : Greedy c s (k + 1) kept) where
   at : k < length kept
   at = let r = h.room in omega arith
@@ -266,7 +266,7 @@ module _ (c : Choice) (s : List ℕ) (hs : IsSelection (length c.candidates) s) 
   is : get_or s k 0 ≡ get_or kept k (get_or s k 0)
   is = sym (at_default kept k (get_or s k 0) at ∙ same_place)
 
-  -- a member of s that is greater stands at a later place
+  -- each member of s has a place in it
   place_of : (q : ℕ) → Contains s q → (j : ℕ) × (j < length s) × (get_or s j 0 ≡ q)
   place_of q w = (w.0, w.1, sym (at_default s w.0 q w.1) ∙ w.2)
 
@@ -287,7 +287,7 @@ module _ (c : Choice) (s : List ℕ) (hs : IsSelection (length c.candidates) s) 
   other : (q : ℕ) → Contains kept q → q ≢ get_or s k 0 → Contains (remove kept k) q
   other q w ne = removed_other kept k q at w (λ e. ne (e ∙ same_place))
 
-  -- where the others cover what stands at the place
+  -- the case that the others enable the names at the place
   module _ (covered : EnablesAll c (remove kept k) (names_at c (get_or s k 0))) where
     same_without : EnableTheSame c kept (remove kept k)
     same_without y = (
@@ -351,7 +351,7 @@ module _ (c : Choice) (s : List ℕ) (hs : IsSelection (length c.candidates) s) 
       least = λ u r. least_without u r (h.least u r) (member u (get_or s k 0));
     }
 
-  -- where they don't
+  -- the case that they don't
   module _ (uncovered : ¬ EnablesAll c (remove kept k) (names_at c (get_or s k 0))) where
     -- a rival without the place, that agrees above it, lies in what is left
     inside_rest : (u : List ℕ) → IsRival c s u → AgreeFrom (k + 1) s kept u → ¬ Contains u (get_or s k 0) → (q : ℕ) → Contains u q → Contains (remove kept k) q
@@ -400,7 +400,7 @@ module _ (c : Choice) (s : List ℕ) (hs : IsSelection (length c.candidates) s) 
 -- after the last turn
 
 module _ (c : Choice) (s : List ℕ) (hs : IsSelection (length c.candidates) s) (kept : List ℕ) (h : Greedy c s 0 kept) where
-  -- any rival is the same, or behind
+  -- any rival is the same, or comes after
   first : (u : List ℕ) → IsSelection (length c.candidates) u → IsRival c s u → IsBefore kept u ⊎ (kept ≡ u)
   first u hu r =
       elim (h.least u r) [

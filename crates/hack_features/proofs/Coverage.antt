@@ -14,7 +14,7 @@ pub Chain-append : {edge : Name → Name → Type 0} {x y z : Name} → Chain ed
 Chain-append here d = d
 Chain-append (step e c) d = step e (Chain-append c d)
 
--- a list about one of its places
+-- a list is what is before one of its places, the element there, and what is after it
 around : {X : Type 0} (s : List X) (i : ℕ) (p : X) → i < length s → p ≡ get_or s i p → s ≡ take i s ++ (p ∷ drop (suc i) s)
 around [] i p h e = absurd (omega arith)
 around (x ∷ s) zero p h e = ap (λ y. y ∷ s) (sym e)
@@ -70,7 +70,7 @@ module _ (c : Choice) (s : List ℕ) (i p : ℕ) (at : i < length s) (is : p ≡
         | inr w ↦ Contains-append_right before (names_at c p ++ behind) x (Contains-append_right (names_at c p) behind x w)
       ])
 
-  -- a name of the set is one of the smaller set or of the one that went
+  -- a name of the set is one of the smaller set or of the member that was taken out
   pub name_left : (x : Name) → Contains (names_in c s) x → Contains (names_at c p) x ⊎ Contains (names_in c (remove s i)) x
   name_left x h =
       elim (Contains-append_cases before (names_at c p ++ behind) x (subst (λ l. Contains l x) names-all h)) [
@@ -112,7 +112,7 @@ module _ (c : Choice) (s : List ℕ) (i p : ℕ) (at : i < length s) (is : p ≡
     below = λ k d lt. All-contains (λ p. p < n) s _ h.below (member_kept _ (Contains-get_or (remove s i) k d lt));
   }
 
-  -- where the one that went is enabled by another name of the set, the others do as well
+  -- the case that another name of the set enables all names of the member that was taken out
   module _ (by : Name) (named : Contains (names_in c s) by) (key : IsKey c.map by) (enabled : All (λ y. (y ≢ by) × Enables c.map by y) (names_at c p)) where
     by_left : Contains (names_in c (remove s i)) by
     by_left = elim (name_left by named) [ inl w ↦ absurd ((All-contains (λ y. (y ≢ by) × Enables c.map by y) (names_at c p) by enabled w).0 refl) | inr w ↦ w ]
@@ -149,7 +149,7 @@ no_items : (s : List ℕ) → length s ≤ 0 → s ≡ []
 no_items [] h = refl
 no_items (x ∷ s) h = absurd (omega arith)
 
--- each wanted set is covered, where redundancy can be told
+-- each wanted set is covered, if each set is redundant or isn't
 module _ (c : Choice) (tell : (s : List ℕ) → IsSelection (length c.candidates) s → IsRedundant c s ⊎ (¬ IsRedundant c s)) where
   covered_by : (fuel : ℕ) (s : List ℕ) → length s ≤ suc fuel → IsSelection (length c.candidates) s → IsWanted c s → ((t : List ℕ) → length t ≤ fuel → IsSelection (length c.candidates) t → IsWanted c t → (u : List ℕ) × Covers c t u) → IsRedundant c s ⊎ (¬ IsRedundant c s) → (t : List ℕ) × Covers c s t
   covered_by fuel s le sel h again (inr lean) = (

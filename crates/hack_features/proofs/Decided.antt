@@ -1,4 +1,4 @@
--- What a feature map says can be told, so what is only known to be so can be had.
+-- What a feature map says is decidable, so a proof of what is only known to hold can be found.
 use Rattle.std.proofs.Common.{◌≡◌, ◌≢◌, ℕ, zero, suc, ◌+◌, ◌<◌, ◌≤◌, List, [], ◌∷◌, ◌++◌, length, get_or, refl, sym, ◌∙◌, subst, arith, Option, Some, None, is_some, Bool, true, false, IsTrue, ◌⊎◌, inl, inr, All, Contains, append_assoc, append-nil, map}
 use Rattle.std.specs.List.{list_any}
 use Rattle.std.specs.Map.{lookup}
@@ -22,7 +22,7 @@ use Rattle.hack_features.specs.Tables.{AreTables, is_exclusive, is_required, cel
 use Rattle.hack_features.specs.declared.reach.Edges.{Edges}
 use Rattle.hack_features.specs.declared.reach.Edges.TheVariants.{Enabling}
 
--- it is so, or it isn't
+-- P holds, or it doesn't
 abbrev pub Told : Type 0 → Type 0
 Told P = P ⊎ (¬ P)
 
@@ -132,7 +132,7 @@ enables_told m x y = chain_told Enabling m x y
 pub key_told : (m : FeatureMap) (x : Name) → Told (IsKey m x)
 key_told m x = bool_told (is_some (lookup (bytes_eq x) m))
 
--- ---- who spares whom, and who serves a group
+-- ---- which candidate spares which, and which names serve a group
 
 spares_told : (m : FeatureMap) (names others : List Name) → Told (SparesNames m names others)
 spares_told m names others =
@@ -157,7 +157,7 @@ serves_told c group s =
       | inr n ↦ inr (λ v. n (v.name, v.named, v.enables))
     ]
 
--- ---- what is only known to be so
+-- ---- what is only known to hold
 
 never : IsProp ⊥
 never a b = absurd a

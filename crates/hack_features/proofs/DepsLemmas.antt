@@ -51,7 +51,7 @@ unserved-more group n x s h ne apart = λ w. elim (Contains-push_cases group n w
   | inr e ↦ elim w.has [ inl y ↦ ne (e ∙ y) | inr y ↦ apart (subst (λ k. IsTrue (has_name s k)) (sym e) y) ]
 ]
 
--- the keys so far, once these entries are left
+-- the keys found so far, when these entries are left
 pub record Serving (group : List Name) (deps : BTreeMap (Bor Name) NameSet) (keys : NameSet) (left : List (Bor Name × NameSet)) : Type 0 where
   pub there : All (λ e. get_at deps e.0.now ≡ Some e.1) left
   pub sound : (x : Name) → IsTrue (has_name keys x) → (s : NameSet) × (get_at deps x ≡ Some s) × IsServedBy group x s

@@ -1,4 +1,4 @@
--- A position stands in front of a set or behind it: what is asked of the set is the same.
+-- A position before the others of a set or after them: tests of the set give the same.
 use Rattle.std.proofs.Common.{◌≡◌, ℕ, ◌+◌, List, [], ◌∷◌, ◌++◌, length, refl, sym, ◌∙◌, ap, arith, Bool, true, false, Option, None, Some, length-append}
 use Rattle.std.specs.Prelude.{◌&&◌, nat_le, not, sum_by}
 use Rattle.std.specs.List.{list_all}

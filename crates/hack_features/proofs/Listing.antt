@@ -68,7 +68,7 @@ before_push n s t ht h = record {
   above = λ p gt. (push_iff n p s t (h.above p gt).0, push_iff n p t s (h.above p gt).1);
 }
 
--- lists in order, one behind the other
+-- two lists in order, one after the other
 pub in_order-append : (xs ys : List (List ℕ)) → Pairwise IsBefore xs → Pairwise IsBefore ys → All (λ x. All (IsBefore x) ys) xs → Pairwise IsBefore (xs ++ ys)
 in_order-append [] ys hx hy h = hy
 in_order-append (x ∷ xs) ys hx hy h = (

@@ -159,7 +159,7 @@ marking-end rows start marks order next h all told j = (
   λ c. (told.told j).1 (Chain-kept (λ a. Contains order a) (λ a b w e. h.closed w.0 (omega (arith, w.1)) b (subst (λ p. Leads rows p b) (sym (get_or-is order a w)) e)) c h.first),
 )
 
--- ---- what chains lead to, the place itself told apart
+-- ---- what chains lead to, with the place itself as a case of its own
 
 or_with : (a b : Bool) → b ≡ true → (a || b) ≡ true
 or_with true b e = refl

@@ -55,7 +55,7 @@ inserted k (false ∷ s) (suc p) lt h =
       after = r.after ∙ ap (λ j. r.front ++ j ∷ r.behind) (let e : (k + 1) + p ≡ k + suc p = omega arith in e);
     }
 
--- where among the others a position stands is the same to all tests
+-- no test depends on where among the others a position is
 module _ (xs ys : List ℕ) (p : ℕ) where
   among : List ℕ
   among = xs ++ p ∷ ys
@@ -103,7 +103,7 @@ module _ (xs ys : List ℕ) (p : ℕ) where
       ∙ ap (λ b. keeps_depth depth two && (b && is_lean spares one)) exclusive
       ∙ ap (λ b. keeps_depth depth two && (is_exclusive hits two && b)) lean
 
--- one more member is as good as one behind the others
+-- a member that is added among the others may be added after them instead
 pub may-added : (r : Rules) (s : List Bool) (p : ℕ) → p < length s → has s p ≡ false → may_of r (positions_of s ++ p ∷ []) ≡ may_of r (positions_of (set s p true))
 may-added r s p lt h =
     let i = inserted 0 s p lt h in
@@ -134,13 +134,13 @@ member_iff s p =
       λ h. subst (Contains (positions_of s)) zero-less (member-to 0 s p h),
     )
 
--- two answers that are true together are the same
+-- two truth values are the same if each implies the other
 pub both_told : (a b : Bool) → (a ≡ true → b ≡ true) → (b ≡ true → a ≡ true) → a ≡ b
 both_told true b there back = sym (there refl)
 both_told false true there back = back refl
 both_told false false there back = refl
 
--- one of the members of t is one of s, or the other way round
+-- some member of t is in s exactly where some member of s is in t
 pub meet-either : (s t : List Bool) → has_one_of s (positions_of t) ≡ list_any (bit t) (positions_of s)
 meet-either s t =
     both_told _ _
@@ -197,7 +197,7 @@ sum-take f k (suc n) [] = omega arith
 sum-take f k (suc n) (true ∷ s) = omega (arith, sum_by-cons f k (positions_from (k + 1) (take n s)), sum_by-cons f k (positions_from (k + 1) s), sum-take f (k + 1) n s)
 sum-take f k (suc n) (false ∷ s) = sum-take f (k + 1) n s
 
--- the row of a position has no entry at itself nor at the others, and no other row one at it
+-- the row of a position is false at it and at the others, and their rows are false at it
 abbrev pub clear_of : List (List Bool) → ℕ → List ℕ → Bool
 clear_of rows p s = (not (cell rows p p) && list_all (λ q. not (cell rows p q)) s) && list_all (λ q. not (cell rows q p)) s
 

@@ -1,4 +1,4 @@
--- Sets of names, one name more.
+-- Sets of names, after one more name.
 use Rattle.std.proofs.Common.{◌≡◌, [], List, ◌∷◌, ◌++◌, refl, sym, ◌∙◌, ap, subst, arith, Bool, true, false, cond, IsTrue, ◌⊎◌, inl, inr, ◌↔◌, Contains}
 use Rattle.std.specs.List.{list_any}
 use Rattle.std.specs.Cmp.Lexicographic.{slice_cmp}
@@ -23,7 +23,7 @@ has-more-step x y false old new t e = (
   ],
 )
 
--- what a set has once x went into it
+-- what a set has after x was added to it
 pub has-more : (x y : Name) (old new : NameSet) → has_name new y ≡ cond (is_eq (slice_cmp nat_cmp x y)) true (has_name old y) → IsTrue (has_name new y) ↔ (IsTrue (has_name old y) ⊎ (x ≡ y))
 has-more x y old new e = has-more-step x y (bytes_eq x y) (has_name old y) (has_name new y) refl (e ∙ ap (λ b. cond b true (has_name old y)) (is_eq-slice_cmp x y))
 
@@ -35,6 +35,6 @@ has_just-more names x old new h e = λ y.
       λ k. elim (Contains-push_cases names x y k) [ inl o ↦ m.1 (inl ((h y).1 o)) | inr s ↦ m.1 (inr s) ],
     )
 
--- what a set and a list both have nothing of
+-- an empty set has exactly the names in the empty list
 pub has_just-nil : (s : NameSet) → s.keys ≡ [] → HasJust s []
 has_just-nil s e = λ y. (λ k. let z : false ≡ true = sym (ap (list_any (λ (b : Bor Name). is_eq (slice_cmp nat_cmp y b.now))) e) ∙ k in cc, λ k. absurd (omega (arith, k.1)))

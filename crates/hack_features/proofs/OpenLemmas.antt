@@ -17,7 +17,7 @@ with_next-append may next xs ys =
     ap (map (λ s. s ++ next ∷ [])) (filter-append (λ s. may (s ++ next ∷ [])) xs ys)
     ∙ map-append (λ s. s ++ next ∷ []) (filter (λ s. may (s ++ next ∷ [])) xs) (filter (λ s. may (s ++ next ∷ [])) ys)
 
--- a set behind the others changes none at an earlier place
+-- sets that are added at the end change none at an earlier place
 at-kept : (sets more : List (List ℕ)) (places : List ℕ) → All (λ p. p < length sets) places → map (at (sets ++ more)) places ≡ map (at sets) places
 at-kept sets more [] h = refl
 at-kept sets more (p ∷ places) h =
@@ -70,11 +70,11 @@ not_true false h = refl
 pub too-long : (may : List ℕ → Bool) (most : ℕ) (t : List ℕ) → ((s : List ℕ) → IsTrue (may s) → IsWithin (Some most) s) → most < length t → may t ≡ false
 too-long may most t law lt = not_true (may t) (λ e. let few : length t ≤ most = law t e in omega (arith, few, lt))
 
--- a set that has all positions that a permitted one may have is full
+-- a set that has as many positions as a permitted one may have is full
 pub full-at : (may : List ℕ → Bool) (most : ℕ) (t : List ℕ) → ((s : List ℕ) → may s ≡ true → length s ≤ most) → most ≤ length t → (next : ℕ) → may (t ++ next ∷ []) ≡ false
 full-at may most t law le next = too-long may most (t ++ next ∷ []) law (omega (arith, le, length-append t (next ∷ [])))
 
--- after one question: the set at hand may have the next position or not, and has room behind it or not
+-- after one question: no set was added, or a full one
 pub open-asked : (may : List ℕ → Bool) (most : ℕ) (sets new : List (List ℕ)) (places : List ℕ) (s : List ℕ) (next : ℕ) → ((t : List ℕ) → may t ≡ true → length t ≤ most) → new ≡ sets ++ with_next may next (s ∷ [])
     → AreOpen may sets places → (most ≤ length s + 1) ⊎ (length new ≤ length sets) → AreOpen may new places
 open-asked may most sets new places s next law is h why =
@@ -85,7 +85,7 @@ open-asked may most sets new places s next law is h why =
     go true (inr none) = absurd (omega (arith, length-append sets ((s ++ next ∷ []) ∷ [])))
     go false why = subst (λ l. AreOpen may l places) (sym (append-nil sets)) h
 
--- a set went in
+-- a set was added
 pub open-gone_in : (may : List ℕ → Bool) (sets new : List (List ℕ)) (places : List ℕ) (s : List ℕ) (next : ℕ) → new ≡ sets ++ with_next may next (s ∷ []) → length sets < length new
     → AreOpen may sets places → AreOpen may new (places ++ length sets ∷ [])
 open-gone_in may sets new places s next is more h =

@@ -1,4 +1,4 @@
--- The order of sets, told from the ends of two increasing lists.
+-- The order of sets, found from the ends of two increasing lists.
 use Rattle.std.proofs.Common.{◌≡◌, ◌≢◌, ℕ, suc, ◌<◌, List, [], ◌∷◌, ◌++◌, length, get_or, sym, ap, subst, arith, refl, AllPairs, length-append, Ordering, Less, Equal, Greater}
 use Rattle.std.specs.Ordering.{MatchOrdering, nat_cmp}
 use Rattle.std.specs.Cmp.{ranks}
@@ -12,7 +12,7 @@ use Rattle.hack_features.proofs.Listing.{selection_push, selection_up, before_ne
 abbrev pub Increases : List ℕ → Type 0
 Increases s = AllPairs (λ p q. p < q) s
 
--- what stands before the last is below it
+-- the positions before the last are less than it
 pub front_below : (p : ℕ) (t : List ℕ) → Increases (t ++ p ∷ []) → IsSelection p t
 front_below p t h = record {
   increasing = λ i j d lt in'. rw (← get_or-append t (p ∷ []) d i (omega arith), ← get_or-append t (p ∷ []) d j in') (h i j d lt (omega (arith, length-append t (p ∷ []))));
@@ -24,7 +24,7 @@ pub none_first : (p : ℕ) (s t : List ℕ) → length s ≡ 0 → Increases (t 
 none_first p [] t e h = before_new p [] t (All-nil (λ q. q < p)) (front_below p t h).below
 none_first p (x ∷ s) t e h = absurd (omega arith)
 
--- how two sets stand to each other
+-- what an ordering says of two sets
 abbrev pub Stand : Ordering → List ℕ → List ℕ → Type 0
 Stand r s t = MatchOrdering r (IsBefore s t) (s ≡ t) (IsBefore t s)
 
@@ -33,7 +33,7 @@ same_last-go Less p s t hs ht b = before_push p s t (front_below p t ht).below b
 same_last-go Equal p s t hs ht e = ap (λ l. l ++ p ∷ []) e
 same_last-go Greater p s t hs ht b = before_push p t s (front_below p s hs).below b
 
--- two sets with the same last position stand as those without it
+-- two sets with the same last position are ordered like the sets without it
 pub same_last : (r : Ordering) (p q : ℕ) (s t : List ℕ) → p ≡ q → Increases (s ++ p ∷ []) → Increases (t ++ q ∷ []) → Stand r s t → Stand r (s ++ p ∷ []) (t ++ q ∷ [])
 same_last r p q s t e hs ht h =
     subst (λ x. Stand r (s ++ p ∷ []) (t ++ x ∷ [])) e (same_last-go r p s t hs (subst (λ x. Increases (t ++ x ∷ [])) (sym e) ht) h)
@@ -47,7 +47,7 @@ other_last-go Less p q s t ne lt hs ht = less_last p q s t lt hs ht
 other_last-go Equal p q s t ne e hs ht = absurd (ne refl)
 other_last-go Greater p q s t ne lt hs ht = less_last q p t s lt ht hs
 
--- two sets with different last positions stand as those
+-- two sets with different last positions are ordered like these
 pub other_last : (p q : ℕ) (s t : List ℕ) → nat_cmp p q ≢ Equal → Increases (s ++ p ∷ []) → Increases (t ++ q ∷ []) → Stand (nat_cmp p q) (s ++ p ∷ []) (t ++ q ∷ [])
 other_last p q s t ne hs ht = other_last-go (nat_cmp p q) p q s t ne (ranks p q) hs ht
 

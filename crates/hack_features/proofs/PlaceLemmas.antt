@@ -40,7 +40,7 @@ place-missing names places y h e c =
 pub placed-there : (names : List Name) (place : ℕ) (x : Name) → place < length names → name_at names place ≡ x → Contains names x
 placed-there names place x lt e = subst (Contains names) e (Contains-get_or names place [] lt)
 
--- a name keeps its place where more names come behind it
+-- a name keeps its place when more names are added at the end
 pub name_at-front : (names more : List Name) (place : ℕ) → place < length names → name_at (names ++ more) place ≡ name_at names place
 name_at-front names more place lt = get_or-append names more [] place lt
 
@@ -99,7 +99,7 @@ map-front names more (p ∷ row) h =
     let e : name_at (names ++ more) p ≡ name_at names p = name_at-front names more p (h 0 p (omega arith)) in
     let t : map (name_at (names ++ more)) row ≡ map (name_at names) row = map-front names more row (λ k d lt. h (suc k) d (omega arith)) in cc
 
--- places stay those of their names where more names come behind
+-- places stay those of their names when more names are added at the end
 pub at-front : (names more new : List Name) (row : List ℕ) (shown : List Name) → new ≡ names ++ more → AreAt names row shown → AreAt new row shown
 at-front names more new row shown e h =
     subst (λ ns. AreAt ns row shown) (sym e)

@@ -59,7 +59,7 @@ tells-skip names test n s h t = λ y. (
 )
 
 module _ (m : FeatureMap) (names : List Name) (keys : List Bool) (marks : List (List Bool)) (h : AreRoutes Enabling m names keys marks) where
-  -- once all places are told, the set is what the name enables
+  -- after all places, the set has exactly what the name enables
   pub tells-end : (from n : ℕ) → from < length names → n ≡ length names → (s : NameSet) → Tells s names (λ to. not (from == to) && cell marks from to) n → IsDepsOf m (name_at names from) s
   tells-end from n lt all s told = λ y. (
     λ k.
@@ -79,7 +79,7 @@ module _ (m : FeatureMap) (names : List Name) (keys : List Bool) (marks : List (
 
 -- ---- the table of deps
 
--- the table once the first places were told
+-- the table after the first n places
 pub record Tabling (m : FeatureMap) (names : List Name) (deps : BTreeMap (Bor Name) NameSet) (n : ℕ) : Type 0 where
   pub keys : (x : Name) → IsSome (get_at deps x) → IsKey m x
   pub told : (k : ℕ) → k < n → IsKey m (name_at names k) → IsSome (get_at deps (name_at names k))

@@ -117,11 +117,11 @@ wanted_iff c spares hits serves h s sel = (
       (and_from (is_exclusive hits s) (is_required serves s) ((h.exclusive s sel).1 w.exclusive) ((h.required s sel).1 w.required))),
 )
 
--- the list without a test's truth
+-- where a test is false, what it tests for doesn't hold
 pub false_from : {P : Type 0} (b : Bool) → (b ≡ true) ↔ P → b ≡ false → ¬ P
 false_from b h e p = let t : true ≡ false = sym (h.1 p) ∙ e in cc
 
--- a single name a candidate, and no two that enable each other
+-- each candidate has one name, and no two of these enable each other
 module _ (c : Choice) (h : AreSingle c) where
   -- different listed sets enable different names
   pub one_each : (s t : List ℕ) → IsSelection (length c.candidates) s → IsSelection (length c.candidates) t → IsListed c s → IsListed c t → EnableTheSame c s t → s ≡ t

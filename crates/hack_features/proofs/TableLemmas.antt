@@ -24,7 +24,7 @@ use Rattle.hack_features.specs.Rules.{Choice, unlifted_groups, names_at, names_i
 use Rattle.hack_features.specs.Tables.{bit, count_at, cell, leads, is_lean, is_exclusive, is_required, spares_test, serves_test, Counts, Matched, CountsHits, SaysServers, RowsServe}
 use Rattle.hack_features.specs.Tables as table
 
--- who spares whom
+-- which candidate spares which
 
 filter_map_from-go : {A B : Type 0} (f : A → Option B) (x : A) (xs : List A) (y : B) (o : Option B) → f x ≡ o → Contains (cons_option o (filter_map f xs)) y
     → (Contains (filter_map f xs) y → (z : A) × Contains xs z × (f z ≡ Some y)) → (z : A) × Contains (x ∷ xs) z × (f z ≡ Some y)
@@ -159,7 +159,7 @@ module _ (m : FeatureMap) (names : List Name) (keys : List Bool) (marks : List (
       let t = (serves_iff group gs at c.0 c.1).1 (subst (EnablesOneOf m gs) (sym is) e) in
       let z : true ≡ false = sym t ∙ none c.0 c.1 in cc
 
--- ends spare none that has names
+-- names from which no edge leads away spare no candidate that has names
 ends_mark-by : (keys : List Bool) (marks : List (List Bool)) (names others : List ℕ) (b : Bool) → spares_test keys marks names others ≡ b → list_all (λ x. length (get_or marks x []) == 0) names ≡ true → others ≢ [] → b ≡ false
 ends_mark-by keys marks names others false e ends some = refl
 ends_mark-by keys marks names [] true e ends some = absurd (some refl)
@@ -417,7 +417,7 @@ not_true : (b : Bool) → not b ≡ true → b ≡ false
 not_true true e = sym e
 not_true false e = refl
 
--- what a table of who spares whom says of redundancy
+-- what a table of which candidate spares which says of redundancy
 module _ (c : Choice) (rows : List (List Bool)) (h : (p q : ℕ) → p < length c.candidates → q < length c.candidates → IsTrue (cell rows p q) ↔ Spares c p q) (s : List ℕ) (sel : IsSelection (length c.candidates) s) where
   low : (p : ℕ) → Contains s p → p < length c.candidates
   low p cp = All-contains (λ p. p < length c.candidates) s p sel.below cp
@@ -468,14 +468,14 @@ next_group R seen more group b rows row e t h r = subst (λ gs. Matched R gs (ro
 pub matched_next : {X Y : Type 0} (R : X → Y → Type 0) (seen more : List X) (x : X) (rows : List Y) (row : Y) → more ≡ seen ++ x ∷ [] → Matched R seen rows → R x row → Matched R more (rows ++ row ∷ [])
 matched_next R seen more x rows row e h r = subst (λ l. Matched R l (rows ++ row ∷ [])) (sym e) (table.next h r)
 
--- rows without an entry
+-- empty rows
 
 row-none : (rows : List (List Bool)) (p : ℕ) → All (λ (row : List Bool). row ≡ []) rows → get_or rows p [] ≡ []
 row-none [] p none = refl
 row-none (row ∷ rows) zero none = none 0 [] (omega arith)
 row-none (row ∷ rows) (suc p) none = row-none rows p (λ k d lt. none (suc k) d (omega (arith, lt)))
 
--- where no row has an entry, no candidate spares another
+-- where all rows are empty, no candidate spares another
 pub lean-bare : (rows : List (List Bool)) → All (λ (row : List Bool). row ≡ []) rows → (s : List ℕ) → is_lean rows s ≡ true
 lean-bare rows none s =
     all_pass (λ p. list_all (λ q. not (cell rows p q)) s) s (λ p within.

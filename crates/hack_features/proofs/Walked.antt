@@ -19,7 +19,7 @@ filter-map f test (x ∷ xs) =
     go true = refl
     go false = refl
 
--- a stronger test behind a weaker one
+-- a stronger test after a weaker one
 filter-both-step : (test weak : List ℕ → Bool) (x : List ℕ) (xs : List (List ℕ)) (b t : Bool) → weak x ≡ b → test x ≡ t → (test x ≡ true → weak x ≡ true)
     → filter test (filter weak xs) ≡ filter test xs → filter test (cond b (x ∷ filter weak xs) (filter weak xs)) ≡ cond t (x ∷ filter test xs) (filter test xs)
 filter-both-step test weak x xs true t e f h same = ap (λ b. cond b (x ∷ filter test (filter weak xs)) (filter test (filter weak xs))) f ∙ ap (λ l. cond t (x ∷ l) l) same
@@ -34,7 +34,7 @@ filter-refused : (test : List ℕ → Bool) → ((x : List ℕ) → test x ≡ f
 filter-refused test h [] = refl
 filter-refused test h (x ∷ xs) = ap (λ b. cond b (x ∷ filter test xs) (filter test xs)) (h x) ∙ filter-refused test h xs
 
--- of the sets that a test permits, those that a stronger one permits are all that it permits
+-- those that pass a test, of the sets that a weaker one permits, are all that the test permits
 module _ (test weak : List ℕ → Bool) (stronger : (x : List ℕ) → test x ≡ true → weak x ≡ true) (front : (t : List ℕ) (p : ℕ) → test (t ++ p ∷ []) ≡ true → test t ≡ true) (at_all : test [] ≡ true) where
   permitted-filter : (p : ℕ) → filter test (permitted_below weak p) ≡ permitted_below test p
   permitted-filter zero = ap (λ b. cond b ([] ∷ []) []) at_all
@@ -58,7 +58,7 @@ module _ (may : List ℕ → Bool) (closed : IsClosed may) where
   front-closed [] s e = e
   front-closed (p ∷ u) s e = front-closed u s (closed (p ∷ (u ++ s)) 0 (omega arith) e)
 
-  -- the sets that make, with s behind them, a permitted one
+  -- the sets that are permitted when s follows them
   abbrev with : List ℕ → List ℕ → Bool
   with s u = may (u ++ s)
 

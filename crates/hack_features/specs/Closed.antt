@@ -13,11 +13,11 @@ use Rattle.hack_features.specs.Samples.{positions_from, positions_of, IsSame}
 use Rattle.hack_samples.specs.Sets.{IsInside}
 use Rattle.hack_features.specs.Sets.{rows_of}
 
--- a list of which each element passes, without a place
+-- what holds of each element of a list still does after one is taken out
 All-remove : {X : Type 0} (P : X → Type 0) (s : List X) (i : ℕ) → All P s → All P (remove s i)
 All-remove P s i h = All-append P (take i s) (drop (suc i) s) (All-take P i s h) (All-drop P (suc i) s h)
 
--- a sum without a place is no greater
+-- a sum is no greater after one element is taken out
 sum_by-remove : (f : ℕ → ℕ) (s : List ℕ) (i : ℕ) → i < length s → sum_by f (remove s i) ≤ sum_by f s
 sum_by-remove f s i at = omega (arith, sum_by-append f (take i s) (drop (suc i) s), sum_by-take-drop f s i, rw add-one at (sum_by-drop_more f s i 0 at))
 
@@ -62,7 +62,7 @@ may_of-remove r s i at h =
     (and_from (is_exclusive (rows_of r.tables.hits.items) (remove s i)) (is_lean (rows_of r.tables.spares.items) (remove s i))
     (is_exclusive-remove (rows_of r.tables.hits.items) s i at v.0) (is_lean-remove (rows_of r.tables.spares.items) s i v.1))
 
--- no position is true
+-- a set whose flags are all false has no members
 positions-none : (k n : ℕ) → positions_from k (replicate n false) ≡ []
 positions-none k zero = refl
 positions-none k (suc n) = positions-none (k + 1) n
@@ -73,7 +73,7 @@ may-empty r = subst (λ s. may_of r s ≡ true) (sym (positions-none 0 (size_of 
 inside-tail : (b d : Bool) (s t : List Bool) → IsInside (b ∷ s) (d ∷ t) → IsInside s t
 inside-tail b d s t h = record { same = (let e = h.same in omega arith); members = λ p e. h.members (suc p) e }
 
--- what a set's members are, those of a set around it are
+-- what holds of each member of a set holds of each member of a set inside it
 members-inside : (P : ℕ → Type 0) (k : ℕ) (s t : List Bool) → IsInside s t → All P (positions_from k t) → All P (positions_from k s)
 members-inside P k [] t h a = All-nil P
 members-inside P k (b ∷ s) [] h a = absurd (let e = h.same in omega arith)
@@ -119,7 +119,7 @@ lean-inside rows s t i h =
     (All-weaker (λ p. list_all (λ q. not (cell rows p q)) (positions_of t) ≡ true) (λ p. list_all (λ q. not (cell rows p q)) (positions_of s) ≡ true)
     (λ p e. all-inside (λ q. not (cell rows p q)) s t i e) (positions_of t) (AllPass-from_list_all (λ p. list_all (λ q. not (cell rows p q)) (positions_of t)) (positions_of t) h)))
 
--- what is inside a permitted set is permitted
+-- a set inside a permitted one is permitted
 pub may-inside : (r : Rules) (s t : List Bool) → IsInside s t → may_of r (positions_of t) ≡ true → may_of r (positions_of s) ≡ true
 may-inside r s t i h =
     let w = and_parts (keeps_depth r.given.depth (positions_of t)) _ h in

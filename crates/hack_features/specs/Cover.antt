@@ -1,4 +1,4 @@
--- What a set still enables, told from marks at the places that names lead to.
+-- What a set still enables, by marks at the places that names lead to.
 use Rattle.std.specs.Prelude.{ℕ, List, [], Bool, length, not, ◌&&◌, ◌==◌}
 use Rattle.std.specs.List.{list_all, list_any, slice_index_or}
 use Rattle.hack_features.specs.Tables.{leads}

@@ -16,7 +16,7 @@ NameSet = BTreeSet (Bor Name)
 abbrev pub has_name : NameSet → Name → Bool
 has_name s x = contains_by (λ (k : Bor Name). slice_cmp nat_cmp x k.now) s
 
--- what a map from texts has at a name
+-- the value that a map from texts has at a name
 abbrev pub get_at : {V : Type 0} → BTreeMap (Bor Name) V → Name → Option V
 get_at m x = get_by (λ (k : Bor Name). slice_cmp nat_cmp x k.now) m
 
@@ -24,7 +24,7 @@ get_at m x = get_by (λ (k : Bor Name). slice_cmp nat_cmp x k.now) m
 abbrev pub IsDepsOf : FeatureMap → Name → NameSet → Type 0
 IsDepsOf m x s = (y : Name) → IsTrue (has_name s y) ↔ ((y ≢ x) × Enables m x y)
 
--- each key has what it enables without it, and no other name is there
+-- deps has for each key, and for no other name, what the key enables, without the key itself
 pub record AreDepsOf (m : FeatureMap) (deps : BTreeMap (Bor Name) NameSet) : Type 0 where
   pub keys : (x : Name) → IsSome (get_at deps x) ↔ IsKey m x
   pub each : (x : Name) → IfSome (get_at deps x) (IsDepsOf m x)

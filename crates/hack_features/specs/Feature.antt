@@ -1,4 +1,4 @@
--- What a feature is: its text, and the names that it stands for.
+-- What a feature is: its text and its names.
 use Rattle.std.specs.Prelude.{◌≡◌, ℕ, List, [], ◌∷◌, ◌++◌, length, string_bytes, map}
 use Rattle.std.specs.List.{join_with_byte}
 use Rattle.std.specs.Borrow.{Bor}
@@ -12,21 +12,21 @@ name_of (Normal name) = string_bytes name
 name_of (Group name list) = string_bytes name
 name_of (Path name slash) = string_bytes name
 
--- the names that a feature stands for
+-- the names of a feature: those in the list of a group, else its own
 abbrev pub group_of : Feature → List Name
 group_of (Normal name) = string_bytes name ∷ []
 group_of (Group name list) = names_of list.items
 group_of (Path name slash) = string_bytes name ∷ []
 
--- the names that each of a list of features stands for
+-- for each of these features its names
 abbrev pub groups_of : List Feature → List (List Name)
 groups_of features = map group_of features
 
--- the same of features behind references
+-- the same for references to features
 abbrev pub candidates_of : List (Bor Feature) → List (List Name)
 candidates_of features = map (λ feature. group_of feature.now) features
 
--- a feature as it is shown: a group in brackets
+-- a feature as `Debug` shows it: a group in brackets
 abbrev pub shown_as : Feature → List ℕ
 shown_as (Normal name) = string_bytes name
 shown_as (Group name list) = (91 ∷ string_bytes name) ++ 93 ∷ []

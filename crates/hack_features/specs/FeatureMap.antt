@@ -10,11 +10,11 @@ use Rattle.hack_base.specs.Names.{Name, names_of}
 abbrev pub FeatureMap : Type 0
 FeatureMap = List (Name × List Name)
 
--- the feature map that a map of texts is
+-- the feature map, as plain data, that a map of texts is
 abbrev pub feature_map : {Y Z : Type 0} → BTreeMap (String Y) (Vec (String Y) Z) → FeatureMap
 feature_map m = map (λ e. (string_bytes e.0, names_of e.1.items)) m.entries
 
--- the values of a name, none where it is no key
+-- the values of a name; none if it is no key
 abbrev pub values_at : FeatureMap → Name → List Name
 values_at m x = unwrap_or (lookup (bytes_eq x) m) []
 
@@ -22,11 +22,11 @@ values_at m x = unwrap_or (lookup (bytes_eq x) m) []
 abbrev pub IsKey : FeatureMap → Name → Type 0
 IsKey m x = IsTrue (is_some (lookup (bytes_eq x) m))
 
--- the value names a dependency, and no feature
+-- the value begins with `dep:`, so that it names a dependency and no feature
 abbrev pub IsDependency : Name → Type 0
 IsDependency v = IsTrue (starts_with nat_eq v (codes "dep:"))
 
--- a chain of edges from one to another, also the empty one
+-- a chain of edges from one to another; the empty chain leads from each to itself
 pub data Chain {X : Type 0} (edge : X → X → Type 0) : X → X → Type 0 where
   here : {x : X} → Chain edge x x
   step : {x y z : X} → edge x y → Chain edge y z → Chain edge x z
@@ -46,7 +46,7 @@ pub record HasCutEdge (m : FeatureMap) (x v : Name) : Type 0 where
   pub listed : Contains (values_at m x) value
   pub cut : before_first (λ b. b == 47) value ≡ v
 
--- x reaches the group: a chain of cut values, also the empty one, leads from x to a name of the group
+-- x reaches the group: a chain of cut values, maybe empty, leads from x to a name of the group
 pub record Reaches (m : FeatureMap) (group : List Name) (x : Name) : Type 0 where
   pub name : Name
   pub member : Contains group name

@@ -8,7 +8,7 @@ use Rattle.hack_features.specs.Feature.{name_of}
 use Rattle.hack_features.specs.declared.feature.Feature.{Feature}
 use Rattle.hack_features.specs.declared.feature.Feature.TheVariants.{Normal, Group, Path}
 
--- which place a feature's variant has among the variants
+-- the place of a feature's variant among the variants
 abbrev pub variant_of : Feature → ℕ
 variant_of (Normal name) = 0
 variant_of (Group name list) = 1

@@ -1,4 +1,4 @@
--- What links show.
+-- What `Links` shows.
 use Rattle.std.specs.Prelude.{◌≡◌, ◌≤◌, List, length}
 use Rattle.hack_base.specs.Names.{Name}
 use Rattle.hack_features.specs.FeatureMap.{FeatureMap}
@@ -12,7 +12,7 @@ use Rattle.hack_features.specs.declared.reach.Edges.{Edges}
 abbrev pub table_of : Links → List Name
 table_of links = table links.names
 
--- the links so far: a row for each of the first names
+-- the links so far: a row for each name of a front of the table
 pub record IsLinking (edges : Edges) (m : FeatureMap) (links : Links) : Type 0 where
   pub step : HasPlaces (table_of links) links.names.places
   pub rows : AreRows edges m (table_of links) links.keys.items (rows_of links.rows.items)

@@ -1,4 +1,4 @@
--- What placed candidates and groups show.
+-- What `Placed` shows: the candidates and groups, as places of names.
 use Rattle.std.specs.Prelude.{List}
 use Rattle.hack_base.specs.Names.{Name}
 use Rattle.hack_features.specs.FeatureMap.{FeatureMap}
@@ -8,6 +8,6 @@ use Rattle.hack_features.specs.Routed.{names_in}
 use Rattle.hack_features.specs.declared.placed.Placed.{Placed}
 use Rattle.hack_features.specs.declared.reach.Edges.{Edges}
 
--- what is placed tells what the map says of these candidates and groups
+-- p has what the map says of these candidates and groups
 abbrev pub IsPlaced : Edges → FeatureMap → List (List Name) → List (List Name) → Placed → Type 0
 IsPlaced edges m candidates groups p = ArePlaced edges m candidates groups (names_in p.routes) p.routes.keys.items (rows_of p.routes.marks.items) (rows_of p.candidates.items) (rows_of p.groups.items)

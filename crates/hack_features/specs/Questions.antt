@@ -16,7 +16,7 @@ pub record IsCheap (P : List ℕ → Type 0) (n asked : ℕ) : Type 0 where
   pub all : IsListing n P sets
   pub few : asked ≤ n * length sets
 
--- the sets that may have the next position behind them, with it
+-- the sets that the next position may extend, each extended by it
 abbrev pub with_next : (List ℕ → Bool) → ℕ → List (List ℕ) → List (List ℕ)
 with_next may next sets = map (λ s. s ++ next ∷ []) (filter (λ s. may (s ++ next ∷ [])) sets)
 
@@ -28,17 +28,17 @@ is_whole complete s = not (length s == 0) && complete s
 abbrev pub AreComplete : (List ℕ → Bool) → List (List ℕ) → Type 0
 AreComplete complete sets = filter (is_whole complete) sets ≡ drop 1 sets
 
--- both tests pass each set
+-- each set passes both tests
 abbrev pub IsFree : (List ℕ → Bool) → (List ℕ → Bool) → Type 0
 IsFree may complete = (s : List ℕ) → IsTrue (may s) × IsTrue (complete s)
 
--- the places are open: the sets there are all of these that may have one more position
+-- the places are open: extending only the sets there gives what extending all sets gives
 pub record AreOpen (may : List ℕ → Bool) (sets : List (List ℕ)) (places : List ℕ) : Type 0 where
   pub inside : All (λ p. p < length sets) places
   pub few : length places ≤ length sets
   pub same : (next : ℕ) → with_next may next (map (λ p. slice_index_or sets p []) places) ≡ with_next may next sets
 
--- what is known before any question: how many positions a permitted set has at most, and whether both tests pass each set
+-- the limits are true: no permitted set has more positions, and if free, each set passes both tests
 pub record AreLimits (may complete : List ℕ → Bool) (limits : Limits) : Type 0 where
   pub within : (s : List ℕ) → IsTrue (may s) → IsWithin limits.most s
   pub free : IsTrue limits.free → IsFree may complete

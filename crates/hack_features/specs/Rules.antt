@@ -5,7 +5,7 @@ use Rattle.hack_base.specs.Names.{Name}
 use Rattle.hack_features.specs.FeatureMap.{FeatureMap, IsKey, Enables, Reaches, EnablesOneOf}
 use Rattle.hack_features.specs.Sets.{IsSelection, IsBefore, IsWithin, Pairwise}
 
--- what the sets of a package are chosen from, and by which rules; a candidate is the names that it stands for
+-- what the sets of a package are chosen from, and the rules; a candidate is the list of its names
 pub record Choice : Type 0 where
   pub map : FeatureMap
   pub candidates : List (List Name)
@@ -60,7 +60,7 @@ pub record IsRedundant (c : Choice) (s : List ℕ) : Type 0 where
 abbrev pub NotBothReach : FeatureMap → List Name → Name → Name → Type 0
 NotBothReach m group x y = Reaches m group x → Reaches m group y → ⊥
 
--- the set is exclusive: of each group at most one of its names, repeats counted, reaches the group
+-- the set is exclusive: each group is reached by at most one of its names, repeats counted
 abbrev pub IsExclusive : Choice → List ℕ → Type 0
 IsExclusive c s = All (λ group. Pairwise (NotBothReach c.map group) (names_in c s)) c.exclusive
 
@@ -86,7 +86,7 @@ pub record IsListed (c : Choice) (s : List ℕ) : Type 0 where
   pub permitted : IsPermitted c s
   pub required : IsRequired c s
 
--- the set has to be covered: it passes all but redundancy
+-- the set has to be covered: it is as a listed set has to be, but may be redundant
 pub record IsWanted (c : Choice) (s : List ℕ) : Type 0 where
   pub nonempty : s ≢ []
   pub within : IsWithin c.depth s

@@ -33,12 +33,12 @@ pub record IsSample (c : Choice) (n : ℕ) (sets : List (List ℕ)) : Type 0 whe
   pub listed : All (IsListed c) sets
   pub ordered : Pairwise IsBefore sets
 
--- the places of what is true, counted from k
+-- the places of the flags that are true, counted from k
 abbrev pub positions_from : ℕ → List Bool → List ℕ
 positions_from k [] = []
 positions_from k (b ∷ s) = cond b (k ∷ positions_from (k + 1) s) (positions_from (k + 1) s)
 
--- the places of what is true
+-- the places of the flags that are true
 abbrev pub positions_of : List Bool → List ℕ
 positions_of s = positions_from 0 s
 
@@ -46,15 +46,15 @@ positions_of s = positions_from 0 s
 abbrev pub one_leads : List (List Bool) → ℕ → List ℕ → Bool
 one_leads marks y names = list_any (λ x. leads marks x y) names
 
--- the candidates a name of which leads to y
+-- the candidates that have a name that leads to y
 abbrev pub providers_of : List (List Bool) → List (List ℕ) → ℕ → List ℕ
 providers_of marks candidates y = positions_of (map (one_leads marks y) candidates)
 
--- for each name of each candidate those that provide it
+-- for each name of each candidate the candidates that have a name that leads to it
 abbrev pub all_providers : List (List Bool) → List (List ℕ) → List (List (List ℕ))
 all_providers marks candidates = map (map (providers_of marks candidates)) candidates
 
--- questions alone lie between the rules
+-- the rules are the same, but for the number of questions that they were asked
 pub record IsSame (earlier later : Rules) : Type 0 where
   pub choice : choice_of later ≡ choice_of earlier
   pub size : size_of later ≡ size_of earlier

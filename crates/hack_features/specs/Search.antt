@@ -25,7 +25,7 @@ pub record IsTarget (edges : Edges) (values : List Name) (name : Name) : Type 0 
   pub listed : Contains values value
   pub leads : target_of edges value ≡ Some name
 
--- the set has just the names in the list
+-- the set has exactly the names in the list
 abbrev pub HasJust : NameSet → List Name → Type 0
 HasJust s names = (y : Name) → IsTrue (has_name s y) ↔ Contains names y
 
@@ -33,18 +33,18 @@ HasJust s names = (y : Name) → IsTrue (has_name s y) ↔ Contains names y
 abbrev pub names_found : Found → List Name
 names_found found = names_behind found.order.items
 
--- the set that a search keeps beside its list has just the names in it
+-- the set that a search keeps beside its list has exactly the names in the list
 abbrev pub IsInStep : Found → Type 0
 IsInStep found = HasJust found.seen (names_found found)
 
--- new has the names of old, and behind them those of which P holds that old has not, each once
+-- new begins with old and has exactly its names and those for which P holds, with no new repeats
 pub record Adds (P : Name → Type 0) (old new : List Name) : Type 0 where
   pub kept : (more : List Name) × (new ≡ old ++ more)
   pub added : (y : Name) → P y → Contains new y
   pub only : (y : Name) → Contains new y → Contains old y ⊎ P y
   pub distinct : IsDistinct bytes_eq old → IsDistinct bytes_eq new
 
--- found has just the names to which a chain of edges leads from x, each once
+-- found has exactly the names to which a chain of edges leads from x, each once
 pub record IsReach (edge : Name → Name → Type 0) (x : Name) (found : List Name) : Type 0 where
   pub exact : (y : Name) → Contains found y ↔ Chain edge x y
   pub distinct : IsDistinct bytes_eq found

@@ -14,7 +14,7 @@ pub record IsEnabledByKey (m : FeatureMap) (y : Name) : Type 0 where
   pub key : IsKey m by
   pub chain : Enables m by y
 
--- the candidate is on where all features of the package are: some key enables each of its names
+-- the candidate is on where all features of the package are: each of its names is enabled by a key
 abbrev pub IsOnWithAll : Choice → ℕ → Type 0
 IsOnWithAll c p = All (IsEnabledByKey c.map) (names_at c p)
 
@@ -43,10 +43,10 @@ AllShow c pattern = All (λ setting. IsOnWithAll c setting.candidate ↔ IsTrue 
 abbrev pub RowShows : List Bool → List Setting → Type 0
 RowShows row pattern = All (λ setting. slice_get row setting.candidate ≡ Some setting.on) pattern
 
--- one of these places leads to each of the names, by place
+-- for each of the names, by place, one of these places leads to it
 abbrev pub leads_to_each : List (List Bool) → List ℕ → List ℕ → Bool
 leads_to_each marks from names = list_all (λ y. one_leads marks y from) names
 
--- the list has just those of the first n places that are keys
+-- the list has exactly those of the first n places that are keys
 abbrev pub AreKeyPlaces : List Bool → ℕ → List ℕ → Type 0
 AreKeyPlaces keys n places = (x : ℕ) → Contains places x ↔ ((x < n) × IsTrue (bit keys x))

@@ -19,20 +19,20 @@ count_at row p = slice_index_or row p 0
 abbrev pub cell : List (List Bool) → ℕ → ℕ → Bool
 cell rows p q = bit (slice_index_or rows p []) q
 
--- the set has at most as many members as the depth, where there is one
+-- the set has at most as many members as the depth, if there is one
 abbrev pub keeps_depth : Option ℕ → List ℕ → Bool
 keeps_depth None s = true
 keeps_depth (Some most) s = nat_le (length s) most
 
--- no member has an entry for a member
+-- the row of each member is false at each member
 abbrev pub is_lean : List (List Bool) → List ℕ → Bool
 is_lean rows s = list_all (λ p. list_all (λ q. not (cell rows p q)) s) s
 
--- in each row the members' entries are at most 1 in sum
+-- in each row the sum of the members' entries is at most 1
 abbrev pub is_exclusive : List (List ℕ) → List ℕ → Bool
 is_exclusive rows s = list_all (λ row. nat_le (sum_by (count_at row) s) 1) rows
 
--- in each row some member has an entry
+-- each row is true at some member
 abbrev pub is_required : List (List Bool) → List ℕ → Bool
 is_required rows s = list_all (λ row. list_any (bit row) s) rows
 
@@ -40,7 +40,7 @@ is_required rows s = list_all (λ row. list_any (bit row) s) rows
 abbrev pub wanted_test : Option ℕ → List (List ℕ) → List (List Bool) → List ℕ → Bool
 wanted_test depth hits serves s = not (length s == 0) && (keeps_depth depth s && (is_exclusive hits s && is_required serves s))
 
--- chains lead from a place to another, as marks tell it; a place leads to itself
+-- a chain leads from a place to another, as the marks say; a place leads to itself
 abbrev pub leads : List (List Bool) → ℕ → ℕ → Bool
 leads marks from to = from == to || cell marks from to
 
@@ -52,7 +52,7 @@ spares_test keys marks names others = list_any (λ x. bit keys x && list_all (λ
 abbrev pub serves_test : List Bool → List (List Bool) → List ℕ → ℕ → Bool
 serves_test keys marks group x = bit keys x && list_any (leads marks x) group
 
--- so many of the elements have the property
+-- that many of the elements have the property
 pub data Counts {X : Type 0} (P : X → Type 0) : List X → ℕ → Type 0 where
   none : Counts P [] 0
   one_more : {xs : List X} {x : X} {n : ℕ} → Counts P xs n → P x → Counts P (xs ++ x ∷ []) (n + 1)

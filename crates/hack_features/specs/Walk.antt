@@ -2,7 +2,7 @@
 use Rattle.std.specs.Prelude.{ℕ, zero, suc, ◌<◌, List, [], ◌∷◌, ◌++◌, Bool, length, IsTrue, if◌then◌else◌}
 use Rattle.std.specs.List.{remove}
 
--- the permitted sets of s and positions below p, behind s in the order of sets
+-- the permitted sets of s and some positions below p, which come after s in the order of sets
 abbrev pub below : (List ℕ → Bool) → ℕ → List ℕ → List (List ℕ)
 below may zero s = []
 below may (suc p) s = below may p s ++ (if may (p ∷ s) then (p ∷ s) ∷ below may p (p ∷ s) else [])

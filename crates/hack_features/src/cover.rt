@@ -15,7 +15,9 @@ use crate::placed::Placed;
 use crate::routes::Routes;
 use std::alloc::{AllocError, Global};
 
-/// The set without each member, from the greatest on, that those left then cover.
+/// Returns what is left of the set after a pass over its members, the greatest first. The pass
+/// takes a member out if the others that are left at that point enable all its names; it never
+/// takes the only one that is left.
 pub(crate) fn first_cover(
     alloc: Global,
     enabled: &Placed,
@@ -77,7 +79,8 @@ fn covers(enabled: &Placed, positions: &[usize], names: &[usize]) -> bool
     true
 }
 
-/// The set without the place, where what is left covers what stands there, else the set as it is.
+/// Returns the set without the member at the place if other members are left and enable all names
+/// of that member, else the set as it is.
 fn without(
     alloc: Global,
     enabled: &Placed,

@@ -16,7 +16,7 @@ use crate::routes::Routes;
 use std::alloc::{AllocError, Global};
 use std::collections::{BTreeMap, BTreeSet};
 
-/// All that the name at the place enables without it.
+/// All names that the name at the place enables, without that name itself.
 fn deps_at<'a>(
     alloc: Global,
     routes: &Routes<'a>,
@@ -35,7 +35,7 @@ fn deps_at<'a>(
     Ok(set)
 }
 
-/// For each key, all names that it enables without itself.
+/// For each key, all names that it enables, without the key itself.
 fn deps_by_place<'a>(
     alloc: Global,
     routes: &Routes<'a>,
@@ -53,7 +53,7 @@ fn deps_by_place<'a>(
     Ok(deps)
 }
 
-/// For each key of a package's feature map, all names that it enables without itself.
+/// For each key of a package's feature map, all names that it enables, without the key itself.
 pub fn feature_deps<'a>(
     alloc: Global,
     map: &'a BTreeMap<String, Vec<String>>,
@@ -96,8 +96,8 @@ fn servers<'a>(
     Ok(keys)
 }
 
-/// For each group that a key of the package enables a name of, the set of those keys; other groups
-/// are dropped. `deps` is what `feature_deps` answers for the package's map.
+/// For each group of which some key of the package enables a name, the set of those keys. Groups
+/// without such a key are dropped. `deps` is what `feature_deps` returns for the package's map.
 pub fn at_least_one_of_for_package<'a>(
     alloc: Global,
     at_least_one_of: &[Feature],

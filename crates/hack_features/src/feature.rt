@@ -1,4 +1,4 @@
-//! A feature of a package: one name, several that go together, or one of a dependency.
+//! A feature of a package: one name, a group of several names, or a feature of a dependency.
 
 ghost use Rattle.std.specs.Prelude.{◌≡◌, ◌↔◌, ◌∷◌, [], ◌++◌, length, Some, IsTrue, IfOk, Any};
 ghost use Rattle.std.specs.Prelude.{Contains, string_bytes};
@@ -16,16 +16,16 @@ use std::collections::BTreeMap;
 use std::fmt::Write;
 use std::{fmt, slice};
 
-/// What may stand as one element in a set of features. Features are ordered by variant, in the
-/// order below, and then by their fields.
+/// One element of a set of features. Features are ordered by variant, in the order below, and then
+/// by their fields.
 #[derive(PartialEq, Eq, PartialOrd, Ord, Drop)]
 pub enum Feature {
     /// A feature of the package itself; its name is not divided any further.
     Normal { name: String },
-    /// Features that go together; `name` is theirs, joined by commas.
+    /// Several features as one element; `name` is their names joined by commas.
     Group { name: String, list: Vec<String> },
-    /// A feature of a dependency, as `dependency/feature`; `_slash` is the place of the slash that
-    /// joins them, in bytes.
+    /// A feature of a dependency, as `dependency/feature`; `_slash` is the place, in bytes, of the
+    /// slash between the two.
     Path { name: String, _slash: usize },
 }
 
@@ -41,7 +41,7 @@ impl Feature {
         })
     }
 
-    /// Features that go together, in the order given; names may repeat or be empty.
+    /// A group of features, in the order given; names may repeat or be empty.
     pub fn group(alloc: Global, names: Vec<String>) -> Result<Feature, AllocError>
         ensures { IfOk result (IsGroup (names_of names.items)) }
     {
@@ -80,7 +80,7 @@ impl Feature {
         }
     }
 
-    /// The names that the feature stands for: those of a group, else its own.
+    /// The names of the feature: those in the list of a group, else its own.
     pub fn as_group(&self) -> &[String]
         ensures { names_of result.now ≡ group_of self.now }
     {
@@ -91,7 +91,7 @@ impl Feature {
         }
     }
 
-    /// Whether `s` is one of the names that the feature stands for.
+    /// Whether `s` is one of the feature's names.
     pub fn matches(&self, s: &str) -> bool
         ensures { IsTrue result ↔ Contains (group_of self.now) s.now }
     {
@@ -103,8 +103,8 @@ impl Feature {
         false
     }
 
-    /// Whether a chain of values leads from `s` to one of the names that the feature stands for.
-    /// Values are cut before their first `/`, and those that begin with `dep:` are kept.
+    /// Whether a chain of values leads from `s` to one of the feature's names. Values are cut
+    /// before their first `/`, and values that begin with `dep:` count too.
     pub fn matches_recursive(
         &self,
         alloc: Global,
@@ -118,7 +118,7 @@ impl Feature {
         Ok(self.matches_one_of(found.as_slice()))
     }
 
-    /// Whether one of these is a name that the feature stands for.
+    /// Whether one of these is a name of the feature.
     fn matches_one_of(&self, names: &[&str]) -> bool
         ensures { IsTrue result ↔ Any (λ name. Contains (group_of self.now) name.now) names.now }
     {
@@ -126,17 +126,17 @@ impl Feature {
     }
 }
 
-/// Which of two features stands first in their order: by variant, `Normal` before `Group` before
-/// `Path`, and then by name, by the list of a group, and by the place of a slash. Texts are ordered
-/// by their bytes.
+/// Returns which of two features comes first: by variant, `Normal` before `Group` before `Path`,
+/// and then by name, by the list of a group, and by the place of a slash. Texts are ordered by
+/// their bytes.
 pub fn compare_features(first: &Feature, second: &Feature) -> Ordering
     ensures order { result ≡ feature_order first.now second.now }
 
-    // Total and strict: two features stand one way or the other or are the same, and what is before
-    // a feature is before all that is behind it.
+    // A total order: of two features one is before the other, or they are the same, and what is
+    // before a feature is before all that come after it.
     ensures total { IsTotalOrder feature_order }
 
-    // Neither stands first just where they have the same variant and fields.
+    // The result is `Equal` exactly if both have the same variant and fields.
     ensures same { IsTrue (is_eq result) ↔ AreSame first.now second.now }
 {
     first.cmp(second)

@@ -9,7 +9,8 @@ use crate::reach::Edges;
 use std::alloc::{AllocError, Global};
 use std::collections::BTreeMap;
 
-/// For each name of a table, by place, what the map has at it.
+/// For each name of a table, by its place, whether it is a key of the map and what its values lead
+/// to.
 #[derive(Drop)]
 pub(crate) struct Links<'a> {
     pub names: Names<'a>,
@@ -45,7 +46,7 @@ impl<'a> Links<'a> {
         Ok(())
     }
 
-    /// The links between the names, and between those that chains of edges lead to from them.
+    /// The links of these names and of all names that chains of edges lead to from them.
     pub(crate) fn new(
         alloc: Global,
         map: &'a BTreeMap<String, Vec<String>>,

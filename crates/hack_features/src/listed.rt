@@ -1,5 +1,6 @@
-//! The sets that the rules of a package list. It stands apart from the rules, so that it can learn
-//! of a set by questions alone, each of which is counted.
+//! The sets that the rules of a package list. This module is separate from `rules`, so that it
+//! can't read the fields of `Rules`: to learn whether a set is permitted it has to ask, and each
+//! question is counted.
 
 ghost use Rattle.std.specs.Prelude.{◌≡◌, ◌≤◌, ◌+◌, IfOk};
 

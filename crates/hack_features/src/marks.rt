@@ -50,7 +50,7 @@ impl Marks {
     }
 }
 
-/// The row at the place, none past the last.
+/// The row at the place; an empty row past the last one.
 pub(crate) fn row_at(rows: &[Vec<usize>], place: usize) -> &[usize]
     ensures { result.now ≡ slice_index_or (rows_of rows.now) place [] }
 {
@@ -60,8 +60,8 @@ pub(crate) fn row_at(rows: &[Vec<usize>], place: usize) -> &[usize]
     }
 }
 
-/// A mark at each place that a chain of edges leads to from `start`, itself too. `rows` has for
-/// each place those that an edge leads to.
+/// Returns marks: true at `start` and at each place that a chain of edges leads to from it. `rows`
+/// has for each place the places that one edge leads to from it.
 pub(crate) fn mark_reached(
     alloc: Global,
     rows: &[Vec<usize>],
@@ -86,7 +86,8 @@ pub(crate) fn mark_reached(
     Ok(found.marks)
 }
 
-/// The marks of what chains lead to from the place; no marks where no edge leads anywhere from it.
+/// The marks of the places that chains of edges lead to from the place; an empty row if no edge
+/// leads away from it.
 fn marks_from(alloc: Global, rows: &[Vec<usize>], place: usize) -> Result<Vec<bool>, AllocError>
     requires start { place < length rows.now }
     requires within { All (All (λ place. place < length rows.now)) (rows_of rows.now) }
@@ -99,7 +100,7 @@ fn marks_from(alloc: Global, rows: &[Vec<usize>], place: usize) -> Result<Vec<bo
     Ok(mark_reached(alloc, rows, place)?)
 }
 
-/// For each place the marks of what chains lead to from it.
+/// For each place the marks of the places that chains of edges lead to from it.
 pub(crate) fn all_marks(alloc: Global, rows: &[Vec<usize>]) -> Result<Vec<Vec<bool>>, AllocError>
     requires within { All (All (λ place. place < length rows.now)) (rows_of rows.now) }
     ensures { IfOk result (λ marks. (i j : ℕ) → i < length rows.now

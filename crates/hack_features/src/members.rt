@@ -1,5 +1,5 @@
-//! Sets that say of each position whether it is a member, and what tables answer on them: each
-//! question goes over the set once a table.
+//! Sets that say of each position whether it is a member, and tests of such sets by the rows of
+//! tables. Each test takes time in proportion to the number of positions.
 
 ghost use Rattle.std.specs.Prelude.{◌≡◌, ◌≤◌, ◌++◌, ◌∷◌, ◌&&◌, [], length, cond, not, nat_le};
 ghost use Rattle.std.specs.Prelude.{sum_by, IfOk};
@@ -39,7 +39,7 @@ pub(crate) fn members_of(alloc: Global, set: &[bool]) -> Result<Vec<usize>, Allo
     Ok(members)
 }
 
-/// The row at the place, none past the last.
+/// The row at the place; an empty row past the last one.
 fn bits_at(rows: &[Vec<bool>], place: usize) -> &[bool]
     ensures { result.now ≡ slice_index_or (rows_of rows.now) place [] }
 {
@@ -49,14 +49,14 @@ fn bits_at(rows: &[Vec<bool>], place: usize) -> &[bool]
     }
 }
 
-/// Whether the place is a member of the set and has an entry in the row.
+/// Whether the place is a member of the set and the row is true at it.
 fn is_both(set: &[bool], row: &[bool], place: usize) -> bool
     ensures { result ≡ (bit set.now place && bit row.now place) }
 {
     bit(set, place) && bit(row, place)
 }
 
-/// Whether no entry of the row stands at a member of the set.
+/// Whether the row is false at each member of the set.
 fn none_in(row: &[bool], set: &[bool]) -> bool
     ensures { result ≡ list_all (λ q. not (bit row.now q)) (positions_of set.now) }
 {
@@ -68,14 +68,14 @@ fn none_in(row: &[bool], set: &[bool]) -> bool
     true
 }
 
-/// Whether the place is a member of the set, and its row has an entry at `last`.
+/// Whether the place is a member of the set, and its row is true at `last`.
 fn is_with(rows: &[Vec<bool>], set: &[bool], place: usize, last: usize) -> bool
     ensures { result ≡ (bit set.now place && cell (rows_of rows.now) place last) }
 {
     bit(set, place) && bit(bits_at(rows, place), last)
 }
 
-/// Whether no row of a member of the set has an entry at `last`.
+/// Whether each member's row is false at `last`.
 fn none_at(rows: &[Vec<bool>], set: &[bool], last: usize) -> bool
     ensures { result ≡ list_all (λ p. not (cell (rows_of rows.now) p last)) (positions_of set.now) }
 {
@@ -87,8 +87,8 @@ fn none_at(rows: &[Vec<bool>], set: &[bool], last: usize) -> bool
     true
 }
 
-/// Whether the row of `last` has no entry at itself nor at a member of the set, and no member's row
-/// has one at `last`.
+/// Whether the row of `last` is false at `last` and at each member of the set, and each member's
+/// row is false at `last`.
 pub(crate) fn is_clear(rows: &[Vec<bool>], set: &[bool], last: usize) -> bool
     ensures { result ≡ ((not (cell (rows_of rows.now) last last)
         && list_all (λ q. not (cell (rows_of rows.now) last q)) (positions_of set.now))
@@ -98,7 +98,7 @@ pub(crate) fn is_clear(rows: &[Vec<bool>], set: &[bool], last: usize) -> bool
     !bit(row, last) && none_in(row, set) && none_at(rows, set, last)
 }
 
-/// The entry of the row at a member of the set, 0 at any other place.
+/// The entry of the row at the place if that is a member of the set, else 0.
 fn entry_at(row: &[usize], set: &[bool], place: usize) -> usize
     ensures { result ≡ cond (bit set.now place) (count_at row.now place) 0 }
 {
@@ -108,7 +108,7 @@ fn entry_at(row: &[usize], set: &[bool], place: usize) -> usize
     0
 }
 
-/// Whether the entries at the members of the set and at `last` are at most 1 in sum.
+/// Whether the sum of the row's entries at the members of the set and at `last` is at most 1.
 pub(crate) fn at_most_one_in(row: &[usize], set: &[bool], last: usize) -> bool
     ensures { result ≡ nat_le (sum_by (count_at row.now) (positions_of set.now ++ last ∷ [])) 1 }
 {

@@ -1,5 +1,5 @@
-//! The names of a feature map by their places in one table: texts are compared when it is made, and
-//! not again.
+//! The names of a feature map by their places in one table: texts are compared only while it is
+//! made.
 
 ghost use Rattle.std.specs.Prelude.{◌≡◌, ◌<◌, length, IfOk, OnOk, MatchOption, Contains};
 ghost use Rattle.hack_base.specs.Names.{Name, names_of};
@@ -11,7 +11,7 @@ use crate::reach::Edges;
 use std::alloc::{AllocError, Global};
 use std::collections::BTreeMap;
 
-/// Distinct names.
+/// A table of distinct names, each with its place.
 #[derive(Drop)]
 pub(crate) struct Names<'a> {
     pub texts: Vec<&'a str>,
@@ -22,7 +22,7 @@ impl<'a> Names<'a> {
     ghost use Rattle.std.specs.Prelude.{[], ◌∷◌, ◌++◌};
     ghost use Rattle.hack_features.specs.Table.{table, IsInStep};
 
-    /// No names.
+    /// An empty table.
     pub(crate) fn new(alloc: Global) -> Names<'a>
         ensures in_step { IsInStep result }
         ensures empty { table result ≡ [] }
@@ -33,7 +33,7 @@ impl<'a> Names<'a> {
         }
     }
 
-    /// The place of the name, if it is there.
+    /// The place of the name, if the table has it.
     pub(crate) fn find(&self, name: &str) -> Option<usize>
         requires { IsInStep self.now }
         ensures { MatchOption result (¬ Contains (table self.now) name.now)
@@ -46,7 +46,7 @@ impl<'a> Names<'a> {
         }
     }
 
-    /// Adds the name, and tells its place.
+    /// Adds a name that the table doesn't have, and returns its place.
     fn add(&mut self, name: &'a str) -> Result<usize, AllocError>
         requires in_step { IsInStep self.old }
         requires new { ¬ Contains (table self.old) name.now }
@@ -60,7 +60,7 @@ impl<'a> Names<'a> {
         Ok(place)
     }
 
-    /// The place of the name, which is added where it isn't there.
+    /// The place of the name, which is added if the table doesn't have it.
     pub(crate) fn place_of(&mut self, name: &'a str) -> Result<usize, AllocError>
         requires { IsInStep self.old }
         ensures in_step { OnOk result (IsInStep self.new) }
@@ -74,7 +74,8 @@ impl<'a> Names<'a> {
         }
     }
 
-    /// The places of what the values lead to. Names that aren't there are added.
+    /// The places of the names that the values lead to. Those that the table doesn't have are
+    /// added.
     pub(crate) fn targets(
         &mut self,
         alloc: Global,
@@ -97,7 +98,8 @@ impl<'a> Names<'a> {
         Ok(row)
     }
 
-    /// The places of what the map's values of the name lead to. Names that aren't there are added.
+    /// The places of the names that the map's values of `name` lead to. Those that the table
+    /// doesn't have are added.
     pub(crate) fn row_of(
         &mut self,
         alloc: Global,
@@ -119,7 +121,7 @@ impl<'a> Names<'a> {
         }
     }
 
-    /// The places of the texts' names. Those that aren't there are added.
+    /// The places of these texts. Those that the table doesn't have are added.
     pub(crate) fn places_of(
         &mut self,
         alloc: Global,
@@ -137,7 +139,7 @@ impl<'a> Names<'a> {
         Ok(row)
     }
 
-    /// Adds the keys of the map.
+    /// Adds the keys of the map that the table doesn't have.
     pub(crate) fn add_keys(
         &mut self,
         map: &'a BTreeMap<String, Vec<String>>,

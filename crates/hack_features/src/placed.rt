@@ -14,7 +14,7 @@ use crate::routes::Routes;
 use std::alloc::{AllocError, Global};
 use std::collections::BTreeMap;
 
-/// The places of each candidate's names, which are added.
+/// The places of each candidate's names. Those that the table doesn't have are added.
 fn candidate_places<'a>(
     alloc: Global,
     names: &mut Names<'a>,
@@ -33,7 +33,7 @@ fn candidate_places<'a>(
     Ok(rows)
 }
 
-/// The places of each group's names, which are added.
+/// The places of each group's names. Those that the table doesn't have are added.
 fn group_places<'a>(
     alloc: Global,
     names: &mut Names<'a>,

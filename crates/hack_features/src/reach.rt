@@ -60,7 +60,7 @@ impl<'a> Found<'a> {
         Ok(())
     }
 
-    /// Adds what the values lead to.
+    /// Adds the names that the values lead to.
     fn add_targets(&mut self, values: &'a [String], edges: Edges) -> Result<(), AllocError>
         requires { IsInStep self.old }
         ensures in_step { OnOk result (IsInStep self.new) }

@@ -1,5 +1,5 @@
-//! What the names of a feature map lead to by chains of edges, for each kind of edges one table of
-//! places.
+//! What the names of a feature map lead to by chains of edges: one table of places for each kind of
+//! edges.
 
 ghost use Rattle.std.specs.Prelude.{◌≡◌, ◌==◌, ◌&&◌, ◌++◌, [], List, length, not, IfOk, IsTrue};
 ghost use Rattle.std.specs.Prelude.{Contains};
@@ -33,7 +33,7 @@ pub(crate) fn bit(row: &[bool], place: usize) -> bool
 pub(crate) struct Routes<'a> {
     names: Vec<&'a str>,
     keys: Vec<bool>,
-    /// No marks where no edge leads anywhere from the name, so that most questions skip them.
+    /// An empty row for a name from which no edge leads away, so that most questions skip it.
     marks: Vec<Vec<bool>>,
 }
 
@@ -43,8 +43,8 @@ impl<'a> Routes<'a> {
     ghost use Rattle.hack_features.specs.Table.{table, IsInStep};
     ghost use Rattle.hack_features.specs.Routed.{names_in, AreRoutesOf};
 
-    /// What names lead to, those of the table, which has the keys of the map, and those that they
-    /// lead to.
+    /// What names lead to: the names of the table, which has to have the keys of the map, and all
+    /// names that chains of edges lead to from them.
     pub(crate) fn new(
         alloc: Global,
         map: &'a BTreeMap<String, Vec<String>>,
@@ -89,7 +89,7 @@ impl<'a> Routes<'a> {
         bit(self.keys.as_slice(), place)
     }
 
-    /// The marks at the place, none past the last.
+    /// The marks at the place; an empty row past the last one.
     fn marks_at(&self, place: usize) -> &[bool]
         ensures { result.now ≡ slice_index_or (rows_of self.now.marks.items) place [] }
     {
@@ -99,7 +99,7 @@ impl<'a> Routes<'a> {
         }
     }
 
-    /// Whether no edge leads anywhere from the place.
+    /// Whether no edge leads away from the place.
     pub(crate) fn is_end(&self, place: usize) -> bool
         ensures { IsTrue result ↔ (length (slice_index_or (rows_of self.now.marks.items) place [])
             ≡ 0) }
@@ -107,21 +107,22 @@ impl<'a> Routes<'a> {
         self.marks_at(place).is_empty()
     }
 
-    /// Whether a chain of edges leads from a place to another one.
+    /// Whether a chain of edges leads from a place to a different one. For a place and itself the
+    /// result says nothing.
     pub(crate) fn has_mark(&self, from: usize, to: usize) -> bool
         ensures { result ≡ cell (rows_of self.now.marks.items) from to }
     {
         bit(self.marks_at(from), to)
     }
 
-    /// Whether a chain of edges leads from a place to another or the same.
+    /// Whether a chain of edges leads from a place to another one, or both are the same place.
     pub(crate) fn leads(&self, from: usize, to: usize) -> bool
         ensures { result ≡ leads (rows_of self.now.marks.items) from to }
     {
         from == to || self.has_mark(from, to)
     }
 
-    /// Whether a chain of edges leads from a place to another one, which is not the same.
+    /// Whether a chain of edges leads from a place to another one, and they are not the same place.
     pub(crate) fn leads_on(&self, from: usize, to: usize) -> bool
         ensures { result ≡ (not (from == to) && cell (rows_of self.now.marks.items) from to) }
     {

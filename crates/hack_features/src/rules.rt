@@ -43,10 +43,11 @@ impl<'a> Rules<'a> {
     ghost use Rattle.hack_features.specs.View.{choice_of, size_of, asked_of, may_of, whole_of};
     ghost use Rattle.hack_features.specs.Samples.{positions_of};
 
-    /// The rules for the candidates `features` of a package with the feature map `map`: at most
-    /// `depth` of them in a set, for each group of `at_least_one_of` one that enables a name of it,
-    /// and for each group of `mutually_exclusive_features` that isn't lifted at most one name that
-    /// reaches it. `lifted` has an entry for each of these groups.
+    /// Makes the rules for the candidates `features` of a package with the feature map `map`. A set
+    /// has at most `depth` candidates. For each group of `at_least_one_of` that some key of the map
+    /// serves, it has a name that serves the group. For each group of `mutually_exclusive_features`
+    /// that isn't lifted, it has at most one name that reaches the group. `lifted` says of each of
+    /// these groups whether it is lifted; a missing entry means that it isn't.
     pub fn new(
         alloc: Global,
         features: &'a [&'a Feature],
@@ -62,8 +63,7 @@ impl<'a> Rules<'a> {
         ensures size { IfOk result (λ rules. size_of rules ≡ length features.now) }
         ensures fresh { IfOk result (λ rules. asked_of rules ≡ 0) }
 
-        // What `may_extend` answers is whether a set is permitted, and `complete` whether it is
-        // required.
+        // `may_extend` returns whether a set is permitted, and `complete` whether it is required.
         ensures permitted { IfOk result (λ rules. (s : List ℕ) → IsSelection (size_of rules) s
             → IsTrue (may_of rules s) ↔ IsPermitted (choice_of rules) s) }
         ensures required { IfOk result (λ rules. (s : List ℕ) → IsSelection (size_of rules) s
@@ -109,7 +109,7 @@ impl<'a> Rules<'a> {
         self.given.features.len()
     }
 
-    /// How many positions a permitted set has at most, where a depth is given.
+    /// How many positions a permitted set has at most, if a depth is given.
     pub fn most(&self) -> Option<usize>
         ensures { (s : List ℕ) → IsTrue (may_of self.now s) → IsWithin result s }
     {
@@ -153,7 +153,7 @@ impl<'a> Rules<'a> {
         self.tables.is_lean(positions, next)
     }
 
-    /// Whether the permitted set, with the position besides, is permitted. It is counted as a
+    /// Whether the permitted set is still permitted with the position added. It is counted as a
     /// question.
     pub(crate) fn permits_in(&mut self, set: &[bool], position: usize) -> bool
         requires { may_of self.old (positions_of set.now) ≡ true }
@@ -195,8 +195,8 @@ impl<'a> Rules<'a> {
         self.tables.serves.as_slice()
     }
 
-    /// Whether the set of `least` and the greater `positions` is permitted. It is counted as a call
-    /// of `may_extend` is.
+    /// Whether the set of `least` and the greater `positions` is permitted. It is counted as a
+    /// question, like a call of `may_extend`.
     pub fn may_begin(&mut self, least: usize, positions: &[usize]) -> bool
         requires { IsSelection (size_of self.old) (least ∷ positions.now) }
         ensures answer { result ≡ may_of self.old (least ∷ positions.now) }
@@ -212,8 +212,8 @@ impl<'a> Rules<'a> {
     }
 
     /// The first set, in the order of sets, that is listed, lies inside `positions` and enables the
-    /// same names. None where `positions` is empty, or breaks the depth, an at-least-one group or
-    /// an exclusion.
+    /// same names. None if `positions` is empty, or breaks the depth, an at-least-one group or an
+    /// exclusion.
     pub fn covering(
         &self,
         alloc: Global,

@@ -28,7 +28,7 @@ pub(crate) fn one_leads(routes: &Routes, names: &[usize], y: usize) -> bool
     false
 }
 
-/// The candidates a name of which leads to `y`.
+/// The candidates that have a name that leads to `y`.
 fn providers_of(alloc: Global, enabled: &Placed, y: usize) -> Result<Vec<usize>, AllocError>
     ensures { IfOk result (λ row. row.items ≡ providers_of
         (rows_of enabled.now.routes.marks.items) (rows_of enabled.now.candidates.items) y) }
@@ -40,7 +40,7 @@ fn providers_of(alloc: Global, enabled: &Placed, y: usize) -> Result<Vec<usize>,
     Ok(members_of(alloc, leading.as_slice())?)
 }
 
-/// For each of the names the candidates a name of which leads to it.
+/// For each of the names the candidates that have a name that leads to it.
 fn providers_at(
     alloc: Global,
     enabled: &Placed,
@@ -57,7 +57,7 @@ fn providers_at(
     Ok(rows)
 }
 
-/// For each name of each candidate the candidates a name of which leads to it.
+/// For each name of each candidate the candidates that have a name that leads to it.
 fn all_providers(alloc: Global, enabled: &Placed) -> Result<Vec<Vec<Vec<usize>>>, AllocError>
     ensures { IfOk result (λ tables. tables_of tables.items ≡ all_providers
         (rows_of enabled.now.routes.marks.items) (rows_of enabled.now.candidates.items)) }
@@ -69,7 +69,7 @@ fn all_providers(alloc: Global, enabled: &Placed) -> Result<Vec<Vec<Vec<usize>>>
     Ok(tables)
 }
 
-/// For each row the places of its entries, and all below `n`.
+/// For each row the places at which it is true, and after these groups one of all places below `n`.
 fn groups_of(alloc: Global, rows: &[Vec<bool>], n: usize) -> Result<Vec<Vec<usize>>, AllocError>
     ensures { IfOk result (λ groups. rows_of groups.items
         ≡ map positions_of (rows_of rows.now) ++ positions_of (replicate n true) ∷ []) }
@@ -83,7 +83,7 @@ fn groups_of(alloc: Global, rows: &[Vec<bool>], n: usize) -> Result<Vec<Vec<usiz
     Ok(groups)
 }
 
-/// The sets as positions.
+/// The sets, given as one flag for each position, as lists of positions.
 fn sets_from(alloc: Global, sets: &[Vec<bool>]) -> Result<FeatureSets, AllocError>
     ensures { IfOk result (λ all. sets_in all ≡ map positions_of (rows_of sets.now)) }
 {
@@ -142,9 +142,9 @@ impl Rules<'_> {
     ghost use Rattle.hack_features.specs.Samples.{IsSample, CoversPatterns};
     ghost use Rattle.hack_features.specs.View.{choice_of, size_of, asked_of};
 
-    /// A few of the listed sets, in the order of sets, that show each pattern of at most `strength`
-    /// candidates, on and off, that some listed set shows. A candidate is on in a set that enables
-    /// each of its names. At most `most_questions` questions are asked for it.
+    /// Returns a sample: a few of the listed sets, in the order of sets, that show each pattern of
+    /// at most `strength` candidates, each on or off, that some listed set shows. A candidate is on
+    /// in a set that enables each of its names. At most `most_questions` questions are asked.
     pub fn sample(
         &mut self,
         alloc: Global,

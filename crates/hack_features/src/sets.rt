@@ -8,8 +8,8 @@ ghost use Rattle.hack_features.specs.Sets.{with_each};
 use std::alloc::{AllocError, Global};
 use std::cmp::Ordering;
 
-/// Which of two sets, as increasing lists of positions, stands first in the order of sets: the
-/// greatest position that is in just one of them is in the later set.
+/// Returns which of two sets, given as increasing lists of positions, comes first in the order of
+/// sets: the later set is the one with the greatest position that is in only one of them.
 pub fn compare_sets(first: &[usize], second: &[usize]) -> Ordering
     requires first { AllPairs (λ p q. p < q) first.now }
     requires second { AllPairs (λ p q. p < q) second.now }
@@ -18,7 +18,7 @@ pub fn compare_sets(first: &[usize], second: &[usize]) -> Ordering
     ensures order { MatchOrdering result (IsBefore first.now second.now) (first.now
         ≡ second.now) (IsBefore second.now first.now) }
 
-    // Strict: no set is before itself, and what is before a set is before all that is behind it.
+    // Strict: no set is before itself, and what is before a set is before all that come after it.
     ensures irreflexive { IsBefore first.now first.now → ⊥ }
     ensures transitive { (third : List ℕ) → IsBefore first.now second.now
         → IsBefore second.now third → IsBefore first.now third }
@@ -43,7 +43,7 @@ fn has_room<T>(list: &[T], depth: Option<usize>) -> bool
     }
 }
 
-/// Each list that has room, with one more item.
+/// For each list that the depth lets grow, the list with one more item.
 fn longer<T: Copy>(
     alloc: Global,
     lists: &[Vec<T>],
@@ -63,7 +63,7 @@ fn longer<T: Copy>(
     Ok(more)
 }
 
-/// The lists of items of all sets of positions within the depth.
+/// The lists of items of all sets of positions within the depth, in the order of sets.
 pub fn powerset<T: Copy>(
     alloc: Global,
     items: &[T],

@@ -43,7 +43,7 @@ fn key_places(alloc: Global, routes: &Routes) -> Result<Vec<usize>, AllocError>
     Ok(places)
 }
 
-/// Whether one of these places leads to each of the names.
+/// Whether for each of the names one of these places leads to it.
 fn leads_to_each(routes: &Routes, from: &[usize], names: &[usize]) -> bool
     ensures { result ≡ leads_to_each (rows_of routes.now.marks.items) from.now names.now }
 {
@@ -55,7 +55,7 @@ fn leads_to_each(routes: &Routes, from: &[usize], names: &[usize]) -> bool
     true
 }
 
-/// For each candidate whether one of these places leads to each of its names.
+/// For each candidate whether each of its names is one to which some of these places leads.
 fn settings_from(alloc: Global, enabled: &Placed, from: &[usize]) -> Result<Vec<bool>, AllocError>
     ensures { IfOk result (λ row. row.items
         ≡ map (leads_to_each (rows_of enabled.now.routes.marks.items) from.now)
@@ -93,8 +93,8 @@ impl Rules<'_> {
     }
 
     /// For each candidate whether it is on where all features of the package are, as Cargo's
-    /// `--all-features` turns them on: whether some key of the feature map enables each of its
-    /// names. A key enables itself.
+    /// `--all-features` turns them on: whether each of its names is enabled by some key of the
+    /// feature map. A key enables itself.
     /// <https://doc.rust-lang.org/cargo/reference/features.html#command-line-feature-options>
     pub fn settings_of_all(&self, alloc: Global) -> Result<Vec<bool>, AllocError>
         ensures settings { IfOk result (λ row. AreSettingsOfAll (choice_of self.now) row.items) }

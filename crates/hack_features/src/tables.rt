@@ -1,5 +1,5 @@
-//! The tables that answer questions on sets: who spares whom, how many names of a candidate reach
-//! an exclusion group, and which candidates serve an at-least-one group.
+//! The tables that answer questions on sets: which candidate spares which, how many names of a
+//! candidate reach an exclusion group, and which candidates serve an at-least-one group.
 
 ghost use Rattle.std.specs.Prelude.{◌≡◌, ◌<◌, ◌++◌, ◌∷◌, ◌&&◌, ◌==◌, [], ℕ, List, length, map, not};
 ghost use Rattle.std.specs.Prelude.{nat_le, sum_by, IfOk, IsTrue, false};
@@ -44,8 +44,8 @@ pub(crate) struct Tables {
     /// How many names of the entry's candidate reach the row's exclusion group. Lifted groups have
     /// no row.
     pub hits: Vec<Vec<usize>>,
-    /// Whether the entry's candidate serves the row's at-least-one group. Dropped groups have no
-    /// row.
+    /// Whether the entry's candidate serves the row's at-least-one group. Groups that no key serves
+    /// have no row.
     pub serves: Vec<Vec<bool>>,
 }
 
@@ -75,7 +75,7 @@ fn spares(routes: &Routes, names: &[usize], others: &[usize]) -> bool
     false
 }
 
-/// Whether no edge leads anywhere from the names.
+/// Whether no edge leads away from any of the names.
 fn are_ends(routes: &Routes, names: &[usize]) -> bool
     ensures { result ≡ list_all (λ x.
         length (slice_index_or (rows_of routes.now.marks.items) x []) == 0) names.now }
@@ -88,7 +88,7 @@ fn are_ends(routes: &Routes, names: &[usize]) -> bool
     true
 }
 
-/// Whether a candidate has no names.
+/// Whether some candidate has no names.
 fn is_some_nameless(candidates: &[Vec<usize>]) -> bool
     ensures { result ≡ list_any (λ names. length names == 0) (rows_of candidates.now) }
 {
@@ -100,8 +100,9 @@ fn is_some_nameless(candidates: &[Vec<usize>]) -> bool
     false
 }
 
-/// The candidates that the one of these names spares; no entries where it spares none, so that most
-/// questions skip the row. `some_nameless` says whether a candidate has no names.
+/// The row of the candidate with these names: which candidates it spares. The row is empty if it
+/// spares none, so that most questions skip it. `some_nameless` says whether some candidate has no
+/// names.
 fn spare_row(
     alloc: Global,
     routes: &Routes,
@@ -293,7 +294,7 @@ pub(crate) fn count(row: &[usize], place: usize) -> usize
     }
 }
 
-/// Whether no entry of the row stands at one of the positions or at `last`.
+/// Whether the row is false at each of the positions and at `last`.
 fn has_none(row: &[bool], positions: &[usize], last: usize) -> bool
     ensures { result ≡ list_all (λ q. not (bit row.now q)) (positions.now ++ last ∷ []) }
 {
@@ -308,7 +309,7 @@ fn has_none(row: &[bool], positions: &[usize], last: usize) -> bool
     !bit(row, last)
 }
 
-/// Whether no row has an entry.
+/// Whether all rows are empty, so that no candidate spares another.
 fn are_empty(rows: &[Vec<bool>]) -> bool
     ensures { IsTrue result → (s : List ℕ) → IsTrue (is_lean (rows_of rows.now) s) }
 {
@@ -320,7 +321,7 @@ fn are_empty(rows: &[Vec<bool>]) -> bool
     true
 }
 
-/// Whether the entries at the positions and at `last` are at most 1 in sum.
+/// Whether the sum of the row's entries at the positions and at `last` is at most 1.
 fn has_at_most_one(row: &[usize], positions: &[usize], last: usize) -> bool
     ensures { result ≡ nat_le (sum_by (count_at row.now) (positions.now ++ last ∷ [])) 1 }
 {
@@ -335,7 +336,7 @@ fn has_at_most_one(row: &[usize], positions: &[usize], last: usize) -> bool
     count(row, last) <= 1 - seen
 }
 
-/// Whether an entry of the row stands at one of the positions.
+/// Whether the row is true at one of the positions.
 fn has_some(row: &[bool], positions: &[usize]) -> bool
     ensures { result ≡ list_any (bit row.now) positions.now }
 {
@@ -353,8 +354,8 @@ impl Tables {
     ghost use Rattle.hack_features.specs.Samples.{positions_of};
     ghost use Rattle.std.specs.Prelude.{true};
 
-    /// The tables of what is given, from what the names of candidates and at-least-one groups
-    /// enable.
+    /// Makes the tables of what is given. `enabled` is what the names of candidates and
+    /// at-least-one groups enable.
     pub(crate) fn new(
         alloc: Global,
         given: Given<'_>,
@@ -395,8 +396,8 @@ impl Tables {
         self.spares_none(last, positions, last)
     }
 
-    /// Whether of each exclusion group at most one name of those at the positions and at `last`
-    /// reaches it.
+    /// Whether each exclusion group is reached by at most one name of the candidates at the
+    /// positions and at `last`.
     pub(crate) fn is_exclusive(&self, positions: &[usize], last: usize) -> bool
         ensures { result ≡ is_exclusive (rows_of self.now.hits.items) (positions.now ++ last ∷ []) }
     {
@@ -408,8 +409,8 @@ impl Tables {
         true
     }
 
-    /// Whether of each exclusion group at most one name of the set's members and of `last` reaches
-    /// it.
+    /// Whether each exclusion group is reached by at most one name of the set's members and of
+    /// `last`.
     pub(crate) fn is_exclusive_in(&self, set: &[bool], last: usize) -> bool
         ensures { result ≡ is_exclusive (rows_of self.now.hits.items)
             (positions_of set.now ++ last ∷ []) }
@@ -422,8 +423,8 @@ impl Tables {
         true
     }
 
-    /// Whether `last` spares no member of the set, none of which spares another, nor itself, and no
-    /// member spares `last`.
+    /// Whether `last` spares neither a member of the set nor itself, and no member spares `last`.
+    /// No member of the set may spare another.
     pub(crate) fn stays_lean(&self, set: &[bool], last: usize) -> bool
         requires { is_lean (rows_of self.now.spares.items) (positions_of set.now) ≡ true }
         ensures { result ≡ is_lean (rows_of self.now.spares.items)
@@ -432,7 +433,7 @@ impl Tables {
         is_clear(self.spares.as_slice(), set, last)
     }
 
-    /// Whether there is nothing to ask: no candidate spares another, and there is no group.
+    /// Whether the tables refuse no set: no candidate spares another, and no group has a row.
     pub(crate) fn are_bare(&self) -> bool
         ensures { IsTrue result → (s : List ℕ) → IsTrue (is_lean (rows_of self.now.spares.items) s)
             × IsTrue (is_exclusive (rows_of self.now.hits.items) s)

@@ -3,7 +3,7 @@ use Rattle.std.proofs.Common.{◌≡◌, ◌∙◌, List, ◌++◌, true, sym, a
 use Rattle.std.specs.Prelude.{filter, ◌&&◌}
 use Rattle.hack_packages.specs.Candidates.{Names, Wishes, Known, stays, is_asked, applies, is_bare, candidates}
 
--- where no features to include are named, the candidates are these four lists, one behind the other
+-- if no features to include are named, the candidates are these four lists, one after another
 pub four-lists : (w : Wishes) (p : Known) (a o d g all : List Names) → is_bare w.included ≡ true → a ≡ filter (stays w) p.normal → o ≡ filter (λ names. is_asked w.optional_deps names && stays w names) p.optional
     → d ≡ filter (λ names. w.deps_features && stays w names) p.of_deps → g ≡ filter (applies w p) w.groups → all ≡ ((a ++ o) ++ d) ++ g → all ≡ candidates w p
 four-lists w p a o d g all bare ea eo ed eg e =

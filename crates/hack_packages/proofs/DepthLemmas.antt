@@ -65,11 +65,11 @@ lean-one c p r =
     let named : Contains (names_at c r.spared) r.spares.by = subst (λ q. Contains (names_at c q) r.spares.by) k r.spares.named in
     (r.spares.enabled named.0 r.spares.by named.1).0 named.2
 
--- nothing has to hold of no item
+-- an empty list has no item of which anything has to hold
 all-none : {X : Type 0} (P : X → Type 0) (xs : List X) → xs ≡ [] → All P xs
 all-none P xs e = subst (λ l. All P l) (sym e) (λ k d lt. absurd (omega (arith, lt)))
 
--- each candidate alone is listed, where one fits and nothing is excluded or wanted
+-- each candidate alone is listed, if the depth is 1 and there are no groups
 listed-one : (c : Choice) (p : ℕ) → c.depth ≡ Some 1 → c.exclusive ≡ [] → c.at_least_one_of ≡ [] → IsListed c (p ∷ [])
 listed-one c p depth exclusive wanted = record {
   nonempty = λ e. cc;
@@ -81,7 +81,7 @@ listed-one c p depth exclusive wanted = record {
   required = all-none (λ group. (key : Name) → EnablesOneOf c.map group key → Serves c group (p ∷ [])) c.at_least_one_of wanted;
 }
 
--- a listed set is one candidate alone
+-- a nonempty set within a depth of 1 is one candidate alone
 one-listed : (n : ℕ) (s : List ℕ) → s ≢ [] → length s ≤ 1 → IsSelection n s → Contains (singles n) s
 one-listed n [] some short sel = absurd (some refl)
 one-listed n (p ∷ []) some short sel = single-in n p (sel.below 0 0 (omega arith))
@@ -151,7 +151,7 @@ same-keeps ex all pw opt norm d is depth some =
     ∙ ap not (and-false all)
     ∙ sym (ap (λ b. b || nat_lt 1 norm) some))
 
--- sets of one candidate have the runs of each feature, where the package has optional dependencies
+-- sets of one candidate have the runs of each feature, if the package has optional dependencies
 pub depth-one : (w : Wishes) (p : Known) (runs : List PackageRun) → IsDepthOne w → 0 < length p.optional → AreRuns w p runs → AreRuns (as_each w) p runs
 depth-one w p runs h some are =
     let asked : asks w ≡ true = ap (λ b. w.each || b) h.powerset ∙ or-true w.each in

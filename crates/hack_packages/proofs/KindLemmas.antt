@@ -16,7 +16,7 @@ use Rattle.hack_packages.specs.Candidates.{Wishes, Known, candidates}
 use Rattle.hack_packages.specs.Kinds.{AreSetRuns, RunsBy, AreRuns, HasPlainRun, HasSetRuns, AreCovering, asks, choice_of, options_of}
 use Rattle.hack_packages.specs.KindsView.{IsKind, runs_of}
 
--- one reference more
+-- references to features, after one more
 pub candidates-next : (all new : List (Bor Feature)) (features : List Feature) (k : ℕ) (f : Bor Feature) → new ≡ all ++ f ∷ [] → candidates_of all ≡ take k (groups_of features)
     → k < length features → f.now ≡ get_or features k f.now → candidates_of new ≡ take (k + 1) (groups_of features)
 candidates-next all new features k f pushed before lt is =
@@ -51,18 +51,18 @@ nothing-in : (n : ℕ) (sets : List (List ℕ)) (t : List ℕ) → (length sets 
 nothing-in n [] t e c = absurd (omega (arith, c.1))
 nothing-in n (s ∷ ss) t e c = absurd (omega (arith, eqb-true (length (s ∷ ss)) 0 e))
 
--- a plain run stands for no set
+-- where the runs are one plain run, there is no set
 plain-none : (o : RunOptions) (sets : List (List ℕ)) (t : List ℕ) → is_plain o sets ≡ true → Contains sets t → ⊥
 plain-none o sets t plain c = nothing-in 0 sets t (first-true (length sets == 0) ((o.normal == 0) && (o.optional == 0) || o.included) plain) c
 
--- the runs of sets that cover, cover
+-- if sets cover, their runs cover too
 pub covering-runs : (w : Wishes) (p : Known) (sets : List (List ℕ)) (runs : List PackageRun) → is_plain (options_of w p) sets ≡ false → AreCovers (choice_of w p) (length (candidates w p)) sets
     → runs ≡ runs_from (options_of w p) sets → AreCovering w p runs
 covering-runs w p sets runs some covers made s sel wanted =
     let t = covers s sel wanted in
     (t.0, t.1, subst (λ l. Contains l (Set t.0)) (sym made) (runs-has (options_of w p) sets t.0 some t.2))
 
--- so does the plain run that stands for no set
+-- so does a single plain run, since then no set has to be covered
 pub covering-plain : (w : Wishes) (p : Known) (sets : List (List ℕ)) (runs : List PackageRun) → is_plain (options_of w p) sets ≡ true → AreCovers (choice_of w p) (length (candidates w p)) sets → AreCovering w p runs
 covering-plain w p sets runs plain covers s sel wanted =
     let t = covers s sel wanted in

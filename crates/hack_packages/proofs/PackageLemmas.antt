@@ -11,7 +11,7 @@ use Rattle.hack_packages.specs.Members.{Member, Choosing, AllMatch, names_some}
 use Rattle.hack_packages.specs.ListingView.{IsNamedFault}
 use Rattle.hack_packages.specs.PackagesView.{IsListFault}
 
--- a call without names refuses nothing
+-- a call that names no packages has no such error
 pub never-unnamed : (c : Choosing) (ms : List Member) → names_some c ≡ false → (e : PackagesFault) → IsListFault c ms e → ⊥
 never-unnamed c ms f Memory h = h
 never-unnamed c ms f (Unmatched spec) h = let e : true ≡ false = sym h.0 ∙ f in absurd (cc)
@@ -19,18 +19,18 @@ never-unnamed c ms f (Unmatched spec) h = let e : true ≡ false = sym h.0 ∙ f
 among : (before behind : List Name) (spec : Name) → Contains (before ++ spec ∷ behind) spec
 among before behind spec = Contains-append_right before (spec ∷ behind) spec (0, omega arith, refl)
 
--- nor does one each of whose specifications matches
+-- nor has a call of which each specification matches a member
 pub never-named : (c : Choosing) (ms : List Member) → AllMatch ms c.named → (e : PackagesFault) → IsListFault c ms e → ⊥
 never-named c ms all Memory h = h
 never-named c ms all (Unmatched spec) h =
     h.1.unmatched (all (string_bytes spec) (subst (λ l. Contains l (string_bytes spec)) (sym h.1.whole) (among h.1.before h.1.behind (string_bytes spec))))
 
--- a specification that matches none refuses a call that names some
+-- a specification that matches no member is an error of a call that names packages
 pub named-fault : (c : Choosing) (ms : List Member) (specs : List Name) (e : PackagesFault) → specs ≡ c.named → names_some c ≡ true → IsNamedFault ms specs e → IsListFault c ms e
 named-fault c ms specs Memory same some h = h
 named-fault c ms specs (Unmatched spec) same some h = (some, subst (λ l. IsNamedFault ms l (Unmatched spec)) same h)
 
--- three lists of notices, one behind the other
+-- three lists of notices, one after another
 pub three-lists : (a b d ab all : List Notice) (x y : List Note) → ab ≡ a ++ b → all ≡ ab ++ d → map note_of b ≡ x → map note_of d ≡ y → map note_of all ≡ map note_of a ++ (x ++ y)
 three-lists a b d ab all x y eab eall eb ed =
     ap (map note_of) eall ∙ map-append note_of ab d

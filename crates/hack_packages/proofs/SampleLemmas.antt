@@ -12,7 +12,7 @@ use Rattle.hack_packages.specs.Candidates.{Wishes, Known}
 use Rattle.hack_packages.specs.Kinds as kinds
 use Rattle.hack_packages.specs.KindsView.{IsRunsFault}
 
--- rules that were asked to the end leave the package without a sample
+-- an error of rules that were asked as many questions as they may is one of the package
 pub tired : (w : Wishes) (p : Known) (strength : ℕ) (asked : Rules) (end : ℕ) (e : SampleFault) → w.powerset ≡ true → w.strength ≡ Some strength → choice_of asked ≡ kinds.choice_of w p
     → kinds.most_questions ≤ end → IsTired end (asked_of asked) e → (e ≡ fault.Memory) ⊎ IsRunsFault w p e
 tired w p strength asked end fault.Memory powerset given made_for most at_end = inl refl
@@ -25,12 +25,12 @@ tired w p strength asked end fault.TooManyQuestions powerset given made_for most
   spent = omega (arith, most, at_end);
 })
 
--- where two things hold of what is returned, so does what follows from both
+-- if two things hold of what is returned, so does what follows from both
 pub ok-both : {X E : Type 0} (r : Result X E) (P Q R : X → Type 0) → ((x : X) → P x → Q x → R x) → IfOk r P → IfOk r Q → IfOk r R
 ok-both (Ok x) P Q R f p q = f x p q
 ok-both (Err e) P Q R f p q = tt
 
--- where something holds of an error, so does what follows
+-- if something holds of an error, so does what follows from it
 pub err-weaker : {X E : Type 0} (r : Result X E) (P Q : E → Type 0) → ((e : E) → P e → Q e) → IfErr r P → IfErr r Q
 err-weaker (Ok x) P Q f p = tt
 err-weaker (Err e) P Q f p = f e p

@@ -9,7 +9,7 @@ use Rattle.hack_rules.specs.CliLists.{same_names}
 use Rattle.hack_packages.specs.Texts.{feature_text, dependency_text, group_text}
 use Rattle.hack_packages.specs.Members.{warning_note, info_note}
 
--- what a feature stands for: its name, or the names of a group
+-- the names of a feature: its own, or those of a group
 abbrev pub Names : Type 0
 Names = List Name
 
@@ -18,7 +18,7 @@ pub record Lift : Type 0 where
   pub owner : Name
   pub group : Names
 
--- what a call asks for of features
+-- what a call asks for about features
 pub record Wishes : Type 0 where
   pub each : Bool
   pub powerset : Bool
@@ -48,7 +48,7 @@ pub record Known : Type 0 where
 abbrev pub is_bare : {X : Type 0} → List X → Bool
 is_bare xs = length xs == 0
 
--- one of the names is this
+-- one of the names is x
 abbrev pub has_name : Names → Name → Bool
 has_name names x = list_any (bytes_eq x) names
 
@@ -56,7 +56,7 @@ has_name names x = list_any (bytes_eq x) names
 abbrev pub one_has : List Names → Name → Bool
 one_has features x = list_any (λ names. has_name names x) features
 
--- no combination has the name by itself: it is excluded, or in a group
+-- the name is no candidate by itself: it is excluded, or in a group
 abbrev pub is_taken : Wishes → Name → Bool
 is_taken w x = has_name w.excluded x || one_has w.groups x
 
@@ -64,7 +64,7 @@ is_taken w x = has_name w.excluded x || one_has w.groups x
 abbrev pub stays : Wishes → Names → Bool
 stays w names = list_all (λ x. not (is_taken w x)) names
 
--- the optional dependency is asked for: no names are given, or its name is
+-- the optional dependency is asked for: the option has its name, or no names at all
 abbrev pub is_asked : Option (List Name) → Names → Bool
 is_asked None names = false
 is_asked (Some asked) names = is_bare asked || list_any (has_name asked) names
@@ -73,13 +73,13 @@ is_asked (Some asked) names = is_bare asked || list_any (has_name asked) names
 abbrev pub is_known : Known → Name → Bool
 is_known p x = one_has p.normal x || one_has p.optional x
 
--- a group is applied to the package
+-- a group is applied to the package: unknown names aren't ignored, or each of its names is known
 abbrev pub applies : Wishes → Known → Names → Bool
 applies w p group = not w.ignore_unknown || list_all (is_known p) group
 
--- the candidates of a package: the features to include, where there are any, else its features, the optional dependencies
--- that are asked for and, where asked for, the features of its dependencies; each less the excluded and grouped names, and
--- groups behind them that are applied
+-- the candidates of a package: the features to include, if there are any; else its features, the
+-- optional dependencies that are asked for, the features of its dependencies, if these are asked
+-- for, and the groups that are applied. Features that are excluded or in a group are left out.
 abbrev pub candidates : Wishes → Known → List Names
 candidates w p = if is_bare w.included
     then filter (stays w) p.normal
@@ -92,7 +92,7 @@ candidates w p = if is_bare w.included
 abbrev pub is_found : Known → Name → Bool
 is_found p x = is_known p x || one_has p.of_deps x
 
--- the names of a list, none where the list is one empty name
+-- the names of a list; none if the list is one empty name
 abbrev pub names_asked : Option (List Name) → List Name
 names_asked None = []
 names_asked (Some []) = []
@@ -111,13 +111,13 @@ dependency_notes w p = map (λ x. warning_note (dependency_text p.name x)) (filt
 abbrev pub group_notes : Wishes → Known → List Note
 group_notes w p = map (λ names. info_note (group_text p.name names)) (filter (λ names. not (applies w p names)) w.groups)
 
--- what the user is told of a package's features, where combinations of them are asked for and those to include aren't
--- named: names that a single package doesn't have, and groups that aren't applied
+-- the notices about a package's features, if combinations of features are asked for and none to
+-- include are named: names that a single package doesn't have, and groups that aren't applied
 abbrev pub candidate_notes : Bool → Wishes → Known → List Note
 candidate_notes single w p = if (w.each || w.powerset) && is_bare w.included
     then (if single then feature_notes w p ++ dependency_notes w p else []) ++ group_notes w p
     else []
 
--- whether each exclusion group is lifted for the package: for one of its name a lift has the same names in the same order
+-- for each exclusion group: whether a lift for this package has the same names in the same order
 abbrev pub lifted_for : Wishes → Name → List Bool
 lifted_for w name = map (λ group. list_any (λ lift. bytes_eq lift.owner name && same_names lift.group group) w.lifts) w.exclusive

@@ -25,11 +25,11 @@ members_in cx = filter_map (member_at cx) cx.metadata.workspace_members
 abbrev pub name_at : ContextRecord → ℕ → Option Name
 name_at cx id = option_map (λ p. p.name) (package_at cx id)
 
--- the name of the package that the call stands in
+-- the name of the current package
 abbrev pub current_name : ContextRecord → Option Name
 current_name cx = option_and_then (name_at cx) cx.current_package
 
--- the packages that the call runs on, and what the user is told
+-- the packages that the call runs on, and the notices about them
 abbrev pub AreChosen : ContextRecord → List ℕ → Bool → List Note → Type 0
 AreChosen cx places is_single notes = IsPackageList (choosing_of cx.args (current_name cx)) cx.metadata.workspace_root (members_in cx) places is_single notes
 

@@ -21,7 +21,7 @@ abbrev pub takes_all : Option (List Name) → Bool
 takes_all None = false
 takes_all (Some asked) = is_bare asked
 
--- what decides, beside its sets, which runs a package has
+-- the options that decide, together with its sets, which runs a package has
 abbrev pub options_of : Wishes → Known → RunOptions
 options_of w p = record {
   powerset = w.powerset;
@@ -34,8 +34,8 @@ options_of w p = record {
   exclude_no_default_features = w.exclude_no_default_features;
 }
 
--- the sets of a powerset: all that are listed, or with a strength a sample of them, which shows each pattern of at most so
--- many candidates that some listed set shows
+-- the sets of a powerset: all that are listed, or with a strength a sample of them, which shows
+-- each pattern of at most that many candidates that some listed set shows
 abbrev pub ArePowersets : Option ℕ → Choice → ℕ → List (List ℕ) → Type 0
 ArePowersets None c n sets = IsListing n (IsListed c) sets
 ArePowersets (Some strength) c n sets = IsSample c n sets × CoversPatterns c n strength sets
@@ -51,7 +51,7 @@ pub record AreSetRuns (w : Wishes) (p : Known) (runs : List PackageRun) : Type 0
   pub are_sets : AreSets w.powerset w p sets
   pub made : runs ≡ runs_from (options_of w p) sets
 
--- the runs are those of the package's sets, and no plain run stands for no set
+-- the runs are those of the package's sets, and not a single plain run because there is no set
 pub record HasSetRuns (w : Wishes) (p : Known) (runs : List PackageRun) : Type 0 where
   pub sets : List (List ℕ)
   pub are_sets : AreSets w.powerset w p sets
@@ -62,7 +62,7 @@ pub record HasSetRuns (w : Wishes) (p : Known) (runs : List PackageRun) : Type 0
 abbrev pub asks : Wishes → Bool
 asks w = w.each || w.powerset
 
--- the runs, where combinations of features are asked for, or not
+-- the runs if combinations of features are asked for, and if not
 abbrev pub RunsBy : Bool → Wishes → Known → List PackageRun → Type 0
 RunsBy true w p runs = AreSetRuns w p runs
 RunsBy false w p runs = runs ≡ Plain ∷ []
@@ -71,7 +71,7 @@ RunsBy false w p runs = runs ≡ Plain ∷ []
 abbrev pub AreRuns : Wishes → Known → List PackageRun → Type 0
 AreRuns w p runs = RunsBy (asks w) w p runs
 
--- the package has its plain run alone: no combinations are asked for, or the run stands for no set
+-- the package has only a plain run: no combinations are asked for, or its sets give a plain run
 pub record HasPlainRun (w : Wishes) (p : Known) : Type 0 where
   pub sets : List (List ℕ)
   pub are_sets : asks w ≡ true → AreSets w.powerset w p sets
@@ -82,7 +82,7 @@ abbrev pub AreCovering : Wishes → Known → List PackageRun → Type 0
 AreCovering w p runs = (s : List ℕ) → IsSelection (length (candidates w p)) s → IsWanted (choice_of w p) s
     → (t : List ℕ) × Covers (choice_of w p) s t × Contains runs (Set t)
 
--- the row says which candidates are on in a run: those that its set enables, or that all features do
+-- the row says which candidates are on in a run; a plain run counts as one with the empty set
 abbrev pub IsRowOf : Choice → PackageRun → List Bool → Type 0
 IsRowOf c Plain row = AreSettings c [] row
 IsRowOf c AllFeatures row = AreSettingsOfAll c row
@@ -98,7 +98,7 @@ AreRunSettings (Some strength) c runs rows = AllZip (IsRowOf c) runs rows
 abbrev pub most_questions : ℕ
 most_questions = 20000000
 
--- the package has no sample: rules of its choice were asked as many questions for one as are asked at most
+-- the sample is given up: rules of the package's choice were asked `most_questions` or more
 pub record IsUnsampled (w : Wishes) (p : Known) : Type 0 where
   pub strength : ℕ
   pub powerset : w.powerset ≡ true
@@ -111,7 +111,7 @@ pub record IsUnsampled (w : Wishes) (p : Known) : Type 0 where
 abbrev pub names_at : List Names → List ℕ → List Name
 names_at list positions = flat_map (λ p. slice_index_or list p []) positions
 
--- the call asks for all sets of one candidate, and for no exclusions and none of which some feature is wanted
+-- the call asks for all sets of one candidate, and has no exclusion or at-least-one groups
 pub record IsDepthOne (w : Wishes) : Type 0 where
   pub powerset : w.powerset ≡ true
   pub all : w.strength ≡ None
@@ -119,6 +119,6 @@ pub record IsDepthOne (w : Wishes) : Type 0 where
   pub exclusive : w.exclusive ≡ []
   pub at_least_one_of : w.at_least_one_of ≡ []
 
--- the same for each feature, other words being equal
+-- the same call with `--each-feature` in place of a powerset and its depth, all else being equal
 abbrev pub as_each : Wishes → Wishes
 as_each w = record w { each = true; powerset = false; depth = None }

@@ -1,4 +1,4 @@
--- Kinds of the code, as definitions see them.
+-- What `Kind` shows as plain data.
 use Rattle.std.specs.Prelude.{◌≡◌, List, [], ◌∷◌, true, false}
 use Rattle.hack_features.specs.Feature.{groups_of}
 use Rattle.hack_plan.specs.Runs.{PackageRun, Plain}
@@ -28,7 +28,7 @@ IsKind w p Normal = HasPlainRun w p
 IsKind w p (Each list runs) = (w.each ≡ true) × (w.powerset ≡ false) × (groups_of list.items ≡ candidates w p) × HasSetRuns w p (runs_in runs)
 IsKind w p (Powerset list runs) = (w.powerset ≡ true) × (groups_of list.items ≡ candidates w p) × HasSetRuns w p (runs_in runs)
 
--- why a package has no runs, besides memory: its sample needs too many questions
+-- why a package has no runs, if memory isn't refused: its sample needs too many questions
 abbrev pub IsRunsFault : Wishes → Known → SampleFault → Type 0
 IsRunsFault w p Memory = ⊥
 IsRunsFault w p TooManyQuestions = IsUnsampled w p

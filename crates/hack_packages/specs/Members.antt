@@ -9,13 +9,13 @@ use Rattle.hack_base.specs.Notes.{Note}
 use Rattle.hack_base.specs.declared.notice.NoticeKind.TheVariants.{Info, Warn}
 use Rattle.hack_packages.specs.Texts.{exclusion_text, lift_text, private_text}
 
--- a member of a workspace: its place in the metadata, what is told of it, and whether it may not be published
+-- a member of a workspace: its place in the metadata, its record, and whether it is private
 pub record Member : Type 0 where
   pub place : ℕ
   pub pkg : PackageRecord
   pub is_private : Bool
 
--- what a call says of packages, and the name of the package that it stands in
+-- what a call says of packages, and the name of the current package
 pub record Choosing : Type 0 where
   pub everyone : Bool
   pub named : List Name
@@ -75,7 +75,7 @@ names_some c = not c.everyone && not (length c.named == 0)
 abbrev pub IsUnmatched : Choosing → List Member → Name → Type 0
 IsUnmatched c members spec = (names_some c ≡ true) × IsFirstUnmatched members c.named spec
 
--- the first member of the name, where there is one
+-- the first member that has the name, if there is one
 abbrev pub first_called : List Member → Name → List Member
 first_called members name = alone (find (λ m. bytes_eq m.pkg.name name) members)
   where
@@ -89,7 +89,7 @@ members_without_names true current members = members
 members_without_names false None members = members
 members_without_names false (Some name) members = first_called members name
 
--- the members that a call is about, before some are left out: those that it names, where it names some
+-- the members that a call is about, before some are left out: those that it names, if any
 abbrev pub IsAbout : Bool → Choosing → List Member → List Member → Type 0
 IsAbout true c members asked = Keeps (IsMatched c.named) members asked
 IsAbout false c members asked = asked ≡ members_without_names c.everyone c.current members
@@ -98,16 +98,17 @@ IsAbout false c members asked = asked ≡ members_without_names c.everyone c.cur
 abbrev pub is_skipped : Choosing → Member → Bool
 is_skipped c m = c.ignore_private && m.is_private
 
--- a warning, and an information
+-- notices: a warning, and an information
 abbrev pub warning_note : List ℕ → Note
 warning_note text = record { kind = Warn; text = text }
 
 abbrev pub info_note : List ℕ → Note
 info_note text = record { kind = Info; text = text }
 
--- the packages that a call runs on, by their places: those that it is about, less the excluded, less private ones where
--- these are ignored; whether one is left but for private ones; and what the user is told: of exclusions that match no
--- member, of packages of `--allow-together` that no member is called, and of private packages that are skipped
+-- the packages that a call runs on, by their places: those that it is about, without the excluded,
+-- and without private ones if these are ignored; whether exactly one is left after exclusions,
+-- where private ones that are skipped count too; and the notices: about exclusions that match no
+-- member, package names of `--allow-together` that no member has, and private packages skipped
 pub record IsPackageList (c : Choosing) (root : Name) (members : List Member) (places : List ℕ) (is_single : Bool) (notes : List Note) : Type 0 where
   pub about : List Member
   pub remaining : List Member

@@ -1,4 +1,4 @@
--- Members and arguments of the code as plain data.
+-- Members and arguments as plain data.
 use Rattle.std.specs.Prelude.{Option, map, string_bytes}
 use Rattle.hack_base.specs.Names.{Name, names_of}
 use Rattle.hack_metadata.specs.View.{package_view}

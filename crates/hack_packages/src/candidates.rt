@@ -1,4 +1,4 @@
-//! The candidates of a package, and what the user is told of names that it doesn't have.
+//! The candidates of a package, and the notices about names that it doesn't have.
 
 ghost use Rattle.std.specs.Prelude.{◌≡◌, ◌==◌, ◌++◌, ◌∷◌, [], ◌&&◌, ◌||◌, IfOk, OnOk, true, false};
 ghost use Rattle.std.specs.Prelude.{filter, map, not, option_map, length, if◌then◌else◌};
@@ -30,7 +30,7 @@ use hack_metadata::metadata::Package;
 use hack_words::cli::Args;
 use std::alloc::{AllocError, Global};
 
-/// Whether one of the names is this.
+/// Whether one of `names` is `name`.
 pub(crate) fn has_name(names: &[String], name: &str) -> bool
     ensures { result ≡ name_in (names_of names.now) name.now }
 {
@@ -66,7 +66,7 @@ fn shares_name(others: &[String], names: &[String]) -> bool
     false
 }
 
-/// Whether no combination has the name by itself.
+/// Whether the name is excluded or in a group, so that it is no candidate by itself.
 fn is_taken(args: &Args, name: &str) -> bool
     ensures { result ≡ taken_by (wishes args.now) name.now }
 {
@@ -85,7 +85,7 @@ fn stays(args: &Args, feature: &Feature) -> bool
     true
 }
 
-/// Whether the optional dependency is asked for.
+/// Whether `--optional-deps` asks for the optional dependency: it has its name, or no names at all.
 fn is_asked(args: &Args, feature: &Feature) -> bool
     ensures { result ≡ asked_by (wishes args.now).optional_deps (group_of feature.now) }
 {
@@ -103,7 +103,7 @@ fn is_known(pkg: &Package, features: &Features, name: &str) -> bool
     one_has(features.normal(), name) || one_has(features.optional_deps(), name)
 }
 
-/// Whether the package has all of the names.
+/// Whether a feature or an optional dependency of the package has each of the names.
 fn are_known(pkg: &Package, features: &Features, names: &[String]) -> bool
     ensures { result ≡ list_all (known_to (known_of_package pkg.now features.now))
         (names_of names.now) }
@@ -116,7 +116,8 @@ fn are_known(pkg: &Package, features: &Features, names: &[String]) -> bool
     true
 }
 
-/// Whether the group is applied to the package.
+/// Whether the group is applied to the package. It isn't if it has an unknown name and
+/// `--ignore-unknown-features` is given.
 fn applies(args: &Args, pkg: &Package, features: &Features, group: &Feature) -> bool
     ensures { result ≡ applied_to (wishes args.now) (known_of_package pkg.now features.now)
         (group_of
@@ -144,7 +145,7 @@ fn copy_feature(alloc: Global, feature: &Feature) -> Result<Feature, AllocError>
     }
 }
 
-/// Puts a copy of the feature behind the others, where it is taken.
+/// Adds a copy of the feature to the others, if `taken` is true.
 fn add_if(
     alloc: Global,
     found: &mut Vec<Feature>,
@@ -160,7 +161,7 @@ fn add_if(
     Ok(())
 }
 
-/// Whether the feature stays a candidate by itself, where it is wanted.
+/// Whether the feature is wanted and stays a candidate by itself.
 fn stays_if(args: &Args, feature: &Feature, wanted: bool) -> bool
     ensures { result ≡ (wanted && stays_for (wishes args.now) (group_of feature.now)) }
 {
@@ -175,7 +176,7 @@ fn is_offered(args: &Args, feature: &Feature) -> bool
     is_asked(args, feature) && stays(args, feature)
 }
 
-/// The features that stay candidates by themselves, where they are wanted.
+/// The features that stay candidates by themselves; none if `wanted` is false.
 fn staying_features(
     alloc: Global,
     args: &Args,
@@ -287,7 +288,7 @@ fn feature_notes(
     Ok(notices)
 }
 
-/// The names of `--optional-deps`, none where its list is one empty name.
+/// The names of `--optional-deps`; none if its list is one empty name.
 fn names_asked(args: &Args) -> &[String]
     ensures { names_of result.now ≡ asked_names (wishes args.now).optional_deps }
 {
@@ -297,7 +298,7 @@ fn names_asked(args: &Args) -> &[String]
     }
 }
 
-/// The names, none where there is one and it is empty.
+/// The names; none if there is only one and it is empty.
 fn without_empty(names: &[String]) -> &[String]
     ensures { names_of result.now ≡ asked_names (Some (names_of names.now)) }
 {
@@ -345,8 +346,8 @@ fn group_notes(
     Ok(notices)
 }
 
-/// What the user is told of the features of a package. `single` says whether no other package is
-/// left: only then are names told that it doesn't have.
+/// The notices about the features of a package. `single` says whether no other package is left:
+/// only then are names reported that the package doesn't have.
 pub(crate) fn notes_on(
     alloc: Global,
     args: &Args,

@@ -1,4 +1,4 @@
-//! Which packages a loaded call runs on, and which runs each of them has.
+//! Which packages a call runs on, after its context was loaded, and which runs each of them has.
 
 ghost use Rattle.std.specs.Prelude.{◌≡◌, ◌<◌, ◌⊎◌, Contains, IfOk, IfErr, None, Some, length, map, true};
 ghost use Rattle.std.specs.Prelude.{option_copied};
@@ -28,7 +28,7 @@ use hack_load::context::Context;
 use hack_metadata::metadata::PackageId;
 use std::alloc::{AllocError, Global};
 
-/// A member of the workspace.
+/// The member of the workspace that has this id.
 fn member_of<'a>(context: &'a Context, id: &PackageId) -> Member<'a>
     requires member { Contains (context_view context.now).metadata.workspace_members id.now.index }
     requires whole { IsWhole (context_view context.now) }
@@ -61,7 +61,7 @@ fn name_at(context: &Context, id: PackageId) -> &str
     context.packages(id).name.as_str()
 }
 
-/// The name of the package that the call stands in, where it stands in one.
+/// The name of the current package, if there is one.
 fn current_name(context: &Context) -> Option<&str>
     ensures { option_copied result ≡ current_called (context_view context.now) }
 {
@@ -72,9 +72,10 @@ fn current_name(context: &Context) -> Option<&str>
     }
 }
 
-/// The packages that a call runs on: those that it names, else the one that it stands in, else all
-/// of the workspace; less the excluded ones, and under `--ignore-private` less private ones. With
-/// them comes what the user is told of them.
+/// Returns the packages that a call runs on, and the notices about them. Under `--workspace` they
+/// are all packages of the workspace; else those that the call names; if it names none, the current
+/// one; if there is none, all. Excluded packages are left out, and under `--ignore-private` private
+/// ones too.
 pub fn determine_package_list(
     alloc: Global,
     context: &Context,
@@ -92,7 +93,7 @@ pub fn determine_package_list(
     choose_packages(alloc, context.args(), members.as_slice(), current, root)
 }
 
-/// The runs of a member of the workspace, and what the user is told of its features. `single` says
+/// Returns the runs of a member of the workspace, and the notices about its features. `single` says
 /// whether it is the only package that is left after exclusions.
 pub fn determine_kind(
     alloc: Global,
@@ -123,7 +124,8 @@ pub fn determine_kind(
         → IfOk result (λ answer. AreCovering (wishes (context_view context.now).args)
         (known_as p features) (runs_of answer.0.kind)) }
 
-    // For a package with optional dependencies sets of one candidate give the runs of each feature.
+    // For a package with optional dependencies, a powerset of depth 1 without strength, exclusion
+    // groups and at-least-one groups has the runs of `--each-feature`.
     ensures depth_one { (p : PackageRecord) (features : Loaded)
         → package_at (context_view context.now) id.index ≡ Some p
         → features_at (context_view context.now) id.index ≡ Some features
@@ -144,7 +146,7 @@ pub fn determine_kind(
         (choice_of (wishes (context_view context.now).args) (known_as p features))
         (runs_of answer.0.kind) (rows_of answer.0.settings.items)) }
 
-    // Besides memory only a sample that needs too many questions is an error.
+    // The only error besides out of memory is a sample that needs too many questions.
     ensures err { (p : PackageRecord) (features : Loaded)
         → package_at (context_view context.now) id.index ≡ Some p
         → features_at (context_view context.now) id.index ≡ Some features

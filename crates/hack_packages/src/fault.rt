@@ -1,9 +1,9 @@
-//! Why the packages of a call aren't known.
+//! Why it isn't known which packages a call runs on.
 
 use std::alloc::{AllocError, AllocFailed};
 use thiserror::Error;
 
-/// Why the packages of a call aren't known.
+/// Why it isn't known which packages a call runs on.
 #[derive(Debug, Drop, Error)]
 pub enum PackagesFault {
     #[error("out of memory")]

@@ -35,14 +35,15 @@ use std::alloc::{AllocError, Global};
 /// How a package runs.
 #[derive(Drop)]
 pub enum Kind {
-    /// One run with what cargo enables by itself.
+    /// One plain run, with the features that cargo enables by itself.
     Normal,
-    /// A run for each candidate, and those without.
+    /// A run for each candidate, and the runs that have no set.
     Each {
         candidates: Vec<Feature>,
         runs: Runs,
     },
-    /// A run for each set of candidates that is listed, or of a sample, and those without.
+    /// A run for each set of candidates that is listed, or that a sample has, and the runs that
+    /// have no set.
     Powerset {
         candidates: Vec<Feature>,
         runs: Runs,
@@ -50,7 +51,7 @@ pub enum Kind {
 }
 
 impl Kind {
-    /// What the sets of runs are made of.
+    /// The candidates of which the sets of the runs are made.
     pub fn candidates(&self) -> &[Feature]
         ensures { groups_of result.now ≡ candidates_in self.now }
     {
@@ -72,8 +73,8 @@ impl Kind {
         }
     }
 
-    /// The run of the rank. The positions of its candidates, where it is one of a set, stand in
-    /// `positions` then, in place of what was there.
+    /// Returns the run of the rank. If it is the run of a set, `positions` then holds the positions
+    /// of the set's candidates, in place of what it held.
     pub fn run(&self, rank: usize, positions: &mut Vec<usize>) -> Result<Run, AllocError>
         requires { rank < length (runs_of self.now) }
         ensures { IfOk result (λ run. slice_get (runs_of self.now) rank
@@ -86,7 +87,8 @@ impl Kind {
         }
     }
 
-    /// The names that a run of these positions has behind `--features`: of a group each name.
+    /// The names that a run of these positions has after `--features`; a group gives each of its
+    /// names.
     pub fn names<'a>(
         &'a self,
         alloc: Global,
@@ -104,7 +106,7 @@ impl Kind {
     }
 }
 
-/// Puts the names of the candidate at the position behind others.
+/// Adds the names of the candidate at the position.
 fn push_names<'a>(
     names: &mut Vec<&'a str>,
     candidates: &'a [Feature],
@@ -119,7 +121,7 @@ fn push_names<'a>(
     }
 }
 
-/// Puts the names behind others.
+/// Adds the names.
 fn push_all<'a>(names: &mut Vec<&'a str>, more: &'a [String]) -> Result<(), AllocError>
     ensures { OnOk result (names_behind names.new.items ≡ names_behind names.old.items
         ++ names_of more.now) }
@@ -137,7 +139,7 @@ pub struct PackageRuns {
     pub kind: Kind,
     /// How many runs there are.
     pub feature_count: usize,
-    /// With a strength, for each run which candidates are on in it; else nothing.
+    /// With a strength, for each run a row that says which candidates are on in it; else nothing.
     pub settings: Vec<Vec<bool>>,
     ghost counted: { feature_count ≡ length (runs_of kind) },
 }
@@ -162,7 +164,7 @@ fn all_of<'a>(alloc: Global, features: &'a [Feature]) -> Result<Vec<&'a Feature>
     Ok(all)
 }
 
-/// The rules of the package for these candidates, all of them.
+/// The rules of the package; `all` has references to all its candidates.
 fn rules_of<'a>(
     alloc: Global,
     args: &'a Args,
@@ -190,11 +192,11 @@ fn rules_of<'a>(
     )
 }
 
-/// How many questions are asked at most for the sample of a package: more than any that is tried in
-/// the tests needs, and asked in seconds.
+/// How many questions are asked at most for the sample of a package: more than any sample in the
+/// tests needs, and so few that they take only seconds.
 const MOST_QUESTIONS: u64 = 20_000_000;
 
-/// The sets of candidates that are listed, or with a strength a sample of them.
+/// The sets of a powerset: all that are listed, or with a strength a sample of them.
 fn powerset_sets(
     alloc: Global,
     args: &Args,
@@ -233,7 +235,7 @@ fn powerset_sets(
     }
 }
 
-/// The sets of a package.
+/// The sets of a package: those of a powerset, or each candidate alone.
 fn sets_of(
     alloc: Global,
     args: &Args,
@@ -277,7 +279,7 @@ fn takes_all(args: &Args) -> bool
     }
 }
 
-/// What decides, beside its sets, which runs a package has.
+/// The options that decide, together with its sets, which runs a package has.
 fn options(args: &Args, pkg: &Package, features: &Features) -> RunOptions
     ensures { result ≡ options_of (wishes args.now) (known_of_package pkg.now features.now) }
 {
@@ -325,7 +327,8 @@ fn kind_of(
     }
 }
 
-/// Which candidates are on in a run. A plain run has no set.
+/// Returns a row that says which candidates are on in a run. A plain run counts as one with the
+/// empty set.
 fn settings_in(
     alloc: Global,
     rules: &Rules,
@@ -343,7 +346,7 @@ fn settings_in(
     }
 }
 
-/// For each run of the kind which candidates are on in it.
+/// For each run of the kind a row that says which candidates are on in it.
 fn rows_of_runs(alloc: Global, rules: &Rules, kind: &Kind) -> Result<Vec<Vec<bool>>, AllocError>
     ensures { IfOk result (λ rows. AllZip (IsRowOf (rules_choice rules.now))
         (runs_of kind.now) (rows_of rows.items)) }
@@ -358,7 +361,8 @@ fn rows_of_runs(alloc: Global, rules: &Rules, kind: &Kind) -> Result<Vec<Vec<boo
     Ok(rows)
 }
 
-/// With a strength, for each run of the kind which candidates are on in it.
+/// With a strength, for each run of the kind a row that says which candidates are on in it; else
+/// nothing.
 fn run_settings(
     alloc: Global,
     args: &Args,
@@ -380,7 +384,7 @@ fn run_settings(
     rows_of_runs(alloc, &rules, kind)
 }
 
-/// The runs of a package, and what the user is told of its features. `single` says whether it is
+/// Returns the runs of a package, and the notices about its features. `single` says whether it is
 /// the only package that is left after exclusions.
 pub fn determine_runs(
     alloc: Global,
@@ -403,7 +407,8 @@ pub fn determine_runs(
         → AreCovering (wishes args.now) (known_of_package pkg.now features.now)
         (runs_of answer.0.kind)) }
 
-    // For a package with optional dependencies sets of one candidate give the runs of each feature.
+    // For a package with optional dependencies, a powerset of depth 1 without strength, exclusion
+    // groups and at-least-one groups has the runs of `--each-feature`.
     ensures depth_one { IfOk result (λ answer. IsDepthOne (wishes args.now)
         → 0 < length (known_of_package pkg.now features.now).optional
         → AreRuns (as_each (wishes args.now)) (known_of_package pkg.now features.now) (runs_of
@@ -415,7 +420,7 @@ pub fn determine_runs(
         (choice_of (wishes args.now) (known_of_package pkg.now features.now))
         (runs_of answer.0.kind) (rows_of answer.0.settings.items)) }
 
-    // Besides memory only a sample that needs too many questions is an error.
+    // The only error besides out of memory is a sample that needs too many questions.
     ensures err { IfErr result (λ e. (e ≡ SampleFault.Memory)
         ⊎ IsRunsFault (wishes args.now) (known_of_package pkg.now features.now) e) }
 {

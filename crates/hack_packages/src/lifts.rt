@@ -19,7 +19,7 @@ fn have_same_names(group: &Feature, other: &Feature) -> bool
     group.as_group() == other.as_group()
 }
 
-/// Whether the lift is one of the group for the package of that name.
+/// Whether the lift is for the package of that name and for this group.
 fn lifts(lift: &(String, Feature), name: &str, group: &Feature) -> bool
     ensures { result ≡ (bytes_eq (lift_view lift.now).owner name.now
         && same_names (lift_view lift.now).group (group_of group.now)) }
@@ -40,7 +40,7 @@ fn is_lifted(args: &Args, name: &str, group: &Feature) -> bool
     false
 }
 
-/// Whether each exclusion group is lifted for the package of that name.
+/// For each exclusion group whether it is lifted for the package of that name.
 pub(crate) fn lifted_groups(alloc: Global, args: &Args, name: &str) -> Result<Vec<bool>, AllocError>
     ensures { IfOk result (λ lifted. lifted.items ≡ lifted_for (wishes args.now) name.now) }
 {

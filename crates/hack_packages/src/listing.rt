@@ -19,7 +19,7 @@ use hack_features::Feature;
 use hack_metadata::metadata::PackageId;
 use std::alloc::{AllocError, Global};
 
-/// Each specification matches a member.
+/// Checks that each specification matches a member. The error has the first one that matches none.
 pub(crate) fn check_named(members: &[Member<'_>], specs: &[String]) -> Result<(), PackagesFault>
     ensures ok { OnOk result (AllMatch (map member_view members.now) (names_of specs.now)) }
     ensures err { IfErr result (λ e. (e ≡ PackagesFault.Memory)
@@ -33,7 +33,8 @@ pub(crate) fn check_named(members: &[Member<'_>], specs: &[String]) -> Result<()
     Ok(())
 }
 
-/// Whether one of the specifications matches the member, or none does.
+/// Whether one of the specifications matches the member, or, if `matched` is false, whether none
+/// does.
 fn is_picked(member: &Member<'_>, specs: &[String], matched: bool) -> bool
     ensures { IsTrue result ↔ IsMatchedAs matched (names_of specs.now) (member_view member.now) }
 {
@@ -44,7 +45,8 @@ fn is_picked(member: &Member<'_>, specs: &[String], matched: bool) -> bool
     }
 }
 
-/// The members that one of the specifications matches, or those that none matches.
+/// The members that one of the specifications matches, or, if `matched` is false, those that none
+/// matches.
 pub(crate) fn matched_members<'a>(
     alloc: Global,
     members: &[Member<'a>],
@@ -64,7 +66,7 @@ pub(crate) fn matched_members<'a>(
     Ok(kept)
 }
 
-/// The first member of the name, where there is one.
+/// The first member that has the name, if there is one.
 pub(crate) fn first_called<'a>(
     alloc: Global,
     members: &[Member<'a>],
@@ -83,7 +85,7 @@ pub(crate) fn first_called<'a>(
     Ok(kept)
 }
 
-/// A warning for each exclusion that no member matches.
+/// A warning for each excluded specification that matches no member.
 pub(crate) fn exclusion_notes(
     alloc: Global,
     members: &[Member<'_>],
@@ -109,7 +111,7 @@ pub(crate) fn exclusion_notes(
     Ok(notices)
 }
 
-/// A warning for each package of `--allow-together` that no member is called.
+/// A warning for each package name of `--allow-together` that no member has.
 pub(crate) fn lift_notes(
     alloc: Global,
     members: &[Member<'_>],
@@ -138,7 +140,7 @@ fn is_skipped(member: &Member<'_>, ignored: bool) -> bool
     ignored && member.is_private
 }
 
-/// A notice for each private member, where private ones are ignored.
+/// A notice for each private member, if private ones are ignored.
 pub(crate) fn skip_notes(
     alloc: Global,
     members: &[Member<'_>],
@@ -158,7 +160,7 @@ pub(crate) fn skip_notes(
     Ok(notices)
 }
 
-/// The ids of the members that aren't private, or of all where private ones aren't ignored.
+/// The ids of the members that aren't private, or of all members if private ones aren't ignored.
 pub(crate) fn kept_ids(
     alloc: Global,
     members: &[Member<'_>],
@@ -175,7 +177,7 @@ pub(crate) fn kept_ids(
     Ok(ids)
 }
 
-/// Puts the id of a member behind others, unless the member is skipped.
+/// Adds the id of the member to the others, unless the member is skipped.
 fn keep(ids: &mut Vec<PackageId>, member: &Member<'_>, ignored: bool) -> Result<(), AllocError>
     ensures { OnOk result (map (λ id. id.index) ids.new.items ≡ map (λ id. id.index) ids.old.items
         ++ kept_place ignored (member_view member.now)) }

@@ -12,17 +12,18 @@ ghost use Rattle.hack_packages.specs.MembersView.{member_view};
 use hack_metadata::cargo::match_pkg_spec;
 use hack_metadata::metadata::{Package, PackageId};
 
-/// A member of a workspace, with what counts for whether a call runs on it.
+/// A member of a workspace, with what decides whether a call runs on it.
 #[derive(Clone, Copy)]
 pub struct Member<'a> {
     pub id: PackageId,
-    /// What cargo tells of it.
+    /// What the metadata say of it.
     pub pkg: &'a Package,
-    /// Whether it may not be published.
+    /// Whether publishing it is forbidden.
     pub is_private: bool,
 }
 
-/// Whether the specification matches the package. One of which that can't be told doesn't.
+/// Whether the specification matches the package. If comparing them gives an error, it doesn't
+/// match.
 pub(crate) fn fits(pkg: &Package, spec: &str) -> bool
     ensures { IsTrue result ↔ Matches (identity_of pkg.now) spec.now }
 {

@@ -1,4 +1,4 @@
-//! What the user is told of packages and of their features.
+//! The texts of notices about packages and their features.
 
 ghost use Rattle.std.specs.Prelude.{◌≡◌, IfOk, string_bytes, if◌then◌else◌, []};
 ghost use Rattle.std.specs.List.{join_with_byte};
@@ -12,28 +12,28 @@ use hack_base::paths::parent;
 use hack_metadata::metadata::Package;
 use std::alloc::{AllocError, Global};
 
-/// An excluded package that no member is.
+/// The text about an excluded specification that matches no member.
 pub(crate) fn exclusion_text(alloc: Global, spec: &str, root: &str) -> Result<String, AllocError>
     ensures { IfOk result (λ text. string_bytes text ≡ exclusion_text root.now spec.now) }
 {
     format!(in alloc; "excluded package(s) `{spec}` not found in workspace `{root}`")
 }
 
-/// A package of `--allow-together` that no member is called.
+/// The text about a package name of `--allow-together` that no member has.
 pub(crate) fn lift_text(alloc: Global, owner: &str, root: &str) -> Result<String, AllocError>
     ensures { IfOk result (λ text. string_bytes text ≡ lift_text root.now owner.now) }
 {
     format!(in alloc; "package `{owner}` of --allow-together not found in workspace `{root}`")
 }
 
-/// An excluded feature that the package doesn't have.
+/// The text about an excluded feature that the package doesn't have.
 pub(crate) fn feature_text(alloc: Global, name: &str, pkg: &str) -> Result<String, AllocError>
     ensures { IfOk result (λ text. string_bytes text ≡ feature_text pkg.now name.now) }
 {
     format!(in alloc; "specified feature `{name}` not found in package `{pkg}`")
 }
 
-/// An optional dependency that the package doesn't have.
+/// The text about an optional dependency that is asked for and that the package doesn't have.
 pub(crate) fn dependency_text(alloc: Global, name: &str, pkg: &str) -> Result<String, AllocError>
     ensures { IfOk result (λ text. string_bytes text ≡ dependency_text pkg.now name.now) }
 {
@@ -54,7 +54,7 @@ fn join_names(alloc: Global, names: &[String]) -> Result<String, AllocError>
     Ok(text)
 }
 
-/// A group that isn't applied to the package.
+/// The text about a group that isn't applied to the package.
 pub(crate) fn group_text(alloc: Global, names: &[String], pkg: &str) -> Result<String, AllocError>
     ensures { IfOk result (λ text. string_bytes text ≡ group_text pkg.now (names_of names.now)) }
 {
@@ -81,7 +81,7 @@ fn name_verbose(alloc: Global, pkg: &Package, verbose: bool) -> Result<String, A
     }
 }
 
-/// A private package that is skipped.
+/// The text about a private package that is skipped.
 pub(crate) fn private_text(
     alloc: Global,
     pkg: &Package,

@@ -25,7 +25,8 @@ use std::alloc::{AllocError, Global};
 pub struct PackageList {
     /// In the order of the workspace's members.
     pub ids: Vec<PackageId>,
-    /// Whether a single package is left after exclusions; private ones count that are skipped.
+    /// Whether exactly one package is left after exclusions; private packages that are skipped
+    /// count too.
     pub is_single: bool,
 }
 
@@ -87,16 +88,16 @@ fn about<'a>(
     Ok(matched_members(alloc, members, &args.package, true)?)
 }
 
-/// Whether there is one member.
+/// Whether there is exactly one member.
 fn is_one(members: &[Member<'_>]) -> bool
     ensures { result ≡ (length (map member_view members.now) == 1) }
 {
     members.len() == 1
 }
 
-/// The packages that a call runs on, and what the user is told of them. `members` are those of the
-/// workspace in their order, `current` is the name of the package that the call stands in, where it
-/// stands in one, and `root` the folder of the workspace.
+/// Returns the packages that a call runs on, and the notices about them. `members` are those of the
+/// workspace in their order, `current` is the name of the current package, if there is one, and
+/// `root` is the folder of the workspace.
 pub fn choose_packages(
     alloc: Global,
     args: &Args,

@@ -1,4 +1,4 @@
--- Steps of the reader of input: features of keys, and members put into a map.
+-- Steps of reading the input: features of keys, and members added to a map.
 use Rattle.std.proofs.Common.{◌≡◌, ℕ, ◌+◌, ◌<◌, List, [], ◌∷◌, ◌++◌, map, length, get_or, take, option_and_then, Option, Some, BTreeMap, Vec, String, Ordering, Less, Equal, Greater, Global, string_bytes, string_cmp, nat_cmp, refl, sym, ap, ◌∙◌}
 use Rattle.std.specs.Borrow.{Bor}
 use Rattle.std.specs.BTreeMap.{insert_entry}
@@ -43,7 +43,7 @@ shown-insert : {Y Z : Type 0} (es : List (String Y × Vec (String Y) Z)) (k : St
 shown-insert [] k v = refl
 shown-insert (e ∷ es) k v = shown-match (string_cmp k e.0) _ _ _ ∙ rw (shown-insert es k v)
 
--- one more member is put in
+-- one more member is added
 with-member : {Y Z : Type 0} (m n : BTreeMap (String Y) (Vec (String Y) Z)) (k : String Y) (v : Vec (String Y) Z) (d : Data) (ms : Members) → n.entries ≡ insert_entry string_cmp m.entries k v → values_in d ≡ Some (names_of v.items) → with_members (feature_map m) (member (string_bytes k) d ms) ≡ with_members (feature_map n) ms
 with-member m n k v d ms inserted values =
     ap (option_and_then (λ names. with_members (insert_entry (slice_cmp nat_cmp) (feature_map m) (string_bytes k) names) ms)) values

@@ -17,11 +17,11 @@ use Rattle.hack_powerset_list.specs.Lines.{run_line}
 use Rattle.hack_powerset_list.specs.Walks.{EndsIn, is_other, listed_in, set_lines}
 use Rattle.hack_powerset_list.proofs.WalkListing.{walk_sets}
 
--- no set stands before itself
+-- no set is before itself
 not-before : (s : List ℕ) → IsBefore s s → ⊥
 not-before s h = h.absent h.present
 
--- sets that stand before the last one aren't that one
+-- each other set of an ordered list is before the last one
 before-last : (front : List (List ℕ)) (last : List ℕ) → Pairwise IsBefore (front ++ last ∷ []) → (x : List ℕ) → Contains front x → IsBefore x last
 before-last [] last h x (k, lt, is) = absurd (omega arith)
 before-last (y ∷ front) last h x c =
@@ -65,7 +65,7 @@ others-are r sets front last order is =
     ∙ append-nil (filter other front)
     ∙ filter-all other front (λ x c. differs x last (λ e. not-before last (subst (λ z. IsBefore z last) e (before-last front last (subst (Pairwise IsBefore) is order) x c))))
 
--- the last one in front
+-- a list with its last element moved to the front
 pub last_first-are : {X : Type 0} (front : List X) (last : X) → drop (length (front ++ last ∷ []) - 1) (front ++ last ∷ []) ++ take (length (front ++ last ∷ []) - 1) (front ++ last ∷ []) ≡ last ∷ front
 last_first-are front last =
     let n : length (front ++ last ∷ []) - 1 ≡ length front = omega (arith, length-append front (last ∷ [])) in

@@ -17,17 +17,17 @@ module _ (names : List Name) (before xs : List ℕ) (i : ℕ) (lt : i < length x
       ∙ ap (items_at names) (sym (append_assoc before (take i xs) (get_or xs i 0 ∷ [])))
       ∙ filter_map-append (slice_get names) (before ++ take i xs) (get_or xs i 0 ∷ [])
 
-  -- the names of one position more, where a candidate stands there
+  -- the names after one more position, if there is a candidate at it
   pub chosen-found : (name : Name) → slice_get names (get_or xs i 0) ≡ Some name → items_at names (before ++ take i xs) ++ name ∷ [] ≡ items_at names (before ++ take (i + 1) xs)
   chosen-found name found = sym (more ∙ ap (λ l. items_at names (before ++ take i xs) ++ l) (filter_map-found (slice_get names) (get_or xs i 0) name found))
 
-  -- and where none does
+  -- the same, if there is none
   pub chosen-missed : slice_get names (get_or xs i 0) ≡ None → items_at names (before ++ take i xs) ≡ items_at names (before ++ take (i + 1) xs)
   chosen-missed none =
       sym (more ∙ ap (λ l. items_at names (before ++ take i xs) ++ l) (filter_map-missed (slice_get names) (get_or xs i 0) none)
       ∙ append-nil (items_at names (before ++ take i xs)))
 
--- the name of one feature more, seen in a text of it
+-- the texts made of names, after one more feature
 pub names-next : (f : Name → Name) (fs : List Feature) (k : ℕ) (feature : Feature) (texts new : List (String Global)) (text : String Global) → k < length fs → feature ≡ get_or fs k feature
     → new ≡ texts ++ text ∷ [] → string_bytes text ≡ f (name_of feature) → names_of texts ≡ take k (map f (map name_of fs)) → names_of new ≡ take (k + 1) (map f (map name_of fs))
 names-next f fs k feature texts new text lt is pushed bytes before =

@@ -19,7 +19,7 @@ use Rattle.hack_powerset_list.specs.Lines.{run_lines}
 use Rattle.hack_powerset_list.specs.ListRuns.{chosen_from, options_from, AreListRuns}
 use Rattle.hack_powerset_list.specs.CommandList.{choice_for, options_for, IsCommandList, IsInput, IsListFor, WritesFront, RefusesList}
 
--- where no group is lifted, all stay
+-- if no group is lifted, all groups stay
 pub unlifted-none : (groups : List (List Name)) → unlifted_groups groups [] ≡ groups
 unlifted-none [] = refl
 unlifted-none (group ∷ groups) = ap (λ l. group ∷ l) (unlifted-none groups)
@@ -55,7 +55,7 @@ command_list w fs m runs l names groups =
       lines = ap (λ (n : List Name). run_lines n runs) names ∙ ap (run_lines (keys_of m)) (l.made ∙ ap (λ (o : RunOptions). runs_from o l.sets) options);
     }
 
--- the lines of the runs are the list that the words ask for
+-- the lines of the runs are the list that the arguments ask for
 pub list_for : (words : List Name) (left : Option (List ℕ)) (w : Wishes) (bytes : List ℕ) (fs : List Feature) (m : FeatureMap) (runs : List PackageRun)
     → Asks words w.depth (groups_of w.at_least_one_of.items) (groups_of w.mutually_exclusive.items) → IsInput left bytes → IsMapText bytes m
     → AreListRuns w fs m runs → map name_of fs ≡ keys_of m → groups_of fs ≡ map (λ name. name ∷ []) (keys_of m) → IsListFor words left (run_lines (map name_of fs) runs)

@@ -13,7 +13,7 @@ use Rattle.hack_features.specs.Questions.{is_whole}
 use Rattle.hack_features.specs.View.{may_of, size_of, whole_of}
 use Rattle.hack_powerset_list.specs.Walks.{EndsIn, is_other, listed_below, listed_in, set_lines}
 
--- rules of which more was asked say the same of sets
+-- rules that were asked more questions say the same of sets
 
 pub other-same : (r s : Rules) (last : List ℕ) → whole_of s ≡ whole_of r → is_other s last ≡ is_other r last
 other-same r s last whole = ap (λ f (x : List ℕ). is_whole f x && not (bytes_eq x last)) whole
@@ -46,14 +46,14 @@ below-full may s (suc p) full =
     ∙ append-nil (below may p s)
     ∙ below-full may s p full
 
--- the last of a list, where there is one
+-- the last set of a list, if there is one
 abbrev pub Ends : {Z : Type 0} → List (List ℕ) → Option (Vec ℕ Z) → Type 0
 Ends xs last = MatchOption last (xs ≡ []) (λ set. EndsIn xs set.items)
 
 ends-behind : (xs ys : List (List ℕ)) (t : List ℕ) → EndsIn ys t → EndsIn (xs ++ ys) t
 ends-behind xs ys t h = record { front = xs ++ h.front; same = ap (λ l. xs ++ l) h.same ∙ sym (append_assoc xs h.front (t ∷ [])) }
 
--- behind other lists
+-- the last set stays the last after other sets are put in front
 pub ends-append : {Z : Type 0} (xs ys zs : List (List ℕ)) (last : Option (Vec ℕ Z)) → zs ≡ xs ++ ys → is_some last ≡ true → Ends ys last → Ends zs last
 ends-append xs ys zs None is some h = absurd (let e : false ≡ true = some in cc)
 ends-append xs ys zs (Some t) is some h = subst (λ l. EndsIn l t.items) (sym is) (ends-behind xs ys t.items h)
@@ -62,7 +62,7 @@ pub ends-none : {Z : Type 0} (xs ys zs : List (List ℕ)) (last : Option (Vec �
 ends-none xs ys zs None is none h = is ∙ ap (λ l. xs ++ l) h ∙ append-nil xs
 ends-none xs ys zs (Some t) is none h = absurd (let e : true ≡ false = none in cc)
 
--- with one set more in front, or not
+-- the same with one more set in front, or none
 pub ends-kept : {Z : Type 0} (b : Bool) (x : List ℕ) (ys : List (List ℕ)) (last : Option (Vec ℕ Z)) → is_some last ≡ true → Ends ys last → Ends (cond b (x ∷ ys) ys) last
 ends-kept b x ys None some h = absurd (let e : false ≡ true = some in cc)
 ends-kept true x ys (Some t) some h = record { front = x ∷ h.front; same = ap (λ l. x ∷ l) h.same }
@@ -76,7 +76,7 @@ ends-here b x ys None set e none h is =
     subst (λ c. EndsIn (cond c (x ∷ ys) ys) set.items) (sym e) (record { front = []; same = ap (λ l. x ∷ l) h ∙ ap (λ t. t ∷ []) (sym is) })
 ends-here b x ys (Some t) set e none h is = absurd (let f : true ≡ false = none in cc)
 
--- a set that has fewer positions to go below it lists a front of what more do
+-- with a lower limit a front of what is listed with a higher one is listed
 pub below-front : (test may : List ℕ → Bool) (s : List ℕ) (p limit : ℕ) → p ≤ limit → (rest : List (List ℕ)) × (filter test (below may limit s) ≡ filter test (below may p s) ++ rest)
 below-front test may s p zero le = ([], let same : zero ≡ p = omega arith in ap (λ n. filter test (below may n s)) same ∙ sym (append-nil (filter test (below may p s))))
 below-front test may s p (suc limit) le =

@@ -13,7 +13,7 @@ use Rattle.hack_powerset_list.specs.LineWords.{Prints}
 pub prints-none : (a : Option (List ℕ)) (page : List ℕ) → Prints a a page page []
 prints-none a page = record { written = []; whole = append-nil page; appended = Appends-nil a }
 
--- one text is printed behind another
+-- one text is printed after another
 pub prints-then : (a b c : Option (List ℕ)) (p q r t u : List ℕ) → Prints a b p q t → Prints b c q r u → Prints a c p r (t ++ u)
 prints-then a b c p q r t u h k = record {
   written = h.written ++ k.written;
@@ -34,7 +34,7 @@ prints-front a b p q t rest all h is = (
   h.appended,
 )
 
--- and so it is where printing another text stopped
+-- the same after printing another text failed
 pub prints-stopped : (a b c : Option (List ℕ)) (p q t u rest all : List ℕ) → Prints a b p q t → AppendsFront b c (q ++ u) → all ≡ t ++ (u ++ rest) → AppendsFront a c (p ++ all)
 prints-stopped a b c p q t u rest all h k is =
     subst (AppendsFront a c)
@@ -46,7 +46,7 @@ prints-stopped a b c p q t u rest all h k is =
     ∙ ap (λ l. p ++ l) (sym is))
     (AppendsFront-append a c (h.written ++ (q ++ u)) rest (AppendsFront-then a b c h.written (q ++ u) h.appended k))
 
--- and so it is where writing the page stopped
+-- the same after writing the page failed
 pub prints-written : (a b c : Option (List ℕ)) (p q t : List ℕ) → Prints a b p q t → AppendsFront b c q → AppendsFront a c (p ++ t)
 prints-written a b c p q t h k = subst (AppendsFront a c) (sym h.whole) (AppendsFront-then a b c h.written q h.appended k)
 

@@ -37,7 +37,7 @@ module _ (w : Wishes) (fs : List Feature) where
   no-all : keeps_all (options_from w fs) ≡ false
   no-all = and-false (not (nat_lt 0 (length w.mutually_exclusive.items)))
 
-  -- where no set is listed
+  -- the runs if no set is listed
   pub runs-none : runs_from (options_from w fs) [] ≡ (if length fs == 0 then Plain ∷ [] else run_if (length w.at_least_one_of.items == 0) NoDefaultFeatures)
   runs-none =
       let o : RunOptions = options_from w fs in
@@ -68,7 +68,7 @@ module _ (w : Wishes) (fs : List Feature) where
     in-turn : in_turn (options_from w fs) sets ≡ with_last_first (allows_two w.depth) sets
     in-turn = ap (λ b. with_last_first (not b && nat_lt 1 (length sets) && allows_two w.depth) sets) no-all ∙ turns (allows_two w.depth) front refl
 
-    -- where some are
+    -- the runs if some sets are listed
     pub runs-some : (names : List Name) → run_lines names (runs_from (options_from w fs) sets)
         ≡ run_lines names (run_if (length w.at_least_one_of.items == 0) NoDefaultFeatures) ++ set_lines names (with_last_first (allows_two w.depth) sets)
     runs-some names =

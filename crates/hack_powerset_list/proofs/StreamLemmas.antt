@@ -1,4 +1,4 @@
--- Faults of streams, and failures that are counted.
+-- Errors of streams, and failures that are counted.
 use Rattle.std.proofs.Common.{◌≡◌, ◌∙◌, ◌<◌, ℕ, Option, Bool, true, false, if◌then◌else◌, sym, ap, subst, refl, arith}
 use Rattle.std.specs.Prelude.{MatchOption}
 use Rattle.std.specs.declared.io.ErrorKind.{ErrorKind}
@@ -9,19 +9,19 @@ use Rattle.hack_powerset_list.specs.Faults.{is_memory, told_as}
 use Rattle.hack_powerset_list.specs.Words.{list_fault}
 use Rattle.hack_powerset_list.specs.Streams.{one_more, HasFailed, IsCounted}
 
--- one failure more is a failure
+-- if one more failure is counted, some failure was counted
 pub one-failed : (old new : Option ℕ) → new ≡ one_more old → HasFailed old new
 one-failed old new is = λ n at lt. subst (λ o. MatchOption o ⊥ (λ m. n < m)) (sym (is ∙ ap one_more at)) (omega (arith, lt))
 
 module _ (read_old read_new write_old write_new : Option ℕ) where
-  -- a fault of words is none of streams
+  -- an error in the arguments is no error of streams
   pub counted-words : (fault : WordsFault) → IsCounted read_old read_new write_old write_new (list_fault fault)
   counted-words said.Usage = tt
   counted-words (said.Number text) = tt
   counted-words (said.Group option) = tt
   counted-words said.Memory = tt
 
-  -- nor is an error of arguments
+  -- nor is an error of getting the arguments
   pub counted-arguments : (kind : ErrorKind) → IsCounted read_old read_new write_old write_new (told_as kind NotText)
   counted-arguments kind = elim (is_memory kind) as (λ b. IsCounted read_old read_new write_old write_new (if b then Memory else NotText)) [ true ↦ tt | false ↦ tt ]
 
@@ -29,7 +29,7 @@ module _ (read_old read_new write_old write_new : Option ℕ) where
   pub counted-reading : (kind : ErrorKind) → HasFailed read_old read_new → IsCounted read_old read_new write_old write_new (told_as kind Read)
   counted-reading kind failed = elim (is_memory kind) as (λ b. IsCounted read_old read_new write_old write_new (if b then Memory else Read)) [ true ↦ tt | false ↦ failed ]
 
-  -- an error of writing that counts a failure, but where memory runs out
+  -- an error of writing, which counts a failure unless its kind is out of memory
   pub counted-writing : (kind : ErrorKind) → (is_memory kind ≡ false → HasFailed write_old write_new) → IsCounted read_old read_new write_old write_new (told_as kind Write)
   counted-writing kind failed = told (is_memory kind) refl
     where

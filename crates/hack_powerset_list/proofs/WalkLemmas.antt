@@ -20,7 +20,7 @@ joined : (name : Name) (names : List Name) → join_with_byte 44 (name ∷ names
 joined name [] = sym (append-nil name)
 joined name (next ∷ names) = ap (λ l. name ++ (44 ∷ l)) (joined next names)
 
--- a text that stands for each name
+-- texts made of names by putting the same text before each
 pub text-at : (names : List Name) (before : List ℕ) (texts : List (String Global)) (p : ℕ) (d : String Global) → names_of texts ≡ map (λ name. before ++ name) names → p < length names → string_bytes (get_or texts p d) ≡ before ++ get_or names p []
 text-at names before texts p d same lt =
     sym (get_or-map string_bytes texts p d (string_bytes d) (omega (arith, lt, count)))
@@ -45,7 +45,7 @@ line-of names p s bare first others lt is_bare is_first is_others =
     ap (λ l. l ++ codes "\n")
     (append_assoc bare first others ∙ ap (λ l. bare ++ l) (sym shown) ∙ ap (λ l. l ++ shown_features (with_names None (items_at names (p ∷ s)))) is_bare)
 
--- the names of a set with one position in front, behind another name
+-- the names of a set with one position in front, as they follow another name
 pub others-front : (names : List Name) (p : ℕ) (s : List ℕ) (next others : List ℕ) → p < length names → next ≡ codes "," ++ get_or names p []
     → others ≡ others_text (items_at names s) → next ++ others ≡ others_text (items_at names (p ∷ s))
 others-front names p s next others lt is_next is_others =
@@ -81,7 +81,7 @@ above-front limit p s lt above = λ k d in'. omega (arith, above k d in')
 pub above-cons : (p : ℕ) (s : List ℕ) → All (λ q. p < q) s → All (λ q. p ≤ q) (p ∷ s)
 above-cons p s above = All-cons (λ q. p ≤ q) p s (omega arith) (λ k d in'. omega (arith, above k d in'))
 
--- the names of one position more, behind another name
+-- the names after one more position, as they follow another name
 pub others-more : (names : List Name) (xs : List ℕ) (i p : ℕ) (next : List ℕ) → i < length xs → p ≡ get_or xs i p → p < length names → next ≡ codes "," ++ get_or names p []
     → others_text (items_at names (take i xs)) ++ next ≡ others_text (items_at names (take (i + 1) xs))
 others-more names xs i p next lt here inside is_next =

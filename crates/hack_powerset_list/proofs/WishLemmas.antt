@@ -1,4 +1,4 @@
--- Words, lists and groups, one more at a time.
+-- Arguments, lists and groups, one more at a time.
 use Rattle.std.proofs.Common.{◌≡◌, ℕ, ◌+◌, ◌-◌, ◌<◌, ◌≤◌, List, [], ◌∷◌, ◌++◌, length, get_or, take, drop, sym, ◌∙◌, ap, subst, arith, map, Some, String, string_bytes}
 use Rattle.std.specs.Borrow.{Bor}
 use Rattle.std.specs.Option.{option_and_then}
@@ -14,7 +14,7 @@ use Rattle.hack_base.proofs.NameLemmas.{shown-more}
 use Rattle.hack_base.specs.Lists.{HasSeparator, group_names}
 use Rattle.hack_powerset_list.specs.Words.{Written, with_value, with_words, AreGroups, LacksSeparator}
 
--- an option and its value are taken, before the words that are left
+-- an option and its value are taken, before the arguments that are left
 pub words-more : {Y : Type 0} (w more : Written) (texts : List (String Y)) (option value : String Y)
     → 2 ≤ length texts → option ≡ get_or texts 0 option → value ≡ get_or texts 1 value → with_value w (string_bytes option) (string_bytes value) ≡ Some more
     → with_words w (names_of texts) ≡ with_words more (names_of (take (length texts - 2) (drop 2 texts)))
@@ -29,13 +29,13 @@ words-more {Y} w more (x ∷ y ∷ texts) option value l e f taken =
     count : length texts ≡ length (x ∷ y ∷ texts) - 2
     count = omega arith
 
--- the names of a group are what it stands for
+-- the names of a group are those that it was made of
 pub IsGroup-names : (names : List Name) (f : Feature) → IsGroup names f → group_of f ≡ names
 IsGroup-names names (Normal name) h = absurd h
 IsGroup-names names (Grouped name list) h = h.1
 IsGroup-names names (Path name slash) h = absurd h
 
--- the groups of one list more
+-- the groups after one more list
 pub groups-more : (lists : List (Bor Name)) (k : ℕ) (d : Bor Name) (groups : List Feature) (group : Feature) → k < length lists
     → AreGroups (names_behind (take k lists)) (groups_of groups) → HasSeparator (get_or lists k d).now → group_of group ≡ group_names (get_or lists k d).now
     → AreGroups (names_behind (take (k + 1) lists)) (groups_of (groups ++ group ∷ []))

@@ -1,4 +1,4 @@
--- What `powerset-list` writes for a feature map and what is asked for, and what it refuses.
+-- What `powerset-list` writes for a feature map and what is asked for, and its errors.
 use Rattle.std.specs.Prelude.{◌≡◌, ◌⊎◌, ℕ, List, [], ◌∷◌, map, length, Option, IfSome, nat_lt, true, false}
 use Rattle.std.specs.Io.KnownBytes.{Appends}
 use Rattle.hack_base.specs.Writes.{AppendsFront}
@@ -25,8 +25,8 @@ choice_for m depth at_least_one_of exclusive = record {
   exclusive = exclusive;
 }
 
--- how its runs are chosen under `--feature-powerset`: a package with exclusive features has no run with all of them,
--- and one of which some feature is wanted has none without its default features
+-- how its runs are chosen under `--feature-powerset`: if there are groups that exclude, there is no
+-- run with all features, and if there are at-least-one groups, there is no run with no features
 abbrev pub options_for : FeatureMap → Option ℕ → List (List Name) → List (List Name) → RunOptions
 options_for m depth at_least_one_of exclusive = record {
   powerset = true;
@@ -49,7 +49,7 @@ pub record IsCommandList (m : FeatureMap) (depth : Option ℕ) (at_least_one_of 
 abbrev pub IsInput : Option (List ℕ) → List ℕ → Type 0
 IsInput left bytes = IfSome left (λ known. known ≡ bytes)
 
--- the words ask for a list, the bytes left are a map, and the text is the list of its commands
+-- the arguments ask for a list, the bytes left are a map, and the text is the map's command list
 pub record IsListFor (words : List Name) (left : Option (List ℕ)) (text : List ℕ) : Type 0 where
   pub depth : Option ℕ
   pub at_least_one_of : List (List Name)
@@ -61,13 +61,13 @@ pub record IsListFor (words : List Name) (left : Option (List ℕ)) (text : List
   pub read : IsMapText bytes m
   pub list : IsCommandList m depth at_least_one_of exclusive text
 
--- the list that is asked for was written behind what stood there
+-- the list that is asked for was written after what was written before
 pub record WritesList (words : List Name) (left old new : Option (List ℕ)) : Type 0 where
   pub text : List ℕ
   pub list : IsListFor words left text
   pub written : Appends old new text
 
--- words and input have no fault, and a front of the list that is asked for was written
+-- arguments and input have no error, and a front of the list that is asked for was written
 pub record WritesFront (words : List Name) (left old new : Option (List ℕ)) : Type 0 where
   pub text : List ℕ
   pub list : IsListFor words left text
@@ -79,9 +79,10 @@ pub record HasNoMap (left : Option (List ℕ)) : Type 0 where
   pub input : IsInput left bytes
   pub refused : IsNoMapText bytes
 
--- why no list is written, or only a front of it: the first fault of the words, and where they have none one of the
--- input; nothing was written then. A fault of writing stands only where words and input have none, and it leaves a
--- front of the list. Where memory runs out nothing was written, or such a front.
+-- why no list is written, or only a front of it: the first error in the arguments, or else an error
+-- of reading the input or in it, and then nothing was written. An error of writing comes only if
+-- arguments and input have no error, and then a front of the list was written. If memory is
+-- refused, either nothing was written, or such a front.
 abbrev pub RefusesList : List Name → Option (List ℕ) → Option (List ℕ) → Option (List ℕ) → ListFault → Type 0
 RefusesList words left old new Usage = RefusesWords words said.Usage × (new ≡ old)
 RefusesList words left old new (Number text) = RefusesWords words (said.Number text) × (new ≡ old)

@@ -14,30 +14,30 @@ use Rattle.hack_powerset_list.specs.declared.call.Ending.{Ending}
 use Rattle.hack_powerset_list.specs.Faults.{told_as, fault_line}
 use Rattle.hack_powerset_list.specs.CommandList.{WritesList, RefusesList}
 
--- the arguments of a call as the system hands them in, the program's name first; or why it doesn't
+-- the arguments of a call as the system gives them, the program's name first; or why it doesn't
 abbrev pub Arguments : Type 0
 Arguments = Result (IntoIter (String Global) Global) Error
 
--- the words of a call: its arguments behind the program's name
+-- the words of a call: its arguments after the program's name
 abbrev pub words_in : IntoIter (String Global) Global → List Name
 words_in arguments = map string_bytes (drop 1 (into_iter_items arguments))
 
--- there are arguments, and the list for their words was written
+-- there are arguments, and the list that they ask for was written
 abbrev pub WritesForCall : Arguments → Option (List ℕ) → Option (List ℕ) → Option (List ℕ) → Type 0
 WritesForCall arguments left old new = MatchResult arguments (λ all. WritesList (words_in all) left old new) (λ e. ⊥)
 
--- why a call fails: its words are no texts, or there is no memory for them, and nothing was written then; or there is
--- no list for its words
+-- why a call fails: its arguments are not UTF-8, or memory is refused for them, and nothing was
+-- written; or `powerset_list` returns an error for them
 abbrev pub RefusesCall : Arguments → Option (List ℕ) → Option (List ℕ) → Option (List ℕ) → ListFault → Type 0
 RefusesCall arguments left old new fault = MatchResult arguments (λ all. RefusesList (words_in all) left old new fault) (λ e. (fault ≡ told_as (error_kind e) NotText) × (new ≡ old))
 
--- the list is written, and nothing is told
+-- the list is written, and nothing is reported
 pub record IsDone (arguments : Arguments) (left old new err_old err_new : Option (List ℕ)) (ending : Ending) : Type 0 where
   pub status : ending.status ≡ 0
   pub list : WritesForCall arguments left old new
   pub untold : err_new ≡ err_old
 
--- there is a fault of which this holds, and whose line was told, or a front of it where a write failed
+-- there is an error of which this holds, and its line was written, or a front if a write failed
 pub record IsRefused (arguments : Arguments) (left old new : Option (List ℕ)) (IsTold : ListFault → Type 0) (err_old err_new : Option (List ℕ)) (ending : Ending) : Type 0 where
   pub status : ending.status ≡ 1
   pub fault : ListFault

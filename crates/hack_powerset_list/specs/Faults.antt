@@ -1,11 +1,11 @@
--- The texts of faults, and the fault that an error of a reader or a writer is.
+-- The texts of errors, and which error of the list an error of a reader or a writer becomes.
 use Rattle.std.specs.Prelude.{ℕ, List, ◌++◌, Bool, true, false, codes, string_bytes, if◌then◌else◌}
 use Rattle.std.specs.declared.io.ErrorKind.{ErrorKind}
 use Rattle.std.specs.declared.io.ErrorKind.TheVariants.{OutOfMemory}
 use Rattle.hack_powerset_list.specs.declared.fault.ListFault.{ListFault}
 use Rattle.hack_powerset_list.specs.declared.fault.ListFault.TheVariants.{Usage, Number, Group, NotText, Input, Read, Write, Memory}
 
--- the text of a fault
+-- the text of an error
 abbrev pub fault_text : ListFault → List ℕ
 fault_text Usage = codes "usage: powerset-list [--depth N] [--at-least-one-of LIST]... [--mutually-exclusive-features LIST]..."
 fault_text (Number text) = codes "invalid number `" ++ string_bytes text ++ codes "`"
@@ -16,15 +16,15 @@ fault_text Read = codes "failed to read the features"
 fault_text Write = codes "failed to write the command list"
 fault_text Memory = codes "out of memory"
 
--- the line that tells a fault
+-- the line that reports an error
 abbrev pub fault_line : ListFault → List ℕ
 fault_line fault = codes "error: " ++ fault_text fault ++ codes "\n"
 
--- the kind says that memory is out
+-- the kind says that memory was refused
 abbrev pub is_memory : ErrorKind → Bool
 is_memory OutOfMemory = true
 is_memory _ = false
 
--- an error of this kind as a fault: want of memory, or else this other fault
+-- an error of this kind as an error of the list: out of memory, or else the other one
 abbrev pub told_as : ErrorKind → ListFault → ListFault
 told_as kind other = if is_memory kind then Memory else other

@@ -1,4 +1,4 @@
--- The feature map that JSON data are.
+-- Feature maps as JSON data.
 use Rattle.std.specs.Prelude.{◌≡◌, ℕ, List, [], ◌∷◌, Option, None, Some, map, option_map, option_and_then, IsUtf8}
 use Rattle.std.specs.Ordering.{nat_cmp}
 use Rattle.std.specs.Cmp.Lexicographic.{slice_cmp}
@@ -8,7 +8,7 @@ use Rattle.serde_json.specs.Read.{read}
 use Rattle.hack_base.specs.Names.{Name}
 use Rattle.hack_features.specs.FeatureMap.{FeatureMap}
 
--- the text that data are
+-- the text, if the data are one
 abbrev pub text_in : Data → Option Name
 text_in (string text) = Some text
 text_in (null) = None
@@ -17,12 +17,12 @@ text_in (number n) = None
 text_in (array items) = None
 text_in (object ms) = None
 
--- the texts that items are; none where one of them is no text
+-- the texts of the items; None if one of them is no text
 abbrev pub texts_in : Items → Option (List Name)
 texts_in no_items = Some []
 texts_in (item d items) = option_and_then (λ text. option_map (λ texts. text ∷ texts) (texts_in items)) (text_in d)
 
--- the texts of an array
+-- the texts, if the data are an array of texts
 abbrev pub values_in : Data → Option (List Name)
 values_in (array items) = texts_in items
 values_in (null) = None
@@ -31,12 +31,12 @@ values_in (number n) = None
 values_in (string text) = None
 values_in (object ms) = None
 
--- the map with the members put in, one after another, in the order of names; none where one is no array of texts
+-- the map, in the order of names, with the members added; None if one is no array of texts
 abbrev pub with_members : FeatureMap → Members → Option FeatureMap
 with_members m no_members = Some m
 with_members m (member name d ms) = option_and_then (λ values. with_members (insert_entry (slice_cmp nat_cmp) m name values) ms) (values_in d)
 
--- the map that data are: an object of arrays of texts
+-- the map, if the data are an object of arrays of texts
 abbrev pub map_in : Data → Option FeatureMap
 map_in (object ms) = with_members [] ms
 map_in (null) = None
@@ -45,16 +45,16 @@ map_in (number n) = None
 map_in (string text) = None
 map_in (array items) = None
 
--- the map that a text is
+-- the map, if the text is the JSON of one
 abbrev pub read_map : List ℕ → Option FeatureMap
 read_map bytes = option_and_then map_in (read bytes)
 
--- the bytes are a text, which is this map
+-- the bytes are UTF-8, and are the JSON of this map
 pub record IsMapText (bytes : List ℕ) (m : FeatureMap) : Type 0 where
   pub utf8 : IsUtf8 bytes
   pub reads : read_map bytes ≡ Some m
 
--- the bytes are no text, or one that is no map
+-- the bytes are not UTF-8, or not the JSON of a map
 abbrev pub IsNoMapText : List ℕ → Type 0
 IsNoMapText bytes = IsUtf8 bytes → read_map bytes ≡ None
 

@@ -5,7 +5,7 @@ use Rattle.hack_features.specs.Sets.{items_at}
 use Rattle.hack_process.specs.CommandTexts.{Command, with_names, shown_features}
 use Rattle.hack_plan.specs.Runs.{PackageRun, Plain, AllFeatures, NoDefaultFeatures, Set}
 
--- the text of a run's command, where the candidates have these names
+-- the text of a run's command, with the names of the candidates
 abbrev pub run_text : List Name → PackageRun → List ℕ
 run_text names Plain = codes "cargo check"
 run_text names AllFeatures = codes "cargo check --all-features"
@@ -20,7 +20,7 @@ run_line names run = run_text names run ++ codes "\n"
 abbrev pub run_lines : List Name → List PackageRun → List ℕ
 run_lines names runs = flat_map (run_line names) runs
 
--- the command's own words that say which features a run has
+-- the command's own arguments that say which features a run has
 abbrev pub own_words : PackageRun → List (List ℕ)
 own_words Plain = []
 own_words AllFeatures = codes "--all-features" ∷ []
@@ -34,6 +34,6 @@ run_features names AllFeatures = None
 run_features names NoDefaultFeatures = None
 run_features names (Set s) = with_names None (items_at names s)
 
--- the command of a run, where the user wrote these words for cargo and the candidates have these names
+-- the command of a run, with the user's arguments for cargo and the names of the candidates
 abbrev pub run_command : List (List ℕ) → List Name → PackageRun → Command
 run_command passed names run = record { program = codes "cargo"; strip_program_path = false; leading = []; passed = passed; own = own_words run; features = run_features names run; trailing = [] }

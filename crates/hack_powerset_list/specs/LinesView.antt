@@ -1,9 +1,9 @@
--- What the texts hold that lines are made of.
+-- What `Texts` holds.
 use Rattle.std.specs.Prelude.{◌≡◌, ◌++◌, List, map, string_bytes, codes}
 use Rattle.hack_base.specs.Names.{Name, names_of}
 use Rattle.hack_powerset_list.specs.declared.lines.Texts.{Texts}
 
--- the texts of the lines of `cargo check`, where the candidates have these names
+-- the texts of the lines of `cargo check`, with the names of the candidates
 pub record AreTexts (names : List Name) (t : Texts) : Type 0 where
   pub plain : string_bytes t.plain ≡ codes "cargo check"
   pub bare : string_bytes t.bare ≡ codes "cargo check --no-default-features"

@@ -1,4 +1,4 @@
--- What stands in the room for a set.
+-- What `SetRoom` holds.
 use Rattle.std.specs.Prelude.{ℕ, List, drop, length}
 use Rattle.hack_powerset_list.specs.declared.room.SetRoom.{SetRoom}
 

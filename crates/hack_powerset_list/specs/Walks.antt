@@ -8,7 +8,7 @@ use Rattle.hack_features.specs.Walk.{below}
 use Rattle.hack_plan.specs.Runs.{Set}
 use Rattle.hack_powerset_list.specs.Lines.{run_line}
 
--- the listed sets that are made of s and positions below p, in the order of sets
+-- the listed sets that consist of s and one or more positions below p, in the order of sets
 abbrev pub listed_below : Rules → ℕ → List ℕ → List (List ℕ)
 listed_below r p s = filter (is_whole (whole_of r)) (below (may_of r) p s)
 

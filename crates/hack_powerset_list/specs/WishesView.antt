@@ -1,11 +1,11 @@
--- What the parts of the reader of words show.
+-- What the values of options show.
 use Rattle.std.specs.Prelude.{Option, option_map}
 use Rattle.std.specs.Borrow.{Bor}
 use Rattle.hack_base.specs.Names.{Name, names_behind}
 use Rattle.hack_powerset_list.specs.declared.wishes.Values.{Values}
 use Rattle.hack_powerset_list.specs.Words.{Written}
 
--- a text behind a reference, where there is one
+-- the text that a reference refers to, if there is one
 abbrev pub shown_text : Option (Bor Name) → Option Name
 shown_text text = option_map (λ t. t.now) text
 

@@ -1,4 +1,4 @@
--- What the words of `powerset-list` ask for, and why they are refused.
+-- What the arguments of `powerset-list` ask for, and why they are refused.
 use Rattle.std.specs.Prelude.{◌≡◌, ◌⊎◌, ℕ, List, [], ◌∷◌, ◌++◌, Option, None, Some, All, Contains, map, codes, bytes_eq, string_bytes, option_and_then, if◌then◌else◌}
 use Rattle.hack_base.specs.Names.{Name}
 use Rattle.hack_base.specs.Numbers.{IsNumber}
@@ -8,7 +8,7 @@ use Rattle.hack_powerset_list.specs.declared.fault.ListFault.TheVariants as list
 use Rattle.hack_powerset_list.specs.declared.wishes.WordsFault.{WordsFault}
 use Rattle.hack_powerset_list.specs.declared.wishes.WordsFault.TheVariants.{Usage, Number, Group, Memory}
 
--- the values behind the options, as they are written; those of an option that may be repeated in order
+-- the values of the options, as they are written; if an option may be repeated, all in order
 pub record Written : Type 0 where
   pub depth : Option Name
   pub at_least_one_of : List Name
@@ -18,7 +18,7 @@ pub record Written : Type 0 where
 abbrev pub none_written : Written
 none_written = record { depth = None; at_least_one_of = []; exclusive = [] }
 
--- with a depth, where none was written
+-- with a depth; None if one was written already
 abbrev pub with_depth : Written → Name → Option Written
 with_depth w value = if_first w.depth (record w { depth = Some value })
   where
@@ -26,14 +26,14 @@ with_depth w value = if_first w.depth (record w { depth = Some value })
     if_first None more = Some more
     if_first (Some depth) more = None
 
--- with a value behind an option; none where no option has that name, or its value is a second depth
+-- with the value of an option; None if there is no such option, or the value is a second depth
 abbrev pub with_value : Written → Name → Name → Option Written
 with_value w option value = if bytes_eq option (codes "--depth") then with_depth w value
     else if bytes_eq option (codes "--at-least-one-of") then Some (record w { at_least_one_of = w.at_least_one_of ++ value ∷ [] })
     else if bytes_eq option (codes "--mutually-exclusive-features") then Some (record w { exclusive = w.exclusive ++ value ∷ [] })
     else None
 
--- with what the words say, each option and then its value; none where they keep no usage
+-- with what the arguments say, each option and then its value; None if they break the usage
 abbrev pub with_words : Written → List Name → Option Written
 with_words w [] = Some w
 with_words w (option ∷ []) = None
@@ -60,7 +60,7 @@ pub record LacksSeparator (lists : List Name) : Type 0 where
   pub listed : Contains lists list
   pub single : ¬ HasSeparator list
 
--- what the words ask for
+-- what the arguments ask for
 pub record Asks (words : List Name) (depth : Option ℕ) (at_least_one_of exclusive : List (List Name)) : Type 0 where
   pub written : Written
   pub said : with_words none_written words ≡ Some written
@@ -68,25 +68,25 @@ pub record Asks (words : List Name) (depth : Option ℕ) (at_least_one_of exclus
   pub exclusive_of : AreGroups written.exclusive exclusive
   pub at_least_of : AreGroups written.at_least_one_of at_least_one_of
 
--- the words ask for something
+-- the arguments are accepted: they ask for something
 pub record IsAsking (words : List Name) : Type 0 where
   pub depth : Option ℕ
   pub at_least_one_of : List (List Name)
   pub exclusive : List (List Name)
   pub asks : Asks words depth at_least_one_of exclusive
 
--- a list of exclusive features lacks a separator, or else one of those of which one is wanted
+-- a list of exclusive features lacks a separator, or if none does, an at-least-one list does
 abbrev pub IsGroupFault : Written → Name → Type 0
 IsGroupFault w option = ((option ≡ codes "--mutually-exclusive-features") × LacksSeparator w.exclusive)
     ⊎ ((option ≡ codes "--at-least-one-of") × All HasSeparator w.exclusive × LacksSeparator w.at_least_one_of)
 
--- the words keep the usage, and a depth in them is no number
+-- the arguments keep the usage, and a depth in them is no number
 pub record IsNumberFault (words : List Name) (text : Name) : Type 0 where
   pub written : Written
   pub said : with_words none_written words ≡ Some written
   pub depth_of : IsNoDepth written.depth text
 
--- the words keep the usage, their depth is a number, and the first list at fault is one of this option
+-- the arguments keep the usage, a depth is a number, and a list of this option is the first error
 pub record IsListFault (words : List Name) (option : Name) : Type 0 where
   pub written : Written
   pub said : with_words none_written words ≡ Some written
@@ -94,14 +94,14 @@ pub record IsListFault (words : List Name) (option : Name) : Type 0 where
   pub depth_of : IsDepth written.depth depth
   pub fault : IsGroupFault written option
 
--- why words are refused: the first fault that holds
+-- why arguments are refused: the first of these errors that applies
 abbrev pub RefusesWords : List Name → WordsFault → Type 0
 RefusesWords words Usage = with_words none_written words ≡ None
 RefusesWords words (Number text) = IsNumberFault words (string_bytes text)
 RefusesWords words (Group option) = IsListFault words option.now
 RefusesWords words Memory = Unit {0}
 
--- the fault of a list that a fault of its words is
+-- an error in the arguments as an error of the list
 abbrev pub list_fault : WordsFault → ListFault
 list_fault Usage = list.Usage
 list_fault (Number text) = list.Number text

@@ -1,4 +1,4 @@
-//! A whole call of the program `powerset-list`: its words, its streams and its exit status.
+//! A whole call of the program `powerset-list`: its arguments, its streams and its exit status.
 
 ghost use Rattle.std.specs.Prelude.{◌≡◌, ◌⊎◌, drop, OnOk, IfOk, IfErr};
 ghost use Rattle.std.specs.Vec.Iter.{into_iter_items};
@@ -16,20 +16,21 @@ use std::io::Write;
 /// How a call ends.
 #[derive(Clone, Copy, Debug)]
 pub struct Ending {
-    /// The exit status: 1 after a fault, else 0.
+    /// The exit status: 1 after an error, else 0.
     pub status: u8,
-    /// Whether the line of the fault, where there is one, was written whole.
+    /// Whether the line that reports the error was written in full; true if there was no error.
     pub told: bool,
 }
 
-/// The words behind the program's name.
+/// The arguments after the program's name.
 fn words_of(alloc: Global, arguments: Args) -> Result<Vec<String>, AllocError>
     ensures { IfOk result (λ words. words.items ≡ drop 1 (into_iter_items arguments)) }
 {
     arguments.skip(1).collect(alloc)
 }
 
-/// The list for the arguments, or why there is none.
+/// Writes the list that the arguments ask for. The error says why it isn't written, or only a front
+/// of it.
 fn list_for<R: Source, W: Sink>(
     alloc: Global,
     arguments: io::Result<Args>,
@@ -52,8 +53,9 @@ fn list_for<R: Source, W: Sink>(
     }
 }
 
-/// What the program `powerset-list` does: `powerset_list` for the words behind the first of the
-/// arguments, which are handed in as `env::args` answers them. A fault is told by a line on `err`.
+/// Does what the program `powerset-list` does: calls `powerset_list` with the arguments after the
+/// first, which is the program's name. `arguments` is what `env::args` returns. An error is
+/// reported by a line on `err`.
 pub fn call_powerset_list<R: Source, W: Sink, E: Write>(
     alloc: Global,
     arguments: io::Result<Args>,

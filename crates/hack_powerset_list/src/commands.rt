@@ -14,8 +14,9 @@ use hack_plan::runs::Run;
 use hack_process::process::ProcessBuilder;
 use std::alloc::{AllocError, Global};
 
-/// The command of a run of a package with these features, where `passed` are the words that the
-/// user wrote for cargo. For `check` it is listed as the text that the line of the run has.
+/// Returns the command of a run of a package with these features. `passed` are the arguments that
+/// the user gave for cargo. If they are just `check`, the command's text is what the line of the
+/// run has.
 pub fn command<'a>(
     alloc: Global,
     passed: &'a [String],

@@ -1,4 +1,4 @@
-//! The faults of `powerset_list`, and their lines.
+//! The errors of `powerset_list`, and the lines that report them.
 
 ghost use Rattle.std.specs.Prelude.{◌≡◌, ◌++◌, OnOk, Some};
 ghost use Rattle.std.specs.IoError.{error_kind};
@@ -15,19 +15,19 @@ use std::{fmt, io};
 /// Why no list is written, or only a part of it.
 #[derive(Debug, Drop)]
 pub enum ListFault {
-    /// A word is unknown, a value is missing, or `--depth` is given twice.
+    /// An argument is unknown, a value is missing, or `--depth` is given twice.
     Usage,
-    /// The depth is no number below 2^64.
+    /// The depth, which is this text, is no number below 2^64.
     Number(String),
-    /// A list of the option has neither a comma nor a space.
+    /// A list given to this option has neither a comma nor a space.
     Group(&'static str),
-    /// A word is no text in UTF-8.
+    /// An argument is not UTF-8.
     NotText,
-    /// The bytes are no JSON text, or no object of arrays of texts.
+    /// The input is not JSON, or not an object of arrays of texts.
     Input,
     /// The reader failed.
     Read,
-    /// The writer failed. A front of the list is written.
+    /// The writer failed. A front of the list was written, maybe an empty one or all of it.
     Write,
     Memory,
 }
@@ -35,7 +35,7 @@ pub enum ListFault {
 const USAGE: &str =
     "usage: powerset-list [--depth N] [--at-least-one-of LIST]... [--mutually-exclusive-features LIST]...";
 
-/// The text of a fault: what the call wrote stands between two fixed parts.
+/// The text of an error: what the user wrote, between two fixed parts.
 #[derive(Clone, Copy)]
 struct Parts<'a> {
     before: &'a str,
@@ -56,8 +56,8 @@ impl<'a> Parts<'a> {
 }
 
 impl ListFault {
-    /// The fault that an error of a reader or a writer is: want of memory exactly where its kind
-    /// says so, and else `other`.
+    /// Turns an error of a reader or a writer into a `ListFault`: into `Memory` if its kind is
+    /// `OutOfMemory`, else into `other`.
     pub fn of_error(error: &io::Error, other: ListFault) -> ListFault
         ensures { result ≡ told_as (error_kind error.now) other }
     {
@@ -67,7 +67,7 @@ impl ListFault {
         }
     }
 
-    /// Writes the line of the fault: `error: `, its text and a line feed.
+    /// Writes the line that reports the error: `error: `, the error's text and a line feed.
     pub fn tell<E: Write>(&self, err: &mut E) -> io::Result<()>
         ensures all { OnOk result
             (Appends (E.contents err.old) (E.contents err.new) (fault_line self.now)) }

@@ -1,4 +1,4 @@
-//! The feature map that a reader gives.
+//! Reads a feature map from the bytes of a reader.
 
 ghost use Rattle.std.specs.Prelude.{◌≡◌, [], ◌∷◌, map, IfOk, MatchOption, option_map};
 ghost use Rattle.serde_json.specs.View.{view};
@@ -15,7 +15,7 @@ use std::collections::BTreeMap;
 use std::io;
 use std::io::Read;
 
-/// The texts of an array; none where the value is no array of texts.
+/// The texts of an array; None if the value is no array of texts.
 fn texts_of(alloc: Global, value: Value) -> Result<Option<Vec<String>>, AllocError>
     ensures { IfOk result (λ found. values_in (view value)
         ≡ option_map (λ texts. names_of texts.items) found) }
@@ -33,7 +33,7 @@ fn texts_of(alloc: Global, value: Value) -> Result<Option<Vec<String>>, AllocErr
     Ok(Some(texts))
 }
 
-/// The feature map that the bytes are; none where they are no map.
+/// The feature map whose JSON the bytes are; None if they are no such JSON.
 pub fn map_of(
     alloc: Global,
     bytes: &[u8],

@@ -1,5 +1,5 @@
-//! The work of `powerset-list`: from words and the bytes of a feature map to the bytes of its
-//! command list, or the first fault.
+//! The work of the program `powerset-list`: it turns arguments and the bytes of a feature map into
+//! the bytes of its command list, or into the first error.
 #![tactic(auto)]
 
 mod call;

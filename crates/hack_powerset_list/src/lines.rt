@@ -17,20 +17,20 @@ use hack_process::process::ProcessBuilder;
 use std::alloc::{AllocError, Global};
 use std::io;
 
-/// What lines are made of, as texts that are made once. Each feature has two.
+/// The texts of which lines consist; each is made once. Each feature has two.
 #[derive(Drop)]
 pub struct Texts {
-    /// The command without words of its own.
+    /// The command without arguments of its own.
     pub plain: String,
     /// The command with `--no-default-features`.
     pub bare: String,
-    /// Each name as the first one of a set stands in its line, behind ` --features `.
+    /// Each name as it is printed where it is the first of a set: after ` --features `.
     pub first: Vec<String>,
-    /// Each name as another one stands there, behind `,`.
+    /// Each name as it is printed where it isn't the first of a set: after `,`.
     pub next: Vec<String>,
 }
 
-/// The command behind whose program the words stand that are passed, and then its own.
+/// The text of a command: `cargo`, then the arguments that are passed on, then its own arguments.
 fn beginning(alloc: Global, passed: &[String], own: &[&str]) -> Result<String, AllocError>
     ensures { IfOk result (λ text. string_bytes text
         ≡ listed_of [] (bare_command (map string_bytes passed.now) (names_behind own.now))) }
@@ -42,7 +42,7 @@ fn beginning(alloc: Global, passed: &[String], own: &[&str]) -> Result<String, A
     format!(in alloc; "{line}")
 }
 
-/// The names of the features, each behind the same text.
+/// The names of the features, each with the same text before it.
 fn names_behind(
     alloc: Global,
     before: &str,
@@ -81,14 +81,14 @@ impl Texts {
 /// How many bytes fill a page.
 const FULL: usize = 32_768;
 
-/// A page with room for what fills it and a line.
+/// Returns an empty page, with room for what fills it and a line more.
 pub fn empty_page(alloc: Global) -> Result<String, AllocError>
     ensures { IfOk result (λ page. string_bytes page ≡ []) }
 {
     String::with_capacity(alloc, 2 * FULL)
 }
 
-/// Writes the page where it is full, and empties it then.
+/// Writes the page and empties it, if it is full.
 fn turn_full_page<W: Sink>(page: &mut String, out: &mut W) -> io::Result<()>
     ensures ok { OnOk result (TurnsPage (W.contents out.old) (W.contents out.new)
         (string_bytes page.old) (string_bytes page.new)) }
@@ -104,8 +104,8 @@ fn turn_full_page<W: Sink>(page: &mut String, out: &mut W) -> io::Result<()>
     Ok(())
 }
 
-/// Puts a line of three texts behind what stands on the page, or a front of it where memory runs
-/// out.
+/// Adds a line that consists of three texts to the page, or a front of the line if memory is
+/// refused.
 fn push_line(command: &str, first: &str, others: &str, page: &mut String) -> Result<(), AllocError>
     ensures { OnOk result (string_bytes page.new ≡ string_bytes page.old
         ++ (command.now ++ first.now ++ others.now ++ codes "\n")) }
@@ -116,8 +116,9 @@ fn push_line(command: &str, first: &str, others: &str, page: &mut String) -> Res
     page.push_str("\n")
 }
 
-/// Prints a line of three texts: it is put on the page, which is written where it is full then. Of
-/// what stood on the page a front is written where memory runs out or a write fails.
+/// Prints a line that consists of three texts: adds it to the page, and writes the page if it is
+/// full then. If memory is refused or a write fails, a front of the page is written, maybe an empty
+/// one.
 pub fn print_line<W: Sink>(
     command: &str,
     first: &str,

@@ -17,7 +17,7 @@ use hack_features::{Feature, Rules};
 use std::alloc::{AllocError, Global};
 use std::collections::BTreeMap;
 
-/// The rules by which sets of the candidates are listed: references to all features.
+/// The rules by which sets are listed. `candidates` are references to all features.
 fn rules_for<'a>(
     alloc: Global,
     wishes: &'a Wishes,
@@ -45,9 +45,9 @@ fn rules_for<'a>(
 /// Reads a package's feature map from `input`, a JSON object of arrays of texts, and writes to
 /// `out` the commands of its feature powerset: what `cargo hack check --feature-powerset
 /// --no-manifest-path --print-command-list` prints for a package with these features and no
-/// dependencies. The words are `--depth N`, `--at-least-one-of LIST` and
-/// `--mutually-exclusive-features LIST`, each value a word of its own. Words are judged first and
-/// then the input, and where one is at fault nothing is written.
+/// dependencies. `words` are the arguments `--depth N`, `--at-least-one-of LIST` and
+/// `--mutually-exclusive-features LIST`, where each value is an argument of its own. The arguments
+/// are checked first and then the input; after an error in either, nothing is written.
 pub fn powerset_list<R: Source, W: Sink>(
     alloc: Global,
     words: &[String],

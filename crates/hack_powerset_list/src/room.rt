@@ -7,9 +7,9 @@ use std::alloc::{AllocError, Global};
 /// A set of positions that grows and shrinks at its front, in room that is reserved once.
 #[derive(Drop)]
 pub struct SetRoom {
-    /// The set stands in the last places.
+    /// The set is in the last places.
     places: Vec<usize>,
-    /// Where it begins.
+    /// The place where the set begins.
     start: usize,
     ghost inside: { start ≤ length places.items },
 }
@@ -17,7 +17,7 @@ pub struct SetRoom {
 impl SetRoom {
     ghost use Rattle.hack_powerset_list.specs.Room.{set_in, most_in};
 
-    /// The empty set, with room for so many positions.
+    /// The empty set, with room for `most` positions.
     pub fn new(alloc: Global, most: usize) -> Result<SetRoom, AllocError>
         ensures set { IfOk result (λ room. set_in room ≡ []) }
         ensures most { IfOk result (λ room. most_in room ≡ most) }
@@ -45,7 +45,7 @@ impl SetRoom {
         self.places[self.start] = position;
     }
 
-    /// Takes the first position away, where there is one.
+    /// Removes the first position, if there is one.
     pub fn take(&mut self)
         ensures set { set_in self.new ≡ drop 1 (set_in self.old) }
         ensures most { most_in self.new ≡ most_in self.old }

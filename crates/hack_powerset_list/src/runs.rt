@@ -26,8 +26,8 @@ use hack_plan::runs::fits_two;
 use std::alloc::Global;
 use std::io;
 
-/// Prints the line of the run before those of sets: a plain one, or one without default features,
-/// unless these are wanted.
+/// Prints the line of the run that comes before those of sets: the plain run if `plain` is true,
+/// else the run with no features if `bare` is true, else none.
 fn print_front<W: Sink>(
     features: &[Feature],
     texts: &Texts,
@@ -54,7 +54,8 @@ fn print_front<W: Sink>(
     }
 }
 
-/// Prints the lines of the listed sets, that of the last one before the others or behind them.
+/// Prints the lines of the listed sets; the line of the last set comes before the others or after
+/// them.
 fn print_sets<W: Sink>(
     alloc: Global,
     lines: &SetLines<'_>,
@@ -123,8 +124,8 @@ fn print_runs<W: Sink>(
     print_sets(alloc, &lines, rules, last_first, &mut room, page, out)
 }
 
-/// Writes the lines of all runs, one after the other, or a front of them where memory runs out or a
-/// write fails. They are put on a page, which is written whenever it is full.
+/// Writes the lines of all runs, one after the other, or a front of them if memory is refused or a
+/// write fails. The lines are added to a page, which is written whenever it is full.
 pub fn write_lines<W: Sink>(
     alloc: Global,
     wishes: &Wishes,

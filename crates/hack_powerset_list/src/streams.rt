@@ -15,10 +15,10 @@ use std::io::{Read, Write};
 
 /// What a feature map is read from.
 pub trait Source {
-    /// The bytes that are left, where the type tells them.
+    /// The bytes that are left, if the type shows them.
     ghost remaining: { Self → Option (List ℕ) };
 
-    /// How often reading failed, where the type counts it. At 2^64 - 1 the count stays.
+    /// How often reading failed, if the type counts it. At 2^64 - 1 the count stays.
     ghost failed: { Self → Option ℕ };
 
     /// All bytes that are left.
@@ -29,19 +29,19 @@ pub trait Source {
 
 /// What a list is written to.
 pub trait Sink {
-    /// The bytes that were written, where the type tells them.
+    /// The bytes that were written, if the type shows them.
     ghost contents: { Self → Option (List ℕ) };
 
-    /// How often writing failed, where the type counts it. At 2^64 - 1 the count stays.
+    /// How often writing failed, if the type counts it. At 2^64 - 1 the count stays.
     ghost failed: { Self → Option ℕ };
 
-    /// Writes a text, or a front of it where that fails.
+    /// Writes a text, or a front of it if that fails.
     fn put_text(&mut self, text: &str) -> io::Result<()>
         ensures all { OnOk result (Appends (contents self.old) (contents self.new) text.now) }
         ensures front { AppendsFront (contents self.old) (contents self.new) text.now }
         ensures counted { Counts (failed self.old) (failed self.new) result };
 
-    /// Hands on what was written.
+    /// Flushes what was written.
     fn finish(&mut self) -> io::Result<()>
         ensures bytes { Keeps (contents self.old) (contents self.new) }
         ensures counted { Counts (failed self.old) (failed self.new) result };
@@ -71,7 +71,7 @@ impl<W: Write> Sink for W {
     }
 }
 
-/// A reader or a writer of which failures are counted.
+/// A reader or a writer whose failures are counted.
 #[derive(Drop)]
 pub struct Counted<'a, S> {
     pub stream: &'a mut S,

@@ -1,4 +1,4 @@
-//! The listed sets, one after the other, without keeping them.
+//! A walk over the listed sets, one after the other, that doesn't keep them in memory.
 
 ghost use Rattle.std.specs.Prelude.{◌≡◌, ◌<◌, ◌≤◌, ◌++◌, ◌∷◌, [], ℕ, List, All, filter, map};
 ghost use Rattle.std.specs.Prelude.{length, IfOk, OnOk, OnErr, IsTrue, MatchOption, false};
@@ -23,7 +23,8 @@ use hack_features::{Feature, Questions, Rules};
 use std::alloc::{AllocError, Global};
 use std::io;
 
-/// Whether no position may be put in front of a permitted set of so many.
+/// Whether a set of this many positions is full: the depth allows no further position in front of
+/// it.
 fn is_full(rules: &Rules, positions: usize) -> bool
     ensures { IsTrue result → (s : List ℕ) → length s ≡ positions
         → (p : ℕ) → may_of rules.now (p ∷ s) ≡ false }
@@ -34,7 +35,8 @@ fn is_full(rules: &Rules, positions: usize) -> bool
     }
 }
 
-/// The last listed set that is made of the set in the room and positions below `limit`.
+/// Returns the last listed set that consists of the set in the room and one or more positions below
+/// `limit`.
 pub fn last_below(
     alloc: Global,
     rules: &mut Rules<'_>,
@@ -81,11 +83,11 @@ pub fn last_below(
 pub struct SetLines<'a> {
     pub features: &'a [Feature],
     pub texts: &'a Texts,
-    /// The set whose line stands elsewhere.
+    /// The last listed set, whose line is printed apart from the others.
     pub last: &'a [usize],
 }
 
-/// Prints the line of the set of `least` and others, whose names stand in `others`.
+/// Prints the line of the set of `least` and other positions, whose names are in `others`.
 fn print_set<W: Sink>(
     features: &[Feature],
     texts: &Texts,
@@ -114,7 +116,8 @@ fn print_set<W: Sink>(
     )
 }
 
-/// Prints the line of the set of `least` and others, where it is listed and isn't the last one.
+/// Prints the line of `set`, if it is listed and isn't the last one. Its positions are `least` and
+/// others, whose names are in `others`.
 fn print_other<W: Sink>(
     lines: &SetLines<'_>,
     rules: &Rules<'_>,
@@ -147,7 +150,7 @@ fn print_other<W: Sink>(
     }
 }
 
-/// The names of one position more in front of others.
+/// The name of the position `least`, followed by the names in `others`.
 fn longer(
     alloc: Global,
     features: &[Feature],
@@ -168,8 +171,8 @@ fn longer(
     Ok(longer)
 }
 
-/// Prints the lines of the listed sets, but of the last one, that are made of the set in the room
-/// and positions below `limit`. The names of that set stand in `others`.
+/// Prints the lines of the listed sets, except of the last one, that consist of the set in the room
+/// and one or more positions below `limit`. `others` has the names of the set in the room.
 pub fn print_below<W: Sink>(
     alloc: Global,
     lines: &SetLines<'_>,
@@ -219,7 +222,7 @@ pub fn print_below<W: Sink>(
     Ok(())
 }
 
-/// The names of positions, as they stand behind another one.
+/// The names of the positions as they are printed after another name.
 fn names_behind_another(
     alloc: Global,
     features: &[Feature],

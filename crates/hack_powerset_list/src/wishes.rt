@@ -1,4 +1,4 @@
-//! What the words of `powerset-list` ask for.
+//! What the arguments of `powerset-list` ask for.
 
 ghost use Rattle.std.specs.Prelude.{◌≡◌, IfOk, IfErr, Some, None, option_map};
 ghost use Rattle.std.specs.Prelude.{MatchBool, MatchOption};
@@ -20,13 +20,13 @@ const AT_LEAST_ONE_OF: &str = "--at-least-one-of";
 
 const MUTUALLY_EXCLUSIVE: &str = "--mutually-exclusive-features";
 
-/// Why words ask for nothing.
+/// Why the arguments are refused.
 #[derive(Drop)]
 pub enum WordsFault {
     Usage,
-    /// The depth that is no number.
+    /// The text of the depth, which is no number.
     Number(String),
-    /// The option of which a list has no separator.
+    /// The option to which a list without a separator is given.
     Group(&'static str),
     Memory,
 }
@@ -67,7 +67,8 @@ struct Values<'a> {
 }
 
 impl<'a> Values<'a> {
-    /// Takes the value of an option; answers whether there is such an option, which takes one more.
+    /// Takes the value of an option. Returns false if there is no such option, or it takes no
+    /// second value.
     fn take(&mut self, option: &str, value: &'a str) -> Result<bool, AllocError>
         ensures { IfOk result (λ taken. MatchBool taken
             (with_value (written_in self.old) option.now value.now ≡ Some (written_in self.new))
@@ -88,7 +89,8 @@ impl<'a> Values<'a> {
         Ok(true)
     }
 
-    /// The values in the words, each behind its option; none where they keep no usage.
+    /// The values in the arguments, each of which follows its option; None if the arguments break
+    /// the usage.
     fn of(alloc: Global, words: &'a [String]) -> Result<Option<Values<'a>>, AllocError>
         ensures { IfOk result (λ found. with_words none_written (names_of words.now)
             ≡ option_map written_in found) }
@@ -113,7 +115,7 @@ impl<'a> Values<'a> {
     }
 }
 
-/// The number that a depth is, where one is given; else the text that is no number.
+/// Returns the depth as a number, if one is given. The error is the text that is no number.
 fn depth_of(depth: Option<&str>) -> Result<Option<usize>, &str>
     ensures ok { IfOk result (IsDepth (shown_text depth.entry)) }
     ensures err { IfErr result (λ text. IsNoDepth (shown_text depth.entry) text.now) }
@@ -127,7 +129,7 @@ fn depth_of(depth: Option<&str>) -> Result<Option<usize>, &str>
     }
 }
 
-/// The groups that lists name; none where a list has no separator.
+/// The groups that the lists name; None if a list has no separator.
 fn groups_of(alloc: Global, lists: &[&str]) -> Result<Option<Vec<Feature>>, AllocError>
     ensures { IfOk result (λ found. MatchOption found (LacksSeparator (names_behind lists.now))
         (λ groups. AreGroups (names_behind lists.now) (names_in_groups groups.items))) }
@@ -142,7 +144,7 @@ fn groups_of(alloc: Global, lists: &[&str]) -> Result<Option<Vec<Feature>>, Allo
     Ok(Some(groups))
 }
 
-/// What the words ask for.
+/// What the arguments ask for.
 #[derive(Drop)]
 pub struct Wishes {
     pub depth: Option<usize>,
@@ -151,7 +153,7 @@ pub struct Wishes {
 }
 
 impl Wishes {
-    /// What the words ask for, or their first fault.
+    /// Returns what the arguments ask for, or the first error in them.
     pub fn of(alloc: Global, words: &[String]) -> Result<Wishes, WordsFault>
         ensures ok { IfOk result (λ wishes. Asks (names_of words.now) wishes.depth
             (names_in_groups wishes.at_least_one_of.items)

@@ -8,7 +8,7 @@ use hack_base::writes::write_front;
 use std::io;
 use std::io::Write;
 
-/// Writes texts one after the other, or a front of them all where a write fails.
+/// Writes texts one after the other, or a front of them all if a write fails.
 pub fn write_texts<W: Write>(texts: &[&str], out: &mut W) -> io::Result<()>
     ensures all { OnOk result (Appends (W.contents out.old) (W.contents out.new)
         (flat_map (λ text. text.now) texts.now)) }

@@ -13,7 +13,7 @@ use Rattle.hack_samples.proofs.OrderLemmas.{three}
 use Rattle.hack_samples.proofs.SampleLemmas.{some-kept}
 
 module _ (may : List Bool → Bool) (n : ℕ) (required : List (List ℕ)) (providers : List (List (List ℕ))) where
-  -- nothing is covered behind a pattern that isn't possible
+  -- what continues a pattern that isn't possible needs no set
   pub covers-not : (pattern : List Setting) (limit more : ℕ) (sets : List (List Bool)) → (IsPossible may n required providers pattern → ⊥) → CoversBelow may n required providers pattern limit more sets
   covers-not pattern limit more sets not rest descends few possible =
       absurd (not (record { by = possible.by; listed = possible.listed; shows = all-left (λ setting. is_on providers possible.by setting.candidate ≡ setting.on) pattern rest possible.shows }))
@@ -28,7 +28,7 @@ module _ (may : List Bool → Bool) (n : ℕ) (required : List (List ℕ)) (prov
   pub covers-kept : (pattern : List Setting) (limit more : ℕ) (sets later : List (List Bool)) → AreKept sets later → CoversBelow may n required providers pattern limit more sets → CoversBelow may n required providers pattern limit more later
   covers-kept pattern limit more sets later kept covers = λ rest descends few possible. some-kept providers (pattern ++ rest) sets later kept (covers rest descends few possible)
 
-  -- one more candidate, on and off
+  -- patterns that continue by one more candidate, on or off
   pub covers-step : (pattern : List Setting) (candidate more : ℕ) (sets : List (List Bool))
       → ((x : Setting) → x.candidate < candidate → CoversBelow may n required providers (pattern ++ x ∷ []) x.candidate more sets)
       → CoversBelow may n required providers (pattern ++ record { candidate = candidate; on = true } ∷ []) candidate more sets

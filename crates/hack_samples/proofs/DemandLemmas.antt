@@ -16,7 +16,7 @@ clear-more banned s p lt = (
 pub clear-past : (banned s : List Bool) (p : ℕ) → length s ≤ p → IsClear banned s ↔ (IsClear banned s × (has s p ≡ false))
 clear-past banned s p le = (λ clear. (clear, has-past s p le), λ both. both.0)
 
--- one more of a group is banned: s has none of them
+-- after one more position of a group is banned: s has none of those so far
 pub ban-step : (group : List ℕ) (i p : ℕ) (old banned new s : List Bool) → i < length group → p ≡ get_or group i 0
     → IsClear new s ↔ (IsClear banned s × (has s p ≡ false)) → IsClear banned s ↔ (IsClear old s × (has_one_of s (take i group) ≡ false))
     → IsClear new s ↔ (IsClear old s × (has_one_of s (take (i + 1) group) ≡ false))
@@ -44,7 +44,7 @@ and-end false b = refl
 and-end true true = refl
 and-end true false = refl
 
--- one more behind
+-- one more position at the end of a group
 pub one-push : (s : List Bool) (group : List ℕ) (p : ℕ) → has_one_of s (group ++ p ∷ []) ≡ (has_one_of s group || has s p)
 one-push s group p = list_any-append (has s) group (p ∷ []) ∙ or-end (has_one_of s group) (has s p)
 
@@ -54,7 +54,7 @@ each-push s groups group = list_all-append (has_one_of s) groups (group ∷ []) 
 pub each-join : (s : List Bool) (first others : List (List ℕ)) → has_each s (first ++ others) ≡ (has_each s first && has_each s others)
 each-join s first others = list_all-append (has_one_of s) first others
 
--- one more in front of the others, or behind them
+-- one more position, put at the end of the front part or of the back part
 pub front-more : (s : List Bool) (group front back : List ℕ) (i p : ℕ) → i < length group → p ≡ get_or group i 0 → has_one_of s (front ++ back) ≡ has_one_of s (take i group) → has_one_of s ((front ++ p ∷ []) ++ back) ≡ has_one_of s (take (i + 1) group)
 front-more s group front back i p lt at before =
     list_any-append (has s) (front ++ p ∷ []) back
@@ -72,6 +72,6 @@ back-more s group front back i p lt at before =
     ∙ ap (λ q. has_one_of s (take i group) || has s q) at
     ∙ sym (list_any_more (has s) group i 0 lt)
 
--- a set that has none of one group hasn't one of each
+-- a set that has no member of one group doesn't have a member of each
 pub each-none : (s : List Bool) (groups : List (List ℕ)) (i : ℕ) → i < length groups → has_one_of s (get_or groups i []) ≡ false → has_each s groups ≡ false
 each-none s groups i lt none = list_all_at (has_one_of s) groups i [] lt none

@@ -4,7 +4,7 @@ use Rattle.std.proofs.lemmas.List.Folds.{list_any_at, list_any_more}
 use Rattle.hack_samples.specs.Sets.{has, has_one_of, has_each, IsInside, IsSuited, Meets, NoneMeets}
 use Rattle.hack_samples.proofs.SetLemmas.{told, not_both, or-both, and-true, and-both, has-set_same, inside-join}
 
--- none as before, and some as before
+-- what a call found is passed on: no set stays no set, and a set stays that set
 pub passed : {X E : Type 0} (N N' : Type 0) (M M' I : X → Type 0) (r : Result (Option X) E) → IfOk r (λ o. MatchOption o N' M') → IfOk r (λ o. IfSome o I) → (N' → N) → ((v : X) → M' v → I v → M v)
     → IfOk r (λ o. MatchOption o N M)
 passed N N' M M' I (Ok None) h i f k = f h
@@ -50,7 +50,7 @@ module _ (may : List Bool → Bool) (n : ℕ) where
   pub meets-none : (banned s : List Bool) → IsSuited may n banned s → Meets may n [] banned s
   meets-none banned s h = record { suited = h; met = refl }
 
-  -- no set that meets the rest with p: one that meets all hasn't p
+  -- if no set with p meets the other groups, then a set that meets all groups doesn't have p
   pub tried : (group : List ℕ) (groups : List (List ℕ)) (banned s : List Bool) (p : ℕ) → NoneMeets may n groups banned (set s p true) → (t : List Bool) → IsInside s t → Meets may n (group ∷ groups) banned t → has t p ≡ false
   tried group groups banned s p none t inside h =
       elim (told (has t p)) [

@@ -67,7 +67,7 @@ module _ {X : Type 0} (R : X → X → Type 0) (xs : List X) (i : ℕ) (y : X) w
         ]
       ]))
 
-  -- pairs stay in order where one more is put between those before it and those behind it
+  -- a list stays in order when y is inserted between what comes before y and what comes after it
   pub pairs-insert : i ≤ length xs → AllPairs R xs → ((k : ℕ) (d : X) → k < i → R (get_or xs k d) y) → ((k : ℕ) (d : X) → i ≤ k → k < length xs → R y (get_or xs k d)) → AllPairs R (insert xs i y)
   pairs-insert le pairs front behind a b d lt below =
       let size : length (insert xs i y) ≡ length xs + 1 = length-insert xs i y le in
@@ -110,7 +110,7 @@ rows-insert [] (suc i) v = refl
 rows-insert (x ∷ xs) zero v = refl
 rows-insert (x ∷ xs) (suc i) v = ap (λ l. x.items ∷ l) (rows-insert xs i v)
 
--- one more is before the other
+-- one more of the sets is before s
 pub front-more : (sets : List (List Bool)) (s t : List Bool) (i : ℕ) → get_or sets i t ≡ t → i < length sets → ((k : ℕ) (d : List Bool) → k < i → IsBefore (get_or sets k d) s) → IsBefore t s
     → (k : ℕ) (d : List Bool) → k < i + 1 → IsBefore (get_or sets k d) s
 front-more sets s t i at lt before now k d below =
@@ -122,7 +122,7 @@ front-more sets s t i at lt before now k d below =
       ]
     ]
 
--- the first that isn't before it is behind it, and so are all behind that one
+-- if s is before the set at the place, it is before all later ones, and belongs at the place
 pub fits-here : (sets : List (List Bool)) (s t : List Bool) (i : ℕ) → get_or sets i t ≡ t → i < length sets → AllPairs IsBefore sets → ((k : ℕ) (d : List Bool) → k < i → IsBefore (get_or sets k d) s) → IsBefore s t
     → Fits sets s i
 fits-here sets s t i at lt ordered front now = record {
@@ -141,6 +141,6 @@ fits-here sets s t i at lt ordered front now = record {
 pub fits-end : (sets : List (List Bool)) (s : List Bool) (i : ℕ) → i ≡ length sets → ((k : ℕ) (d : List Bool) → k < i → IsBefore (get_or sets k d) s) → Fits sets s i
 fits-end sets s i is front = record { within = omega arith; in_front = front; behind = λ k d le below. absurd (omega arith) }
 
--- where it is found it is one of them
+-- a set that is the same as one of them is one of them
 pub found-here : (sets : List (List Bool)) (s t : List Bool) (i : ℕ) → get_or sets i t ≡ t → i < length sets → t ≡ s → Contains sets s
 found-here sets s t i at lt is = subst (Contains sets) (at ∙ is) (Contains-get_or sets i t lt)

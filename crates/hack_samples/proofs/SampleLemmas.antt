@@ -6,7 +6,7 @@ use Rattle.hack_samples.specs.Order.{IsBefore}
 use Rattle.hack_samples.specs.Descends.{AreKept}
 use Rattle.hack_samples.specs.declared.sets.Setting.{Setting}
 
--- none of one more set shows the pattern
+-- after one more set that doesn't show the pattern, still none shows it
 pub none-more : (providers : List (List (List ℕ))) (pattern : List Setting) (sets more : List (List Bool)) (s : List Bool) → more ≡ sets ++ s ∷ []
     → (SomeShows providers pattern sets → ⊥) → (Shows providers pattern s → ⊥) → SomeShows providers pattern more → ⊥
 none-more providers pattern sets more s is none not h =

@@ -33,7 +33,7 @@ not-true-is : (a : Bool) → not a ≡ true → a ≡ false
 not-true-is true h = absurd (not_both h refl)
 not-true-is false h = refl
 
--- members are positions
+-- members are less than the number of positions
 pub has-below : (s : List Bool) (p : ℕ) → has s p ≡ true → p < length s
 has-below [] p h = absurd (not_both h refl)
 has-below (x ∷ s) zero h = omega arith
@@ -66,7 +66,7 @@ has-empty zero p = refl
 has-empty (suc n) zero = refl
 has-empty (suc n) (suc p) = has-empty n p
 
--- a set that has none of a group has not the one at a place
+-- a set that has no member of a group doesn't have the position at a place of it
 pub none-at : (s : List Bool) (group : List ℕ) (i : ℕ) → i < length group → has_one_of s group ≡ false → has s (get_or group i 0) ≡ false
 none-at s group i lt none =
     elim (told (has s (get_or group i 0))) [ inr off ↦ off | inl on ↦ absurd (not_both (list_any_at (has s) group i 0 lt on) none) ]
@@ -126,7 +126,7 @@ suited-join may n banned s p suited free allowed = record {
   clear = λ q h. has-set_other s p q (λ e. not_both (subst (λ r. has banned r ≡ true) e h) free) ∙ suited.clear q h;
 }
 
--- what a position has that may join
+-- what holds of a position that may join
 pub record Joins (may : List Bool → Bool) (banned s : List Bool) (p : ℕ) : Type 0 where
   pub free : has banned p ≡ false
   pub fresh : has s p ≡ false
@@ -140,7 +140,7 @@ join-true may banned s p h =
     let inner = and-true (not (has banned p)) (not (has s p)) middle.0 in
     record { free = not-true-is (has banned p) inner.0; fresh = not-true-is (has s p) inner.1; below = ltb-true p (length s) middle.1; allowed = outer.1 }
 
--- each suited set has only members that may join each set inside it
+-- a position that is new to s and may not join it is in no suited set around s
 pub join-false : (may : List Bool → Bool) → ((u v : List Bool) → IsInside u v → may v ≡ true → may u ≡ true)
     → (n : ℕ) (banned s : List Bool) (p : ℕ) → may_join may banned s p ≡ false → has s p ≡ false → (t : List Bool) → IsInside s t → IsSuited may n banned t → has t p ≡ false
 join-false may closed n banned s p h fresh t inside suited =
@@ -159,10 +159,10 @@ join-false may closed n banned s p h fresh t inside suited =
           ])
     ]
 
--- by the same rules a set is suited as before
+-- a suited set stays suited by the same rules
 pub suited-turned : {may may' : List Bool → Bool} {n n' : ℕ} → may' ≡ may → n' ≡ n → (banned s : List Bool) → IsSuited may n banned s → IsSuited may' n' banned s
 suited-turned e f banned s h = record { size = h.size ∙ sym f; allowed = ap (λ m. m s) e ∙ h.allowed; clear = h.clear }
 
--- a fact of two things, at what they are the same as
+-- what holds of two things holds of things equal to them
 pub both_turned : {X Y : Type 0} (P : X → Y → Type 0) {x x' : X} {y y' : Y} → x ≡ x' → y ≡ y' → P x y → P x' y'
 both_turned P {x} {x'} {y} {y'} e f h = subst (P x') f (subst (λ z. P z y) e h)

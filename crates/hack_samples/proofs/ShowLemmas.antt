@@ -17,7 +17,7 @@ all-left P xs ys h = λ k d lt. All-contains P (xs ++ ys) (get_or xs k d) h (Con
 pub all-last : {X : Type 0} (P : X → Type 0) (xs : List X) (x : X) → All P (xs ++ x ∷ []) → P x
 all-last P xs x h = All-contains P (xs ++ x ∷ []) x h (Contains-push xs x)
 
--- all of one more
+-- what holds of a list and of one more element
 pub all-push : {X : Type 0} (P : X → Type 0) (xs : List X) (x : X) → All P (xs ++ x ∷ []) ↔ (All P xs × P x)
 all-push P xs x = (λ h. (all-left P xs (x ∷ []) h, all-last P xs x h), λ both. All-push P xs x both.0 both.1)
 
@@ -69,7 +69,7 @@ module _ (may : List Bool → Bool) (n : ℕ) (providers : List (List (List ℕ)
         shows-cons x rest t (is ∙ list_all_at (has_one_of t) rows i row lt (ap (has_one_of t) at ∙ parts.1) ∙ sym no') h.1,
       )
 
-  -- a set that would do has one of each row that was tried
+  -- a set that meets all demands but being off has a member of each row that was tried
   pub off-tried : (rest : List Setting) (groups front now : List (List ℕ)) (row : List ℕ) (banned more s : List Bool) → now ≡ front ++ row ∷ []
       → (IsClear banned s × (has_one_of s row ≡ false) → IsClear more s) → NoneShows may n groups more providers rest → Meets may n groups banned s → Shows providers rest s
       → has_each s front ≡ true → has_each s now ≡ true

@@ -9,16 +9,16 @@ pub record IsPossible (may : List Bool → Bool) (n : ℕ) (required : List (Lis
   pub listed : IsListed may n required by
   pub shows : Shows providers pattern by
 
--- the candidates descend, from below the limit
+-- the candidates are in descending order, all below the limit
 abbrev pub Descends : ℕ → List Setting → Type 0
 Descends limit [] = Unit {0}
 Descends limit (setting ∷ pattern) = (setting.candidate < limit) × Descends setting.candidate pattern
 
--- the pattern, with up to so many settings behind it that descend from below the limit, is shown where it is possible
+-- each possible pattern that continues this one by up to `more` such settings is shown
 abbrev pub CoversBelow : (List Bool → Bool) → ℕ → List (List ℕ) → List (List (List ℕ)) → List Setting → ℕ → ℕ → List (List Bool) → Type 0
 CoversBelow may n required providers pattern limit more sets =
     (rest : List Setting) → Descends limit rest → length rest ≤ more → IsPossible may n required providers (pattern ++ rest) → SomeShows providers (pattern ++ rest) sets
 
--- the later sets have all of the earlier
+-- each of the earlier sets is one of the later
 abbrev pub AreKept : List (List Bool) → List (List Bool) → Type 0
 AreKept earlier later = (s : List Bool) → Contains earlier s → Contains later s

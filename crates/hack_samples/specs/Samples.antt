@@ -8,7 +8,7 @@ use Rattle.hack_samples.specs.declared.sets.Setting.{Setting}
 abbrev pub Shows : List (List (List ℕ)) → List Setting → List Bool → Type 0
 Shows providers pattern s = All (λ setting. is_on providers s setting.candidate ≡ setting.on) pattern
 
--- the set is listed: it is over n positions, allowed, and has one of each required group
+-- the set is listed: it is over n positions, allowed, and has a member of each required group
 pub record IsListed (may : List Bool → Bool) (n : ℕ) (required : List (List ℕ)) (s : List Bool) : Type 0 where
   pub size : length s ≡ n
   pub allowed : may s ≡ true
@@ -30,6 +30,6 @@ pub record IsSample (may : List Bool → Bool) (n : ℕ) (required : List (List 
   pub listed : All (IsListed may n required) sets
   pub ordered : AllPairs IsBefore sets
 
--- no set that meets the groups shows the pattern
+-- no set that meets the groups, without a banned position, shows the pattern
 abbrev pub NoneShows : (List Bool → Bool) → ℕ → List (List ℕ) → List Bool → List (List (List ℕ)) → List Setting → Type 0
 NoneShows may n groups banned providers pattern = (s : List Bool) → Meets may n groups banned s → Shows providers pattern s → ⊥

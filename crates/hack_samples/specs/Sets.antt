@@ -10,11 +10,11 @@ has s p = slice_index_or s p false
 abbrev pub has_one_of : List Bool → List ℕ → Bool
 has_one_of s group = list_any (has s) group
 
--- whether the set has one of each group
+-- whether the set has a member of each group
 abbrev pub has_each : List Bool → List (List ℕ) → Bool
 has_each s groups = list_all (has_one_of s) groups
 
--- whether the candidate is on in the set: for each of its names one of those that enable it is a member
+-- whether the candidate is on in the set: for each of its names some member enables it
 abbrev pub is_on : List (List (List ℕ)) → List Bool → ℕ → Bool
 is_on providers s candidate = has_each s (slice_index_or providers candidate [])
 
@@ -45,7 +45,7 @@ pub record IsSuited (may : List Bool → Bool) (n : ℕ) (banned s : List Bool) 
 abbrev pub may_join : (List Bool → Bool) → List Bool → List Bool → ℕ → Bool
 may_join may banned s p = not (has banned p) && not (has s p) && nat_lt p (length s) && may (slice_set s p true)
 
--- the set is suited, and has one of each group
+-- the set is suited, and has a member of each group
 pub record Meets (may : List Bool → Bool) (n : ℕ) (groups : List (List ℕ)) (banned s : List Bool) : Type 0 where
   pub suited : IsSuited may n banned s
   pub met : has_each s groups ≡ true

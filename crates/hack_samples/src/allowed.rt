@@ -7,8 +7,8 @@ ghost use Rattle.hack_samples.specs.Questions.{IsTired, StaysWithin};
 
 use crate::fault::SampleFault;
 
-/// Sets of positions below a number, some of them allowed: the empty one, and with each set those
-/// inside it. Each call of `may_add` is a question, and counted.
+/// Sets of positions below a number, some of which are allowed: the empty one is, and so is each
+/// set inside an allowed one. Each call of `may_add` is a question, and is counted.
 pub trait Allowed {
     /// How many positions there are.
     ghost size: { Self → ℕ };
@@ -19,13 +19,13 @@ pub trait Allowed {
     /// How many questions were asked.
     ghost count: { Self → ℕ };
 
-    /// What else no question changes.
+    /// What else stays the same between two states, however many questions were asked between them.
     ghost stays: { Self → Self → Type 0 };
 
     fn positions(&self) -> usize
         ensures { result ≡ size self.now };
 
-    /// Whether an allowed set may have one more member.
+    /// Whether the allowed set is still allowed with the position as one more member.
     fn may_add(&mut self, set: &[bool], position: usize) -> bool
         requires size { length set.now ≡ size self.old }
         requires inside { position < length set.now }
@@ -44,7 +44,7 @@ pub trait Allowed {
     /// The empty set is allowed.
     ghost empty: { (a : Self) → may a (replicate (size a) false) ≡ true };
 
-    /// What is inside an allowed set is allowed.
+    /// A set inside an allowed one is allowed.
     ghost closed: { (a : Self) (s t : List Bool) → IsInside s t → may a t ≡ true
         → may a s ≡ true };
 
@@ -53,8 +53,8 @@ pub trait Allowed {
     ghost stays_more: { (a b c : Self) → stays a b → stays b c → stays a c };
 }
 
-/// Asks whether an allowed set may have one more member, unless the count of questions is at the
-/// end.
+/// Asks whether the allowed set is still allowed with the position as one more member. It doesn't
+/// ask, and returns the error `TooManyQuestions`, if the count of questions has reached `end`.
 pub(crate) fn ask<A: Allowed>(
     allowed: &mut A,
     end: u128,

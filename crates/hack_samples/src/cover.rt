@@ -60,7 +60,8 @@ struct Chosen {
     columns: Columns,
 }
 
-/// Sees to it that a set shows the pattern. False where no listed set shows it.
+/// Adds a set that shows the pattern, unless one of the chosen sets shows it. Returns false if no
+/// listed set shows it.
 fn show<A: Allowed>(
     alloc: Global,
     allowed: &mut A,
@@ -97,8 +98,9 @@ fn show<A: Allowed>(
     Ok(true)
 }
 
-/// Sees to it that the sets show the pattern, and each that has up to `more` settings of candidates
-/// below `limit` behind it, in descending order.
+/// Adds sets until the chosen sets show the pattern and each pattern that continues it by up to
+/// `more` settings, of candidates below `limit` in descending order. It passes over patterns that
+/// no listed set shows.
 fn cover<A: Allowed>(
     alloc: Global,
     allowed: &mut A,
@@ -155,7 +157,7 @@ fn cover<A: Allowed>(
     Ok(())
 }
 
-/// What is on and off in the set.
+/// Returns for each candidate whether it is on in the set.
 fn settings_of(
     alloc: Global,
     providers: &[Vec<Vec<usize>>],
@@ -171,7 +173,8 @@ fn settings_of(
     Ok(settings)
 }
 
-/// Adds the set that a row of the guide leads to, unless in one of the others the same is on.
+/// Adds the set that a row of the guide leads to, unless exactly the same candidates are on in one
+/// of the chosen sets.
 fn follow<A: Allowed>(
     alloc: Global,
     allowed: &mut A,
@@ -206,7 +209,8 @@ fn follow<A: Allowed>(
     Ok(())
 }
 
-/// Such a sample, begun with rows of the guide where `guided` is true.
+/// Returns a sample as `sample` does. If `guided` is true, the first sets are those that the rows
+/// of the guide lead to.
 fn sample_by<A: Allowed>(
     alloc: Global,
     allowed: &mut A,
@@ -248,14 +252,14 @@ fn sample_by<A: Allowed>(
     Ok(chosen.sets)
 }
 
-/// A few of the listed sets that show each pattern of at most `strength` candidates that some
-/// listed set shows, in the order of sets, each once.
+/// Returns a few of the listed sets, in the order of sets, each once, that show each pattern of at
+/// most `strength` candidates that some listed set shows.
 ///
 /// `providers` has for each candidate a row for each of its names, with the positions that enable
 /// it: the candidate is on in a set that has a member of each row. A listed set is an allowed one
-/// that has one of each required group. The same arguments give the same sample. The search is
-/// exact, and so takes long where many groups and many forbidden sets go together: it asks at most
-/// `most_questions` questions.
+/// that has a member of each required group. The same arguments give the same sample. The search is
+/// exact, so it can take long if there are many groups and many sets that aren't allowed: it asks
+/// at most `most_questions` questions, and the error is `TooManyQuestions` if these are not enough.
 pub fn sample<A: Allowed>(
     alloc: Global,
     allowed: &mut A,
@@ -293,7 +297,7 @@ pub fn sample<A: Allowed>(
     }
 }
 
-/// The one that has fewer sets.
+/// Returns the sample that has fewer sets, `one` if they have as many.
 fn smaller(one: Vec<Vec<bool>>, other: Vec<Vec<bool>>) -> Vec<Vec<bool>>
     ensures { result ≡ one ⊎ result ≡ other }
 {

@@ -1,4 +1,4 @@
-//! What a set has to meet: groups of which it has one each, and positions that it may not have.
+//! What a set has to meet: it has to have a member of each group, and no banned position.
 
 ghost use Rattle.std.specs.Prelude.{◌≡◌, ℕ, List, Bool, false, length, IfOk, IsTrue, ◌↔◌, ◌&&◌};
 ghost use Rattle.hack_samples.specs.Sets.{has_one_of, has_each, IsClear, rows_of};
@@ -6,12 +6,12 @@ ghost use Rattle.hack_samples.specs.Sets.{has_one_of, has_each, IsClear, rows_of
 use crate::sets::{add, has};
 use std::alloc::{AllocError, Global};
 
-/// What a sample is asked for.
+/// What a sample has to be, and how many questions its search may ask.
 #[derive(Clone, Copy)]
 pub(crate) struct Wanted<'a> {
     /// For each candidate and each of its names the positions that enable it.
     pub(crate) providers: &'a [Vec<Vec<usize>>],
-    /// Groups of which each set has to have one each.
+    /// The groups of each of which a set has to have a member.
     pub(crate) required: &'a [Vec<usize>],
     /// How many candidates a pattern has at most.
     pub(crate) strength: usize,
@@ -33,7 +33,7 @@ pub(crate) fn ban(banned: &mut Vec<bool>, group: &[usize])
     }
 }
 
-/// The positions of the group, those that are liked first.
+/// The positions of the group, beginning with those that are liked.
 fn ordered(alloc: Global, group: &[usize], liked: &[bool]) -> Result<Vec<usize>, AllocError>
     ensures { IfOk result (λ ordered. (s : List Bool)
         → has_one_of s ordered.items ≡ has_one_of s group.now) }
@@ -51,7 +51,7 @@ fn ordered(alloc: Global, group: &[usize], liked: &[bool]) -> Result<Vec<usize>,
     Ok(front)
 }
 
-/// Copies of the groups, in each the positions that are liked first.
+/// Copies of the groups, each beginning with its positions that are liked.
 pub(crate) fn copies(
     alloc: Global,
     groups: &[Vec<usize>],
@@ -67,7 +67,7 @@ pub(crate) fn copies(
     Ok(copies)
 }
 
-/// Copies of the first groups, and behind them of the others.
+/// Copies of the first groups, followed by copies of the others.
 pub(crate) fn joined(
     alloc: Global,
     first: &[Vec<usize>],

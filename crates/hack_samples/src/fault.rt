@@ -10,7 +10,7 @@ use thiserror::Error;
 pub enum SampleFault {
     #[error("out of memory")]
     Memory,
-    /// The search has asked as often as it may.
+    /// The search has asked as many questions as it may.
     #[error("too many questions")]
     TooManyQuestions,
 }

@@ -1,7 +1,7 @@
-//! Makes a set show as many new patterns as a greedy rule finds.
+//! Adds members to a set, so that it shows as many new patterns as a greedy rule finds.
 //!
-//! What it chooses is advice: its clauses say only that the set stays allowed, keeps its members
-//! and has no position that is held off.
+//! Which members are added is not promised: contracts say only that the set stays allowed, keeps
+//! its members and has no banned position.
 
 ghost use Rattle.std.specs.Prelude.{◌≡◌, ◌<◌, ℕ, List, Bool, true, false, length, slice_set};
 ghost use Rattle.std.specs.Prelude.{IsTrue, IfOk, IfErr, OnOk};
@@ -16,8 +16,8 @@ use crate::guide::Guide;
 use crate::sets::{add, has, has_each, has_one_of, is_on, rows_at};
 use std::alloc::{AllocError, Global};
 
-/// Which of the sets so far turn each candidate on, and which off, a bit a set. Sets past the 128th
-/// aren't recorded.
+/// For each candidate, which of the sets so far turn it on and which turn it off, with one bit for
+/// each set. Sets past the 128th aren't recorded.
 #[derive(Drop)]
 pub(crate) struct Columns {
     on: Vec<u128>,
@@ -58,7 +58,7 @@ impl Columns {
         self.bit = bit << 1;
     }
 
-    /// The sets that turn the candidate on, or off.
+    /// The recorded sets that turn the candidate on, or those that turn it off.
     fn column(&self, candidate: usize, on: bool) -> u128 {
         let columns = if on { &self.on } else { &self.off };
         columns.get(candidate).copied().unwrap_or(0)
@@ -69,7 +69,9 @@ impl Columns {
         self.guide.rows()
     }
 
-    /// Whether to turn the candidate on, which would gain `on`, and `off` otherwise.
+    /// Whether to turn the candidate on. With a row the guide decides. Without one the greater gain
+    /// decides, where the candidate gains `on` if it is on and `off` if it is off; for equal gains
+    /// the fixed sequence of numbers does.
     fn asks(&mut self, candidate: usize, row: Option<u32>, on: usize, off: usize) -> bool {
         match row {
             Some(row) => self.guide.is_on(candidate, row),
@@ -77,8 +79,9 @@ impl Columns {
         }
     }
 
-    /// The positions to try first: those that enable no name of a candidate that is off in the row,
-    /// or with no row any.
+    /// Returns which positions to try first. With a row they are those that enable no name of a
+    /// candidate that is off in the row. Without one the fixed sequence of numbers chooses about
+    /// half of all positions.
     pub(crate) fn liked(
         &mut self,
         alloc: Global,
@@ -101,7 +104,7 @@ impl Columns {
         Ok(liked)
     }
 
-    /// The next number of a fixed sequence.
+    /// Returns the next number of a fixed pseudorandom sequence.
     fn random(&mut self) -> u64 {
         let mut x = self.random;
         x ^= x << 13;
@@ -112,7 +115,7 @@ impl Columns {
     }
 }
 
-/// Takes the positions of the rows away from those that are liked.
+/// Makes the positions of the rows not liked.
 fn dislike(liked: &mut [bool], rows: &[Vec<usize>]) {
     for row in rows {
         for position in row.as_slice() {
@@ -123,7 +126,8 @@ fn dislike(liked: &mut [bool], rows: &[Vec<usize>]) {
     }
 }
 
-/// How many choices of so many columns less one have no set in common with each other and `sets`.
+/// Returns how many choices of `choose - 1` of the columns have no set that is in `sets` and in all
+/// chosen columns: each of them is a pattern that no recorded set shows.
 fn fresh(columns: &[u128], sets: u128, choose: usize) -> usize {
     if choose <= 1 {
         return if sets == 0 { 1 } else { 0 };
@@ -135,7 +139,7 @@ fn fresh(columns: &[u128], sets: u128, choose: usize) -> usize {
     count
 }
 
-/// The candidates in the order of a fixed sequence of numbers.
+/// Returns the candidates in an order that the fixed sequence of numbers gives.
 fn shuffled(
     alloc: Global,
     columns: &mut Columns,
@@ -152,7 +156,8 @@ fn shuffled(
     Ok(order)
 }
 
-/// Whether the position is new to a suited set, which is suited with it too.
+/// Whether the position is new to the suited set, and the set is still suited with it: allowed, and
+/// without a banned position.
 pub(crate) fn may_join<A: Allowed>(
     allowed: &mut A,
     end: u128,
@@ -211,7 +216,8 @@ fn add_one_of<A: Allowed>(
     Ok(())
 }
 
-/// Adds one of each row that the set has none of, where it may join.
+/// Adds, for each row of which the set has no member, the first position that may join, if there is
+/// one.
 fn add_one_of_each<A: Allowed>(
     allowed: &mut A,
     end: u128,
@@ -235,7 +241,8 @@ fn add_one_of_each<A: Allowed>(
     Ok(())
 }
 
-/// Bans the first of the rows that the set has none of, so that no larger set has one of each.
+/// Bans the first row of which the set has no member, if there is one, so that no larger set
+/// without banned positions has a member of each row.
 pub(crate) fn hold_off(held: &mut Vec<bool>, set: &[bool], rows: &[Vec<usize>])
     requires { length set.now ≡ length held.old.items }
     ensures size { length held.new.items ≡ length held.old.items }
@@ -254,8 +261,8 @@ pub(crate) fn hold_off(held: &mut Vec<bool>, set: &[bool], rows: &[Vec<usize>])
     }
 }
 
-/// Turns the candidate of these rows on where that is asked for and allowed, and else sees to it
-/// that no later member turns it on.
+/// Turns the candidate of these rows on, if `on` is true and that is allowed. If the candidate
+/// isn't on then, bans one of its rows, so that no later member turns it on.
 fn turn<A: Allowed>(
     allowed: &mut A,
     end: u128,
@@ -288,16 +295,17 @@ fn turn<A: Allowed>(
     Ok(())
 }
 
-/// A set with more members, and how many patterns of so many candidates it shows that were not
-/// shown.
+/// A set to which members were added, and its gain: how many patterns of as many candidates as the
+/// strength it shows that no recorded set shows.
 #[derive(Drop)]
 struct Packed {
     set: Vec<bool>,
     gain: usize,
 }
 
-/// Turns each candidate on or off, in the order of a fixed sequence: as the row of the guide says,
-/// or with no row as shows more new patterns with those before it, where that is allowed.
+/// Turns each candidate on or off, where that is possible, in an order that the fixed sequence of
+/// numbers gives. With a row of the guide it follows the row; without one it chooses what shows
+/// more new patterns together with the candidates before.
 fn pack_once<A: Allowed>(
     alloc: Global,
     allowed: &mut A,
@@ -344,16 +352,16 @@ fn pack_once<A: Allowed>(
     Ok(Packed { set, gain })
 }
 
-/// What the candidate gains.
+/// Returns what the candidate gains: `on` if it is on, else `off`.
 fn gained(is_on: bool, on: usize, off: usize) -> usize {
     if is_on { on } else { off }
 }
 
-/// How many sets are tried for each that is taken.
+/// How many sets are tried for each that is taken, where no row of the guide decides.
 const TRIES: usize = 30;
 
-/// The set that a row of the guide makes of this one, or with no row the best of several that a
-/// greedy rule makes of it.
+/// Returns this set with more members: with a row of the guide those that the row leads to, without
+/// one the best of several sets that a greedy rule finds.
 pub(crate) fn pack<A: Allowed>(
     alloc: Global,
     allowed: &mut A,

@@ -1,10 +1,11 @@
-//! Rows of settings that show each pattern of two or three candidates where all sets are allowed.
+//! Rows of settings that show each pattern of two or three candidates if all sets are allowed.
 //!
-//! No clause speaks of them: they only advise.
+//! No contract says anything about these rows: they only guide the search.
 
 use std::alloc::{AllocError, Global};
 
-/// Rows that say of each candidate whether it is on, a bit a row.
+/// Rows that say of each candidate whether it is on: for each candidate a number, with one bit for
+/// each row.
 #[derive(Drop)]
 pub(crate) struct Guide {
     candidates: Vec<u64>,
@@ -19,8 +20,8 @@ fn next_with_as_many(x: u64) -> u64 {
     ripple | ones.wrapping_shr(low.trailing_zeros())
 }
 
-/// As many candidates as there are with half of so many rows on, the first among them, but at most
-/// `candidates`.
+/// Returns the numbers in which half of the `rows` lowest bits, rounded down, are set, the lowest
+/// one among them: all that there are, but at most `candidates`.
 fn halves(alloc: Global, rows: u32, candidates: usize) -> Result<Vec<u64>, AllocError> {
     let mut halves = Vec::new(alloc);
     let mut half = 1u64
@@ -39,8 +40,8 @@ fn halves(alloc: Global, rows: u32, candidates: usize) -> Result<Vec<u64>, Alloc
     Ok(halves)
 }
 
-/// The least number of rows that show each pattern of two candidates: any two of the candidates are
-/// on in as many rows, and both in the first.
+/// Returns as few rows as possible that show each pattern of two candidates: each candidate has as
+/// many bits set, the first among them.
 fn pairs(alloc: Global, candidates: usize) -> Result<Guide, AllocError> {
     for rows in 2u32..63 {
         let halves = halves(alloc, rows, candidates)?;
@@ -57,13 +58,15 @@ fn pairs(alloc: Global, candidates: usize) -> Result<Guide, AllocError> {
     })
 }
 
-/// Eleven candidates in twelve rows that show each pattern of three: from the squares modulo 11.
+/// Eleven candidates in twelve rows that show each pattern of three candidates. The squares modulo
+/// 11 give them.
 const SQUARES: [u64; 11] = [
     0xdc4, 0xb89, 0xf12, 0xe25, 0xc4b, 0x897, 0x92e, 0xa5c, 0xcb8, 0x971, 0xae2,
 ];
 
-/// Rows that show each pattern of three candidates: those for half of the candidates, twice, and
-/// behind them the rows for pairs, the second time turned.
+/// Returns rows that show each pattern of three candidates. For more than eleven candidates they
+/// are the rows for half of the candidates, used for both halves, followed by the rows for pairs of
+/// half of them, which are inverted for the second half.
 fn triples(alloc: Global, candidates: usize) -> Result<Guide, AllocError> {
     if candidates <= 11 {
         return Ok(Guide {
@@ -88,13 +91,13 @@ fn triples(alloc: Global, candidates: usize) -> Result<Guide, AllocError> {
     })
 }
 
-/// Whether there are rows for patterns of so many candidates.
+/// Whether there are rows for patterns of `strength` candidates.
 pub(crate) fn has_rows(strength: usize) -> bool {
     strength == 2 || strength == 3
 }
 
 impl Guide {
-    /// Rows for patterns of so many candidates.
+    /// Returns rows for patterns of `strength` candidates; no rows unless that is 2 or 3.
     pub(crate) fn new(
         alloc: Global,
         candidates: usize,
@@ -115,8 +118,8 @@ impl Guide {
         self.rows
     }
 
-    /// Whether the candidate is on in the row. Each second one is turned around, so that no row is
-    /// empty or full.
+    /// Whether the candidate is on in the row. Every second candidate is inverted, so that a row in
+    /// which the bits of all candidates are set doesn't turn all of them on.
     pub(crate) fn is_on(&self, candidate: usize, row: u32) -> bool {
         match self.candidates.get(candidate) {
             Some(rows) => (rows.wrapping_shr(row) & 1 == 1) == (candidate % 2 == 0),

@@ -1,10 +1,10 @@
-//! Covering samples: in place of all sets that are listed, a few of them that show each pattern of
-//! a few candidates, on and off, that some listed set shows.
+//! Covering samples: in place of all listed sets, a few of them that show each pattern of a few
+//! candidates, each on or off, that some listed set shows.
 //!
-//! A set is over positions below a number, and says of each whether it is a member. Which sets are
-//! allowed is asked of an `Allowed`; a listed set is an allowed one that has one of each required
-//! group. A candidate has names, and each name has the positions that enable it: the candidate is
-//! on in a set that has a member of each of its rows, and else off.
+//! A set says of each position below a number whether it is a member. An `Allowed` answers which
+//! sets are allowed; a listed set is an allowed one that has a member of each required group. A
+//! candidate has a row for each of its names, with the positions that enable the name: the
+//! candidate is on in a set that has a member of each of its rows, and off in any other set.
 #![tactic(auto)]
 
 pub mod allowed;

@@ -1,5 +1,5 @@
-//! The order of sets: one stands before another where the greatest position that is in just one of
-//! them is in the other.
+//! The order of sets: a set is before another if the greatest position that is in only one of them
+//! is in the other.
 
 ghost use Rattle.std.specs.Prelude.{◌≡◌, ℕ, List, Bool, length, OnOk, MatchOption, ◌⊎◌};
 ghost use Rattle.std.specs.Prelude.{All, AllPairs, Contains};
@@ -12,7 +12,8 @@ use crate::sets::has;
 use std::alloc::AllocError;
 use std::cmp::Ordering;
 
-/// Compares two sets by the greatest position that is in just one of them.
+/// Compares two sets by the greatest position that is in only one of them: the set that has it is
+/// later.
 fn compare(one: &[bool], other: &[bool]) -> Ordering
     requires { length one.now ≡ length other.now }
     ensures { MatchOrdering result (IsBefore one.now other.now) (one.now ≡ other.now)
@@ -32,7 +33,7 @@ fn compare(one: &[bool], other: &[bool]) -> Ordering
     Ordering::Equal
 }
 
-/// Where among sets in order another one belongs; None where it is one of them.
+/// Returns the place where the set belongs among sets in order; None if it is one of them.
 fn place_of(sets: &[Vec<bool>], set: &[bool]) -> Option<usize>
     requires sizes { All (λ t. length t ≡ length set.now) (rows_of sets.now) }
     requires ordered { AllPairs IsBefore (rows_of sets.now) }
@@ -49,7 +50,7 @@ fn place_of(sets: &[Vec<bool>], set: &[bool]) -> Option<usize>
     Some(sets.len())
 }
 
-/// Puts a set among those in order, unless it is one of them.
+/// Inserts a set at its place among sets in order, unless it is one of them.
 pub(crate) fn put(sets: &mut Vec<Vec<bool>>, set: Vec<bool>) -> Result<(), AllocError>
     requires sizes { All (λ t. length t ≡ length set.items) (rows_of sets.old.items) }
     requires ordered { AllPairs IsBefore (rows_of sets.old.items) }

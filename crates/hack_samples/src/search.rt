@@ -1,7 +1,8 @@
-//! Finds a listed set that shows a pattern, where there is one.
+//! Finds a listed set that shows a pattern, if there is one.
 //!
-//! A candidate is on where the set has one of each of its rows, so each row is a group; it is off
-//! where one of the rows has no member, so each is banned in turn.
+//! A candidate is on if the set has a member of each of its rows, so each row becomes a group that
+//! the set has to meet. It is off if the set has no member of one of its rows, so each row is
+//! banned in turn.
 
 ghost use Rattle.std.specs.Prelude.{◌≡◌, ◌<◌, ℕ, List, Bool, true, false, length, slice_set};
 ghost use Rattle.std.specs.Prelude.{IsTrue, IfOk, IfErr, IfSome, IfNone, MatchOption};
@@ -27,8 +28,8 @@ fn with(alloc: Global, set: &[bool], position: usize) -> Result<Vec<bool>, Alloc
     Ok(more)
 }
 
-/// A set that has all members of this one, one of each group, and no banned position; None where
-/// there is none.
+/// Returns an allowed set that has all members of this one, a member of each group, and no banned
+/// position; None if there is none.
 fn meet<A: Allowed>(
     alloc: Global,
     allowed: &mut A,
@@ -67,8 +68,8 @@ fn meet<A: Allowed>(
     Ok(None)
 }
 
-/// A set that has one of each group and no banned position, and shows the settings that are left;
-/// None where there is none.
+/// Returns an allowed set that has a member of each group and no banned position, and shows the
+/// settings that are left; None if there is none.
 fn find<A: Allowed>(
     alloc: Global,
     allowed: &mut A,
@@ -109,8 +110,8 @@ fn find<A: Allowed>(
     Ok(None)
 }
 
-/// Positions that the set doesn't have, and without which each larger set shows the pattern that it
-/// shows.
+/// Returns positions that the set doesn't have, to be banned: each larger set without them shows
+/// the pattern too, which this set shows.
 fn held_off(
     alloc: Global,
     wanted: &Wanted<'_>,
@@ -130,7 +131,8 @@ fn held_off(
     Ok(held)
 }
 
-/// Holds off what the setting says is off.
+/// If the setting says that the candidate is off, bans positions that the set doesn't have, so that
+/// no larger set without them turns it on.
 fn hold_setting(wanted: &Wanted<'_>, held: &mut Vec<bool>, set: &[bool], setting: Setting)
     requires size { length held.old.items ≡ length set.now }
     requires shown { is_on (tables_of wanted.now.providers.now) set.now setting.candidate
@@ -148,8 +150,8 @@ fn hold_setting(wanted: &Wanted<'_>, held: &mut Vec<bool>, set: &[bool], setting
     hold_off(held, set, rows_at(wanted.providers, setting.candidate));
 }
 
-/// A listed set that shows the pattern, and as many others as a greedy rule finds; None where no
-/// listed set shows it.
+/// Returns a listed set that shows the pattern, and as many new patterns as a greedy rule finds, or
+/// with a row of the guide what the row leads to; None if no listed set shows the pattern.
 pub(crate) fn pick<A: Allowed>(
     alloc: Global,
     allowed: &mut A,

@@ -33,7 +33,7 @@ pub(crate) fn has_one_of(set: &[bool], group: &[usize]) -> bool
     false
 }
 
-/// Whether the set has one of each group.
+/// Whether the set has a member of each group.
 pub(crate) fn has_each(set: &[bool], groups: &[Vec<usize>]) -> bool
     ensures { result ≡ has_each set.now (rows_of groups.now) }
 {

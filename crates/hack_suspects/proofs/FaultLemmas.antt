@@ -39,7 +39,7 @@ first-or-later o outcomes u h =
       | inl w ↦ elim (Contains-push_cases [] o u w) [ inl none ↦ absurd (omega (arith, none.1)) | inr e ↦ inl e ]
     ]
 
--- the other runs show it or not
+-- if the first run doesn't show the pattern, a passed one of the others does or none does
 later-or-not : (o : Outcome) (outcomes : List Outcome) (pattern : List Setting) → ((o.failed ≡ false) → RowShows o.on pattern → ⊥) → IsShown false outcomes pattern ⊎ (IsShown false outcomes pattern → ⊥)
     → IsShown false (o ∷ outcomes) pattern ⊎ (IsShown false (o ∷ outcomes) pattern → ⊥)
 later-or-not o outcomes pattern not later =
@@ -63,7 +63,7 @@ passed-or-not (o ∷ outcomes) pattern =
       ]
     ]
 
--- without each of the settings in front a passed run shows it, or without one of them none does
+-- for each of the first n settings a passed run shows the pattern without it, or for one none does
 abbrev Tried : List Outcome → List Setting → ℕ → Type 0
 Tried outcomes pattern n =
     ((place : ℕ) → place < n → IsShown false outcomes (remove pattern place)) ⊎ ((place : ℕ) × (place < n) × (IsShown false outcomes (remove pattern place) → ⊥))

@@ -13,7 +13,7 @@ use Rattle.hack_samples.proofs.ShowLemmas.{all-left}
 pub all-right : {X : Type 0} (P : X → Type 0) (xs ys : List X) → All P (xs ++ ys) → All P ys
 all-right P xs ys h = λ k d lt. All-contains P (xs ++ ys) (get_or ys k d) h (Contains-append_right xs ys (get_or ys k d) (Contains-get_or ys k d lt))
 
--- one more setting of a candidate that is no lower than those before
+-- one more setting, of a candidate that is greater than those before
 pub rises-more : (low first : ℕ) (pattern : List Setting) (x : Setting) → Rises low first pattern → low ≤ first → first ≤ x.candidate → Rises low (x.candidate + 1) (pattern ++ x ∷ [])
 rises-more low first [] x rises le le' = (omega arith, omega arith, tt)
 rises-more low first (y ∷ pattern) x rises le le' =
@@ -26,7 +26,7 @@ rises-wider low first n (y ∷ pattern) rises le =
     let lt : y.candidate < first = rises.1 in
     (rises.0, omega arith, rises-wider (y.candidate + 1) first n pattern rises.2 le)
 
--- a lower first candidate
+-- a pattern that rises from a bound rises from each smaller bound too
 pub rises-lower : (low first n : ℕ) (pattern : List Setting) → low ≤ first → Rises first n pattern → Rises low n pattern
 rises-lower low first n [] le rises = tt
 rises-lower low first n (y ∷ pattern) le rises = let le' : first ≤ y.candidate = rises.0 in (omega arith, rises.1, rises.2)
@@ -39,12 +39,12 @@ pub part-self : (pattern : List Setting) → IsPart pattern pattern
 part-self [] = tt
 part-self (y ∷ pattern) = inl (refl, part-self pattern)
 
--- the front is a part
+-- the front of a pattern is a part of it
 pub part-front : (pattern rest : List Setting) → IsPart pattern (pattern ++ rest)
 part-front [] rest = part-none rest
 part-front (y ∷ pattern) rest = inl (refl, part-front pattern rest)
 
--- a part of what is left is a part
+-- a part stays a part of a pattern with one more setting at its start
 pub part-more : (part : List Setting) (y : Setting) (pattern : List Setting) → IsPart part pattern → IsPart part (y ∷ pattern)
 part-more [] y pattern h = tt
 part-more (x ∷ part) y pattern h = inr h
@@ -73,7 +73,7 @@ part-shows row (x ∷ part) (y ∷ pattern) inside shows =
       | inr out ↦ part-shows row (x ∷ part) pattern out (All-tail S y pattern shows)
     ]
 
--- a part has no candidate that the pattern hasn't
+-- the candidates of a part increase within the same bounds as those of the pattern
 pub part-rises : (low n : ℕ) (part pattern : List Setting) → IsPart part pattern → Rises low n pattern → Rises low n part
 part-rises low n [] pattern inside rises = tt
 part-rises low n (x ∷ part) [] inside rises = absurd inside
@@ -103,7 +103,7 @@ part-without [] (suc i) = tt
 part-without (y ∷ pattern) zero = part-more pattern y pattern (part-self pattern)
 part-without (y ∷ pattern) (suc i) = inl (refl, part-without pattern i)
 
--- a place of which the part is free
+-- a place of the pattern whose setting the part leaves out
 pub record LeavesOut (part pattern : List Setting) : Type 0 where
   pub place : ℕ
   pub below : place < length pattern
@@ -166,7 +166,7 @@ head-same a b p q e = cc
 tail-same : (a b : Setting) (p q : List Setting) → a ∷ p ≡ b ∷ q → p ≡ q
 tail-same a b p q e = cc
 
--- alike in front of a place, and one before the other there
+-- two patterns that are the same before a place, where the setting of the first one is before
 pub differs-at : (p q : List Setting) (i : ℕ) (d : Setting) → i < length p → i < length q → take i p ≡ take i q → Precedes (get_or p i d) (get_or q i d) → DiffersBefore p q
 differs-at [] q i d lt lt' same h = absurd (omega arith)
 differs-at (a ∷ p) [] i d lt lt' same h = absurd (omega arith)
@@ -174,7 +174,7 @@ differs-at (a ∷ p) (b ∷ q) zero d lt lt' same h = inl h
 differs-at (a ∷ p) (b ∷ q) (suc i) d lt lt' same h =
     inr (head-same a b (take i p) (take i q) same, differs-at p q i d (omega arith) (omega arith) (tail-same a b (take i p) (take i q) same) h)
 
--- one more is before the other
+-- one more of the patterns is before p
 pub front-more : (found : List (List Setting)) (p q : List Setting) (i : ℕ) → get_or found i q ≡ q → i < length found → ((k : ℕ) (d : List Setting) → k < i → IsBefore (get_or found k d) p) → IsBefore q p
     → (k : ℕ) (d : List Setting) → k < i + 1 → IsBefore (get_or found k d) p
 front-more found p q i at lt before now k d below =
@@ -186,7 +186,7 @@ front-more found p q i at lt before now k d below =
       ]
     ]
 
--- the first that isn't before it is after it, and so are all after that one
+-- if p is before the pattern at the place, it is before all later ones, and belongs at the place
 pub fits-here : (found : List (List Setting)) (p q : List Setting) (i : ℕ) → get_or found i q ≡ q → i < length found → AllPairs IsBefore found → ((k : ℕ) (d : List Setting) → k < i → IsBefore (get_or found k d) p) → IsBefore p q
     → PatternFits found p i
 fits-here found p q i at lt ordered front now = record {
@@ -202,7 +202,7 @@ fits-here found p q i at lt ordered front now = record {
       ];
 }
 
--- a run that passed shows both parts of a pattern just where it shows the later part, if it shows the front
+-- a passed run that shows the front of a pattern shows all of it exactly if it shows the rest
 pub both-parts : (b failed : Bool) (row same : List Bool) (front rest : List Setting) → failed ≡ false → row ≡ same → RowShows row front → MatchBool b (RowShows row rest) (RowShows row rest → ⊥)
     → MatchBool b ((failed ≡ false) × RowShows same (front ++ rest)) ((failed ≡ false) × RowShows same (front ++ rest) → ⊥)
 both-parts true failed row same front rest passed is shows h =

@@ -31,7 +31,7 @@ pub on_ok_both : {T E P Q R : Type 0} (r : Result T E) → (P → Q → R) → O
 on_ok_both (Ok x) f p q = f p q
 on_ok_both (Err e) f p q = tt
 
--- none of one more run shows the pattern
+-- after one more run that doesn't pass with the pattern, still none does
 pub shown-more : (outcomes more : List Outcome) (o : Outcome) (pattern : List Setting) → more ≡ outcomes ++ o ∷ [] → (IsShown false outcomes pattern → ⊥) → ((o.failed ≡ false) × RowShows o.on pattern → ⊥)
     → IsShown false more pattern → ⊥
 shown-more outcomes more o pattern is none not h =
@@ -47,7 +47,7 @@ shown-part failed outcomes part pattern inside h = record { by = h.by; among = h
 pub shown-by-row : (outcomes : List Outcome) (row : List Bool) (pattern : List Setting) → IsFailedRow outcomes row → RowShows row pattern → IsShown true outcomes pattern
 shown-by-row outcomes row pattern of shows = record { by = of.by; among = of.among; ended = of.ended; shows = subst (λ r. RowShows r pattern) (sym of.is) shows }
 
--- a suspicious pattern of which a passed run shows each part with one setting less
+-- a suspicious pattern is a suspect if passed runs show it without each one of its settings
 pub suspect-by : (outcomes : List Outcome) (n t : ℕ) (pattern : List Setting) → Rises 0 n pattern → length pattern ≤ t → IsSuspicious outcomes pattern
     → ((place : ℕ) → place < length pattern → IsShown false outcomes (remove pattern place)) → IsSuspect outcomes n t pattern
 suspect-by outcomes n t pattern rises small suspicious each = record {
@@ -59,7 +59,7 @@ suspect-by outcomes n t pattern rises small suspicious each = record {
       h.passed (shown-part false outcomes part (remove pattern out.place) out.inside (each out.place out.below));
 }
 
--- a pattern that no passed run shows without one of its settings isn't a suspect
+-- a pattern isn't a suspect if no passed run shows it without some one of its settings
 pub suspect-not : (outcomes : List Outcome) (n t : ℕ) (pattern : List Setting) (place : ℕ) → place < length pattern → (IsShown false outcomes (remove pattern place) → ⊥) → IsSuspect outcomes n t pattern → ⊥
 suspect-not outcomes n t pattern place lt none h =
     let shorter : length (remove pattern place) + 1 ≡ length pattern = length-remove pattern place lt in
@@ -81,7 +81,7 @@ module _ (outcomes : List Outcome) (n t : ℕ) (row : List Bool) where
   pub finds-kept : (pattern : List Setting) (first more : ℕ) (found later : List (List Setting)) → PatternsAreKept found later → FindsFrom outcomes n t row pattern first more found → FindsFrom outcomes n t row pattern first more later
   finds-kept pattern first more found later kept finds = λ rest rises few shows suspect. kept (pattern ++ rest) (finds rest rises few shows suspect)
 
-  -- no suspect goes on from a pattern that no passed run shows
+  -- no longer suspect continues a pattern that a failed run shows and no passed run
   pub finds-here : (pattern : List Setting) (first more : ℕ) (found : List (List Setting)) → IsFailedRow outcomes row → RowShows row pattern → (IsShown false outcomes pattern → ⊥)
       → (IsSuspect outcomes n t pattern → Contains found pattern) → FindsFrom outcomes n t row pattern first more found
   finds-here pattern first more found of shows none added [] rises few shows' suspect =
@@ -98,7 +98,7 @@ module _ (outcomes : List Outcome) (n t : ℕ) (row : List Bool) where
   finds-none pattern first more found passed is [] rises few shows suspect = absurd (finds-not pattern passed suspect)
   finds-none pattern first more found passed is (x ∷ rest) rises few shows suspect = absurd (omega arith)
 
-  -- each suspect that goes on from it goes on from it with one setting more
+  -- each suspect that continues the pattern continues it with one more setting
   pub finds-all : (pattern : List Setting) (first limit more : ℕ) (found : List (List Setting)) → IsShown false outcomes pattern
       → ((x : Setting) → first ≤ x.candidate → x.candidate < limit → slice_get row x.candidate ≡ Some x.on → FindsFrom outcomes n t row (pattern ++ x ∷ []) (x.candidate + 1) (more - 1) found)
       → ((x : Setting) → x.candidate < n → slice_get row x.candidate ≡ Some x.on → x.candidate < limit) → FindsFrom outcomes n t row pattern first more found
@@ -109,7 +109,7 @@ module _ (outcomes : List Outcome) (n t : ℕ) (row : List Bool) where
       subst (Contains found) e
       (each x rises.0 (within x rises.1 on) on rest rises.2 (omega arith) (subst (RowShows row) (sym e) shows) (subst (IsSuspect outcomes n t) (sym e) suspect))
 
-  -- one more candidate
+  -- suspects that continue the pattern by one more candidate
   pub finds-step : (pattern : List Setting) (first candidate more : ℕ) (on : Bool) (found : List (List Setting)) → slice_get row candidate ≡ Some on
       → ((x : Setting) → first ≤ x.candidate → x.candidate < candidate → slice_get row x.candidate ≡ Some x.on → FindsFrom outcomes n t row (pattern ++ x ∷ []) (x.candidate + 1) more found)
       → FindsFrom outcomes n t row (pattern ++ record { candidate = candidate; on = on } ∷ []) (candidate + 1) more found
@@ -126,7 +126,7 @@ module _ (outcomes : List Outcome) (n t : ℕ) (row : List Bool) where
         ]
       ]
 
--- the found are all
+-- if the suspects that each failed run shows were found, these are all suspects
 pub suspects-all : (outcomes : List Outcome) (n t : ℕ) (found : List (List Setting)) → AreSomeSuspects outcomes n t found
     → ((o : Outcome) → Contains outcomes o → o.failed ≡ true → (p : List Setting) → RowShows o.on p → IsSuspect outcomes n t p → Contains found p) → AreSuspects outcomes n t found
 suspects-all outcomes n t found some all = record {

@@ -1,4 +1,4 @@
--- Faults as patterns: a run fails where it shows one of them.
+-- Faults as patterns: a run fails if it shows one of them, and only then.
 use Rattle.std.specs.Prelude.{◌≡◌, ◌≤◌, ◌↔◌, ℕ, List, Bool, true, Contains, length}
 use Rattle.hack_suspects.specs.Suspects.{Outcome, RowShows, Rises, IsPart, IsSuspect}
 use Rattle.hack_samples.specs.declared.sets.Setting.{Setting}
@@ -9,7 +9,7 @@ pub record ShowsOneOf (faults : List (List Setting)) (row : List Bool) : Type 0 
   pub among : Contains faults fault
   pub shows : RowShows row fault
 
--- the runs failed just where they show one of the faults
+-- exactly those of the runs failed that show one of the faults
 abbrev pub FailBy : List (List Setting) → List Outcome → Type 0
 FailBy faults outcomes = (run : Outcome) → Contains outcomes run → (run.failed ≡ true) ↔ ShowsOneOf faults run.on
 

@@ -10,7 +10,7 @@ pub record Outcome : Type 0 where
   pub on : List Bool
   pub failed : Bool
 
--- the runs, without where they lie in memory
+-- the runs as plain data
 abbrev pub outcomes_of : List Run → List Outcome
 outcomes_of runs = map (λ run. record { on = run.on.items; failed = run.failed }) runs
 
@@ -18,7 +18,7 @@ outcomes_of runs = map (λ run. record { on = run.on.items; failed = run.failed 
 abbrev pub RowShows : List Bool → List Setting → Type 0
 RowShows row pattern = All (λ setting. slice_get row setting.candidate ≡ Some setting.on) pattern
 
--- some run shows the pattern, and failed or passed as said
+-- some run shows the pattern, and failed if `failed` is true, else passed
 pub record IsShown (failed : Bool) (outcomes : List Outcome) (pattern : List Setting) : Type 0 where
   pub by : Outcome
   pub among : Contains outcomes by
@@ -30,12 +30,12 @@ pub record IsSuspicious (outcomes : List Outcome) (pattern : List Setting) : Typ
   pub failed : IsShown true outcomes pattern
   pub passed : IsShown false outcomes pattern → ⊥
 
--- the candidates of the pattern increase, from at least the first and below n
+-- the candidates of the pattern increase, are not less than first, and are below n
 abbrev pub Rises : ℕ → ℕ → List Setting → Type 0
 Rises first n [] = Unit {0}
 Rises first n (setting ∷ pattern) = (first ≤ setting.candidate) × (setting.candidate < n) × Rises (setting.candidate + 1) n pattern
 
--- a part of the pattern: it with some of its settings left out, or none
+-- a part of the pattern: some of its settings in their order, maybe none or all
 abbrev pub IsPart : List Setting → List Setting → Type 0
 IsPart [] [] = Unit {0}
 IsPart (setting ∷ part) [] = ⊥
@@ -53,7 +53,7 @@ pub record IsSuspect (outcomes : List Outcome) (n t : ℕ) (pattern : List Setti
 abbrev pub Precedes : Setting → Setting → Type 0
 Precedes a b = (a.candidate < b.candidate) ⊎ ((a.candidate ≡ b.candidate) × (a.on ≡ false) × (b.on ≡ true))
 
--- at the first place where the patterns differ, the one has a setting that is before the other's
+-- at the first place where the patterns differ, the first one's setting is before the other's
 abbrev pub DiffersBefore : List Setting → List Setting → Type 0
 DiffersBefore [] q = ⊥
 DiffersBefore (a ∷ p) [] = ⊥
@@ -74,7 +74,7 @@ choices zero t = 1
 choices (suc n) zero = 1
 choices (suc n) (suc t) = choices n (suc t) + choices n t
 
--- why there is no list of suspects: where it is for too many patterns, there are more than the most
+-- an error for too many patterns comes only if there are more than `most`
 abbrev pub IsRefused : ℕ → ℕ → SuspectFault → Type 0
 IsRefused most patterns Memory = Unit {0}
 IsRefused most patterns TooManyPatterns = most < patterns

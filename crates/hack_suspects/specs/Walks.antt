@@ -16,21 +16,21 @@ pub record AreSomeSuspects (outcomes : List Outcome) (n t : ℕ) (found : List (
   pub ordered : AllPairs IsBefore found
   pub sound : All (IsSuspect outcomes n t) found
 
--- each suspect that the row shows is found, if it is the pattern with up to so many more settings, of candidates from the first on
+-- found has each shown suspect that continues the pattern by up to `more` settings, from first on
 abbrev pub FindsFrom : List Outcome → ℕ → ℕ → List Bool → List Setting → ℕ → ℕ → List (List Setting) → Type 0
 FindsFrom outcomes n t row pattern first more found =
     (rest : List Setting) → Rises first n rest → length rest ≤ more → RowShows row (pattern ++ rest) → IsSuspect outcomes n t (pattern ++ rest) → Contains found (pattern ++ rest)
 
--- the later patterns have all of the earlier
+-- each of the earlier patterns is one of the later
 abbrev pub PatternsAreKept : List (List Setting) → List (List Setting) → Type 0
 PatternsAreKept earlier later = (pattern : List Setting) → Contains earlier pattern → Contains later pattern
 
--- among the patterns the other one belongs at the place: those in front are before it, and it is before those after the place
+-- the pattern belongs at the place: those at earlier places are before it, the others after it
 pub record PatternFits (found : List (List Setting)) (pattern : List Setting) (place : ℕ) : Type 0 where
   pub within : place ≤ length found
   pub in_front : (k : ℕ) (d : List Setting) → k < place → IsBefore (slice_index_or found k d) pattern
   pub later : (k : ℕ) (d : List Setting) → place ≤ k → k < length found → IsBefore pattern (slice_index_or found k d)
 
--- at each place stands how many choices there are of at most one more of n candidates than the place says, up to the greatest number
+-- the count at k is of the choices of at most k + 1 of n candidates, capped at the greatest u128
 abbrev pub CountsChoices : ℕ → List ℕ → Type 0
 CountsChoices n counts = (k d : ℕ) → k < length counts → slice_index_or counts k d ≡ min (choices n (suc k)) (2 ^ 128 - 1)

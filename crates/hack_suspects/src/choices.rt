@@ -6,8 +6,8 @@ ghost use Rattle.hack_suspects.specs.Walks.{CountsChoices};
 
 use std::alloc::{AllocError, Global};
 
-/// How many choices there are of at most `strength` of the candidates; the greatest `u128` where
-/// there are more.
+/// Returns how many choices there are of at most `strength` of the candidates, or the greatest
+/// `u128` if there are more.
 pub(crate) fn choices(alloc: Global, candidates: usize, strength: usize) -> Result<u128, AllocError>
     ensures { IfOk result (λ n. n ≡ min (choices candidates strength) (2 ^ 128 - 1)) }
 {
@@ -22,8 +22,8 @@ pub(crate) fn choices(alloc: Global, candidates: usize, strength: usize) -> Resu
     })
 }
 
-/// Counts the choices among one more candidate. At each place stands how many choices there are of
-/// at most one more candidate than the place says.
+/// Changes the counts to those for one more candidate. The count at place `k` is the number of
+/// choices of at most `k + 1` candidates.
 fn add_candidate(counts: &mut Vec<u128>)
     ensures size { length counts.new.items ≡ length counts.old.items }
     ensures counts { (n : ℕ) → CountsChoices n counts.old.items

@@ -2,7 +2,7 @@
 //! explain which of its runs failed.
 //!
 //! A pattern says of some candidates that they are on, and of some that they are off. A suspect is
-//! one that some failed run shows and no passed one, and of which no smaller part is such a
+//! a pattern that some failed run shows and no passed run, and of which no smaller part is such a
 //! pattern.
 #![tactic(auto)]
 

@@ -35,7 +35,7 @@ pub(crate) fn row_shows(row: &[bool], pattern: &[Setting]) -> bool
     true
 }
 
-/// Compares two settings: by the candidate, and of one candidate off comes first.
+/// Compares two settings by their candidates; for the same candidate off comes before on.
 fn compare_settings(one: Setting, other: Setting) -> Ordering
     ensures { MatchOrdering result (Precedes one other) (one ≡ other) (Precedes other one) }
 {
@@ -62,7 +62,8 @@ fn compare_places(one: &[Setting], other: &[Setting]) -> Ordering
     Ordering::Equal
 }
 
-/// Compares two patterns: a shorter one comes first.
+/// Compares two patterns: the shorter one comes first; of the same length the first place where
+/// they differ decides.
 fn compare(one: &[Setting], other: &[Setting]) -> Ordering
     ensures { MatchOrdering result (IsBefore one.now other.now) (one.now ≡ other.now)
         (IsBefore other.now one.now) }
@@ -74,7 +75,7 @@ fn compare(one: &[Setting], other: &[Setting]) -> Ordering
     }
 }
 
-/// Where among patterns in order another one belongs; None where it is one of them.
+/// Returns the place where the pattern belongs among patterns in order; None if it is one of them.
 fn place_of(found: &[Vec<Setting>], pattern: &[Setting]) -> Option<usize>
     requires { AllPairs IsBefore (rows_of found.now) }
     ensures { MatchOption result (Contains (rows_of found.now) pattern.now)
@@ -90,7 +91,7 @@ fn place_of(found: &[Vec<Setting>], pattern: &[Setting]) -> Option<usize>
     Some(found.len())
 }
 
-/// Puts a pattern among those in order, unless it is one of them.
+/// Inserts a pattern at its place among patterns in order, unless it is one of them.
 pub(crate) fn put(found: &mut Vec<Vec<Setting>>, pattern: Vec<Setting>) -> Result<(), AllocError>
     requires { AllPairs IsBefore (rows_of found.old.items) }
     ensures ordered { OnOk result (AllPairs IsBefore (rows_of found.new.items)) }

@@ -1,5 +1,5 @@
 //! Which small patterns explain the failed runs of a package: those that some failed run shows and
-//! no passed one, and that have no smaller such part.
+//! no passed run, and that have no smaller part of this kind.
 
 ghost use Rattle.std.specs.Prelude.{◌≡◌, ◌<◌, ◌≤◌, ◌+◌, ◌*◌, ◌++◌, ◌∷◌, ◌-◌, ◌^◌, ℕ, List, []};
 ghost use Rattle.std.specs.Prelude.{false, min};
@@ -29,7 +29,7 @@ pub struct Outcome {
 pub enum SuspectFault {
     #[error("out of memory")]
     Memory,
-    /// There are more patterns to look at than may be looked at.
+    /// The search would look at more patterns than it may.
     #[error("too many patterns")]
     TooManyPatterns,
 }
@@ -54,14 +54,15 @@ impl<T: Drop> From<AllocFailed<T>> for SuspectFault {
     }
 }
 
-/// The suspects: each pattern of at most `strength` candidates, in increasing order, that some
-/// failed run shows and no passed one, and of which no smaller part is such a pattern.
+/// Returns the suspects: each pattern of at most `strength` candidates, in increasing order, that
+/// some failed run shows and no passed run, and of which no smaller part is such a pattern.
 ///
-/// A shorter one comes first; of equal length the first setting that differs decides, where the
-/// lower candidate comes first, and off before on. Where a run failed and none passed, the empty
-/// pattern is the only suspect. For each failed run the search looks at no more patterns than there
-/// are choices of candidates for one: where outcomes times choices are more than `most`, it isn't
-/// begun.
+/// A shorter suspect comes first. Of two with the same length the first setting that differs
+/// decides: the lower candidate comes first, and off comes before on. If a run failed and none
+/// passed, the empty pattern is the only suspect. For each failed run the search looks at no more
+/// patterns than there are choices of at most `strength` candidates. If this number, times the
+/// number of outcomes, is more than `most`, the search doesn't begin, and the error is
+/// `TooManyPatterns`.
 pub fn suspects(
     alloc: Global,
     outcomes: &[Outcome],
@@ -94,15 +95,16 @@ pub fn suspects(
     Ok(found)
 }
 
-/// If the runs failed just where they show one of some faults, each a pattern of at most so many
-/// candidates, then each fault that some run shows is a suspect or has one as a part.
+/// Does nothing; its contract says that suspects find faults. A fault is a pattern. If exactly
+/// those runs failed that show one of the faults, then each fault of at most `t` candidates below
+/// `n`, in increasing order, that some run shows is a suspect or has one as a part.
 pub fn finds_faults()
     ensures { (outcomes : List Plain) (n t : ℕ) (faults : List (List Setting))
         → FailBy faults outcomes → FaultsAreFound outcomes n t faults }
 {}
 
-/// Whether this many outcomes times choices are more than the most. The greatest `u128` stands for
-/// that many choices and more.
+/// Whether the number of outcomes times the number of choices is more than `most`. `patterns` is
+/// the number of choices, or the greatest `u128` if there are more.
 fn too_many(outcomes: usize, patterns: u128, most: u64) -> bool
     ensures { (n : ℕ) → patterns ≡ min n (2 ^ 128 - 1)
         → MatchBool result (most < outcomes * n) (outcomes * n ≤ most) }
@@ -110,17 +112,17 @@ fn too_many(outcomes: usize, patterns: u128, most: u64) -> bool
     patterns.saturating_mul(outcomes as u128) > u128::from(most)
 }
 
-/// Where suspects are searched.
+/// What a search for suspects looks at.
 #[derive(Clone, Copy)]
 struct Search<'a> {
     outcomes: &'a [Outcome],
-    /// What was on in a failed run.
+    /// For each candidate whether it was on in the failed run that is looked at.
     row: &'a [bool],
     candidates: usize,
     strength: usize,
 }
 
-/// Adds the suspects that the row shows and that are the pattern with up to `more` settings of
+/// Adds the suspects that the row shows and that continue the pattern by up to `more` settings, of
 /// candidates from `first` on.
 fn walk(
     alloc: Global,
@@ -198,7 +200,7 @@ fn with(alloc: Global, pattern: &[Setting], setting: Setting) -> Result<Vec<Sett
     Ok(more)
 }
 
-/// Whether without any one of its settings some passed run shows the pattern.
+/// Whether for each of its settings some passed run shows the pattern without that setting.
 fn is_minimal(outcomes: &[Outcome], pattern: &[Setting]) -> bool
     ensures { MatchBool result ((place : ℕ) → place < length pattern.now
         → IsShown false (outcomes_of outcomes.now) (remove pattern.now place))
@@ -213,7 +215,7 @@ fn is_minimal(outcomes: &[Outcome], pattern: &[Setting]) -> bool
     true
 }
 
-/// Whether some passed run shows the pattern of these two parts.
+/// Whether some passed run shows the pattern that these two parts make.
 fn passed_shows(outcomes: &[Outcome], front: &[Setting], rest: &[Setting]) -> bool
     ensures { MatchBool result (IsShown false (outcomes_of outcomes.now) (front.now ++ rest.now))
         (IsShown false (outcomes_of outcomes.now) (front.now ++ rest.now) → ⊥) }
@@ -226,7 +228,7 @@ fn passed_shows(outcomes: &[Outcome], front: &[Setting], rest: &[Setting]) -> bo
     false
 }
 
-/// Whether the run passed and shows the pattern of these two parts.
+/// Whether the run passed and shows the pattern that these two parts make.
 fn passes_with(run: &Outcome, front: &[Setting], rest: &[Setting]) -> bool
     ensures { MatchBool result
         ((run.now.failed ≡ false) × RowShows run.now.on.items (front.now ++ rest.now))

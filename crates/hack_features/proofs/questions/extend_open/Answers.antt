@@ -7,7 +7,7 @@ use Rattle.hack_features.proofs.OpenLemmas.{at, open-asked, open-gone_in, next-p
 use Rattle.hack_features.proofs.questions.extend_open.Goals as goal
 use Rattle.hack_features.proofs.questions.extend_open.Goals.{then-has_room+then-len-new+in_ok-push, else-has_room, else-has_room-via-then-has_room+else-len-new, else-has_room-via-else-has_room}
 
--- what stands in front keeps its places
+-- elements in front keep their places
 in_front : {X : Type 0} (front more all : List X) (k : ℕ) (d : X) → k < length front → all ≡ front ++ more → get_or all k d ≡ get_or front k d
 in_front front more all k d lt is = ap (λ l. get_or l k d) is ∙ get_or-append front more d k lt
 

@@ -5,6 +5,6 @@ use Rattle.hack_packages.specs.Candidates.{applies}
 use Rattle.hack_packages.specs.CandidatesView.{wishes, known_of_package}
 use Rattle.hack_packages.proofs.candidates.applied_groups.Given as goal
 
--- those of the groups so far
+-- found has those of the groups so far that are applied
 abbrev pub invariant-loop-group : goal.invariant-loop-group
 invariant-loop-group l = groups_of l.found.items ≡ filter (applies (wishes l.args) (known_of_package l.pkg l.features)) (take l.group-index (groups_of l.group-items))

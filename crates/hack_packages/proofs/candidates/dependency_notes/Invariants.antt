@@ -8,6 +8,6 @@ use Rattle.hack_packages.specs.Candidates.{one_has}
 use Rattle.hack_packages.specs.CandidatesView.{known_of_package}
 use Rattle.hack_packages.proofs.candidates.dependency_notes.Given as goal
 
--- those on the names so far
+-- the notices are those on the names so far
 abbrev pub invariant-loop-name : goal.invariant-loop-name
 invariant-loop-name l = map note_of l.notices.items ≡ map (λ x. warning_note (dependency_text (string_bytes l.pkg.name) x)) (filter (λ x. not (one_has (known_of_package l.pkg l.features).optional x)) (take l.name-index (names_of l.name-items)))

@@ -8,6 +8,6 @@ use Rattle.hack_packages.specs.Candidates.{is_found}
 use Rattle.hack_packages.specs.CandidatesView.{known_of_package}
 use Rattle.hack_packages.proofs.candidates.feature_notes.Given as goal
 
--- those on the names so far
+-- the notices are those on the names so far
 abbrev pub invariant-loop-name : goal.invariant-loop-name
 invariant-loop-name l = map note_of l.notices.items ≡ map (λ x. warning_note (feature_text (string_bytes l.pkg.name) x)) (filter (λ x. not (is_found (known_of_package l.pkg l.features) x)) (take l.name-index (names_of l.name-items)))

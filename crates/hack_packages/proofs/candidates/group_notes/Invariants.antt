@@ -8,6 +8,6 @@ use Rattle.hack_packages.specs.Candidates.{applies}
 use Rattle.hack_packages.specs.CandidatesView.{wishes, known_of_package}
 use Rattle.hack_packages.proofs.candidates.group_notes.Given as goal
 
--- those on the groups so far
+-- the notices are those on the groups so far
 abbrev pub invariant-loop-group : goal.invariant-loop-group
 invariant-loop-group l = map note_of l.notices.items ≡ map (λ names. info_note (group_text (string_bytes l.pkg.name) names)) (filter (λ names. not (applies (wishes l.args) (known_of_package l.pkg l.features) names)) (take l.group-index (groups_of l.group-items)))

@@ -17,7 +17,7 @@ use Rattle.hack_packages.proofs.determine.determine_kind.Goals as goal
 pub packages-pkg-requires : goal.packages-pkg-requires
 packages-pkg-requires c = c.workspace_members.ensures.whole.packages c.args.id.index c.requires
 
--- what is known is that of the package and the candidates
+-- what holds of some arguments, package and features holds of those that are equal to them
 moved : {A X Y : Type 0} (F : A → X → Y → Type 0) (a b : A) (x x' : X) (y y' : Y) → a ≡ b → Some x' ≡ Some x → Some y' ≡ Some y → F a x y → F b x' y'
 moved F a b x x' y y' ea ex ey h =
     let e : x' ≡ x = cc in

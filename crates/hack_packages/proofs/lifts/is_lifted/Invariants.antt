@@ -8,6 +8,6 @@ use Rattle.hack_packages.specs.Candidates.{Lift}
 use Rattle.hack_packages.specs.CandidatesView.{wishes, lift_view}
 use Rattle.hack_packages.proofs.lifts.is_lifted.Given as goal
 
--- no lift so far is one of the group
+-- no lift so far is one of this group for the package
 abbrev pub invariant-loop-lift : goal.invariant-loop-lift
 invariant-loop-lift l = list_any (λ (lift : Lift). bytes_eq lift.owner l.name && same_names lift.group (group_of l.group)) (map lift_view (drop l.lift-index l.lift-items)) ≡ list_any (λ (lift : Lift). bytes_eq lift.owner l.name && same_names lift.group (group_of l.group)) (wishes l.args).lifts

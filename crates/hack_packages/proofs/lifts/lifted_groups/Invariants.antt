@@ -9,6 +9,6 @@ use Rattle.hack_packages.specs.Candidates.{Lift}
 use Rattle.hack_packages.specs.CandidatesView.{wishes}
 use Rattle.hack_packages.proofs.lifts.lifted_groups.Given as goal
 
--- what is said of the groups so far
+-- lifted says of the groups so far whether they are lifted
 abbrev pub invariant-loop-group : goal.invariant-loop-group
 invariant-loop-group l = l.lifted.items ≡ map (λ (group : List Name). list_any (λ (lift : Lift). bytes_eq lift.owner l.name && same_names lift.group group) (wishes l.args).lifts) (take l.group-index (groups_of l.group-items))

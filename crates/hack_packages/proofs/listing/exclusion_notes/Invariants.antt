@@ -6,6 +6,6 @@ use Rattle.hack_packages.specs.Members.{Collects, MatchesSome, warning_note}
 use Rattle.hack_packages.specs.MembersView.{member_view}
 use Rattle.hack_packages.proofs.listing.exclusion_notes.Given as goal
 
--- those on the exclusions so far
+-- the notices are those on the exclusions so far
 abbrev pub invariant-loop-spec : goal.invariant-loop-spec
 invariant-loop-spec l = Collects (λ spec. ¬ MatchesSome (map member_view l.members) spec) (λ spec. warning_note (exclusion_text l.root spec)) (take l.spec-index (names_of l.exclude)) (map note_of l.notices.items)

@@ -5,6 +5,6 @@ use Rattle.hack_packages.specs.Members.{Member}
 use Rattle.hack_packages.specs.MembersView.{member_view}
 use Rattle.hack_packages.proofs.listing.kept_ids.Given as goal
 
--- those of the members so far
+-- the ids are those of the members so far that aren't skipped
 abbrev pub invariant-loop-member : goal.invariant-loop-member
 invariant-loop-member l = map (λ (id : PackageId). id.index) l.ids.items ≡ map (λ (m : Member). m.place) (filter (λ (m : Member). not (l.ignored && m.is_private)) (take l.member-index (map member_view l.members)))

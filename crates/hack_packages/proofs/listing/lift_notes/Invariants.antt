@@ -6,6 +6,6 @@ use Rattle.hack_packages.specs.Members.{is_called, warning_note}
 use Rattle.hack_packages.specs.MembersView.{member_view}
 use Rattle.hack_packages.proofs.listing.lift_notes.Given as goal
 
--- those on the lifts so far
+-- the notices are those on the lifts so far
 abbrev pub invariant-loop-lift : goal.invariant-loop-lift
 invariant-loop-lift l = map note_of l.notices.items ≡ map (λ owner. warning_note (lift_text l.root owner)) (filter (λ owner. not (is_called (map member_view l.members) owner)) (take l.lift-index (map (λ lift. string_bytes lift.0) l.lifts)))

@@ -5,6 +5,6 @@ use Rattle.hack_packages.specs.MembersView.{member_view}
 use Rattle.hack_packages.specs.ListingView.{IsMatchedAs}
 use Rattle.hack_packages.proofs.listing.matched_members.Given as goal
 
--- those of the members so far
+-- kept has those of the members so far that are picked
 abbrev pub invariant-loop-member : goal.invariant-loop-member
 invariant-loop-member l = Keeps (IsMatchedAs l.matched (names_of l.specs)) (take l.member-index (map member_view l.members)) (map member_view l.kept.items)

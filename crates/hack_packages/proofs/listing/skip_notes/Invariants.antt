@@ -6,6 +6,6 @@ use Rattle.hack_packages.specs.Members.{Member, info_note}
 use Rattle.hack_packages.specs.MembersView.{member_view}
 use Rattle.hack_packages.proofs.listing.skip_notes.Given as goal
 
--- those on the members so far
+-- the notices are those on the members so far
 abbrev pub invariant-loop-member : goal.invariant-loop-member
 invariant-loop-member l = map note_of l.notices.items ≡ map (λ (m : Member). info_note (private_text l.verbose m.pkg)) (filter (λ (m : Member). l.ignored && m.is_private) (take l.member-index (map member_view l.members)))

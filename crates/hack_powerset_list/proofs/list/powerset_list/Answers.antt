@@ -18,7 +18,7 @@ use Rattle.hack_powerset_list.proofs.ListLemmas.{list_for, refused-writing}
 use Rattle.hack_powerset_list.proofs.StreamLemmas.{counted-writing}
 use Rattle.hack_powerset_list.proofs.list.powerset_list.Goals as goal
 
--- what a map is where it is found
+-- which map was found, or why none was
 abbrev Found : List ℕ → Option (BTreeMap (String Global) (Vec (String Global) Global)) → Type 0
 Found bytes found = MatchOption found (IsNoMapText bytes) (λ m. IsMapText bytes (feature_map m))
 

@@ -4,6 +4,6 @@ use Rattle.hack_packages.specs.Kinds.{names_at}
 use Rattle.hack_packages.specs.KindsView.{candidates_in}
 use Rattle.hack_packages.proofs.kind.Kind.names.Given as goal
 
--- the names so far, and those at the positions left
+-- the names so far, followed by those at the positions left, are all names
 abbrev pub invariant-loop-p : goal.invariant-loop-p
 invariant-loop-p l = names_behind l.names.items ++ names_at (candidates_in l.self) (drop l.p-index l.positions) ≡ names_at (candidates_in l.self) l.positions

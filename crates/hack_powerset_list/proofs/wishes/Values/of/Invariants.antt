@@ -4,7 +4,7 @@ use Rattle.hack_powerset_list.specs.Words.{none_written, with_words}
 use Rattle.hack_powerset_list.specs.WishesView.{written_in}
 use Rattle.hack_powerset_list.proofs.wishes.Values.of.Given as goal
 
--- the words say what those that are left say behind the values so far
+-- the arguments say what the values so far and the arguments that are left say
 abbrev pub invariant-loop-left : goal.invariant-loop-left
 invariant-loop-left l = with_words none_written (names_of l.words) ≡ with_words (written_in l.values) (names_of l.left)
 

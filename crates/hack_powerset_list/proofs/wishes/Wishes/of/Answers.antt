@@ -7,7 +7,7 @@ use Rattle.hack_powerset_list.specs.Words.{AreGroups, LacksSeparator}
 use Rattle.hack_powerset_list.specs.WishesView.{written_in}
 use Rattle.hack_powerset_list.proofs.wishes.Wishes.of.Goals as goal
 
--- what groups are where they are found, and why they aren't where they aren't
+-- what groups were found, or why none were
 abbrev Answered : List (Bor Name) → Option (Vec Feature Global) → Type 0
 Answered lists found = MatchOption found (LacksSeparator (names_behind lists)) (λ groups. AreGroups (names_behind lists) (names_in_groups groups.items))
 
