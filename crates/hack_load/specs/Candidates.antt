@@ -41,7 +41,7 @@ is_normal k = is_none k.kind && is_none k.target
 abbrev pub name_in : DependencyRecord → Name
 name_in d = unwrap_or d.rename d.name
 
--- the name by which dependencies know a package: that of the first of its name
+-- the name that dependencies use for a package: that of the first one with the package's name
 abbrev pub known_as : List DependencyRecord → Name → Option Name
 known_as ds name = option_map name_in (find (λ d. bytes_eq d.name name) ds)
 
@@ -53,7 +53,7 @@ Path = Name × Name
 abbrev pub paths_to : Name → FeatureMap → List Path
 paths_to dep m = map (λ feature. (dep, feature)) (keys_of m)
 
--- the features of a package, where dependencies know it
+-- the features of a package, where one of the dependencies names it
 abbrev pub paths_in : List DependencyRecord → PackageRecord → List Path
 paths_in ds p = unwrap_or (option_map (λ dep. paths_to dep p.features) (known_as ds p.name)) []
 
