@@ -106,7 +106,8 @@ fn fill<F: Write + OpenFile>(file: &mut F, bytes: &[u8]) -> io::Result<()> {
     Ok(())
 }
 
-// Writes the bytes to the new file, and renames it to its target. Removes it where that fails.
+// Writes the bytes to the new file, and renames it to its target. Where that fails, the new file is
+// removed.
 fn replace<R: rt::Files>(rt: &R, successor: Successor<R::File>, bytes: &[u8]) -> io::Result<()> {
     let Successor {
         mut file,

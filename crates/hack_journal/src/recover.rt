@@ -24,7 +24,8 @@ use thiserror::Error;
 pub enum RecoverFault {
     #[error("out of memory")]
     Memory,
-    /// What the journal's path holds is no whole journal. Nothing was changed.
+    /// What the journal's path holds is no whole journal, or one that no call writes. Nothing was
+    /// changed.
     #[error("`{0}` is not a whole journal of edited files; put back by hand what it tells, and \
         remove it")]
     NotJournal(String),
@@ -285,8 +286,8 @@ fn take_back<F: Files>(
 /// held something else. Where there is no journal, it does nothing and returns 0.
 ///
 /// Nothing is written before all paths are read: where one holds neither what it held at first nor
-/// what was written there, or the journal isn't whole, nothing is changed. It may itself be
-/// interrupted at any moment, and called again.
+/// what was written there, or the journal isn't one that a call writes, nothing is changed. It may
+/// itself be interrupted at any moment, and called again.
 #[tactic(auto, using(crate::proofs::CountLemmas::grows_then))]
 pub fn recover<F: Files>(alloc: Global, files: &mut F, journal: &str) -> Result<u64, RecoverFault>
     // It ends at the first failed call of the files, and returns an error for it.

@@ -36,7 +36,7 @@ IsAskFault (ask.Field name) e = e ≡ faults.Asked (ask.Field name)
 
 -- `held` is what the files held before, where they say it; `before` and `now` count failed calls
 module _ (tells : Type 0) (args : Args) (env : Env) (held : Contents) (before now : ℕ) where
-  -- the manifests were read and the current one asked for, and just that was loaded; or an error
+  -- manifests were read, the current one asked for, and just that was loaded; or an error ended it
   abbrev pub Follows : Metadata → List Call → List Call → Result Loaded ContextFault → Type 0
   Follows m mid new (Ok l) = (l.metadata ≡ m) × IsLocated args env mid new l.located × IsLoaded tells held env l
   Follows m mid new (Err e) = ((new ≡ mid) × IsMemberFault tells held (metadata_view m) before now e)

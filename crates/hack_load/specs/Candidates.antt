@@ -1,4 +1,5 @@
--- The candidates of a package: its features, its optional dependencies, and the features of its dependencies.
+-- The candidates of a package: its features, its optional dependencies, and the features of its
+-- dependencies.
 use Rattle.std.specs.Prelude.{◌≡◌, ℕ, Bool, true, not, ◌&&◌, List, [], ◌∷◌, ◌++◌, map, filter, Option, None, codes, is_some, is_none, option_map, slice_get, unwrap_or, if◌then◌else◌}
 use Rattle.std.specs.List.{find, flat_map, list_any}
 use Rattle.std.specs.Map.{keys_of, lookup}
@@ -18,7 +19,7 @@ names_dep dep value = bytes_eq (codes "dep:" ++ dep) value
 abbrev pub is_named : FeatureMap → Name → Bool
 is_named m dep = list_any (λ e. list_any (names_dep dep) e.1) m
 
--- the dependency is a feature by itself: no feature of the map has its name, and no value names it by `dep:`
+-- the dependency is a feature by itself: no key of the map is its name, and no value is its `dep:`
 abbrev pub is_implicit : FeatureMap → Name → Bool
 is_implicit m dep = not (is_some (lookup (bytes_eq dep) m)) && not (is_named m dep)
 

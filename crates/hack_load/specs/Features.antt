@@ -1,4 +1,4 @@
--- Which plain data the features in the code are.
+-- The features in the code, compared with plain data.
 use Rattle.std.specs.Prelude.{◌≡◌, ℕ, Bool, List, ◌++◌, map, codes}
 use Rattle.std.specs.List.{AllZip}
 use Rattle.std.specs.Cmp.Lexicographic.{slice_cmp}

@@ -40,7 +40,7 @@ Fails c old new = ((c.program ≡ []) × (new ≡ old)) ⊎ Had (λ answer. ¬ (
 abbrev pub MinorOf : Name → ℕ → Type 0
 MinorOf text minor = ((v : Version) × TellsRelease (release_part text) v × (minor ≡ v.minor)) ⊎ (((e : VersionTextFault) × IsAnswerFault text (release_part text) e) × (minor ≡ 0))
 
--- stable's cargo was asked for its version, and this is the minor one; 0 where it failed
+-- stable's cargo was asked for its version, and this is its minor version; 0 where it failed
 abbrev pub TellsStable : Name → ℕ → List Call → List Call → Type 0
 TellsStable rustup minor old new = ((text : Name) × Reads (version_command rustup) text old new × MinorOf text minor) ⊎ (Fails (version_command rustup) old new × (minor ≡ 0))
 

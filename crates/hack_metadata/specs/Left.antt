@@ -74,6 +74,6 @@ IsOfFile (fs.Read path) e = e ≡ fault.Files (fs.Read path)
 IsOfFile (fs.Write path) e = e ≡ fault.Files (fs.Write path)
 IsOfFile (fs.NotText path) e = e ≡ fault.Files (fs.NotText path)
 
--- P holds of a write of the path, with what it held, where the files say what they hold
+-- a write of the path, of which P holds, has what it held, where the files say what they hold
 abbrev pub PutsHeld : Type 0 → Contents → Name → (Change → Type 0) → Type 0
 PutsHeld tells held path P = (bytes : List ℕ) × (tells → held path ≡ Some bytes) × P (puts path bytes)

@@ -25,11 +25,11 @@ unless_empty (x ∷ xs) = Some (x ∷ xs)
 abbrev pub separates : ℕ → Bool
 separates x = x == 64 || x == 58
 
--- the one byte
+-- a byte is this one
 abbrev pub is_byte : ℕ → ℕ → Bool
 is_byte b x = x == b
 
--- the text begins so
+-- the text begins with `front`
 abbrev pub BeginsWith : Name → Name → Type 0
 BeginsWith text front = (rest : Name) × (text ≡ front ++ rest)
 
@@ -128,8 +128,8 @@ module _ (p : Identity) (spec : Name) where
     pub path : given.path ≡ own.path
     pub query : AgreesIfGiven given.query own.query
 
-  -- whether the specification matches is whether the one version fits the other: it is the name and a version, or
-  -- a place whose fragment is a name and a version, as that of the id, or a version alone
+  -- the specification matches just where `given` fits `full`: it is the name and a version, or a
+  -- place whose fragment is a name and a version, as that of the id, or a version alone
   pub data AsksVersion (given full : Name) : Type 0 where
     of_name : (by : ℕ) → separates by ≡ true → spec ≡ p.name ++ by ∷ given → p.version ≡ full → AsksVersion given full
     of_fragment : (url own : Url) (text id_text : Name) → IsPlace url own → url.fragment ≡ Some text → own.fragment ≡ Some id_text

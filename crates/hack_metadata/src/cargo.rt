@@ -120,7 +120,7 @@ fn match_fragments(pkg: &Package, given: Option<&str>, own: Option<&str>) -> Res
     match_fragment(pkg, given, own)
 }
 
-/// The same where both have a fragment.
+/// Returns whether a fragment matches that of the id, where both have one.
 fn match_fragment(pkg: &Package, given: &str, own: &str) -> Result<bool, SpecFault>
     ensures { result ≡ in_fragment (identity_of pkg.now) given.now (parts_at_separator given.now)
         (parts_at_separator own.now) }
@@ -296,7 +296,8 @@ fn cut(text: &str, at: char) -> (&str, Option<&str>)
     }
 }
 
-/// The same, where an empty rest is none.
+/// Cuts a text at its first byte `at`. Without one the front is the whole text. An empty rest is
+/// none.
 fn cut_part(text: &str, at: char) -> (&str, Option<&str>)
     requires { at < 128 }
     ensures front { result.0.now ≡ before_first (is_byte at) text.now }

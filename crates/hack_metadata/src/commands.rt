@@ -130,7 +130,7 @@ pub(crate) fn command<'a>(
     Ok(command)
 }
 
-/// Asks stable's cargo for its minor version. 0 where it fails, or its answer has no version.
+/// Asks stable's cargo for its minor version. Returns 0 where it fails or its answer has none.
 pub(crate) fn stable_minor<C: Caller>(
     alloc: Global,
     env: &Env,
