@@ -19,7 +19,7 @@ names_dep dep value = bytes_eq (codes "dep:" ++ dep) value
 abbrev pub is_named : FeatureMap → Name → Bool
 is_named m dep = list_any (λ e. list_any (names_dep dep) e.1) m
 
--- the dependency is a feature by itself: no key of the map is its name, and no value is its `dep:`
+-- the dependency is a feature by itself: no key has its name, and no value names it by `dep:`
 abbrev pub is_implicit : FeatureMap → Name → Bool
 is_implicit m dep = not (is_some (lookup (bytes_eq dep) m)) && not (is_named m dep)
 
