@@ -9,7 +9,7 @@ use Rattle.hack_files.specs.Files.{Change, Contents, after_change, after, KeepsO
 use Rattle.hack_files.specs.Memory.{change_of, held_after, no_contents}
 use Rattle.hack_files.specs.declared.memory.Step.{Step}
 
--- changes after others
+-- what the paths hold after two lists of changes, one after the other
 after_append : (xs ys : List Change) (m : Contents) → after (xs ++ ys) m ≡ after ys (after xs m)
 after_append [] ys m = refl
 after_append (x ∷ xs) ys m = after_append xs ys (after_change x m)
@@ -24,7 +24,7 @@ bytes_differ p q ne = elim (cases_Bool (bytes_eq p q)) [ inl e ↦ absurd (ne ((
 pub changed_other : (c : Change) (m : Contents) (q : List ℕ) → q ≢ c.path → after_change c m q ≡ m q
 changed_other c m q ne = ap (λ b. cond b c.bytes (m q)) (bytes_differ c.path q (λ e. ne (sym e)))
 
--- one more change
+-- a trace that ends with one more change says that just this change was made
 pub made : (old new : List Change) (c : Change) (m : Contents) → new ≡ old ++ c ∷ [] → Makes (c ∷ []) old new (after old m) (after new m)
 made old new c m h = record { traced = h; holds = ap (λ cs. after cs m) h ∙ after_append old (c ∷ []) m }
 
@@ -41,7 +41,7 @@ held_more steps i step q lt is =
     ∙ ap (λ l. after l no_contents q) (map-append change_of (take i steps) (step ∷ []))
     ∙ ap (λ m. m q) (after_append (map change_of (take i steps)) (change_of step ∷ []) no_contents)
 
--- changes, and then others
+-- two lists of changes that were made, one after the other, are made as one list
 pub makes_more : (xs ys t u v : List Change) (m n w : Contents) → Makes xs t u m n → Makes ys u v n w → Makes (xs ++ ys) t v m w
 makes_more xs ys t u v m n w f g = record {
   traced = g.traced ∙ ap (λ l. l ++ ys) f.traced ∙ append_assoc t xs ys;

@@ -7,7 +7,7 @@ use Rattle.hack_files.specs.Files.{Change, Contents, KeepsOthers, GrowsBy, Makes
 use Rattle.hack_files.specs.Restore.{Kept, kept_file, paths, Brings, AreDistinct, Tried, none, written, failed, made_and_failed, write_of}
 use Rattle.hack_files.proofs.FilesLemmas.{makes_more}
 
--- counts one after another
+-- a count that goes up by a, and then by b, goes up by a + b
 pub grows_more : (a b x y z : ℕ) → GrowsBy a x y → GrowsBy b y z → GrowsBy (a + b) x z
 grows_more a b x y z f g = λ low. let first = f low in let second = g (omega (arith, first)) in omega (arith, first, second)
 
@@ -15,20 +15,20 @@ grows_more a b x y z f g = λ low. let first = f low in let second = g (omega (a
 abbrev pub path_at : List Kept → ℕ → Kept → List ℕ
 path_at files j d = (slice_index_or files j d).path
 
--- the file at j holds its bytes, or its path is spoilt
+-- the path of the file at j holds the file's bytes, or is one of `spoilt`
 abbrev pub IsBack : List Kept → List (List ℕ) → Contents → ℕ → Type 0
 IsBack files spoilt new j = (d : Kept) → j < length files → Contains spoilt (path_at files j d) ⊎ (new (path_at files j d) ≡ Some (slice_index_or files j d).bytes)
 
--- the first i files are back, but for those of `spoilt`, and what is at no path of theirs is as it was
+-- the first i files are back, but for paths of `spoilt`; every other path holds what it held
 pub record BackTo (files : List Kept) (i : ℕ) (spoilt : List (List ℕ)) (old new : Contents) : Type 0 where
   pub held : (j : ℕ) → j < i → IsBack files spoilt new j
   pub others : (q : List ℕ) → ((j : ℕ) (d : Kept) → j < i → j < length files → q ≢ path_at files j d) → new q ≡ old q
 
--- so far, at most `failures` paths are spoilt
+-- after the first i files at most `failures` paths are spoilt, where the paths are distinct
 abbrev pub SoFar : List Kept → ℕ → ℕ → Contents → Contents → Type 0
 SoFar files i failures old new = AreDistinct files → (spoilt : List (List ℕ)) × (length spoilt ≤ failures) × BackTo files i spoilt old new
 
--- the file at i is this one, whatever stands for none
+-- the file at i is this one, whatever the default of `slice_index_or` is
 abbrev pub IsAt : List Kept → ℕ → Kept → Type 0
 IsAt files i file = (d : Kept) → slice_index_or files i d ≡ file
 
@@ -43,7 +43,7 @@ contains_path [] j d q lt is = absurd (omega (arith, lt))
 contains_path (x ∷ xs) zero d q lt is = (zero, omega arith, sym is)
 contains_path (x ∷ xs) (suc j) d q lt is = contains_more (paths xs) x.path q (contains_path xs j d q (omega (arith, lt)) is)
 
--- what an earlier file holds stays
+-- an earlier file that is back stays back when this one is written
 still : (files : List Kept) (i j : ℕ) (file : Kept) (spoilt : List (List ℕ)) (mid new : Contents) → AreDistinct files → i < length files → IsAt files i file
     → KeepsOthers file.path mid new → j < i → IsBack files spoilt mid j → IsBack files spoilt new j
 still files i j file spoilt mid new distinct lt at keeps before here =
@@ -51,7 +51,7 @@ still files i j file spoilt mid new distinct lt at keeps before here =
     let differ : path_at files j d ≢ file.path = let P : Kept → Type 0 = λ f. path_at files j d ≢ f.path in subst P (at d) (distinct j i d before lt) in
     elim (here d within) [ inl bad ↦ inl bad | inr good ↦ inr (keeps _ differ ∙ good) ]
 
--- others than the first i + 1 stay
+-- paths of none of the first i + 1 files hold what they held
 others_more : (files : List Kept) (i : ℕ) (file : Kept) (old mid new : Contents) → i < length files → IsAt files i file → KeepsOthers file.path mid new
     → ((q : List ℕ) → ((j : ℕ) (d : Kept) → j < i → j < length files → q ≢ path_at files j d) → mid q ≡ old q)
     → (q : List ℕ) → ((j : ℕ) (d : Kept) → j < i + 1 → j < length files → q ≢ path_at files j d) → new q ≡ old q
@@ -59,7 +59,7 @@ others_more files i file old mid new lt at keeps before q absent =
     let differ : q ≢ file.path = let P : Kept → Type 0 = λ f. q ≢ f.path in subst P (at file) (absent i file (omega arith) lt) in
     keeps q differ ∙ before q (λ j d h. absent j d (omega arith))
 
--- a write that succeeds
+-- after one more write, which succeeds
 pub so_far_written : (files : List Kept) (i failures : ℕ) (file : Kept) (old mid new : Contents) → i < length files → IsAt files i file
     → KeepsOthers file.path mid new → new file.path ≡ Some file.bytes → SoFar files i failures old mid → SoFar files (i + 1) failures old new
 so_far_written files i failures file old mid new lt at keeps is before =
@@ -74,7 +74,7 @@ so_far_written files i failures file old mid new lt at keeps is before =
       },
     )
 
--- a write that fails
+-- after one more write, which fails
 pub so_far_failed : (files : List Kept) (i failures : ℕ) (file : Kept) (old mid new : Contents) → i < length files → IsAt files i file
     → KeepsOthers file.path mid new → SoFar files i failures old mid → SoFar files (i + 1) (failures + 1) old new
 so_far_failed files i failures file old mid new lt at keeps before =
@@ -108,7 +108,7 @@ brings_all files i failures old new end so_far =
       },
     )
 
--- what was written of the first i files
+-- the writes of the first i files were tried, and k failed
 abbrev pub TriedTo : List Kept → ℕ → ℕ → List Change → List Change → Contents → Contents → Type 0
 TriedTo files i k old_trace new_trace old new = (made : List Change) × Tried (take i files) made k × Makes made old_trace new_trace old new
 

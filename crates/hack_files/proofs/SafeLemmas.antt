@@ -1,4 +1,4 @@
--- Files that are kept before they are written, and come back.
+-- Files that are kept before they are written, and restored.
 use Rattle.std.proofs.Common.{◌≡◌, ◌≢◌, ◌⊎◌, inl, inr, ℕ, suc, zero, ◌<◌, ◌≤◌, List, [], ◌∷◌, ◌++◌, Some, length, refl, sym, ◌∙◌, arith, subst, Bool, true, false, ⊎_elim, get_or}
 use Rattle.std.specs.Prelude.{◌||◌, All, Contains}
 use Rattle.std.specs.Str.{bytes_eq}
@@ -11,7 +11,7 @@ use Rattle.hack_files.specs.Files.{Contents, KeepsAll, KeepsOthers}
 use Rattle.hack_files.specs.Restore.{Kept, paths, Back, AreDistinct, AreSafe, is_kept, kept_too}
 use Rattle.hack_files.proofs.FilesLemmas.{bytes_differ}
 
--- a file whose path isn't kept is at another path than each that is
+-- a path that isn't kept differs from the path of each kept file
 apart : (files : List Kept) (path : List ℕ) (i : ℕ) (d : Kept) → i < length files → is_kept files path ≡ false → (get_or files i d).path ≢ path
 apart files path i d lt free e = true≢false (sym (list_any_at (λ (f : Kept). bytes_eq f.path path) files i d lt ((bytes_eq-Decides _ _).1 e)) ∙ free)
 
@@ -28,7 +28,7 @@ or_more : (a b c : Bool) → (a || b) ≡ false → (b ≡ false → c ≡ false
 or_more true b c e f = e
 or_more false b c e f = f e
 
--- what isn't kept with one more file isn't kept without it
+-- a path that isn't kept with one more file isn't kept without it
 kept_more : (files : List Kept) (file : Kept) (q : List ℕ) → is_kept (files ++ file ∷ []) q ≡ false → is_kept files q ≡ false
 kept_more [] file q h = refl
 kept_more (x ∷ xs) file q h = or_more (bytes_eq x.path q) (is_kept (xs ++ file ∷ []) q) (is_kept xs q) h (kept_more xs file q)
@@ -37,7 +37,7 @@ kept_more (x ∷ xs) file q h = or_more (bytes_eq x.path q) (is_kept (xs ++ file
 pub safe_none : (start : Contents) → AreSafe [] start start
 safe_none start = record { distinct = λ i j d lt within. absurd (omega arith); held = λ k d lt. absurd (omega arith); others = λ q free. refl }
 
--- a file is kept with what its path held, if none of its path is yet
+-- a file is kept with what its path held at the start, unless its path is kept already
 pub safe_kept : (files : List Kept) (file : Kept) (start now : Contents) → (is_kept files file.path ≡ false → start file.path ≡ Some file.bytes) → AreSafe files start now → AreSafe (kept_too files file) start now
 safe_kept files file start now is h =
     cond_both (is_kept files file.path) files (files ++ file ∷ []) (λ l. AreSafe l start now) (λ _. h)
@@ -59,14 +59,14 @@ safe_written files path start mid new kept keeps h = record {
 pub safe_same : (files : List Kept) (start mid new : Contents) → KeepsAll mid new → AreSafe files start mid → AreSafe files start new
 safe_same files start mid new same h = record { distinct = h.distinct; held = h.held; others = λ q free. same q ∙ h.others q free }
 
--- a file that is kept too is kept
+-- after `kept_too` the file's path is kept
 pub kept_now : (files : List Kept) (file : Kept) → is_kept (kept_too files file) file.path ≡ true
 kept_now files file =
     cond_both (is_kept files file.path) files (files ++ file ∷ []) (λ l. is_kept l file.path ≡ true) (λ took. took)
     (λ free. list_any_at (λ (f : Kept). bytes_eq f.path file.path) (files ++ file ∷ []) (length files) file (let long = length_push files file in omega arith)
     ((bytes_eq-Decides _ _).1 (let P : Kept → Type 0 = λ f. f.path ≡ file.path in subst P (sym (get_or_push files file file (length files) (omega arith))) refl)))
 
--- a path that isn't kept is none of theirs
+-- a path that isn't kept is not among the paths of the kept files
 kept_none : (files : List Kept) (q : List ℕ) → is_kept files q ≡ false → Contains (paths files) q → ⊥
 kept_none files q free has =
     let d : Kept = record { path = q; bytes = [] } in
@@ -74,7 +74,7 @@ kept_none files q free has =
     true≢false (sym (list_any_at (λ (f : Kept). bytes_eq f.path q) files has.0 d lt
     ((bytes_eq-Decides _ _).1 (sym (get_or-map (λ (f : Kept). f.path) files has.0 d q lt) ∙ has.2))) ∙ free)
 
--- what is kept is written back: each path holds what it held at the start, but for those whose write failed
+-- once the kept files are written back, each path but `spoilt` holds what it held at the start
 pub safe_back : (files : List Kept) (spoilt : List (List ℕ)) (start mid new : Contents) → AreSafe files start mid → Back files spoilt mid new
     → (q : List ℕ) → ¬ Contains spoilt q → new q ≡ start q
 safe_back files spoilt start mid new safe back q fine = elim (cases_Bool (is_kept files q)) [

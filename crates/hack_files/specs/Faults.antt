@@ -1,30 +1,30 @@
--- What a fault of a file tells.
+-- What the errors of calls of files say.
 use Rattle.std.specs.Prelude.{◌≡◌, ◌⊎◌, ℕ, List, Option, Some, string_bytes}
 use Rattle.std.specs.Str.{IsUtf8}
 use Rattle.hack_files.specs.Files.{GrowsBy}
 use Rattle.hack_files.specs.declared.fs.FsFault.{FsFault}
 use Rattle.hack_files.specs.declared.fs.FsFault.TheVariants.{Read, Write, NotText, Memory}
 
--- the path could not be read, or memory is out
+-- an error says that this path could not be read, or that memory was refused
 abbrev pub IsOfRead : List ℕ → FsFault → Type 0
 IsOfRead path (Read p) = string_bytes p ≡ path
 IsOfRead path (Write p) = ⊥
 IsOfRead path (NotText p) = ⊥
 IsOfRead path Memory = Unit {0}
 
--- the path could not be written, or memory is out
+-- an error says that this path could not be written, or that memory was refused
 abbrev pub IsOfWrite : List ℕ → FsFault → Type 0
 IsOfWrite path (Read p) = ⊥
 IsOfWrite path (Write p) = string_bytes p ≡ path
 IsOfWrite path (NotText p) = ⊥
 IsOfWrite path Memory = Unit {0}
 
--- where files tell what they hold, these bytes are there and are no text
+-- where the files say what they hold, the path holds bytes that are not UTF-8
 abbrev pub HoldsNoText : Type 0 → Option (List ℕ) → Type 0
 HoldsNoText tells held = tells → (bytes : List ℕ) × (held ≡ Some bytes) × (¬ IsUtf8 bytes)
 
--- the path could not be read, and that was counted; or it was read and is no text, and nothing was
--- counted; or memory is out
+-- the path could not be read, which counts one failure; or it holds bytes that are not UTF-8, which
+-- counts none; or memory was refused, which counts one or none
 abbrev pub IsOfText : List ℕ → Type 0 → Option (List ℕ) → ℕ → ℕ → FsFault → Type 0
 IsOfText path tells held old new (Read p) = (string_bytes p ≡ path) × GrowsBy 1 old new
 IsOfText path tells held old new (Write p) = ⊥

@@ -38,7 +38,7 @@ abbrev pub MakesOrNot : Change → List Change → List Change → Contents → 
 MakesOrNot c old_trace new_trace old new =
     Makes [] old_trace new_trace old new ⊎ Makes (c ∷ []) old_trace new_trace old new
 
--- a count of 64 bits has gone up by k, and stays at its greatest value
+-- a count of 64 bits has gone up by k, but not above its greatest value
 abbrev pub GrowsBy : ℕ → ℕ → ℕ → Type 0
 GrowsBy k old new = old < 2 ^ 64 → new ≡ min (old + k) (2 ^ 64 - 1)
 

@@ -1,10 +1,10 @@
--- Files in memory are the changes that made them.
+-- Files in memory are a list of changes.
 use Rattle.std.specs.Prelude.{List, None, map, string_bytes}
 use Rattle.std.specs.Option.{option_map}
 use Rattle.hack_files.specs.Files.{Change, Contents, after}
 use Rattle.hack_files.specs.declared.memory.Step.{Step}
 
--- a step without where it lies in memory
+-- a step as plain data
 abbrev pub change_of : Step → Change
 change_of s = record { path = string_bytes s.path; bytes = option_map (λ bytes. bytes.items) s.bytes }
 

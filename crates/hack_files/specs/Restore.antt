@@ -11,7 +11,7 @@ pub record Kept : Type 0 where
   pub path : List ℕ
   pub bytes : List ℕ
 
--- the same of a file that a manager keeps
+-- the path and bytes of a file that a manager keeps
 abbrev pub kept_file : Saved → Kept
 kept_file file = record { path = string_bytes file.path; bytes = file.bytes.items }
 
@@ -41,23 +41,23 @@ Brings files old new k =
 abbrev pub is_kept : List Kept → List ℕ → Bool
 is_kept files path = list_any (λ file. bytes_eq file.path path) files
 
--- a file is kept too, unless one of its path is already
+-- these files and one more, unless a file of its path is kept already
 abbrev pub kept_too : List Kept → Kept → List Kept
 kept_too files file = if is_kept files file.path then files else files ++ file ∷ []
 
--- No path is kept twice, each kept file has what its path held at the start, and every other path still holds that: so
--- whatever was written since comes back.
+-- No path is kept twice, each kept file has what its path held at the start, and every other path
+-- still holds what it held at the start: so writing the kept files back restores each path.
 pub record AreSafe (files : List Kept) (start now : Contents) : Type 0 where
   pub distinct : AreDistinct files
   pub held : All (λ file. start file.path ≡ Some file.bytes) files
   pub others : (q : List ℕ) → is_kept files q ≡ false → now q ≡ start q
 
--- the write of a file's bytes
+-- the write that puts a kept file back
 abbrev pub write_of : Kept → Change
 write_of file = puts file.path file.bytes
 
--- every file was written in order, and k writes failed: each of them was made all the same, or not
--- at all
+-- every file's write was tried, in order, and k failed: each of these was made all the same, or not
+-- at all; the list has the writes that were made
 pub data Tried : List Kept → List Change → ℕ → Type 0 where
   none : Tried [] [] 0
   written : {files : List Kept} {made : List Change} {k : ℕ} (file : Kept)

@@ -1,4 +1,4 @@
-//! The files of the system. No contract says what they hold; tests do.
+//! The files of the operating system. No contract says what they hold; tests check it.
 
 ghost use Rattle.std.specs.Prelude.{◌≡◌, [], None};
 ghost use Rattle.hack_files.specs.Files.{Counts};
@@ -12,21 +12,21 @@ use std::os::unix::fs::MetadataExt;
 use std::path::PathBuf;
 use std::{fs, io, rt};
 
-/// The files of the system.
+/// The files of the operating system.
 ///
-/// A file is written as a whole: its bytes are written to a file beside its path and flushed to the
-/// disk, and that file takes the path, with the permissions and owner of the one that was there. So
-/// neither a full disk nor the end of the program in the midst of a write loses what the file held,
-/// or leaves a part of a new one. A symbolic link is followed. What can't be replaced is written in
-/// place: what a link to nowhere names, a file of several names, a device, and a file in a folder
-/// where none can be made.
+/// A file is written as a whole: its bytes are written to a new file in the same folder and flushed
+/// to the disk, and that file is renamed to the path, with the permissions and owner of the one
+/// that was there. So neither a full disk nor the end of the program during a write loses what the
+/// file held, or leaves a file that is written in part. A symbolic link is followed. What can't be
+/// replaced is written in place: the target of a broken link, a file with several hard links, a
+/// device, and a file in a folder where no new file can be made.
 #[derive(Drop)]
 pub struct Disk<R: rt::Files + AllocGlobal + Drop> {
     rt: R,
     failures: u64,
 }
 
-// A new file beside a path that it can take.
+// A new file, with its name, and the path in the same folder that it will be renamed to.
 #[derive(Drop)]
 struct Successor<F: Drop> {
     file: F,
@@ -34,8 +34,8 @@ struct Successor<F: Drop> {
     target: PathBuf,
 }
 
-// How many names are tried for a file beside a path: one may be left from a program that was
-// killed.
+// How many names are tried for the new file beside a path: files with these names may be left by
+// programs that were killed.
 const NAMES: u64 = 16;
 
 // A new file in the target's folder, and its name. None where it can't be made.
@@ -53,8 +53,8 @@ fn new_file<R: rt::Files + AllocGlobal>(rt: &R, target: &str) -> Option<(R::File
     None
 }
 
-// Gives the file the owner and the permissions of another. The owner first: a change of it may drop
-// permissions.
+// Gives the file the owner and the permissions of another. The owner is set first, since a change
+// of it may drop permissions.
 fn make_like<R: rt::Files>(rt: &R, file: &R::File, name: &str, other: &Metadata) -> io::Result<()> {
     let own = file.metadata()?;
     if own.uid() != other.uid() || own.gid() != other.gid() {
@@ -63,7 +63,7 @@ fn make_like<R: rt::Files>(rt: &R, file: &R::File, name: &str, other: &Metadata)
     file.set_permissions(other.permissions())
 }
 
-// Whether nothing is at the path, not even a link to nowhere.
+// Whether nothing is at the path, not even a broken link.
 fn is_free<R: rt::Files>(rt: &R, path: &str) -> bool {
     match fs::symlink_metadata(rt, path) {
         Ok(_) => false,
@@ -71,15 +71,15 @@ fn is_free<R: rt::Files>(rt: &R, path: &str) -> bool {
     }
 }
 
-// A file that can take a path where nothing is. None where it can't be made.
+// A new file for a path at which nothing is. None where it can't be made.
 fn first_at<R: rt::Files + AllocGlobal>(rt: &R, path: &str) -> Option<Successor<R::File>> {
     let target = PathBuf::from_str(rt.alloc(), path).ok()?;
     let (file, name) = new_file(rt, path)?;
     Some(Successor { file, name, target })
 }
 
-// A file that can take the place of the one at the path, behind all links. None where what is there
-// can't be replaced.
+// A new file that can replace the one at the path, after all links are followed. None where what is
+// there can't be replaced.
 fn successor_of<R: rt::Files + AllocGlobal>(rt: &R, path: &str) -> Option<Successor<R::File>> {
     let target = fs::canonicalize(rt, path).ok()?;
     let held = fs::metadata(rt, target.as_path()).ok()?;
@@ -97,7 +97,7 @@ fn successor_of<R: rt::Files + AllocGlobal>(rt: &R, path: &str) -> Option<Succes
     Some(Successor { file, name, target })
 }
 
-// Writes all bytes, and waits until they are on the disk.
+// Writes all bytes, and waits until they are on the disk, where the file is a regular one.
 fn fill<F: Write + OpenFile>(file: &mut F, bytes: &[u8]) -> io::Result<()> {
     file.write_all(bytes)?;
     if file.metadata()?.is_file() {
@@ -106,7 +106,8 @@ fn fill<F: Write + OpenFile>(file: &mut F, bytes: &[u8]) -> io::Result<()> {
     Ok(())
 }
 
-// Writes the file beside its target, and puts it there.
+// Writes the bytes to the new file, and renames it to its target. Where that fails, the new file is
+// removed.
 fn replace<R: rt::Files>(rt: &R, successor: Successor<R::File>, bytes: &[u8]) -> io::Result<()> {
     let Successor {
         mut file,
@@ -148,7 +149,7 @@ fn remove_file<R: rt::Files>(rt: &R, path: &str) -> io::Result<()> {
     }
 }
 
-// Counts a failure, and says whose it is.
+// Counts a failed outcome, and says whether memory was refused or the device failed.
 fn count_outcome<T: Drop>(outcome: io::Result<T>, failures: &mut u64) -> Result<T, FileFault>
     ensures { Counts failures.old failures.new result }
 {
@@ -165,7 +166,7 @@ fn count_outcome<T: Drop>(outcome: io::Result<T>, failures: &mut u64) -> Result<
 }
 
 impl<R: rt::Files + AllocGlobal + Drop> Disk<R> {
-    /// The files of the system, of which no call has failed.
+    /// The files of the operating system, with no failed call counted.
     pub fn new(rt: R) -> Self
         ensures { result.failures ≡ 0 }
     {

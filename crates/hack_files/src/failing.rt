@@ -16,14 +16,14 @@ struct Turns {
 }
 
 impl Turns {
-    // Call 0 never comes, so 0 fails none.
+    // There is no call 0, so with 0 no call fails.
     fn new(failing: u64) -> Turns
         ensures { result ≡ record { next = 1; failing = failing } }
     {
         Turns { next: 1, failing }
     }
 
-    // Whether the call that is made now fails.
+    // Counts the call that is made now, and returns whether it fails.
     fn fails(&mut self) -> bool
         ensures { IsTrue result ↔ (self.old.next ≡ self.old.failing) }
     {
@@ -33,9 +33,9 @@ impl Turns {
     }
 }
 
-/// Files over others, of which one call fails: the first one is call 1, and 0 fails none. A write
-/// that fails so leaves its file empty, as a disk that is full. All other calls go on to the files
-/// below.
+/// Files that pass each call on to other files, but for one call, which fails: the first call is
+/// call 1, and with 0 none fails. A write that fails in this way leaves its file empty, as a full
+/// disk would.
 #[derive(Drop)]
 pub struct FailingFiles<F: Files> {
     inner: F,
@@ -56,7 +56,7 @@ impl<F: Files> FailingFiles<F> {
         }
     }
 
-    /// The files below.
+    /// The files that calls are passed on to.
     pub fn inner(&self) -> &F
         ensures { result.now ≡ self.now.inner }
     {
@@ -143,8 +143,8 @@ impl<F: Files> Files for FailingFiles<F> {
     }
 }
 
-/// A writer over another, of which one write fails: the first one is write 1, and 0 fails none. It
-/// goes on after it.
+/// A writer that passes each write on to another, but for one write, which fails: the first write
+/// is write 1, and with 0 none fails. Writes after the failed one are passed on again.
 #[derive(Drop)]
 pub struct FailingWriter<W: Write> {
     inner: W,
@@ -162,7 +162,7 @@ impl<W: Write> FailingWriter<W> {
         }
     }
 
-    /// The writer below.
+    /// The writer that writes are passed on to.
     pub fn inner(&self) -> &W
         ensures { result.now ≡ self.now.inner }
     {

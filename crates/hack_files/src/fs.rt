@@ -1,5 +1,5 @@
-//! What the program asks of a file system. Code is written over any `Files`: the disk, files in
-//! memory, or files that fail when a test wants it.
+//! What the program asks of a file system. Code works with any `Files`: the disk, files in memory,
+//! or files that fail when a test wants it.
 
 ghost use Rattle.std.specs.Prelude.{◌≡◌, ◌↔◌, [], ◌∷◌, List, ℕ, Some, None, string_bytes};
 ghost use Rattle.std.specs.Prelude.{IfOk, IfErr, OnOk, OnErr, IsTrue, IsSome};
@@ -22,29 +22,29 @@ pub enum FileFault {
     Device,
 }
 
-/// A map from paths to bytes that can fail.
+/// A map from paths to bytes, whose calls can fail.
 pub trait Files {
-    /// Whether the type tells what its paths hold. Where it does, a call that fails changes at most
-    /// its own path.
+    /// Whether the type says what its paths hold, by `bytes_at`. Where it does, a call that fails
+    /// changes at most its own path.
     ghost tells: { Type 0 };
 
-    /// Whether it tells its trace too, and a change is made whole or not at all.
+    /// Whether it also says which changes were made, by `trace`, each of them whole or not at all.
     ghost whole: { Type 0 };
 
-    /// The bytes at each path. It says nothing where the type doesn't tell.
+    /// The bytes at each path. It means something only where `tells` holds.
     ghost bytes_at: { Self → Contents };
 
-    /// Each change that was made, the first one first.
+    /// The changes that were made, in order. It means something only where `whole` holds.
     ghost trace: { Self → List Change };
 
-    /// What each call keeps beyond that: a relation of the files before a call and after it, which
-    /// code over any files hands on by the two laws below.
+    /// What each call keeps beyond that: a relation between the files before a call and after it.
+    /// By `stays_none` and `stays_more` it holds over any number of calls.
     ghost stays: { Self → Self → Type 0 };
 
-    /// How many calls have failed. The count stays at 2^64 - 1.
+    /// How many calls have failed. A count of 2^64 - 1 doesn't go up any more.
     ghost failed: { Self → ℕ };
 
-    /// The bytes at a path. To read a path that holds nothing is a failure.
+    /// Returns the bytes at a path. A path that holds nothing is an error.
     fn read(&mut self, alloc: Global, path: &str) -> Result<Vec<u8>, FileFault>
         ensures stays { stays self.old self.new }
         ensures counted { Counts (failed self.old) (failed self.new) result }
@@ -65,7 +65,7 @@ pub trait Files {
         ensures refused { OnErr result (whole → MakesOrNot (puts path.now bytes.now)
             (trace self.old) (trace self.new) (bytes_at self.old) (bytes_at self.new)) };
 
-    /// Whether a file, or a folder, is at a path.
+    /// Returns whether a file, or a folder, is at a path.
     fn exists(&mut self, path: &str) -> Result<bool, FileFault>
         ensures stays { stays self.old self.new }
         ensures counted { Counts (failed self.old) (failed self.new) result }
@@ -75,7 +75,7 @@ pub trait Files {
         ensures untraced { whole → Makes [] (trace self.old) (trace self.new)
             (bytes_at self.old) (bytes_at self.new) };
 
-    /// Removes what is at a path. A path that holds nothing is fine.
+    /// Removes what is at a path. A path that holds nothing is no error.
     fn remove(&mut self, path: &str) -> Result<(), FileFault>
         ensures stays { stays self.old self.new }
         ensures counted { Counts (failed self.old) (failed self.new) result }
@@ -95,7 +95,7 @@ pub trait Files {
         ensures { result ≡ failed self.now };
 }
 
-/// Why a file can't be read or written. Each has the path.
+/// Why a file can't be read or written. Each value but `Memory` has the path.
 #[derive(Debug, Drop, PartialEq, Eq, Error)]
 pub enum FsFault {
     /// The device failed, or nothing is at the path.
@@ -121,7 +121,7 @@ impl From<AllocError> for FsFault {
     }
 }
 
-// The fault of a failed read, by what the files answered.
+// The error of a failed read, from what the files returned.
 fn read_fault(alloc: Global, path: &str, fault: FileFault) -> FsFault
     ensures { IsOfRead path.now result }
 {
@@ -134,7 +134,7 @@ fn read_fault(alloc: Global, path: &str, fault: FileFault) -> FsFault
     }
 }
 
-// The fault of a failed write.
+// The error of a failed write, from what the files returned.
 fn write_fault(alloc: Global, path: &str, fault: FileFault) -> FsFault
     ensures { IsOfWrite path.now result }
 {
@@ -147,7 +147,7 @@ fn write_fault(alloc: Global, path: &str, fault: FileFault) -> FsFault
     }
 }
 
-/// The bytes of a file. Want of memory, the files' own too, is `Memory`.
+/// Returns the bytes of a file. The error is `Memory` where memory is refused, here or by `files`.
 pub fn read<F: Files>(alloc: Global, files: &mut F, path: &str) -> Result<Vec<u8>, FsFault>
     ensures stays { F.stays files.old files.new }
     ensures counted { Counts (F.failed files.old) (F.failed files.new) result }
@@ -164,7 +164,7 @@ pub fn read<F: Files>(alloc: Global, files: &mut F, path: &str) -> Result<Vec<u8
     }
 }
 
-/// The text of a file.
+/// Returns the text of a file, which has to be UTF-8.
 pub fn read_to_string<F: Files>(alloc: Global, files: &mut F, path: &str) -> Result<String, FsFault>
     ensures stays { F.stays files.old files.new }
     ensures ok { OnOk result (GrowsBy 0 (F.failed files.old) (F.failed files.new)) }
@@ -183,7 +183,8 @@ pub fn read_to_string<F: Files>(alloc: Global, files: &mut F, path: &str) -> Res
     }
 }
 
-/// Whether something is at a path. A fault is one of reading it.
+/// Returns whether something is at a path. Where the files can't say, the error is `Read`, or
+/// `Memory` where memory is refused.
 pub fn exists<F: Files>(alloc: Global, files: &mut F, path: &str) -> Result<bool, FsFault>
     ensures stays { F.stays files.old files.new }
     ensures counted { Counts (F.failed files.old) (F.failed files.new) result }
@@ -200,7 +201,8 @@ pub fn exists<F: Files>(alloc: Global, files: &mut F, path: &str) -> Result<bool
     }
 }
 
-/// Puts these bytes into a file, in place of what it holds. Want of memory is `Memory`.
+/// Puts these bytes into a file, in place of what it holds. The error is `Memory` where memory is
+/// refused, here or by `files`.
 pub fn write<F: Files>(
     alloc: Global,
     files: &mut F,

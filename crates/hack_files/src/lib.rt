@@ -1,4 +1,4 @@
-//! The outside edge to files: what the program asks of a file system, and files that come back.
+//! Access to files: what the program asks of a file system, and files that are restored at the end.
 #![tactic(auto)]
 
 mod disk;

@@ -23,7 +23,7 @@ pub struct MemoryFiles {
     failures: u64,
 }
 
-// One more failure. The count stays at its greatest value.
+// Counts one more failure. A count at its greatest value stays.
 pub(crate) fn count_failure(failures: &mut u64)
     ensures { GrowsBy 1 failures.old failures.new }
 {
@@ -44,7 +44,7 @@ fn held_at<'a>(steps: &'a [Step], path: &str) -> Option<&'a [u8]>
 }
 
 impl MemoryFiles {
-    /// Files of which no path holds anything, and of which no call has failed.
+    /// Files in which no path holds anything, with no failed call counted.
     pub fn new(alloc: Global) -> Self
         ensures steps { result.steps.items ≡ [] }
         ensures absent { (path : List ℕ) → held_after result.steps.items path ≡ None }
@@ -64,7 +64,7 @@ impl MemoryFiles {
         &self.steps
     }
 
-    // One more change.
+    // Adds one change, or none where memory is refused.
     fn add(&mut self, path: &str, bytes: Option<&[u8]>) -> Result<(), AllocError>
         ensures ok { OnOk result (map change_of self.new.steps.items ≡
             map change_of self.old.steps.items ++ record {

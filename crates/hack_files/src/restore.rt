@@ -1,4 +1,4 @@
-//! Files that come back: what they held is kept before they are edited, and written back at the
+//! Files that are restored: what they hold is kept before they are edited, and written back at the
 //! end.
 
 ghost use Rattle.std.specs.Prelude.{◌≡◌, ◌<◌, ◌↔◌, ◌⊎◌, [], ◌∷◌, ◌++◌, List, Some, cond, true};
@@ -15,8 +15,8 @@ use hack_term::term::Term;
 use std::alloc::{AllocError, Global};
 use std::io::Write;
 
-/// A path and the bytes that it held, with the texts that are told when it is written back: they
-/// are made before, since no memory is taken then.
+/// A path and the bytes that it held, with the texts that are printed when it is written back.
+/// These texts are made in advance, since writing back takes no memory.
 #[derive(Debug, Drop)]
 struct Saved {
     path: String,
@@ -25,7 +25,7 @@ struct Saved {
     failed: String,
 }
 
-/// The files that have to be written back. It has no `Drop`: it must be spent by `restore_all`.
+/// The files that have to be written back. It has no `Drop`: `restore_all` has to consume it.
 #[derive(Debug)]
 pub struct Manager {
     needs_restore: bool,
@@ -33,7 +33,7 @@ pub struct Manager {
 }
 
 impl Manager {
-    /// Keeps no file yet. Where `needs_restore` is false, `register` will keep none.
+    /// A manager that keeps no file yet. Where `needs_restore` is false, `register` will keep none.
     pub fn new(alloc: Global, needs_restore: bool) -> Self
         ensures nothing { registered_files result ≡ [] }
         ensures needs { result.needs_restore ≡ needs_restore }
@@ -44,7 +44,7 @@ impl Manager {
         }
     }
 
-    /// Keeps the bytes of a file, where files have to be restored.
+    /// Keeps the bytes of a file, where `needs_restore` is true.
     pub fn register(&mut self, alloc: Global, path: &str, bytes: &[u8]) -> Result<(), AllocError>
         ensures ok { OnOk result (registered_files self.new ≡ cond self.old.needs_restore
             (registered_files self.old ++ record { path = path.now; bytes = bytes.now } ∷ [])
@@ -58,7 +58,7 @@ impl Manager {
         Ok(())
     }
 
-    /// Keeps the bytes of a file, whatever the manager needs.
+    /// Keeps the bytes of a file, also where `needs_restore` is false.
     pub fn register_always(
         &mut self,
         alloc: Global,
@@ -80,7 +80,7 @@ impl Manager {
         Ok(())
     }
 
-    /// Whether the bytes of this path are kept already.
+    /// Returns whether the bytes of this path are kept already.
     pub fn keeps(&self, path: &str) -> bool
         ensures { result ≡ is_kept (registered_files self.now) path.now }
     {
@@ -92,7 +92,7 @@ impl Manager {
         false
     }
 
-    /// Keeps the bytes of a file, where files have to be restored and none of its path is kept.
+    /// Keeps the bytes of a file, where `needs_restore` is true and its path is not kept yet.
     pub fn register_once(
         &mut self,
         alloc: Global,
@@ -111,8 +111,8 @@ impl Manager {
         self.register(alloc, path, bytes)
     }
 
-    /// Writes back the file that was registered last, if there is one. It leaves the list also
-    /// where its write fails.
+    /// Writes back the file that was registered last, if there is one. The manager doesn't keep the
+    /// file any more, also where its write fails.
     pub fn restore_last<F: Files>(&mut self, files: &mut F) -> Result<(), FsFault>
         ensures stays { F.stays files.old files.new }
         ensures counted { Counts (F.failed files.old) (F.failed files.new) result }
@@ -145,10 +145,10 @@ impl Manager {
         }
     }
 
-    /// Writes each file back, in the order of registration and also after a failure; answers how
-    /// many writes failed. Each of these is told by a line for the user, and where the user wants
-    /// to know more, each write is. A line that can't be written is left out. It takes no memory,
-    /// unless the files do.
+    /// Writes each file back, in the order of registration and also after a failure. Returns how
+    /// many writes failed, and prints an error for each of these; in verbose mode it also prints a
+    /// line before each write. A line that can't be printed is left out. It takes no memory, unless
+    /// `files` does.
     pub fn restore_all<F: Files, W: Write>(self, files: &mut F, term: &mut Term, err: &mut W) -> u64
         ensures stays { F.stays files.old files.new }
         ensures counted { GrowsBy result (F.failed files.old) (F.failed files.new) }
@@ -175,7 +175,7 @@ impl Manager {
 }
 
 impl Saved {
-    // Writes the file back, tells the user, and answers whether it was written.
+    // Writes the file back, prints the lines for it, and returns whether it was written.
     fn put_back<F: Files, W: Write>(&self, files: &mut F, term: &mut Term, err: &mut W) -> bool
         ensures stays { F.stays files.old files.new }
         ensures counted { GrowsBy (cond result 0 1) (F.failed files.old) (F.failed files.new) }

@@ -49,7 +49,7 @@ finish_stays j es t u m n all makes o k =
       elim makes [ inl none ↦ subst (λ (x : Contents). IsJournaled j o [] x) (sym none.holds) (forget j o es m k same) | inr made ↦ removed_by j o t u m n made same ],
     )
 
--- no journal is there
+-- where no journal is there, each path holds what it held at first
 pub absent_first : (j : List ℕ) (o : Contents) (es : List Edit) (m : Contents) → IsJournalOf j m es → HoldFirstOrTold j o es m → m j ≡ None → (q : List ℕ) → q ≢ j → m q ≡ o q
 absent_first j o es m is_in holds none q ne = elim is_in [
   | inl some ↦ let y : Some (journal_text es) ≡ None = sym some ∙ none in cc

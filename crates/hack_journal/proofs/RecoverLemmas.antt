@@ -70,7 +70,7 @@ backs_at j o (e ∷ es) m q k h = backs_at j o es (after_change (gives e.path e.
 pub backs_first : (j : List ℕ) (o : Contents) (es : List Edit) (m : Contents) → IsSafeBy j o es m → (q : List ℕ) → q ≢ j → after (backs es) m q ≡ o q
 backs_first j o es m s q ne = backs_at j o es m q s.keeps (elim (s.holds q ne) [ inl same ↦ inl same | inr told ↦ inr (has_of es q (m q) told) ])
 
--- what entries keep is text
+-- the paths of entries are text
 text_of : (j : List ℕ) (o : Contents) (es : List Edit) → KeepFirst j o es → HaveTextPaths es
 text_of j o [] k = tt
 text_of j o (e ∷ es) k = (k.2, text_of j o es k.3)
@@ -82,7 +82,7 @@ safe_at j o es m s text only = elim s.by.is_in [
   | inr absent ↦ let y : Some (journal_text es) ≡ None = sym text ∙ absent.0 in cc
 ]
 
--- what is at no entry's path stays
+-- a path of no entry holds what it held
 pub backs_other : (es : List Edit) (m : Contents) (q : List ℕ) → ¬ HasEntry es q → after (backs es) m q ≡ m q
 backs_other [] m q h = refl
 backs_other (e ∷ es) m q h = backs_other es (after_change (gives e.path e.held) m) q (λ has. h (inr has)) ∙ changed_other (gives e.path e.held) m q (λ is. h (inl (sym is)))
@@ -122,7 +122,7 @@ are_back : (j : List ℕ) (o n : Contents) (es : List Edit) → KeepFirst j o es
 are_back j o n [] k h = tt
 are_back j o n (e ∷ es) k h = (h e.path (inl refl) k.1 ∙ k.0, are_back j o n es k.3 (λ q has ne. h q (inr has) ne))
 
--- what the entries of a call keep is back where it was put back
+-- once all is put back that the entries of a call keep, each path holds what it held at first
 pub all_are_back : (j : List ℕ) (es : List Edit) (m n : Contents) → AreOfCall j es es → KeepsOthers j (after (backs es) m) n → AreBack es n
 all_are_back j es m n call back =
     let keeps = origin_keeps j es m call in
@@ -158,7 +158,7 @@ why_no_journal j tells m (NotJournal p) names unread = (names, unread)
 why_no_journal j tells m (Changed p q) names unread = absurd names
 why_no_journal j tells m (Files f) names unread = absurd names
 
--- a fault that names such a path names one that the wider predicate allows
+-- an error that names a path of which P holds names one of which the wider Q holds
 pub names_wider : (P Q : List ℕ → Type 0) → ((p : List ℕ) → P p → Q p) → (f : FsFault) → Names P f → Names Q f
 names_wider P Q to (fs.Read p) h = to (string_bytes p) h
 names_wider P Q to (fs.Write p) h = to (string_bytes p) h
@@ -171,7 +171,7 @@ fails_wider P Q to (NotJournal j) h = absurd h
 fails_wider P Q to (Changed p j) h = absurd h
 fails_wider P Q to (Files f) h = names_wider P Q to f h
 
--- a look that failed
+-- a read that failed
 pub failed_unread : (j : List ℕ) (tells : Type 0) (m : Contents) (fault : RecoverFault) → FailsAt (λ p. p ≡ j) fault → IsWhyUnread j tells m fault
 failed_unread j tells m Memory h = tt
 failed_unread j tells m (NotJournal p) h = absurd h
@@ -184,14 +184,14 @@ failed_not_told j tells all e m (NotJournal p) h = absurd h
 failed_not_told j tells all e m (Changed p q) h = absurd h
 failed_not_told j tells all e m (Files f) h = names_wider (λ p. p ≡ e.path) (HasEntry (e ∷ [])) (λ p is. inl (sym is)) f h
 
--- what isn't told of some entries isn't told of more
+-- why checking some entries fails is also why checking more of them fails
 pub more_not_told : (j : List ℕ) (tells : Type 0) (all es fs : List Edit) (m : Contents) (fault : RecoverFault) → ((p : List ℕ) → HasEntry es p → HasEntry fs p) → IsWhyNotTold j tells all es m fault → IsWhyNotTold j tells all fs m fault
 more_not_told j tells all es fs m Memory to h = tt
 more_not_told j tells all es fs m (NotJournal p) to h = absurd h
 more_not_told j tells all es fs m (Changed p q) to h = (h.0, to (string_bytes p) h.1, h.2)
 more_not_told j tells all es fs m (Files f) to h = names_wider (HasEntry es) (HasEntry fs) to f h
 
--- what is put back failed, or the journal's removal
+-- a file couldn't be put back, or the journal couldn't be removed
 pub why_failed : (j : List ℕ) (tells : Type 0) (es : List Edit) (m : Contents) (fault : RecoverFault) → (tells → m j ≡ Some (journal_text es)) → FailsAt (λ p. (p ≡ j) ⊎ HasEntry es p) fault → IsWhy j tells m fault
 why_failed j tells es m Memory text h = tt
 why_failed j tells es m (NotJournal p) text h = absurd h
@@ -204,7 +204,7 @@ why_unread j tells m (NotJournal p) why = why
 why_unread j tells m (Changed p q) why = absurd why
 why_unread j tells m (Files f) why = names_wider (λ p. p ≡ j) (IsTouched j tells m) (λ p is. inl is) f why
 
--- a path that holds what no entry tells has changed
+-- a path that holds bytes that no entry of it has was changed
 pub why_not_told : (j : List ℕ) (tells : Type 0) (es : List Edit) (m n : Contents) (fault : RecoverFault) → (tells → m j ≡ Some (journal_text es)) → (tells → KeepsAll m n) → IsWhyNotTold j tells es es n fault → IsWhy j tells m fault
 why_not_told j tells es m n Memory text same why = tt
 why_not_told j tells es m n (NotJournal p) text same why = absurd why
@@ -218,7 +218,7 @@ never_not_told j tells es m n (NotJournal p) t same told why refusal = why
 never_not_told j tells es m n (Changed p q) t same told why refusal = why.2 t (subst (Tells es (string_bytes p)) (sym (same (string_bytes p))) (told (string_bytes p) why.1))
 never_not_told j tells es m n (Files f) t same told why refusal = refusal
 
--- a journal that keeps files safe is one
+-- where files are safe, the journal's path holds a text that a call writes
 pub safe_journal : (j : List ℕ) (o m : Contents) → IsSafe j o m → IsNoJournal j m → ⊥
 safe_journal j o m s unread = elim s.by.is_in [
   | inl some ↦ unread.2 s.entries (call_of j o s.entries s.by.keeps s.entries s.by.keeps) (let e : Some unread.0 ≡ Some (journal_text s.entries) = sym unread.1 ∙ some in cc)
@@ -231,7 +231,7 @@ never_no_journal j tells o m (NotJournal p) t why s refusal = safe_journal j o m
 never_no_journal j tells o m (Changed p q) t why s refusal = why
 never_no_journal j tells o m (Files f) t why s refusal = refusal
 
--- where files are safe, each path holds what an entry of it tells
+-- where files are safe, the path of each entry holds bytes that an entry of it has
 pub safe_told : (j : List ℕ) (o : Contents) (es : List Edit) (m : Contents) → IsSafeBy j o es m → AreTold es es m
 safe_told j o es m s q has =
     let first = tells_first j o es q s.keeps has in
@@ -250,7 +250,7 @@ without_at j m q ne = ap (λ b. cond b None (m q)) (bytes_differ j q (λ e. ne (
 without_others : (j p : List ℕ) (m n : Contents) → KeepsOthers p m n → KeepsOthers p (without j m) (without j n)
 without_others j p m n keeps q ne = ap (λ x. cond (bytes_eq j q) None x) (keeps q ne)
 
--- one path of those that are put back held something else, and so many others
+-- one path of those that are put back held something else, and so did k others
 pub differ_more : (j : List ℕ) (o : Contents) (e : Edit) (es : List Edit) (k : ℕ) (m n w : Contents) → KeepFirst j o (e ∷ es) → KeepsAll (after_change (gives e.path e.held) m) n → KeepsAll (after (backs es) n) w → m e.path ≢ e.held
     → Differ k (without j n) (without j w) → Differ (k + 1) (without j m) (without j w)
 differ_more j o e es k m n w keeps back rest other differ =
@@ -278,7 +278,7 @@ pub differ_step : (j : List ℕ) (o : Contents) (e : Edit) (es : List Edit) (was
 differ_step j o e es true k m n w keeps back rest is differ = differ_more j o e es k m n w keeps back rest (λ same. let y : true ≡ false = is.1 same in cc) differ
 differ_step j o e es false k m n w keeps back rest is differ = subst (λ (x : Contents). Differ (k + 0) (without j x) (without j w)) (same_back e m n back (is.0 refl)) (subst (λ (i : ℕ). Differ i (without j n) (without j w)) (omega arith) differ)
 
--- what one call says at Ok, in three clauses
+-- three clauses of one call that returned Ok, and what follows from them
 pub on_three : {T A B E : Type 0} {C D : ℕ → Type 0} (r : Result ℕ E) → OnOk r (T → A) → OnOk r (T → B) → IfOk r (λ k. T → C k) → ((k : ℕ) → T → A → B → C k → D k) → IfOk r (λ k. T → D k)
 on_three (Ok k) a b c d = λ t. d k t (a t) (b t) (c t)
 on_three (Err e) a b c d = tt
@@ -305,6 +305,6 @@ restored_of j ds es k m n w is same text call told back gone counted =
       counted = subst (λ (x : Contents). Differ k (without j x) (without j w)) same (counted (origin es m) (subst (KeepFirst j (origin es m)) (sym is) (origin_keeps j es m call)));
     }
 
--- from safe files each path comes back
+-- from safe files each path holds again what it held at first
 pub comes_back_of : (j : List ℕ) (o : Contents) (ds es : List Edit) (m n w : Contents) → ds ≡ es → n ≡ m → IsSafeBy j o es m → KeepsOthers j (after (backs ds) n) w → KeepsOthers j o w
 comes_back_of j o ds es m n w is same s back q ne = back_at j ds es m n w is same back q ne ∙ backs_first j o es m s q ne

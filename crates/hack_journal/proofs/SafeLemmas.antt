@@ -10,7 +10,7 @@ use Rattle.hack_journal.specs.Safe.{gives, Tells, first_of, KeepFirst, IsJournal
 use Rattle.hack_journal.specs.SafeLaws.{makes_append, holds_left, safe_of, fronts_one, stays_none, stays_more}
 use Rattle.hack_journal.proofs.ChangeLemmas.{makes_here, makes_others, bytes_differ, changed_other}
 
--- what the first entry of a path says of what it held, and no entry says nothing
+-- the first entry of a path has what it held at first; without one, no entry has bytes of the path
 abbrev pub First : Contents → List Edit → List ℕ → Option Edit → Type 0
 First o es p None = (x : Option (List ℕ)) → ¬ Tells es p x
 First o es p (Some e) = o p ≡ e.held
@@ -38,11 +38,11 @@ pub tells_last : (es : List Edit) (e : Edit) → Tells (es ++ e ∷ []) e.path e
 tells_last [] e = inl (refl, inr refl)
 tells_last (x ∷ es) e = inr (tells_last es e)
 
--- one change, of which both sides are safe
+-- one change, where the files before and after it are safe
 pub stay_one : (j : List ℕ) (o : Contents) (c : Change) (t u : List Change) (m n : Contents) → Makes (c ∷ []) t u m n → IsSafe j o m → IsSafe j o n → StaysSafe j o t u m n
 stay_one j o c t u m n h a b = record { added = c ∷ []; makes = h; fronts = fronts_one (IsSafe j o) c m a (subst (IsSafe j o) h.holds b) }
 
--- what is kept once the journal has one more entry
+-- the files are journaled once the journal has one more entry
 with_entry : (j : List ℕ) (o : Contents) (es more : List Edit) (e : Edit) (t u : List Change) (m n : Contents) → KeepFirst j o (es ++ more) → HoldFirstOrTold j o es m → e.path ≢ j → IsUtf8 e.path → IsHeld (first_of es e.path) (m e.path) e.held
     → Makes (puts j (journal_text (es ++ e ∷ [])) ∷ []) t u m n → IsJournaled j o es n
 with_entry j o es more e t u m n keeps holds ne text held makes = record {
@@ -53,7 +53,7 @@ with_entry j o es more e t u m n keeps holds ne text held makes = record {
       elim (holds q other) [ inl is ↦ inl (same ∙ is) | inr told ↦ inr (subst (Tells es q) (sym same) told) ];
 }
 
--- more entries in memory, of those that are in the journal
+-- the one entry that only the journal has is taken into memory
 move : (j : List ℕ) (o : Contents) (es : List Edit) (e : Edit) (n : Contents) (k : IsJournaled j o es n) → k.more ≡ e ∷ [] → IsJournaled j o (es ++ e ∷ []) n
 move j o es e n k is = record {
   more = [];
@@ -82,7 +82,7 @@ pub told_ok : {A E : Type 0} (r : Result A E) (es fs : List Edit) (e : Edit) (p 
 told_ok (Ok a) es fs e p x is path wrote = told_end es fs e p x is path wrote
 told_ok (Err a) es fs e p x is path wrote = tt
 
--- after a look, an entry is written, or perhaps not
+-- after a read, the journal is written with one more entry, or that fails
 pub note_stays : {A E W : Type 0} (r : Result A E) (j p : List ℕ) (es fs : List Edit) (e : Edit) (s t u : List Change) (l m n : Contents) → e.path ≡ p → Makes [] s t l m → p ≢ j → IsUtf8 p → IsHeld (first_of es p) (l p) e.held
     → OnOk r (fs ≡ es ++ e ∷ []) → OnErr r (fs ≡ es) → OnOk r (W → Makes (puts j (journal_text (es ++ e ∷ [])) ∷ []) t u m n) → OnErr r (W → MakesOrNot (puts j (journal_text (es ++ e ∷ []))) t u m n) → W → Stays j es fs s u l n
 note_stays (Ok a) j p es fs e s t u l m n path look ne text held added kept ok err w =
@@ -99,14 +99,14 @@ note_stays (Err a) j p es fs e s t u l m n path look ne text held added kept ok 
     (stays_more j es es es s t u l m n (stays_none j es s t l m look)
     (elim (err w) [ inl none ↦ stays_none j es t u m n none | inr made ↦ made_here j es e t u m n ne2 text2 held2 made ]))
 
--- the same, where the journal's name and the entries are equal, and not the same
+-- the same, where the journal's path and the entries are given by equations
 pub note_stays_by : {A E W : Type 0} (r : Result A E) (i j p : List ℕ) (gs es fs : List Edit) (e : Edit) (s t u : List Change) (l m n : Contents) → i ≡ j → gs ≡ es → e.path ≡ p → Makes [] s t l m → p ≢ j → IsUtf8 p → IsHeld (first_of es p) (l p) e.held
     → OnOk r (fs ≡ gs ++ e ∷ []) → OnErr r (fs ≡ gs) → OnOk r (W → Makes (puts i (journal_text (gs ++ e ∷ [])) ∷ []) t u m n) → OnErr r (W → MakesOrNot (puts i (journal_text (gs ++ e ∷ []))) t u m n) → W → Stays j es fs s u l n
 note_stays_by r i j p gs es fs e s t u l m n name same path look ne text held added kept ok err w =
     subst (λ (x : List ℕ). Stays x es fs s u l n) name (subst (λ (x : List Edit). Stays i x fs s u l n) same
     (note_stays r i p gs fs e s t u l m n path look (λ h. ne (h ∙ name)) text (subst (λ (x : List Edit). IsHeld (first_of x p) (l p) e.held) (sym same) held) added kept ok err w))
 
--- a path is changed to what an entry of it tells
+-- a path is changed to bytes that an entry of it has
 pub put_stays : (j : List ℕ) (es : List Edit) (p : List ℕ) (x : Option (List ℕ)) (t u : List Change) (m n : Contents) → p ≢ j → Tells es p x → Makes (gives p x ∷ []) t u m n → Stays j es es t u m n
 put_stays j es p x t u m n ne told makes o k =
     let here = makes_here t u (gives p x) m n makes in
@@ -178,7 +178,7 @@ hidden_or_not j p x s t u l m n ne h makes = elim makes [
 pub unequal : (r : Bool) (xs ys zs : List ℕ) → r ≡ bytes_eq xs ys → r ≡ false → ys ≡ zs → xs ≢ zs
 unequal r xs ys zs h f is e = let t : bytes_eq xs ys ≡ true = (bytes_eq-Decides xs ys).1 (e ∙ sym is) in let y : true ≡ false = sym t ∙ sym h ∙ f in cc
 
--- a change was made or not, whatever the call answers
+-- a change was made or not, whatever the call returns
 pub at_either : {A E W : Type 0} (r : Result A E) (c : Change) (t u : List Change) (m n : Contents) → OnOk r (W → Makes (c ∷ []) t u m n) → OnErr r (W → MakesOrNot c t u m n) → W → MakesOrNot c t u m n
 at_either (Ok x) c t u m n ok err w = inr (ok w)
 at_either (Err x) c t u m n ok err w = err w

@@ -75,7 +75,7 @@ sofar_never text read left is before bytes after next h = let b = before bytes a
 pub sofar_begun : (text : List ℕ) → SoFar text [] text
 sofar_begun text bytes rest next h = record { more = bytes; whole = refl; text = h }
 
--- a text that a space was not stripped from
+-- a text from which no space was stripped
 pub next_of : (rest : List ℕ) → ((r : List ℕ) → rest ≢ 32 ∷ r) → IsNext rest
 next_of [] h = tt
 next_of (b ∷ bs) h = λ e. h bs (ap (λ x. x ∷ bs) e)
@@ -83,7 +83,7 @@ next_of (b ∷ bs) h = λ e. h bs (ap (λ x. x ∷ bs) e)
 pub both : {A B : Type 0} (a c : A) (b d : B) → (a ≡ c) × (b ≡ d) → ◌≡◌ {A = A × B} (a, b) (c, d)
 both a c b d h = cc
 
--- what is left of an entry's text behind each of its words and parts
+-- what is left of an entry's text after each of its words and parts
 abbrev pub tail5 : Edit → List ℕ → List ℕ
 tail5 e rest = content_text e.wrote ++ rest
 

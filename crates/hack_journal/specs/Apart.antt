@@ -1,4 +1,4 @@
--- Files of which the lockfiles stand apart.
+-- Files whose lockfiles are kept apart from all others.
 use Rattle.std.specs.Prelude.{◌≡◌, ℕ, Bool, IsTrue, ◌||◌, List, codes, nat_eq, bytes_eq, if◌then◌else◌}
 use Rattle.std.specs.List.{ends_with}
 use Rattle.hack_files.specs.Files.{Contents}

@@ -13,11 +13,11 @@ pub record Edit : Type 0 where
   pub held : Option (List ℕ)
   pub wrote : Option (List ℕ)
 
--- an entry without where it lies in memory
+-- an entry as plain data
 abbrev pub edit_of : Entry → Edit
 edit_of e = record { path = string_bytes e.path; held = option_map (λ bytes. bytes.items) e.held; wrote = option_map (λ bytes. bytes.items) e.wrote }
 
--- the same of each
+-- entries as plain data
 abbrev pub edits_of : List Entry → List Edit
 edits_of = map edit_of
 
@@ -26,7 +26,7 @@ abbrev pub HaveTextPaths : List Edit → Type 0
 HaveTextPaths [] = Unit {0}
 HaveTextPaths (e ∷ es) = IsUtf8 e.path × HaveTextPaths es
 
--- the lines of bytes, each but the first behind a space, and a line feed that ends them
+-- the lines of bytes, each but the first after a space, and a line feed that ends them
 abbrev pub lines : List ℕ → List ℕ
 lines [] = 10 ∷ []
 lines (b ∷ bs) = cond (nat_eq b 10) (10 ∷ 32 ∷ lines bs) (b ∷ lines bs)
@@ -40,7 +40,7 @@ content_text (Some bytes) = codes "\n " ++ lines bytes
 abbrev pub edit_text : Edit → List ℕ
 edit_text e = codes "path " ++ lines e.path ++ codes "held" ++ content_text e.held ++ codes "wrote" ++ content_text e.wrote
 
--- the text of edits, in order, up to the journal's last word
+-- the text of edits, in order, and the journal's last line
 abbrev pub edits_text : List Edit → List ℕ
 edits_text [] = codes "end\n"
 edits_text (e ∷ es) = edit_text e ++ edits_text es
@@ -49,17 +49,17 @@ edits_text (e ∷ es) = edit_text e ++ edits_text es
 abbrev pub journal_text : List Edit → List ℕ
 journal_text es = codes "edited files\n" ++ edits_text es
 
--- the text does not go on with a space
+-- the text does not begin with a space
 abbrev pub IsNext : List ℕ → Type 0
 IsNext [] = Unit {0}
 IsNext (b ∷ bs) = b ≢ 32
 
--- memory ran out
+-- memory was refused
 abbrev pub IsMemory : JournalFault → Type 0
 IsMemory Memory = Unit {0}
 IsMemory NotJournal = ⊥
 
--- what was read is this value, unless memory ran out
+-- what was read is this value, unless memory was refused
 abbrev pub Reads : {X Y : Type 0} → (X → Y) → Result X JournalFault → Y → Type 0
 Reads seen (Ok x) y = seen x ≡ y
 Reads seen (Err e) y = IsMemory e

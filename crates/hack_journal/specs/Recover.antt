@@ -1,4 +1,4 @@
--- What an ended call had edited is put back.
+-- What an interrupted call had edited is put back.
 use Rattle.std.specs.Prelude.{◌≡◌, ◌≢◌, ◌⊎◌, ◌+◌, [], ◌∷◌, ℕ, List, Option, Some, None, Result, Ok, Err, string_bytes}
 use Rattle.std.specs.Str.{IsUtf8}
 use Rattle.hack_files.specs.Files.{Change, Contents, GrowsBy, KeepsAll, KeepsOthers}
@@ -19,11 +19,11 @@ abbrev pub Agrees : Option Edit → Option (List ℕ) → Type 0
 Agrees None held = Unit {0}
 Agrees (Some e) held = e.held ≡ held
 
--- an entry as a call writes it: its path is text, and not the journal's, and all entries of a path agree on what it held
+-- an entry as a call writes it: a text path, not the journal's; the path's first entry agrees
 abbrev pub IsOfCall : List ℕ → List Edit → Edit → Type 0
 IsOfCall journal all e = (e.path ≢ journal) × IsUtf8 e.path × Agrees (first_of all e.path) e.held
 
--- each is one
+-- each of these entries is as a call writes it
 abbrev pub AreOfCall : List ℕ → List Edit → List Edit → Type 0
 AreOfCall journal all [] = Unit {0}
 AreOfCall journal all (e ∷ es) = IsOfCall journal all e × AreOfCall journal all es
@@ -37,13 +37,14 @@ abbrev pub backs : List Edit → List Change
 backs [] = []
 backs (e ∷ es) = gives e.path e.held ∷ backs es
 
--- so many paths hold something else than before
+-- k paths hold something else than before
 pub data Differ : ℕ → Contents → Contents → Type 0 where
   in_none : {old new : Contents} → KeepsAll old new → Differ 0 old new
   in_one : {k : ℕ} {old mid new : Contents} (path : List ℕ) → new path ≢ old path → mid path ≡ new path → KeepsOthers path old mid → Differ k mid new → Differ (k + 1) old new
 
--- what these entries keep was put back: no path had been changed by others, each holds what it held at first, so many held
--- something else, no path but theirs was changed, and the journal is gone
+-- what these entries keep was put back: no path had been changed by others, each holds what it held
+-- at first, `count` of them held something else, no path but theirs was changed, and the journal is
+-- gone
 pub record Restored (journal : List ℕ) (edits : List Edit) (count : ℕ) (old new : Contents) : Type 0 where
   pub text : old journal ≡ Some (journal_text edits)
   pub told : AreTold edits edits old
@@ -62,52 +63,52 @@ abbrev pub IsNoJournal : List ℕ → Contents → Type 0
 IsNoJournal journal old =
     (text : List ℕ) × (old journal ≡ Some text) × ((edits : List Edit) → AreOfCall journal edits edits → text ≢ journal_text edits)
 
--- the journal has an entry of the path, and the path holds neither what it held at first nor what was written there
+-- the journal has an entry of the path, which holds neither what it held nor what was written there
 abbrev pub HasChanged : List ℕ → List ℕ → Contents → Type 0
 HasChanged journal path old =
     (edits : List Edit) × (old journal ≡ Some (journal_text edits)) × HasEntry edits path × (¬ Tells edits path (old path))
 
--- the fault names such a path
+-- the error names a path of which P holds
 abbrev pub Names : (List ℕ → Type 0) → FsFault → Type 0
 Names P (fs.Read p) = P (string_bytes p)
 Names P (fs.Write p) = P (string_bytes p)
 Names P (fs.NotText p) = ⊥
 Names P fs.Memory = ⊥
 
--- a file at such a path can't be read or written, or memory ran out
+-- a file at a path of which P holds can't be read or written, or memory was refused
 abbrev pub FailsAt : (List ℕ → Type 0) → RecoverFault → Type 0
 FailsAt P Memory = Unit {0}
 FailsAt P (NotJournal j) = ⊥
 FailsAt P (Changed p j) = ⊥
 FailsAt P (Files f) = Names P f
 
--- the journal's path, or one that it tells
+-- the journal's path, or one of which the journal has an entry
 abbrev pub IsTouched : List ℕ → Type 0 → Contents → List ℕ → Type 0
 IsTouched journal tells old path =
     (path ≡ journal) ⊎ (tells → (edits : List Edit) × (old journal ≡ Some (journal_text edits)) × HasEntry edits path)
 
--- why nothing is put back, or not all
+-- why nothing is put back, or not everything
 abbrev pub IsWhy : List ℕ → Type 0 → Contents → RecoverFault → Type 0
 IsWhy journal tells old Memory = Unit {0}
 IsWhy journal tells old (NotJournal j) = (string_bytes j ≡ journal) × (tells → IsNoJournal journal old)
 IsWhy journal tells old (Changed p j) = (string_bytes j ≡ journal) × (tells → HasChanged journal (string_bytes p) old)
 IsWhy journal tells old (Files f) = Names (IsTouched journal tells old) f
 
--- the fault says that this path holds no journal; or memory ran out
+-- the error says that this path holds no journal; or memory was refused
 abbrev pub NamesNoJournal : List ℕ → RecoverFault → Type 0
 NamesNoJournal journal Memory = Unit {0}
 NamesNoJournal journal (NotJournal j) = string_bytes j ≡ journal
 NamesNoJournal journal (Changed p j) = ⊥
 NamesNoJournal journal (Files f) = ⊥
 
--- why the journal isn't read
+-- why the journal can't be read
 abbrev pub IsWhyUnread : List ℕ → Type 0 → Contents → RecoverFault → Type 0
 IsWhyUnread journal tells old Memory = Unit {0}
 IsWhyUnread journal tells old (NotJournal j) = (string_bytes j ≡ journal) × (tells → IsNoJournal journal old)
 IsWhyUnread journal tells old (Changed p j) = ⊥
 IsWhyUnread journal tells old (Files f) = Names (λ p. p ≡ journal) f
 
--- why a look at the paths of these entries ends
+-- why checking what the paths of these entries hold fails
 abbrev pub IsWhyNotTold : List ℕ → Type 0 → List Edit → List Edit → Contents → RecoverFault → Type 0
 IsWhyNotTold journal tells all es old Memory = Unit {0}
 IsWhyNotTold journal tells all es old (NotJournal j) = ⊥
@@ -115,14 +116,14 @@ IsWhyNotTold journal tells all es old (Changed p j) =
     (string_bytes j ≡ journal) × HasEntry es (string_bytes p) × (tells → ¬ Tells all (string_bytes p) (old (string_bytes p)))
 IsWhyNotTold journal tells all es old (Files f) = Names (HasEntry es) f
 
--- the journal is refused: the fault is neither a file's nor want of memory
+-- the journal is refused: the error is neither that of a file nor `Memory`
 abbrev pub IsRefusal : RecoverFault → Type 0
 IsRefusal Memory = ⊥
 IsRefusal (NotJournal j) = Unit {0}
 IsRefusal (Changed p j) = Unit {0}
 IsRefusal (Files f) = ⊥
 
--- a fault of a file was counted, and nothing else was; want of memory may be the files' own
+-- the error of a file counts one failure, a refusal none; refused memory none, or one of the files'
 abbrev pub CountsFault : ℕ → ℕ → RecoverFault → Type 0
 CountsFault old new Memory = GrowsBy 0 old new ⊎ GrowsBy 1 old new
 CountsFault old new (NotJournal j) = GrowsBy 0 old new

@@ -4,17 +4,17 @@ use Rattle.std.specs.Str.{bytes_eq, IsUtf8}
 use Rattle.hack_files.specs.Files.{Change, Contents, after, Makes}
 use Rattle.hack_journal.specs.Journal.{Edit, journal_text}
 
--- a path is given these bytes, or removed
+-- the change by which a path is given these bytes, or removed
 abbrev pub gives : List ℕ → Option (List ℕ) → Change
 gives path bytes = record { path = path; bytes = bytes }
 
--- ---- what entries tell
+-- ---- what entries say
 
 -- the entry is the path's, and these bytes are what it held or what was written
 abbrev pub Fits : Edit → List ℕ → Option (List ℕ) → Type 0
 Fits e path bytes = (e.path ≡ path) × ((bytes ≡ e.held) ⊎ (bytes ≡ e.wrote))
 
--- an entry of the path tells these bytes
+-- an entry of the path has these bytes, as held or as written
 abbrev pub Tells : List Edit → List ℕ → Option (List ℕ) → Type 0
 Tells [] path bytes = ⊥
 Tells (e ∷ es) path bytes = Fits e path bytes ⊎ Tells es path bytes
@@ -24,8 +24,8 @@ abbrev pub first_of : List Edit → List ℕ → Option Edit
 first_of [] path = None
 first_of (e ∷ es) path = cond (bytes_eq e.path path) (Some e) (first_of es path)
 
--- these bytes are what the path held at first: as its first entry tells it, or else as the path
--- holds it now
+-- these bytes are what the path held at first: what its first entry says, or, without one, what the
+-- path holds now
 abbrev pub IsHeld : Option Edit → Option (List ℕ) → Option (List ℕ) → Type 0
 IsHeld None now held = now ≡ held
 IsHeld (Some e) now held = e.held ≡ held
@@ -42,15 +42,15 @@ abbrev pub KeepFirst : List ℕ → Contents → List Edit → Type 0
 KeepFirst journal first [] = Unit {0}
 KeepFirst journal first (e ∷ es) = (first e.path ≡ e.held) × (e.path ≢ journal) × IsUtf8 e.path × KeepFirst journal first es
 
--- the text of these entries is in the journal; of no entry there need be no journal
+-- the journal has the text of these entries; where there are none, it may be absent
 abbrev pub IsJournalOf : List ℕ → Contents → List Edit → Type 0
 IsJournalOf journal now es = (now journal ≡ Some (journal_text es)) ⊎ ((now journal ≡ None) × (es ≡ []))
 
--- each path but the journal's holds what it held at first, or bytes that an entry of its path tells
+-- each path but the journal's holds what it held at first, or bytes that an entry of the path has
 abbrev pub HoldFirstOrTold : List ℕ → Contents → List Edit → Contents → Type 0
 HoldFirstOrTold journal first es now = (q : List ℕ) → q ≢ journal → (now q ≡ first q) ⊎ Tells es q (now q)
 
--- the journal has these entries, and each path holds what it held at first, or an entry of it keeps that
+-- the journal has these entries; each path holds what it held at first, or an entry keeps that
 pub record IsSafeBy (journal : List ℕ) (first : Contents) (entries : List Edit) (now : Contents) : Type 0 where
   pub is_in : IsJournalOf journal now entries
   pub keeps : KeepFirst journal first entries
@@ -75,15 +75,15 @@ pub record StaysSafe (journal : List ℕ) (first : Contents) (old_trace new_trac
   pub makes : Makes added old_trace new_trace old new
   pub fronts : (k : ℕ) → IsSafe journal first (after (take k added) old)
 
--- whatever the paths held at first: from files that are journaled by changes that stay safe to files
--- that are journaled
+-- whatever the paths held at first: where the files are journaled, the changes keep them safe, and
+-- the files are journaled after them
 abbrev pub Stays : List ℕ → List Edit → List Edit → List Change → List Change → Contents → Contents → Type 0
 Stays journal es fs old_trace new_trace old new =
     (first : Contents) → IsJournaled journal first es old → StaysSafe journal first old_trace new_trace old new × IsJournaled journal first fs new
 
 -- ---- the files without the journal
 
--- the changes but those of the journal
+-- the changes except those of the journal
 abbrev pub but : List ℕ → List Change → List Change
 but journal [] = []
 but journal (c ∷ cs) = cond (bytes_eq c.path journal) (but journal cs) (c ∷ but journal cs)

@@ -1,4 +1,4 @@
--- What the laws of files with a journal stand on.
+-- What the laws of files with a journal are proved by.
 use Rattle.std.proofs.Common.{◌≡◌, inl, inr, ℕ, suc, zero, List, [], ◌∷◌, ◌++◌, Option, refl, sym, ◌∙◌, subst, ap, append_assoc, append-nil, take}
 use Rattle.hack_files.specs.Files.{Change, Contents, after_change, after, Makes}
 use Rattle.hack_journal.specs.Journal.{Edit}
@@ -58,6 +58,6 @@ stays_none j es t u m n h o k = (stay_none j o t u m n h (safe_of j o es m k), s
 pub stays_more : (j : List ℕ) (es fs gs : List Edit) (t u v : List Change) (m n w : Contents) → Stays j es fs t u m n → Stays j fs gs u v n w → Stays j es gs t v m w
 stays_more j es fs gs t u v m n w f g o k = let a = f o k in let b = g o a.1 in (stay_append j o t u v m n w a.0 b.0, b.1)
 
--- through a journal that has one name
+-- several changes, one after another, where the paths of the two journals are equal
 pub stays_join : (i j : List ℕ) (es fs gs : List Edit) (t u v : List Change) (m n w : Contents) → i ≡ j → Stays i es fs t u m n → Stays j fs gs u v n w → Stays i es gs t v m w
 stays_join i j es fs gs t u v m n w e f g = stays_more i es fs gs t u v m n w f (subst (λ (x : List ℕ). Stays x fs gs u v n w) (sym e) g)

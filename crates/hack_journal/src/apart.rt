@@ -1,7 +1,7 @@
-//! Files of which the lockfiles stand apart.
+//! Files whose lockfiles are kept apart from all others.
 //!
-//! Cargo itself changes `Cargo.lock` during a call, so a journal can't tell what it held. Over a
-//! journal for the other files, writes of lockfiles pass it by.
+//! Cargo itself changes `Cargo.lock` during a call, so a journal can't say what it held. Where the
+//! other files have a journal, writes of lockfiles don't go through it.
 
 ghost use Rattle.std.specs.Prelude.{◌≡◌, ◌↔◌, [], None, Some, IfOk, OnOk, IsTrue, IsSome};
 ghost use Rattle.hack_files.specs.Files.{Counts, KeepsOthers, KeepsAll};
@@ -11,8 +11,8 @@ use crate::journaled::count_failure;
 use hack_files::fs::{FileFault, Files};
 use std::alloc::Global;
 
-/// Files of which the lockfiles are those of `B`, and all others those of `A`. A call goes to one
-/// of the two alone, by its path.
+/// Files whose lockfiles are those of `B`, and all others those of `A`. Each call goes to one of
+/// the two alone, by its path.
 #[derive(Drop)]
 pub struct Apart<A: Files, B: Files> {
     pub files: A,
@@ -20,7 +20,7 @@ pub struct Apart<A: Files, B: Files> {
     failures: u64,
 }
 
-/// Whether a path is a lockfile's: its last part is `Cargo.lock`.
+/// Returns whether a path is a lockfile's: its last part is `Cargo.lock`.
 pub fn is_lockfile(path: &str) -> bool
     ensures { result ≡ is_lockfile path.now }
 {
@@ -28,7 +28,7 @@ pub fn is_lockfile(path: &str) -> bool
 }
 
 impl<A: Files, B: Files> Apart<A, B> {
-    /// Files over these, of which no call has failed.
+    /// The files of both, with no failed call counted.
     pub fn new(files: A, lockfiles: B) -> Self
         ensures files { result.files ≡ files }
         ensures lockfiles { result.lockfiles ≡ lockfiles }
@@ -47,10 +47,10 @@ impl<A: Files, B: Files> Files for Apart<A, B> {
 
     ghost tells = { A.tells × B.tells };
 
-    // The order of changes across the two is not told.
+    // The order of changes across the two is not known.
     ghost whole = { ⊥ };
 
-    // Lockfiles are never those of `A`.
+    // What `A` holds at paths of lockfiles never changes.
     ghost stays = { λ a b. A.stays a.files b.files × B.stays a.lockfiles b.lockfiles
         × (A.tells → KeepsLockfiles (A.bytes_at a.files) (A.bytes_at b.files)) };
 
@@ -79,7 +79,7 @@ impl<A: Files, B: Files> Files for Apart<A, B> {
         ensures same { A.tells × B.tells → KeepsAll
             (apart (A.bytes_at self.old.files) (B.bytes_at self.old.lockfiles))
             (apart (A.bytes_at self.new.files) (B.bytes_at self.new.lockfiles)) }
-        // A lockfile passes the other files by, and another file the lockfiles.
+        // A call at a lockfile leaves the other files alone, and any other call the lockfiles.
         ensures files { IsTrue (is_lockfile path.now) → self.new.files ≡ self.old.files }
         ensures lockfiles { ¬ IsTrue (is_lockfile path.now) →
             self.new.lockfiles ≡ self.old.lockfiles }
@@ -109,7 +109,7 @@ impl<A: Files, B: Files> Files for Apart<A, B> {
         ensures others { A.tells × B.tells → KeepsOthers path.now
             (apart (A.bytes_at self.old.files) (B.bytes_at self.old.lockfiles))
             (apart (A.bytes_at self.new.files) (B.bytes_at self.new.lockfiles)) }
-        // A lockfile passes the other files by, and another file the lockfiles.
+        // A call at a lockfile leaves the other files alone, and any other call the lockfiles.
         ensures files { IsTrue (is_lockfile path.now) → self.new.files ≡ self.old.files }
         ensures lockfiles { ¬ IsTrue (is_lockfile path.now) →
             self.new.lockfiles ≡ self.old.lockfiles }
@@ -138,7 +138,7 @@ impl<A: Files, B: Files> Files for Apart<A, B> {
         ensures same { A.tells × B.tells → KeepsAll
             (apart (A.bytes_at self.old.files) (B.bytes_at self.old.lockfiles))
             (apart (A.bytes_at self.new.files) (B.bytes_at self.new.lockfiles)) }
-        // A lockfile passes the other files by, and another file the lockfiles.
+        // A call at a lockfile leaves the other files alone, and any other call the lockfiles.
         ensures files { IsTrue (is_lockfile path.now) → self.new.files ≡ self.old.files }
         ensures lockfiles { ¬ IsTrue (is_lockfile path.now) →
             self.new.lockfiles ≡ self.old.lockfiles }
@@ -168,7 +168,7 @@ impl<A: Files, B: Files> Files for Apart<A, B> {
         ensures others { A.tells × B.tells → KeepsOthers path.now
             (apart (A.bytes_at self.old.files) (B.bytes_at self.old.lockfiles))
             (apart (A.bytes_at self.new.files) (B.bytes_at self.new.lockfiles)) }
-        // A lockfile passes the other files by, and another file the lockfiles.
+        // A call at a lockfile leaves the other files alone, and any other call the lockfiles.
         ensures files { IsTrue (is_lockfile path.now) → self.new.files ≡ self.old.files }
         ensures lockfiles { ¬ IsTrue (is_lockfile path.now) →
             self.new.lockfiles ≡ self.old.lockfiles }

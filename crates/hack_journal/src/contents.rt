@@ -11,7 +11,7 @@ use crate::journal::Entry;
 use hack_files::fs::{FileFault, Files};
 use std::alloc::Global;
 
-/// What a path holds, or `None` where nothing is there.
+/// Returns what a path holds, or `None` where nothing is there.
 #[tactic(auto, using(crate::proofs::CountLemmas::grows_then))]
 pub fn look<F: Files>(
     alloc: Global,
@@ -67,7 +67,7 @@ fn is_back<F: Files>(alloc: Global, files: &mut F, entry: &Entry) -> Result<bool
     Ok(same(now.as_deref(), entry.held.as_deref()))
 }
 
-/// Whether the paths of all these entries hold what they held at first.
+/// Returns whether the paths of all these entries hold what they held at first.
 #[tactic(auto, using(crate::proofs::CountLemmas::grows_then))]
 pub fn are_back<F: Files>(
     alloc: Global,

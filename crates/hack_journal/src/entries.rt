@@ -1,4 +1,4 @@
-//! What the entries of a journal tell of a path.
+//! What the entries of a journal say of a path.
 
 ghost use Rattle.std.specs.Prelude.{◌≡◌, ◌↔◌, IsTrue, IfOk};
 ghost use Rattle.std.specs.Option.{option_map};
@@ -9,7 +9,7 @@ ghost use Rattle.hack_journal.specs.Recover.{Agrees, IsOfCall, AreOfCall};
 use crate::journal::Entry;
 use std::alloc::{AllocError, Global};
 
-/// Whether two files hold the same, or none is there.
+/// Returns whether two files hold the same bytes, or both are absent.
 pub fn same(a: Option<&[u8]>, b: Option<&[u8]>) -> bool
     ensures { IsTrue result ↔ (option_map (λ bytes. bytes.now) a.entry ≡
         option_map (λ bytes. bytes.now) b.entry) }
@@ -21,7 +21,7 @@ pub fn same(a: Option<&[u8]>, b: Option<&[u8]>) -> bool
     }
 }
 
-/// What a file holds, in memory of its own.
+/// Copies what a file holds.
 pub fn copy(alloc: Global, bytes: Option<&[u8]>) -> Result<Option<Vec<u8>>, AllocError>
     ensures { IfOk result (λ copy. option_map (λ bytes. bytes.items) copy ≡
         option_map (λ bytes. bytes.now) bytes.entry) }
@@ -40,7 +40,7 @@ fn fits(entry: &Entry, path: &str, bytes: Option<&[u8]>) -> bool
         && (same(bytes, entry.held.as_deref()) || same(bytes, entry.wrote.as_deref()))
 }
 
-/// Whether an entry of the path tells these bytes: the path held them, or they were written.
+/// Returns whether an entry of the path has these bytes: the path held them, or they were written.
 pub fn tells(entries: &[Entry], path: &str, bytes: Option<&[u8]>) -> bool
     ensures { IsTrue result ↔
         Tells (edits_of entries.now) path.now (option_map (λ bytes. bytes.now) bytes.entry) }
@@ -51,7 +51,7 @@ pub fn tells(entries: &[Entry], path: &str, bytes: Option<&[u8]>) -> bool
     }
 }
 
-/// The first entry of the path.
+/// Returns the first entry of the path, if there is one.
 pub fn first<'a>(entries: &'a [Entry], path: &str) -> Option<&'a Entry>
     ensures { option_map (λ entry. edit_of entry.now) result ≡
         first_of (edits_of entries.now) path.now }
@@ -68,7 +68,8 @@ pub fn first<'a>(entries: &'a [Entry], path: &str) -> Option<&'a Entry>
     }
 }
 
-// Whether the first entry of a path, if there is one, has what this one has as held at first.
+// Whether the first entry of a path, if there is one, says the same as this one of what the path
+// held at first.
 fn agrees(first: Option<&Entry>, entry: &Entry) -> bool
     ensures { IsTrue result ↔
         Agrees (option_map (λ entry. edit_of entry.now) first.entry) (edit_of entry.now).held }
@@ -88,8 +89,8 @@ fn is_of_call(journal: &str, all: &[Entry], entry: &Entry) -> bool
     agrees(first(all, entry.path.as_str()), entry)
 }
 
-/// Whether these entries, of a journal that has `all`, are as a call writes them: none is of the
-/// journal, and those of one path agree on what it held.
+/// Returns whether these entries, of a journal that has `all`, are as a call writes them: none has
+/// the journal's path, and those of one path agree on what it held.
 pub fn are_of_call(journal: &str, all: &[Entry], entries: &[Entry]) -> bool
     ensures { IsTrue result ↔
         AreOfCall journal.now (edits_of all.now) (edits_of entries.now) }

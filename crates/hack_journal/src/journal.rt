@@ -1,7 +1,7 @@
 //! The text of a journal: what each edited path held, and what was to be written there.
 //!
-//! A person can read it. Each line of a path or a file but the first stands behind a space, so a
-//! line that begins with a letter is the journal's own.
+//! A person can read it. Each line of a file begins with a space, as does each line of a path but
+//! the first, so a line that begins with a letter is the journal's own.
 
 ghost use Rattle.std.specs.Prelude.{◌≡◌, ◌++◌, ◌<◌, ◌≤◌, ℕ, List, Option, OnOk, IfOk, length};
 ghost use Rattle.std.specs.Prelude.{string_bytes};
@@ -23,12 +23,12 @@ pub struct Entry {
     pub wrote: Option<Vec<u8>>,
 }
 
-/// Why a text isn't read as a journal.
+/// Why a text can't be read as a journal.
 #[derive(Clone, Copy, Debug, PartialEq, Eq, Error)]
 pub enum JournalFault {
     #[error("out of memory")]
     Memory,
-    /// The text is not what `spell` writes of any entries.
+    /// The text is not one that `spell` returns for any entries.
     #[error("not a journal of edited files")]
     NotJournal,
 }
@@ -102,7 +102,7 @@ fn put_entries(text: &mut Vec<u8>, entries: &[Entry]) -> Result<(), AllocError>
     text.extend_from_slice(b"end\n")
 }
 
-/// The text of a journal of these entries.
+/// Returns the text of a journal of these entries.
 pub fn spell(alloc: Global, entries: &[Entry]) -> Result<Vec<u8>, AllocError>
     ensures { IfOk result (λ text. text.items ≡ journal_text (edits_of entries.now)) }
 {
@@ -112,7 +112,7 @@ pub fn spell(alloc: Global, entries: &[Entry]) -> Result<Vec<u8>, AllocError>
     Ok(text)
 }
 
-// The bytes of lines, and what is behind the line feed that ends them.
+// Returns the bytes of lines, and what follows the line feed that ends them.
 fn lines_of(alloc: Global, text: &[u8]) -> Result<(Vec<u8>, &[u8]), JournalFault>
     ensures shorter { IfOk result (λ x. length x.1.now < length text.now) }
     ensures only { (bytes rest : List ℕ) → IsNext rest → text.now ≡ lines bytes ++ rest →
@@ -137,7 +137,7 @@ fn lines_of(alloc: Global, text: &[u8]) -> Result<(Vec<u8>, &[u8]), JournalFault
     Err(JournalFault::NotJournal)
 }
 
-// The text of lines, and what is behind them.
+// Returns the text of lines, and what follows them.
 fn text_of(alloc: Global, text: &[u8]) -> Result<(String, &[u8]), JournalFault>
     ensures shorter { IfOk result (λ x. length x.1.now < length text.now) }
     ensures only { (bytes rest : List ℕ) → IsUtf8 bytes → IsNext rest →
@@ -151,7 +151,7 @@ fn text_of(alloc: Global, text: &[u8]) -> Result<(String, &[u8]), JournalFault>
     }
 }
 
-// What is behind this word.
+// Returns what follows this word at the beginning.
 fn behind<'a>(text: &'a [u8], word: &[u8]) -> Result<&'a [u8], JournalFault>
     ensures shorter { IfOk result (λ rest. length rest.now ≤ length text.now) }
     ensures only { (rest : List ℕ) → text.now ≡ word.now ++ rest →
@@ -163,7 +163,7 @@ fn behind<'a>(text: &'a [u8], word: &[u8]) -> Result<&'a [u8], JournalFault>
     }
 }
 
-// What a file held or is to hold, and what is behind it.
+// Returns what a file held or is to hold, and what follows that.
 fn content_of(alloc: Global, text: &[u8]) -> Result<(Option<Vec<u8>>, &[u8]), JournalFault>
     ensures shorter { IfOk result (λ x. length x.1.now ≤ length text.now) }
     ensures only { (bytes : Option (List ℕ)) (rest : List ℕ) → IsNext rest →
@@ -178,7 +178,7 @@ fn content_of(alloc: Global, text: &[u8]) -> Result<(Option<Vec<u8>>, &[u8]), Jo
     Ok((Some(bytes), rest))
 }
 
-// The first entry of a text, and what is behind it.
+// Returns the first entry of a text, and what follows it.
 fn entry_of(alloc: Global, text: &[u8]) -> Result<(Entry, &[u8]), JournalFault>
     ensures shorter { IfOk result (λ x. length x.1.now < length text.now) }
     ensures only { (edit : Edit) (rest : List ℕ) → IsUtf8 edit.path → IsNext rest →
@@ -208,8 +208,8 @@ fn entries_of(alloc: Global, text: &[u8]) -> Result<Vec<Entry>, JournalFault>
     Ok(entries)
 }
 
-/// The entries of a journal's text. Reading the text of any entries gives those entries. A text
-/// that isn't whole is `NotJournal`, as any that `spell` does not write.
+/// Reads the entries of a journal's text. Reading the text of any entries returns those entries. A
+/// text that isn't whole is `NotJournal`, as is any that `spell` doesn't return.
 pub fn read_back(alloc: Global, text: &[u8]) -> Result<Vec<Entry>, JournalFault>
     ensures found { IfOk result (λ entries. text.now ≡ journal_text (edits_of entries.items)) }
     ensures back { (entries : List Entry) → text.now ≡ journal_text (edits_of entries) →

@@ -1,4 +1,5 @@
-//! Files that keep what they replace: before a path is changed, what it holds goes into a journal.
+//! Files that keep what they replace: before a path is changed, what it holds is written to a
+//! journal.
 //!
 //! Wherever the program ends, each path holds what it held at first, or the journal has it, and
 //! [`crate::recover::recover`] puts it back.
@@ -18,8 +19,8 @@ use crate::journal::{Entry, spell};
 use hack_files::fs::{FileFault, Files};
 use std::alloc::Global;
 
-/// Files over files, with a journal. The journal is none of the files: its path holds nothing, and
-/// can't be read or written.
+/// Files over other files, with a journal. The journal is none of the files: its path holds
+/// nothing, and can't be read, written or removed.
 #[derive(Drop)]
 pub struct Journaled<F: Files> {
     alloc: Global,
@@ -29,7 +30,7 @@ pub struct Journaled<F: Files> {
     failures: u64,
 }
 
-// One more failure. The count stays at its greatest value.
+// Counts one more failure. A count at its greatest value stays.
 pub(crate) fn count_failure(failures: &mut u64)
     ensures { GrowsBy 1 failures.old failures.new }
 {
@@ -37,8 +38,8 @@ pub(crate) fn count_failure(failures: &mut u64)
 }
 
 impl<F: Files> Journaled<F> {
-    /// Files over these, of which nothing is kept yet, and of which no call has failed. The journal
-    /// is written to this path before the first change; one that is there already would be lost, so
+    /// Files over these, of which nothing is kept yet, with no failed call counted. The journal is
+    /// written to this path before the first change; one that is there already would be lost, so
     /// call `recover` first.
     pub fn new(alloc: Global, files: F, journal: String) -> Self
         ensures journal { string_bytes result.journal ≡ string_bytes journal }
@@ -57,14 +58,14 @@ impl<F: Files> Journaled<F> {
         }
     }
 
-    /// The files below. A journal that is still there stays.
+    /// Returns the files below. A journal that is still there stays.
     pub fn into_inner(self) -> F
         ensures { result ≡ self.files }
     {
         self.files
     }
 
-    // What the path held before its first edit.
+    // Returns what the path held before its first edit.
     fn held_at_first(&mut self, path: &str) -> Result<Option<Vec<u8>>, FileFault>
         ensures handed { F.stays self.old.files self.new.files }
         ensures rest { self.new ≡ record self.old { files = self.new.files } }
@@ -85,7 +86,7 @@ impl<F: Files> Journaled<F> {
         }
     }
 
-    // The entry of a path that is to hold these bytes.
+    // Makes the entry of a path that is to hold these bytes, or be removed.
     fn entry(&mut self, path: &str, bytes: Option<&[u8]>) -> Result<Entry, FileFault>
         ensures handed { F.stays self.old.files self.new.files }
         ensures rest { self.new ≡ record self.old { files = self.new.files } }
@@ -110,7 +111,7 @@ impl<F: Files> Journaled<F> {
         Ok(Entry { path, held, wrote })
     }
 
-    // Writes the journal of the entries.
+    // Writes the journal with all entries.
     fn write_journal(&mut self) -> Result<(), FileFault>
         ensures handed { F.stays self.old.files self.new.files }
         ensures rest { self.new ≡ record self.old { files = self.new.files } }
@@ -164,7 +165,7 @@ impl<F: Files> Journaled<F> {
         }
     }
 
-    // Writes a journal with one more entry, of a path that is to hold these bytes.
+    // Writes a journal with one more entry, of a path that is to hold these bytes, or be removed.
     fn note(&mut self, path: &str, bytes: Option<&[u8]>) -> Result<(), FileFault>
         ensures handed { F.stays self.old.files self.new.files }
         ensures rest { self.new ≡
@@ -186,7 +187,7 @@ impl<F: Files> Journaled<F> {
         self.append(entry)
     }
 
-    // Keeps what the path holds, unless an entry has these bytes.
+    // Keeps what the path holds, unless an entry of the path has these bytes already.
     fn keep(&mut self, path: &str, bytes: Option<&[u8]>) -> Result<(), FileFault>
         ensures handed { F.stays self.old.files self.new.files }
         ensures rest { self.new ≡
@@ -245,7 +246,8 @@ impl<F: Files> Journaled<F> {
         put(&mut self.files, path, bytes)
     }
 
-    // Removes the journal where each entry's path is back, and says whether none is there.
+    // Removes the journal where the path of each entry holds what it held at first, and returns
+    // whether no journal is there.
     #[tactic(auto, using(crate::proofs::CountLemmas::grows_then))]
     fn close(&mut self) -> Result<bool, FileFault>
         ensures handed { F.stays self.old.files self.new.files }
@@ -272,15 +274,15 @@ impl<F: Files> Journaled<F> {
         if !are_back(self.alloc, &mut self.files, &self.entries)? {
             return Ok(false);
         }
-        // A removal that fails may be made all the same, and then nothing is in the journal.
+        // A removal that fails may be made all the same, and then the journal has no entries.
         self.entries.clear();
         self.files.remove(self.journal.as_str())?;
         Ok(true)
     }
 
-    /// Removes the journal where each kept path holds again what it held at first. Answers whether
-    /// no journal is there: where it is false, a path holds something else. A fault leaves the
-    /// journal, or has removed it where nothing was to be put back.
+    /// Removes the journal where each kept path holds again what it held at first. Returns whether
+    /// no journal is there: where it is false, a path holds something else. After an error the
+    /// journal is still there, or it was removed where nothing was to be put back.
     pub fn finish(&mut self) -> Result<bool, FileFault>
         ensures handed { F.stays self.old.files self.new.files }
         ensures journal { self.new.journal ≡ self.old.journal }

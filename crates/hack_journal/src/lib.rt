@@ -1,4 +1,4 @@
-//! Files that survive any end of the program: a journal keeps what an edit replaces.
+//! Files that can be restored wherever the program ends: a journal keeps what an edit replaces.
 #![tactic(auto)]
 
 pub mod apart;

@@ -1,4 +1,4 @@
-//! Brings back what a call had edited that ended before it could do so itself.
+//! Puts back what an interrupted call had edited, and could not put back itself.
 
 ghost use Rattle.std.specs.Prelude.{◌≡◌, ◌≢◌, ◌↔◌, ◌⊎◌, ◌≤◌, [], ◌∷◌, List, ℕ, Some, None, Vec};
 ghost use Rattle.std.specs.Prelude.{IfOk, IfErr, OnOk, false, length};
@@ -19,12 +19,13 @@ use hack_files::fs::{FileFault, Files, FsFault};
 use std::alloc::{AllocError, Global};
 use thiserror::Error;
 
-/// Why files aren't put back.
+/// Why files can't be put back.
 #[derive(Debug, Drop, PartialEq, Eq, Error)]
 pub enum RecoverFault {
     #[error("out of memory")]
     Memory,
-    /// What stands at the journal's path is no whole journal. Nothing was changed.
+    /// What the journal's path holds is no whole journal, or one that no call writes. Nothing was
+    /// changed.
     #[error("`{0}` is not a whole journal of edited files; put back by hand what it tells, and \
         remove it")]
     NotJournal(String),
@@ -48,7 +49,7 @@ impl From<AllocError> for RecoverFault {
     }
 }
 
-// The fault of a look at a path.
+// The error of reading a path.
 fn read_fault(alloc: Global, path: &str, fault: FileFault) -> RecoverFault
     ensures failures { (old new : ℕ) → GrowsBy 1 old new → CountsFault old new result }
     ensures kind { ¬ IsRefusal result }
@@ -63,7 +64,7 @@ fn read_fault(alloc: Global, path: &str, fault: FileFault) -> RecoverFault
     }
 }
 
-// The fault of a write or a removal.
+// The error of a write or a removal.
 fn write_fault(alloc: Global, path: &str, fault: FileFault) -> RecoverFault
     ensures failures { (old new : ℕ) → GrowsBy 1 old new → CountsFault old new result }
     ensures kind { ¬ IsRefusal result }
@@ -78,7 +79,7 @@ fn write_fault(alloc: Global, path: &str, fault: FileFault) -> RecoverFault
     }
 }
 
-// The fault of a text that is no journal.
+// The error of a text that is no journal.
 fn no_journal(alloc: Global, journal: &str) -> RecoverFault
     ensures failures { (old new : ℕ) → GrowsBy 0 old new → CountsFault old new result }
     ensures kind { NamesNoJournal journal.now result }
@@ -89,7 +90,7 @@ fn no_journal(alloc: Global, journal: &str) -> RecoverFault
     }
 }
 
-// The entries of the journal, if there is one.
+// Reads the entries of the journal, if there is one.
 #[tactic(auto, using(crate::proofs::CountLemmas::grows_then))]
 fn entries_in<F: Files>(
     alloc: Global,
@@ -128,7 +129,7 @@ fn entries_in<F: Files>(
     }
 }
 
-// Refuses an entry whose path holds what none of all entries tells.
+// Refuses an entry whose path holds bytes that no entry of the path has.
 #[tactic(auto, using(crate::proofs::CountLemmas::grows_then))]
 fn check<F: Files>(
     alloc: Global,
@@ -159,7 +160,7 @@ fn check<F: Files>(
     })
 }
 
-// The same of each of these.
+// Does the same for each of these entries.
 #[tactic(auto, using(crate::proofs::CountLemmas::grows_then))]
 fn check_all<F: Files>(
     alloc: Global,
@@ -186,7 +187,7 @@ fn check_all<F: Files>(
     }
 }
 
-// Puts back what this entry keeps, and says whether the path held something else.
+// Puts back what this entry keeps, and returns whether the path held something else.
 #[tactic(auto, using(crate::proofs::CountLemmas::grows_then))]
 fn put_back<F: Files>(alloc: Global, files: &mut F, entry: &Entry) -> Result<bool, RecoverFault>
     ensures failures { IsCounted (F.failed files.old) (F.failed files.new) result }
@@ -215,7 +216,7 @@ fn put_back<F: Files>(alloc: Global, files: &mut F, entry: &Entry) -> Result<boo
     }
 }
 
-// Puts back what these entries keep, in order, and says how many paths held something else.
+// Puts back what these entries keep, in order, and returns how many paths held something else.
 #[tactic(auto, using(crate::proofs::CountLemmas::grows_then))]
 fn put_all_back<F: Files>(
     alloc: Global,
@@ -281,32 +282,32 @@ fn take_back<F: Files>(
     }
 }
 
-/// Puts back what the paths held that a journal keeps, removes the journal, and answers how many
-/// files held something else. Where no journal is, there is nothing to do, and it answers 0.
+/// Puts back what a journal keeps of its paths, removes the journal, and returns how many files
+/// held something else. Where there is no journal, it does nothing and returns 0.
 ///
-/// Nothing is written before all is looked at: where a path holds neither what it held at first nor
-/// what was written there, or the journal isn't whole, nothing is changed. It may itself be ended
-/// at any moment, and called again.
+/// Nothing is written before all paths are read: where one holds neither what it held at first nor
+/// what was written there, or the journal isn't one that a call writes, nothing is changed. It may
+/// itself be interrupted at any moment, and called again.
 #[tactic(auto, using(crate::proofs::CountLemmas::grows_then))]
 pub fn recover<F: Files>(alloc: Global, files: &mut F, journal: &str) -> Result<u64, RecoverFault>
-    // It ends at the first failure of the files, and tells it.
+    // It ends at the first failed call of the files, and returns an error for it.
     ensures failures { IsCounted (F.failed files.old) (F.failed files.new) result }
     // Each kept path holds what it held at first, and no other path was changed.
     ensures restored { IfOk result (λ count. F.tells →
         IsRestored journal.now count (F.bytes_at files.old) (F.bytes_at files.new)) }
-    // Wherever a call ended, each path holds what it held before that call.
+    // Wherever a call was interrupted, each path holds what it held before that call.
     ensures comes_back { OnOk result (F.tells → (first : Contents) →
         IsSafe journal.now first (F.bytes_at files.old) →
         KeepsOthers journal.now first (F.bytes_at files.new)) }
-    // Why not, with the paths.
+    // An error says why not, and names the paths.
     ensures why { IfErr result (IsWhy journal.now F.tells (F.bytes_at files.old)) }
     // A refusal changes nothing.
     ensures refused { IfErr result (λ fault. IsRefusal fault → F.tells →
         KeepsAll (F.bytes_at files.old) (F.bytes_at files.new)) }
-    // What an ended call left is never refused.
+    // What an interrupted call left is never refused.
     ensures never { IfErr result (λ fault. IsRefusal fault → F.tells → (first : Contents) →
         ¬ IsSafe journal.now first (F.bytes_at files.old)) }
-    // It may be ended too, at any moment.
+    // It may be interrupted too, at any moment.
     ensures safe { F.tells → F.whole → (first : Contents) →
         IsSafe journal.now first (F.bytes_at files.old) →
         StaysSafe journal.now first (F.trace files.old) (F.trace files.new)

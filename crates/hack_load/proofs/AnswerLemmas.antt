@@ -31,7 +31,7 @@ pub ends-known : (tells : Type 0) (q : Question) (held : Contents) (old new : Li
 ends-known tells q held old new W (Ok m) h = (h.0, h.1, h.2, h.3, h.4, tt, h.6)
 ends-known tells q held old new W (Err e) h = (h.0, h.1, h.2, h.3, h.4, tt)
 
--- what was read is still there
+-- what was loaded still agrees with the files after calls that changed nothing
 pub loaded-later : (tells : Type 0) (b c : Contents) (y z : ℕ) (env : Env) (r : Result Loaded ContextFault) → ReadsOnly tells b c y z r → IfOk r (IsLoaded tells b env) → IfOk r (IsLoaded tells c env)
 loaded-later tells b c y z env (Ok l) whole h = record {
   cargo = h.cargo;
@@ -40,7 +40,7 @@ loaded-later tells b c y z env (Ok l) whole h = record {
 }
 loaded-later tells b c y z env (Err e) whole h = tt
 
--- and was there before
+-- what follows the metadata agrees with the files before them, where nothing was changed
 pub follows-earlier : (tells : Type 0) (args : Args) (env : Env) (a b : Contents) (x y z : ℕ) (m : Metadata) (mid new : List Call) (r : Result Loaded ContextFault) → Whole tells a b x y
     → Follows tells args env b y z m mid new r → Follows tells args env a x z m mid new r
 follows-earlier tells args env a b x y z m mid new (Ok l) whole h = (

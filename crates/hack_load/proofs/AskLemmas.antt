@@ -21,7 +21,7 @@ fault-may tells asked shown old new (process.NeverExecuted text) h t = let had =
 fault-may tells asked shown old new (process.Failed failure) h t = let had = h.3 t in inr (had.0, had.2)
 fault-may tells asked shown old new (process.NotText text) h t = let had = h.2 t in inr (had.0, had.2)
 
--- over a caller that tells
+-- the error of a read, where the caller says which calls were made
 pub fault-told : (tells : Type 0) (asked : Asked) (shown : Name) (old new : List Call) (e : ProcessFault) → tells → IsReadFault tells asked shown old new e → IsReadFault (Unit {0}) asked shown old new e
 fault-told tells asked shown old new process.Memory t h = (h.0, λ _. h.1 t)
 fault-told tells asked shown old new process.EmptyProgram t h = (h.0, λ _. h.1 t)
@@ -29,7 +29,7 @@ fault-told tells asked shown old new (process.NeverExecuted text) t h = (h.0, h.
 fault-told tells asked shown old new (process.Failed failure) t h = (h.0, h.1, h.2, λ _. h.3 t)
 fault-told tells asked shown old new (process.NotText text) t h = (h.0, h.1, λ _. h.2 t)
 
--- a fault of the question where a call stands
+-- an error of the question for the current manifest
 pub locate-fault : (tells : Type 0) (c : Command) (dir : Name) (old new : List Call) (f : ProcessFault) (e : ContextFault)
     → IsOfProcess f e → IsReadFault tells (asked_of true c) (text_of true dir c) old new f → FailsLocate tells c dir old new e
 locate-fault tells c dir old new process.Memory e is h = subst (λ v. FailsLocate tells c dir old new v) (sym is) h.1
@@ -49,7 +49,7 @@ locate-told tells c dir old new (faults.Metadata e) t h = absurd h
 locate-told tells c dir old new (faults.NotJson text) t h = absurd h
 locate-told tells c dir old new faults.Root t h = absurd h
 
--- cargo can't be had to tell of itself
+-- asking cargo for its version failed
 pub self-failed : (tells : Type 0) (args : Args) (env : Env) (c : Command) (dir : Name) (old new : List Call) (e : ProcessFault) (version : Result ℕ Name) (host : Option Name)
     → c ≡ self_command (string_bytes env.cargo) → dir ≡ string_bytes env.current_dir → IsReadFault tells (asked_of true c) (text_of true dir c) old new e → tells → FailsSelf e version host → IsSelf args env version host old new
 self-failed tells args env c dir old new e version host is at h t failed =

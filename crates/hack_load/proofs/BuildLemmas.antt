@@ -1,4 +1,4 @@
--- A context is put together.
+-- A context is made.
 use Rattle.std.proofs.Common.{◌≡◌, ◌⊎◌, inl, inr, ◌<◌, ◌≤◌, ◌+◌, ℕ, suc, Bool, List, [], ◌∷◌, ◌++◌, length, map, get_or, drop, refl, sym, ◌∙◌, ap, subst, arith, add-one, append_assoc, append-nil}
 use Rattle.std.specs.Prelude.{Contains}
 use Rattle.std.proofs.Math.Seq.{drop-cons}
@@ -25,7 +25,7 @@ features-long m asked (id ∷ ids) [] fs h = absurd h
 features-long m asked (id ∷ ids) (x ∷ xs) [] h = absurd h
 features-long m asked (id ∷ ids) (x ∷ xs) (f ∷ fs) h = ap suc (features-long m asked ids xs fs h.1)
 
--- whatever stands for the members that are left stands behind these
+-- these features, followed by any for the members left, are features for all members
 abbrev pub Completes : MetadataRecord → Bool → List ℕ → List Manifest → ℕ → List Features → Type 0
 Completes m asked ids xs i fs = (more : List Features) → AreFeatures m asked (drop i ids) (drop i xs) more → AreFeatures m asked ids xs (fs ++ more)
 
@@ -65,7 +65,7 @@ misses-more m asked ids i id lt is here before k d l =
           λ miss. here (subst (λ v. MissesNode m v asked) (ap (λ n. get_or ids n d) same ∙ get_or_default ids i d id lt ∙ sym is) miss)
     ]
 
--- candidates that aren't had
+-- an error of collecting candidates
 pub node-fault : (m : MetadataRecord) (asked : Bool) (id : ℕ) (e : MetadataFault) → Contains m.workspace_members id → IsRefusal m id asked e → (e ≡ faults.Memory) ⊎ IsNodeFault m asked e
 node-fault m asked id faults.Memory c h = inl refl
 node-fault m asked id (faults.Field name) c h = inr (λ eq. cc, (id, c, h))

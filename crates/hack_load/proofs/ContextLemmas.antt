@@ -47,7 +47,7 @@ place-contains ms (Some id) h =
     let lt = ltb-true (place_among ms id) (length ms) h in
     (place_among ms id, lt, eqb-true (get_or ms (place_among ms id) id) id (passes_at_first (λ m. m == id) ms id lt))
 
--- and each member has one
+-- each member has a place among the members
 pub contains-place : (ms : List ℕ) (o : Option ℕ) → IfSome o (Contains ms) → is_among ms o ≡ true
 contains-place ms None h = refl
 contains-place ms (Some id) h = lt-ltb (place_among ms id) (length ms) (place-below ms id h)

@@ -1,4 +1,4 @@
--- Features that are put behind others, and names that are picked, each once.
+-- Features that are added after others, and names that are picked, each once.
 use Rattle.std.proofs.Common.{◌≡◌, ◌&&◌, ◌||◌, not, ℕ, suc, ◌+◌, ◌<◌, get_or, add-one, drop-cons, Bool, true, false, cond, List, [], ◌∷◌, ◌++◌, ◌↔◌, Contains, IsTrue, Vec, map, length, drop, Option, Some, None, unwrap_or, option_map, String, Global, Less, nat_cmp, string_cmp, string_bytes, append_assoc, append-nil, refl, sym, ap, subst, ◌∙◌}
 use Rattle.std.specs.Cmp.Lexicographic.{slice_cmp}
 use Rattle.std.specs.List.Sorted.{IsStrictlySortedBy}
@@ -56,7 +56,7 @@ texts-pushed fs new f name more is push =
 
 -- ---- features of dependencies
 
--- the features of the keys that came, each behind the dependency's name, stand behind the old ones
+-- the features of the keys so far, each as a path of the dependency, follow the old ones
 pub record Grown (dep : Name) (m : FeatureMap) (left : List (String Global)) (old now : List Feature) : Type 0 where
   pub came : List Name
   pub all : came ++ names_of left ≡ keys_of m
@@ -103,7 +103,7 @@ grown-end dep m left old now none g =
 abbrev pub is_new : List Name → Name → Bool
 is_new names x = not (list_any (bytes_eq x) names)
 
--- the first of each of the names that is none of these
+-- the names that are none of these, each once, at its first place
 abbrev pub picked : List Name → List Name → List Name
 picked names xs = filter (is_new names) (firsts xs)
 
@@ -124,7 +124,7 @@ split-cond : (p : Name → Bool) (b : Bool) (x : Name) (xs : List Name) → filt
 split-cond p true x xs = refl
 split-cond p false x xs = refl
 
--- two filters are one
+-- two filters, one after the other, are one filter by both tests
 filter-both : (p q r : Name → Bool) → ((y : Name) → r y ≡ (q y && p y)) → (xs : List Name) → filter p (filter q xs) ≡ filter r xs
 filter-both p q r h [] = refl
 filter-both p q r h (x ∷ xs) =
@@ -144,7 +144,7 @@ or_false true false = refl
 or_false false true = refl
 or_false false false = refl
 
--- behind one more name
+-- a name is none of these and one more: it differs from the one, and is none of these
 new-push : (names : List Name) (x y : Name) → is_new (names ++ x ∷ []) y ≡ (not (bytes_eq y x) && is_new names y)
 new-push names x y = ap not (list_any-append (bytes_eq y) names (x ∷ [])) ∙ or_false (list_any (bytes_eq y) names) (bytes_eq y x)
 
@@ -177,15 +177,15 @@ left-none m d rest e = ap (λ o. filter (is_implicit m) (cons_option o (optional
 left-cond : (m : FeatureMap) (d : DependencyRecord) (rest : List DependencyRecord) (name : Name) (b : Bool) → feature_of d ≡ Some name → is_implicit m name ≡ b → names_left m (d ∷ rest) ≡ cond b (name ∷ names_left m rest) (names_left m rest)
 left-cond m d rest name b e i = ap (λ o. filter (is_implicit m) (cons_option o (optional_in rest))) e ∙ ap (λ t. cond t (name ∷ names_left m rest) (names_left m rest)) i
 
--- one that is no feature by itself
+-- a dependency that is no feature by itself
 pub left-named : (m : FeatureMap) (d : DependencyRecord) (rest : List DependencyRecord) (name : Name) → feature_of d ≡ Some name → is_implicit m name ≡ false → names_left m (d ∷ rest) ≡ names_left m rest
 left-named m d rest name e i = left-cond m d rest name false e i
 
--- one whose name is there already
+-- a dependency whose name is there already
 pub pass-old : (m : FeatureMap) (d : DependencyRecord) (rest : List DependencyRecord) (name : Name) (names : List Name) → feature_of d ≡ Some name → is_implicit m name ≡ true → list_any (bytes_eq name) names ≡ true → picked names (names_left m (d ∷ rest)) ≡ picked names (names_left m rest)
 pass-old m d rest name names e i h = ap (picked names) (left-cond m d rest name true e i) ∙ picked-old names name (names_left m rest) h
 
--- one that is picked
+-- a dependency that is picked
 pub picked-take : (m : FeatureMap) (all : List DependencyRecord) (d : DependencyRecord) (rest : List DependencyRecord) (name : Name) (f : Feature) (fs new : List Feature)
     → feature_of d ≡ Some name → is_implicit m name ≡ true → list_any (bytes_eq name) (texts_of fs) ≡ false → IsNormal name f → new ≡ fs ++ f ∷ [] → Picked m all (d ∷ rest) fs → Picked m all rest new
 picked-take m all d rest name f fs new e i h is push p =
@@ -216,7 +216,7 @@ found-in name xs ys zs a b c r x y z e =
       λ h. (whole ∙ list_any-from_Contains nat_list_eq_equiv name (xs ++ (ys ++ zs)) h),
     )
 
--- a map's values, whose names don't matter
+-- a test of a map's values is the same test of its entries
 pub named-values : (dep : Name) (es : List (String Global × Vec (String Global) Global)) → list_any (λ values. list_any (names_dep dep) (names_of values.items)) (values_of es) ≡ list_any (λ (e : Name × List Name). list_any (names_dep dep) e.1) (map (λ e. (string_bytes e.0, names_of e.1.items)) es)
 named-values dep [] = refl
 named-values dep (e ∷ es) = ap (λ t. list_any (names_dep dep) (names_of e.1.items) || t) (named-values dep es)
@@ -227,7 +227,7 @@ keys-shown (e ∷ es) = ap (λ t. string_bytes e.0 ∷ t) (keys-shown es)
 
 -- ---- dependencies
 
--- the dependency at a place, and those behind it
+-- the dependency at a place, and those after it
 pub left-at : (ds : List Dependency) (i : ℕ) (d : Dependency) → i < length ds → d ≡ get_or ds i d → map dependency_view (drop i ds) ≡ dependency_view d ∷ map dependency_view (drop (i + 1) ds)
 left-at ds i d lt is = ap (map dependency_view) (drop-cons ds i d lt ∙ ap (λ x. x ∷ drop (suc i) ds) (sym is)) ∙ ap (λ k. dependency_view d ∷ map dependency_view (drop k ds)) (sym (add-one i))
 
@@ -243,7 +243,7 @@ pub node-known : (ps : List Package) (ds : List DependencyRecord) (d : NodeDep) 
 node-known ps ds d p e g =
     chosen (list_any is_normal (map kind_view d.dep_kinds.items)) _ e ∙ ap (λ o. unwrap_or (option_map (paths_in ds) o) []) (get-shown ps d.pkg.index (Some p) g)
 
--- one on a package that isn't
+-- a normal dependency on a package that is not known
 pub node-unknown : (ps : List Package) (ds : List DependencyRecord) (d : NodeDep) → list_any is_normal (map kind_view d.dep_kinds.items) ≡ true → slice_get ps d.pkg.index ≡ None
     → node_paths (map package_view ps) ds (node_dep_view d) ≡ []
 node-unknown ps ds d e g =
@@ -255,7 +255,7 @@ below_all : (k : String Global) (ks : List (String Global)) → AllByRecursion (
 below_all k [] h = h
 below_all k (x ∷ ks) h = (h.0, below_all k ks h.1)
 
--- texts that rise are names that do
+-- keys that strictly increase are names that do
 pub rising-names : (ks : List (String Global)) → IsStrictlySortedBy string_cmp ks → IsRising (names_of ks)
 unfolding IsStrictlySortedBy
 rising-names [] h = h

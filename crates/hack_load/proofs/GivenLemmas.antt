@@ -13,7 +13,7 @@ use Rattle.hack_base.specs.Names.{Name, names_of}
 use Rattle.hack_load.specs.Features.{texts_in}
 use Rattle.hack_load.specs.declared.features.Features.{Features}
 
--- a test by names
+-- a test whether a name is in a list is `list_any`
 test-is : (b : Bool) (names : List Name) (x : Name) → (IsTrue b ↔ Contains names x) → b ≡ list_any (bytes_eq x) names
 test-is true names x h = sym (list_any-from_Contains nat_list_eq_equiv x names (h.0 refl))
 test-is false names x h =

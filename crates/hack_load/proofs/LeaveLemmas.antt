@@ -1,4 +1,4 @@
--- What calls of files leave, one after the other.
+-- What the files hold after several calls.
 use Rattle.std.proofs.Common.{inl, inr, ℕ, [], ◌∷◌, Result, Ok, Err, refl, sym, ◌∙◌, arith}
 use Rattle.hack_base.specs.Names.{Name}
 use Rattle.hack_files.specs.Files.{Contents, GrowsBy, KeepsAll}
@@ -14,7 +14,7 @@ use Rattle.hack_load.specs.LeavesFew.{LeavesFew, MayFail, ReadsOnly}
 pub nothing : (tells : Type 0) (a : Contents) (x : ℕ) → Whole tells a a x x
 nothing tells a x = (λ low. omega (arith, low), λ t q. refl)
 
--- counts that grow behind one that stays
+-- a count that stays, and then grows
 pub count-more : (k x y z : ℕ) → GrowsBy 0 x y → GrowsBy k y z → GrowsBy k x z
 count-more k x y z f g = λ low. let first = f low in let second = g (omega (arith, first)) in omega (arith, first, second)
 
@@ -47,7 +47,7 @@ few-may : (tells : Type 0) (a b : Contents) (x y : ℕ) → MayFail tells a b x 
 few-may tells a b x y (inl h) = few-whole tells a b x y h
 few-may tells a b x y (inr h) = few-spoilt [] tells a b x y (h.0, λ t q ne. h.1 t q)
 
--- files that are read behind a question that left nothing
+-- files that are read after a question that changed nothing
 pub few-reads : {X E : Type 0} (tells : Type 0) (a b c : Contents) (x y z : ℕ) (r : Result X E) → Whole tells a b x y → ReadsOnly tells b c y z r → LeavesFew tells a c x z
 few-reads tells a b c x y z (Ok v) f g = few-whole tells a c x z (whole-more tells a b c x y z f g)
 few-reads tells a b c x y z (Err e) f g = few-may tells a c x z (may-more tells a b c x y z f g)

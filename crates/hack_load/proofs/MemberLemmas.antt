@@ -1,4 +1,4 @@
--- Manifests of members, and faults on the way.
+-- Manifests of members, and errors of reading them.
 use Rattle.std.proofs.Common.{◌≡◌, inl, inr, ℕ, ◌+◌, ◌<◌, List, [], ◌∷◌, ◌++◌, Some, length, map, get_or, take, sym, ap, ◌∙◌, subst, arith}
 use Rattle.std.specs.Prelude.{Contains, option_map, slice_get}
 use Rattle.std.proofs.lemmas.List.{get_or-map, length-map, map-append, take_more}
@@ -38,7 +38,7 @@ manifest-fault T held m id before now p text at read manifest.Memory e is h = su
 manifest-fault T held m id before now p text at read (manifest.Toml path) e is h = subst (λ v. IsPackageFault T held m id before now v) (sym is) (record { of = p; text = text; at = at; read = read; fault = h; memory = λ eq. cc })
 manifest-fault T held m id before now p text at read (manifest.Field name path) e is h = subst (λ v. IsPackageFault T held m id before now v) (sym is) (record { of = p; text = text; at = at; read = read; fault = h; memory = λ eq. cc })
 
--- ---- earlier files, and files that are known to tell
+-- ---- earlier files, and files that are known to say what they hold
 
 module _ (T U : Type 0) (a b : Contents) (to : U → T) (keep : U → KeepsAll a b) (m : MetadataRecord) where
   pub of-earlier : (id : ℕ) (x : Manifest) → IsOfMember T b m id x → IsOfMember U a m id x
@@ -91,7 +91,7 @@ member-of T held m id p path text x at is read says = record {
 pub id-contained : (ms : List PackageId) (k : ℕ) (d : PackageId) → k < length ms → Contains (map place_at ms) (get_or ms k d).index
 id-contained ms k d lt = (k, omega (arith, lt, length-map ms place_at), get_or-map place_at ms k d (get_or ms k d).index lt)
 
--- one manifest more
+-- one more manifest
 pub each-more : (R : ℕ → Manifest → Type 0) (ms : List PackageId) (i : ℕ) (d : PackageId) (xs now : List Manifest) (x : Manifest) → i < length ms
     → AllZip R (map place_at (take i ms)) xs → R (get_or ms i d).index x → now ≡ xs ++ x ∷ [] → AllZip R (map place_at (take (i + 1) ms)) now
 each-more R ms i d xs now x lt before here push =

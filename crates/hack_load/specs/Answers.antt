@@ -1,4 +1,4 @@
--- What came of all that is asked for a call.
+-- The results of all questions of a call.
 use Rattle.std.specs.Prelude.{◌≡◌, ◌⊎◌, ℕ, true, List, Option, Result, Ok, Err, string_bytes}
 use Rattle.hack_base.specs.Names.{Name}
 use Rattle.hack_files.specs.Files.{Contents}
@@ -25,7 +25,7 @@ pub record IsLoaded (tells : Type 0) (held : Contents) (env : Env) (l : Loaded) 
   pub folder : string_bytes l.current_dir ≡ string_bytes env.current_dir
   pub manifests : AreOfMembers tells held (metadata_view l.metadata) l.manifests.items
 
--- a fault of the question for metadata
+-- an error of the question for metadata as an error of the call
 abbrev pub IsAskFault : AskFault → ContextFault → Type 0
 IsAskFault ask.Memory e = e ≡ faults.Memory
 IsAskFault ask.NoHost e = e ≡ faults.Asked ask.NoHost
@@ -34,16 +34,16 @@ IsAskFault (ask.Files f) e = e ≡ faults.Asked (ask.Files f)
 IsAskFault (ask.Output text) e = e ≡ faults.Asked (ask.Output text)
 IsAskFault (ask.Field name) e = e ≡ faults.Asked (ask.Field name)
 
--- `held` is what the files held before, where they tell it, and so many of their calls had failed before and behind
+-- `held` is what the files held before, where they say it; `before` and `now` count failed calls
 module _ (tells : Type 0) (args : Args) (env : Env) (held : Contents) (before now : ℕ) where
-  -- after the metadata the manifests were read, and cargo told where the call stands, and just that was loaded; or a fault ended it
+  -- manifests were read, the current one asked for, and just that was loaded; or an error ended it
   abbrev pub Follows : Metadata → List Call → List Call → Result Loaded ContextFault → Type 0
   Follows m mid new (Ok l) = (l.metadata ≡ m) × IsLocated args env mid new l.located × IsLoaded tells held env l
   Follows m mid new (Err e) = ((new ≡ mid) × IsMemberFault tells held (metadata_view m) before now e)
       ⊎ ((xs : List Manifest) × AreOfMembers tells held (metadata_view m) xs
       × FailsLocate (Unit {0}) (locate args env) (string_bytes env.current_dir) mid new e)
 
-  -- the question for metadata ended in a fault, and nothing followed it
+  -- the question for metadata ended in an error, and nothing followed it
   pub record HasNone (minor : ℕ) (host : Option Name) (old new : List Call) (r : Result Loaded ContextFault) : Type 0 where
     pub asked : AskFault
     pub fault : ContextFault
@@ -51,25 +51,25 @@ module _ (tells : Type 0) (args : Args) (env : Env) (held : Contents) (before no
     pub of : IsAskFault asked fault
     pub is : r ≡ Err fault
 
-  -- it was answered, and the other questions followed
+  -- the question for metadata was answered, and the other questions followed
   pub record HasSome (minor : ℕ) (host : Option Name) (old new : List Call) (r : Result Loaded ContextFault) : Type 0 where
     pub metadata : Metadata
     pub mid : List Call
     pub ends : Ends tells (question args env minor host) held old mid (Ok metadata)
     pub follows : Follows metadata mid new r
 
-  -- the questions behind that on the version
+  -- the questions after the one for the version
   abbrev pub LoadsTo : ℕ → Option Name → List Call → List Call → Result Loaded ContextFault → Type 0
   LoadsTo minor host old new r = HasNone minor host old new r ⊎ HasSome minor host old new r
 
--- the questions of a call in their order, with what came of each; none follows one that ended them
+-- the questions of a call in their order, with the result of each; none follows one that ended them
 pub record AreAsked (tells : Type 0) (args : Args) (env : Env) (held : Contents) (before now : ℕ) (old new : List Call) (a : Answers) : Type 0 where
   pub host : Option Name
   pub mid : List Call
   pub own : IsSelf args env (told_version a.cargo_version) host old mid
   pub loads : LoadsTo tells args env held before now (minor_told (told_version a.cargo_version)) host mid new a.loaded
 
--- the same; or memory ran out at the first question
+-- the same; or memory was refused at the first question
 abbrev pub AreAnswers : Type 0 → Args → Env → Contents → ℕ → ℕ → List Call → List Call → Answers → Type 0
 AreAnswers tells args env held before now old new a =
     AreAsked tells args env held before now old new a

@@ -1,4 +1,5 @@
--- The candidates of a package: its features, its optional dependencies, and the features of its dependencies.
+-- The candidates of a package: its features, its optional dependencies, and the features of its
+-- dependencies.
 use Rattle.std.specs.Prelude.{◌≡◌, ℕ, Bool, true, not, ◌&&◌, List, [], ◌∷◌, ◌++◌, map, filter, Option, None, codes, is_some, is_none, option_map, slice_get, unwrap_or, if◌then◌else◌}
 use Rattle.std.specs.List.{find, flat_map, list_any}
 use Rattle.std.specs.Map.{keys_of, lookup}
@@ -18,7 +19,7 @@ names_dep dep value = bytes_eq (codes "dep:" ++ dep) value
 abbrev pub is_named : FeatureMap → Name → Bool
 is_named m dep = list_any (λ e. list_any (names_dep dep) e.1) m
 
--- the dependency is a feature by itself: no feature of the map has its name, and no value names it by `dep:`
+-- the dependency is a feature by itself: no key has its name, and no value names it by `dep:`
 abbrev pub is_implicit : FeatureMap → Name → Bool
 is_implicit m dep = not (is_some (lookup (bytes_eq dep) m)) && not (is_named m dep)
 
@@ -41,7 +42,7 @@ is_normal k = is_none k.kind && is_none k.target
 abbrev pub name_in : DependencyRecord → Name
 name_in d = unwrap_or d.rename d.name
 
--- the name by which dependencies know a package: that of the first of its name
+-- the name that dependencies use for a package: that of the first one with the package's name
 abbrev pub known_as : List DependencyRecord → Name → Option Name
 known_as ds name = option_map name_in (find (λ d. bytes_eq d.name name) ds)
 
@@ -53,7 +54,7 @@ Path = Name × Name
 abbrev pub paths_to : Name → FeatureMap → List Path
 paths_to dep m = map (λ feature. (dep, feature)) (keys_of m)
 
--- the features of a package, where dependencies know it
+-- the features of a package, where one of the dependencies names it
 abbrev pub paths_in : List DependencyRecord → PackageRecord → List Path
 paths_in ds p = unwrap_or (option_map (λ dep. paths_to dep p.features) (known_as ds p.name)) []
 

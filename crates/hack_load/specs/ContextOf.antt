@@ -1,4 +1,4 @@
--- The context that answers make, and why they make none.
+-- The context that is made of answers, and why none can be made.
 use Rattle.std.specs.Prelude.{◌≡◌, ◌≢◌, ◌⊎◌, ◌<◌, ◌∷◌, [], ℕ, Bool, true, List, Some, None, Result, Ok, Err, Contains, string_bytes}
 use Rattle.hack_base.specs.Names.{Name}
 use Rattle.hack_features.specs.FeatureMap.{feature_map}
@@ -28,7 +28,7 @@ AreFeatures m asked [] [] [] = Unit {0}
 AreFeatures m asked (id ∷ ids) (x ∷ xs) (f ∷ fs) = AreCandidates m (feature_map x.features) id asked f × AreFeatures m asked ids xs fs
 AreFeatures m asked ids xs fs = ⊥
 
--- the call stands in the first member whose manifest was told
+-- the current package is the first member at the manifest that cargo reported
 pub record IsCurrent (l : Loaded) (cx : ContextRecord) : Type 0 where
   pub root : Name
   pub told : root_in (string_bytes l.located.text) ≡ Some root
@@ -49,21 +49,21 @@ pub record IsContextOf (given : Args) (minor : ℕ) (l : Loaded) (cx : ContextRe
 abbrev pub IsContextFrom : Args → Answers → ContextRecord → Type 0
 IsContextFrom args a cx = (l : Loaded) × (a.loaded ≡ Ok l) × IsContextOf args (minor_told (told_version a.cargo_version)) l cx
 
--- the node of some member is missing, and the fault names that
+-- the node of some member is asked for and missing, and the error names that
 abbrev pub IsNodeFault : MetadataRecord → Bool → MetadataFault → Type 0
 IsNodeFault m asked e = (e ≢ metadata.Memory) × ((id : ℕ) × Contains m.workspace_members id × IsRefusal m id asked e)
 
--- a fault of the candidates
+-- an error of the candidates as an error of the call
 abbrev pub IsOfNode : MetadataFault → ContextFault → Type 0
 IsOfNode metadata.Memory e = e ≡ faults.Memory
 IsOfNode (metadata.Field name) e = e ≡ faults.Metadata (metadata.Field name)
 IsOfNode metadata.Json e = e ≡ faults.Metadata metadata.Json
 
--- cargo can't tell which dependencies are normal ones, and that is asked
+-- cargo doesn't report which dependencies are normal ones, and this is asked
 abbrev pub IsTooOld : Bool → ℕ → Type 0
 IsTooOld asked minor = (asked ≡ true) × (minor < 41)
 
--- why what was loaded makes no context
+-- why no context can be made of what was loaded
 abbrev pub IsLoadCause : Args → Loaded → ContextFault → Type 0
 IsLoadCause args l faults.OldCargo = IsTooOld args.include_deps_features l.metadata.cargo_version
 IsLoadCause args l (faults.Metadata e) = IsNodeFault (metadata_view l.metadata) args.include_deps_features e
@@ -75,11 +75,11 @@ IsLoadCause args l (faults.Files e) = ⊥
 IsLoadCause args l (faults.Manifest e) = ⊥
 IsLoadCause args l (faults.Process e) = ⊥
 
--- why answers make no context: a fault ended the questions, or what they loaded makes none
+-- why no context is made of answers: an error ended the questions, or what was loaded makes none
 abbrev pub IsCause : Args → Answers → ContextFault → Type 0
 IsCause args a e = (a.loaded ≡ Err e) ⊎ ((l : Loaded) × (a.loaded ≡ Ok l) × IsLoadCause args l e)
 
--- the warning that cargo's version can't be told
+-- the warning that cargo's version can't be determined, where it can't
 abbrev pub warnings_of : Result ℕ Name → List Note
 warnings_of (Ok minor) = []
 warnings_of (Err warning) = record { kind = Warn; text = warning } ∷ []

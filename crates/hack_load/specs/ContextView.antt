@@ -24,6 +24,6 @@ context_of args metadata manifests features cargo minor dir current = record {
   current_package = option_map place_at current;
 }
 
--- a context
+-- a context as plain data
 abbrev pub context_view : Context → ContextRecord
 context_view c = context_of c.args c.metadata c.manifests.items c.features.items c.cargo c.cargo_version c.current_dir c.current_package

@@ -10,7 +10,7 @@ use Rattle.hack_load.specs.declared.features.Features.{Features}
 
 -- all that is loaded for one call; a package is known by its place in the metadata
 pub record ContextRecord : Type 0 where
-  -- what the words of the call ask for
+  -- what the arguments of the call ask for
   pub args : Args
   pub metadata : MetadataRecord
   -- one for each member of the workspace, in their order
@@ -20,7 +20,7 @@ pub record ContextRecord : Type 0 where
   pub cargo : Name
   pub cargo_version : ℕ
   pub current_dir : Name
-  -- the package that the call stands in
+  -- the current package
   pub current_package : Option ℕ
 
 -- the place of a member among the members
@@ -32,7 +32,7 @@ abbrev pub is_among : List ℕ → Option ℕ → Bool
 is_among members None = true
 is_among members (Some id) = nat_lt (place_among members id) (length members)
 
--- the package
+-- the package with an id
 abbrev pub package_at : ContextRecord → ℕ → Option PackageRecord
 package_at cx id = slice_get cx.metadata.packages id
 
@@ -59,12 +59,12 @@ publish_in m = m.package.publish
 abbrev pub version_in : Manifest → Option Name
 version_in m = option_and_then (λ v. optional_text v) m.package.rust_version
 
--- publishing is told, and denied
+-- publishing is stated, and denied
 abbrev pub denies : Option Bool → Bool
 denies None = false
 denies (Some publish) = not publish
 
--- what is told of publishing: cargo tells it from 1.39 on, and below the manifest does
+-- what is known of publishing: cargo reports it from 1.39 on; for an older one the manifest says it
 abbrev pub publish_at : ContextRecord → ℕ → Option Bool
 publish_at cx id = if nat_lt cx.metadata.cargo_version 39 then option_and_then publish_in (manifest_at cx id) else option_map (λ p. p.publish) (package_at cx id)
 
@@ -72,15 +72,15 @@ publish_at cx id = if nat_lt cx.metadata.cargo_version 39 then option_and_then p
 abbrev pub is_private_at : ContextRecord → ℕ → Bool
 is_private_at cx id = denies (publish_at cx id)
 
--- the `rust-version` of a member: cargo tells it from 1.58 on, and below the manifest does
+-- a member's `rust-version`: cargo reports it from 1.58 on; for an older one the manifest says it
 abbrev pub rust_version_at : ContextRecord → ℕ → Option Name
 rust_version_at cx id = if nat_lt cx.metadata.cargo_version 58 then option_and_then version_in (manifest_at cx id) else option_and_then (λ p. p.rust_version) (package_at cx id)
 
--- a name, with a folder behind it where one is shown
+-- a name, with a folder after it where one is shown
 abbrev pub shown_name : Name → Option Name → Name
 shown_name name None = name
 shown_name name (Some folder) = name ++ (codes " (" ++ (folder ++ codes ")"))
 
--- a package's name; in a verbose call the folder of its manifest stands behind it
+-- a package's name; in a verbose call the folder of its manifest follows
 abbrev pub verbose_name : Bool → PackageRecord → Name
 verbose_name verbose p = if verbose then shown_name p.name (Some (parent_of p.manifest_path)) else shown_name p.name None

@@ -1,4 +1,4 @@
--- Features as values of the code.
+-- The features in the code, compared with plain data.
 use Rattle.std.specs.Prelude.{◌≡◌, ℕ, Bool, List, ◌++◌, map, codes}
 use Rattle.std.specs.List.{AllZip}
 use Rattle.std.specs.Cmp.Lexicographic.{slice_cmp}
@@ -23,7 +23,7 @@ AreNormals names fs = AllZip IsNormal names fs
 abbrev pub ArePaths : List Path → List Feature → Type 0
 ArePaths paths fs = AllZip (λ path f. IsPath path.0 path.1 f) paths fs
 
--- these features stand behind others, one for each path, in order
+-- features were added after others, one for each path, in order
 abbrev pub AddsPaths : List Path → List Feature → List Feature → Type 0
 AddsPaths paths old new = (before : List Path) → ArePaths before old → ArePaths (before ++ paths) new
 
@@ -31,7 +31,7 @@ AddsPaths paths old new = (before : List Path) → ArePaths before old → ArePa
 abbrev pub texts_of : List Feature → List Name
 texts_of fs = map name_of fs
 
--- each name stands before all later ones, in the order of bytes
+-- the names strictly increase, in the order of bytes
 abbrev pub IsRising : List Name → Type 0
 IsRising names = IsStrictlySortedBy (slice_cmp nat_cmp) names
 
@@ -45,7 +45,7 @@ pub record AreCandidates (m : MetadataRecord) (features : FeatureMap) (at : ℕ)
   pub optional : AreNormals (optional_names features (dependencies_at m.packages at)) fs.optional_deps.items
   pub of_deps : ArePaths (paths_at m at asked) fs.deps_features.items
 
--- memory ran out, or the node that is asked for is missing, and the fault names `nodes`
+-- memory was refused, or the node that is asked for is missing, and the error names `nodes`
 abbrev pub IsRefusal : MetadataRecord → ℕ → Bool → MetadataFault → Type 0
 IsRefusal m at asked faults.Memory = Unit {0}
 IsRefusal m at asked (faults.Field name) = (name.now ≡ codes "nodes") × MissesNode m at asked

@@ -20,12 +20,12 @@ name_at cx id = unwrap_or (option_map (λ p. p.name) (package_at cx id)) (codes 
 abbrev pub given_features : ContextRecord → List Name
 given_features cx = names_of cx.args.features.items
 
--- those that a command gets: unknown ones may be left out, where it is for a package
+-- the features that a command gets: where it is for a package, unknown ones may be left out
 abbrev pub passed_for : ContextRecord → Option ℕ → List Name
 passed_for cx None = given_features cx
 passed_for cx (Some id) = if cx.args.ignore_unknown_features then filter (knows cx id) (given_features cx) else given_features cx
 
--- a feature is left out
+-- the notice that a feature is left out
 abbrev pub left_out : Name → Name → Note
 left_out of name = record { kind = Info; text = codes "skipped applying unknown `" ++ (name ++ (codes "` feature to " ++ of)) }
 

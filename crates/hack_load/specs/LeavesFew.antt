@@ -1,4 +1,4 @@
--- What the questions of a call leave of the files.
+-- What the files hold after the questions of a call.
 use Rattle.std.specs.Prelude.{◌≡◌, ◌⊎◌, ℕ, List, Contains, Result, Ok, Err, length}
 use Rattle.hack_base.specs.Names.{Name}
 use Rattle.hack_files.specs.Files.{Contents, GrowsBy, KeepsAll}
@@ -14,7 +14,7 @@ pub record LeavesFew (tells : Type 0) (old new : Contents) (before now : ℕ) : 
 abbrev pub MayFail : Type 0 → Contents → Contents → ℕ → ℕ → Type 0
 MayFail tells old new before now = Whole tells old new before now ⊎ (GrowsBy 1 before now × (tells → KeepsAll old new))
 
--- files that are read: at most the last call failed
+-- files were only read: without an error no call failed, and with one at most one
 abbrev pub ReadsOnly : {X E : Type 0} → Type 0 → Contents → Contents → ℕ → ℕ → Result X E → Type 0
 ReadsOnly tells old new before now (Ok x) = Whole tells old new before now
 ReadsOnly tells old new before now (Err e) = MayFail tells old new before now

@@ -1,4 +1,4 @@
--- What cargo is asked for a call, and what counts as its answers.
+-- What cargo is asked for a call, and how its answers are read.
 use Rattle.std.specs.Prelude.{◌≡◌, ◌≢◌, ◌⊎◌, ◌++◌, ◌∷◌, [], ℕ, true, List, Option, Some, None, Result, Ok, Err, Contains, codes, slice_get, string_bytes}
 use Rattle.std.specs.List.{AllZip}
 use Rattle.std.proofs.Common.{Global, String}
@@ -32,35 +32,35 @@ use Rattle.hack_load.specs.declared.located.Located.{Located}
 
 -- ---- cargo's own version
 
--- cargo is asked for its version
+-- the command that asks cargo for its version
 abbrev pub self_command : Name → Command
 self_command cargo = command_line cargo (codes "-vV" ∷ [])
 
--- the warning that it can't be told
+-- the warning that the version can't be determined
 abbrev pub unknown_version : Name → Name
 unknown_version reason = codes "unable to determine cargo version: " ++ reason
 
--- a version, or the warning
+-- a minor version, or the warning, as plain data
 abbrev pub told_version : Result ℕ (String Global) → Result ℕ Name
 told_version (Ok minor) = Ok minor
 told_version (Err warning) = Err (string_bytes warning)
 
--- a version, or 0
+-- a minor version, or 0 where there is a warning
 abbrev pub minor_told : Result ℕ Name → ℕ
 minor_told (Ok minor) = minor
 minor_told (Err warning) = 0
 
--- the minor version that an answer tells, or the warning, where the command is shown so
+-- the minor version in an answer, or the warning, which shows the command as `shown`
 abbrev pub TellsVersion : Name → Name → Result ℕ Name → Type 0
 TellsVersion shown text (Ok minor) = (v : Version) × TellsRelease (release_part text) v × (minor ≡ v.minor)
 TellsVersion shown text (Err warning) = (e : VersionTextFault) × IsAnswerFault text (release_part text) e × (warning ≡ unknown_version (answer_fault_text shown e))
 
--- what cargo tells of itself in a text
+-- the version and the host in an answer of cargo
 pub record TellsSelf (shown text : Name) (version : Result ℕ Name) (host : Option Name) : Type 0 where
   pub tells : TellsVersion shown text version
   pub named : host ≡ host_of text
 
--- cargo can't be had to tell of itself
+-- asking cargo for its version failed, but not for memory: a warning, and no host
 pub record FailsSelf (e : ProcessFault) (version : Result ℕ Name) (host : Option Name) : Type 0 where
   pub memory : e ≢ process.Memory
   pub warns : version ≡ Err (unknown_version (fault_text e))
@@ -70,7 +70,7 @@ pub record FailsSelf (e : ProcessFault) (version : Result ℕ Name) (host : Opti
 abbrev pub shown_self : Args → Env → Name
 shown_self args env = text_of args.verbose (string_bytes env.current_dir) (self_command (string_bytes env.cargo))
 
--- cargo was asked for its version, and this came of it
+-- cargo was asked for its version, and this is the result
 abbrev pub IsSelf : Args → Env → Result ℕ Name → Option Name → List Call → List Call → Type 0
 IsSelf args env version host old new =
     ((text : Name) × Reads (self_command (string_bytes env.cargo)) text old new × TellsSelf (shown_self args env) text version host)
@@ -78,7 +78,7 @@ IsSelf args env version host old new =
 
 -- ---- manifests
 
--- a member's manifest keeps the text of its file, and says what that is read as
+-- a member's manifest has the text of its file, and what is read from that
 pub record IsOfMember (tells : Type 0) (held : Contents) (m : MetadataRecord) (id : ℕ) (x : Manifest) : Type 0 where
   pub of : PackageRecord
   pub at : slice_get m.packages id ≡ Some of
@@ -105,7 +105,7 @@ pub record IsIllFormed (tells : Type 0) (held : Contents) (m : MetadataRecord) (
   pub fault : IsRefusal of.manifest_path text m.cargo_version e
   pub memory : e ≢ manifest.Memory
 
--- why the manifest of a package isn't had; or memory ran out
+-- why the manifest of a package can't be read; or memory was refused
 abbrev pub IsPackageFault : Type 0 → Contents → MetadataRecord → ℕ → ℕ → ℕ → ContextFault → Type 0
 IsPackageFault tells held m id before now faults.Memory = Unit {0}
 IsPackageFault tells held m id before now (faults.Files e) = CantRead tells held m id before now e
@@ -117,26 +117,26 @@ IsPackageFault tells held m id before now (faults.Metadata e) = ⊥
 IsPackageFault tells held m id before now (faults.NotJson text) = ⊥
 IsPackageFault tells held m id before now faults.Root = ⊥
 
--- why that of some member isn't had; or memory ran out
+-- why the manifest of some member can't be read; or memory was refused
 abbrev pub IsMemberFault : Type 0 → Contents → MetadataRecord → ℕ → ℕ → ContextFault → Type 0
 IsMemberFault tells held m before now e = (e ≡ faults.Memory) ⊎ ((id : ℕ) × Contains m.workspace_members id × IsPackageFault tells held m id before now e)
 
--- a fault of a file
+-- an error of a file as an error of the call
 abbrev pub IsOfFile : FsFault → ContextFault → Type 0
 IsOfFile fs.Memory e = e ≡ faults.Memory
 IsOfFile (fs.Read path) e = e ≡ faults.Files (fs.Read path)
 IsOfFile (fs.Write path) e = e ≡ faults.Files (fs.Write path)
 IsOfFile (fs.NotText path) e = e ≡ faults.Files (fs.NotText path)
 
--- a fault of a manifest
+-- an error of a manifest as an error of the call
 abbrev pub IsOfManifest : ManifestFault → ContextFault → Type 0
 IsOfManifest manifest.Memory e = e ≡ faults.Memory
 IsOfManifest (manifest.Toml path) e = e ≡ faults.Manifest (manifest.Toml path)
 IsOfManifest (manifest.Field name path) e = e ≡ faults.Manifest (manifest.Field name path)
 
--- ---- where the call stands
+-- ---- the current manifest
 
--- cargo is asked for the manifest that a call stands at
+-- the command that asks cargo for the current manifest
 abbrev pub locate_command : Name → Option Name → Command
 locate_command cargo path = command_line cargo (codes "locate-project" ∷ path_words path)
 
@@ -144,7 +144,7 @@ locate_command cargo path = command_line cargo (codes "locate-project" ∷ path_
 abbrev pub locate : Args → Env → Command
 locate args env = locate_command (string_bytes env.cargo) (optional_text args.manifest_path)
 
--- cargo can't be had to tell where the call stands; or memory ran out
+-- asking cargo for the current manifest failed; or memory was refused
 abbrev pub FailsLocate : Type 0 → Command → Name → List Call → List Call → ContextFault → Type 0
 FailsLocate tells c dir old new faults.Memory = tells → MayAdd (asked_of true c) old new
 FailsLocate tells c dir old new (faults.Process e) = IsReadFault tells (asked_of true c) (text_of true dir c) old new e × (e ≢ process.Memory)
@@ -156,7 +156,7 @@ FailsLocate tells c dir old new (faults.Metadata e) = ⊥
 FailsLocate tells c dir old new (faults.NotJson text) = ⊥
 FailsLocate tells c dir old new faults.Root = ⊥
 
--- a fault of the command
+-- an error of the command as an error of the call
 abbrev pub IsOfProcess : ProcessFault → ContextFault → Type 0
 IsOfProcess process.Memory e = e ≡ faults.Memory
 IsOfProcess process.EmptyProgram e = e ≡ faults.Process process.EmptyProgram
@@ -164,7 +164,7 @@ IsOfProcess (process.NeverExecuted text) e = e ≡ faults.Process (process.Never
 IsOfProcess (process.Failed failure) e = e ≡ faults.Process (process.Failed failure)
 IsOfProcess (process.NotText text) e = e ≡ faults.Process (process.NotText text)
 
--- what cargo told of it, with the command as it is shown
+-- the answer of cargo, with the command as it is shown
 pub record IsLocated (args : Args) (env : Env) (old new : List Call) (l : Located) : Type 0 where
   pub shown : string_bytes l.command ≡ text_of args.verbose (string_bytes env.current_dir) (locate args env)
   pub reads : Reads (locate args env) (string_bytes l.text) old new

@@ -1,4 +1,4 @@
--- The package that a call stands in.
+-- The current package of a call.
 use Rattle.std.specs.Prelude.{ℕ, Bool, false, List, Option, codes, option_and_then, option_map, slice_get, unwrap_or}
 use Rattle.std.specs.List.{find}
 use Rattle.std.specs.Str.{bytes_eq}
@@ -12,7 +12,7 @@ use Rattle.hack_metadata.specs.Records.{PackageRecord, MetadataRecord}
 abbrev pub root_at : Members → Option Name
 root_at ms = option_and_then as_str (get_member (codes "root") ms)
 
--- the same of the object that a text is
+-- the same of the JSON object that a text is
 abbrev pub root_in : List ℕ → Option Name
 root_in text = option_and_then root_at (object_in_text text)
 

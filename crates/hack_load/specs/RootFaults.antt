@@ -1,4 +1,4 @@
--- Why no manifest's path is told.
+-- Why the answer of `cargo locate-project` has no manifest's path.
 use Rattle.std.specs.Prelude.{◌≡◌, ℕ, List, Some, None, string_bytes}
 use Rattle.serde_json.specs.Data.{Members}
 use Rattle.hack_base.specs.Names.{Name}
@@ -7,13 +7,13 @@ use Rattle.hack_load.specs.Located.{root_at}
 use Rattle.hack_load.specs.declared.fault.ContextFault.{ContextFault}
 use Rattle.hack_load.specs.declared.fault.ContextFault.TheVariants as faults
 
--- an object of JSON without a text at `root`
+-- the text is a JSON object without a text at `root`
 pub record LacksRoot (text : List ℕ) : Type 0 where
   pub members : Members
   pub object : object_in_text text ≡ Some members
   pub root : root_at members ≡ None
 
--- the fault shows the command, unless memory ran out
+-- the error shows the command, unless memory was refused
 abbrev pub IsNotJson : Name → ContextFault → Type 0
 IsNotJson command faults.Memory = Unit {0}
 IsNotJson command (faults.NotJson shown) = string_bytes shown ≡ command
@@ -25,7 +25,7 @@ IsNotJson command faults.OldCargo = ⊥
 IsNotJson command (faults.Metadata e) = ⊥
 IsNotJson command faults.Root = ⊥
 
--- the answer to a command is no object of JSON, and the fault shows the command; or it lacks `root`; or memory ran out
+-- the answer is no JSON object, and the error shows the command; or it has no `root`; or `Memory`
 abbrev pub IsRefusal : Name → List ℕ → ContextFault → Type 0
 IsRefusal command text faults.Memory = Unit {0}
 IsRefusal command text (faults.NotJson shown) = (string_bytes shown ≡ command) × (object_in_text text ≡ None)

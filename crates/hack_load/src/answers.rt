@@ -1,5 +1,5 @@
-//! The questions of a call, before its context is put together: cargo's version, the metadata of
-//! the workspace, the manifests of its members, and where the call stands.
+//! The questions of a call, before its context is made: cargo's version, the metadata of the
+//! workspace, the manifests of its members, and the current manifest.
 
 ghost use Rattle.std.specs.Prelude.{◌≡◌, Err, IfOk, OnOk, option_copied};
 ghost use Rattle.hack_files.specs.Restore.{registered_files};
@@ -19,19 +19,19 @@ use hack_process::process::Caller;
 use hack_words::cli::{Args, Env};
 use std::alloc::{AllocError, Global};
 
-/// What came of the questions of a call.
+/// The answers to the questions of a call.
 #[derive(Drop)]
 pub struct Answers {
-    /// Cargo's own minor version, or the warning that it can't be told.
+    /// Cargo's own minor version, or the warning that it can't be determined.
     pub cargo_version: Result<u32, String>,
-    /// The rest, or the fault that ended the questions.
+    /// The rest, or the error that ended the questions.
     pub loaded: Result<Loaded, ContextFault>,
 }
 
 impl Answers {
-    /// Asks cargo for its version, has it or stable's cargo tell the metadata, reads the manifest
-    /// of each member, and asks cargo where the call stands. A fault but that of the version ends
-    /// the questions, and so does want of memory.
+    /// Asks cargo for its version, asks it or stable's cargo for the metadata, reads the manifest
+    /// of each member, and asks cargo for the current manifest. An error ends the questions, unless
+    /// it is one of the version; where memory is refused, they always end.
     pub fn ask<C: Caller, F: Files>(
         alloc: Global,
         args: &Args,
@@ -66,7 +66,7 @@ impl Answers {
     }
 }
 
-/// Memory ran out before anything was told.
+/// The answers where memory was refused at the first question.
 fn out_of_memory() -> Answers
     ensures { result.loaded ≡ Err ContextFault.Memory }
 {
@@ -105,7 +105,7 @@ fn load<C: Caller, F: Files>(
     }
 }
 
-/// Asks for the rest, where these are the metadata.
+/// Asks for what follows the metadata.
 fn load_behind<C: Caller, F: Files>(
     alloc: Global,
     args: &Args,

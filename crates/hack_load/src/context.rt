@@ -1,5 +1,5 @@
-//! All that is loaded for one call: what its words ask for, what cargo tells of the workspace, the
-//! manifest and the candidates of each member, and where the call stands.
+//! All that is loaded for one call: what its arguments ask for, what cargo reports of the
+//! workspace, the manifest and the candidates of each member, and the current package.
 
 ghost use Rattle.std.specs.Prelude.{◌≡◌, ◌<◌, ◌⊎◌, ◌↔◌, [], ℕ, true};
 ghost use Rattle.std.specs.Prelude.{Contains, Some, IfOk, IfErr, IsTrue, OnOk};
@@ -56,7 +56,7 @@ pub struct Context {
 impl Context {
     ghost use Rattle.hack_load.specs.ContextView.{context_view};
 
-    /// Puts together what was loaded. The notices tell that cargo's version isn't known.
+    /// Makes the context of what was loaded. The notices say where cargo's version isn't known.
     pub fn new(
         alloc: Global,
         args: Args,
@@ -84,7 +84,7 @@ impl Context {
         }
     }
 
-    /// The context of what was loaded, where cargo's own minor version is this.
+    /// Makes the context of what was loaded. `minor` is the minor version of cargo itself.
     fn of(alloc: Global, args: Args, minor: u32, loaded: Loaded) -> Result<Context, ContextFault>
         ensures ok { IfOk result (λ cx. IsContextOf args minor loaded (context_view cx)) }
         ensures never { IfOk result (λ _. (e : ContextFault) → ¬ IsLoadCause args loaded e) }
@@ -122,14 +122,14 @@ impl Context {
         })
     }
 
-    /// What the words of the call ask for.
+    /// Returns what the arguments of the call ask for.
     pub fn args(&self) -> &Args
         ensures { result.now ≡ (context_view self.now).args }
     {
         &self.args
     }
 
-    /// What cargo tells of the workspace.
+    /// Returns what cargo reports of the workspace.
     pub fn metadata(&self) -> &Metadata
         ensures { metadata_view result.now ≡ (context_view self.now).metadata }
     {
@@ -152,14 +152,15 @@ impl Context {
         self.metadata.workspace_root.as_str()
     }
 
-    /// The member of the workspace that the call stands in, if there is one.
+    /// Returns the current package, the member at the manifest that `cargo locate-project` reports,
+    /// if there is one.
     pub fn current_package(&self) -> Option<PackageId>
         ensures { option_map place_at result ≡ (context_view self.now).current_package }
     {
         self.current_package
     }
 
-    /// The program to run as cargo, as a command without words.
+    /// Returns the program to run as cargo, as a command without arguments.
     pub fn cargo<'a>(&self, alloc: Global) -> Result<ProcessBuilder<'a>, AllocError>
         ensures { IfOk result (λ builder.
             command_of builder ≡ command_line (context_view self.now).cargo []) }
@@ -167,8 +168,8 @@ impl Context {
         ProcessBuilder::new(alloc, self.cargo.as_str())
     }
 
-    /// The minor version of that cargo itself, 0 where it isn't known. That of the cargo which told
-    /// the metadata may be newer.
+    /// Returns the minor version of that cargo itself, 0 where it isn't known. The cargo that
+    /// reported the metadata may be newer.
     pub fn cargo_version(&self) -> u32
         ensures { result ≡ (context_view self.now).cargo_version }
     {
@@ -206,8 +207,8 @@ impl Context {
         &self.features[place_of(&self.metadata.workspace_members, id)]
     }
 
-    /// Whether a member may not be published. Cargo tells it from 1.39 on, and below the manifest
-    /// does.
+    /// Returns whether a member may not be published. Cargo reports it from 1.39 on; for an older
+    /// one the manifest says it.
     pub fn is_private(&self, id: PackageId) -> bool
         requires { Contains (context_view self.now).metadata.workspace_members id.index }
         ensures { result ≡ is_private_at (context_view self.now) id.index }
@@ -221,8 +222,8 @@ impl Context {
         }
     }
 
-    /// The `rust-version` of a member, as it is written. Cargo tells it from 1.58 on, and below the
-    /// manifest does.
+    /// Returns the `rust-version` of a member, as it is written. Cargo reports it from 1.58 on; for
+    /// an older one the manifest says it.
     pub fn rust_version(&self, id: PackageId) -> Option<&str>
         requires { Contains (context_view self.now).metadata.workspace_members id.index }
         ensures { option_copied result ≡ rust_version_at (context_view self.now) id.index }
@@ -236,7 +237,7 @@ impl Context {
         }
     }
 
-    /// The name of a package, in a verbose call with the folder of its manifest behind it.
+    /// Returns the name of a package, in a verbose call with the folder of its manifest after it.
     pub fn name_verbose(&self, id: PackageId) -> VerboseName<'_>
         requires { id.index < length (context_view self.now).metadata.packages }
         ensures { option_map (verbose_name (context_view self.now).args.verbose)
@@ -246,14 +247,15 @@ impl Context {
     }
 }
 
-/// Whether cargo is too old to tell which dependencies are normal ones, and that is asked.
+/// Returns whether cargo is too old to report which dependencies are normal ones, and that is
+/// asked.
 fn is_too_old(asked: bool, cargo_version: u32) -> bool
     ensures { IsTrue result ↔ IsTooOld asked cargo_version }
 {
     asked && cargo_version < 41
 }
 
-/// The notice that cargo's version isn't known.
+/// Returns the notice that cargo's version isn't known, or none where it is known.
 fn warnings(alloc: Global, version: Result<u32, String>) -> Result<Vec<Notice>, AllocError>
     ensures { IfOk result (λ notices.
         map note_of notices.items ≡ warnings_of (told_version version)) }
@@ -269,7 +271,7 @@ fn warnings(alloc: Global, version: Result<u32, String>) -> Result<Vec<Notice>, 
     }
 }
 
-/// The candidates of each member, by its manifest.
+/// Collects the candidates of each member, by its manifest.
 fn features_of(
     alloc: Global,
     metadata: &Metadata,
@@ -306,7 +308,7 @@ fn of_node(fault: MetadataFault) -> ContextFault
     }
 }
 
-/// The place of a member among the members, or their number.
+/// Returns the place of a member among the members, or their number where it is none of them.
 fn place_of(members: &[PackageId], id: PackageId) -> usize
     ensures { result ≡ place_among (map place_at members.now) id.index }
 {
@@ -318,7 +320,7 @@ fn place_of(members: &[PackageId], id: PackageId) -> usize
     members.len()
 }
 
-/// Whether publishing is told, and denied.
+/// Returns whether publishing is stated, and denied.
 fn denies(publish: Option<bool>) -> bool
     ensures { result ≡ denies publish }
 {

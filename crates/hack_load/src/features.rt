@@ -37,9 +37,9 @@ pub struct Features {
 }
 
 impl Features {
-    /// The features of a package whose manifest this is. Those of its dependencies come where
-    /// `include_deps_features` says so, and then its node must be there: else the fault names
-    /// `nodes`.
+    /// Collects the features of a package, whose manifest is given. Those of its dependencies are
+    /// included where `include_deps_features` is true. Then its node must be there, or else the
+    /// error names `nodes`.
     pub fn new(
         alloc: Global,
         metadata: &Metadata,
@@ -89,7 +89,7 @@ impl Features {
         self.deps_features.as_slice()
     }
 
-    /// Whether one of these features has the name.
+    /// Returns whether one of these features has the name.
     pub fn contains(&self, name: &str) -> bool
         ensures { IsTrue result ↔ Contains (texts_in self.now) name.now }
     {
@@ -100,7 +100,7 @@ impl Features {
     }
 }
 
-/// Whether one of the features has the name.
+/// Returns whether one of the features has the name.
 fn has_name(features: &[Feature], name: &str) -> bool
     ensures { result ≡ list_any (bytes_eq name.now) (texts_of features.now) }
 {
@@ -112,7 +112,7 @@ fn has_name(features: &[Feature], name: &str) -> bool
     false
 }
 
-/// The dependencies of a package.
+/// Returns the dependencies of a package.
 fn dependencies_of(metadata: &Metadata, id: PackageId) -> &[Dependency]
     ensures { map dependency_view result.now
         ≡ dependencies_at (map package_view metadata.now.packages.items) id.index }
@@ -123,7 +123,7 @@ fn dependencies_of(metadata: &Metadata, id: PackageId) -> &[Dependency]
     }
 }
 
-/// A feature for each key of a map.
+/// Makes a feature for each key of a map.
 fn normals(
     alloc: Global,
     features: &BTreeMap<String, Vec<String>>,
@@ -139,7 +139,7 @@ fn normals(
     Ok(found)
 }
 
-/// The optional dependencies that are features by themselves.
+/// Collects the optional dependencies that are features by themselves.
 fn optionals(
     alloc: Global,
     features: &BTreeMap<String, Vec<String>>,
@@ -159,15 +159,15 @@ fn optionals(
     Ok(found)
 }
 
-/// Whether a dependency is a feature by itself: no feature of the map has its name, and no value
-/// names it by `dep:`.
+/// Returns whether a dependency is a feature by itself: no feature of the map has its name, and no
+/// value names it by `dep:`.
 fn is_implicit(features: &BTreeMap<String, Vec<String>>, dep: &str) -> bool
     ensures { result ≡ is_implicit (feature_map features.now) dep.now }
 {
     !features.contains_key(dep) && !is_named(features, dep)
 }
 
-/// Whether a value of the map names the dependency by `dep:`.
+/// Returns whether a value of the map names the dependency by `dep:`.
 fn is_named(features: &BTreeMap<String, Vec<String>>, dep: &str) -> bool
     ensures { result ≡ is_named (feature_map features.now) dep.now }
 {
@@ -179,7 +179,7 @@ fn is_named(features: &BTreeMap<String, Vec<String>>, dep: &str) -> bool
     false
 }
 
-/// Whether one of the values names the dependency by `dep:`.
+/// Returns whether one of the values names the dependency by `dep:`.
 fn one_names(values: &[String], dep: &str) -> bool
     ensures { result ≡ list_any (names_dep dep.now) (names_of values.now) }
 {
@@ -191,7 +191,7 @@ fn one_names(values: &[String], dep: &str) -> bool
     false
 }
 
-/// Whether the value names the dependency by `dep:`.
+/// Returns whether the value names the dependency by `dep:`.
 fn names_dep(value: &str, dep: &str) -> bool
     ensures { result ≡ names_dep dep.now value.now }
 {
@@ -201,7 +201,7 @@ fn names_dep(value: &str, dep: &str) -> bool
     }
 }
 
-/// The features of the dependencies of a package, where they are asked for.
+/// Collects the features of the dependencies of a package, where they are asked for.
 fn paths(
     alloc: Global,
     metadata: &Metadata,
@@ -222,7 +222,7 @@ fn paths(
     }
 }
 
-/// The features of the dependencies of a node.
+/// Collects the features of the dependencies of a node.
 fn deps_paths(
     alloc: Global,
     metadata: &Metadata,
@@ -261,7 +261,7 @@ fn add_node_paths(
     }
 }
 
-/// Adds the features of a package, where dependencies know it.
+/// Adds the features of a package, where one of the dependencies names it.
 fn add_package_paths(
     alloc: Global,
     found: &mut Vec<Feature>,
@@ -277,7 +277,7 @@ fn add_package_paths(
     }
 }
 
-/// Adds the features of a dependency, each behind its name.
+/// Adds the features of a dependency, each as `dep/feature`.
 fn add_paths(
     alloc: Global,
     found: &mut Vec<Feature>,
@@ -293,7 +293,7 @@ fn add_paths(
     Ok(())
 }
 
-/// Whether one of the kinds is that of a normal dependency, for every target.
+/// Returns whether one of the kinds is that of a normal dependency, for every target.
 fn one_is_normal(kinds: &[DepKindInfo]) -> bool
     ensures { result ≡ list_any is_normal (map kind_view kinds.now) }
 {
@@ -305,15 +305,15 @@ fn one_is_normal(kinds: &[DepKindInfo]) -> bool
     false
 }
 
-/// Whether the kind is that of a normal dependency, for every target.
+/// Returns whether the kind is that of a normal dependency, for every target.
 fn is_normal(kind: &DepKindInfo) -> bool
     ensures { result ≡ is_normal (kind_view kind.now) }
 {
     kind.kind.is_none() && kind.target.is_none()
 }
 
-/// The name by which the dependencies know a package: the rename of the first of that name, else
-/// its name.
+/// Returns the name that the dependencies use for a package: the rename of the first one with the
+/// package's name, or else that name.
 fn known_as<'a>(dependencies: &'a [Dependency], name: &str) -> Option<&'a str>
     ensures { option_copied result ≡ known_as (map dependency_view dependencies.now) name.now }
 {
@@ -325,7 +325,7 @@ fn known_as<'a>(dependencies: &'a [Dependency], name: &str) -> Option<&'a str>
     None
 }
 
-/// The name that the manifest gives a dependency.
+/// Returns the name that the manifest gives a dependency.
 fn name_in_manifest(dependency: &Dependency) -> &str
     ensures { result.now ≡ name_in (dependency_view dependency.now) }
 {

@@ -1,5 +1,5 @@
-//! What is loaded for one call: the features of packages that sets are made of, and the package
-//! that the call stands in.
+//! What is loaded for one call: the features of packages that sets are made of, and the current
+//! package.
 #![tactic(auto)]
 
 mod answers;

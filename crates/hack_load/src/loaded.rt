@@ -1,4 +1,4 @@
-//! What was loaded for a call, before it is put together.
+//! What was loaded for a call, before its context is made.
 
 ghost use Rattle.std.specs.Prelude.{◌≡◌, length};
 

@@ -1,4 +1,4 @@
-//! The package that a call stands in, as `cargo locate-project` tells it: its manifest's path.
+//! The current package of a call, by the manifest that `cargo locate-project` reports.
 
 ghost use Rattle.std.specs.Prelude.{◌≡◌, IfErr, IfOk, Some, None, map, option_map, string_bytes};
 ghost use Rattle.serde_json.specs.View.{members_view};
@@ -17,17 +17,17 @@ use hack_process::process::{Caller, ProcessBuilder, ProcessFault};
 use hack_words::cli::{Args, Env};
 use std::alloc::{AllocError, Global};
 
-/// What `cargo locate-project` answered.
+/// The answer of `cargo locate-project`.
 #[derive(Drop)]
 pub struct Located {
-    /// The command's text, for a fault.
+    /// The command's text, for an error.
     pub command: String,
-    /// What it wrote.
+    /// What the command wrote.
     pub text: String,
 }
 
 impl Located {
-    /// Asks cargo where the call stands.
+    /// Asks cargo for the path of the current manifest.
     pub(crate) fn ask<C: Caller>(
         alloc: Global,
         args: &Args,
@@ -49,7 +49,7 @@ impl Located {
         }
     }
 
-    /// The path of the manifest that was found.
+    /// Returns the path of the manifest that cargo reported.
     pub fn root(&self, alloc: Global) -> Result<String, ContextFault>
         ensures ok { IfOk result (λ root.
             root_in (string_bytes self.now.text) ≡ Some (string_bytes root)) }
@@ -64,7 +64,7 @@ impl Located {
     }
 }
 
-/// The command that asks it.
+/// Makes the command that asks for it.
 fn locate_command<'a>(
     alloc: Global,
     args: &Args,
@@ -93,7 +93,7 @@ fn of_process(fault: ProcessFault) -> ContextFault
     }
 }
 
-/// The text at `root`.
+/// Takes out the text at `root`.
 fn remove_root(mut object: Object) -> Result<String, ContextFault>
     ensures ok { IfOk result (λ root.
         root_at (members_view object.entries) ≡ Some (string_bytes root)) }
@@ -106,7 +106,7 @@ fn remove_root(mut object: Object) -> Result<String, ContextFault>
     }
 }
 
-/// The fault of an answer that is no object of JSON.
+/// Returns the error of an answer that is no JSON object.
 fn not_json(alloc: Global, command: &str) -> ContextFault
     ensures { IsNotJson command.now result }
 {
@@ -116,7 +116,7 @@ fn not_json(alloc: Global, command: &str) -> ContextFault
     }
 }
 
-/// The first member of the workspace whose manifest this is.
+/// Returns the first member of the workspace whose manifest has this path.
 pub fn current_package(metadata: &Metadata, root: &str) -> Option<PackageId>
     ensures { option_map place_at result ≡ current_of (metadata_view metadata.now) root.now }
 {
@@ -128,7 +128,7 @@ pub fn current_package(metadata: &Metadata, root: &str) -> Option<PackageId>
     None
 }
 
-/// Whether this is the manifest of a package.
+/// Returns whether the manifest of a package has this path.
 fn has_manifest(metadata: &Metadata, id: PackageId, path: &str) -> bool
     ensures { result
         ≡ has_manifest (map package_view metadata.now.packages.items) path.now id.index }

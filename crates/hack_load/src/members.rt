@@ -15,7 +15,7 @@ use hack_manifest::manifest::{Manifest, ManifestFault};
 use hack_metadata::metadata::{Metadata, Package, PackageId};
 use std::alloc::Global;
 
-/// The manifests of the members, in their order.
+/// Reads the manifests of the members, in their order.
 pub(crate) fn manifests_of<F: Files>(
     alloc: Global,
     metadata: &Metadata,
@@ -40,7 +40,7 @@ pub(crate) fn manifests_of<F: Files>(
     Ok(found)
 }
 
-/// The manifest of a package.
+/// Reads the manifest of a package.
 fn manifest_of<F: Files>(
     alloc: Global,
     metadata: &Metadata,

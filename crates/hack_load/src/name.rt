@@ -5,7 +5,7 @@ ghost use Rattle.hack_load.specs.Names.{name_text};
 
 use std::fmt;
 
-/// The name of a package. For verbose output it shows the folder of the package's manifest behind
+/// The name of a package. For verbose output it shows the folder of the package's manifest after
 /// it.
 #[derive(Drop)]
 pub struct VerboseName<'a> {

@@ -1,4 +1,4 @@
-//! Commands, and what a context gives them: the words of the call for cargo, and its features.
+//! Commands, and what a context gives them: the call's arguments for cargo, and its features.
 
 ghost use Rattle.std.specs.Prelude.{◌≡◌, ◌++◌, ◌∷◌, [], Contains, IfOk, OnOk, OnErr, IfSome, Some};
 ghost use Rattle.std.specs.Prelude.{cond, filter, map, not, option_map, string_bytes};
@@ -19,7 +19,7 @@ pub use hack_process::process::{
 };
 use std::alloc::{AllocError, Global};
 
-/// Hands a command the words of the call for cargo: those in front of its `--`, and those behind.
+/// Gives a command the call's arguments for cargo: those before the call's `--`, and those after.
 pub fn apply_context<'a>(command: &mut ProcessBuilder<'a>, cx: &'a Context)
     ensures { command_of command.new ≡ record (command_of command.old) {
       passed = map string_bytes (context_view cx.now).args.leading_args.items;
@@ -30,8 +30,9 @@ pub fn apply_context<'a>(command: &mut ProcessBuilder<'a>, cx: &'a Context)
     command.pass_words(&args.leading_args, &args.trailing_args);
 }
 
-/// Appends the features of the call to those of a command, where this is its package. Under
-/// `--ignore-unknown-features` those that the package doesn't have are left out, and told.
+/// Appends the features of the call to those of a command, which is for the package `id`, or for
+/// all. Under `--ignore-unknown-features` those that the package doesn't have are left out, and a
+/// notice is returned for each.
 pub fn append_features_from_args(
     alloc: Global,
     command: &mut ProcessBuilder<'_>,
@@ -78,8 +79,8 @@ fn append_features_for(
     Ok(notices)
 }
 
-/// The features of the call that the commands of a package get, and what the user is told of those
-/// that are left out under `--ignore-unknown-features`, since the package doesn't have them.
+/// Returns the features of the call that the commands of a package get, and a notice for each one
+/// that is left out under `--ignore-unknown-features`, since the package doesn't have it.
 pub fn features_for<'a>(
     alloc: Global,
     cx: &'a Context,
@@ -97,7 +98,7 @@ pub fn features_for<'a>(
     Ok((all_features(alloc, cx)?, Vec::new(alloc)))
 }
 
-/// The features of the call.
+/// Returns the features of the call.
 fn all_features<'a>(alloc: Global, cx: &'a Context) -> Result<Vec<&'a str>, AllocError>
     ensures { IfOk result (λ names. map (λ word. word.now) names.items
         ≡ given_features (context_view cx.now)) }
@@ -109,7 +110,7 @@ fn all_features<'a>(alloc: Global, cx: &'a Context) -> Result<Vec<&'a str>, Allo
     Ok(names)
 }
 
-/// The features of the call that a package has, and what is told of the others.
+/// Returns the features of the call that a package has, and a notice for each of the others.
 fn known_features<'a>(
     alloc: Global,
     cx: &'a Context,
@@ -131,7 +132,7 @@ fn known_features<'a>(
     Ok((names, notices))
 }
 
-/// Puts a feature among those that the package has, or tells of it.
+/// Adds a feature to those that the package has, or else a notice on it.
 fn sort<'a>(
     alloc: Global,
     names: &mut Vec<&'a str>,
@@ -156,7 +157,7 @@ fn sort<'a>(
     Ok(())
 }
 
-/// Whether a package has a feature of this name.
+/// Returns whether a package has a feature of this name.
 fn knows(cx: &Context, id: PackageId, name: &str) -> bool
     requires { Contains (context_view cx.now).metadata.workspace_members id.index }
     ensures { result ≡ knows (context_view cx.now) id.index name.now }
@@ -164,7 +165,7 @@ fn knows(cx: &Context, id: PackageId, name: &str) -> bool
     cx.pkg_features(id).contains(name)
 }
 
-/// The notice that a package doesn't have the feature.
+/// Returns the notice that a package doesn't have the feature.
 fn left_out(alloc: Global, cx: &Context, id: PackageId, name: &str) -> Result<Notice, AllocError>
     requires { Contains (context_view cx.now).metadata.workspace_members id.index }
     ensures { IfOk result (λ notice. note_of notice

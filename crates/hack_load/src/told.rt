@@ -1,4 +1,4 @@
-//! What cargo tells of itself: its minor version and its host, by `cargo -vV`.
+//! What cargo reports of itself by `cargo -vV`: its minor version and its host.
 
 ghost use Rattle.std.specs.Prelude.{◌≡◌, IfOk, OnErr, option_copied, string_bytes};
 ghost use Rattle.std.specs.Prelude.{true};
@@ -16,17 +16,17 @@ use hack_versions::rustup::{AnswerFault, VersionTextFault};
 use hack_words::cli::{Args, Env};
 use std::alloc::{AllocError, Global};
 
-/// What cargo tells of itself.
+/// What cargo reports of itself.
 #[derive(Drop)]
 pub(crate) struct Told {
-    /// Its minor version, or the warning that it can't be told.
+    /// Its minor version, or the warning that it can't be determined.
     pub version: Result<u32, String>,
     /// The target that it was built for.
     pub host: Option<String>,
 }
 
 impl Told {
-    /// Asks cargo.
+    /// Asks cargo for its version and its host.
     pub fn ask<C: Caller>(
         alloc: Global,
         args: &Args,
@@ -46,7 +46,7 @@ impl Told {
         }
     }
 
-    /// What an answer to the command tells.
+    /// Reads an answer to the command.
     fn of(
         alloc: Global,
         answer: &str,
@@ -63,7 +63,7 @@ impl Told {
         Ok(Told { version, host })
     }
 
-    /// What is known where the command failed.
+    /// Returns what is known where the command failed: a warning, and no host.
     fn of_failure(alloc: Global, fault: ProcessFault) -> Result<Told, AllocError>
         ensures { IfOk result (λ t.
             FailsSelf fault (told_version t.version) (optional_text t.host)) }
@@ -81,7 +81,7 @@ impl Told {
     }
 }
 
-/// The version, or 0 where it isn't known.
+/// Returns the version, or 0 where it isn't known.
 pub(crate) fn minor_of(version: &Result<u32, String>) -> u32
     ensures { result ≡ minor_told (told_version version.now) }
 {
@@ -109,7 +109,7 @@ fn owned_text(alloc: Global, text: Option<&str>) -> Result<Option<String>, Alloc
     }
 }
 
-/// The minor version in an answer, or the warning that it tells none.
+/// Returns the minor version in an answer, or the warning that it has none.
 fn version_in(
     alloc: Global,
     answer: &str,
@@ -127,7 +127,7 @@ fn version_in(
     }
 }
 
-/// The warning that an answer tells no version.
+/// Returns the warning that an answer has no version.
 fn warning_of(
     alloc: Global,
     fault: &VersionTextFault,

@@ -1,4 +1,4 @@
--- Faults of commands, and what they end.
+-- Errors of commands, and what follows from them.
 use Rattle.std.proofs.Common.{◌≡◌, inl, inr, ℕ, List, [], ◌∷◌, ◌++◌, Some, None, Ok, Err, refl, sym, ◌∙◌, ap, subst, true, string_bytes, codes, map}
 use Rattle.hack_base.specs.Names.{Name}
 use Rattle.hack_process.specs.Calls.{Asked, Call, MayAdd}
@@ -24,7 +24,7 @@ read-may tells asked shown old new (p.NeverExecuted text) h t = let had = h.2 t 
 read-may tells asked shown old new (p.Failed failure) h t = let had = h.3 t in inr (had.0, had.2)
 read-may tells asked shown old new (p.NotText text) h t = let had = h.2 t in inr (had.0, had.2)
 
--- a fault of running is one of reading
+-- an error of running a command is also one of reading its output
 pub fault-read : (tells : Type 0) (asked : Asked) (shown : Name) (old new : List Call) (e : ProcessFault) → IsFault tells asked shown old new e → IsReadFault tells asked shown old new e
 fault-read tells asked shown old new p.Memory h = h
 fault-read tells asked shown old new p.EmptyProgram h = h
@@ -47,7 +47,7 @@ told-stable tells rustup c o answer text minor old new asks is at h of told =
     let read : Reads c (string_bytes answer) old new = subst (λ x. MatchOption x (Fails c old new) (λ t. Reads c (string_bytes t) old new)) is (h told) in
     inl (string_bytes answer, subst (λ k. Reads k (string_bytes answer) old new) asks read, subst (λ t. MinorOf t minor) at of)
 
--- stable's cargo that fails tells 0
+-- where stable's cargo fails, its minor version is taken as 0
 pub failed-stable : (tells : Type 0) (rustup : Name) (c : Command) (o : Option (String Global)) (old new : List Call)
     → c ≡ version_command rustup → o ≡ None
     → (tells → MatchOption o (Fails c old new) (λ t. Reads c (string_bytes t) old new)) → tells → TellsStable rustup 0 old new
@@ -55,14 +55,14 @@ failed-stable tells rustup c o old new asks is h told =
     let failed : Fails c old new = subst (λ x. MatchOption x (Fails c old new) (λ t. Reads c (string_bytes t) old new)) is (h told) in
     inr (subst (λ k. Fails k old new) asks failed, refl)
 
--- what was read, or not, may have been called
+-- a command whose output was read, or not, may have been called
 pub tried-may : (tells : Type 0) (c : Command) (old new : List Call) (r : Result (Option (String Global)) AllocError) → IfOk r (λ told. tells → MatchOption told (Fails c old new) (λ t. Reads c (string_bytes t) old new))
     → OnErr r (tells → MayAdd (asked_of true c) old new) → tells → MayAdd (asked_of true c) old new
 tried-may tells c old new (Ok None) ok err t = elim (ok t) [ inl h ↦ inl h.1 | inr h ↦ inr (h.0, h.2) ]
 tried-may tells c old new (Ok (Some text)) ok err t = let h = ok t in inr (h.0, h.2)
 tried-may tells c old new (Err e) ok err t = err t
 
--- one platform more
+-- one more platform
 pub platforms-more : (xs : List (String Global)) (i : ℕ) (x : String Global) → i < length xs → x ≡ get_or xs i x → platform_words (map string_bytes (take (i + 1) xs)) ≡ platform_words (map string_bytes (take i xs)) ++ (codes "--filter-platform" ∷ string_bytes x ∷ [])
 platforms-more xs i x lt is =
     ap (λ l. platform_words (map string_bytes l)) (take_more xs i x lt ∙ ap (λ s. take i xs ++ s ∷ []) (sym is))

@@ -46,13 +46,13 @@ text-stops q now stage c text f (fault.Files e) is lacks h = absurd h
 text-stops q now stage c text f (fault.Output told) is lacks h = (refl, (c, text, is, h.0, h.1))
 text-stops q now stage c text f (fault.Field name) is lacks h = (refl, lacks name.now h.0 h.1 h.2)
 
--- an answer that is read counts
+-- an answer that is read, or an error of reading it, is the result
 metadata-counts : (q : Question) (now : List Call) (c : Command) (text : Name) (minor : ℕ) (r : Result Metadata AskFault)
     → IfOk r (λ m. TellsAs (read_metadata minor) text (metadata_view m)) → IfErr r (IsTextFault (read_metadata minor) text (text_of q.verbose q.dir c)) → Counts q c text minor now r
 metadata-counts q now c text minor (Ok m) ok err = ok
 metadata-counts q now c text minor (Err e) ok err = text-stops q now (taken c text minor) c text (read_metadata minor) e (refl, refl) (λ name ms o f. (ms, o, f)) err
 
--- and is the one that was asked for
+-- the same, where the command and the text are given by equations
 pub asked-counts : (q : Question) (now : List Call) (c asked : Command) (text shown : Name) (minor : ℕ) (r : Result Metadata AskFault)
     → asked ≡ c → shown ≡ text → IfOk r (λ m. TellsAs (read_metadata minor) shown (metadata_view m))
     → IfErr r (IsTextFault (read_metadata minor) shown (text_of q.verbose q.dir asked)) → Counts q c text minor now r
@@ -60,7 +60,7 @@ asked-counts q now c asked text shown minor r is same ok err =
     metadata-counts q now c text minor r (subst (λ t. IfOk r (λ m. TellsAs (read_metadata minor) t (metadata_view m))) same ok)
     (subst (λ k. IfErr r (IsTextFault (read_metadata minor) text (text_of q.verbose q.dir k))) is (subst (λ t. IfErr r (IsTextFault (read_metadata minor) t (text_of q.verbose q.dir asked))) same err))
 
--- over a caller that tells
+-- the error of a read, where the caller says which calls were made
 told-fault : (tells : Type 0) (asked : Asked) (shown : Name) (old new : List Call) (e : ProcessFault) → tells → IsReadFault tells asked shown old new e → IsReadFault (Unit {0}) asked shown old new e
 told-fault tells asked shown old new p.Memory t h = (h.0, λ _. h.1 t)
 told-fault tells asked shown old new p.EmptyProgram t h = (h.0, λ _. h.1 t)
@@ -79,7 +79,7 @@ command-stops tells q mid new stage c (fault.Files e) t needed next h = absurd h
 command-stops tells q mid new stage c (fault.Output text) t needed next h = absurd h
 command-stops tells q mid new stage c (fault.Field name) t needed next h = absurd h
 
--- a fault of running is one of reading
+-- an error of running a command is also one of reading its output
 pub run-fails : (M tells : Type 0) (asked : Asked) (shown : Name) (old new : List Call) (e : AskFault) → FailsAs M (IsFault tells asked shown old new) e → FailsAs M (IsReadFault tells asked shown old new) e
 run-fails M tells asked shown old new fault.Memory h = h
 run-fails M tells asked shown old new fault.NoHost h = h
@@ -93,7 +93,7 @@ pub question-stops : (q : Question) (now : List Call) (minor : ℕ) (e : AskFaul
 question-stops q now minor e (inl is) = subst (λ x. Stops q (versioned minor) now now x) (sym is) (inl refl)
 question-stops q now minor e (inr h) = subst (λ x. Stops q (versioned minor) now now x) (sym h.0) (minor, refl, refl, h.1)
 
--- ---- faults of the lockfile
+-- ---- errors of the lockfile
 
 -- a read that failed
 pub of-read : (path : Name) (f : FsFault) (e : AskFault) → IsOfFile f e → IsOfRead path f → IsFileFault (IsUnread path) e
@@ -145,7 +145,7 @@ over-stops tells q mid new minor text path c (fault.Process p) t lock next h = a
 over-stops tells q mid new minor text path c (fault.Output shown) t lock next h = absurd h
 over-stops tells q mid new minor text path c (fault.Field name) t lock next h = absurd h
 
--- ---- what is left of the files
+-- ---- what the files hold after a question
 
 -- counts that don't grow
 still : (x y z : ℕ) → GrowsBy 0 x y → GrowsBy 0 y z → GrowsBy 0 x z
@@ -155,7 +155,7 @@ still x y z f g = λ low. let first = f low in let second = g (omega (arith, fir
 pub whole-more : (tells : Type 0) (a b c : Contents) (x y z : ℕ) → Whole tells a b x y → Whole tells b c y z → Whole tells a c x z
 whole-more tells a b c x y z f g = (still x y z f.0 g.0, λ t q. g.1 t q ∙ f.1 t q)
 
--- the same behind a fault
+-- nothing was done to the files, and then an error left one path spoilt
 spoilt-more : (path : Name) (tells : Type 0) (a b c : Contents) (x y z : ℕ) → Whole tells a b x y → Spoilt path tells b c y z → Spoilt path tells a c x z
 spoilt-more path tells a b c x y z f g = ((λ low. let first = f.0 low in let second = g.0 (omega (arith, first)) in omega (arith, first, second)), λ t q ne. g.1 t q ne ∙ f.1 t q)
 
@@ -177,7 +177,7 @@ restored path tells a b c x y z old mid whole keeps back =
 pub unchanged : (tells : Type 0) (a : Contents) (x : ℕ) → Whole tells a a x x
 unchanged tells a x = (λ low. omega (arith, low), λ t q. refl)
 
--- a fault that leaves nothing behind
+-- an error that is not one of the files leaves each path as it was
 pub whole-left : (path : Name) (tells : Type 0) (a b : Contents) (x y : ℕ) (e : AskFault) → IsNoFileFault e → Whole tells a b x y → LeftBy path tells a b x y e
 whole-left path tells a b x y fault.Memory spares h = inl h
 whole-left path tells a b x y fault.NoHost spares h = h
@@ -186,12 +186,12 @@ whole-left path tells a b x y (fault.Files e) spares h = absurd spares
 whole-left path tells a b x y (fault.Output text) spares h = h
 whole-left path tells a b x y (fault.Field name) spares h = h
 
--- an answer that leaves nothing behind
+-- a result without an error of the files leaves each path as it was
 pub whole-leaves : {X : Type 0} (path : Name) (tells : Type 0) (a b : Contents) (x y : ℕ) (r : Result X AskFault) → IfErr r IsNoFileFault → Whole tells a b x y → Leaves path tells a b x y r
 whole-leaves path tells a b x y (Ok v) spares h = h
 whole-leaves path tells a b x y (Err e) spares h = whole-left path tells a b x y e spares h
 
--- a text that isn't read as it should be is no fault of the files
+-- an error of reading a text is not one of the files
 pub text-spares : {A : Type 0} (f : Members → Field A) (text shown : Name) (e : AskFault) → IsTextFault f text shown e → IsNoFileFault e
 text-spares f text shown fault.Memory h = tt
 text-spares f text shown fault.NoHost h = tt
@@ -200,7 +200,7 @@ text-spares f text shown (fault.Files e) h = h
 text-spares f text shown (fault.Output told) h = tt
 text-spares f text shown (fault.Field name) h = tt
 
--- a fault behind calls that left nothing
+-- an error after calls that changed nothing
 pub left-more : (path : Name) (tells : Type 0) (a b c : Contents) (x y z : ℕ) (e : AskFault) → Whole tells a b x y → LeftBy path tells b c y z e → LeftBy path tells a c x z e
 left-more path tells a b c x y z fault.Memory f (inl g) = inl (whole-more tells a b c x y z f g)
 left-more path tells a b c x y z fault.Memory f (inr g) = inr (spoilt-more path tells a b c x y z f g)
@@ -216,7 +216,7 @@ pub wrote-none : (t : List Change) (a : Contents) → Makes [] t t a a
 wrote-none t a = record { traced = sym (append-nil t); holds = refl }
 
 module _ (tells whole : Type 0) (a b c : Contents) (s t u : List Change) (x y : ℕ) (path text : Name) (before : Whole tells a b x y) (lock : IsLockfile text path) (none : whole → Makes [] s t a b) where
-  -- bytes that were held are those that were held before
+  -- the bytes at the path now are those that it held before
   puts-back : (bytes : List ℕ) → (tells → b path ≡ Some bytes) → PutsBack tells a text (puts path bytes)
   puts-back bytes kept = record { path = path; bytes = bytes; lockfile = lock; kept = λ told. sym (before.1 told path) ∙ kept told; is = refl }
 
@@ -224,7 +224,7 @@ module _ (tells whole : Type 0) (a b c : Contents) (s t u : List Change) (x y : 
   pub back-wrote : PutsHeld tells b path (λ put. whole → Makes (put ∷ []) t u b c) → (put : Change) × PutsBack tells a text put × (whole → Makes (put ∷ []) s u a c)
   back-wrote h = (puts path h.0, puts-back h.0 h.1, λ w. makes_more [] (puts path h.0 ∷ []) s t u a b c (none w) (h.2 w))
 
-  -- or nothing was written, where a fault ended it
+  -- an error ended it: nothing was written, or the lockfile was put back
   pub over-wrote : (minor : ℕ) → (whole → Makes [] t u b c ⊎ PutsHeld tells b path (λ put. Makes (put ∷ []) t u b c)) → Writes whole tells s u a c (locked minor text) []
   over-wrote minor h = λ w. elim (h w) [
     | inl m ↦ inl (makes_more [] [] s t u a b c (none w) m)
@@ -245,18 +245,18 @@ module _ (tells whole : Type 0) (path : Name) (a b c : Contents) (s t u : List C
 -- ---- where a question ends
 
 module _ (tells whole : Type 0) (q : Question) (held later : Contents) (before now : List Change) (start new : List Call) where
-  -- an answer counts
+  -- an answer is used
   pub counts-ends : (c : Command) (text : Name) (minor : ℕ) (made : List Change) (r : Result Metadata AskFault) → Way tells q held start (taken c text minor) new made → (whole → Makes made before now held later)
       → Counts q c text minor new r → EndsSo tells q held start new (Writes whole tells before now held later) r
   counts-ends c text minor made (Ok m) way wrote h = (c, text, minor, made, way, wrote, h)
   counts-ends c text minor made (Err e) way wrote h = (taken c text minor, new, made, way, h, wrote)
 
-  -- the first question to cargo failed
+  -- the first request to cargo failed
   pub first-ends : (mid : List Call) (minor : ℕ) (e : AskFault) → Way tells q held start (newer minor) mid [] → (whole → Makes [] before now held later) → FailsFirst q minor mid new e → EndsSo tells q held start new (Writes whole tells before now held later) (Err e)
   first-ends mid minor e way wrote (inl h) = (newer minor, mid, [], way, h, wrote)
   first-ends mid minor e way wrote (inr h) = (first minor h.0, new, [], answers h.0 way h.1, h.2, wrote)
 
-  -- cargo is asked the full request
+  -- the full request was made to cargo
   pub cargo-ends : (mid : List Call) (made : List Change) (r : Result Metadata AskFault) → Way tells q held start to_cargo mid made → (whole → Makes made before now held later)
       → AsksCargo q mid new r → EndsSo tells q held start new (Writes whole tells before now held later) r
   cargo-ends mid made r way wrote (inl h) = subst (EndsSo tells q held start new (Writes whole tells before now held later)) (sym h.1) (to_cargo, mid, made, way, h.2, wrote)

@@ -24,7 +24,7 @@ below_middle : (x k : String Global) (before more : List (String Global)) → Al
 below_middle x k [] more h = h.0
 below_middle x k (b ∷ before) more h = below_middle x k before more h.1
 
--- a key above all others goes last
+-- a key greater than all others is inserted last
 insert_last : {X : Type 0} (es : List (String Global × X)) (k : String Global) (v : X) (more : List (String Global)) → IsStrictlySortedBy string_cmp (keys_of es ++ k ∷ more) → insert_entry string_cmp es k v ≡ es ++ (k, v) ∷ []
 unfolding IsStrictlySortedBy
 insert_last [] k v more h = refl
@@ -36,7 +36,7 @@ map_last : {X Y : Type 0} (f : X → Y) (xs : List X) (x : X) → map f (xs ++ x
 map_last f [] x = refl
 map_last f (y ∷ xs) x = ap (λ t. f y ∷ t) (map_last f xs x)
 
--- what stands between two lists belongs to the first one's end
+-- an element between two lists can be taken as the end of the first
 regroup : {X : Type 0} (xs : List X) (x : X) (ys : List X) → (xs ++ x ∷ []) ++ ys ≡ xs ++ x ∷ ys
 regroup [] x ys = refl
 regroup (y ∷ xs) x ys = ap (λ t. y ∷ t) (regroup xs x ys)
@@ -45,13 +45,13 @@ moved : {X : Type 0} (xs ys : List X) (x : X) (o : Option (List X)) → ys ≡ x
 moved xs ys x None e = refl
 moved xs ys x (Some more) e = ap (λ t. Some (t ++ more)) e ∙ ap Some (regroup xs x more)
 
--- the features so far and those left make the whole, and all keys rise
+-- the features so far, and then those left, are the whole, and so are their keys
 pub record Turns (m : BTreeMap (String Global) (Vec (String Global) Global)) (left : List (String Global × Value)) (all : List (String Global)) (whole : Option FeatureMap) : Type 0 where
   pub keys : keys_of m.entries ++ keys_of left ≡ all
   pub features : option_map (λ more. feature_map m ++ more) (features_of (members_view left)) ≡ whole
 
 module _ (m n : BTreeMap (String Global) (Vec (String Global) Global)) (left rest : List (String Global × Value)) (k : String Global) (value : Value) (v : Vec (String Global) Global) (keys : List (String Global)) (whole : Option FeatureMap) where
-  -- a turn of the loop over the members
+  -- one pass of the loop over the members
   pub features-turn : left ≡ (k, value) ∷ rest → n.entries ≡ insert_entry string_cmp m.entries k v → Some (names_of v.items) ≡ option_and_then texts_of (as_array (view value))
       → IsStrictlySortedBy string_cmp keys → Turns m left keys whole → Turns n rest keys whole
   features-turn first inserted texts sorted before =

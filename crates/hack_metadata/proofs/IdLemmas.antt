@@ -25,7 +25,7 @@ later-cond : (b : Bool) (n m : ℕ) (o earlier : Option ℕ) → n ≡ m → lat
 later-cond true n m o earlier e = ap Some e
 later-cond false n m o earlier e = refl
 
--- one more id is the last one at its place
+-- one more id at the end: its place is the last one with that id
 place-next : (k : ℕ) (ids : List Name) (x id : Name) → place_from k (ids ++ x ∷ []) id ≡ cond (bytes_eq x id) (Some (k + length ids)) (place_from k ids id)
 place-next k [] x id = ap (λ n. cond (bytes_eq x id) (Some n) None) (let e : k ≡ k + 0 = omega arith in e)
 place-next k (y ∷ ids) x id =
@@ -44,7 +44,7 @@ place-map : (b : Bool) (p : PackageId) (o : Option PackageId) → option_map pla
 place-map true p o = refl
 place-map false p o = refl
 
--- a package more in the map of ids
+-- one more package in the map of ids
 pub places-turn : (packages : List Package) (k : ℕ) (pkg : Package) (x : Name) (p : PackageId) (m n : BTreeMap (String Global) PackageId)
     → k < length packages → pkg ≡ get_or packages k pkg → x ≡ string_bytes pkg.id → p.index ≡ k
     → ((cs : Name) → get_by_text n cs ≡ update bytes_eq (get_by_text m) x (Some p) cs)
@@ -81,7 +81,7 @@ one_more true true c x qs rs p px e h = ap (λ b. cond b (x ∷ filter p qs) (fi
 one_more true false c x qs rs p px e h = ap (λ b. cond b (x ∷ filter p qs) (filter p qs)) px ∙ h ∙ ap (λ c. cond c (x ∷ rs) rs) e
 one_more false b c x qs rs p px e h = h ∙ ap (λ c. cond c (x ∷ rs) rs) e
 
--- two tests, one after the other
+-- to filter by two tests, one after the other, is to filter by both
 filter-both : (p q r : ℕ → Bool) (xs : List ℕ) → ((y : ℕ) → (q y && p y) ≡ r y) → filter p (filter q xs) ≡ filter r xs
 filter-both p q r [] h = refl
 filter-both p q r (x ∷ xs) h = one_more (q x) (p x) (r x) x (filter q xs) (filter r xs) p refl (h x) (filter-both p q r xs h)
@@ -121,7 +121,7 @@ cmp-eq k q = grind (arith, nat_tests)
 eq-turned : (k q : ℕ) → (k == q) ≡ (q == k)
 eq-turned k q = grind (arith, nat_tests)
 
--- the numbers up to a place are kept, and the set has them
+-- the first k numbers are kept, each once, and the set has the kept ones
 pub record AreKept (all : List ℕ) (k : ℕ) (kept : List ℕ) (seen : BTreeSet ℕ) : Type 0 where
   pub whole : kept ++ filter (absent kept) (distinct (drop k all)) ≡ distinct all
   pub same : (y : ℕ) → contains nat_cmp seen y ≡ has kept y
@@ -144,7 +144,7 @@ same-at false c x y kept new is e eq = sym (ap (λ l. has l y) e ∙ list_any-ap
     turned false true = refl
     turned false false = refl
 
--- one number more
+-- one more number
 pub kept-turn : (all : List ℕ) (k x : ℕ) (kept new : List ℕ) (seen grown : BTreeSet ℕ) → k < length all → x ≡ get_or all k x
     → new ≡ cond (contains nat_cmp seen x) kept (kept ++ x ∷ []) → ((y : ℕ) → contains nat_cmp grown y ≡ cond (x == y) true (contains nat_cmp seen y))
     → AreKept all k kept seen → AreKept all (k + 1) new grown

@@ -1,4 +1,4 @@
--- Ids that are read are those of packages.
+-- Ids that are read are places of packages.
 use Rattle.std.proofs.Common.{◌≡◌, ◌==◌, ◌&&◌, not, ℕ, zero, suc, ◌+◌, ◌<◌, nat_lt, Bool, true, false, cond, List, [], ◌∷◌, map, length, get_or, Option, Some, None, Ok, Err, Ordering, Less, Equal, Greater, option_and_then, nat_cmp, codes, arith, refl, sym, ap, subst, ◌∙◌}
 use Rattle.std.specs.List.{list_all, filter}
 use Rattle.std.specs.Str.{bytes_eq}
@@ -19,7 +19,7 @@ use Rattle.hack_metadata.specs.View.{package_view, place_at}
 use Rattle.hack_metadata.specs.declared.package.Package.{Package}
 use Rattle.hack_metadata.specs.declared.resolve.PackageId.{PackageId}
 
--- what a reading that went well stands on
+-- two readings, one after the other, succeeded, the second with the value of the first
 pub record Behind {A B : Type 0} (r : Field A) (g : A → Field B) (y : B) : Type 0 where
   pub value : A
   pub read : r ≡ Ok value
@@ -153,7 +153,7 @@ module _ (place : Name → Option ℕ) (n : ℕ) (bounds : Bounds place n) where
     pub all-known : (ms ms' : Members) (members : List ℕ) (nodes : Nodes) → members_in place ms ≡ Ok members → resolve_in place minor ms' ≡ Ok nodes → are_known n members nodes ≡ true
     all-known ms ms' members nodes e h = and-intro _ _ (members-known ms members e) (nodes-known ms' nodes h)
 
--- the ids of packages mean packages
+-- the place that an id means is below the number of packages
 pub packages-bounds : (packages : List Package) (place : Name → Option ℕ) → place ≡ place_of (ids_of (map package_view packages)) → Bounds place (length packages)
 packages-bounds packages place same =
     let many : length (ids_of (map package_view packages)) ≡ length packages = length-map (map package_view packages) (λ (p : PackageRecord). p.id) ∙ length-map packages package_view in
@@ -164,6 +164,6 @@ below-at n [] k d h lt = absurd (omega arith)
 below-at n (id ∷ ids) zero d h lt = let l = and-first (nat_lt id.index n) _ h in grind (arith, nat_tests, l)
 below-at n (id ∷ ids) (suc k) d h lt = below-at n ids k d (and-second (nat_lt id.index n) _ h) (omega arith)
 
--- a member is a package
+-- the place of a member is below the number of packages
 pub member-below : (n : ℕ) (members : List PackageId) (nodes : Nodes) (k : ℕ) (d : PackageId) → are_known n (map place_at members) nodes ≡ true → k < length members → (get_or members k d).index < n
 member-below n members nodes k d h lt = below-at n members k d (and-first (list_all (λ m. nat_lt m n) (map place_at members)) _ h) lt

@@ -37,7 +37,7 @@ module _ (p : Identity) (spec : Name) where
 
 -- ---- URLs
 
--- a text is one URL
+-- a text is not two different URLs
 url-same : (text : Name) (a b : Url) → IsUrl text a → IsUrl text b → a ≡ b
 url-same text a b h k =
     let same = scheme-same text h.scheme h.rest k.scheme k.rest (record { whole = h.whole; first = h.first }) (record { whole = k.whole; first = k.first }) in
@@ -51,7 +51,7 @@ read-same : (text : Name) (o : Option Url) (u : Url) → IsReadAs text o → IsU
 read-same text None u h k = absurd (h u k)
 read-same text (Some v) u h k = ap Some (url-same text v u h k)
 
--- what stands round a separator, where it is known what stands behind it
+-- the parts before and after a separator, where the part after it is known
 cut-at : (text given : Name) (b : Bool) → has_byte separates text ≡ b → cond b (Some (after_first separates text)) None ≡ Some given → parts_at_separator text ≡ Some (before_first separates text, given)
 cut-at text given true e h = ap (λ c. cond c (Some (before_first separates text, after_first separates text)) None) e ∙ ap (λ g. Some (before_first separates text, g)) (let q : after_first separates text ≡ given = cc in q)
 cut-at text given false e h = absurd (cc)
@@ -163,7 +163,7 @@ module _ (p : Identity) (spec : Name) where
 
 -- ---- both
 
--- the answer is that of the specification
+-- the answer is true, or an error, exactly where the definitions say so
 pub record Settles (p : Identity) (spec : Name) (answer : Answer) : Type 0 where
   pub matches : (answer ≡ Ok true) ↔ Matches p spec
   pub bad_id : (answer ≡ Err BadId) ↔ HasBadId p spec

@@ -16,7 +16,7 @@ use Rattle.hack_metadata.specs.contracts.resolve.PackageIdOrd.TheImpl as ord
 use Rattle.hack_metadata.specs.declared.resolve.Node.{Node}
 use Rattle.hack_metadata.specs.declared.resolve.PackageId.{PackageId}
 
--- ids stand in the order of their places
+-- ids are ordered by their places
 pub order-at : (a b : PackageId) → ord.cmp-value.it a b ≡ nat_cmp a.index b.index
 order-at a b = refl
 
@@ -28,7 +28,7 @@ seen-match Less a b c = refl
 seen-match Equal a b c = refl
 seen-match Greater a b c = refl
 
--- a node that is put in is put in as plain data
+-- to insert a node into the map is to insert its plain data into the plain data of the map
 pub seen-insert : (es : List (PackageId × Node)) (id : PackageId) (node : Node) → seen (insert_entry ord.cmp-value.it es id node) ≡ insert_entry nat_cmp (seen es) id.index (node_view node)
 seen-insert [] id node = refl
 seen-insert (e ∷ es) id node = seen-match (ord.cmp-value.it id e.0) _ _ _ ∙ rw (seen-insert es id node, order-at id e.0) refl
@@ -36,12 +36,12 @@ seen-insert (e ∷ es) id node = seen-match (ord.cmp-value.it id e.0) _ _ _ ∙ 
 pub nodes-insert : (m n : BTreeMap PackageId Node) (id : PackageId) (node : Node) → n.entries ≡ insert_entry ord.cmp-value.it m.entries id node → nodes_view n ≡ insert_entry nat_cmp (nodes_view m) id.index (node_view node)
 nodes-insert m n id node e = ap seen e ∙ seen-insert m.entries id node
 
--- a node that is read first is put in first
+-- the node that is read first is inserted first
 put_first : (m n : Nodes) (at : ℕ) (node : NodeRecord) (read : Field (List (ℕ × NodeRecord))) → n ≡ insert_entry nat_cmp m at node → (read >>= λ more. Ok (with_nodes n more)) ≡ ((read >>= λ more. Ok ((at, node) ∷ more)) >>= λ more. Ok (with_nodes m more))
 put_first m n at node (Ok more) e = ap (λ nodes. Ok (with_nodes nodes more)) e
 put_first m n at node (Err name) e = refl
 
--- a turn of the loop over nodes
+-- one pass of the loop over nodes
 pub nodes-turn : (f : Data → Field (ℕ × NodeRecord)) (d : Data) (left rest : Items) (m n : Nodes) (at : ℕ) (node : NodeRecord) (whole : Field Nodes)
     → left ≡ item d rest → f d ≡ Ok (at, node) → n ≡ insert_entry nat_cmp m at node
     → (read_all f left >>= λ more. Ok (with_nodes m more)) ≡ whole → (read_all f rest >>= λ more. Ok (with_nodes n more)) ≡ whole

@@ -1,4 +1,4 @@
--- Texts that are cut: at the first `://`, at the first separator, behind a name.
+-- Texts that are cut: at the first `://`, at the first separator, after a name.
 use Rattle.std.proofs.Common.{◌≡◌, ◌≢◌, ◌⊎◌, ◌==◌, ◌||◌, not, ℕ, ◌+◌, ◌<◌, ◌≤◌, min, nat_lt, Bool, true, false, cond, [], ◌∷◌, ◌++◌, length, take, drop, Option, Some, None, MatchOption, codes, Bor, arith, refl, sym, ap, ◌∙◌, inl, inr}
 use Rattle.std.specs.List.{position_or_len}
 use Rattle.std.specs.Option.{option_copied}

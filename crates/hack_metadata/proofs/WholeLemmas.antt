@@ -1,4 +1,4 @@
--- The metadata behind the packages.
+-- The metadata that are read after the packages.
 use Rattle.std.proofs.Common.{◌≡◌, ℕ, List, Option, Result, Ok, codes, refl, sym, ap, subst, ◌∙◌}
 use Rattle.serde_json.specs.Data.{Items, Members}
 use Rattle.hack_base.specs.Names.{Name}
@@ -11,11 +11,11 @@ use Rattle.hack_metadata.specs.declared.fault.MetadataFault.{MetadataFault}
 use Rattle.hack_metadata.specs.declared.metadata.Metadata.{Metadata}
 
 module _ (minor : ℕ) (old new : Members) where
-  -- the fields behind the packages are read alike once the packages are taken out
+  -- the fields after the packages are read in the same way once the packages are taken out
   behind-others : (ps : List PackageRecord) (place : Name → Option ℕ) → KeepsOthers (codes "packages") old new → read_behind minor ps place new ≡ read_behind minor ps place old
   behind-others ps place h = rw (h.others (codes "workspace_members") refl, h.others (codes "resolve") refl, h.others (codes "workspace_root") refl) refl
 
-  -- what is read behind the packages is what is read of the whole
+  -- what is read after the packages is what is read of the whole
   pub whole-behind : (list : Items) (ps : List PackageRecord) (place : Name → Option ℕ) (r : Result Metadata MetadataFault)
       → array_in (codes "packages") old ≡ Ok list → read_all (read_package minor) list ≡ Ok ps → place ≡ place_of (ids_of ps) → KeepsOthers (codes "packages") old new
       → Gives metadata_view r (read_behind minor ps place new) → Gives metadata_view r (read_metadata minor old)

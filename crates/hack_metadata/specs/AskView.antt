@@ -4,7 +4,7 @@ use Rattle.hack_base.specs.Names.{optional_text}
 use Rattle.hack_metadata.specs.Requests.{Question}
 use Rattle.hack_metadata.specs.declared.ask.Question.{Question as Asking}
 
--- what is asked, and of whom
+-- a question as plain data, which knows the arguments of its full request
 abbrev pub asks : Asking → Question
 asks q = record {
   cargo = string_bytes q.env.now.cargo;

@@ -1,4 +1,4 @@
--- Which calls a question to cargo makes, and what counts as its answer.
+-- Which calls a question to cargo makes, and which answer is used.
 use Rattle.std.specs.Prelude.{◌≡◌, ◌⊎◌, ◌<◌, ◌≤◌, ◌++◌, ◌∷◌, ℕ, true, false, List, [], Some, None, Result, Ok, Err, codes, string_bytes, IsSome}
 use Rattle.std.specs.Str.{IsUtf8}
 use Rattle.serde_json.specs.Data.{Members}
@@ -24,27 +24,27 @@ use Rattle.hack_metadata.specs.declared.metadata.Metadata.{Metadata}
 use Rattle.hack_metadata.specs.declared.ask_fault.AskFault.{AskFault}
 use Rattle.hack_metadata.specs.declared.ask_fault.AskFault.TheVariants as fault
 
--- just this command was called, and ended well
+-- just this command was called, and ended with status 0
 abbrev pub Runs : Command → List Call → List Call → Type 0
 Runs c old new = Had (λ answer. IsSuccess answer.end) (asked_of true c) old new
 
--- just this command was called, ended well, and wrote bytes that are this text, but for line ends behind it
+-- just this command was called, and ended with status 0; without line ends, its output is this text
 abbrev pub Reads : Command → Name → List Call → List Call → Type 0
 Reads c text old new = Had (λ answer. IsSuccess answer.end × IsUtf8 answer.stdout × (text ≡ without_line_ends answer.stdout)) (asked_of true c) old new
 
--- the command has no name, and nothing was called; or just it was called, and didn't end well with a text
+-- its program has no name and wasn't called; or just it was called, and failed or wrote no text
 abbrev pub Fails : Command → List Call → List Call → Type 0
 Fails c old new = ((c.program ≡ []) × (new ≡ old)) ⊎ Had (λ answer. ¬ (IsSuccess answer.end × IsUtf8 answer.stdout)) (asked_of true c) old new
 
--- the minor version that an answer tells, or 0 where it tells none
+-- the minor version in an answer, or 0 where it has none
 abbrev pub MinorOf : Name → ℕ → Type 0
 MinorOf text minor = ((v : Version) × TellsRelease (release_part text) v × (minor ≡ v.minor)) ⊎ (((e : VersionTextFault) × IsAnswerFault text (release_part text) e) × (minor ≡ 0))
 
--- stable's cargo was asked for its version, and tells this minor; 0 where it fails
+-- stable's cargo was asked for its version, and this is its minor version; 0 where it failed
 abbrev pub TellsStable : Name → ℕ → List Call → List Call → Type 0
 TellsStable rustup minor old new = ((text : Name) × Reads (version_command rustup) text old new × MinorOf text minor) ⊎ (Fails (version_command rustup) old new × (minor ≡ 0))
 
--- the answer is an object of JSON, and this is read of it
+-- the answer is a JSON object, and f reads this from it
 abbrev pub TellsAs : {A : Type 0} → (Members → Field A) → Name → A → Type 0
 TellsAs f text a = (ms : Members) × (object_in_text text ≡ Some ms) × (f ms ≡ Ok a)
 
@@ -52,28 +52,28 @@ TellsAs f text a = (ms : Members) × (object_in_text text ≡ Some ms) × (f ms 
 abbrev pub root_of : Members → Field Name
 root_of ms = string_in (codes "workspace_root") ms
 
--- the lockfile of the workspace whose folder the answer tells
+-- the path is the lockfile of the workspace whose folder the answer names
 abbrev pub IsLockfile : Name → Name → Type 0
 IsLockfile text path = (root : Name) × TellsAs root_of text root × (path ≡ join_of root (codes "Cargo.lock"))
 
--- how far a question has come
+-- how far asking has come
 pub data Stage : Type 0 where
   -- nothing was asked
   begun : Stage
-  -- stable's cargo is of this minor
+  -- stable's cargo has this minor version
   versioned : ℕ → Stage
-  -- cargo is to be asked the full request
+  -- the full request to cargo is next
   to_cargo : Stage
-  -- stable's cargo is of this minor, which is newer
+  -- stable's cargo has this minor version, which is newer
   newer : ℕ → Stage
-  -- and cargo's first answer is this text
+  -- the same, and cargo's first answer is this text
   first : ℕ → Name → Stage
-  -- and the lockfile is there
+  -- the same, and the lockfile is there
   locked : ℕ → Name → Stage
-  -- this command's answer counts, as that of a cargo of this minor
+  -- the answer of this command is used, as that of a cargo of this minor version
   taken : Command → Name → ℕ → Stage
 
--- the lockfile that an answer tells is written, with the bytes that it held where files tell
+-- the lockfile of an answer is written, with what it held, where the files say what they hold
 pub record PutsBack (tells : Type 0) (held : Contents) (text : Name) (put : Change) : Type 0 where
   pub path : Name
   pub bytes : List ℕ
@@ -81,9 +81,9 @@ pub record PutsBack (tells : Type 0) (held : Contents) (text : Name) (put : Chan
   pub kept : tells → held path ≡ Some bytes
   pub is : put ≡ puts path bytes
 
--- `held` is what the files held before, where they tell it
+-- `held` is what the files held before, where they say it
 module _ (tells : Type 0) (q : Question) (held : Contents) (old : List Call) where
-  -- these calls and writes lead so far
+  -- these calls and writes lead to a stage
   pub data Way : Stage → List Call → List Change → Type 0 where
     starts : Way begun old []
     tells_minor : {new : List Call} (minor : ℕ) → TellsStable q.rustup minor old new → Way (versioned minor) new []
@@ -115,7 +115,7 @@ IsNext q (taken c minor text) next = ⊥
 abbrev pub MayAsk : Question → Stage → List Call → List Call → Type 0
 MayAsk q stage mid new = (new ≡ mid) ⊎ ((c : Command) × IsNext q stage c × MayAdd (asked_of true c) mid new)
 
--- what the answer of a stage is, and of which command
+-- the answer that is read at a stage is this text, of this command
 abbrev pub IsAnswer : Question → Stage → Command → Name → Type 0
 IsAnswer q begun c text = ⊥
 IsAnswer q (versioned minor) c text = ⊥
@@ -125,7 +125,7 @@ IsAnswer q (first minor told) c text = (c ≡ first_command q) × (text ≡ told
 IsAnswer q (locked minor told) c text = ⊥
 IsAnswer q (taken by told minor) c text = (c ≡ by) × (text ≡ told)
 
--- the answer of a stage lacks this field: the folder of the workspace, or any of the metadata
+-- the answer of a stage can't be read at this field: the workspace's folder, or any of the metadata
 abbrev pub Lacks : Stage → Name → Type 0
 Lacks begun name = ⊥
 Lacks (versioned minor) name = ⊥
@@ -135,7 +135,7 @@ Lacks (first minor text) name = (ms : Members) × (object_in_text text ≡ Some 
 Lacks (locked minor text) name = ⊥
 Lacks (taken c text minor) name = (ms : Members) × (object_in_text text ≡ Some ms) × (read_metadata minor ms ≡ Err name)
 
--- a command that fails ends the question; stable's cargo may fail
+-- a command that fails at this stage ends the question; stable's cargo may fail
 abbrev pub IsNeeded : Stage → Type 0
 IsNeeded begun = ⊥
 IsNeeded (versioned minor) = ⊥
@@ -145,13 +145,13 @@ IsNeeded (first minor text) = Unit {0}
 IsNeeded (locked minor text) = ⊥
 IsNeeded (taken c text minor) = ⊥
 
--- the lockfile can't be read before it is made or kept, or not be put back where stable's cargo is asked
+-- the lockfile can't be looked for or read before stable's cargo runs, or not be put back after it
 abbrev pub StopsAtFile : Question → Stage → List Call → List Call → FsFault → Type 0
 StopsAtFile q stage mid new f = (minor : ℕ) × (text : Name) × (path : Name) × IsLockfile text path
     × (((new ≡ mid) × IsUnread path f × ((stage ≡ first minor text) ⊎ (stage ≡ locked minor text)))
     ⊎ (MayAsk q stage mid new × IsUnwritten path f × (stage ≡ locked minor text)))
 
--- why a question ends behind a stage; at most one call more was made
+-- why a question ends after a stage; at most one more call was made
 abbrev pub Stops : Question → Stage → List Call → List Call → AskFault → Type 0
 Stops q stage mid new fault.Memory = MayAsk q stage mid new
 Stops q stage mid new fault.NoHost = (minor : ℕ) × (stage ≡ versioned minor) × (new ≡ mid) × (q.full ≡ None)
@@ -160,39 +160,39 @@ Stops q stage mid new (fault.Files f) = StopsAtFile q stage mid new f
 Stops q stage mid new (fault.Output shown) = (new ≡ mid) × ((c : Command) × (text : Name) × IsAnswer q stage c text × (object_in_text text ≡ None) × (string_bytes shown ≡ text_of q.verbose q.dir c))
 Stops q stage mid new (fault.Field name) = (new ≡ mid) × Lacks stage name.now
 
--- an answer counts: it tells this metadata, or a fault says why not
+-- an answer is used: the result is the metadata in it, or the error says why it can't be read
 abbrev pub Counts : Question → Command → Name → ℕ → List Call → Result Metadata AskFault → Type 0
 Counts q c text minor now (Ok m) = TellsAs (read_metadata minor) text (metadata_view m)
 Counts q c text minor now (Err e) = Stops q (taken c text minor) now now e
 
--- cargo was asked the full request, and its answer counts; or that ended the question
+-- the full request was made to cargo, and its answer is used; or an error ended the question
 abbrev pub AsksCargo : Question → List Call → List Call → Result Metadata AskFault → Type 0
 AsksCargo q old new r = ((e : AskFault) × (r ≡ Err e) × Stops q to_cargo old new e)
     ⊎ ((words : List Name) × (text : Name) × (q.full ≡ Some words) × Reads (command_line q.cargo words) text old new × Counts q (command_line q.cargo words) text q.cargo_version new r)
 
--- cargo's first answer, this text, counts; or it has no dependencies, which are wanted, and cargo was asked for them
+-- cargo's first answer, this text, is used; or the full request, where dependencies are wanted
 abbrev pub FallsBack : Question → Name → List Call → List Call → Result Metadata AskFault → Type 0
 FallsBack q text old new r = ((q.deps ≡ false) × (new ≡ old) × Counts q (first_command q) text q.cargo_version new r) ⊎ ((q.deps ≡ true) × AsksCargo q old new r)
 
--- the first question ended behind stable's version, or behind its answer
+-- the question ended at the first request to cargo, or at its answer
 abbrev pub FailsFirst : Question → ℕ → List Call → List Call → AskFault → Type 0
 FailsFirst q minor old new e = Stops q (newer minor) old new e ⊎ ((text : Name) × Reads (first_command q) text old new × Stops q (first minor text) new new e)
 
 module _ (tells : Type 0) (q : Question) (held : Contents) (old new : List Call) where
-  -- these calls and writes lead to a stage, this fault ends the question there, and `W` is so of what was written
+  -- calls and writes led to a stage where this error ends the question, and `W` holds of the writes
   abbrev pub Halts : (Stage → List Change → Type 0) → AskFault → Type 0
   Halts W e = (stage : Stage) × (mid : List Call) × (made : List Change) × Way tells q held old stage mid made × Stops q stage mid new e × W stage made
 
-  -- metadata that an answer tells which counts, or a fault that ended the question
+  -- the metadata are those of the answer that is used, or the error ended the question
   abbrev pub EndsSo : (Stage → List Change → Type 0) → Result Metadata AskFault → Type 0
   EndsSo W (Ok m) = (c : Command) × (text : Name) × (minor : ℕ) × (made : List Change) × Way tells q held old (taken c text minor) new made × W (taken c text minor) made × TellsAs (read_metadata minor) text (metadata_view m)
   EndsSo W (Err e) = Halts W e
 
-  -- what came of a question, whatever was written
+  -- how a question ended, whatever was written
   abbrev pub Ends : Result Metadata AskFault → Type 0
   Ends r = EndsSo (λ stage made. Unit {0}) r
 
--- just so much was written as led to a stage; or, where stable's cargo was asked, and a fault ended that, the lockfile was put back too
+-- just the writes that led to a stage were made; at `locked` the lockfile may be put back too
 abbrev pub Wrote : Type 0 → Contents → (List Change → Type 0) → Stage → List Change → Type 0
 Wrote tells held Made begun made = Made made
 Wrote tells held Made (versioned minor) made = Made made
@@ -202,11 +202,11 @@ Wrote tells held Made (first minor text) made = Made made
 Wrote tells held Made (locked minor text) made = Made made ⊎ ((put : Change) × PutsBack tells held text put × Made (made ++ put ∷ []))
 Wrote tells held Made (taken c text minor) made = Made made
 
--- over files that tell their changes, these are all that were made
+-- where the files say which changes were made, these are all of them
 abbrev pub Writes : Type 0 → Type 0 → List Change → List Change → Contents → Contents → Stage → List Change → Type 0
 Writes whole tells before now held later stage made = whole → Wrote tells held (λ cs. Makes cs before now held later) stage made
 
--- why a text isn't read as f says
+-- why f can't be read from a text
 abbrev pub IsTextFault : {A : Type 0} → (Members → Field A) → Name → Name → AskFault → Type 0
 IsTextFault f text shown fault.Memory = Unit {0}
 IsTextFault f text shown fault.NoHost = ⊥
@@ -215,7 +215,7 @@ IsTextFault f text shown (fault.Files e) = ⊥
 IsTextFault f text shown (fault.Output told) = (object_in_text text ≡ None) × (string_bytes told ≡ shown)
 IsTextFault f text shown (fault.Field name) = (ms : Members) × (object_in_text text ≡ Some ms) × (f ms ≡ Err name.now)
 
--- why a text is no object
+-- why a text can't be read as an object
 abbrev pub IsObjectFault : Name → Name → AskFault → Type 0
 IsObjectFault text shown fault.Memory = Unit {0}
 IsObjectFault text shown fault.NoHost = ⊥
@@ -224,7 +224,7 @@ IsObjectFault text shown (fault.Files e) = ⊥
 IsObjectFault text shown (fault.Output told) = (object_in_text text ≡ None) × (string_bytes told ≡ shown)
 IsObjectFault text shown (fault.Field name) = ⊥
 
--- memory is out, or a command failed so
+-- memory was refused and M holds, or a command failed by an error of which P holds
 abbrev pub FailsAs : Type 0 → (ProcessFault → Type 0) → AskFault → Type 0
 FailsAs M P fault.Memory = M
 FailsAs M P fault.NoHost = ⊥

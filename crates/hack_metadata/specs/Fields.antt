@@ -1,4 +1,4 @@
--- What a field of an object of JSON holds, or its name, where it is missing or ill typed.
+-- What a field of a JSON object holds, or its name, where it is missing or has the wrong type.
 use Rattle.std.specs.Prelude.{◌≡◌, Bool, false, List, [], ◌∷◌, Option, Some, None, Result, Ok, Err, option_map, option_and_then}
 use Rattle.std.specs.Str.{bytes_eq}
 use Rattle.serde_json.specs.Data.{Data, null, boolean, number, string, array, object, Items, no_items, item, Members}
@@ -6,34 +6,34 @@ use Rattle.serde_json.specs.Find.{get_member, as_str, as_bool, as_array, as_obje
 use Rattle.serde_json.specs.Read.{read as read_text}
 use Rattle.hack_base.specs.Names.{Name}
 
--- what was read, or the name of the first field that is at fault
+-- what was read, or the name of the first field that is missing or has the wrong type
 abbrev pub Field : Type 0 → Type 0
 Field A = Result A Name
 
--- one reading behind another: the first fault stands
+-- one reading after another: where the first one fails, that is the result
 infixl 10 ◌>>=◌
 abbrev pub ◌>>=◌ : {A B : Type 0} → Field A → (A → Field B) → Field B
 (Ok x) >>= f = f x
 (Err name) >>= f = Err name
 
--- what is there, else the name
+-- the value where there is one, else the name
 abbrev pub or_name : {A : Type 0} → Name → Option A → Field A
 or_name key None = Err key
 or_name key (Some x) = Ok x
 
--- a text
+-- a field that is a text
 abbrev pub string_in : Name → Members → Field Name
 string_in key ms = or_name key (option_and_then as_str (get_member key ms))
 
--- a truth value
+-- a field that is a boolean
 abbrev pub bool_in : Name → Members → Field Bool
 bool_in key ms = or_name key (option_and_then as_bool (get_member key ms))
 
--- an array
+-- a field that is an array
 abbrev pub array_in : Name → Members → Field Items
 array_in key ms = or_name key (option_and_then as_array (get_member key ms))
 
--- an object
+-- a field that is an object
 abbrev pub object_in : Name → Members → Field Members
 object_in key ms = or_name key (option_and_then as_object (get_member key ms))
 
@@ -46,20 +46,20 @@ unless_null (string s) = Some (string s)
 unless_null (array ds) = Some (array ds)
 unless_null (object ms) = Some (object ms)
 
--- what may be null, and then is none
+-- a field that may be null, and then is none
 abbrev pub nullable_in : Name → Members → Field (Option Data)
 nullable_in key ms = or_name key (option_map unless_null (get_member key ms))
 
--- the text that data are, where there are any
+-- the text that data are; none where there are no data
 abbrev pub text_or_none : Name → Option Data → Field (Option Name)
 text_or_none key None = Ok None
 text_or_none key (Some d) = or_name key (option_map Some (as_str d))
 
--- a text or null
+-- a field that is a text or null
 abbrev pub text_in : Name → Members → Field (Option Name)
 text_in key ms = nullable_in key ms >>= text_or_none key
 
--- what must be an object, as each element of a list: else the field that holds it is at fault
+-- data that have to be an object, such as an element of a list; else the name of that field
 abbrev pub element_of : Name → Data → Field Members
 element_of list d = or_name list (as_object d)
 
@@ -72,6 +72,6 @@ read_all f (item d ds) = f d >>= λ x. read_all f ds >>= λ xs. Ok (x ∷ xs)
 pub record KeepsOthers (key : Name) (old new : Members) : Type 0 where
   pub others : (q : Name) → bytes_eq key q ≡ false → get_member q new ≡ get_member q old
 
--- the object that a text of JSON is
+-- the JSON object that a text is
 abbrev pub object_in_text : Name → Option Members
 object_in_text text = option_and_then as_object (read_text text)

@@ -1,4 +1,4 @@
--- Ids are those of packages.
+-- Ids are places of packages.
 use Rattle.std.specs.Prelude.{◌≡◌, ℕ, Bool, true, ◌&&◌, List, Option, Some, nat_lt}
 use Rattle.std.specs.List.{list_all}
 use Rattle.hack_base.specs.Names.{Name}

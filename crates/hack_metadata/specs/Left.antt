@@ -1,4 +1,4 @@
--- What a question to cargo leaves of the files.
+-- What the files hold after a question to cargo.
 use Rattle.std.specs.Prelude.{◌≡◌, ◌⊎◌, ◌++◌, ◌∷◌, [], ℕ, List, Some, Result, Ok, Err}
 use Rattle.hack_base.specs.Names.{Name}
 use Rattle.hack_files.specs.Files.{Change, Contents, GrowsBy, KeepsAll, KeepsOthers, puts}
@@ -17,7 +17,7 @@ Whole tells old new before now = GrowsBy 0 before now × (tells → KeepsAll old
 abbrev pub Spoilt : Name → Type 0 → Contents → Contents → ℕ → ℕ → Type 0
 Spoilt path tells old new before now = GrowsBy 1 before now × (tells → KeepsOthers path old new)
 
--- memory is out, or the files failed so
+-- memory was refused, or the files failed by an error of which P holds
 abbrev pub IsFileFault : (FsFault → Type 0) → AskFault → Type 0
 IsFileFault P fault.Memory = Unit {0}
 IsFileFault P (fault.Files f) = P f
@@ -26,7 +26,7 @@ IsFileFault P (fault.Process p) = ⊥
 IsFileFault P (fault.Output text) = ⊥
 IsFileFault P (fault.Field name) = ⊥
 
--- the files aren't at fault
+-- the error is not one of the files
 abbrev pub IsNoFileFault : AskFault → Type 0
 IsNoFileFault fault.Memory = Unit {0}
 IsNoFileFault fault.NoHost = Unit {0}
@@ -35,7 +35,7 @@ IsNoFileFault (fault.Files f) = ⊥
 IsNoFileFault (fault.Output text) = Unit {0}
 IsNoFileFault (fault.Field name) = Unit {0}
 
--- the path can't be read, and nothing is done yet; or it can't be put back behind what is done, or memory is out
+-- `still`, and the path can't be read; or `done`, and it can't be written, or memory was refused
 abbrev pub FailsOver : Name → Type 0 → Type 0 → AskFault → Type 0
 FailsOver path still done fault.Memory = done
 FailsOver path still done (fault.Files f) = (still × IsUnread path f) ⊎ (done × IsUnwritten path f)
@@ -44,7 +44,7 @@ FailsOver path still done (fault.Process p) = ⊥
 FailsOver path still done (fault.Output text) = ⊥
 FailsOver path still done (fault.Field name) = ⊥
 
--- what a fault leaves: just where the files themselves failed, the path may hold something else
+-- what an error leaves: only where the files themselves failed, the path may hold something else
 abbrev pub LeftBy : Name → Type 0 → Contents → Contents → ℕ → ℕ → AskFault → Type 0
 LeftBy path tells old new before now fault.Memory = Whole tells old new before now ⊎ Spoilt path tells old new before now
 LeftBy path tells old new before now (fault.Files e) = Spoilt path tells old new before now
@@ -53,7 +53,7 @@ LeftBy path tells old new before now (fault.Process e) = Whole tells old new bef
 LeftBy path tells old new before now (fault.Output text) = Whole tells old new before now
 LeftBy path tells old new before now (fault.Field name) = Whole tells old new before now
 
--- what an answer leaves
+-- what a result leaves: each path as it was, or what its error leaves
 abbrev pub Leaves : {X : Type 0} → Name → Type 0 → Contents → Contents → ℕ → ℕ → Result X AskFault → Type 0
 Leaves path tells old new before now (Ok x) = Whole tells old new before now
 Leaves path tells old new before now (Err e) = LeftBy path tells old new before now e
@@ -67,13 +67,13 @@ abbrev pub Restores : {X : Type 0} → Kept → Type 0 → Contents → Contents
 Restores file tells old new before now (Ok x) = GrowsBy 0 before now × (tells → KeepsOthers file.path old new × (new file.path ≡ Some file.bytes))
 Restores file tells old new before now (Err e) = IsFileFault (IsUnwritten file.path) e × Spoilt file.path tells old new before now
 
--- a fault of a file as one of the question
+-- an error of a file as an error of the question
 abbrev pub IsOfFile : FsFault → AskFault → Type 0
 IsOfFile fs.Memory e = e ≡ fault.Memory
 IsOfFile (fs.Read path) e = e ≡ fault.Files (fs.Read path)
 IsOfFile (fs.Write path) e = e ≡ fault.Files (fs.Write path)
 IsOfFile (fs.NotText path) e = e ≡ fault.Files (fs.NotText path)
 
--- the path is written so, with the bytes that it held where files tell
+-- a write of the path, of which P holds, has what it held, where the files say what they hold
 abbrev pub PutsHeld : Type 0 → Contents → Name → (Change → Type 0) → Type 0
 PutsHeld tells held path P = (bytes : List ℕ) × (tells → held path ≡ Some bytes) × P (puts path bytes)

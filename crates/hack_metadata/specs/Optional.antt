@@ -15,6 +15,6 @@ feature_of d = if d.optional then Some (unwrap_or d.rename d.name) else None
 abbrev pub optional_in : List DependencyRecord → List Name
 optional_in ds = filter_map feature_of ds
 
--- the first of the features, and the dependencies behind it; or there is none
+-- the first of the features, and the dependencies after it; or there is none
 abbrev pub TakesOptional : List Dependency → Option (Bor Name) → List Dependency → Type 0
 TakesOptional ds first left = MatchOption first ((optional_in (map dependency_view ds) ≡ []) × (left ≡ [])) (λ name. optional_in (map dependency_view ds) ≡ name.now ∷ optional_in (map dependency_view left))

@@ -5,6 +5,6 @@ use Rattle.hack_metadata.specs.Optional.{optional_in}
 use Rattle.hack_metadata.specs.View.{dependency_view}
 use Rattle.hack_metadata.specs.declared.package.OptionalDeps.{OptionalDeps}
 
--- the names to come
+-- the names that are still to come
 abbrev pub names_left : OptionalDeps → List Name
 names_left deps = optional_in (map dependency_view deps.left.now)

@@ -1,5 +1,6 @@
--- When a package ID specification matches a package, as the chapter "Package ID Specifications" of the Cargo reference
--- has it. A specification is the package's name, the name with a version behind `@` or `:`, or a URL.
+-- When a package ID specification matches a package, as the chapter "Package ID Specifications" of
+-- the Cargo reference says. A specification is the package's name, the name with a version after
+-- `@` or `:`, or a URL.
 use Rattle.std.specs.Prelude.{◌≡◌, ◌≢◌, ℕ, ◌-◌, ◌≤◌, ◌==◌, ◌||◌, ◌&&◌, Bool, true, false, nat_lt, nat_le, if◌then◌else◌, [], ◌∷◌, ◌++◌, length, take, codes, Option, Some, None, IsSome, IfSome, option_map, option_and_then, unwrap_or}
 use Rattle.std.specs.List.{before_first, after_first, position_or_len, suffix_len}
 use Rattle.std.specs.Char.{is_ascii_whitespace}
@@ -11,7 +12,7 @@ use Rattle.hack_base.specs.Names.{Name}
 abbrev pub has_byte : (ℕ → Bool) → Name → Bool
 has_byte p text = nat_lt (position_or_len p text) (length text)
 
--- what stands behind the first byte that passes, where there is one
+-- what follows the first byte that passes, where there is one
 abbrev pub behind : (ℕ → Bool) → Name → Option Name
 behind p text = if has_byte p text then Some (after_first p text) else None
 
@@ -24,11 +25,11 @@ unless_empty (x ∷ xs) = Some (x ∷ xs)
 abbrev pub separates : ℕ → Bool
 separates x = x == 64 || x == 58
 
--- the one byte
+-- a byte is this one
 abbrev pub is_byte : ℕ → ℕ → Bool
 is_byte b x = x == b
 
--- the text begins so
+-- the text begins with `front`
 abbrev pub BeginsWith : Name → Name → Type 0
 BeginsWith text front = (rest : Name) × (text ≡ front ++ rest)
 
@@ -36,7 +37,7 @@ BeginsWith text front = (rest : Name) × (text ≡ front ++ rest)
 abbrev pub trimmed_end : Name → Name
 trimmed_end text = take (length text - suffix_len is_ascii_whitespace text) text
 
--- a part that is given is the other's
+-- a part is not given, or equals the other one
 abbrev pub AgreesIfGiven : Option Name → Option Name → Type 0
 AgreesIfGiven given full = IfSome given (λ part. full ≡ Some part)
 
@@ -49,7 +50,7 @@ pub record VersionText : Type 0 where
   pub pre : Option Name
   pub build : Option Name
 
--- what stands behind the second dot
+-- what follows the second dot
 abbrev pub third : Name → Option Name
 third text = option_and_then (behind (is_byte 46)) (behind (is_byte 46) text)
 
@@ -67,7 +68,7 @@ version_of text = record {
 abbrev pub IsFull : Name → Type 0
 IsFull text = IsSome (version_of text).patch
 
--- each part that the one gives is the other's
+-- each part that is given equals that of the full version
 pub record Agrees (given full : VersionText) : Type 0 where
   pub major : given.major ≡ full.major
   pub minor : AgreesIfGiven given.minor full.minor
@@ -88,8 +89,8 @@ pub record Url : Type 0 where
   pub query : Option Name
   pub fragment : Option Name
 
--- the text is that URL: it is cut at its first `://`, in front of it at the first `+`, behind it at the first `#`, and
--- then at the first `?`; an empty query or fragment is none
+-- the text is that URL: it is cut at its first `://`; the text before at the first `+`; the text
+-- after at the first `#`, and then at the first `?`; an empty query or fragment is none
 pub record IsUrl (text : Name) (url : Url) : Type 0 where
   pub scheme : Name
   pub rest : Name
@@ -102,7 +103,7 @@ pub record IsUrl (text : Name) (url : Url) : Type 0 where
 
 -- ---- the match
 
--- what a specification is matched with
+-- what a specification is compared with
 pub record Identity : Type 0 where
   pub name : Name
   pub version : Name
@@ -127,8 +128,8 @@ module _ (p : Identity) (spec : Name) where
     pub path : given.path ≡ own.path
     pub query : AgreesIfGiven given.query own.query
 
-  -- whether the specification matches is whether the one version fits the other: it is the name and a version, or
-  -- a place whose fragment is a name and a version, as that of the id, or a version alone
+  -- the specification matches just where `given` fits `full`: it is the name and a version, or a
+  -- place whose fragment is a name and a version, as that of the id, or a version alone
   pub data AsksVersion (given full : Name) : Type 0 where
     of_name : (by : ℕ) → separates by ≡ true → spec ≡ p.name ++ by ∷ given → p.version ≡ full → AsksVersion given full
     of_fragment : (url own : Url) (text id_text : Name) → IsPlace url own → url.fragment ≡ Some text → own.fragment ≡ Some id_text

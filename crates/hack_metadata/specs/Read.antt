@@ -1,5 +1,6 @@
--- What is read of the data of `cargo metadata`: the records, or the first field at fault, in this order of fields.
--- `minor` is the minor version of the cargo that answered: some fields came with a later one.
+-- What is read from the data of `cargo metadata`: the records, or the first field that is missing
+-- or has the wrong type, in this order of fields. `minor` is the minor version of the cargo that
+-- wrote the data: some fields came with a later one.
 use Rattle.std.specs.Prelude.{ℕ, ◌+◌, ◌==◌, Bool, true, false, not, List, [], ◌∷◌, Option, Some, None, Ok, codes, filter, map, nat_le, option_map, option_and_then, if◌then◌else◌}
 use Rattle.std.specs.Ordering.{nat_cmp}
 use Rattle.std.specs.Str.{bytes_eq}
@@ -41,7 +42,7 @@ abbrev pub has_items : Items → Bool
 has_items no_items = false
 has_items (item d ds) = true
 
--- whether a package may be published, by what `publish` holds: not where it names no registry at all
+-- whether a package may be published, by what `publish` holds: null, or a list with a registry
 abbrev pub may_publish : Option Data → Field Bool
 may_publish None = Ok true
 may_publish (Some d) = or_name (codes "publish") (option_map has_items (as_array d))
@@ -163,7 +164,7 @@ module _ (place : Name → Option ℕ) (minor : ℕ) where
 abbrev pub ids_of : List PackageRecord → List Name
 ids_of packages = map (λ p. p.id) packages
 
--- what is read behind the packages, where `place` says which one an id means
+-- what is read after the packages, where `place` says which one an id means
 abbrev pub read_behind : ℕ → List PackageRecord → (Name → Option ℕ) → Members → Field MetadataRecord
 read_behind minor packages place ms =
     members_in place ms >>= λ members.
@@ -171,7 +172,7 @@ read_behind minor packages place ms =
     string_in (codes "workspace_root") ms >>= λ root.
     Ok (record { cargo_version = minor; packages = packages; workspace_members = members; resolve = nodes; workspace_root = root })
 
--- all that the object of `cargo metadata` tells: an id means the last package that has it
+-- all that the object of `cargo metadata` says: an id means the last package that has it
 abbrev pub read_metadata : ℕ → Members → Field MetadataRecord
 read_metadata minor ms =
     (array_in (codes "packages") ms >>= read_all (read_package minor)) >>= λ packages.

@@ -35,7 +35,7 @@ pub record NodeDepRecord : Type 0 where
 pub record NodeRecord : Type 0 where
   pub deps : List NodeDepRecord
 
--- the nodes by the places of their packages, rising
+-- the nodes by the places of their packages, in increasing order
 abbrev pub Nodes : Type 0
 Nodes = List (ℕ × NodeRecord)
 
@@ -43,7 +43,7 @@ Nodes = List (ℕ × NodeRecord)
 abbrev pub node_at : Nodes → ℕ → Option NodeRecord
 node_at nodes at = lookup (λ place. at == place) nodes
 
--- all that is told of a workspace
+-- all that cargo reports of a workspace
 pub record MetadataRecord : Type 0 where
   pub cargo_version : ℕ
   pub packages : List PackageRecord

@@ -1,4 +1,4 @@
--- The commands that ask cargo for the metadata of a workspace, word by word.
+-- The commands that ask cargo for the metadata of a workspace, argument by argument.
 use Rattle.std.specs.Prelude.{ℕ, Bool, true, false, List, [], ◌∷◌, ◌++◌, Option, Some, None, codes, map, option_map, string_bytes}
 use Rattle.std.specs.List.{flat_map}
 use Rattle.hack_base.specs.Names.{Name, optional_text}
@@ -6,39 +6,39 @@ use Rattle.hack_process.specs.CommandTexts.{Command}
 use Rattle.hack_words.specs.declared.cli.args.Args.{Args}
 use Rattle.hack_words.specs.declared.cli.env.Env.{Env}
 
--- a program with these words, and none of a user
+-- a program with these arguments, and none of a user
 abbrev pub command_line : Name → List Name → Command
 command_line program words = record { program = program; strip_program_path = false; leading = []; passed = []; own = words; features = None; trailing = [] }
 
--- the manifest path as words
+-- `--manifest-path` and its value, where it is given
 abbrev pub path_words : Option Name → List Name
 path_words None = []
 path_words (Some path) = codes "--manifest-path" ∷ path ∷ []
 
--- each platform behind its option
+-- `--filter-platform` and its value, for each platform
 abbrev pub platform_words : List Name → List Name
 platform_words ps = flat_map (λ p. codes "--filter-platform" ∷ p ∷ []) ps
 
--- the words for dependencies on these targets, or else on the host; none where that isn't known
+-- the arguments for dependencies on these targets, or else on the host; none where it isn't known
 abbrev pub target_words : List Name → Option Name → Option (List Name)
 target_words [] None = None
 target_words [] (Some host) = Some (platform_words (host ∷ []))
 target_words (t ∷ ts) host = Some (platform_words (t ∷ ts))
 
--- the words that say whose dependencies are told: nobody's, or those for targets
+-- the arguments that say which dependencies are wanted: none, or those for targets
 abbrev pub scope_words : Bool → List Name → Option Name → Option (List Name)
 scope_words false targets host = Some (codes "--no-deps" ∷ [])
 scope_words true targets host = target_words targets host
 
--- the full request with these words of scope
+-- the arguments of the full request, with these for the dependencies
 abbrev pub full_with : Option Name → List Name → List Name
 full_with path scope = codes "metadata" ∷ codes "--format-version=1" ∷ (path_words path ++ scope)
 
--- the words of the full request; none where the host is wanted, and not known
+-- the arguments of the full request; none where the host is wanted, and not known
 abbrev pub full_of : Args → Option Name → Option (List Name)
 full_of args host = option_map (full_with (optional_text args.manifest_path)) (scope_words args.include_deps_features (map string_bytes args.target.items) host)
 
--- what is asked, and of whom
+-- a question for the metadata: what is asked, and the programs that are asked
 pub record Question : Type 0 where
   pub cargo : Name
   pub rustup : Name
@@ -48,10 +48,10 @@ pub record Question : Type 0 where
   pub dir : Name
   pub verbose : Bool
   pub path : Option Name
-  -- the words of the full request; none where the host is wanted, and not known
+  -- the arguments of the full request; none where the host is wanted, and not known
   pub full : Option (List Name)
 
--- the question of these arguments
+-- the question of a call with these arguments
 abbrev pub question : Args → Env → ℕ → Option Name → Question
 question args env minor host = record {
   cargo = string_bytes env.cargo;
@@ -64,18 +64,18 @@ question args env minor host = record {
   full = full_of args host;
 }
 
--- stable's cargo with these words
+-- stable's cargo with these arguments
 abbrev pub by_stable : Question → List Name → Command
 by_stable q words = command_line q.rustup (codes "run" ∷ codes "stable" ∷ codes "cargo" ∷ words)
 
--- stable's cargo is asked for its version
+-- the command that asks stable's cargo for its version
 abbrev pub version_command : Name → Command
 version_command rustup = command_line rustup (codes "run" ∷ codes "stable" ∷ codes "cargo" ∷ codes "-vV" ∷ [])
 
--- cargo is asked first, without dependencies
+-- the first request to cargo, without dependencies
 abbrev pub first_command : Question → Command
 first_command q = command_line q.cargo (codes "metadata" ∷ codes "--format-version=1" ∷ codes "--no-deps" ∷ path_words q.path)
 
--- cargo is to make the lockfile
+-- the command that makes the lockfile
 abbrev pub lock_command : Question → Command
 lock_command q = command_line q.cargo (codes "generate-lockfile" ∷ path_words q.path)

@@ -1,4 +1,4 @@
--- What the steps of matching a specification answer.
+-- What the steps of matching a specification return.
 use Rattle.std.specs.Prelude.{◌≡◌, ◌≢◌, ℕ, ◌≤◌, ◌++◌, length, codes, nat_lt, ◌==◌, ◌&&◌, Bool, true, false, if◌then◌else◌, [], ◌∷◌, Option, Some, None, Result, Ok, Err, is_some, bytes_eq}
 use Rattle.std.specs.List.{before_first, after_first}
 use Rattle.hack_base.specs.Names.{Name}
@@ -6,17 +6,17 @@ use Rattle.hack_metadata.specs.PackageSpecs.{BeginsWith, has_byte, separates, Ve
 use Rattle.hack_metadata.specs.declared.cargo.SpecFault.{SpecFault}
 use Rattle.hack_metadata.specs.declared.cargo.SpecFault.TheVariants.{BadId, BadVersion}
 
--- what matching answers
+-- the result of matching
 abbrev pub Answer : Type 0
 Answer = Result Bool SpecFault
 
--- a part that is given is the other's
+-- a part is not given, or equals the other one
 abbrev pub agrees_if_given : Option Name → Option Name → Bool
 agrees_if_given None full = true
 agrees_if_given (Some part) None = false
 agrees_if_given (Some part) (Some full) = bytes_eq part full
 
--- each part that the one gives is the other's
+-- each part that is given equals that of the full version
 abbrev pub agrees : VersionText → VersionText → Bool
 agrees given full = bytes_eq given.major full.major && (agrees_if_given given.minor full.minor && (agrees_if_given given.patch full.patch && (agrees_if_given given.pre full.pre && agrees_if_given given.build full.build)))
 
@@ -24,11 +24,11 @@ agrees given full = bytes_eq given.major full.major && (agrees_if_given given.mi
 abbrev pub fits : Name → Name → Answer
 fits given full = if is_some (version_of full).patch then Ok (agrees (version_of given) (version_of full)) else Err BadVersion
 
--- what stands round the first byte that passes, where there is one
+-- what comes before and after the first byte that passes, where there is one
 abbrev pub cut_by : (ℕ → Bool) → Name → Option (Name × Name)
 cut_by p text = if has_byte p text then Some (before_first p text, after_first p text) else None
 
--- what stands round the first separator
+-- what comes before and after the first separator, where there is one
 abbrev pub parts_at_separator : Name → Option (Name × Name)
 parts_at_separator text = cut_by separates text
 
@@ -38,52 +38,52 @@ earlier None second = second
 earlier (Some first) None = Some first
 earlier (Some first) (Some second) = if nat_lt (length second.0) (length first.0) then Some second else Some first
 
--- what stands behind the byte at the front
+-- what follows the byte at the beginning
 abbrev pub behind_byte : ℕ → Name → Option Name
 behind_byte b [] = None
 behind_byte b (x ∷ rest) = if x == b then Some rest else None
 
--- what stands behind a separator at the front
+-- what follows a separator at the beginning
 abbrev pub behind_separator : Name → Option Name
 behind_separator [] = None
 behind_separator (x ∷ rest) = if separates x then Some rest else None
 
--- behind the name: nothing, or a separator and a version
+-- whether what follows the name matches: nothing, or a separator and a version
 abbrev pub behind_name : Name → Name → Answer
 behind_name version [] = Ok true
 behind_name version (x ∷ given) = if separates x then fits given version else Ok false
 
--- a fragment that is a name and a version, where the id's is parted so
+-- whether a fragment that is a name and a version matches the parts of the id's fragment
 abbrev pub with_version : Name × Name → Option (Name × Name) → Answer
 with_version given None = Ok false
 with_version given (Some own) = if bytes_eq given.0 own.0 then fits given.1 own.1 else Ok false
 
--- a fragment that is a name or a version
+-- whether a fragment that is a name or a version alone matches
 abbrev pub alone_in : Identity → Name → Answer
 alone_in p text = if bytes_eq text p.name then Ok true else (if begins_with_digit text then fits text p.version else Ok false)
 
--- a fragment by how it is parted, beside that of the id
+-- whether a fragment with these parts matches the id's fragment with those
 abbrev pub in_fragment : Identity → Name → Option (Name × Name) → Option (Name × Name) → Answer
 in_fragment p text None own = alone_in p text
 in_fragment p text (Some given) own = with_version given own
 
--- the fragments of two URLs
+-- whether the fragment of a specification matches that of the id
 abbrev pub of_fragments : Identity → Option Name → Option Name → Answer
 of_fragments p None own = Ok true
 of_fragments p (Some text) None = Ok false
 of_fragments p (Some text) (Some own) = in_fragment p text (parts_at_separator text) (parts_at_separator own)
 
--- the same place
+-- two URLs are the same place
 abbrev pub is_place : Url → Url → Bool
 is_place given own = bytes_eq given.protocol own.protocol && (bytes_eq given.path own.path && agrees_if_given given.query own.query)
 
--- two texts that are URLs or none
+-- whether a specification matches an id, each read as a URL, or none where it is no URL
 abbrev pub of_urls : Identity → Option Url → Option Url → Answer
 of_urls p None own = Ok false
 of_urls p (Some given) None = Err BadId
 of_urls p (Some given) (Some own) = if is_place given own then of_fragments p given.fragment own.fragment else Ok false
 
--- what a text is as a URL, or that it is none
+-- the URL that a text is; none where it is no URL
 abbrev pub IsReadAs : Name → Option Url → Type 0
 IsReadAs text None = (url : Url) → ¬ IsUrl text url
 IsReadAs text (Some url) = IsUrl text url
@@ -92,12 +92,12 @@ IsReadAs text (Some url) = IsUrl text url
 abbrev pub IsNoUrl : Name → Type 0
 IsNoUrl text = (x y : Name) → text ≢ x ++ (codes "://" ++ y)
 
--- a text round its first `://`
+-- what comes before and after the first `://` of a text
 pub record IsSchemeCut (text scheme rest : Name) : Type 0 where
   pub whole : text ≡ scheme ++ (codes "://" ++ rest)
   pub first : (x y : Name) → text ≡ x ++ (codes "://" ++ y) → length scheme ≤ length x
 
--- the text begins with the name, and behind it is this; or it doesn't begin with it
+-- the text begins with the name, and this follows; or it doesn't begin with it
 abbrev pub IsBehind : Name → Name → Option Name → Type 0
 IsBehind name text None = ¬ BeginsWith text name
 IsBehind name text (Some rest) = text ≡ name ++ rest

@@ -19,6 +19,6 @@ version_view v = record { major = v.major.now; minor = option_copied v.minor; pa
 abbrev pub url_view : UrlParts → Url
 url_view u = record { protocol = u.protocol.now; path = u.path.now; query = option_copied u.query; fragment = option_copied u.fragment }
 
--- what a specification is matched with
+-- what a specification is compared with
 abbrev pub identity_of : Package → Identity
 identity_of p = record { name = string_bytes p.name; version = string_bytes p.version; id = string_bytes p.id }

@@ -26,7 +26,7 @@ package_view p = record { id = string_bytes p.id; name = string_bytes p.name; ve
 abbrev pub place_at : PackageId → ℕ
 place_at id = id.index
 
--- which package a text means, by a map of ids
+-- the place of the package that a text means, by a map of ids
 abbrev pub place_in : BTreeMap (String Global) PackageId → Name → Option ℕ
 place_in ids id = option_map place_at (get_by_text ids id)
 
@@ -50,6 +50,6 @@ nodes_view nodes = map (λ e. (e.0.index, node_view e.1)) nodes.entries
 abbrev pub ids_in : List Package → List Name
 ids_in packages = map (λ p. string_bytes p.id) packages
 
--- what a hasher gets of a place
+-- what a hasher is given for a place
 abbrev pub place_bytes : ℕ → HashWrites
 place_bytes = usize

@@ -1,4 +1,4 @@
-//! What the commands that ask for metadata answer.
+//! Runs the commands that ask for metadata, and reads what they write.
 
 ghost use Rattle.std.specs.Prelude.{◌≡◌, Some, IfOk, IfErr, OnOk, OnErr, MatchOption, true};
 ghost use Rattle.std.specs.Prelude.{string_bytes};
@@ -20,7 +20,7 @@ use hack_process::process::{Caller, ProcessBuilder, ProcessFault};
 use hack_words::cli::{Args, Env};
 use std::alloc::{AllocError, Global};
 
-/// Runs a command, and keeps its output from the terminal.
+/// Runs a command. Its output is captured, so the terminal doesn't show it.
 pub(crate) fn run<C: Caller>(
     alloc: Global,
     asked: &ProcessBuilder<'_>,
@@ -42,7 +42,7 @@ pub(crate) fn run<C: Caller>(
     }
 }
 
-/// Reads the text that a command writes.
+/// Runs a command, and returns the text that it writes.
 pub(crate) fn read<C: Caller>(
     alloc: Global,
     asked: &ProcessBuilder<'_>,
@@ -64,7 +64,8 @@ pub(crate) fn read<C: Caller>(
     }
 }
 
-/// Reads the text that a command writes. None where it fails, but not for want of memory.
+/// Runs a command, and returns the text that it writes. None where the command fails; an error
+/// where memory is refused.
 pub(crate) fn try_read<C: Caller>(
     alloc: Global,
     asked: &ProcessBuilder<'_>,
@@ -88,7 +89,7 @@ pub(crate) fn try_read<C: Caller>(
     }
 }
 
-/// The metadata that the answer to a command tells, as of a cargo of this minor version.
+/// Reads the metadata from the answer to a command, as those of a cargo of this minor version.
 pub(crate) fn metadata_in(
     alloc: Global,
     text: &str,
@@ -112,7 +113,7 @@ pub(crate) fn metadata_in(
     }
 }
 
-/// The folder of the workspace that the answer to a command tells.
+/// Reads the folder of the workspace from the answer to a command.
 pub(crate) fn root_in(
     alloc: Global,
     text: &str,
@@ -135,7 +136,7 @@ pub(crate) fn root_in(
     }
 }
 
-/// The object that the answer to a command is.
+/// Reads the answer to a command as a JSON object.
 fn object_in(
     alloc: Global,
     text: &str,

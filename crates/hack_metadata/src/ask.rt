@@ -1,5 +1,5 @@
-//! The question to cargo for the metadata of a workspace. A cargo can't tell of what needs a newer
-//! one, so stable's cargo is asked where it is newer, and what it does to the lockfile is undone.
+//! Asks cargo for the metadata of a workspace. A cargo doesn't report what only a newer one knows,
+//! so stable's cargo is asked where it is newer, and what it does to the lockfile is undone.
 
 ghost use Rattle.std.specs.Prelude.{◌≡◌, ◌⊎◌, ◌∷◌, [], ℕ, List, Some, None, IfOk, IfErr};
 ghost use Rattle.std.specs.Prelude.{OnOk, OnErr, MatchOption, option_copied, string_bytes, true};
@@ -27,9 +27,10 @@ use hack_words::cli::{Args, Env};
 use std::alloc::{AllocError, Global};
 
 impl Metadata {
-    /// Asks cargo, whose minor version and host these are, for the metadata of the workspace; or
-    /// stable's cargo where that is newer. Then the lockfile is made where there is none, and is
-    /// written back after stable's cargo ran. Where that fails, what cargo itself tells counts.
+    /// Asks cargo, whose minor version and host are given, for the metadata of the workspace; or
+    /// stable's cargo where that is newer. Before stable's cargo runs, the lockfile is made where
+    /// there is none; after it, the lockfile is written back. Where stable's cargo fails, the
+    /// answer of cargo itself is used.
     pub fn new<C: Caller, F: Files>(
         alloc: Global,
         args: &Args,
@@ -60,17 +61,18 @@ impl Metadata {
     }
 }
 
-/// What is asked, and of whom.
+/// The question for the metadata: what is asked, and the programs that are asked.
 #[derive(Drop)]
 struct Question<'a> {
     args: &'a Args,
     env: &'a Env,
     cargo_version: u32,
-    // The words of the full request.
+    // The arguments of the full request.
     full: Vec<String>,
 }
 
-/// What cargo itself tells where stable's is newer.
+/// The first answer of cargo itself, where stable's is newer: the command, what it wrote, and the
+/// path of the lockfile.
 #[derive(Drop)]
 struct First<'a> {
     command: ProcessBuilder<'a>,
@@ -100,7 +102,7 @@ impl<'a> Question<'a> {
         })
     }
 
-    /// Asks cargo the full request.
+    /// Makes the full request to cargo.
     fn ask_cargo<C: Caller>(&self, alloc: Global, caller: &mut C) -> Result<Metadata, AskFault>
         ensures asked { C.tells → AsksCargo (asks self.now) (C.calls caller.old)
             (C.calls caller.new) result }
@@ -118,8 +120,8 @@ impl<'a> Question<'a> {
         )
     }
 
-    /// Asks stable's cargo, of this minor version, behind a first question to cargo, which says
-    /// where the lockfile is.
+    /// Asks stable's cargo, of this minor version, after a first request to cargo, whose answer
+    /// says where the lockfile is.
     fn ask_stable<C: Caller, F: Files>(
         &self,
         alloc: Global,
@@ -151,7 +153,7 @@ impl<'a> Question<'a> {
         }
     }
 
-    /// Asks cargo what it tells without dependencies.
+    /// Asks cargo for the metadata without dependencies.
     fn first<C: Caller>(&self, alloc: Global, caller: &mut C) -> Result<First<'a>, AskFault>
         ensures command { IfOk result (λ f.
             command_of f.command ≡ first_command (asks self.now)) }
@@ -176,7 +178,7 @@ impl<'a> Question<'a> {
         })
     }
 
-    /// Has cargo make the lockfile where there is none.
+    /// Makes the lockfile by `cargo generate-lockfile`, where there is none.
     fn make_lockfile<C: Caller, F: Files>(
         &self,
         alloc: Global,
@@ -206,8 +208,8 @@ impl<'a> Question<'a> {
         run(alloc, &asked, self.env, caller)
     }
 
-    /// Reads what a command writes, and puts the lockfile back behind it. None where the command
-    /// failed.
+    /// Runs a command, puts the lockfile back after it, and returns what the command wrote. None
+    /// where the command failed.
     fn read_over<C: Caller, F: Files>(
         &self,
         alloc: Global,
@@ -248,8 +250,8 @@ impl<'a> Question<'a> {
         }
     }
 
-    /// What counts where stable's cargo failed: the first answer, which has no dependencies; where
-    /// they are wanted, cargo is asked for them.
+    /// Returns the metadata where stable's cargo failed: those of the first answer, which has no
+    /// dependencies; or, where dependencies are wanted, those of the full request to cargo.
     fn fall_back<C: Caller>(
         &self,
         alloc: Global,

@@ -1,4 +1,4 @@
-//! Why cargo isn't had to tell of a workspace.
+//! Why asking cargo for the metadata of a workspace failed.
 
 use crate::fault::MetadataFault;
 use hack_files::fs::FsFault;
@@ -6,12 +6,12 @@ use hack_process::process::ProcessFault;
 use std::alloc::{AllocError, AllocFailed};
 use thiserror::Error;
 
-/// Why the metadata of a workspace can't be had.
+/// Why the metadata of a workspace can't be read from cargo.
 #[derive(Debug, Drop, Error)]
 pub enum AskFault {
     #[error("out of memory")]
     Memory,
-    /// The dependencies for the host are wanted, and cargo told no host.
+    /// The dependencies for the host are wanted, and cargo reported no host.
     #[error("unable to determine host")]
     NoHost,
     /// A command failed.
@@ -20,10 +20,10 @@ pub enum AskFault {
     /// The lockfile can't be read, or written back.
     #[error("{0}")]
     Files(FsFault),
-    /// What this command, as a user reads it, wrote is no JSON object.
+    /// The output of this command is no JSON object. The command is shown as a user reads it.
     #[error("failed to parse output from {0}")]
     Output(String),
-    /// The first field of the answer that is missing or ill typed.
+    /// The first field of the answer that is missing or has the wrong type.
     #[error("failed to parse `{0}` field from metadata")]
     Field(&'static str),
 }

@@ -19,7 +19,7 @@ ghost use Rattle.hack_metadata.specs.SpecViews.{pair_view, version_view, url_vie
 use crate::package::Package;
 use thiserror::Error;
 
-/// Why it isn't known whether a specification matches.
+/// Why it can't be decided whether a specification matches a package.
 #[derive(Debug, PartialEq, Eq, Drop, Error)]
 pub enum SpecFault {
     /// The specification is a URL, and the package's id is none.
@@ -30,8 +30,8 @@ pub enum SpecFault {
     BadVersion,
 }
 
-/// Whether the specification matches the package: it is the package's name, the name and a version,
-/// or a URL that agrees with the package's id.
+/// Returns whether the specification matches the package: it is the package's name, the name and a
+/// version, or a URL that agrees with the package's id.
 pub fn match_pkg_spec(pkg: &Package, spec: &str) -> Result<bool, SpecFault>
     ensures matches { (result ≡ Ok true) ↔ Matches (identity_of pkg.now) spec.now }
     ensures bad_id { (result ≡ Err SpecFault.BadId) ↔ HasBadId (identity_of pkg.now) spec.now }
@@ -47,14 +47,14 @@ pub fn match_pkg_spec(pkg: &Package, spec: &str) -> Result<bool, SpecFault>
     }
 }
 
-/// What stands behind the name at the front of a specification.
+/// Returns what follows the name at the beginning of a specification.
 fn without_name<'a>(spec: &'a str, name: &str) -> Option<&'a str>
     ensures { IsBehind name.now spec.now (option_copied result) }
 {
     spec.strip_prefix(name)
 }
 
-/// Whether what stands behind the name matches: nothing, or a separator and a version.
+/// Returns whether what follows the name matches: nothing, or a separator and a version.
 fn match_behind_name(version: &str, rest: &str) -> Result<bool, SpecFault>
     ensures { result ≡ behind_name version.now rest.now }
 {
@@ -67,7 +67,7 @@ fn match_behind_name(version: &str, rest: &str) -> Result<bool, SpecFault>
     }
 }
 
-/// What stands behind a separator at the front.
+/// Returns what follows a separator at the beginning.
 fn without_separator(rest: &str) -> Option<&str>
     ensures { option_copied result ≡ behind_separator rest.now }
 {
@@ -77,7 +77,7 @@ fn without_separator(rest: &str) -> Option<&str>
     }
 }
 
-/// What stands behind this byte at the front.
+/// Returns what follows this byte at the beginning.
 fn without_byte(rest: &str, at: char) -> Option<&str>
     requires { at < 128 }
     ensures { option_copied result ≡ behind_byte at rest.now }
@@ -85,7 +85,7 @@ fn without_byte(rest: &str, at: char) -> Option<&str>
     rest.strip_prefix(at)
 }
 
-/// Whether a specification and an id match that are URLs, or none.
+/// Returns whether a specification matches an id, each read as a URL, or None where it is no URL.
 fn match_urls(
     pkg: &Package,
     given: Option<UrlParts<'_>>,
@@ -106,7 +106,7 @@ fn match_urls(
     match_fragments(pkg, given.fragment, own.fragment)
 }
 
-/// Whether the fragment of a specification matches that of the id.
+/// Returns whether the fragment of a specification matches that of the id.
 fn match_fragments(pkg: &Package, given: Option<&str>, own: Option<&str>) -> Result<bool, SpecFault>
     ensures { result ≡ of_fragments (identity_of pkg.now) (option_copied given.entry)
         (option_copied own.entry) }
@@ -120,7 +120,7 @@ fn match_fragments(pkg: &Package, given: Option<&str>, own: Option<&str>) -> Res
     match_fragment(pkg, given, own)
 }
 
-/// The same for a fragment that is there, as is that of the id.
+/// Returns whether a fragment matches that of the id, where both have one.
 fn match_fragment(pkg: &Package, given: &str, own: &str) -> Result<bool, SpecFault>
     ensures { result ≡ in_fragment (identity_of pkg.now) given.now (parts_at_separator given.now)
         (parts_at_separator own.now) }
@@ -135,7 +135,7 @@ fn match_fragment(pkg: &Package, given: &str, own: &str) -> Result<bool, SpecFau
     }
 }
 
-/// Whether a fragment that is a name or a version alone matches.
+/// Returns whether a fragment that is a name or a version alone matches.
 fn match_alone(pkg: &Package, given: &str) -> Result<bool, SpecFault>
     ensures { result ≡ alone_in (identity_of pkg.now) given.now }
 {
@@ -183,7 +183,8 @@ impl<'a> UrlParts<'a> {
         })
     }
 
-    /// Whether both are the same place: the same protocol, path, and query where it is given.
+    /// Returns whether both are the same place: the same protocol, path, and query where it is
+    /// given.
     fn is_place(&self, own: &UrlParts<'_>) -> bool
         ensures { result ≡ is_place (url_view self.now) (url_view own.now) }
     {
@@ -193,7 +194,7 @@ impl<'a> UrlParts<'a> {
     }
 }
 
-/// A text cut at its first `://`.
+/// Cuts a text at its first `://`. None where it has none.
 fn cut_at_scheme(text: &str) -> Option<(&str, &str)>
     ensures { MatchOption result (IsNoUrl text.now)
         (λ parts. IsSchemeCut text.now parts.0.now parts.1.now) }
@@ -247,7 +248,7 @@ impl<'a> VersionParts<'a> {
         }
     }
 
-    /// Whether each part that is given is the other's.
+    /// Returns whether each part that is given equals that of `full`.
     fn agrees(&self, full: &VersionParts<'_>) -> bool
         ensures { result ≡ agrees (version_view self.now) (version_view full.now) }
     {
@@ -259,7 +260,7 @@ impl<'a> VersionParts<'a> {
     }
 }
 
-/// Whether a version fits a full one.
+/// Returns whether a version fits a full one. The error says that `full` has no three parts.
 fn version_fits(given: &str, full: &str) -> Result<bool, SpecFault>
     ensures { result ≡ fits given.now full.now }
 {
@@ -270,7 +271,7 @@ fn version_fits(given: &str, full: &str) -> Result<bool, SpecFault>
     Ok(VersionParts::of(given).agrees(&full))
 }
 
-/// Whether a part that is given is the other's.
+/// Returns whether a part is not given, or equals the other one.
 fn agrees_if_given(given: Option<&str>, full: Option<&str>) -> bool
     ensures { result ≡ agrees_if_given (option_copied given.entry) (option_copied full.entry) }
 {
@@ -283,7 +284,7 @@ fn agrees_if_given(given: Option<&str>, full: Option<&str>) -> bool
     }
 }
 
-/// A text cut at its first byte of this kind.
+/// Cuts a text at its first byte `at`. Without one the front is the whole text.
 fn cut(text: &str, at: char) -> (&str, Option<&str>)
     requires { at < 128 }
     ensures front { result.0.now ≡ before_first (is_byte at) text.now }
@@ -295,7 +296,8 @@ fn cut(text: &str, at: char) -> (&str, Option<&str>)
     }
 }
 
-/// The same, where an empty rest is none.
+/// Cuts a text at its first byte `at`. Without one the front is the whole text. An empty rest is
+/// none.
 fn cut_part(text: &str, at: char) -> (&str, Option<&str>)
     requires { at < 128 }
     ensures front { result.0.now ≡ before_first (is_byte at) text.now }
@@ -316,14 +318,14 @@ fn unless_empty(text: &str) -> Option<&str>
     Some(text)
 }
 
-/// A text cut at its first `@` or `:`.
+/// Cuts a text at its first `@` or `:`. None where it has none.
 fn cut_at_separator(text: &str) -> Option<(&str, &str)>
     ensures { option_map pair_view result ≡ parts_at_separator text.now }
 {
     earlier(cut_at(text, '@'), cut_at(text, ':'))
 }
 
-/// A text cut at its first byte of this kind, where it has one.
+/// Cuts a text at its first byte `at`. None where it has none.
 fn cut_at(text: &str, at: char) -> Option<(&str, &str)>
     requires { at < 128 }
     ensures { option_map pair_view result ≡ cut_by (is_byte at) text.now }
@@ -331,7 +333,7 @@ fn cut_at(text: &str, at: char) -> Option<(&str, &str)>
     text.split_once(at)
 }
 
-/// The one of two cuts that has the shorter front.
+/// Returns the one of two cuts that has the shorter front.
 fn earlier<'a>(
     first: Option<(&'a str, &'a str)>,
     second: Option<(&'a str, &'a str)>,

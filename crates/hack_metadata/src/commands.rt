@@ -1,4 +1,5 @@
-//! The commands that ask cargo for the metadata of a workspace, their words, and how they are run.
+//! The commands that ask cargo for the metadata of a workspace: their arguments, and the question
+//! for stable's version.
 
 ghost use Rattle.std.specs.Prelude.{◌≡◌, ◌⊎◌, ◌++◌, ◌∷◌, [], Some, None, IfOk, IfErr, OnOk, OnErr};
 ghost use Rattle.std.specs.Prelude.{codes, map, option_copied, string_bytes, true};
@@ -17,7 +18,7 @@ use hack_versions::rustup::VersionTextFault;
 use hack_words::cli::{Args, Env};
 use std::alloc::{AllocError, Global};
 
-/// The manifest path as words of a command.
+/// Returns `--manifest-path` and its value, where it is given.
 pub(crate) fn manifest_words(alloc: Global, args: &Args) -> Result<Vec<String>, AllocError>
     ensures { IfOk result (λ words. map string_bytes words.items
         ≡ path_words (optional_text args.now.manifest_path)) }
@@ -33,7 +34,7 @@ pub(crate) fn manifest_words(alloc: Global, args: &Args) -> Result<Vec<String>, 
     }
 }
 
-/// The words of the full request.
+/// Returns the arguments of the full request.
 pub(crate) fn full_words(
     alloc: Global,
     args: &Args,
@@ -52,8 +53,8 @@ pub(crate) fn full_words(
     Ok(words)
 }
 
-/// The words that say whose dependencies are told: nobody's, or those for each target, or else for
-/// the host.
+/// Returns the arguments that say which dependencies are wanted: none, or those for each target, or
+/// for the host where no target is given.
 fn platform_words(alloc: Global, args: &Args, host: Option<&str>) -> Result<Vec<String>, AskFault>
     ensures ok { IfOk result (λ words. scope_words args.now.include_deps_features
         (map string_bytes args.now.target.items) (option_copied host.entry)
@@ -102,7 +103,7 @@ fn target_words(alloc: Global, targets: &[String]) -> Result<Vec<String>, AllocE
     Ok(words)
 }
 
-/// Adds a platform behind its option.
+/// Adds `--filter-platform` and the platform.
 fn push_platform(words: &mut Vec<String>, platform: &str) -> Result<(), AllocError>
     ensures { OnOk result (map string_bytes words.new.items
         ≡ map string_bytes words.old.items ++ codes "--filter-platform" ∷ platform.now ∷ []) }
@@ -113,7 +114,7 @@ fn push_platform(words: &mut Vec<String>, platform: &str) -> Result<(), AllocErr
     Ok(())
 }
 
-/// A command of these words.
+/// Makes the command of a program with these arguments.
 pub(crate) fn command<'a>(
     alloc: Global,
     program: &str,
@@ -129,7 +130,7 @@ pub(crate) fn command<'a>(
     Ok(command)
 }
 
-/// The minor version of stable's cargo, 0 where it can't be told.
+/// Asks stable's cargo for its minor version. Returns 0 where it fails or its answer has none.
 pub(crate) fn stable_minor<C: Caller>(
     alloc: Global,
     env: &Env,
@@ -149,7 +150,7 @@ pub(crate) fn stable_minor<C: Caller>(
     }
 }
 
-/// The minor version that an answer tells, or 0.
+/// Returns the minor version in an answer, or 0 where it has none.
 fn told_minor(alloc: Global, answer: &str) -> Result<u32, AllocError>
     ensures { IfOk result (MinorOf answer.now) }
 {

@@ -1,14 +1,14 @@
-//! Why the metadata aren't read.
+//! Why metadata can't be read.
 
 use std::alloc::{AllocError, AllocFailed};
 use thiserror::Error;
 
-/// Why what `cargo metadata` tells isn't read.
+/// Why the output of `cargo metadata` can't be read.
 #[derive(Debug, PartialEq, Eq, Drop, Error)]
 pub enum MetadataFault {
     #[error("out of memory")]
     Memory,
-    /// The first field that is missing or ill typed.
+    /// The first field that is missing or has the wrong type.
     #[error("failed to parse `{0}` field from metadata")]
     Field(&'static str),
     /// The text is no JSON object.

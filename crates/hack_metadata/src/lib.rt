@@ -1,4 +1,4 @@
-//! What cargo tells of a workspace: the records of `cargo metadata`, and package ID specifications.
+//! What cargo reports of a workspace: the data of `cargo metadata`, and package ID specifications.
 #![tactic(auto)]
 
 mod answers;

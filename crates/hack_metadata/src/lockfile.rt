@@ -13,7 +13,7 @@ use hack_files::fs::{FileFault, Files, FsFault};
 use hack_files::restore::Manager;
 use std::alloc::Global;
 
-/// Whether something is at the path.
+/// Returns whether something is at the path.
 pub(crate) fn is_there<F: Files>(alloc: Global, path: &str, files: &mut F) -> Result<bool, AskFault>
     ensures stays { F.stays files.old files.new }
     ensures left { Leaves path.now F.tells (F.bytes_at files.old) (F.bytes_at files.new)
@@ -34,7 +34,7 @@ pub(crate) fn is_there<F: Files>(alloc: Global, path: &str, files: &mut F) -> Re
     }
 }
 
-/// Has the manager keep what the path holds.
+/// Makes the manager keep what the path holds.
 pub(crate) fn keep<F: Files>(
     alloc: Global,
     path: &str,
@@ -60,7 +60,7 @@ pub(crate) fn keep<F: Files>(
     Ok(())
 }
 
-/// Puts back what the manager kept last.
+/// Puts back the file that the manager kept last.
 pub(crate) fn put_back<F: Files>(files: &mut F, manager: &mut Manager) -> Result<(), AskFault>
     ensures stays { F.stays files.old files.new }
     ensures back { (file : Kept) (earlier : List Kept)

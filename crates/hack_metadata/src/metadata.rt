@@ -1,4 +1,4 @@
-//! What `cargo metadata` tells of a workspace: its records, read from JSON.
+//! What `cargo metadata` reports of a workspace: its records, read from JSON.
 
 ghost use Rattle.std.specs.Prelude.{◌≡◌, ◌<◌, ◌==◌, ◌++◌, ◌∷◌, [], ℕ, true};
 ghost use Rattle.std.specs.Prelude.{IfOk, OnOk, Some, codes, if◌then◌else◌, length, map, slice_get};
@@ -24,10 +24,10 @@ use serde_json::Value;
 use std::alloc::{AllocError, Global};
 use std::collections::{BTreeMap, BTreeSet};
 
-/// What cargo tells of a workspace.
+/// What cargo reports of a workspace.
 #[derive(Drop)]
 pub struct Metadata {
-    /// The minor version of the cargo that told it.
+    /// The minor version of the cargo that reported it.
     pub cargo_version: u32,
     /// The packages of the workspace, and those that they depend on where these were asked for.
     pub packages: Vec<Package>,
@@ -62,7 +62,7 @@ impl Metadata {
         Metadata::with_packages(alloc, object, packages, &ids, cargo_version)
     }
 
-    /// The metadata of these packages, with the fields that are read behind them.
+    /// Returns the metadata with these packages. The other fields are read here, after them.
     fn with_packages(
         alloc: Global,
         mut object: Object,
@@ -86,7 +86,7 @@ impl Metadata {
         })
     }
 
-    /// The package that an id means, which is of these metadata.
+    /// Returns the package that an id means. The id has to come from these metadata.
     pub fn get(&self, id: PackageId) -> &Package
         requires { id.index < length self.now.packages.items }
         ensures { slice_get self.now.packages.items id.index ≡ Some result.now }
@@ -94,14 +94,14 @@ impl Metadata {
         &self.packages[id.index]
     }
 
-    /// The package that an id means, if it is of these metadata.
+    /// Returns the package at the place of an id. None where there are fewer packages.
     pub fn find(&self, id: PackageId) -> Option<&Package>
         ensures { option_copied result ≡ slice_get self.now.packages.items id.index }
     {
         self.packages.get(id.index)
     }
 
-    /// The node of a package in the graph of dependencies, if there is one.
+    /// Returns the node of a package in the graph of dependencies, if there is one.
     pub fn node(&self, id: PackageId) -> Option<&Node>
         ensures { option_map (λ node. node_view node.now) result
             ≡ node_at (nodes_view self.now.resolve.nodes) id.index }
@@ -110,7 +110,7 @@ impl Metadata {
     }
 }
 
-/// Which package each id means: of packages with one id the last.
+/// Returns which package each id means: of several packages with one id the last.
 fn places_of(alloc: Global, packages: &[Package]) -> Result<BTreeMap<String, PackageId>, AllocError>
     ensures { IfOk result (λ ids. place_in ids
         ≡ place_of (ids_of (map package_view packages.now))) }
@@ -154,7 +154,7 @@ fn remove_members(
     Ok(distinct(alloc, members.as_slice())?)
 }
 
-/// The members of the workspace, as they are named.
+/// Reads the members of the workspace, in the order of the list, with all repeats.
 fn members_from(
     alloc: Global,
     list: Vec<Value>,
@@ -170,7 +170,7 @@ fn members_from(
     Ok(members)
 }
 
-/// The member that an element names.
+/// Reads the member that an element names.
 fn member_of(value: Value, ids: &BTreeMap<String, PackageId>) -> Result<PackageId, MetadataFault>
     ensures { Gives place_at result (read_member (place_in ids.now) (view value)) }
 {
@@ -180,7 +180,7 @@ fn member_of(value: Value, ids: &BTreeMap<String, PackageId>) -> Result<PackageI
     }
 }
 
-/// The ids, each once, at its first place.
+/// Returns the ids, each once, at its first place.
 fn distinct(alloc: Global, ids: &[PackageId]) -> Result<Vec<PackageId>, AllocError>
     ensures { IfOk result (λ kept. map place_at kept.items ≡ distinct (map place_at ids.now)) }
 {
@@ -192,7 +192,7 @@ fn distinct(alloc: Global, ids: &[PackageId]) -> Result<Vec<PackageId>, AllocErr
     Ok(kept)
 }
 
-/// Puts an id behind the others, unless it was seen before.
+/// Adds an id after the others, unless it was seen before.
 fn keep(
     kept: &mut Vec<PackageId>,
     seen: &mut BTreeSet<usize>,

@@ -1,5 +1,5 @@
-//! Objects of JSON, and their fields, which are taken out one after another: the first one that is
-//! missing or ill typed is the fault.
+//! JSON objects, whose fields are taken out one after another. The error names the first one that
+//! is missing or has the wrong type.
 
 ghost use Rattle.std.specs.Prelude.{◌≡◌, ◌≢◌, ◌⊎◌, List, Some, None, Err};
 ghost use Rattle.std.specs.Prelude.{IfOk, IfErr, option_map, string_bytes};
@@ -16,11 +16,10 @@ use crate::fault::MetadataFault;
 use serde_json::{Map, Value};
 use std::alloc::Global;
 
-/// An object of JSON.
+/// A JSON object.
 pub type Object = Map<String, Value>;
 
-/// The object of JSON that a text is. A name that stands twice in an object counts with its last
-/// value.
+/// Reads a text as a JSON object. Of a name that comes twice in an object the last value counts.
 pub fn object_of(alloc: Global, text: &str) -> Result<Object, MetadataFault>
     ensures ok { IfOk result (λ m. object_in_text text.now ≡ Some (members_view m.entries)) }
     ensures err { IfErr result (λ e. (e ≡ MetadataFault.Memory)
@@ -34,32 +33,33 @@ pub fn object_of(alloc: Global, text: &str) -> Result<Object, MetadataFault>
     into_object(value).ok_or(MetadataFault::Json)
 }
 
-/// Fields taken out of an object. Each call leaves all other fields as they are.
+/// Takes fields out of an object. Each call leaves all other fields as they are. The error names
+/// the field, which is missing or has the wrong type.
 pub trait ObjectExt {
     /// The fields with what they hold.
     ghost members: { Self → Members };
 
-    /// Takes a text out.
+    /// Takes out a text.
     fn remove_string(&mut self, key: &'static str) -> Result<String, MetadataFault>
         ensures value { Gives string_bytes result (string_in key.now (members self.old)) }
         ensures no_memory { result ≢ Err MetadataFault.Memory }
         ensures others { KeepsOthers key.now (members self.old) (members self.new) };
 
-    /// Takes an array out.
+    /// Takes out an array.
     fn remove_array(&mut self, key: &'static str) -> Result<Vec<Value>, MetadataFault>
         ensures value { Gives (λ v. items_view v.items) result
             (array_in key.now (members self.old)) }
         ensures no_memory { result ≢ Err MetadataFault.Memory }
         ensures others { KeepsOthers key.now (members self.old) (members self.new) };
 
-    /// Takes an object out.
+    /// Takes out an object.
     fn remove_object(&mut self, key: &'static str) -> Result<Object, MetadataFault>
         ensures value { Gives (λ m. members_view m.entries) result
             (object_in key.now (members self.old)) }
         ensures no_memory { result ≢ Err MetadataFault.Memory }
         ensures others { KeepsOthers key.now (members self.old) (members self.new) };
 
-    /// Takes out what may be null; none where it is.
+    /// Takes out a value that may be null. None where it is null.
     fn remove_nullable(&mut self, key: &'static str) -> Result<Option<Value>, MetadataFault>
         ensures value { Gives (option_map view) result (nullable_in key.now (members self.old)) }
         ensures no_memory { result ≢ Err MetadataFault.Memory }
@@ -99,7 +99,8 @@ impl ObjectExt for Object {
     }
 }
 
-/// What a field holds, or an element of it, which must be an object.
+/// Returns what a field holds, or an element of it, as an object. Where it is none, the error names
+/// the field.
 pub(crate) fn element(value: Value, list: &'static str) -> Result<Object, MetadataFault>
     ensures value { Gives (λ m. members_view m.entries) result (element_of list.now (view value)) }
     ensures no_memory { result ≢ Err MetadataFault.Memory }
@@ -107,7 +108,7 @@ pub(crate) fn element(value: Value, list: &'static str) -> Result<Object, Metada
     into_object(value).ok_or(MetadataFault::Field(list))
 }
 
-/// Takes a truth value out.
+/// Takes out a boolean.
 pub(crate) fn remove_bool(object: &mut Object, key: &'static str) -> Result<bool, MetadataFault>
     ensures value { Gives (λ b. b) result (bool_in key.now (members_view object.old.entries)) }
     ensures others { KeepsOthers key.now (members_view object.old.entries)
@@ -119,7 +120,7 @@ pub(crate) fn remove_bool(object: &mut Object, key: &'static str) -> Result<bool
     }
 }
 
-/// Takes a text out that may be null.
+/// Takes out a text that may be null. None where it is null.
 pub(crate) fn remove_text(
     object: &mut Object,
     key: &'static str,

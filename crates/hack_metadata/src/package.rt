@@ -29,7 +29,7 @@ pub struct Dependency {
     pub name: String,
     /// Whether it is optional, and so a feature.
     pub optional: bool,
-    /// The name that the manifest gives it in place of its own. None below cargo 1.26.
+    /// The name that the manifest gives it in place of its own. None where it keeps its own.
     pub rename: Option<String>,
 }
 
@@ -48,7 +48,7 @@ impl Dependency {
         })
     }
 
-    /// The name of the feature that the dependency is: none where it isn't optional.
+    /// Returns the name of the feature that the dependency is. None where it isn't optional.
     pub fn as_feature(&self) -> Option<&str>
         ensures { option_copied result ≡ feature_of (dependency_view self.now) }
     {
@@ -76,7 +76,7 @@ impl Dependency {
 /// A package of a workspace, or one that it depends on.
 #[derive(Drop)]
 pub struct Package {
-    /// The text by which cargo knows the package.
+    /// The text by which cargo identifies the package.
     pub id: String,
     pub name: String,
     pub version: String,
@@ -117,8 +117,8 @@ impl Package {
         })
     }
 
-    /// The names of the optional dependencies, in the order of the dependencies. A name that
-    /// several dependencies have comes as often.
+    /// Returns the names of the optional dependencies, in the order of the dependencies. A name
+    /// that several of them have comes once for each.
     pub fn optional_deps(&self) -> OptionalDeps<'_>
         ensures { names_left result ≡ optional_in (package_view self.now).dependencies }
     {
@@ -163,7 +163,7 @@ impl<'a> Iterator for OptionalDeps<'a> {
     }
 }
 
-/// The first name of an optional dependency, and the dependencies behind it.
+/// Returns the first name of an optional dependency, and the dependencies after it.
 fn first_optional(list: &[Dependency]) -> (Option<&str>, &[Dependency])
     ensures { TakesOptional list.now result.0 result.1.now }
 {
@@ -190,7 +190,7 @@ fn remove_features(
     features_from(alloc, features)?.ok_or(MetadataFault::Field("features"))
 }
 
-/// The features of an object; none where a name has anything but an array of texts.
+/// Returns the features of an object. None where a name has anything but an array of texts.
 fn features_from(
     alloc: Global,
     object: Object,
@@ -208,7 +208,7 @@ fn features_from(
     Ok(Some(features))
 }
 
-/// The texts of an array; none where the value is anything else, or an element is no text.
+/// Returns the texts of an array. None where the value is anything else, or an element is no text.
 fn texts_in(alloc: Global, value: Value) -> Result<Option<Vec<String>>, AllocError>
     ensures { IfOk result (λ found. option_map (λ texts. names_of texts.items) found
         ≡ option_and_then texts_of (as_array (view value))) }
@@ -219,7 +219,7 @@ fn texts_in(alloc: Global, value: Value) -> Result<Option<Vec<String>>, AllocErr
     }
 }
 
-/// The texts of a list; none where an element is no text.
+/// Returns the texts of a list. None where an element is no text.
 fn texts_from(alloc: Global, list: Vec<Value>) -> Result<Option<Vec<String>>, AllocError>
     ensures { IfOk result (λ found. option_map (λ texts. names_of texts.items) found
         ≡ texts_of (items_view list.items)) }
@@ -234,8 +234,8 @@ fn texts_from(alloc: Global, list: Vec<Value>) -> Result<Option<Vec<String>>, Al
     Ok(Some(texts))
 }
 
-/// Takes out whether the package may be published. Cargo tells it from 1.39 on: null where no
-/// registry is named, and an empty list where it may not be published at all.
+/// Takes out whether the package may be published. Cargo reports it from 1.39 on: null where no
+/// registry is named, and an empty list where the package may not be published at all.
 fn remove_publish(object: &mut Object, cargo_version: u32) -> Result<bool, MetadataFault>
     ensures value { Gives (λ b. b) result
         (publish_in cargo_version (members_view object.old.entries)) }
@@ -251,14 +251,14 @@ fn remove_publish(object: &mut Object, cargo_version: u32) -> Result<bool, Metad
     }
 }
 
-/// Whether there is an item.
+/// Returns whether there is an item.
 fn has_items(list: &[Value]) -> bool
     ensures { result ≡ has_items (items_view list.now) }
 {
     !list.is_empty()
 }
 
-/// Whether a list has items; none where the value is no list.
+/// Returns whether a list has items. None where the value is no list.
 fn names_registries(value: Value) -> Option<bool>
     ensures { result ≡ option_map has_items (as_array (view value)) }
 {
@@ -268,7 +268,7 @@ fn names_registries(value: Value) -> Option<bool>
     }
 }
 
-/// Takes the least Rust version out. Cargo tells it from 1.58 on.
+/// Takes out the least Rust version. Cargo reports it from 1.58 on.
 fn remove_rust_version(
     object: &mut Object,
     cargo_version: u32,

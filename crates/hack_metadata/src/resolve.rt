@@ -20,14 +20,15 @@ use std::cmp::Ordering;
 use std::collections::BTreeMap;
 use std::hash::{Hash, Hasher};
 
-/// Which package of the metadata: an id is of use only with the metadata that it comes from.
+/// The id of a package: its place among the packages of the metadata. It is of use only with the
+/// metadata that it comes from.
 #[derive(Clone, Copy, PartialEq, Eq, PartialOrd, Ord, Hash)]
 pub struct PackageId {
     pub(crate) index: usize,
 }
 
 impl PackageId {
-    /// The order of ids, as `cmp` has it: that of the packages in the metadata.
+    /// Compares two ids as `cmp` does: by the order of the packages in the metadata.
     pub fn compare(self, other: PackageId) -> Ordering
         ensures before { (result ≡ Ordering.Less) ↔ (self.index < other.index) }
         ensures equal { (result ≡ Ordering.Equal) ↔ (self ≡ other) }
@@ -44,7 +45,7 @@ impl PackageId {
     }
 }
 
-/// The package that a text means. The field is at fault where there is none.
+/// Returns the package with this id as a text. Where there is none, the error names the field.
 pub(crate) fn known_package(
     ids: &BTreeMap<String, PackageId>,
     id: &str,
@@ -63,7 +64,7 @@ pub(crate) fn known_package(
 pub struct DepKindInfo {
     /// None for a normal dependency, else `build` or `dev`.
     pub kind: Option<String>,
-    /// The target for which it is one. None where it is one for all.
+    /// The target that the dependency is for. None where it is for all.
     pub target: Option<String>,
 }
 
@@ -89,7 +90,7 @@ impl DepKindInfo {
     }
 }
 
-/// The kinds of a dependency, which cargo tells from 1.41 on.
+/// Takes out the kinds of a dependency, which cargo reports from 1.41 on.
 fn remove_kinds(
     alloc: Global,
     object: &mut Object,
@@ -147,7 +148,7 @@ impl NodeDep {
     }
 }
 
-/// The dependencies of a node, which cargo tells from 1.30 on.
+/// Takes out the dependencies of a node, which cargo reports from 1.30 on.
 fn remove_deps(
     alloc: Global,
     object: &mut Object,
@@ -171,7 +172,7 @@ pub struct Node {
 }
 
 impl Node {
-    /// A node and its package, which is looked up behind the node's dependencies.
+    /// Reads a node and its package, which is looked up after the node's dependencies.
     fn from_value(
         alloc: Global,
         value: Value,
@@ -197,7 +198,7 @@ pub struct Resolve {
 }
 
 impl Resolve {
-    /// What `resolve` holds: nothing where it is null.
+    /// Reads what `resolve` holds: no nodes where it is null.
     pub(crate) fn from_value(
         alloc: Global,
         value: Option<Value>,
@@ -219,7 +220,7 @@ impl Resolve {
     }
 }
 
-/// The nodes of a list. Of two nodes of one package the last counts.
+/// Reads the nodes of a list. Of two nodes of one package the last one is kept.
 fn nodes_from(
     alloc: Global,
     list: Vec<Value>,

@@ -1,11 +1,11 @@
--- What a caller is asked, what it answers, and the calls that it tells.
+-- What a caller is asked, what it answers, and the calls that it shows.
 use Rattle.std.specs.Prelude.{◌≡◌, ◌⊎◌, ℕ, Bool, List, [], ◌∷◌, ◌++◌, map, string_bytes, pos}
 use Rattle.std.proofs.Common.{Global, String}
 use Rattle.hack_process.specs.declared.caller.End.{End}
 use Rattle.hack_process.specs.declared.caller.End.TheVariants.{Status, NeverStarted}
 use Rattle.hack_process.specs.declared.caller.Called.{Called}
 
--- a program with its words, and whether its output is kept from the terminal
+-- a program with its arguments, and whether its output is captured
 pub record Asked : Type 0 where
   pub program : List ℕ
   pub words : List (List ℕ)
@@ -17,12 +17,12 @@ pub record Answer : Type 0 where
   pub stdout : List ℕ
   pub stderr : List ℕ
 
--- what was asked, and what came of it
+-- what was asked, and the answer
 pub record Call : Type 0 where
   pub asked : Asked
   pub answer : Answer
 
--- an answer without where it lies in memory
+-- an answer as plain data
 abbrev pub answer_of : Called → Answer
 answer_of called = record {
   end = called.end;
@@ -34,7 +34,7 @@ answer_of called = record {
 abbrev pub texts_of : List (String Global) → List (List ℕ)
 texts_of texts = map string_bytes texts
 
--- a program with these words is asked
+-- the call of a program with these arguments
 abbrev pub asked_call : List ℕ → List (String Global) → Bool → Asked
 asked_call program words capture = record {
   program = program;

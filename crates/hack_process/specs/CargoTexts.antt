@@ -1,22 +1,22 @@
--- What cargo answers when it is asked for its version.
+-- What cargo prints when it is asked for its version.
 use Rattle.std.specs.Prelude.{ℕ, List, [], ◌∷◌, Option, Some, None, length, drop, codes, nat_eq, option_map, if◌then◌else◌}
 use Rattle.std.specs.List.{starts_with}
 use Rattle.std.specs.Str.Lines.{lines}
 use Rattle.hack_base.specs.Cuts.{front_of}
 
--- what stands behind a name at the front of a line
+-- what follows a name at the beginning of a line
 abbrev pub behind : List ℕ → List ℕ → Option (List ℕ)
 behind name line = if starts_with nat_eq line name then Some (drop (length name) line) else None
 
--- what stands behind a name in the first of these lines that begins with it
+-- what follows a name in the first of these lines that begins with it
 abbrev pub first_behind : List ℕ → List (List ℕ) → Option (List ℕ)
 first_behind name [] = None
 first_behind name (line ∷ rest) = if starts_with nat_eq line name then Some (drop (length name) line) else first_behind name rest
 
--- the host that an answer tells
+-- the host that an answer names
 abbrev pub host_of : List ℕ → Option (List ℕ)
 host_of answer = first_behind (codes "host: ") (lines answer)
 
--- the part of an answer with cargo's version: that of the release, up to a channel's `-`
+-- the part of an answer that has cargo's version: the release, up to the `-` before a channel
 abbrev pub release_part : List ℕ → Option (List ℕ)
 release_part answer = option_map (front_of 45) (first_behind (codes "release: ") (lines answer))

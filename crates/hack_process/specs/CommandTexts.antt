@@ -3,7 +3,7 @@ use Rattle.std.specs.Prelude.{ℕ, Bool, true, ◌&&◌, not, Option, Some, None
 use Rattle.std.specs.List.{flat_map, join_with_byte}
 use Rattle.hack_base.specs.PathTexts.{stem_of, under_of}
 
--- a command: its program, its words by who gave them, and its features joined by `,` where a name was appended
+-- a command: its program, its arguments by who gave them, and the names of features joined by `,`
 pub record Command : Type 0 where
   pub program : List ℕ
   pub strip_program_path : Bool
@@ -13,28 +13,28 @@ pub record Command : Type 0 where
   pub features : Option (List ℕ)
   pub trailing : List (List ℕ)
 
--- features with a name behind them
+-- features with one more name
 abbrev pub with_name : Option (List ℕ) → List ℕ → List ℕ
 with_name None name = name
 with_name (Some list) name = list ++ codes "," ++ name
 
--- features with names behind them, all joined by `,`
+-- features with more names, all joined by `,`
 abbrev pub with_names : Option (List ℕ) → List (List ℕ) → Option (List ℕ)
 with_names list [] = list
 with_names None (name ∷ names) = Some (join_with_byte 44 (name ∷ names))
 with_names (Some list) (name ∷ names) = Some (join_with_byte 44 (list ∷ name ∷ names))
 
--- the features as words: none, or the option and its value
+-- the features as arguments: none, or `--features` and its value
 abbrev pub feature_words : Option (List ℕ) → List (List ℕ)
 feature_words None = []
 feature_words (Some list) = codes "--features" ∷ list ∷ []
 
--- the trailing words behind their mark, where there are any
+-- `--` and the trailing arguments, where there are any
 abbrev pub marked_words : List (List ℕ) → List (List ℕ)
 marked_words [] = []
 marked_words (word ∷ words) = codes "--" ∷ word ∷ words
 
--- the words of a command behind its program, in order
+-- the arguments of a command's program, in order
 abbrev pub words_behind : Command → List (List ℕ)
 words_behind c = c.leading ++ c.passed ++ c.own ++ feature_words c.features ++ marked_words c.trailing
 
@@ -42,7 +42,7 @@ words_behind c = c.leading ++ c.passed ++ c.own ++ feature_words c.features ++ m
 abbrev pub spaced_word : List ℕ → List ℕ
 spaced_word word = codes " " ++ word
 
--- words, each after a space
+-- several words, each after a space
 abbrev pub each_spaced : List (List ℕ) → List ℕ
 each_spaced words = flat_map spaced_word words
 
@@ -50,35 +50,35 @@ each_spaced words = flat_map spaced_word words
 abbrev pub is_manifest_path : List ℕ → Bool
 is_manifest_path word = bytes_eq word (codes "--manifest-path")
 
--- a manifest path, as it stands inside a folder, behind its option; nothing unless the text is full
+-- in a full text `--manifest-path` and its value relative to a folder, and else nothing
 abbrev pub shown_path : Bool → List ℕ → List ℕ → List (List ℕ)
 shown_path full dir path = if full then codes "--manifest-path" ∷ under_of path dir ∷ [] else []
 
--- own words as a text shows them: each, but `--manifest-path` and its value, where it has one, as told above
+-- the own arguments that a text shows: all, but `--manifest-path` with a value as `shown_path` says
 abbrev pub shown_words : Bool → List ℕ → List (List ℕ) → List (List ℕ)
 shown_words full dir [] = []
 shown_words full dir (word ∷ []) = word ∷ []
 shown_words full dir (word ∷ value ∷ words) = if is_manifest_path word then shown_path full dir value ++ shown_words full dir words else word ∷ shown_words full dir (value ∷ words)
 
--- the features behind `--features`, where a name was appended
+-- `--features` and the features, where there are any
 abbrev pub shown_features : Option (List ℕ) → List ℕ
 shown_features None = []
 shown_features (Some list) = codes " --features " ++ list
 
--- the trailing words behind `--`, where there are any
+-- `--` and the trailing arguments, where there are any
 abbrev pub shown_trailing : List (List ℕ) → List ℕ
 shown_trailing [] = []
 shown_trailing (word ∷ words) = codes " --" ++ each_spaced (word ∷ words)
 
--- the program as a text shows it: whole in a full text, unless its path is stripped, and else its stem
+-- the program as a text shows it: whole in a full text, unless the path is stripped; else its stem
 abbrev pub shown_program : Bool → Command → List ℕ
 shown_program full c = if full && not c.strip_program_path then c.program else stem_of c.program
 
--- a command's line, from the program as it is shown on
+-- a command's line, with the program shown as given
 abbrev pub words_of : List ℕ → Bool → List ℕ → Command → List ℕ
 words_of program full dir c = program ++ each_spaced c.leading ++ each_spaced c.passed ++ each_spaced (shown_words full dir c.own) ++ shown_features c.features ++ shown_trailing c.trailing
 
--- what a text shows between its backquotes, where it is full (long or verbose) or not, and paths stand inside a folder
+-- what a text shows between its backquotes; a full one is long or verbose
 abbrev pub line_of : Bool → List ℕ → Command → List ℕ
 line_of full dir c = words_of (shown_program full c) full dir c
 

@@ -1,4 +1,4 @@
--- Builders and lines as the commands that they show.
+-- The commands of builders, and the texts of lines.
 use Rattle.std.specs.Prelude.{ℕ, Bool, List, string_bytes, map}
 use Rattle.hack_base.specs.Names.{optional_text}
 use Rattle.hack_process.specs.declared.process.ProcessBuilder.{ProcessBuilder}
@@ -14,6 +14,6 @@ command_of b = record { program = string_bytes b.program; strip_program_path = b
 abbrev pub line_text : Line → List ℕ
 line_text line = words_of line.program.now line.full line.dir.now (command_of line.builder.now)
 
--- what a caller is asked for a command
+-- what a caller is asked when a command runs
 abbrev pub asked_of : Bool → Command → Asked
 asked_of capture c = record { program = c.program; words = words_behind c; capture = capture }

@@ -1,4 +1,4 @@
--- What a caller in memory answers, and the calls that it tells.
+-- What a caller in memory answers, and the calls that it shows.
 use Rattle.std.specs.Prelude.{ℕ, Bool, List, [], ◌∷◌, ◌++◌, map, bytes_eq}
 use Rattle.std.specs.Prelude.{string_bytes, if◌then◌else◌}
 use Rattle.hack_process.specs.declared.caller.End.{End}
@@ -8,7 +8,7 @@ use Rattle.hack_process.specs.declared.fake.FakeCaller.{FakeCaller}
 use Rattle.hack_process.specs.Calls.{Answer, Call, asked_call}
 use Rattle.hack_process.specs.CommandTexts.{each_spaced}
 
--- what was said for a line
+-- a line, and the answer that was given for it
 pub record Said : Type 0 where
   pub line : List ℕ
   pub answer : Answer
@@ -17,19 +17,19 @@ pub record Said : Type 0 where
 abbrev pub heard : Reply → Answer
 heard r = record { end = r.end; stdout = r.stdout.items; stderr = r.stderr.items }
 
--- what a reply says
+-- a reply as plain data
 abbrev pub said_of : Reply → Said
 said_of r = record { line = string_bytes r.line; answer = heard r }
 
--- what was said, in order
+-- the answers that were given, in order
 abbrev pub replies_of : FakeCaller → List Said
 replies_of caller = map said_of caller.replies.items
 
--- how calls end for which nothing was said
+-- how calls end whose line was given no answer
 abbrev pub otherwise_of : FakeCaller → End
 otherwise_of caller = caller.otherwise
 
--- a call, without where it lies in memory
+-- a call as plain data
 abbrev pub call_of : Made → Call
 call_of m = record {
   asked = asked_call (string_bytes m.program) m.words.items m.capture;
@@ -40,7 +40,7 @@ call_of m = record {
 abbrev pub made_by : FakeCaller → List Call
 made_by caller = map call_of caller.made.items
 
--- a program and its words, each after a space
+-- a program and its arguments, each after a space
 abbrev pub line_of : List ℕ → List (List ℕ) → List ℕ
 line_of program words = program ++ each_spaced words
 
@@ -48,7 +48,7 @@ line_of program words = program ++ each_spaced words
 abbrev pub nothing_but : End → Answer
 nothing_but how = record { end = how; stdout = []; stderr = [] }
 
--- what was first said for a line, or else just an end
+-- the first answer that was given for a line, or else just an end
 abbrev pub reply_to : List ℕ → End → List Said → Answer
 reply_to line otherwise [] = nothing_but otherwise
 reply_to line otherwise (said ∷ rest) =
@@ -58,6 +58,6 @@ reply_to line otherwise (said ∷ rest) =
 abbrev pub answer_to : List ℕ → FakeCaller → Answer
 answer_to line caller = reply_to line (otherwise_of caller) (replies_of caller)
 
--- an answer as a call has it that captures the output, or doesn't
+-- the answer that a call gets: without the output, unless it captures this
 abbrev pub seen_answer : Bool → Answer → Answer
 seen_answer capture answer = if capture then answer else nothing_but answer.end

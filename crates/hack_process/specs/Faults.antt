@@ -1,4 +1,4 @@
--- What a fault of a command tells.
+-- What the error of a command says.
 use Rattle.std.specs.Prelude.{◌≡◌, ◌≢◌, ◌⊎◌, ◌-◌, ◌==◌, ◌||◌, ℕ, Bool, List, [], ◌∷◌, ◌++◌}
 use Rattle.std.specs.Prelude.{codes, length, take, string_bytes}
 use Rattle.std.specs.Fmt.{signed_decimal}
@@ -12,21 +12,21 @@ use Rattle.hack_process.specs.declared.fault.ProcessFault.TheVariants.{Memory, E
 use Rattle.hack_process.specs.declared.fault.ProcessFault.TheVariants.{NeverExecuted, NotText}
 use Rattle.hack_process.specs.Calls.{Asked, Answer, Call, Adds, MayAdd, IsSuccess, IsFailure}
 
--- these bytes are a text with more than white space
+-- these bytes are UTF-8, and more than white space
 abbrev pub SaysMore : List ℕ → Type 0
 SaysMore bytes = IsUtf8 bytes × (trim_start bytes ≢ [])
 
--- the text of these bytes where it says more than white space, and else none
+-- the text is these bytes where they are UTF-8 and more than white space, and else empty
 abbrev pub IsShown : List ℕ → List ℕ → Type 0
 IsShown bytes text = (SaysMore bytes × (text ≡ bytes)) ⊎ ((¬ SaysMore bytes) × (text ≡ []))
 
--- a failure tells of this answer
+-- a failure reports this answer
 pub record Tells (failure : Failure) (answer : Answer) : Type 0 where
   pub ended : failure.end ≡ answer.end
   pub stdout : IsShown answer.stdout (string_bytes failure.stdout)
   pub stderr : IsShown answer.stderr (string_bytes failure.stderr)
 
--- a fault shows no output
+-- an error shows no output
 abbrev pub ShowsNothing : ProcessFault → Type 0
 ShowsNothing (Failed failure) =
     (string_bytes failure.stdout ≡ []) × (string_bytes failure.stderr ≡ [])
@@ -35,13 +35,13 @@ ShowsNothing EmptyProgram = Unit {0}
 ShowsNothing (NeverExecuted text) = Unit {0}
 ShowsNothing (NotText text) = Unit {0}
 
--- just this call was made, and its answer is such
+-- just this call was made, and P holds of its answer
 abbrev pub Had : (Answer → Type 0) → Asked → List Call → List Call → Type 0
 Had P asked old new = (answer : Answer) × P answer × Adds asked answer old new
 
--- why a command failed that was asked so and is shown so: its program has no name, and it was not
--- called; or just it was called, and could not be started, or ended with another status than 0 or
--- by a signal; or memory is out, and just it was called or nothing was
+-- why a command failed, which is called as `asked` and shown as `shown`: its program has no name,
+-- and it was not called; or just it was called, and could not be started, or ended by a signal or
+-- with a status other than 0; or memory was refused, and just it was called or nothing was
 abbrev pub IsFault : Type 0 → Asked → List ℕ → List Call → List Call → ProcessFault → Type 0
 IsFault tells asked shown old new Memory = (asked.program ≢ []) × (tells → MayAdd asked old new)
 IsFault tells asked shown old new EmptyProgram = (asked.program ≡ []) × (tells → new ≡ old)
@@ -53,7 +53,7 @@ IsFault tells asked shown old new (Failed failure) =
     × (tells → Had (Tells failure) asked old new)
 IsFault tells asked shown old new (NotText text) = ⊥
 
--- the same of a command whose output is read: it may also have ended well, and written no text
+-- the same where the output is read: it may also be that it ended with status 0, but wrote no UTF-8
 abbrev pub IsReadFault : Type 0 → Asked → List ℕ → List Call → List Call → ProcessFault → Type 0
 IsReadFault tells asked shown old new (NotText text) =
     (asked.program ≢ []) × (string_bytes text ≡ shown)
@@ -79,7 +79,7 @@ end_text (Status code) = codes "exit status: " ++ signed_decimal code
 end_text (Signal number) = codes "signal: " ++ signed_decimal number
 end_text NeverStarted = codes "never executed"
 
--- what was captured, under the name of the stream; nothing where it is empty
+-- what was captured, after a line with the stream's name; nothing where it is empty
 abbrev pub output_text : List ℕ → List ℕ → List ℕ
 output_text name [] = []
 output_text name (b ∷ bs) = codes "\n--- " ++ (name ++ (codes "\n" ++ (b ∷ bs)))
@@ -94,7 +94,7 @@ abbrev pub failure_text : Failure → List ℕ
 failure_text f = codes "process didn't exit successfully: " ++ (string_bytes f.command
     ++ (codes " (" ++ (end_text f.end ++ (codes ")" ++ outputs_text f))))
 
--- the text of a fault
+-- the text of an error
 abbrev pub fault_text : ProcessFault → List ℕ
 fault_text Memory = codes "out of memory"
 fault_text EmptyProgram = codes "empty program name"

@@ -1,5 +1,5 @@
-//! Who runs programs. Code is written over any `Caller`: the system, or one in memory that a test
-//! has told what to answer.
+//! Runs programs. Code works with any `Caller`: the system, or one in memory that returns the
+//! answers that a test gave it.
 
 ghost use Rattle.std.specs.Prelude.{◌≡◌, ◌↔◌, [], List, IfOk, IsTrue, OnErr, Some, false};
 ghost use Rattle.hack_process.specs.Calls.{Call, Adds, MayAdd, WroteNothing, answer_of, asked_call};
@@ -12,16 +12,16 @@ use std::fmt;
 /// How a program ended.
 #[derive(Clone, Copy, Debug, PartialEq, Eq)]
 pub enum End {
-    /// With this status.
+    /// It ended with this status.
     Status(i32),
-    /// By this signal.
+    /// It was ended by this signal.
     Signal(i32),
     /// It could not be started.
     NeverStarted,
 }
 
 impl End {
-    /// Whether it ended with status 0.
+    /// Returns whether the program ended with status 0.
     pub fn is_success(self) -> bool
         ensures { IsTrue result ↔ IsSuccess self }
     {
@@ -51,7 +51,7 @@ pub struct Called {
 }
 
 impl Called {
-    /// A program that ended so, and wrote nothing that was captured.
+    /// The answer of a program that ended in this way, with no captured output.
     pub fn silent(alloc: Global, end: End) -> Called
         ensures { answer_of result ≡ record { end = end; stdout = []; stderr = [] } }
     {
@@ -65,16 +65,17 @@ impl Called {
 
 /// Runs programs.
 pub trait Caller {
-    /// Whether the type tells its calls.
+    /// Whether the type says which calls were made, by `calls`.
     ghost tells: { Type 0 };
 
-    /// The calls so far, each with its answer, the first one first. It says nothing where the type
-    /// doesn't tell.
+    /// The calls so far, each with its answer, in order. It means something only where `tells`
+    /// holds.
     ghost calls: { Self → List Call };
 
-    /// Runs a program with these words to its end, and answers how it ended. With `capture` it
-    /// reads nothing, and what it writes is in the answer; else it has the streams of this
-    /// process, and nothing is. Where memory is refused, the program may have run.
+    /// Runs a program with these arguments to its end, and returns how it ended. With `capture` its
+    /// input is empty, and what it writes is in the answer. Without, it uses the input and output
+    /// of this process, and the answer has no output. Where memory is refused, the program may
+    /// have run.
     fn call(
         &mut self,
         alloc: Global,

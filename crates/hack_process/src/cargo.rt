@@ -1,4 +1,4 @@
-//! What `cargo -vV` answers.
+//! Reads what `cargo -vV` prints.
 
 ghost use Rattle.std.specs.Prelude.{◌≡◌, ◌⊎◌, IfOk, IfErr, option_copied};
 ghost use Rattle.std.specs.Str.Lines.{lines};
@@ -10,8 +10,8 @@ use hack_versions::rustup::{VersionTextFault, told_release};
 use hack_versions::version::Version;
 use std::alloc::Global;
 
-/// The version of cargo, from what `cargo -vV` answers: that of its release, since packagers add
-/// words of their own to the first line.
+/// Returns cargo's version, from what `cargo -vV` prints: that of the line `release: ..`, since
+/// packagers add text of their own to the first line.
 pub fn version(alloc: Global, answer: &str) -> Result<Version, VersionTextFault>
     ensures ok { IfOk result (TellsRelease (release_part answer.now)) }
     ensures never { IfOk result (λ _. (e : VersionTextFault)
@@ -22,14 +22,14 @@ pub fn version(alloc: Global, answer: &str) -> Result<Version, VersionTextFault>
     told_release(alloc, answer, release(answer))
 }
 
-/// The target that cargo was built for, from what `cargo -vV` answers.
+/// Returns the target that cargo was built for, from what `cargo -vV` prints.
 pub fn host(answer: &str) -> Option<&str>
     ensures { option_copied result ≡ host_of answer.now }
 {
     first_value(answer, "host: ")
 }
 
-/// The release that an answer tells, without its channel.
+/// Returns the release that an answer names, without its channel.
 fn release(answer: &str) -> Option<&str>
     ensures { option_copied result ≡ release_part answer.now }
 {
@@ -37,7 +37,7 @@ fn release(answer: &str) -> Option<&str>
     Some(before_channel(release))
 }
 
-/// The text in front of the first `-`, or all of it.
+/// Returns the text before the first `-`, or all of it.
 fn before_channel(release: &str) -> &str
     ensures { result.now ≡ front_of 45 release.now }
 {
@@ -47,7 +47,7 @@ fn before_channel(release: &str) -> &str
     }
 }
 
-/// What stands behind a name in the first line that begins with it.
+/// Returns what follows a name in the first line that begins with it.
 fn first_value<'a>(text: &'a str, name: &str) -> Option<&'a str>
     ensures { option_copied result ≡ first_behind name.now (lines text.now) }
 {
@@ -60,7 +60,7 @@ fn first_value<'a>(text: &'a str, name: &str) -> Option<&'a str>
     None
 }
 
-/// What stands behind a name at the front of a line.
+/// Returns what follows a name at the beginning of a line.
 fn value_in<'a>(line: &'a str, name: &str) -> Option<&'a str>
     ensures { option_copied result ≡ behind name.now line.now }
 {

@@ -1,4 +1,4 @@
-//! The programs of the system. No contract says what they do; tests do.
+//! Runs the programs of the system. No contract says what these do; tests check it.
 
 ghost use Rattle.std.specs.Prelude.{◌≡◌, [], IfOk, false};
 ghost use Rattle.std.specs.Process.{exit_code, exit_signal};
@@ -12,9 +12,9 @@ use std::io::ErrorKind;
 use std::os::unix::prelude::ExitStatusExt;
 use std::process::{Command, ExitStatus, Processes};
 
-/// The programs of the system: each call starts one, without a shell, in the current folder, and
-/// waits for its end. A captured one has an empty input. A name without a slash is looked for in
-/// the folders of `PATH`.
+/// Runs the programs of the system: each call starts one, without a shell, in the current folder,
+/// and waits for its end. Where the output is captured, the input is empty. A name without a slash
+/// is looked for in the folders of `PATH`.
 #[derive(Drop)]
 pub struct Child<R: Processes + Drop> {
     rt: R,
@@ -65,7 +65,7 @@ impl<R: Processes + Drop> Caller for Child<R> {
     }
 }
 
-// The program with just these words, in the environment and the folder of this process.
+// The program with just these arguments, in the environment and the folder of this process.
 fn command(alloc: Global, program: &str, words: &[String]) -> Result<Command, AllocError>
     ensures { IfOk result (Orders program.now (texts_of words.now)) }
 {
@@ -76,7 +76,7 @@ fn command(alloc: Global, program: &str, words: &[String]) -> Result<Command, Al
     Ok(command)
 }
 
-// How a program ended, by what it left to the system.
+// How a program ended, from the status that the system reports.
 fn end_of(status: ExitStatus) -> End
     ensures { IsEndOf (exit_code status) (exit_signal status) result }
 {

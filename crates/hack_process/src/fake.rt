@@ -1,4 +1,4 @@
-//! A caller in memory, for tests: it answers what a test has said, and keeps what it was asked.
+//! A caller in memory, for tests: it returns the answers that a test gave it, and keeps the calls.
 
 ghost use Rattle.std.specs.Prelude.{◌≡◌, ◌++◌, ◌∷◌, [], IfOk, OnOk, OnErr, Some, false, map};
 ghost use Rattle.std.specs.Prelude.{string_bytes};
@@ -12,7 +12,7 @@ use hack_base::copies::copies;
 use std::alloc::{AllocError, Global};
 use std::fmt;
 
-/// What is answered to a line.
+/// The answer to the calls of a line.
 #[derive(Drop)]
 struct Reply {
     line: String,
@@ -21,8 +21,8 @@ struct Reply {
     stderr: Vec<u8>,
 }
 
-/// A call that was made, with its answer. It is shown as the program and its words, each after a
-/// space.
+/// A call that was made, with its answer. It is shown as the program and its arguments, each after
+/// a space.
 #[derive(Drop)]
 pub struct Made {
     pub program: String,
@@ -33,8 +33,8 @@ pub struct Made {
     pub stderr: Vec<u8>,
 }
 
-/// Answers calls by their lines, and tells them. A line is the program and its words, each after a
-/// space.
+/// A caller that runs nothing: it answers each call by its line, and keeps the calls. A line is the
+/// program and its arguments, each after a space.
 #[derive(Drop)]
 pub struct FakeCaller {
     otherwise: End,
@@ -43,7 +43,7 @@ pub struct FakeCaller {
 }
 
 impl FakeCaller {
-    /// Answers each call with this end, and without output.
+    /// A caller that answers each call with this end, and without output.
     pub fn new(alloc: Global, otherwise: End) -> Self
         ensures otherwise { otherwise_of result ≡ otherwise }
         ensures replies { replies_of result ≡ [] }
@@ -56,7 +56,7 @@ impl FakeCaller {
         }
     }
 
-    /// Answers calls of this line so from now on, unless one was said for it before.
+    /// Sets the answer to calls of this line. Where the line has an answer already, that one stays.
     pub fn answer(
         &mut self,
         line: &str,
@@ -83,14 +83,14 @@ impl FakeCaller {
         Ok(())
     }
 
-    /// The calls so far, the first one first.
+    /// The calls so far, in order.
     pub fn made(&self) -> &[Made]
         ensures { map call_of result.now ≡ made_by self.now }
     {
         &self.made
     }
 
-    // What is answered to a line.
+    // The answer to a call of this line.
     fn reply(&self, alloc: Global, line: &str, capture: bool) -> Result<Called, AllocError>
         ensures { IfOk result (λ called.
             answer_of called ≡ seen_answer capture (answer_to line.now self.now)) }
@@ -156,7 +156,7 @@ impl fmt::Display for Made {
     }
 }
 
-// A program and its words, each after a space.
+// A program and its arguments, each after a space.
 #[derive(Drop)]
 struct Words<'a> {
     program: &'a str,

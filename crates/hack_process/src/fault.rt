@@ -10,7 +10,7 @@ use std::alloc::{AllocError, AllocFailed, Global};
 use std::error::Error;
 use std::fmt;
 
-/// Why a command failed. The commands in it are their long texts.
+/// Why a command failed. A `String` in it is the command's long text.
 #[derive(Debug, Drop)]
 pub enum ProcessFault {
     Memory,
@@ -20,7 +20,7 @@ pub enum ProcessFault {
     NeverExecuted(String),
     /// The command was started, and didn't end with status 0.
     Failed(Failure),
-    /// What the command wrote is not UTF-8.
+    /// What the command wrote to its output is not UTF-8.
     NotText(String),
 }
 
@@ -30,9 +30,9 @@ pub struct Failure {
     /// The command's long text.
     pub command: String,
     pub end: End,
-    /// What was captured of its output; empty where that is no text, or white space alone.
+    /// What was captured of its output; empty where that is not UTF-8, or white space alone.
     pub stdout: String,
-    /// The same of its errors.
+    /// What was captured of its error stream; empty in the same cases.
     pub stderr: String,
 }
 
@@ -51,7 +51,7 @@ impl Failure {
     }
 }
 
-/// The bytes as a text, or an empty one where they are no text or white space alone.
+/// Returns the bytes as a text, or an empty one where they are not UTF-8, or white space alone.
 fn shown_text(alloc: Global, bytes: Vec<u8>) -> String
     ensures shown { IsShown bytes.items (string_bytes result) }
     ensures none { bytes.items ≡ [] → string_bytes result ≡ [] }
@@ -88,7 +88,8 @@ impl fmt::Display for Failure {
     }
 }
 
-/// What a command wrote, under the name of the stream; nothing where that is empty.
+/// What a command wrote to a stream, after a line with the stream's name. Where it wrote nothing,
+/// nothing is shown.
 #[derive(Drop)]
 struct Output<'a> {
     name: &'a str,

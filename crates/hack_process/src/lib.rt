@@ -1,4 +1,4 @@
-//! Commands of cargo: how they are shown and run, and what cargo answers.
+//! Commands of cargo: how they are shown and run, and what cargo prints for its version.
 #![tactic(auto)]
 
 mod caller;

@@ -1,4 +1,4 @@
-//! A command of cargo: the words that it is made of, and how it is shown.
+//! A command of cargo: its arguments, and how it is shown and run.
 
 ghost use Rattle.std.specs.Prelude.{◌≡◌, ◌≢◌, ◌++◌, ◌∷◌, [], ◌||◌, IfOk, IfErr, OnOk, OnErr, Some};
 ghost use Rattle.std.specs.Prelude.{None, map, true, false, string_bytes};
@@ -24,16 +24,17 @@ use std::alloc::{AllocError, Global};
 use std::convert::AsStr;
 use std::fmt;
 
-/// Collects the words of a command. They stand in this order: the program, the leading words, the
-/// passed words, the builder's own words, the features behind one `--features`, and behind `--` the
-/// trailing words.
+/// Collects the parts of a command. They come in this order: the program, the leading arguments,
+/// the passed ones, the builder's own ones, `--features` with the features, and `--` with the
+/// trailing arguments. Those that the user wrote for the command are passed and trailing.
 #[derive(Drop)]
 pub struct ProcessBuilder<'a> {
     program: String,
     leading: Vec<String>,
     passed: &'a [String],
     own: Vec<String>,
-    /// The names joined by `,`, in one word, since cargo before 1.38 takes `--features` only once.
+    /// The names joined by `,`, as one argument, since cargo before 1.38 takes `--features` only
+    /// once.
     features: Option<String>,
     trailing: &'a [String],
     /// Whether the program is shown without its folder and its ending in each text.
@@ -41,7 +42,7 @@ pub struct ProcessBuilder<'a> {
 }
 
 impl<'a> ProcessBuilder<'a> {
-    /// A command of one word.
+    /// A command of the program alone.
     pub fn new(alloc: Global, program: &str) -> Result<ProcessBuilder<'a>, AllocError>
         ensures { IfOk result (λ builder. command_of builder ≡ record {
           program = program.now;
@@ -64,7 +65,7 @@ impl<'a> ProcessBuilder<'a> {
         })
     }
 
-    /// Adds an own word.
+    /// Adds one of the builder's own arguments.
     pub fn arg(&mut self, word: &str) -> Result<(), AllocError>
         ensures ok { OnOk result (command_of self.new ≡ record (command_of self.old)
             { own = (command_of self.old).own ++ word.now ∷ [] }) }
@@ -75,7 +76,7 @@ impl<'a> ProcessBuilder<'a> {
         Ok(())
     }
 
-    /// Adds own words, or none of them where memory runs out.
+    /// Adds own arguments, or none of them where memory is refused.
     pub fn args<T: AsStr>(&mut self, words: &[T]) -> Result<(), AllocError>
         ensures ok { OnOk result (command_of self.new ≡ record (command_of self.old)
             { own = (command_of self.old).own ++ map T.text words.now }) }
@@ -85,7 +86,8 @@ impl<'a> ProcessBuilder<'a> {
         self.own.append(&mut own)
     }
 
-    /// Adds a leading word: one that stands before all but the program.
+    /// Adds a leading argument: one that comes after the program and other leading ones, and before
+    /// all others.
     pub fn leading_arg(&mut self, word: &str) -> Result<(), AllocError>
         ensures ok { OnOk result (command_of self.new ≡ record (command_of self.old)
             { leading = (command_of self.old).leading ++ word.now ∷ [] }) }
@@ -96,8 +98,8 @@ impl<'a> ProcessBuilder<'a> {
         Ok(())
     }
 
-    /// Hands in the words that the user wrote for the command, in place of those handed in before:
-    /// the passed ones, and the trailing ones that stood behind `--`.
+    /// Sets the arguments that the user wrote for the command, in place of those set before: the
+    /// passed ones, and the trailing ones, which followed `--`.
     pub fn pass_words(&mut self, passed: &'a [String], trailing: &'a [String])
         ensures { command_of self.new ≡ record (command_of self.old)
             { passed = map string_bytes passed.now; trailing = map string_bytes trailing.now } }
@@ -106,8 +108,8 @@ impl<'a> ProcessBuilder<'a> {
         self.trailing = trailing;
     }
 
-    /// Appends names to the features, or none of them where memory runs out. An empty name counts
-    /// as one.
+    /// Appends names to the features, or none of them where memory is refused. An empty name is
+    /// appended like any other.
     pub fn append_features<T: AsStr>(&mut self, names: &[T]) -> Result<(), AllocError>
         ensures ok { OnOk result (command_of self.new ≡ record (command_of self.old)
             { features = with_names (command_of self.old).features (map T.text names.now) }) }
@@ -122,7 +124,7 @@ impl<'a> ProcessBuilder<'a> {
         Ok(())
     }
 
-    /// Takes all features away, so that the builder can be used for another run.
+    /// Removes all features, so that the builder can be used for another run.
     pub fn clear_features(&mut self)
         ensures { command_of self.new ≡ record (command_of self.old) { features = None } }
     {
@@ -136,7 +138,7 @@ impl<'a> ProcessBuilder<'a> {
         self.program.as_str()
     }
 
-    /// The words behind the program, each a word of its own, as they are handed to it.
+    /// Returns the arguments that the program is given, in order.
     pub fn words(&self, alloc: Global) -> Result<Vec<&str>, AllocError>
         ensures { IfOk result (λ words. map (λ word. word.now) words.items
             ≡ words_behind (command_of self.now)) }
@@ -150,8 +152,9 @@ impl<'a> ProcessBuilder<'a> {
         Ok(words)
     }
 
-    /// The command as a user reads it, in backquotes. A long or a verbose text shows the program's
-    /// whole path, unless this is stripped, and the own manifest path, as it stands inside `dir`.
+    /// Returns the command as a user reads it, in backquotes. Only a long or a verbose text shows
+    /// the program's whole path, unless `strip_program_path` is set, and the own `--manifest-path`,
+    /// relative to `dir` where it is inside.
     pub fn text(
         &self,
         alloc: Global,
@@ -166,7 +169,7 @@ impl<'a> ProcessBuilder<'a> {
         format!(in alloc; "`{line}`")
     }
 
-    /// The command as it stands in a list of commands: the verbose text, without the program's
+    /// Returns the command as a list of commands shows it: the verbose text, without the program's
     /// folder and without the backquotes. Showing it takes no memory.
     pub fn listed<'b>(&'b self, dir: &'b str) -> Line<'b>
         ensures { line_text result ≡ listed_of dir.now (command_of self.now) }
@@ -179,8 +182,8 @@ impl<'a> ProcessBuilder<'a> {
         }
     }
 
-    /// Runs the command once, over the streams of this process. `dir` is the current folder, for
-    /// the long text in a fault.
+    /// Runs the command once, with the input and output of this process. `dir` is the current
+    /// folder, for the long text in an error.
     pub fn run<C: Caller>(
         &self,
         alloc: Global,
@@ -199,7 +202,7 @@ impl<'a> ProcessBuilder<'a> {
         Ok(())
     }
 
-    /// Runs the command once, and answers what it wrote. It reads nothing.
+    /// Runs the command once, with an empty input, and returns what it wrote.
     pub fn run_with_output<C: Caller>(
         &self,
         alloc: Global,
@@ -217,8 +220,8 @@ impl<'a> ProcessBuilder<'a> {
         self.call_once(alloc, caller, true, dir)
     }
 
-    /// Runs the command once, and answers the text that it wrote to its output, without line feeds
-    /// and carriage returns at the end.
+    /// Runs the command once, with an empty input, and returns the text that it wrote to its
+    /// output, without line feeds and carriage returns at the end.
     pub fn read<C: Caller>(
         &self,
         alloc: Global,
@@ -240,7 +243,7 @@ impl<'a> ProcessBuilder<'a> {
         }
     }
 
-    /// Calls the command once, and answers what came of it where it ended with status 0.
+    /// Calls the command once, and returns its answer where it ended with status 0.
     fn call_once<C: Caller>(
         &self,
         alloc: Global,
@@ -273,7 +276,7 @@ impl<'a> ProcessBuilder<'a> {
         Err(ProcessFault::Failed(Failure::new(alloc, command, called)))
     }
 
-    /// What a text shows between its backquotes, where `full` says whether it is long or verbose.
+    /// Returns what a text shows between its backquotes. `full` says whether it is long or verbose.
     fn line<'b>(&'b self, full: bool, dir: &'b str) -> Line<'b>
         ensures { line_text result ≡ line_of full dir.now (command_of self.now) }
     {
@@ -333,7 +336,7 @@ impl fmt::Display for Line<'_> {
     }
 }
 
-/// Words, each after a space.
+/// Arguments, each after a space.
 #[derive(Drop)]
 pub(crate) struct Spaced<'b>(pub(crate) &'b [String]);
 
@@ -348,8 +351,8 @@ impl fmt::Display for Spaced<'_> {
     }
 }
 
-/// The builder's own words, each after a space; an own manifest path and its value only where the
-/// text is full.
+/// The builder's own arguments, each after a space. `--manifest-path` and its value are shown only
+/// where the text is full.
 #[derive(Drop)]
 struct OwnWords<'b> {
     words: &'b [String],
@@ -362,7 +365,7 @@ impl fmt::Display for OwnWords<'_> {
         (shown_words own.full own.dir.now (map string_bytes own.words.now))) };
 
     fn fmt<W: fmt::Write>(&self, f: &mut fmt::Formatter<W>) -> fmt::Result {
-        // Whether the word before was `--manifest-path`, whose value follows.
+        // Whether the argument before was `--manifest-path`, whose value follows.
         let mut awaits_path = false;
         for word in self.words {
             let own = OwnWord {
@@ -374,7 +377,7 @@ impl fmt::Display for OwnWords<'_> {
             write!(f, "{own}")?;
             awaits_path = own.awaits_path();
         }
-        // Nothing follows it.
+        // `--manifest-path` was the last argument, without a value.
         if awaits_path {
             write!(f, " {MANIFEST_PATH}")?;
         }
@@ -384,18 +387,18 @@ impl fmt::Display for OwnWords<'_> {
 
 const MANIFEST_PATH: &str = "--manifest-path";
 
-/// An own word, where the one before it is known.
+/// One of the builder's own arguments.
 #[derive(Drop)]
 struct OwnWord<'b> {
     word: &'b str,
-    /// Whether it is the value of `--manifest-path`.
+    /// Whether it is the value of the `--manifest-path` before it.
     is_path: bool,
     full: bool,
     dir: &'b str,
 }
 
 impl OwnWord<'_> {
-    /// Whether this is `--manifest-path` itself, which is shown together with its value.
+    /// Returns whether this is `--manifest-path` itself, which is shown together with its value.
     fn awaits_path(&self) -> bool
         ensures { result ≡ awaits_path self.now.is_path self.now.word.now }
     {
@@ -422,7 +425,7 @@ impl fmt::Display for OwnWord<'_> {
     }
 }
 
-/// The features behind `--features`, where there are any.
+/// `--features` and the features, where there are any.
 #[derive(Drop)]
 struct Features<'b>(&'b Option<String>);
 
@@ -437,7 +440,7 @@ impl fmt::Display for Features<'_> {
     }
 }
 
-/// The trailing words behind `--`, where there are any.
+/// `--` and the trailing arguments, where there are any.
 #[derive(Drop)]
 struct Trailing<'b>(&'b [String]);
 

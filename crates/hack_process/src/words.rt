@@ -1,4 +1,4 @@
-//! Words of a command, gathered, and the text of an answer without its last line ends.
+//! Collects the arguments of a command, and takes the line ends off the end of an answer.
 
 ghost use Rattle.std.specs.Prelude.{◌≡◌, ◌++◌, ◌∷◌, ◌<◌, ◌-◌, [], IfOk, OnOk, IsTrue, length, map};
 ghost use Rattle.std.specs.Prelude.{slice_index, string_bytes};
@@ -17,7 +17,7 @@ fn push_word<'b>(words: &mut Vec<&'b str>, word: &'b str) -> Result<(), AllocErr
     Ok(())
 }
 
-/// Adds words, in order.
+/// Adds arguments, in order.
 pub(crate) fn push_words<'b>(words: &mut Vec<&'b str>, more: &'b [String]) -> Result<(), AllocError>
     ensures { OnOk result (map (λ word. word.now) words.new.items
         ≡ map (λ word. word.now) words.old.items ++ map string_bytes more.now) }
@@ -28,7 +28,7 @@ pub(crate) fn push_words<'b>(words: &mut Vec<&'b str>, more: &'b [String]) -> Re
     Ok(())
 }
 
-/// Adds the features behind their option, where there are any.
+/// Adds `--features` and the features, where there are any.
 pub(crate) fn push_features<'b>(
     words: &mut Vec<&'b str>,
     features: &'b Option<String>,
@@ -47,7 +47,7 @@ pub(crate) fn push_features<'b>(
     }
 }
 
-/// Adds the trailing words behind their mark, where there are any.
+/// Adds `--` and the trailing arguments, where there are any.
 pub(crate) fn push_trailing<'b>(
     words: &mut Vec<&'b str>,
     trailing: &'b [String],
@@ -62,7 +62,7 @@ pub(crate) fn push_trailing<'b>(
     push_words(words, trailing)
 }
 
-/// The features with one more name.
+/// Returns the features with one more name, after a comma.
 pub(crate) fn longer(
     alloc: Global,
     features: Option<String>,
@@ -81,7 +81,7 @@ pub(crate) fn longer(
     }
 }
 
-/// The text without line feeds and carriage returns at its end.
+/// Returns the text without line feeds and carriage returns at its end.
 pub(crate) fn without_ends(mut text: String) -> String
     ensures { string_bytes result ≡ without_line_ends (string_bytes text) }
 {
@@ -91,7 +91,7 @@ pub(crate) fn without_ends(mut text: String) -> String
     text
 }
 
-/// Whether the last byte, if there is one, is a line feed or a carriage return.
+/// Returns whether there is a last byte, and it is a line feed or a carriage return.
 fn ends_a_line(text: &[u8]) -> bool
     ensures yes { OnTrue result ((0 < length text.now)
         × IsTrue (ends_line (slice_index text.now (length text.now - 1)))) }

@@ -5,7 +5,7 @@ use Rattle.hack_base.specs.Names.{names_of}
 use Rattle.hack_load.specs.Features.{AreNormals, texts_of}
 use Rattle.hack_load.proofs.features.normals.Given as goal
 
--- the features so far and the keys left are all
+-- the names of the features so far, and then the keys left, are all keys
 abbrev pub invariant-loop-name : goal.invariant-loop-name
 invariant-loop-name l = record {
   are : AreNormals (texts_of l.found.items) l.found.items;

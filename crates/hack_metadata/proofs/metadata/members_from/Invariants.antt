@@ -5,7 +5,7 @@ use Rattle.hack_metadata.specs.Read.{read_member}
 use Rattle.hack_metadata.specs.View.{place_at, place_in}
 use Rattle.hack_metadata.proofs.metadata.members_from.Given as goal
 
--- what was read and what is left to read make the whole
+-- what was read, and then what is read of the rest, is what is read of the whole list
 abbrev pub invariant-loop-value : goal.invariant-loop-value
 invariant-loop-value l =
     (read_all (read_member (place_in l.fn.ids)) (items_view l.value-iterator.rest.items) >>= λ more. Ok (map place_at l.members.items ++ more)) ≡ read_all (read_member (place_in l.fn.ids)) (items_view l.fn.list.items)

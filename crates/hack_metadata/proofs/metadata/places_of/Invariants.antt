@@ -4,6 +4,6 @@ use Rattle.hack_metadata.specs.View.{place_in}
 use Rattle.hack_metadata.proofs.IdLemmas.{ids_in}
 use Rattle.hack_metadata.proofs.metadata.places_of.Given as goal
 
--- the ids of the packages so far
+-- the map has the ids of the packages so far
 abbrev pub invariant-loop-index : goal.invariant-loop-index
 invariant-loop-index l = place_in l.ids ≡ place_of (take l.index (ids_in l.packages))

@@ -5,7 +5,7 @@ use Rattle.hack_metadata.specs.Read.{read_node, read_nodes, with_nodes}
 use Rattle.hack_metadata.specs.View.{nodes_view, place_in}
 use Rattle.hack_metadata.proofs.resolve.nodes_from.Given as goal
 
--- the nodes so far, and those left put in behind them, make the whole
+-- the nodes so far, with those left inserted after them, are those of the whole list
 abbrev pub invariant-loop-value : goal.invariant-loop-value
 invariant-loop-value l =
     (read_all (read_node (place_in l.fn.ids) l.fn.cargo_version) (items_view l.value-iterator.rest.items) >>= λ more. Ok (with_nodes (nodes_view l.nodes) more)) ≡ read_nodes (place_in l.fn.ids) l.fn.cargo_version (items_view l.fn.list.items)

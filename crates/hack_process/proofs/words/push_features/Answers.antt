@@ -1,7 +1,7 @@
 use Rattle.std.proofs.Common.{◌≡◌, ℕ, List, [], ◌∷◌, ◌++◌, ap, ◌∙◌, append_assoc}
 use Rattle.hack_process.proofs.words.push_features.Goals as goal
 
--- one word behind another
+-- one argument is added, and then another
 two : (xs ys zs : List (List ℕ)) (a b c : List ℕ) → ys ≡ xs ++ a ∷ [] → zs ≡ ys ++ b ∷ [] → b ≡ c → zs ≡ xs ++ a ∷ c ∷ []
 two xs ys zs a b c e f g = f ∙ ap (λ l. l ++ b ∷ []) e ∙ append_assoc xs (a ∷ []) (b ∷ []) ∙ ap (λ w. xs ++ a ∷ w ∷ []) g
 

@@ -9,7 +9,7 @@ not_true : (b : Bool) → ¬ (b ≡ true) → b ≡ false
 not_true true h = absurd (h refl)
 not_true false h = refl
 
--- a front is left whose last byte ends no line, and each byte behind it ends one
+-- a front is left whose last byte is no line end, and each byte after it is one
 ended : (text front : List ℕ) → length front ≤ length text → front ≡ take (length front) text
     → ((k : ℕ) → length front ≤ k → k < length text → ends_line (get_or text k 0) ≡ true)
     → (0 < length front → ¬ (ends_line (get_or front (length front - 1) 0) ≡ true))

@@ -5,7 +5,7 @@ use Rattle.hack_metadata.specs.Read.{read_package}
 use Rattle.hack_metadata.specs.View.{package_view}
 use Rattle.hack_metadata.proofs.package.Package.all_from.Given as goal
 
--- what was read and what is left to read make the whole
+-- what was read, and then what is read of the rest, is what is read of the whole list
 abbrev pub invariant-loop-value : goal.invariant-loop-value
 invariant-loop-value l =
     (read_all (read_package l.fn.cargo_version) (items_view l.value-iterator.rest.items) >>= λ more. Ok (map package_view l.found.items ++ more)) ≡ read_all (read_package l.fn.cargo_version) (items_view l.fn.list.items)

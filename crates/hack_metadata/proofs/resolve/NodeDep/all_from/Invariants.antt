@@ -5,7 +5,7 @@ use Rattle.hack_metadata.specs.Read.{read_node_dep}
 use Rattle.hack_metadata.specs.View.{node_dep_view, place_in}
 use Rattle.hack_metadata.proofs.resolve.NodeDep.all_from.Given as goal
 
--- what was read and what is left to read make the whole
+-- what was read, and then what is read of the rest, is what is read of the whole list
 abbrev pub invariant-loop-value : goal.invariant-loop-value
 invariant-loop-value l =
     (read_all (read_node_dep (place_in l.fn.ids) l.fn.cargo_version) (items_view l.value-iterator.rest.items) >>= λ more. Ok (map node_dep_view l.found.items ++ more)) ≡ read_all (read_node_dep (place_in l.fn.ids) l.fn.cargo_version) (items_view l.fn.list.items)

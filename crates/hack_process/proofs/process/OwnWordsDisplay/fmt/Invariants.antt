@@ -4,7 +4,7 @@ use Rattle.hack_process.specs.CommandTexts.{each_spaced, shown_words}
 use Rattle.hack_process.specs.OwnWords.{pending_option}
 use Rattle.hack_process.proofs.process.OwnWordsDisplay.fmt.Given as goal
 
--- what is written, and what shows the words that are left, make up the whole
+-- what is written, followed by what the arguments that are left show, is the whole text
 abbrev pub invariant-loop-word : goal.invariant-loop-word
 invariant-loop-word g l =
     IsPlainFormatter l.initial.f → (written : List ℕ)
