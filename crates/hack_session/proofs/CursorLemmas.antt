@@ -1,5 +1,5 @@
 -- The steps that are left at a cursor, and steps with their outcomes.
-use Rattle.std.proofs.Common.{◌≡◌, ℕ, ◌+◌, ◌<◌, ◌≤◌, List, [], ◌∷◌, ◌++◌, length, drop, refl, sym, ◌∙◌, ap, subst, arith, rules, Bool, true, false, suc, zero, Option, Some, None, IsSome, slice_get, length-drop, length-append, get_or, map, take}
+use Rattle.std.proofs.Common.{◌≡◌, ℕ, ◌+◌, ◌≤◌, List, [], ◌∷◌, ◌++◌, length, drop, refl, sym, ◌∙◌, ap, subst, arith, rules, Bool, true, false, suc, zero, Option, Some, None, IsSome, slice_get, length-drop, length-append, get_or, map, take}
 use Rattle.std.specs.Prelude.{MatchOption}
 use Rattle.std.specs.List.{flat_map, list_any}
 use Rattle.std.proofs.lemmas.List.{drop-drop, drop_all, drop_more}

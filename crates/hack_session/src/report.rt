@@ -63,7 +63,7 @@ fn failure_in(alloc: Global, plan: &Plan, handed: Handed) -> Result<Option<Failu
 /// The failed runs among steps that were handed out.
 fn failures(alloc: Global, plan: &Plan, handed: History<'_>) -> Result<Vec<Failure>, AllocError>
     ensures { IfOk result (λ failures. map failure_view failures.items
-        ≡ filter_map (failure_of plan.now) handed) }
+        ≡ filter_map (failure_of plan.now) handed.entry) }
 {
     let mut failures = Vec::new(alloc);
     for one in handed {

@@ -1,4 +1,4 @@
-use Rattle.std.proofs.Common.{◌≡◌, ◌∙◌, ◌≤◌, ◌^◌, ℕ, None, Option, arith, length, rules, subst, sym}
+use Rattle.std.proofs.Common.{◌≡◌, ◌≤◌, ◌^◌, ℕ, Option, arith, length, rules, subst, sym}
 use Rattle.std.specs.Prelude.{MatchOption}
 use Rattle.hack_session.specs.Schedules.{all_steps, in_piece}
 use Rattle.hack_session.proofs.ScheduleLemmas.{counted_less, counted_more, found, schedule_is, tiled_at}

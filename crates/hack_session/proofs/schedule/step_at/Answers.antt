@@ -1,5 +1,5 @@
-use Rattle.std.proofs.Common.{◌≡◌, ◌+◌, ◌-◌, ◌∙◌, ℕ, Some, ap, sym, subst, arith, length, slice_get}
-use Rattle.hack_session.specs.Schedules.{in_piece, mark, steps_of}
+use Rattle.std.proofs.Common.{◌≡◌, ◌+◌, ◌-◌, ◌∙◌, ℕ, Some, ap, sym, arith, length}
+use Rattle.hack_session.specs.Schedules.{in_piece, mark}
 use Rattle.hack_session.proofs.ScheduleLemmas.{step_past, step_placed}
 use Rattle.hack_session.proofs.schedule.step_at.Goals as goal
 

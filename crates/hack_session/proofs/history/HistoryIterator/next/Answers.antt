@@ -1,9 +1,8 @@
-use Rattle.std.proofs.Common.{◌≡◌, [], List, ap, arith, length, rules, sym, ◌∙◌, subst, Option}
+use Rattle.std.proofs.Common.{◌≡◌, [], List, sym, ◌∙◌, subst, Option}
 use Rattle.std.specs.Iterator.{YieldsFirst}
 use Rattle.hack_session.specs.declared.step.Handed.{Handed}
-use Rattle.hack_session.specs.declared.step.Outcome.{Outcome}
-use Rattle.hack_session.specs.Cursors.{steps_left, with_outcomes}
-use Rattle.hack_session.proofs.CursorLemmas.{no_outcomes, none_left}
+use Rattle.hack_session.specs.Cursors.{steps_left}
+use Rattle.hack_session.proofs.CursorLemmas.{none_left}
 use Rattle.hack_session.proofs.history.HistoryIterator.next.Goals as goal
 
 pub returns-in_err-outcome-clause-steps : goal.returns-in_err-outcome-clause-steps
