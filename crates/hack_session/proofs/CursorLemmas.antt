@@ -51,7 +51,7 @@ left_next inside vs i n v e f =
     from_start [] = refl
     from_start (w ∷ ws) = refl
 
--- behind the last version
+-- after the last version
 pub left_none : (inside : ℕ → Bool) (vs : List PlanVersion) (i n : ℕ) → length vs ≤ i → left_in inside n (drop i vs) ≡ []
 left_none inside vs i n le = ap (left_in inside n) (drop_all i vs le)
 

@@ -16,7 +16,7 @@ use hack_term::partition::Partition;
 
 /// How far the steps of a plan were taken: those of all versions before one, and the first ones of
 /// that version.
-#[derive(Clone, Copy, Debug, PartialEq, Eq)]
+#[derive(Clone, Copy)]
 pub(crate) struct Cursor {
     /// The version, as an index into the plan's versions.
     version: usize,

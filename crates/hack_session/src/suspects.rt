@@ -122,7 +122,8 @@ fn explain_all(
 ) -> Result<Vec<Explained>, AllocError>
     ensures parts { IfOk result (λ all. map part_explained (map explained_view all.items)
         ≡ parts.now) }
-    ensures explained { IfOk result (λ all. All (IsExplained session.now.plan session.now.handed strength)
+    ensures explained { IfOk result (λ all.
+        All (IsExplained session.now.plan session.now.handed strength)
         (map explained_view all.items)) }
 {
     let mut all = Vec::new(alloc);
