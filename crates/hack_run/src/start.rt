@@ -11,7 +11,7 @@ use crate::fault::RunFault;
 use hack_calls::fault::PlanFault;
 use hack_load::context::Context;
 use hack_process::process::{Caller, ProcessFault};
-use hack_session::session::{Handed, Outcome, Session, Starter, Step};
+use hack_session::session::{Handed, History, Outcome, Session, Starter, Step};
 use hack_session::suspect_notes::suspect_notes;
 use hack_term::term::Term;
 use hack_versions::version::Version;
@@ -158,9 +158,9 @@ fn explain<E: Write>(
 }
 
 /// Returns whether a preparation failed.
-fn is_unprepared(handed: &[Handed]) -> bool {
+fn is_unprepared(handed: History<'_>) -> bool {
     for one in handed {
-        if is_failed_preparation(*one) {
+        if is_failed_preparation(one) {
             return true;
         }
     }

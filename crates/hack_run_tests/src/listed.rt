@@ -32,7 +32,7 @@ fn list_over<W: Lines, R: Teller>(
         refused: 0,
     };
     let session = driven(alloc, cx, &mut lister)?;
-    Ok(session.handed().len())
+    Ok(session.handed().count())
 }
 
 /// Lists a plan on a writer; how many steps were handed out, and how many lines failed.

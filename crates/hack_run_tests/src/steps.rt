@@ -7,7 +7,7 @@ use crate::sessions::planned;
 use crate::world::number;
 use crate::worlds::PLAIN;
 use hack_holds::Wrong;
-use hack_session::session::{Handed, Outcome, Session};
+use hack_session::session::{History, Outcome, Session};
 use std::alloc::{AllocError, Global};
 
 fn outcome(place: u64, failing: u64) -> Outcome {
@@ -32,7 +32,7 @@ fn hand_out(session: &mut Session, failing: u64) {
     }
 }
 
-fn push_handed(text: &mut String, alloc: Global, handed: &[Handed]) -> Result<(), AllocError> {
+fn push_handed(text: &mut String, alloc: Global, handed: History<'_>) -> Result<(), AllocError> {
     for one in handed {
         let (step, outcome) = (one.step, one.outcome);
         text.push_str(format!(in alloc; "{step:?} {outcome:?}\n")?.as_str())?;

@@ -1,5 +1,5 @@
 -- A history with one more step.
-use Rattle.std.proofs.Common.{◌≡◌, ℕ, ◌<◌, List, [], ◌∷◌, ◌++◌, length, take, arith, refl, inl, inr, rules, ap, sym, ◌∙◌, get_or, cond, Bool, true, false, Option, Some, None, IsSome, slice_get, ◌||◌, length-append}
+use Rattle.std.proofs.Common.{◌≡◌, ℕ, ◌<◌, List, [], ◌∷◌, ◌++◌, length, take, arith, refl, inl, inr, rules, ap, sym, ◌∙◌, get_or, cond, Bool, true, false, Option, Some, None, IsSome, slice_get, ◌||◌, length-append, append-nil, append_assoc}
 use Rattle.std.specs.List.{list_any}
 use Rattle.std.proofs.lemmas.List.{take_more, map-append, get_or_append_left}
 use Rattle.std.proofs.lemmas.List.Folds.{list_any-append, list_any_at}
@@ -60,3 +60,10 @@ with_handed t h = record { plan = t.plan; schedule = t.schedule; handed = t.hand
 
 pub hands : (t : Course) (step : Step) (outcome : Outcome) → Goes t step → step ≡ get_or t.schedule (length t.handed) step → Hands t outcome (with_handed t (record { step = step; outcome = outcome }))
 hands t step outcome g e = rw (g.next ∙ ap Some (sym e)) refl
+
+-- the steps that were taken and those that are left are all
+pub taken_more : (taken left rest all : List Handed) (h : Handed) → left ≡ h ∷ rest → taken ++ left ≡ all → (taken ++ h ∷ []) ++ rest ≡ all
+taken_more taken left rest all h e s = append_assoc taken (h ∷ []) rest ∙ ap (λ (l : List Handed). taken ++ l) (sym e) ∙ s
+
+pub taken_all : (taken left all : List Handed) → left ≡ [] → taken ++ left ≡ all → taken ≡ all
+taken_all taken left all e s = sym (append-nil taken) ∙ ap (λ (l : List Handed). taken ++ l) (sym e) ∙ s

@@ -1,5 +1,6 @@
 pub mod HistoryLemmas
 pub mod ScheduleLemmas
+pub mod CursorLemmas
 pub mod CallLemmas
 pub mod RunLemmas
 pub mod ToolchainLemmas

@@ -1,11 +1,14 @@
--- The steps of the versions of a schedule that have been taken so far.
-use Rattle.std.proofs.Common.{◌≡◌, ℕ, ◌+◌, ◌-◌, ◌<◌, ◌≤◌, List, [], ◌∷◌, ◌++◌, map, filter, length, get_or, take, drop, refl, sym, ◌∙◌, ap, subst, arith, rules, Bool, true, false, suc, zero, cond, append_assoc, append-nil}
-use Rattle.std.specs.Prelude.{All}
+-- The places and the steps of a plan.
+use Rattle.std.proofs.Common.{◌≡◌, ℕ, ◌+◌, ◌-◌, ◌<◌, ◌≤◌, List, [], ◌∷◌, ◌++◌, map, filter, length, get_or, take, refl, sym, ◌∙◌, ap, subst, arith, rules, Bool, true, false, suc, zero, cond, append-nil, Option, Some, None, length-append}
+use Rattle.std.specs.Prelude.{slice_get}
 use Rattle.std.specs.List.{flat_map, range_with_len}
-use Rattle.std.proofs.lemmas.List.{take_all, take_more, at_drop_more}
+use Rattle.std.proofs.lemmas.List.{length-map, take_more}
 use Rattle.std.proofs.lemmas.List.Elements.{filter-append}
-use Rattle.std.proofs.lemmas.List.FromFn.{map-range_with_len_more}
+use Rattle.std.proofs.lemmas.List.Folds.{length-flat_map-take}
+use Rattle.std.proofs.lemmas.List.FromFn.{length-map-range_with_len, get_or-map-range_with_len}
+use Rattle.std.proofs.lemmas.Option.{none-some, same_Some, slice_get-get_or, slice_get_past, slice_get_read}
 use Rattle.std.proofs.lemmas.Grind.{flat_map-append, common_steps}
+use Rattle.hack_term.specs.declared.partition.Partition.{Partition}
 use Rattle.hack_runs.specs.declared.parts.Preparation.{Preparation}
 use Rattle.hack_runs.specs.declared.parts.PlanVersion.{PlanVersion}
 use Rattle.hack_plan.specs.Spans.{AreTiled}
@@ -14,15 +17,8 @@ use Rattle.hack_runs.specs.View.{PlanView}
 use Rattle.hack_session.specs.declared.step.Step.{Step}
 use Rattle.hack_session.specs.declared.step.Step.TheVariants.{Prepare, Skip, Run}
 use Rattle.hack_session.specs.Histories.{IsStepOf}
-use Rattle.hack_session.specs.Schedules.{mark, places_of, steps_of, is_place}
-
--- a place's step is appended to those of the places before it
-pub push_mark : (f : ℕ → Step) (old now new : List Step) (s : Step) (first place : ℕ) → first ≤ place → now ≡ old ++ map f (range_with_len first (place - first)) → new ≡ now ++ s ∷ [] → s ≡ f place → new ≡ old ++ map f (range_with_len first (place + 1 - first))
-push_mark f old now new s first place le e g h =
-    let n : place + 1 - first ≡ place - first + 1 = omega arith in
-    let one : map f (range_with_len first (place - first + 1)) ≡ map f (range_with_len first (place - first)) ++ f place ∷ [] = map-range_with_len_more f first (place - first) place (omega arith) in
-    g ∙ ap (λ (l : List Step). l ++ s ∷ []) e ∙ append_assoc old (map f (range_with_len first (place - first))) (s ∷ [])
-    ∙ ap (λ (l : List Step). old ++ l) (ap (λ (x : Step). map f (range_with_len first (place - first)) ++ x ∷ []) h ∙ sym one ∙ ap (λ (m : ℕ). map f (range_with_len first m)) (sym n))
+use Rattle.hack_session.specs.Schedules.{IsSchedule, all_steps, in_piece, mark, places_of, steps_of, is_place}
+use Rattle.hack_session.proofs.Headline.{piece_test}
 
 pub range_join : (a m n : ℕ) → range_with_len a (m + n) ≡ range_with_len a m ++ range_with_len (a + m) n
 range_join a zero n =
@@ -37,46 +33,9 @@ range_join a (suc m) n =
 map_append : {X Y : Type 0} (f : X → Y) (xs ys : List X) → map f (xs ++ ys) ≡ map f xs ++ map f ys
 map_append f xs ys = search (rules, common_steps)
 
--- the steps of the first versions; those that are left share out the places from the next one on
-pub record IsLaid (inside : ℕ → Bool) (total : ℕ) (vs : List PlanVersion) (i : ℕ) (steps : List Step) : Type 0 where
-  pub next : ℕ
-  pub steps_are : steps ≡ flat_map (steps_of inside) (take i vs)
-  pub left : AreTiled next (map span_of (drop i vs)) total
-
-pub laid_first : (inside : ℕ → Bool) (total : ℕ) (vs : List PlanVersion) (steps : List Step) → steps ≡ [] → AreTiled 0 (map span_of vs) total → IsLaid inside total vs 0 steps
-laid_first inside total vs steps e t = record { next = 0; steps_are = e; left = t }
-
 tiled_order : (from : ℕ) (vs : List PlanVersion) (to : ℕ) → AreTiled from (map span_of vs) to → from ≤ to
 tiled_order from [] to t = omega (arith, t)
 tiled_order from (v ∷ vs) to t = omega (arith, t.1, tiled_order v.end vs to t.2)
-
--- the current version, in front of those that are left
-here : (inside : ℕ → Bool) (total : ℕ) (vs : List PlanVersion) (i : ℕ) (v : PlanVersion) (steps : List Step) → i < length vs → v ≡ get_or vs i v → (l : IsLaid inside total vs i steps) → AreTiled l.next (map span_of (v ∷ drop (i + 1) vs)) total
-here inside total vs i v steps lt is l =
-    subst (λ (x : PlanVersion). AreTiled l.next (map span_of (x ∷ drop (i + 1) vs)) total) (sym is)
-    (subst (λ (rest : List PlanVersion). AreTiled l.next (map span_of rest) total) (at_drop_more (λ (rest : List PlanVersion). rest) vs i v lt) l.left)
-
--- its places are some of the plan's
-pub laid_within : (inside : ℕ → Bool) (total : ℕ) (vs : List PlanVersion) (i : ℕ) (v : PlanVersion) (steps : List Step) → i < length vs → v ≡ get_or vs i v → IsLaid inside total vs i steps → (v.first ≤ v.end) × (v.end ≤ total)
-laid_within inside total vs i v steps lt is l =
-    let t = here inside total vs i v steps lt is l in
-    (omega (arith, t.0, t.1), tiled_order v.end (drop (i + 1) vs) total t.2)
-
--- its steps, after those before it
-pub laid_more : (inside : ℕ → Bool) (total : ℕ) (vs : List PlanVersion) (i : ℕ) (v : PlanVersion) (steps new : List Step) → i < length vs → v ≡ get_or vs i v
-    → new ≡ (steps ++ map Prepare v.preparations.items) ++ map (mark inside) (places_of v) → IsLaid inside total vs i steps → IsLaid inside total vs (i + 1) new
-laid_more inside total vs i v steps new lt is e l = record {
-  next = v.end;
-  steps_are = e ∙ append_assoc steps (map Prepare v.preparations.items) (map (mark inside) (places_of v)) ∙ ap (λ (s : List Step). s ++ steps_of inside v) l.steps_are
-      ∙ ap (λ (s : List Step). flat_map (steps_of inside) (take i vs) ++ s) (sym (append-nil (steps_of inside v)))
-      ∙ sym (flat_map-append (steps_of inside) (take i vs) (v ∷ []))
-      ∙ ap (flat_map (steps_of inside)) (sym (take_more vs i v lt ∙ ap (λ (x : PlanVersion). take i vs ++ x ∷ []) (sym is)));
-  left = (here inside total vs i v steps lt is l).2;
-}
-
--- after the last version
-pub laid_all : (inside : ℕ → Bool) (total : ℕ) (vs : List PlanVersion) (i : ℕ) (steps : List Step) → length vs ≤ i → IsLaid inside total vs i steps → steps ≡ flat_map (steps_of inside) vs
-laid_all inside total vs i steps le l = l.steps_are ∙ ap (flat_map (steps_of inside)) (take_all i vs le)
 
 no_places : (ps : List Preparation) → filter is_place (map Prepare ps) ≡ []
 no_places [] = refl
@@ -115,42 +74,92 @@ laid_places inside from (v ∷ vs) to t =
     total : v.end - from + (to - v.end) ≡ to - from
     total = omega (arith, t.1, order)
 
--- the steps of all versions, at their places
-pub laid_all_places : (inside : ℕ → Bool) (total : ℕ) (vs : List PlanVersion) (i : ℕ) (steps : List Step) → length vs ≤ i → AreTiled 0 (map span_of vs) total → IsLaid inside total vs i steps
-    → filter is_place steps ≡ map (mark inside) (range_with_len 0 total)
-laid_all_places inside total vs i steps le t l = ap (filter is_place) (laid_all inside total vs i steps le l) ∙ laid_places inside 0 vs total t ∙ ap (λ (n : ℕ). map (mark inside) (range_with_len 0 n)) whole
+-- the steps of a plan are its schedule
+pub schedule_is : (piece : Option Partition) (plan : PlanView) → AreTiled 0 (map span_of plan.versions) (length plan.quads) → IsSchedule piece plan (all_steps piece plan)
+schedule_is piece plan t = record {
+  inside = in_piece piece (length plan.quads);
+  test = piece_test piece (length plan.quads);
+  places = laid_places (in_piece piece (length plan.quads)) 0 plan.versions (length plan.quads) t ∙ ap (λ (n : ℕ). map (mark (in_piece piece (length plan.quads))) (range_with_len 0 n)) whole;
+  steps = refl;
+}
   where
-    whole : total - 0 ≡ total
+    whole : length plan.quads - 0 ≡ length plan.quads
     whole = omega arith
 
-marked_step : (plan : PlanView) (inside : ℕ → Bool) (place : ℕ) → place < length plan.quads → IsStepOf plan (mark inside place)
+-- the places of a version are some of the plan's
+pub tiled_at : (from : ℕ) (vs : List PlanVersion) (to i : ℕ) (v : PlanVersion) → AreTiled from (map span_of vs) to → slice_get vs i ≡ Some v → (v.first ≤ v.end) × (v.end ≤ to)
+tiled_at from [] to i v t e = absurd (none-some v e)
+tiled_at from (w ∷ vs) to zero v t e =
+    subst (λ (x : PlanVersion). (x.first ≤ x.end) × (x.end ≤ to)) (same_Some w v e) (omega (arith, t.0, t.1), tiled_order w.end vs to t.2)
+tiled_at from (w ∷ vs) to (suc i) v t e = tiled_at w.end vs to i v t.2 e
+
+pub found : (vs ws : List PlanVersion) (i : ℕ) (v : PlanVersion) → ws ≡ vs → i < length ws → v ≡ get_or ws i v → slice_get vs i ≡ Some v
+found vs ws i v e lt is = sym (ap (λ (l : List PlanVersion). slice_get l i) e) ∙ slice_get_read ws (length ws) i v refl lt is
+
+-- a place of the plan has a step of it
+pub marked_step : (plan : PlanView) (inside : ℕ → Bool) (place : ℕ) → place < length plan.quads → IsStepOf plan (mark inside place)
 marked_step plan inside place lt = go (inside place)
   where
     go : (b : Bool) → IsStepOf plan (cond b (Run place) (Skip place))
     go true = lt
     go false = lt
 
-all_none : {X : Type 0} (P : X → Type 0) → All P []
-all_none P = λ k d lt. absurd (omega arith)
+-- the steps of a version: first its preparations
+prepared_at : (ps : List Preparation) (ms : List Step) (n : ℕ) (p : Preparation) → slice_get ps n ≡ Some p → slice_get (map Prepare ps ++ ms) n ≡ Some (Prepare p)
+prepared_at [] ms n p e = absurd (none-some p e)
+prepared_at (q ∷ ps) ms zero p e = ap (λ (x : Preparation). Some (Prepare x)) (same_Some q p e)
+prepared_at (q ∷ ps) ms (suc n) p e = prepared_at ps ms n p e
 
-all_cons : {X : Type 0} (P : X → Type 0) (x : X) (xs : List X) → P x → All P xs → All P (x ∷ xs)
-all_cons {X = X} P x xs h t = λ k d lt. go k d lt
+past_prepared : (ps : List Preparation) (ms : List Step) (n : ℕ) → length ps ≤ n → slice_get (map Prepare ps ++ ms) n ≡ slice_get ms (n - length ps)
+past_prepared [] ms n le = ap (slice_get ms) whole
   where
-    go : (k : ℕ) (d : X) → k < length (x ∷ xs) → P (get_or (x ∷ xs) k d)
-    go zero d lt = h
-    go (suc k) d lt = t k d (omega arith)
+    whole : n ≡ n - 0
+    whole = omega arith
+past_prepared (q ∷ ps) ms zero le = absurd (omega arith)
+past_prepared (q ∷ ps) ms (suc n) le = past_prepared ps ms n (omega arith) ∙ ap (slice_get ms) one_less
+  where
+    one_less : n - length ps ≡ suc n - suc (length ps)
+    one_less = omega arith
 
-marked_steps : (plan : PlanView) (inside : ℕ → Bool) (from n : ℕ) → from + n ≤ length plan.quads → All (IsStepOf plan) (map (mark inside) (range_with_len from n))
-marked_steps plan inside from zero lt = all_none (IsStepOf plan)
-marked_steps plan inside from (suc n) lt =
-    all_cons (IsStepOf plan) (mark inside from) (map (mark inside) (range_with_len (from + 1) n)) (marked_step plan inside from (omega arith)) (marked_steps plan inside (from + 1) n (omega arith))
+pub step_prepared : (inside : ℕ → Bool) (v : PlanVersion) (n : ℕ) (p : Preparation) → n < length v.preparations.items → p ≡ get_or v.preparations.items n p → Some (Prepare p) ≡ slice_get (steps_of inside v) n
+step_prepared inside v n p lt is =
+    sym (prepared_at v.preparations.items (map (mark inside) (places_of v)) n p (slice_get_read v.preparations.items (length v.preparations.items) n p refl lt is))
 
--- steps of which those at places are the plan's
-of_places : (plan : PlanView) (steps : List Step) → All (IsStepOf plan) (filter is_place steps) → All (IsStepOf plan) steps
-of_places plan [] a = all_none (IsStepOf plan)
-of_places plan (Prepare p ∷ steps) a = all_cons (IsStepOf plan) (Prepare p) steps tt (of_places plan steps a)
-of_places plan (Skip p ∷ steps) a = all_cons (IsStepOf plan) (Skip p) steps (a 0 (Skip p) (omega arith)) (of_places plan steps (λ k d lt. a (suc k) d (omega arith)))
-of_places plan (Run p ∷ steps) a = all_cons (IsStepOf plan) (Run p) steps (a 0 (Run p) (omega arith)) (of_places plan steps (λ k d lt. a (suc k) d (omega arith)))
+-- then its places
+pub step_placed : (inside : ℕ → Bool) (v : PlanVersion) (n place : ℕ) → length v.preparations.items ≤ n → place ≡ n - length v.preparations.items → place < v.end - v.first → slice_get (steps_of inside v) n ≡ Some (mark inside (v.first + place))
+step_placed inside v n place le is lt =
+    past_prepared v.preparations.items (map (mark inside) (places_of v)) n le ∙ ap (slice_get (map (mark inside) (places_of v))) (sym is)
+    ∙ slice_get-get_or (map (mark inside) (places_of v)) place (mark inside v.first) (omega (arith, length-map-range_with_len (mark inside) v.first (v.end - v.first)))
+    ∙ ap Some (get_or-map-range_with_len (mark inside) v.first (v.end - v.first) place (v.first + place) (mark inside v.first) lt refl)
 
-pub steps_within : (plan : PlanView) (inside : ℕ → Bool) (steps : List Step) → filter is_place steps ≡ map (mark inside) (range_with_len 0 (length plan.quads)) → All (IsStepOf plan) steps
-steps_within plan inside steps e = of_places plan steps (subst (All (IsStepOf plan)) (sym e) (marked_steps plan inside 0 (length plan.quads) (omega arith)))
+pub step_past : (inside : ℕ → Bool) (v : PlanVersion) (n place : ℕ) → length v.preparations.items ≤ n → place ≡ n - length v.preparations.items → v.end - v.first ≤ place → None ≡ slice_get (steps_of inside v) n
+step_past inside v n place le is past =
+    sym (past_prepared v.preparations.items (map (mark inside) (places_of v)) n le ∙ ap (slice_get (map (mark inside) (places_of v))) (sym is)
+    ∙ slice_get_past (map (mark inside) (places_of v)) place (omega (arith, length-map-range_with_len (mark inside) v.first (v.end - v.first))))
+
+-- how many steps a version has
+pub length-steps_of : (inside : ℕ → Bool) (v : PlanVersion) → length (steps_of inside v) ≡ length v.preparations.items + (v.end - v.first)
+length-steps_of inside v =
+    length-append (map Prepare v.preparations.items) (map (mark inside) (places_of v))
+    ∙ ap (λ (n : ℕ). n + length (map (mark inside) (places_of v))) (length-map v.preparations.items Prepare)
+    ∙ ap (λ (n : ℕ). length v.preparations.items + n) (length-map-range_with_len (mark inside) v.first (v.end - v.first))
+
+-- the steps of one more version
+pub counted_more : (inside : ℕ → Bool) (vs : List PlanVersion) (i : ℕ) (v : PlanVersion) (count own : ℕ) → i < length vs → v ≡ get_or vs i v → own ≡ length v.preparations.items → count ≡ length (flat_map (steps_of inside) (take i vs))
+    → count + own + (v.end - v.first) ≡ length (flat_map (steps_of inside) (take (i + 1) vs))
+counted_more inside vs i v count own lt is o e = sum ∙ sym more
+  where
+    more : length (flat_map (steps_of inside) (take (i + 1) vs)) ≡ length (flat_map (steps_of inside) (take i vs)) + (length v.preparations.items + (v.end - v.first))
+    more = ap (λ (l : List PlanVersion). length (flat_map (steps_of inside) l)) (take_more vs i v lt ∙ ap (λ (x : PlanVersion). take i vs ++ x ∷ []) (sym is))
+        ∙ ap length (flat_map-append (steps_of inside) (take i vs) (v ∷ []) ∙ ap (λ (l : List Step). flat_map (steps_of inside) (take i vs) ++ l) (append-nil (steps_of inside v)))
+        ∙ length-append (flat_map (steps_of inside) (take i vs)) (steps_of inside v)
+        ∙ ap (λ (n : ℕ). length (flat_map (steps_of inside) (take i vs)) + n) (length-steps_of inside v)
+
+    sum : count + own + (v.end - v.first) ≡ length (flat_map (steps_of inside) (take i vs)) + (length v.preparations.items + (v.end - v.first))
+    sum = omega (arith, o, e)
+
+-- those of some versions and of one more are no more than those of all
+pub counted_less : (inside : ℕ → Bool) (vs ws : List PlanVersion) (i : ℕ) (v : PlanVersion) (count own : ℕ) → ws ≡ vs → i < length ws → v ≡ get_or ws i v → own ≡ length v.preparations.items → count ≡ length (flat_map (steps_of inside) (take i ws))
+    → count + own + (v.end - v.first) ≤ length (flat_map (steps_of inside) vs)
+counted_less inside vs ws i v count own same lt is o e =
+    omega (arith, length-flat_map-take (steps_of inside) ws i v lt, ap (λ (x : PlanVersion). length (steps_of inside x)) is, length-steps_of inside v, ap (λ (l : List PlanVersion). length (flat_map (steps_of inside) l)) same)

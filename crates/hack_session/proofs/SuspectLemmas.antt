@@ -18,7 +18,7 @@ use Rattle.hack_suspects.specs.declared.suspect.Outcome.{Outcome as Ran}
 use Rattle.hack_suspects.specs.Suspects.{outcomes_of}
 use Rattle.hack_session.specs.Histories.{Course}
 use Rattle.hack_session.specs.Suspects.{AreExplained, ExplainedView, IsExplained, outcome_of, part_explained, settings_in}
-use Rattle.hack_session.specs.Suspects.{AreDistinct, AreOutcomes, HasFailed, is_failed, part_at, part_where, part_of, quad_of}
+use Rattle.hack_session.specs.Suspects.{AreDistinct, HasFailed, is_failed, part_at, part_where, part_of, quad_of}
 
 bools-differ : {b : Bool} → b ≡ true → b ≡ false → ⊥
 bools-differ p q = let e : true ≡ false = sym p ∙ q in cc
@@ -69,6 +69,11 @@ parts-more plan before h old new more are part = (
   λ f. elim (failed-cases plan before (h ∷ []) part f) [ inl b ↦ (more part).1 (inl ((are part).1 b)) | inr g ↦ (more part).1 (inr g) ],
 )
 
+-- no step, and no part
+pub no-parts : (plan : PlanView) (parts : List Part) → parts ≡ [] → AreDistinct parts × ((part : Part) → Contains parts part ↔ HasFailed plan [] part)
+no-parts plan [] e = (λ i j d l m. absurd (omega arith), λ part. (λ c. absurd (empty-none part c), λ f. absurd (empty-none f.by f.among)))
+no-parts plan (p ∷ parts) e = absurd (cc)
+
 -- no part is added
 pub parts-same : (parts : List Part) (Q : Part → Type 0) → ((part : Part) → Q part → ⊥) → (part : Part) → Contains parts part ↔ (Contains parts part ⊎ Q part)
 parts-same parts Q not part = (λ c. inl c, λ s. elim s [ inl c ↦ c | inr q ↦ absurd (not part q) ])
@@ -111,13 +116,6 @@ no-quad plan h part none e = let f : None ≡ Some part = sym (ap part_where non
 pub other-quad : (plan : PlanView) (h : Handed) (q : Quad) (part : Part) → quad_of plan h.step ≡ Some q → part_of q ≢ Some part → part_at plan h ≢ Some part
 other-quad plan h q part is other e = other (sym (ap part_where is) ∙ e)
 
-pub parts-step : (plan : PlanView) (xs : List Handed) (i : ℕ) (d : Handed) (old new : List Part) → i < length xs → ((part : Part) → Contains new part ↔ (Contains old part ⊎ HasFailed plan (get_or xs i d ∷ []) part)) → ((part : Part) → Contains old part ↔ HasFailed plan (take i xs) part)
-    → (part : Part) → Contains new part ↔ HasFailed plan (take (i + 1) xs) part
-parts-step plan xs i d old new lt more are = subst (λ l. (part : Part) → Contains new part ↔ HasFailed plan l part) (sym (take_more xs i d lt)) (parts-more plan (take i xs) (get_or xs i d) old new more are)
-
-pub outcomes-step : (plan : PlanView) (part : Part) (xs : List Handed) (i : ℕ) (d : Handed) (outcomes : List Run_outcome) → i < length xs → AreOutcomes plan part (take i xs ++ get_or xs i d ∷ []) outcomes → AreOutcomes plan part (take (i + 1) xs) outcomes
-outcomes-step plan part xs i d outcomes lt came = subst (λ l. AreOutcomes plan part l outcomes) (sym (take_more xs i d lt)) came
-
 -- what came of one more run is added
 pub outcome-pushed : (plan : PlanView) (part : Part) (q : Quad) (outcome : Outcome) (old new : List Ran) (run : Ran) → new ≡ old ++ run ∷ [] → run.on.items ≡ slice_index_or (settings_in (slice_get plan.packages part.package)) q.rank [] → run.failed ≡ is_failed outcome
     → outcomes_of new ≡ outcomes_of old ++ outcome_of plan part q outcome ∷ []
@@ -133,12 +131,12 @@ if_ok_both P Q R (Ok x) f p q = f x p q
 if_ok_both P Q R (Err e) f p q = p
 
 -- the parts that are explained are those that failed
-pub explained-by : (t : Course) (strength : ℕ) (plan : PlanView) (handed : List Handed) (parts slice : List Part) (all : List ExplainedView) → plan ≡ t.plan → handed ≡ t.handed → slice ≡ parts
-    → AreDistinct parts → ((part : Part) → Contains parts part ↔ HasFailed plan handed part) → map part_explained all ≡ slice → All (IsExplained plan handed strength) all → AreExplained t strength all
-explained-by t strength plan handed parts slice all p h s once exactly same each =
+pub explained-by : (t : Course) (strength : ℕ) (parts slice : List Part) (all : List ExplainedView) → slice ≡ parts
+    → AreDistinct parts → ((part : Part) → Contains parts part ↔ HasFailed t.plan t.handed part) → map part_explained all ≡ slice → All (IsExplained t.plan t.handed strength) all → AreExplained t strength all
+explained-by t strength parts slice all s once exactly same each =
     let is : parts ≡ map part_explained all = sym (same ∙ s) in
     record {
       once = subst AreDistinct is once;
-      exactly = λ part. subst (λ l. Contains l part ↔ HasFailed t.plan t.handed part) is (subst (λ w. Contains parts part ↔ HasFailed w t.handed part) p (subst (λ g. Contains parts part ↔ HasFailed plan g part) h (exactly part)));
-      explained = subst (λ w. All (IsExplained w t.handed strength) all) p (subst (λ g. All (IsExplained plan g strength) all) h each);
+      exactly = λ part. subst (λ l. Contains l part ↔ HasFailed t.plan t.handed part) is (exactly part);
+      explained = each;
     }

@@ -1,5 +1,6 @@
 pub mod Histories
 pub mod Schedules
+pub mod Cursors
 pub mod Handouts
 pub mod Toolchains
 pub mod Performs

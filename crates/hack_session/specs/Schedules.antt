@@ -54,3 +54,7 @@ in_kind Turn m count total place = nat_eq (place % count) (m - 1)
 abbrev pub in_piece : Option Partition → ℕ → ℕ → Bool
 in_piece None total place = true
 in_piece (Some piece) total place = in_kind piece.kind piece.piece piece.count total place
+
+-- the steps of a plan, of which those outside the piece are skipped
+abbrev pub all_steps : Option Partition → PlanView → List Step
+all_steps piece plan = flat_map (steps_of (in_piece piece (length plan.quads))) plan.versions

@@ -2,6 +2,7 @@
 #![tactic(auto)]
 
 mod calls;
+mod history;
 mod lines;
 mod lister;
 mod perform;

@@ -8,6 +8,7 @@ ghost use Rattle.hack_session.specs.Reports.{IsReport, command_text, group_text,
 ghost use Rattle.hack_session.specs.Reports.{failure_of, failure_view, failures_of, is_of};
 ghost use Rattle.hack_session.specs.Reports.{run_at, texts_in, told_text};
 
+use crate::history::History;
 use crate::session::Session;
 use crate::step::{Handed, Outcome, Step};
 use hack_runs::plan::Plan;
@@ -60,13 +61,13 @@ fn failure_in(alloc: Global, plan: &Plan, handed: Handed) -> Result<Option<Failu
 }
 
 /// The failed runs among steps that were handed out.
-fn failures(alloc: Global, plan: &Plan, handed: &[Handed]) -> Result<Vec<Failure>, AllocError>
+fn failures(alloc: Global, plan: &Plan, handed: History<'_>) -> Result<Vec<Failure>, AllocError>
     ensures { IfOk result (λ failures. map failure_view failures.items
-        ≡ filter_map (failure_of plan.now) handed.now) }
+        ≡ filter_map (failure_of plan.now) handed.entry) }
 {
     let mut failures = Vec::new(alloc);
     for one in handed {
-        if let Some(found) = failure_in(alloc, plan, *one)? {
+        if let Some(found) = failure_in(alloc, plan, one)? {
             failures.push(found)?;
         }
     }

@@ -1,68 +1,83 @@
-//! The schedule of a plan: its steps in order.
+//! The schedule of a plan: its steps in order, of which each is found as it is taken.
 
-ghost use Rattle.std.specs.Prelude.{◌≡◌, ◌<◌, ◌≤◌, ◌-◌, ◌++◌, All, IfOk, OnOk, filter, length, map};
-ghost use Rattle.std.specs.List.{flat_map, range_with_len};
-ghost use Rattle.hack_session.specs.declared.step.Step.TheVariants.{Prepare as Prepared};
+ghost use Rattle.std.specs.Prelude.{◌≡◌, ◌+◌, ◌<◌, ◌≤◌, ◌^◌, Option, IfSome, MatchOption};
+ghost use Rattle.std.specs.Prelude.{length, slice_get};
+ghost use Rattle.std.specs.Iterator.{YieldsFirst};
 ghost use Rattle.hack_session.specs.Histories.{IsStepOf};
-ghost use Rattle.hack_session.specs.Schedules.{in_piece, is_place, mark as marked, steps_of};
+ghost use Rattle.hack_session.specs.Schedules.{IsSchedule, all_steps, in_piece, mark as marked};
+ghost use Rattle.hack_session.specs.Schedules.{steps_of};
+ghost use Rattle.hack_session.specs.Cursors.{steps_left};
 
 use crate::step::Step;
 use hack_plan::progress::Progress;
-use hack_runs::parts::Preparation;
+use hack_runs::parts::PlanVersion;
 use hack_runs::plan::Plan;
 use hack_term::partition::Partition;
-use std::alloc::{AllocError, Global};
 
-/// Makes the steps of a plan: for each version its preparations and then its places. Those outside
-/// the piece are skipped.
-pub(crate) fn schedule(
-    alloc: Global,
+/// How far the steps of a plan were taken: those of all versions before one, and the first ones of
+/// that version.
+#[derive(Clone, Copy)]
+pub(crate) struct Cursor {
+    /// The version, as an index into the plan's versions.
+    version: usize,
+    /// How many of its steps were taken.
+    taken: usize,
+}
+
+impl Cursor {
+    /// Before the first step.
+    pub(crate) fn start() -> Cursor
+        ensures version { result.version ≡ 0 }
+        ensures taken { result.taken ≡ 0 }
+    {
+        Cursor {
+            version: 0,
+            taken: 0,
+        }
+    }
+
+    /// Takes the next step: for each version its preparations and then its places. Those outside
+    /// the piece are skipped.
+    pub(crate) fn next(&mut self, plan: &Plan, piece: Option<Partition>) -> Option<Step>
+        ensures taken { YieldsFirst (steps_left piece plan.now) self.old result self.new }
+        ensures of { IfSome result (IsStepOf plan.now) }
+    {
+        while let Some(version) = plan.versions().get(self.version) {
+            if let Some(step) = step_at(plan, piece, version, self.taken) {
+                self.taken += 1;
+                return Some(step);
+            }
+            self.version += 1;
+            self.taken = 0;
+        }
+        None
+    }
+}
+
+/// The step of a version after so many others of it.
+fn step_at(
     plan: &Plan,
     piece: Option<Partition>,
-) -> Result<Vec<Step>, AllocError>
-    ensures places { IfOk result (λ steps. filter is_place steps.items
-        ≡ map (marked (in_piece piece (length plan.now.quads)))
-        (range_with_len 0 (length plan.now.quads))) }
-    ensures steps { IfOk result (λ steps. steps.items
-        ≡ flat_map (steps_of (in_piece piece (length plan.now.quads))) plan.now.versions) }
-    ensures within { IfOk result (λ steps. All (IsStepOf plan.now) steps.items) }
+    version: &PlanVersion,
+    taken: usize,
+) -> Option<Step>
+    requires order { version.now.first ≤ version.now.end }
+    requires within { version.now.end ≤ length plan.now.quads }
+    ensures value { result
+        ≡ slice_get (steps_of (in_piece piece (length plan.now.quads)) version.now) taken }
+    ensures of { IfSome result (IsStepOf plan.now) }
+    ensures short { IfSome result (λ _. taken + 1 < 2 ^ 64) }
 {
     let total = plan.len();
-    let mut steps = Vec::new(alloc);
-    for version in plan.versions() {
-        push_preparations(&mut steps, &version.preparations)?;
-        push_places(&mut steps, piece, version.first, version.end, total)?;
+    let preparations = version.preparations.as_slice();
+    if taken < preparations.len() {
+        return Some(Step::Prepare(preparations[taken]));
     }
-    Ok(steps)
-}
-
-/// Appends preparations to the steps so far.
-fn push_preparations(steps: &mut Vec<Step>, preparations: &[Preparation]) -> Result<(), AllocError>
-    ensures { OnOk result (steps.new.items ≡ steps.old.items ++ map Prepared preparations.now) }
-{
-    for preparation in preparations {
-        steps.push(Step::Prepare(*preparation))?;
+    let place = taken - preparations.len();
+    if place >= version.end - version.first {
+        return None;
     }
-    Ok(())
-}
-
-/// Appends the places from `first` up to `end`, without `end`, to the steps so far.
-fn push_places(
-    steps: &mut Vec<Step>,
-    piece: Option<Partition>,
-    first: usize,
-    end: usize,
-    total: usize,
-) -> Result<(), AllocError>
-    requires order { first ≤ end }
-    requires within { end ≤ total }
-    ensures { OnOk result (steps.new.items ≡ steps.old.items
-        ++ map (marked (in_piece piece total)) (range_with_len first (end - first))) }
-{
-    for place in first..end {
-        steps.push(mark(piece, place, total))?;
-    }
-    Ok(())
+    Some(mark(piece, version.first + place, total))
 }
 
 /// The step of a place.
@@ -92,4 +107,20 @@ fn is_chosen(piece: Option<Partition>, place: usize, total: usize) -> bool
         }
         None => true,
     }
+}
+
+/// How many steps a plan has, with any piece; none where there are too many to count.
+pub(crate) fn count_steps(plan: &Plan) -> Option<usize>
+    ensures schedule { (piece : Option Partition)
+        → IsSchedule piece plan.now (all_steps piece plan.now) }
+    ensures count { (piece : Option Partition)
+        → MatchOption result (2 ^ 64 ≤ length (all_steps piece plan.now))
+        (λ n. n ≡ length (all_steps piece plan.now)) }
+{
+    let mut count: usize = 0;
+    for version in plan.versions() {
+        count = count.checked_add(version.preparations.len())?;
+        count = count.checked_add(version.end - version.first)?;
+    }
+    Some(count)
 }

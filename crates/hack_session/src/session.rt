@@ -1,14 +1,15 @@
-//! The steps of a schedule, handed out one by one, with what came of each.
+//! The steps of a plan, handed out one by one, with what came of each.
 
 ghost use Rattle.std.specs.Prelude.{◌≡◌, [], IfOk, IfSome, IsSome};
 ghost use Rattle.hack_session.specs.Histories.{IsHistory, IsStepOf, Hands, next_of};
 ghost use Rattle.hack_session.specs.Schedules.{IsSchedule};
 
+pub use crate::history::History;
 pub use crate::lines::{LineFault, LineWriter, Lines};
 pub use crate::lister::Lister;
 pub use crate::report::KeepGoing;
 pub use crate::runner::{Runner, drive, drive_plan};
-use crate::schedule::schedule;
+use crate::schedule::{Cursor, count_steps};
 pub use crate::screen::{Screen, Status};
 pub use crate::starter::Starter;
 pub use crate::step::{Handed, Outcome, Step};
@@ -18,40 +19,31 @@ use hack_term::partition::Partition;
 use std::alloc::{AllocError, Global};
 use std::marker::Model;
 
-/// A plan that is under way: its steps in order, and what came of those that were handed out. Once
-/// a session is made, handing out its steps takes no more memory.
+/// A plan that is under way: which of its steps were handed out, and what came of them. Once a
+/// session is made, handing out its steps takes no more memory.
 #[derive(Drop)]
 pub struct Session {
     plan: Plan,
-    schedule: Vec<Step>,
-    history: Vec<Handed>,
+    piece: Option<Partition>,
+    cursor: Cursor,
+    /// One for each step that was handed out.
+    outcomes: Vec<Outcome>,
     keep_going: bool,
     stopped: bool,
 }
 
 impl Model for Session {
-    ghost use Rattle.std.specs.Prelude.{◌≡◌, ◌≤◌, length, vec_capacity, All};
-    ghost use Rattle.std.specs.List.{list_any};
-    ghost use Rattle.hack_session.specs.Histories.{Course, IsHistory, IsStepOf, stops};
+    ghost use Rattle.std.specs.Prelude.{◌≤◌, length, vec_capacity};
+    ghost use Rattle.hack_session.specs.Histories.{Course};
+    ghost use Rattle.hack_session.specs.Schedules.{all_steps};
+    ghost use Rattle.hack_session.specs.Cursors.{IsOnItsWay, course_of};
 
     ghost Value = { Course };
 
-    ghost view = { λ s. record {
-      plan = s.plan;
-      schedule = s.schedule.items;
-      handed = s.history.items;
-      keep_going = s.keep_going;
-    } };
+    ghost view = { λ s. course_of s.piece s.plan s.outcomes.items s.keep_going };
 
-    ghost invariant = { λ s. (length s.schedule.items ≤ vec_capacity s.history)
-        × (s.stopped ≡ list_any (stops s.keep_going) s.history.items)
-        × IsHistory (record {
-          plan = s.plan;
-          schedule = s.schedule.items;
-          handed = s.history.items;
-          keep_going = s.keep_going;
-        })
-        × All (IsStepOf s.plan) s.schedule.items };
+    ghost invariant = { λ s. (length (all_steps s.piece s.plan) ≤ vec_capacity s.outcomes)
+        × IsOnItsWay s.piece s.plan s.cursor s.outcomes.items s.keep_going s.stopped };
 }
 
 impl Session {
@@ -67,12 +59,15 @@ impl Session {
         ensures handed { IfOk result (λ s. s.handed ≡ []) }
         ensures keep_going { IfOk result (λ s. s.keep_going ≡ keep_going) }
     {
-        let schedule = schedule(alloc, &plan, partition)?;
-        let history = Vec::with_capacity(alloc, schedule.len())?;
+        let Some(count) = count_steps(&plan) else {
+            return Err(AllocError);
+        };
+        let outcomes = Vec::with_capacity(alloc, count)?;
         Ok(Session {
             plan,
-            schedule,
-            history,
+            piece: partition,
+            cursor: Cursor::start(),
+            outcomes,
             keep_going,
             stopped: false,
         })
@@ -86,7 +81,8 @@ impl Session {
         if self.stopped {
             return None;
         }
-        self.schedule.get(self.history.len()).copied()
+        let mut cursor = self.cursor;
+        cursor.next(&self.plan, self.piece)
     }
 
     /// Records how the next step ended.
@@ -94,18 +90,18 @@ impl Session {
         requires { IsSome (next_of self.old) }
         ensures { Hands self.old outcome self.new }
     {
-        let step = self.schedule[self.history.len()];
+        let step = self.cursor.next(&self.plan, self.piece).unwrap();
         let handed = Handed { step, outcome };
         self.stopped = handed.stops(self.keep_going);
-        self.history.push(handed).unwrap();
+        self.outcomes.push(outcome).unwrap();
     }
 
-    /// Returns the steps that were handed out, with the outcomes that were recorded.
-    pub fn handed(&self) -> &[Handed]
-        ensures value { result.now ≡ self.now.handed }
+    /// Returns the steps that were handed out, with their outcomes.
+    pub fn handed(&self) -> History<'_>
+        ensures value { result ≡ self.now.handed }
         ensures history { IsHistory self.now }
     {
-        self.history.as_slice()
+        History::new(&self.plan, self.piece, self.outcomes.as_slice())
     }
 
     /// Returns whether runs go on after a failed one.

@@ -49,22 +49,20 @@ impl Session {
         ensures { IfOk result (λ all. AreExplained self.now strength
             (map explained_view all.items)) }
     {
-        let plan = self.plan();
-        let handed = self.handed();
-        let parts = failed_parts(alloc, plan, handed)?;
-        explain_all(alloc, plan, handed, parts.as_slice(), strength)
+        let parts = failed_parts(alloc, self)?;
+        explain_all(alloc, self, parts.as_slice(), strength)
     }
 }
 
 /// The parts with a failed run, in the order of their first failures, each once.
-fn failed_parts(alloc: Global, plan: &Plan, handed: &[Handed]) -> Result<Vec<Part>, AllocError>
+fn failed_parts(alloc: Global, session: &Session) -> Result<Vec<Part>, AllocError>
     ensures once { IfOk result (λ parts. AreDistinct parts.items) }
     ensures exactly { IfOk result (λ parts. (part : Part) → Contains parts.items part
-        ↔ HasFailed plan.now handed.now part) }
+        ↔ HasFailed session.now.plan session.now.handed part) }
 {
     let mut parts = Vec::new(alloc);
-    for one in handed {
-        add_failed(plan, *one, &mut parts)?;
+    for one in session.handed() {
+        add_failed(session.plan(), one, &mut parts)?;
     }
     Ok(parts)
 }
@@ -119,19 +117,19 @@ fn is_same(one: Part, other: Part) -> bool
 /// Explains each of the parts.
 fn explain_all(
     alloc: Global,
-    plan: &Plan,
-    handed: &[Handed],
+    session: &Session,
     parts: &[Part],
     strength: usize,
 ) -> Result<Vec<Explained>, AllocError>
     ensures parts { IfOk result (λ all. map part_explained (map explained_view all.items)
         ≡ parts.now) }
-    ensures explained { IfOk result (λ all. All (IsExplained plan.now handed.now strength)
+    ensures explained { IfOk result (λ all.
+        All (IsExplained session.now.plan session.now.handed strength)
         (map explained_view all.items)) }
 {
     let mut all = Vec::new(alloc);
     for part in parts {
-        all.push(explain(alloc, plan, handed, *part, strength)?)?;
+        all.push(explain(alloc, session, *part, strength)?)?;
     }
     Ok(all)
 }
@@ -139,17 +137,16 @@ fn explain_all(
 /// Explains the failed runs of a part.
 fn explain(
     alloc: Global,
-    plan: &Plan,
-    handed: &[Handed],
+    session: &Session,
     part: Part,
     strength: usize,
 ) -> Result<Explained, AllocError>
     ensures part { IfOk result (λ e. e.part ≡ part) }
-    ensures explained { IfOk result (λ e. IsExplained plan.now handed.now strength
+    ensures explained { IfOk result (λ e. IsExplained session.now.plan session.now.handed strength
         (explained_view e)) }
 {
-    let outcomes = outcomes(alloc, plan, part, handed)?;
-    let candidates = candidates_in(plan, part.package);
+    let outcomes = outcomes(alloc, session, part)?;
+    let candidates = candidates_in(session.plan(), part.package);
     let suspects = look(alloc, outcomes.as_slice(), candidates, strength)?;
     Ok(Explained { part, suspects })
 }
@@ -172,18 +169,13 @@ fn look(
 }
 
 /// What came of the runs of a part.
-fn outcomes(
-    alloc: Global,
-    plan: &Plan,
-    part: Part,
-    handed: &[Handed],
-) -> Result<Vec<RunOutcome>, AllocError>
-    ensures { IfOk result (λ outcomes. AreOutcomes plan.now part handed.now
+fn outcomes(alloc: Global, session: &Session, part: Part) -> Result<Vec<RunOutcome>, AllocError>
+    ensures { IfOk result (λ outcomes. AreOutcomes session.now.plan part session.now.handed
         (outcomes_of outcomes.items)) }
 {
     let mut outcomes = Vec::new(alloc);
-    for one in handed {
-        add_outcome(alloc, plan, part, *one, &mut outcomes)?;
+    for one in session.handed() {
+        add_outcome(alloc, session.plan(), part, one, &mut outcomes)?;
     }
     Ok(outcomes)
 }

@@ -5,5 +5,5 @@ use Rattle.hack_session.proofs.suspects.explain_all.Given as goal
 abbrev pub invariant-loop-part : goal.invariant-loop-part
 invariant-loop-part l = record {
   parts : map part_explained (map explained_view l.all.items) ≡ take l.part-index l.parts;
-  explained : All (IsExplained l.plan l.handed l.strength) (map explained_view l.all.items);
+  explained : All (IsExplained l.session.plan l.session.handed l.strength) (map explained_view l.all.items);
 }

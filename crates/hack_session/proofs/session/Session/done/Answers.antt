@@ -1,40 +1,39 @@
-use Rattle.std.proofs.Common.{rules, ◌≡◌, ◌++◌, ◌∷◌, [], ap, sym, ◌∙◌, arith, length, get_or, IsSome, subst, List, ℕ}
-use Rattle.std.specs.List.{list_any}
-use Rattle.hack_session.specs.declared.step.Handed.{Handed}
-use Rattle.hack_session.specs.Histories.{Course, IsHistory, next_of, stops, Hands}
-use Rattle.hack_session.proofs.HistoryLemmas.{Goes, goes_on, list_any-push, IsHistory-push, hands}
+use Rattle.std.proofs.Common.{◌≡◌, ◌++◌, ◌∷◌, [], Bool, List, IsSome, arith, rules, subst, sym}
+use Rattle.std.proofs.lemmas.Option.{MatchOption-at_some}
+use Rattle.hack_session.specs.declared.step.Outcome.{Outcome}
+use Rattle.hack_session.specs.Histories.{Hands, next_of}
+use Rattle.hack_session.specs.Cursors.{IsOnItsWay, course_of, steps_left}
+use Rattle.hack_session.proofs.CursorLemmas.{done_is, goes_still, next_is, on_its_way}
 use Rattle.hack_session.proofs.session.Session.done.Goals as goal
 
-course : (c : goal.After-unwrap) → Course
-course c = record { plan = c.self.inside.plan; schedule = c.self.inside.schedule.items; handed = c.self.inside.history.items; keep_going = c.self.inside.keep_going }
+pub unwrap-step-requires : goal.unwrap-step-requires
+unwrap-step-requires c =
+    let self = c.self.inside in
+    let some : IsSome (next_of (course_of self.piece self.plan self.outcomes.items self.keep_going)) = subst (λ t. IsSome (next_of t)) (sym c.self.view_is) c.requires in
+    subst IsSome (sym (next_is self.piece self.plan self.cursor self.outcomes.items self.keep_going self.stopped c.next.result (steps_left self.piece self.plan c.next.new.self) c.self.invariant.1
+    (goes_still self.piece self.plan self.cursor self.outcomes.items self.keep_going self.stopped c.self.invariant.1 some) c.next.ensures.taken)) some
 
-given : (c : goal.After-unwrap) → Handed
-given c = record { step = c.index-step.result.now; outcome = c.args.outcome }
+taken : (c : goal.After-unwrap) → steps_left c.self.inside.piece c.self.inside.plan c.self.inside.cursor ≡ c.unwrap-step.result ∷ steps_left c.self.inside.piece c.self.inside.plan c.next.new.self
+taken c = MatchOption-at_some _ _ c.unwrap-step.result c.unwrap-step.ensures c.next.ensures.taken
 
-goes : (c : goal.After-unwrap) → Goes (course c) c.index-step.result.now
-unfolding course
-goes c = goes_on (course c) c.index-step.result.now (subst (λ t. IsSome (next_of t)) (sym c.self.view_is) c.requires)
+some : (c : goal.After-unwrap) → IsSome (next_of (course_of c.self.inside.piece c.self.inside.plan c.self.inside.outcomes.items c.self.inside.keep_going))
+some c = subst (λ t. IsSome (next_of t)) (sym c.self.view_is) c.requires
 
-items : (c : goal.After-unwrap) → c.push.new.self.items ≡ c.self.inside.history.items ++ given c ∷ []
-unfolding given
+items : (c : goal.After-unwrap) → c.push.new.self.items ≡ c.self.inside.outcomes.items ++ c.args.outcome ∷ []
 items c = search rules
 
-at : (c : goal.After-unwrap) → c.index-step.result.now ≡ get_or c.self.inside.schedule.items (length c.self.inside.history.items) c.index-step.result.now
-at c =
-    let e : c.len.result ≡ length c.self.inside.history.items = search rules in
-    c.index-step.ensures ∙ ap (λ (n : ℕ). get_or c.self.inside.schedule.items n c.index-step.result.now) e
-
 pub invariant_of-self : goal.invariant_of-self
-unfolding course given
-invariant_of-self c = (
-  omega (arith, c.self.invariant.0, c.push.ensures.capacity),
-  c.stops-self-inside.ensures ∙ sym (ap (list_any (stops c.self.inside.keep_going)) (items c) ∙ list_any-push (stops c.self.inside.keep_going) c.self.inside.history.items (given c) (goes c).none),
-  subst (λ (hs : List Handed). IsHistory (record { plan = c.self.inside.plan; schedule = c.self.inside.schedule.items; handed = hs; keep_going = c.self.inside.keep_going })) (sym (items c)) (IsHistory-push (course c) (given c) c.index-step.result.now c.self.invariant.2 (goes c) (at c)),
-  c.self.invariant.3,
-)
+invariant_of-self c =
+    let self = c.self.inside in (
+      omega (arith, c.self.invariant.0, c.push.ensures.capacity),
+      subst (λ (outcomes : List Outcome). IsOnItsWay self.piece self.plan c.next.new.self outcomes self.keep_going c.stops-self-inside.result) (sym (items c))
+          (subst (λ (b : Bool). IsOnItsWay self.piece self.plan c.next.new.self (self.outcomes.items ++ c.args.outcome ∷ []) self.keep_going b) (sym c.stops-self-inside.ensures)
+          (on_its_way self.piece self.plan self.cursor c.next.new.self self.outcomes.items self.keep_going self.stopped c.unwrap-step.result c.args.outcome c.self.invariant.1 (some c) (taken c))),
+    )
 
 pub returns : goal.returns
-unfolding course given
 returns c =
-    subst (λ t. Hands t c.args.outcome (record { plan = c.self.inside.plan; schedule = c.self.inside.schedule.items; handed = c.push.new.self.items; keep_going = c.self.inside.keep_going })) c.self.view_is
-    (subst (λ (hs : List Handed). Hands (course c) c.args.outcome (record { plan = c.self.inside.plan; schedule = c.self.inside.schedule.items; handed = hs; keep_going = c.self.inside.keep_going })) (sym (items c)) (hands (course c) c.index-step.result.now c.args.outcome (goes c) (at c)))
+    let self = c.self.inside in
+    subst (λ t. Hands t c.args.outcome (course_of self.piece self.plan c.push.new.self.items self.keep_going)) c.self.view_is
+    (subst (λ (outcomes : List Outcome). Hands (course_of self.piece self.plan self.outcomes.items self.keep_going) c.args.outcome (course_of self.piece self.plan outcomes self.keep_going)) (sym (items c))
+    (done_is self.piece self.plan self.cursor self.outcomes.items self.keep_going self.stopped c.unwrap-step.result (steps_left self.piece self.plan c.next.new.self) c.args.outcome c.self.invariant.1 (some c) (taken c)))
