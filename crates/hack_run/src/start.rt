@@ -45,11 +45,11 @@ pub(crate) fn start<C: Caller, O: Write, E: Write>(
         Ok(session) => session,
         Err(fault) => return Err(RunFault::Plan(fault)),
     };
-    report(alloc, &session, term, err)?;
-    explain(alloc, cx.args(), &session, term, err)?;
+    let reported = report_all(alloc, cx.args(), &session, term, err);
+    // Why the session stopped counts for more than a report that memory cut short.
     match fault {
         Some(fault) => Err(RunFault::Process(fault)),
-        None => Ok(()),
+        None => Ok(reported?),
     }
 }
 
@@ -109,6 +109,21 @@ fn drive<C: Caller, O: Write, E: Write>(
     let mut starter = starter(alloc, cx.args(), fault, term, caller, out, err);
     let session = drive_context(alloc, cx, rustup, stable, &mut starter)?;
     Ok(session)
+}
+
+/// Reports the runs that failed, and what only these have.
+fn report_all<E: Write>(
+    alloc: Global,
+    args: &Args,
+    session: &Session,
+    term: &mut Term,
+    err: &mut E,
+) -> Result<(), AllocError>
+    ensures error { term.new.error ≡ false → term.old.error ≡ false }
+    ensures warn { term.new.warn ≡ term.old.warn }
+{
+    report(alloc, session, term, err)?;
+    explain(alloc, args, session, term, err)
 }
 
 /// Reports the runs that failed, where runs go on after a failed one and each preparation passed.

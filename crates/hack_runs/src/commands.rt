@@ -3,7 +3,7 @@
 ghost use Rattle.std.specs.Prelude.{◌≡◌, ◌++◌, ◌∷◌, [], Some, None, map, option_map, IfOk, OnOk};
 ghost use Rattle.std.specs.Prelude.{List, ℕ, take, drop, string_bytes, codes, slice_get};
 ghost use Rattle.std.specs.List.{flat_map, slice_index_or};
-ghost use Rattle.hack_base.specs.Names.{optional_text};
+ghost use Rattle.hack_base.specs.Names.{names_behind, optional_text};
 ghost use Rattle.hack_features.specs.Feature.{groups_of};
 ghost use Rattle.hack_plan.specs.Runs.{run_of};
 ghost use Rattle.hack_process.specs.Commands.{command_of};
@@ -134,7 +134,7 @@ impl CallWords {
         add_targets(&mut command, self.targets_in(version, slot))?;
         add_manifest(&mut command, &member.manifest_path)?;
         add_run(&mut command, run)?;
-        add_features(&mut command, member, run, positions)?;
+        add_features(alloc, &mut command, member, run, positions)?;
         Ok(command)
     }
 
@@ -254,25 +254,55 @@ fn names_of(candidates: &[Feature], place: usize) -> &[String]
     }
 }
 
-/// Appends the names of the candidates at the positions.
-fn add_names(
-    command: &mut ProcessBuilder<'_>,
-    candidates: &[Feature],
-    positions: &[usize],
-) -> Result<(), AllocError>
-    ensures { OnOk result (command_of command.new ≡ record (command_of command.old) {
-      features = with_names (command_of command.old).features
-          (names_at (groups_of candidates.now) positions.now);
-    }) }
+/// Appends names.
+fn push_all<'a>(names: &mut Vec<&'a str>, more: &'a [String]) -> Result<(), AllocError>
+    ensures { OnOk result (names_behind names.new.items
+        ≡ names_behind names.old.items ++ map string_bytes more.now) }
 {
-    for position in positions {
-        command.append_features(names_of(candidates, *position))?;
+    for name in more {
+        names.push(name.as_str())?;
     }
     Ok(())
 }
 
+/// Appends the names of the candidates at the positions.
+fn push_names<'a>(
+    names: &mut Vec<&'a str>,
+    candidates: &'a [Feature],
+    positions: &[usize],
+) -> Result<(), AllocError>
+    ensures { OnOk result (names_behind names.new.items ≡ names_behind names.old.items
+        ++ names_at (groups_of candidates.now) positions.now) }
+{
+    for position in positions {
+        push_all(names, names_of(candidates, *position))?;
+    }
+    Ok(())
+}
+
+/// The features of `--features`, and after them those of the run's set, if it has one.
+fn run_names<'a>(
+    alloc: Global,
+    member: &'a PlanPackage,
+    run: Run,
+    positions: &[usize],
+) -> Result<Vec<&'a str>, AllocError>
+    ensures { IfOk result (λ names. names_behind names.items
+        ≡ (package_view member.now).features
+        ++ run_names (package_view member.now).candidates (run_of run positions.now)) }
+{
+    let mut names = Vec::new(alloc);
+    push_all(&mut names, member.features.as_slice())?;
+    match run {
+        Run::Features => push_names(&mut names, member.candidates.as_slice(), positions)?,
+        Run::Plain | Run::AllFeatures | Run::NoDefaultFeatures => {}
+    }
+    Ok(names)
+}
+
 /// Appends the features of `--features`, and those of the run's set, if it has one.
 fn add_features(
+    alloc: Global,
     command: &mut ProcessBuilder<'_>,
     member: &PlanPackage,
     run: Run,
@@ -284,13 +314,8 @@ fn add_features(
           ++ run_names (package_view member.now).candidates (run_of run positions.now));
     }) }
 {
-    command.append_features(member.features.as_slice())?;
-    match run {
-        Run::Features => add_names(command, member.candidates.as_slice(), positions),
-        Run::Plain => Ok(()),
-        Run::AllFeatures => Ok(()),
-        Run::NoDefaultFeatures => Ok(()),
-    }
+    let names = run_names(alloc, member, run, positions)?;
+    command.append_features(names.as_slice())
 }
 
 /// Adds the package whose artifacts are removed, if it is a single one.

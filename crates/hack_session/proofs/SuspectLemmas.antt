@@ -1,5 +1,5 @@
 -- Lemmas on the parts with failed runs, and on what came of a part's runs.
-use Rattle.std.proofs.Common.{◌≡◌, ◌≢◌, ℕ, ◌+◌, ◌<◌, List, [], ◌∷◌, ◌++◌, length, get_or, take, map, refl, sym, ◌∙◌, ap, subst, arith, Bool, true, false, ◌⊎◌, inl, inr, ◌↔◌, All, Contains, Some, None}
+use Rattle.std.proofs.Common.{◌≡◌, ◌≢◌, ℕ, ◌+◌, ◌<◌, List, [], ◌∷◌, ◌++◌, length, get_or, take, map, refl, sym, ◌∙◌, ap, subst, arith, Bool, true, false, ◌⊎◌, inl, inr, ◌↔◌, All, AllPairs, Contains, Some, None, append_assoc}
 use Rattle.std.proofs.lemmas.List.{take_more}
 use Rattle.std.proofs.lemmas.List.Elements.{Contains-get_or, Contains-append_left, Contains-append_right, Contains-append_cases, Contains-push, Contains-push_cases}
 use Rattle.std.proofs.lemmas.List.Quantifiers.{all_pairs_push}
@@ -18,7 +18,7 @@ use Rattle.hack_suspects.specs.declared.suspect.Outcome.{Outcome as Ran}
 use Rattle.hack_suspects.specs.Suspects.{outcomes_of}
 use Rattle.hack_session.specs.Histories.{Course}
 use Rattle.hack_session.specs.Suspects.{AreExplained, ExplainedView, IsExplained, outcome_of, part_explained, settings_in}
-use Rattle.hack_session.specs.Suspects.{AreDistinct, HasFailed, is_failed, part_at, part_where, part_of, quad_of}
+use Rattle.hack_session.specs.Suspects.{AddsOnce, AreDistinct, FailsBefore, HasFailed, is_failed, part_at, part_where, part_of, quad_of}
 
 bools-differ : {b : Bool} → b ≡ true → b ≡ false → ⊥
 bools-differ p q = let e : true ≡ false = sym p ∙ q in cc
@@ -70,7 +70,7 @@ parts-more plan before h old new more are part = (
 )
 
 -- no step, and no part
-pub no-parts : (plan : PlanView) (parts : List Part) → parts ≡ [] → AreDistinct parts × ((part : Part) → Contains parts part ↔ HasFailed plan [] part)
+pub no-parts : (plan : PlanView) (parts : List Part) → parts ≡ [] → AllPairs (FailsBefore plan []) parts × ((part : Part) → Contains parts part ↔ HasFailed plan [] part)
 no-parts plan [] e = (λ i j d l m. absurd (omega arith), λ part. (λ c. absurd (empty-none part c), λ f. absurd (empty-none f.by f.among)))
 no-parts plan (p ∷ parts) e = absurd (cc)
 
@@ -98,8 +98,29 @@ one-more parts part other = (
   λ s. elim s [ inl c ↦ Contains-append_left parts (part ∷ []) other c | inr e ↦ subst (Contains (parts ++ part ∷ [])) e (Contains-push parts part) ],
 )
 
-pub distinct-more : (parts : List Part) (part : Part) → (Contains parts part → ⊥) → AreDistinct parts → AreDistinct (parts ++ part ∷ [])
-distinct-more parts part not distinct = all_pairs_push (λ one other. one ≢ other) parts part distinct (λ k d lt e. not (subst (Contains parts) e (Contains-get_or parts k d lt)))
+-- what failed before something else did so among more steps
+failed-first : (plan : PlanView) (xs ys : List Handed) (one other : Part) → FailsBefore plan xs one other → FailsBefore plan (xs ++ ys) one other
+failed-first plan xs ys one other f = record { before = f.before; after = f.after ++ ys; split = ap (λ l. l ++ ys) f.split ∙ append_assoc f.before f.after ys; failed = f.failed; not = f.not }
+
+-- the parts after one more step are in the order of their first failures
+pub ordered-more : (plan : PlanView) (before : List Handed) (h : Handed) (old new : List Part) → AddsOnce old new → ((part : Part) → Contains old part ↔ HasFailed plan before part)
+    → AllPairs (FailsBefore plan before) old → AllPairs (FailsBefore plan (before ++ h ∷ [])) new
+ordered-more plan before h old new adds are ordered =
+    elim adds [
+      | inl same ↦ subst (AllPairs Earlier) (sym same) kept
+      | inr more ↦ subst (AllPairs Earlier) (sym more.1.0) (all_pairs_push Earlier old more.0 kept
+          (λ k d lt. record { before = before; after = h ∷ []; split = refl; failed = (are (get_or old k d)).0 (Contains-get_or old k d lt); not = λ f. more.1.1 ((are more.0).1 f) }))
+    ]
+  where
+    Earlier : Part → Part → Type 0
+    Earlier = FailsBefore plan (before ++ h ∷ [])
+
+    kept : AllPairs Earlier old
+    kept = λ i j d l m. failed-first plan before (h ∷ []) (get_or old i d) (get_or old j d) (ordered i j d l m)
+
+-- parts in that order are listed once
+distinct-by : (plan : PlanView) (handed : List Handed) (parts : List Part) → AllPairs (FailsBefore plan handed) parts → AreDistinct parts
+distinct-by plan handed parts ordered = λ i j d l m e. let f = ordered i j d l m in f.not (subst (HasFailed plan f.before) e f.failed)
 
 -- none of one more is the part
 pub not-among-more : (parts : List Part) (i : ℕ) (part : Part) → i < length parts → (Contains (take i parts) part → ⊥) → ((d : Part) → get_or parts i d ≢ part) → Contains (take (i + 1) parts) part → ⊥
@@ -132,11 +153,12 @@ if_ok_both P Q R (Err e) f p q = p
 
 -- the parts that are explained are those that failed
 pub explained-by : (t : Course) (strength : ℕ) (parts slice : List Part) (all : List ExplainedView) → slice ≡ parts
-    → AreDistinct parts → ((part : Part) → Contains parts part ↔ HasFailed t.plan t.handed part) → map part_explained all ≡ slice → All (IsExplained t.plan t.handed strength) all → AreExplained t strength all
-explained-by t strength parts slice all s once exactly same each =
+    → AllPairs (FailsBefore t.plan t.handed) parts → ((part : Part) → Contains parts part ↔ HasFailed t.plan t.handed part) → map part_explained all ≡ slice → All (IsExplained t.plan t.handed strength) all → AreExplained t strength all
+explained-by t strength parts slice all s ordered exactly same each =
     let is : parts ≡ map part_explained all = sym (same ∙ s) in
     record {
-      once = subst AreDistinct is once;
+      once = subst AreDistinct is (distinct-by t.plan t.handed parts ordered);
+      ordered = subst (AllPairs (FailsBefore t.plan t.handed)) is ordered;
       exactly = λ part. subst (λ l. Contains l part ↔ HasFailed t.plan t.handed part) is (exactly part);
       explained = each;
     }

@@ -1,5 +1,5 @@
 -- Which small patterns explain the failed runs of a plan.
-use Rattle.std.specs.Prelude.{ℕ, ◌≡◌, ◌≢◌, ◌<◌, ◌≤◌, ◌*◌, ◌++◌, ◌↔◌, List, [], ◌∷◌, Bool, true, false, Option, Some, None, All, AllPairs, Contains, length, map, option_map, slice_get}
+use Rattle.std.specs.Prelude.{ℕ, ◌≡◌, ◌≢◌, ◌<◌, ◌≤◌, ◌*◌, ◌++◌, ◌↔◌, ◌⊎◌, List, [], ◌∷◌, Bool, true, false, Option, Some, None, All, AllPairs, Contains, length, map, option_map, slice_get}
 use Rattle.std.specs.List.{slice_index_or}
 use Rattle.hack_plan.specs.declared.places.Quad.{Quad}
 use Rattle.hack_runs.specs.View.{PackageView, PlanView}
@@ -104,8 +104,21 @@ pub record HasFailed (plan : PlanView) (handed : List Handed) (part : Part) : Ty
 abbrev pub AreDistinct : List Part → Type 0
 AreDistinct parts = AllPairs (λ one other. one ≢ other) parts
 
--- just the parts with failed runs are explained, each once
+-- the one part had a failed run before the other had any: after some of the steps it has one, and the other hasn't
+pub record FailsBefore (plan : PlanView) (handed : List Handed) (one other : Part) : Type 0 where
+  pub before : List Handed
+  pub after : List Handed
+  pub split : handed ≡ before ++ after
+  pub failed : HasFailed plan before one
+  pub not : HasFailed plan before other → ⊥
+
+-- the parts are the old ones, or these and one more that is none of them
+abbrev pub AddsOnce : List Part → List Part → Type 0
+AddsOnce old new = (new ≡ old) ⊎ ((part : Part) × (new ≡ old ++ part ∷ []) × (Contains old part → ⊥))
+
+-- just the parts with failed runs are explained, each once, in the order of their first failures
 pub record AreExplained (t : Course) (strength : ℕ) (all : List ExplainedView) : Type 0 where
   pub once : AreDistinct (map part_explained all)
+  pub ordered : AllPairs (FailsBefore t.plan t.handed) (map part_explained all)
   pub exactly : (part : Part) → Contains (map part_explained all) part ↔ HasFailed t.plan t.handed part
   pub explained : All (IsExplained t.plan t.handed strength) all

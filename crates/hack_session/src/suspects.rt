@@ -2,14 +2,14 @@
 //! run.
 
 ghost use Rattle.std.specs.Prelude.{◌≡◌, ◌≢◌, ◌⊎◌, ◌↔◌, ◌++◌, ◌∷◌, [], List, Some, IfOk, OnOk};
-ghost use Rattle.std.specs.Prelude.{All, Contains, MatchBool, length, map, option_map, slice_get};
+ghost use Rattle.std.specs.Prelude.{All, AllPairs, Contains, MatchBool, length, map, option_map, slice_get};
 ghost use Rattle.std.specs.List.{slice_index_or};
 ghost use Rattle.hack_samples.specs.Sets.{rows_of};
 ghost use Rattle.hack_suspects.specs.Suspects.{outcomes_of};
-ghost use Rattle.hack_session.specs.Suspects.{AreDistinct, AreExplained, AreFound, AreOutcomes};
-ghost use Rattle.hack_session.specs.Suspects.{HasFailed, IsExplained, count_in, explained_view};
-ghost use Rattle.hack_session.specs.Suspects.{is_failed, part_at, part_explained, part_of, quad_of};
-ghost use Rattle.hack_session.specs.Suspects.{settings_in};
+ghost use Rattle.hack_session.specs.Suspects.{AddsOnce, AreExplained, AreFound, AreOutcomes};
+ghost use Rattle.hack_session.specs.Suspects.{FailsBefore, HasFailed, IsExplained, count_in};
+ghost use Rattle.hack_session.specs.Suspects.{explained_view, is_failed, part_at, part_explained};
+ghost use Rattle.hack_session.specs.Suspects.{part_of, quad_of, settings_in};
 
 use crate::session::Session;
 use crate::step::{Handed, Outcome, Step};
@@ -56,7 +56,8 @@ impl Session {
 
 /// The parts with a failed run, in the order of their first failures, each once.
 fn failed_parts(alloc: Global, session: &Session) -> Result<Vec<Part>, AllocError>
-    ensures once { IfOk result (λ parts. AreDistinct parts.items) }
+    ensures ordered { IfOk result (λ parts.
+        AllPairs (FailsBefore session.now.plan session.now.handed) parts.items) }
     ensures exactly { IfOk result (λ parts. (part : Part) → Contains parts.items part
         ↔ HasFailed session.now.plan session.now.handed part) }
 {
@@ -69,7 +70,7 @@ fn failed_parts(alloc: Global, session: &Session) -> Result<Vec<Part>, AllocErro
 
 /// Adds the part of a failed run, unless it was added already.
 fn add_failed(plan: &Plan, handed: Handed, parts: &mut Vec<Part>) -> Result<(), AllocError>
-    ensures once { OnOk result (AreDistinct parts.old.items → AreDistinct parts.new.items) }
+    ensures once { OnOk result (AddsOnce parts.old.items parts.new.items) }
     ensures exactly { OnOk result ((part : Part) → Contains parts.new.items part
         ↔ (Contains parts.old.items part ⊎ HasFailed plan.now (handed ∷ []) part)) }
 {
@@ -84,7 +85,7 @@ fn add_failed(plan: &Plan, handed: Handed, parts: &mut Vec<Part>) -> Result<(), 
 
 /// Adds a part, unless it was added already.
 fn add_once(parts: &mut Vec<Part>, part: Part) -> Result<(), AllocError>
-    ensures once { OnOk result (AreDistinct parts.old.items → AreDistinct parts.new.items) }
+    ensures once { OnOk result (AddsOnce parts.old.items parts.new.items) }
     ensures exactly { OnOk result ((other : Part) → Contains parts.new.items other
         ↔ (Contains parts.old.items other ⊎ (part ≡ other))) }
 {

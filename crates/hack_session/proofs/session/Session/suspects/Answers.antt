@@ -7,5 +7,5 @@ pub returns : goal.returns
 returns c =
     if_ok_both _ _ _ c.explain_all.result
     (λ all same each. explained-by c.args.self.now c.args.strength c.in_ok-parts.parts.items c.as_slice.result.now (map explained_view all.items)
-    c.as_slice.ensures.value c.in_ok-parts.ensures.once c.in_ok-parts.ensures.exactly same each)
+    c.as_slice.ensures.value c.in_ok-parts.ensures.ordered c.in_ok-parts.ensures.exactly same each)
     c.explain_all.ensures.parts c.explain_all.ensures.explained
