@@ -143,6 +143,9 @@ CALLS = [
     ("an array over 1,000 lines, edited", workspace(1, with_long_array(1000)), [*NONE, "--no-dev-deps"]),
     ("100 members with 120 lines each, each feature run", workspace(100, manifest(120)), ["hack", "check", "--workspace", "--each-feature"]),
     ("16 free features, all sets listed", workspace(1, with_features(without_edges(16))), [*LIST, "--feature-powerset"]),
+    ("20 free features, all sets listed", workspace(1, with_features(without_edges(20))), [*LIST, "--feature-powerset"]),
+    ("10,000 runs", workspace(1, with_features(without_edges(10_000))), ["hack", "check", "--each-feature"]),
+    ("100 members with 5 features each, listed", workspace(100, with_features(without_edges(5))), [*LIST, "--each-feature"]),
     ("20 free features, one place listed", workspace(1, with_features(without_edges(20))), [*LIST, "--feature-powerset", "--partition", "1/1048577"]),
     ("1,000 versions over 50 members, listed", workspace(50, with_features(without_edges(1))), [*LIST, "--each-feature", "--version-range", "1.1..=1.1000"]),
     ("200 members with 10 features each, listed", workspace(200, with_features(without_edges(10))), [*LIST, "--each-feature"]),
@@ -277,8 +280,8 @@ def main():
         for title, text, words in others:
             with open(path, "w", encoding="utf-8") as out:
                 out.write(text)
-            seconds = seconds_of([os.path.abspath(words[0]), *words[1:]], path)
-            print(f"{title:48}{seconds:9.3f}", flush=True)
+            words = [os.path.abspath(words[0]), *words[1:]]
+            print(f"{title:48}{seconds_of(words, path):9.3f}{'':8}{memory_of(words, path):>9}", flush=True)
         for calls in sys.argv[3:4]:
             print_samples(os.path.abspath(calls), path, listed)
 
