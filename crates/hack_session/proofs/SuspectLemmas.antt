@@ -108,8 +108,8 @@ pub ordered-more : (plan : PlanView) (before : List Handed) (h : Handed) (old ne
 ordered-more plan before h old new adds are ordered =
     elim adds [
       | inl same ↦ subst (AllPairs Earlier) (sym same) kept
-      | inr more ↦ subst (AllPairs Earlier) (sym more.1.0) (all_pairs_push Earlier old more.0 kept
-          (λ k d lt. record { before = before; after = h ∷ []; split = refl; failed = (are (get_or old k d)).0 (Contains-get_or old k d lt); not = λ f. more.1.1 ((are more.0).1 f) }))
+      | inr more ↦ subst (AllPairs Earlier) (sym more.1) (all_pairs_push Earlier old more.0 kept
+          (λ k d lt. record { before = before; after = h ∷ []; split = refl; failed = (are (get_or old k d)).0 (Contains-get_or old k d lt); not = λ f. more.2 ((are more.0).1 f) }))
     ]
   where
     Earlier : Part → Part → Type 0

@@ -2,7 +2,8 @@
 //! run.
 
 ghost use Rattle.std.specs.Prelude.{◌≡◌, ◌≢◌, ◌⊎◌, ◌↔◌, ◌++◌, ◌∷◌, [], List, Some, IfOk, OnOk};
-ghost use Rattle.std.specs.Prelude.{All, AllPairs, Contains, MatchBool, length, map, option_map, slice_get};
+ghost use Rattle.std.specs.Prelude.{All, AllPairs, Contains, MatchBool, length, map, option_map};
+ghost use Rattle.std.specs.Prelude.{slice_get};
 ghost use Rattle.std.specs.List.{slice_index_or};
 ghost use Rattle.hack_samples.specs.Sets.{rows_of};
 ghost use Rattle.hack_suspects.specs.Suspects.{outcomes_of};
