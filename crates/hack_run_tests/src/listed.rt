@@ -32,7 +32,11 @@ fn list_over<W: Lines, R: Teller>(
         refused: 0,
     };
     let session = driven(alloc, cx, &mut lister)?;
-    Ok(session.handed().count())
+    let mut handed: usize = 0;
+    for _ in session.handed() {
+        handed = handed.saturating_add(1);
+    }
+    Ok(handed)
 }
 
 /// Lists a plan on a writer; how many steps were handed out, and how many lines failed.
