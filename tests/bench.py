@@ -209,8 +209,10 @@ def print_samples(calls, path, listed):
         words = [calls, *base, *options, "--strength", str(strength)]
         sets = commands_of(words, path, listed)
         least = least_for_pairs(count) if is_free and strength == 2 else "-"
-        every = f"{2.0**count - 1:,.0f}" if is_free and count <= 20 else f"{2.0**count:.0e}" if is_free else "-"
-        if not is_free and count <= 20:
+        every = "-"
+        if is_free:
+            every = f"{2**count - 1:,}" if count <= 20 else f"{2**count:.0e}"
+        elif count <= 20:
             every = f"{commands_of([calls, *base, *options], path, listed):,}"
         figures = f"{seconds_of(words, path):9.3f}{memory_of(words, path):>7}"
         print(f"{title:40}{strength:9}{sets:6}{least:>7}{every:>11}{figures}", flush=True)
@@ -218,8 +220,7 @@ def print_samples(calls, path, listed):
 
 def commands_of(words, path, listed):
     """How many commands a call lists."""
-    with open(path, "rb") as given, open(listed, "wb") as out:
-        subprocess.run(words, stdin=given, stdout=out, check=True)
+    write_list(words, path, listed)
     with open(listed, encoding="utf-8") as written:
         return sum(line.startswith("cargo check ") for line in written)
 
@@ -251,6 +252,12 @@ def memory_of(words, path):
     return f"{int(told.split()[-1]) / 1024:.1f}"
 
 
+def write_list(words, path, listed):
+    """Writes what a program prints, whose input is the file at `path`, to the file at `listed`."""
+    with open(path, "rb") as given, open(listed, "wb") as out:
+        subprocess.run(words, stdin=given, stdout=out, check=True)
+
+
 def lines_of(path):
     count = 0
     with open(path, "rb") as written:
@@ -271,8 +278,7 @@ def main():
                 json.dump(features, out)
             words = [program, *options]
             seconds, memory = seconds_of(words, path), memory_of(words, path)
-            with open(path, "rb") as given, open(listed, "wb") as out:
-                subprocess.run(words, stdin=given, stdout=out, check=True)
+            write_list(words, path, listed)
             ratio = seconds / seconds_of(["cat", listed], path)
             print(f"{title:48}{seconds:9.3f}{ratio:8.1f}{memory:>9}{lines_of(listed):12,}", flush=True)
         others = [(title, text, [it]) for it in sys.argv[2:3] for title, text in TABLES]

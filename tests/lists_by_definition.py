@@ -506,11 +506,17 @@ class Plan:
     def all_slots(self):
         return {slot for version in self.versions for slot in self.slots(version)}
 
+    def is_split(self, version):
+        """Each target has a slot by itself."""
+        return bool(self.asked.targets) and (version or self.workspace["minor"] or 0) < 64
+
     def slots(self, version):
         """Each target by itself, or all of them at once."""
-        targets = self.asked.targets
-        minor = version or self.workspace["minor"] or 0
-        return [(it,) for it in targets] if targets and minor < 64 else [tuple(targets)]
+        return [(it,) for it in self.asked.targets] if self.is_split(version) else [tuple(self.asked.targets)]
+
+    def own_line(self, rank):
+        """The line of the run at a place, without its cleaning."""
+        return last_line(self.texts[rank])
 
     def piece(self, kind, number, count):
         """The list of a piece: before each version its cleaning, where asked for, then its places that the piece has."""
@@ -543,21 +549,20 @@ def commands_to_fail(rng, plan):
         some = rng.sample(range(len(settings)), min(len(settings), rng.randint(1, 3)))
         for rank, it in enumerate(plan.places):
             if it[2] == place[2] and all(plan.settings(it)[one] == settings[one] for one in some):
-                failing.add(last_line(plan.texts[rank]))
-    return failing | set(rng.sample([last_line(it) for it in plan.texts], rng.randint(0, 1)))
+                failing.add(plan.own_line(rank))
+    return failing | {plan.own_line(it) for it in rng.sample(range(len(plan.places)), rng.randint(0, 1))}
 
 
 def told_of_suspects(plan, ranks, failing):
-    """What is told after these places were run, where these commands fail: of the version, slot and package that failed
-    first, then of the next."""
+    """What is told after these places were run, where these commands fail: of each version, slot and package in turn,
+    since the runs of each are one after the other."""
     outcomes, told = {}, []
     for rank in ranks:
-        part, failed = plan.places[rank][:3], last_line(plan.texts[rank]) in failing
-        outcomes.setdefault(part, []).append((plan.settings(plan.places[rank]), failed))
-    failed_first = dict.fromkeys(plan.places[it][:3] for it in ranks if last_line(plan.texts[it]) in failing)
-    for version, slot, package in failed_first:
+        outcome = plan.settings(plan.places[rank]), plan.own_line(rank) in failing
+        outcomes.setdefault(plan.places[rank][:3], []).append(outcome)
+    for (version, slot, package), those in outcomes.items():
         own = plan.packages[package]["name"]
-        found = suspects(outcomes[version, slot, package], plan.asked.strength)
+        found = suspects(those, plan.asked.strength)
         lines = [
             ", ".join(f"{','.join(plan.choices[own].candidates[place])} {'on' if is_on else 'off'}" for place, is_on in it)
             for it in found
@@ -565,7 +570,7 @@ def told_of_suspects(plan, ranks, failing):
         if found in ([], [()]):
             continue
         where = own + (f" on 1.{version}" if version else "")
-        where += f" for {slot[0]}" if len(slot) == 1 and (version or plan.workspace["minor"] or 0) < 64 else ""
+        where += f" for {slot[0]}" if plan.is_split(version) else ""
         told.append(f"info: in {where} the failed runs have one of these, and the passed runs have none:")
         told += [f"info:     {it}" for it in lines[:20]]
         told += [f"info:     and {len(lines) - 20} more"] if len(lines) > 20 else []
@@ -583,7 +588,7 @@ def fault_of_suspects(program, plan, words, rng):
     ranks = plan.ranks(kind, number, count)
     wanted = told_of_suspects(plan, ranks, failing)
     found = [it for it in ran.stderr.splitlines() if it.startswith(("info: in ", "info:     "))]
-    status = int(any(last_line(plan.texts[it]) in failing for it in ranks))
+    status = int(any(plan.own_line(it) in failing for it in ranks))
     if (ran.returncode, found) == (status, wanted):
         return None
     return f"{words}, failing:\n{''.join(failing)}status {ran.returncode}, {ran.stderr}\nwanted:\n{wanted}\ntold:\n{found}"
