@@ -11,10 +11,13 @@ use hack_manifest::lookup::{find_table, value_at};
 use toml::value::Array;
 use toml::{Table, Value};
 
+/// The key of a table of development dependencies.
 pub const DEV: &str = "dev-dependencies";
 
+/// The key of the table that has, for each platform, tables of dependencies.
 pub const TARGET: &str = "target";
 
+/// The key of the table of features.
 pub const FEATURES: &str = "features";
 
 const NORMAL: &str = "dependencies";

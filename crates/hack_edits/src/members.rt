@@ -23,6 +23,7 @@ use std::collections::BTreeSet;
 use toml::value::Array;
 use toml::{Table, Value};
 
+/// The key of the array of a workspace's members.
 pub const MEMBERS: &str = "members";
 
 /// The paths in byte order, each once.

@@ -7,6 +7,8 @@ ghost use Rattle.hack_edits.specs.Same.{same, same_items, same_members};
 use toml::value::Array;
 use toml::{Table, Value};
 
+/// Returns whether two tables have the same keys with the same values, whatever their order. All
+/// floats count as the same, and so do all dates.
 #[cycle(same)]
 pub fn same_table(a: &Table, b: &Table) -> bool
     ensures { result ≡ same_members (table_view a.now) (table_view b.now) }

@@ -21,8 +21,10 @@ use std::alloc::{AllocError, Global};
 use toml::value::Array;
 use toml::{Table, Value};
 
+/// The key of the table of a workspace.
 pub const WORKSPACE: &str = "workspace";
 
+/// The key of the array of folders that are no members of a workspace.
 pub const EXCLUDE: &str = "exclude";
 
 /// Whether a text is read as the tree that is expected.

@@ -44,6 +44,8 @@ pub struct FailingFiles<F: Files> {
 }
 
 impl<F: Files> FailingFiles<F> {
+    /// Files over others, of which the call with the number `failing`, counted from 1, fails; with
+    /// 0 none does.
     pub fn new(inner: F, failing: u64) -> Self
         ensures inner { result.inner ≡ inner }
         ensures turns { result.turns ≡ record { next = 1; failing = failing } }
@@ -152,6 +154,8 @@ pub struct FailingWriter<W: Write> {
 }
 
 impl<W: Write> FailingWriter<W> {
+    /// A writer over another one, of which the call with the number `failing`, counted from 1,
+    /// fails; with 0 none does.
     pub fn new(inner: W, failing: u64) -> Self
         ensures inner { result.inner ≡ inner }
         ensures turns { result.turns ≡ record { next = 1; failing = failing } }

@@ -5,6 +5,7 @@ ghost use Rattle.hack_manifest.specs.declared.fault.ReadFault.TheVariants.{Memor
 
 use std::alloc::AllocError;
 
+/// Why a part of a manifest can't be read.
 #[derive(Drop)]
 pub enum ReadFault {
     Memory,

@@ -21,6 +21,7 @@ pub struct Child<R: Processes + Drop> {
 }
 
 impl<R: Processes + Drop> Child<R> {
+    /// A caller that starts programs by this handle of the runtime.
     pub fn new(rt: R) -> Self
         ensures { result.rt ≡ rt }
     {
