@@ -5,3 +5,5 @@ pub mod PackageLemmas
 pub mod DepthLemmas
 pub mod RowLemmas
 pub mod SampleLemmas
+pub mod SetLemmas
+pub mod LeastLemmas

@@ -5,6 +5,8 @@ mod candidates;
 pub mod determine;
 pub mod fault;
 pub mod kind;
+mod least;
+mod least_sets;
 mod lifts;
 mod listing;
 pub mod member;

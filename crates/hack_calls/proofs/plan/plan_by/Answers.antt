@@ -4,6 +4,7 @@ use Rattle.std.proofs.lemmas.Result.{err_from_is_err_and}
 use Rattle.hack_load.specs.ContextView.{context_view}
 use Rattle.hack_metadata.specs.View.{place_at}
 use Rattle.hack_metadata.specs.declared.resolve.PackageId.{PackageId}
+use Rattle.hack_packages.specs.ContextMembers.{AreChosen}
 use Rattle.hack_plan.specs.Quads.{ArePlaces, HasTooMany}
 use Rattle.hack_runs.specs.Plans.{counts_in}
 use Rattle.hack_runs.specs.Prepared.{ArePrepared}
@@ -11,7 +12,7 @@ use Rattle.hack_runs.specs.View.{CallView, package_view}
 use Rattle.hack_base.specs.Notes.{note_of}
 use Rattle.hack_versions.specs.declared.version.VersionFault.{VersionFault}
 use Rattle.hack_calls.specs.Calls.{IsSceneOf, ArePlanned, HasBadOwn, HasRunsFault, left_out_notes}
-use Rattle.hack_calls.specs.Made.{run_counts}
+use Rattle.hack_calls.specs.Made.{IsCause, run_counts}
 use Rattle.hack_calls.proofs.CauseLemmas.{range-cause, places-cause, counts-same, all-told}
 use Rattle.hack_calls.proofs.NeverLemmas.{no-cause}
 use Rattle.hack_calls.proofs.PlanLemmas.{members-length, planned-length, covers}
@@ -45,12 +46,29 @@ of_scene-requires-clause-packages c =
     ∙ sym (planned-length cx c.in_ok-list.list.is_single (map place_at ids) _ _ planned)
     ∙ members-length cx (map place_at ids) c.in_ok-scene.scene.packages.items of_call.members
 
+pub refuse_too_many-requires-clause-members : goal.refuse_too_many-requires-clause-members
+refuse_too_many-requires-clause-members c =
+    subst (λ l. All (λ (id : PackageId). Contains (context_view c.args.cx.now).metadata.workspace_members id.index) l) (sym c.as_slice-ids.ensures.value) c.in_ok-list.ensures.members
+
+pub refuse_too_many-requires-clause-scene : goal.refuse_too_many-requires-clause-scene
+refuse_too_many-requires-clause-scene c =
+    let cx = context_view c.args.cx.now in
+    subst (λ (l : List PackageId). IsSceneOf cx (map place_at l) c.in_ok-scene.scene) (sym c.as_slice-ids.ensures.value)
+    (subst (λ l. IsSceneOf cx (map place_at l) c.in_ok-scene.scene) c.as_slice.ensures.value c.in_ok-scene.ensures.ok)
+
 pub returns-in-Err-clause-err : goal.returns-in-Err-clause-err
 returns-in-Err-clause-err c =
     let cx = context_view c.args.cx.now in
+    let chosen = subst (λ (l : List PackageId). AreChosen cx (map place_at l) c.in_ok-list.list.is_single (map note_of c.in_ok-list.notices.items)) (sym c.as_slice-ids.ensures.value) c.in_ok-list.ensures.ok in
+    subst (λ v. (c.in-Err.fault ≡ fault.Memory) ⊎ IsCause cx v c.in-Err.fault) c.in_ok-versions.ensures.stable
+    (c.in-Err.ensures c.in_ok-list.list.is_single (map note_of c.in_ok-list.notices.items) chosen)
+
+pub returns-in-Err-chosen_packages-clause-err : goal.returns-in-Err-chosen_packages-clause-err
+returns-in-Err-chosen_packages-clause-err c =
+    let cx = context_view c.args.cx.now in
     let ids = c.in_ok-list.list.ids.items in
-    let cause = subst (λ (l : List PackageId). (c.in-Err.fault ≡ fault.Memory) ⊎ HasRunsFault cx (map place_at l) c.in-Err.fault) c.as_slice-ids.ensures.value c.in-Err.ensures.err in
-    sample-cause cx (map place_at ids) c.in_ok-list.list.is_single (map note_of c.in_ok-list.notices.items) c.args.latest c.in-Err.fault c.in_ok-list.ensures.ok cause
+    let cause = subst (λ (l : List PackageId). (c.in-Err-chosen_packages.fault ≡ fault.Memory) ⊎ HasRunsFault cx (map place_at l) c.in-Err-chosen_packages.fault) c.as_slice-ids.ensures.value c.in-Err-chosen_packages.ensures.err in
+    sample-cause cx (map place_at ids) c.in_ok-list.list.is_single (map note_of c.in_ok-list.notices.items) c.args.latest c.in-Err-chosen_packages.fault c.in_ok-list.ensures.ok cause
 
 pub returns-in-Err-of_scene-clause-err : goal.returns-in-Err-of_scene-clause-err
 returns-in-Err-of_scene-clause-err c =
