@@ -6,5 +6,6 @@ pub mod cargo;
 mod child;
 mod fake;
 mod fault;
+mod listed;
 pub mod process;
 mod words;

@@ -2,3 +2,4 @@ pub mod View
 pub mod Commands
 pub mod Plans
 pub mod Prepared
+pub mod RunWords

@@ -6,19 +6,20 @@ ghost use Rattle.std.specs.List.{flat_map, slice_index_or};
 ghost use Rattle.hack_base.specs.Names.{names_behind, optional_text};
 ghost use Rattle.hack_features.specs.Feature.{groups_of};
 ghost use Rattle.hack_plan.specs.Runs.{run_of};
-ghost use Rattle.hack_process.specs.Commands.{command_of};
-ghost use Rattle.hack_process.specs.CommandTexts.{with_names};
+ghost use Rattle.hack_process.specs.Commands.{command_of, listed_text};
+ghost use Rattle.hack_process.specs.CommandTexts.{listed_of};
 ghost use Rattle.hack_runs.specs.View.{call_view, package_view};
 ghost use Rattle.hack_runs.specs.Commands.{toolchain_of, program_of, leading_of, is_split};
 ghost use Rattle.hack_runs.specs.Commands.{targets_in, target_pair, manifest_words, run_words};
 ghost use Rattle.hack_runs.specs.Commands.{names_at, run_names, call_command, whole_command};
 ghost use Rattle.hack_runs.specs.Commands.{run_command, plain_command, locked_words, cleaned_words};
 ghost use Rattle.hack_runs.specs.Commands.{clean_command, lockfile_command, slot_target};
+ghost use Rattle.hack_runs.specs.RunWords.{words_command};
 
 use crate::parts::{CallWords, PlanPackage};
 use hack_features::Feature;
 use hack_plan::runs::Run;
-use hack_process::process::ProcessBuilder;
+use hack_process::process::{ListedLine, ProcessBuilder};
 use hack_versions::version::Version;
 use std::alloc::{AllocError, Global};
 use std::slice;
@@ -31,7 +32,39 @@ pub fn toolchain(alloc: Global, version: Version) -> Result<String, AllocError>
     format!(in alloc; "1.{minor}")
 }
 
+/// The arguments that make rustup run the cargo of a version.
+fn leading(alloc: Global, version: Option<Version>) -> Result<Vec<String>, AllocError>
+    ensures { IfOk result (λ words. map string_bytes words.items ≡ leading_of version) }
+{
+    let Some(version) = version else {
+        return Ok(Vec::new(alloc));
+    };
+    let mut words = Vec::with_capacity(alloc, 3)?;
+    words.push(String::from_str(alloc, "run")?)?;
+    words.push(toolchain(alloc, version)?)?;
+    words.push(String::from_str(alloc, "cargo")?)?;
+    Ok(words)
+}
+
+/// What a run has besides the arguments that are passed on: arguments of its own, and the names of
+/// features.
+#[derive(Drop)]
+struct RunWords<'a> {
+    own: Vec<&'a str>,
+    names: Vec<&'a str>,
+}
+
 impl CallWords {
+    /// The program of a version's commands.
+    fn program_of(&self, version: Option<Version>) -> &str
+        ensures { result.now ≡ program_of (call_view self.now) version }
+    {
+        match version {
+            None => self.cargo.as_str(),
+            Some(_) => self.rustup.as_str(),
+        }
+    }
+
     /// The command of cargo for a version, without further arguments.
     fn program<'a>(
         &self,
@@ -41,30 +74,51 @@ impl CallWords {
         ensures { IfOk result (λ command. command_of command
             ≡ plain_command (program_of (call_view self.now) version) (leading_of version) []) }
     {
-        match version {
-            None => ProcessBuilder::new(alloc, self.cargo.as_str()),
-            Some(version) => {
-                let mut command = ProcessBuilder::new(alloc, self.rustup.as_str())?;
-                command.leading_arg("run")?;
-                command.leading_arg(toolchain(alloc, version)?.as_str())?;
-                command.leading_arg("cargo")?;
-                Ok(command)
-            }
+        let words = leading(alloc, version)?;
+        let mut command = ProcessBuilder::new(alloc, self.program_of(version))?;
+        for word in &words {
+            command.leading_arg(word.as_str())?;
         }
+        Ok(command)
     }
 
-    /// The command that starts with the arguments that are passed on.
-    fn handing_on(
+    /// The command of a run.
+    fn command(
         &self,
         alloc: Global,
         version: Option<Version>,
+        words: &RunWords<'_>,
     ) -> Result<ProcessBuilder<'_>, AllocError>
         ensures { IfOk result (λ command. command_of command
-            ≡ call_command (call_view self.now) version [] []) }
+            ≡ words_command (call_view self.now) version words.now) }
     {
         let mut command = self.program(alloc, version)?;
         command.pass_words(self.passed.as_slice(), self.trailing.as_slice());
+        command.args(words.own.as_slice())?;
+        command.append_features(words.names.as_slice())?;
         Ok(command)
+    }
+
+    /// The line of a run.
+    fn line<'a>(
+        &'a self,
+        alloc: Global,
+        version: Option<Version>,
+        words: RunWords<'a>,
+    ) -> Result<ListedLine<'a>, AllocError>
+        ensures { IfOk result (λ line. listed_text line ≡ listed_of (call_view self.now).dir
+            (words_command (call_view self.now) version words.entry)) }
+    {
+        let leading = leading(alloc, version)?;
+        Ok(ListedLine {
+            program: self.program_of(version),
+            leading,
+            passed: self.passed.as_slice(),
+            own: words.own,
+            names: words.names,
+            trailing: self.trailing.as_slice(),
+            dir: self.dir.as_str(),
+        })
     }
 
     /// Whether each target is a separate slot.
@@ -109,10 +163,39 @@ impl CallWords {
         ensures { IfOk result (λ command. command_of command
             ≡ whole_command (call_view self.now) version slot) }
     {
-        let mut command = self.handing_on(alloc, version)?;
-        add_targets(&mut command, self.targets_in(version, slot))?;
-        command.append_features(self.features.as_slice())?;
-        Ok(command)
+        let words = self.whole_words(alloc, version, slot)?;
+        self.command(alloc, version, &words)
+    }
+
+    /// The line of a run for all packages.
+    pub(crate) fn whole_line(
+        &self,
+        alloc: Global,
+        version: Option<Version>,
+        slot: usize,
+    ) -> Result<ListedLine<'_>, AllocError>
+        ensures { IfOk result (λ line. listed_text line ≡ listed_of (call_view self.now).dir
+            (whole_command (call_view self.now) version slot)) }
+    {
+        let words = self.whole_words(alloc, version, slot)?;
+        self.line(alloc, version, words)
+    }
+
+    /// What a run for all packages has.
+    fn whole_words(
+        &self,
+        alloc: Global,
+        version: Option<Version>,
+        slot: usize,
+    ) -> Result<RunWords<'_>, AllocError>
+        ensures { IfOk result (λ words. words_command (call_view self.now) version words
+            ≡ whole_command (call_view self.now) version slot) }
+    {
+        let mut own = Vec::new(alloc);
+        push_targets(&mut own, self.targets_in(version, slot))?;
+        let mut names = Vec::new(alloc);
+        push_all(&mut names, self.features.as_slice())?;
+        Ok(RunWords { own, names })
     }
 
     /// The command of a package's run; where it is the run of a set, `positions` are those of the
@@ -130,12 +213,49 @@ impl CallWords {
             ≡ run_command (call_view self.now) version slot (package_view member.now)
             (run_of run positions.now)) }
     {
-        let mut command = self.handing_on(alloc, version)?;
-        add_targets(&mut command, self.targets_in(version, slot))?;
-        add_manifest(&mut command, &member.manifest_path)?;
-        add_run(&mut command, run)?;
-        add_features(alloc, &mut command, member, run, positions)?;
-        Ok(command)
+        let words = self.run_words(alloc, version, slot, member, run, positions)?;
+        self.command(alloc, version, &words)
+    }
+
+    /// The line of a package's run, like its command.
+    pub(crate) fn run_line<'a>(
+        &'a self,
+        alloc: Global,
+        version: Option<Version>,
+        slot: usize,
+        member: &'a PlanPackage,
+        run: Run,
+        positions: &[usize],
+    ) -> Result<ListedLine<'a>, AllocError>
+        ensures { IfOk result (λ line. listed_text line ≡ listed_of (call_view self.now).dir
+            (run_command (call_view self.now) version slot (package_view member.now)
+            (run_of run positions.now))) }
+    {
+        let words = self.run_words(alloc, version, slot, member, run, positions)?;
+        self.line(alloc, version, words)
+    }
+
+    /// What a package's run has.
+    fn run_words<'a>(
+        &'a self,
+        alloc: Global,
+        version: Option<Version>,
+        slot: usize,
+        member: &'a PlanPackage,
+        run: Run,
+        positions: &[usize],
+    ) -> Result<RunWords<'a>, AllocError>
+        ensures { IfOk result (λ words. words_command (call_view self.now) version words
+            ≡ run_command (call_view self.now) version slot (package_view member.now)
+            (run_of run positions.now)) }
+    {
+        let targets = self.targets_in(version, slot);
+        let mut own = Vec::with_capacity(alloc, 2 * targets.len() + 3)?;
+        push_targets(&mut own, targets)?;
+        push_manifest(&mut own, &member.manifest_path)?;
+        push_run(&mut own, run)?;
+        let names = run_names(alloc, member, run, positions)?;
+        Ok(RunWords { own, names })
     }
 
     /// The command that removes the artifacts of a package, or all artifacts.
@@ -168,7 +288,9 @@ impl CallWords {
     {
         let mut command = self.program(alloc, Some(version))?;
         command.arg("generate-lockfile")?;
-        add_manifest(&mut command, &self.current_manifest)?;
+        let mut manifest = Vec::new(alloc);
+        push_manifest(&mut manifest, &self.current_manifest)?;
+        command.args(manifest.as_slice())?;
         Ok(command)
     }
 }
@@ -194,53 +316,60 @@ fn one_at(texts: &[String], place: usize) -> &[String]
     }
 }
 
-/// Adds an option and its value.
-fn add_pair(command: &mut ProcessBuilder<'_>, option: &str, value: &str) -> Result<(), AllocError>
-    ensures { OnOk result (command_of command.new ≡ record (command_of command.old) {
-      own = (command_of command.old).own ++ option.now ∷ value.now ∷ [];
-    }) }
+/// Adds an argument.
+fn push_word<'a>(words: &mut Vec<&'a str>, word: &'a str) -> Result<(), AllocError>
+    ensures { OnOk result (names_behind words.new.items
+        ≡ names_behind words.old.items ++ word.now ∷ []) }
 {
-    command.arg(option)?;
-    command.arg(value)
+    words.push(word)?;
+    Ok(())
+}
+
+/// Adds an option and its value.
+fn push_pair<'a>(
+    words: &mut Vec<&'a str>,
+    option: &'a str,
+    value: &'a str,
+) -> Result<(), AllocError>
+    ensures { OnOk result (names_behind words.new.items
+        ≡ names_behind words.old.items ++ option.now ∷ value.now ∷ []) }
+{
+    push_word(words, option)?;
+    push_word(words, value)
 }
 
 /// Adds each target after its option.
-fn add_targets(command: &mut ProcessBuilder<'_>, targets: &[String]) -> Result<(), AllocError>
-    ensures { OnOk result (command_of command.new ≡ record (command_of command.old) {
-      own = (command_of command.old).own
-          ++ flat_map target_pair (map string_bytes targets.now);
-    }) }
+fn push_targets<'a>(words: &mut Vec<&'a str>, targets: &'a [String]) -> Result<(), AllocError>
+    ensures { OnOk result (names_behind words.new.items
+        ≡ names_behind words.old.items ++ flat_map target_pair (map string_bytes targets.now)) }
 {
     for target in targets {
-        add_pair(command, "--target", target.as_str())?;
+        push_pair(words, "--target", target.as_str())?;
     }
     Ok(())
 }
 
 /// Adds a manifest's path after its option.
-fn add_manifest(command: &mut ProcessBuilder<'_>, path: &Option<String>) -> Result<(), AllocError>
-    ensures { OnOk result (command_of command.new ≡ record (command_of command.old) {
-      own = (command_of command.old).own ++ manifest_words (optional_text path.now);
-    }) }
+fn push_manifest<'a>(words: &mut Vec<&'a str>, path: &'a Option<String>) -> Result<(), AllocError>
+    ensures { OnOk result (names_behind words.new.items
+        ≡ names_behind words.old.items ++ manifest_words (optional_text path.now)) }
 {
     match path {
-        Some(path) => add_pair(command, "--manifest-path", path.as_str()),
+        Some(path) => push_pair(words, "--manifest-path", path.as_str()),
         None => Ok(()),
     }
 }
 
 /// Adds the argument that says which features a run has.
-fn add_run(command: &mut ProcessBuilder<'_>, run: Run) -> Result<(), AllocError>
-    ensures { (positions : List ℕ) → OnOk result (command_of command.new
-        ≡ record (command_of command.old) {
-          own = (command_of command.old).own ++ run_words (run_of run positions);
-        }) }
+fn push_run(words: &mut Vec<&str>, run: Run) -> Result<(), AllocError>
+    ensures { (positions : List ℕ) → OnOk result (names_behind words.new.items
+        ≡ names_behind words.old.items ++ run_words (run_of run positions)) }
 {
     match run {
         Run::Plain => Ok(()),
-        Run::AllFeatures => command.arg("--all-features"),
-        Run::NoDefaultFeatures => command.arg("--no-default-features"),
-        Run::Features => command.arg("--no-default-features"),
+        Run::AllFeatures => push_word(words, "--all-features"),
+        Run::NoDefaultFeatures => push_word(words, "--no-default-features"),
+        Run::Features => push_word(words, "--no-default-features"),
     }
 }
 
@@ -291,31 +420,13 @@ fn run_names<'a>(
         ≡ (package_view member.now).features
         ++ run_names (package_view member.now).candidates (run_of run positions.now)) }
 {
-    let mut names = Vec::new(alloc);
+    let mut names = Vec::with_capacity(alloc, member.features.len() + positions.len())?;
     push_all(&mut names, member.features.as_slice())?;
     match run {
         Run::Features => push_names(&mut names, member.candidates.as_slice(), positions)?,
         Run::Plain | Run::AllFeatures | Run::NoDefaultFeatures => {}
     }
     Ok(names)
-}
-
-/// Appends the features of `--features`, and those of the run's set, if it has one.
-fn add_features(
-    alloc: Global,
-    command: &mut ProcessBuilder<'_>,
-    member: &PlanPackage,
-    run: Run,
-    positions: &[usize],
-) -> Result<(), AllocError>
-    ensures { OnOk result (command_of command.new ≡ record (command_of command.old) {
-      features = with_names (command_of command.old).features
-          ((package_view member.now).features
-          ++ run_names (package_view member.now).candidates (run_of run positions.now));
-    }) }
-{
-    let names = run_names(alloc, member, run, positions)?;
-    command.append_features(names.as_slice())
 }
 
 /// Adds the package whose artifacts are removed, if it is a single one.
@@ -329,7 +440,10 @@ fn add_cleaned(
     }) }
 {
     match member {
-        Some(member) => add_pair(command, "--package", member.name.as_str()),
+        Some(member) => {
+            command.arg("--package")?;
+            command.arg(member.name.as_str())
+        }
         None => Ok(()),
     }
 }

@@ -4,7 +4,8 @@
 ghost use Rattle.std.specs.Prelude.{◌≡◌, ◌<◌, ◌^◌, Some, None, length, slice_get, option_map};
 ghost use Rattle.std.specs.Prelude.{IfOk, IfSome, string_bytes, map};
 ghost use Rattle.hack_plan.specs.Spans.{AreTiled};
-ghost use Rattle.hack_process.specs.Commands.{command_of};
+ghost use Rattle.hack_process.specs.Commands.{command_of, listed_text};
+ghost use Rattle.hack_process.specs.CommandTexts.{listed_of};
 ghost use Rattle.hack_runs.specs.Prepared.{span_of};
 ghost use Rattle.hack_runs.specs.View.{package_view};
 ghost use Rattle.hack_runs.specs.Commands.{command_of_quad, clean_command, lockfile_command};
@@ -17,7 +18,7 @@ use crate::parts::{CallWords, PlanPackage, PlanVersion};
 use crate::prepared::prepared;
 use hack_plan::places::{Places, PlacesFault, Quad};
 use hack_plan::versions::{Scene, Versions};
-use hack_process::process::ProcessBuilder;
+use hack_process::process::{ListedLine, ProcessBuilder};
 use hack_versions::version::Version;
 use std::alloc::{AllocError, Global};
 use std::marker::Model;
@@ -121,6 +122,20 @@ impl Plan {
         }
     }
 
+    /// The line of the run at a place in a list of commands: that of its command, which isn't made.
+    pub fn line(&self, alloc: Global, place: usize) -> Result<ListedLine<'_>, AllocError>
+        requires { place < length self.now.quads }
+        ensures { IfOk result (λ line. option_map (λ quad. listed_of self.now.call.dir
+            (command_of_quad self.now quad)) (slice_get self.now.quads place)
+            ≡ Some (listed_text line)) }
+    {
+        let quad = self.quad(place);
+        match self.package_of(quad) {
+            None => self.words.whole_line(alloc, quad.version, quad.slot),
+            Some(member) => self.line_of_package(alloc, quad, member),
+        }
+    }
+
     /// The package of a run.
     fn package_of(&self, quad: Quad) -> Option<&PlanPackage>
         ensures { option_map (λ k. package_view k.now) result
@@ -147,6 +162,30 @@ impl Plan {
         let mut positions = Vec::new(alloc);
         let run = member.runs.run(quad.rank, &mut positions)?;
         self.words.run(
+            alloc,
+            quad.version,
+            quad.slot,
+            member,
+            run,
+            positions.as_slice(),
+        )
+    }
+
+    /// The line of a package's run.
+    fn line_of_package<'a>(
+        &'a self,
+        alloc: Global,
+        quad: Quad,
+        member: &'a PlanPackage,
+    ) -> Result<ListedLine<'a>, AllocError>
+        requires { quad.rank < length (package_view member.now).runs }
+        ensures { IfOk result (λ line. listed_text line ≡ listed_of self.now.call.dir
+            (ranked_command self.now.call quad.version quad.slot (Some (package_view member.now))
+            quad.rank)) }
+    {
+        let mut positions = Vec::with_capacity(alloc, member.candidates.len())?;
+        let run = member.runs.run(quad.rank, &mut positions)?;
+        self.words.run_line(
             alloc,
             quad.version,
             quad.slot,

@@ -1,5 +1,5 @@
 -- The lines of a run that is cleaned.
-use Rattle.std.proofs.Common.{◌≡◌, ℕ, filter, List, [], ◌∷◌, ◌++◌, append_assoc, refl, sym, ◌∙◌, ap, subst, Bool, true, false, Result, Option, Some, if◌then◌else◌}
+use Rattle.std.proofs.Common.{◌≡◌, ℕ, filter, List, [], ◌∷◌, ◌++◌, append_assoc, refl, sym, ◌∙◌, ap, subst, Bool, true, false, Result, Option, Some, None, option_map, if◌then◌else◌}
 use Rattle.std.specs.Prelude.{IfSome, OnOk, codes}
 use Rattle.std.specs.Io.KnownBytes.{Appends}
 use Rattle.std.proofs.lemmas.Result.{on_ok_weaker}
@@ -11,29 +11,27 @@ use Rattle.hack_session.specs.declared.lines.LineFault.{LineFault}
 use Rattle.hack_session.specs.declared.step.Handed.{Handed}
 use Rattle.hack_session.specs.Lists.{Lists, ListsAll, Page, is_sent, is_sent_step, line_of, run_lines}
 
-cleaned_lines : (plan : PlanView) (o : Option Quad) (q : Quad) (own clean : Command) → o ≡ Some q → own ≡ command_of_quad plan q → IfSome o (λ x. clean ≡ clean_command plan.call (package_at plan.packages x.package)) → true ≡ plan.call.clean_per_run
-    → line_of plan.call.dir clean ++ line_of plan.call.dir own ≡ run_lines plan o
-cleaned_lines plan o q own clean e f g b =
-    let h : clean ≡ clean_command plan.call (package_at plan.packages q.package) = subst (λ (x : Option Quad). IfSome x (λ y. clean ≡ clean_command plan.call (package_at plan.packages y.package))) e g in
-    ap (λ (c : Command). line_of plan.call.dir c ++ line_of plan.call.dir own) h ∙ ap (λ (c : Command). line_of plan.call.dir (clean_command plan.call (package_at plan.packages q.package)) ++ line_of plan.call.dir c) f
-    ∙ sym (ap (run_lines plan) e ∙ at_flag plan.call.clean_per_run b (line_of plan.call.dir (clean_command plan.call (package_at plan.packages q.package))) (line_of plan.call.dir (command_of_quad plan q)))
-  where
-    at_flag : (flag : Bool) → true ≡ flag → (xs ys : List ℕ) → (if flag then xs ++ ys else ys) ≡ xs ++ ys
-    at_flag false b xs ys = absurd (cc)
-    at_flag true b xs ys = refl
+cleaned_lines : (plan : PlanView) (o : Option Quad) (text : List ℕ) (clean : Command) → option_map (λ q. listed_of plan.call.dir (command_of_quad plan q)) o ≡ Some text → IfSome o (λ x. clean ≡ clean_command plan.call (package_at plan.packages x.package)) → true ≡ plan.call.clean_per_run
+    → line_of plan.call.dir clean ++ (text ++ codes "\n") ≡ run_lines plan o
+cleaned_lines plan None text clean e f b = absurd (cc)
+cleaned_lines plan (Some q) text clean e f b =
+    let own : text ≡ listed_of plan.call.dir (command_of_quad plan q) = cc in
+    ap (λ (c : Command). line_of plan.call.dir c ++ (text ++ codes "\n")) f
+    ∙ ap (λ (t : List ℕ). line_of plan.call.dir (clean_command plan.call (package_at plan.packages q.package)) ++ (t ++ codes "\n")) own
+    ∙ ap (λ (f : Bool). if f then line_of plan.call.dir (clean_command plan.call (package_at plan.packages q.package)) ++ line_of plan.call.dir (command_of_quad plan q) else line_of plan.call.dir (command_of_quad plan q)) b
 
-pub two_lines : {T : Type 0} (r : Result T LineFault) (plan : PlanView) (o : Option Quad) (q : Quad) (own clean : Command) (dir : List ℕ) (a b : Option (List ℕ)) → o ≡ Some q → own ≡ command_of_quad plan q
+pub two_lines : {T : Type 0} (r : Result T LineFault) (plan : PlanView) (o : Option Quad) (text : List ℕ) (clean : Command) (dir : List ℕ) (a b : Option (List ℕ)) → option_map (λ q. listed_of plan.call.dir (command_of_quad plan q)) o ≡ Some text
     → IfSome o (λ x. clean ≡ clean_command plan.call (package_at plan.packages x.package)) → true ≡ plan.call.clean_per_run → dir ≡ plan.call.dir
-    → OnOk r (Appends a b (line_of dir clean ++ line_of dir own)) → OnOk r (Appends a b (run_lines plan o))
-two_lines r plan o q own clean dir a b e f g h i written =
-    on_ok_weaker r (λ s. subst (Appends a b) (cleaned_lines plan o q own clean e f g h) (subst (λ (d : List ℕ). Appends a b (line_of d clean ++ line_of d own)) i s)) written
+    → OnOk r (Appends a b (line_of dir clean ++ (text ++ codes "\n"))) → OnOk r (Appends a b (run_lines plan o))
+two_lines r plan o text clean dir a b e f g h written =
+    on_ok_weaker r (λ s. subst (Appends a b) (cleaned_lines plan o text clean e f g) (subst (λ (d : List ℕ). Appends a b (line_of d clean ++ (text ++ codes "\n"))) h s)) written
 
 -- two lines, as they are shown in one text
-pub shown_lines : (a b : Option (List ℕ)) (dir : List ℕ) (clean own : Command) (first last : List ℕ) → first ≡ listed_of dir clean → last ≡ listed_of dir own
-    → Appends a b ((first ++ (codes "\n" ++ last)) ++ codes "\n") → Appends a b (line_of dir clean ++ line_of dir own)
-shown_lines a b dir clean own first last e f written =
-    subst (Appends a b) (ap (λ (x : List ℕ). (x ++ (codes "\n" ++ last)) ++ codes "\n") e ∙ ap (λ (x : List ℕ). (listed_of dir clean ++ (codes "\n" ++ x)) ++ codes "\n") f
-    ∙ ap (λ (x : List ℕ). x ++ codes "\n") (sym (append_assoc (listed_of dir clean) (codes "\n") (listed_of dir own))) ∙ append_assoc (line_of dir clean) (listed_of dir own) (codes "\n")) written
+pub shown_lines : (a b : Option (List ℕ)) (dir : List ℕ) (clean : Command) (first last : List ℕ) → first ≡ listed_of dir clean
+    → Appends a b ((first ++ (codes "\n" ++ last)) ++ codes "\n") → Appends a b (line_of dir clean ++ (last ++ codes "\n"))
+shown_lines a b dir clean first last e written =
+    subst (Appends a b) (ap (λ (x : List ℕ). (x ++ (codes "\n" ++ last)) ++ codes "\n") e
+    ∙ ap (λ (x : List ℕ). x ++ codes "\n") (sym (append_assoc (listed_of dir clean) (codes "\n") last)) ∙ append_assoc (line_of dir clean) last (codes "\n")) written
 
 -- a step that is listed leaves the runner as it is
 pub record OneListed (whole S : Type 0) (ran : PlanView → List Handed → S → S → Type 0) (plan : PlanView) (h : Handed) (s : S) (old new : Page) : Type 0 where

@@ -5,7 +5,7 @@ ghost use Rattle.std.specs.Prelude.{false, filter, length, slice_get};
 ghost use Rattle.std.specs.Fmt.{with_newline};
 ghost use Rattle.std.specs.Io.KnownBytes.{Appends, Keeps};
 ghost use Rattle.std.proofs.Common.{◌∙◌, refl};
-ghost use Rattle.hack_process.specs.Commands.{command_of, line_text};
+ghost use Rattle.hack_process.specs.Commands.{command_of, line_text, listed_text};
 ghost use Rattle.hack_runs.specs.Commands.{clean_command};
 ghost use Rattle.hack_session.specs.Histories.{IsStepOf};
 ghost use Rattle.hack_session.specs.Lists.{CountsLines, ListsAll, is_sent, is_sent_step, line_of};
@@ -15,7 +15,7 @@ ghost use Rattle.hack_session.specs.Joins.{listed_more, sent_more};
 use crate::lines::{LineFault, Lines};
 use crate::runner::Runner;
 use crate::step::{Outcome, Step};
-use hack_process::process::{Line, ProcessBuilder};
+use hack_process::process::{Line, ListedLine, ProcessBuilder};
 use hack_runs::parts::Preparation;
 use hack_runs::plan::Plan;
 use std::alloc::Global;
@@ -133,12 +133,12 @@ fn list_run<W: Lines>(
         → W.whole → Keeps (W.contents out.old) (W.contents out.new) }
     ensures stays { W.stays out.old out.new }
 {
-    let run = plan.run(alloc, place)?;
     if !plan.cleans_per_run() {
-        return put(out, &run.command, plan.dir());
+        return put_text(out, plan.line(alloc, place)?);
     }
     let cleaning = plan.run_cleaning(alloc, place)?;
-    put_two(out, &cleaning, &run.command, plan.dir())
+    let own = plan.line(alloc, place)?;
+    put_two(out, &cleaning, own, plan.dir())
 }
 
 /// Writes the line of a command.
@@ -159,11 +159,11 @@ fn put<W: Lines>(out: &mut W, command: &ProcessBuilder<'_>, dir: &str) -> Result
 fn put_two<'a, W: Lines>(
     out: &mut W,
     cleaning: &'a ProcessBuilder<'a>,
-    own: &'a ProcessBuilder<'a>,
+    own: ListedLine<'a>,
     dir: &'a str,
 ) -> Result<(), LineFault>
     ensures written { OnOk result (Appends (W.contents out.old) (W.contents out.new)
-        (line_of dir.now (command_of cleaning.now) ++ line_of dir.now (command_of own.now))) }
+        (line_of dir.now (command_of cleaning.now) ++ (listed_text own.entry ++ codes "\n"))) }
     ensures counted { CountsLines (W.failed out.old) (W.failed out.new) result }
     ensures never { result ≢ Err LineFault.Memory }
     ensures left { result ≡ Err LineFault.Unwritten
@@ -172,7 +172,7 @@ fn put_two<'a, W: Lines>(
 {
     let text = Cleaned {
         cleaning: cleaning.listed(dir),
-        own: own.listed(dir),
+        own,
     };
     put_text(out, text)
 }
@@ -197,11 +197,11 @@ fn put_text<W: Lines, D: fmt::Display + Drop>(out: &mut W, text: D) -> Result<()
 #[derive(Drop)]
 struct Cleaned<'a> {
     cleaning: Line<'a>,
-    own: Line<'a>,
+    own: ListedLine<'a>,
 }
 
 impl fmt::Display for Cleaned<'_> {
-    ghost output = { λ s. Some (line_text s.cleaning ++ (codes "\n" ++ line_text s.own)) };
+    ghost output = { λ s. Some (line_text s.cleaning ++ (codes "\n" ++ listed_text s.own)) };
 
     fn fmt<W: fmt::Write>(&self, f: &mut fmt::Formatter<W>) -> fmt::Result {
         let cleaning = &self.cleaning;
