@@ -1,0 +1,5 @@
+pub mod LookLemmas
+pub mod AskLemmas
+pub mod FolderLemmas
+pub mod StrangerLemmas
+pub mod WayLemmas

@@ -1,0 +1,20 @@
+use Rattle.std.proofs.Common.{ap, map, Global, String, Option}
+use Rattle.std.proofs.lemmas.Result.{IfOk-weaker}
+use Rattle.hack_base.specs.Names.{names_of, optional_text}
+use Rattle.hack_base.specs.Notes.{note_of}
+use Rattle.hack_words.specs.Answers.{around_of}
+use Rattle.hack_words.specs.Call.{ComesTo}
+use Rattle.hack_recovery.specs.Asks.{newest}
+use Rattle.hack_recovery.specs.Asks.AsksFor.{parsed, faulty}
+use Rattle.hack_recovery.proofs.AskLemmas.{refusal}
+use Rattle.hack_recovery.proofs.asked.Asked.of.Goals as goal
+
+pub returns-in-Ok : goal.returns-in-Ok
+returns-in-Ok c = IfOk-weaker c.by.result _ _ (λ asked h. parsed c.in-Ok.read.0 (map note_of c.in-Ok.read.1.items) c.in-Ok.ensures.ok h.0 h.1) c.by.ensures
+
+pub returns-in-Err : goal.returns-in-Err
+returns-in-Err c =
+    IfOk-weaker c.refused.result _ _
+    (λ asked h.
+    let told = refusal (ComesTo (around_of c.args.env.now newest) (names_of c.args.words.now)) c.in-Err.fault c.in-Err.ensures.err h.0 in
+    faulty told.0 told.1 h.1 (ap (λ (path : Option (String Global)). optional_text path) h.2)) c.refused.ensures
