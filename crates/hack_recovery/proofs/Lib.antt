@@ -3,3 +3,4 @@ pub mod AskLemmas
 pub mod FolderLemmas
 pub mod StrangerLemmas
 pub mod WayLemmas
+pub mod BackLemmas

@@ -54,10 +54,11 @@ IsFailed new = new.term.error ≡ true
 -- ---- the beginning
 
 -- what the call does to manifests, its workspace's folder, the journal in there, and whether a file
--- is at the journal's path
+-- is at the journal's path; where edits are to come back, the call asks for none that stay
 pub record Begins (tells : Type 0) (words : List Name) (env : Env) (does : Edits) (folder journal : Name) (there : Bool) (old new : FilesView) : Type 0 where
   pub path : Option Name
   pub asked : AsksFor env words does path
+  pub back : does ≡ edits.Back → RestoresEdits env words
   pub place : journal ≡ journal_of folder
   pub found : Finds tells old.failed new.failed (folder ≡ workspace_from old.held (start_at path (string_bytes env.current_dir)))
   pub seen : Finds tells old.failed new.failed (IsTrue there ↔ IsSome (old.held journal))

@@ -2,6 +2,7 @@
 
 ghost use Rattle.std.specs.Prelude.{◌≡◌, ◌≢◌, IfOk, None};
 ghost use Rattle.hack_base.specs.Names.{names_of, optional_text};
+ghost use Rattle.hack_run.specs.Restores.{RestoresEdits};
 ghost use Rattle.hack_rules.specs.declared.fault.CliFault.TheVariants.{Memory};
 ghost use Rattle.hack_recovery.specs.Asks.{AsksFor, edits_asked, edits_by, is_edit, manifest_by};
 
@@ -57,8 +58,11 @@ impl Asked {
     /// What this command line asks for. One that is refused, or that asks for a text, does nothing
     /// to manifests.
     pub fn of(alloc: Global, words: &[String], env: &Env) -> Result<Asked, AllocError>
-        ensures { IfOk result (λ asked. AsksFor env.now (names_of words.now)
+        ensures asks { IfOk result (λ asked. AsksFor env.now (names_of words.now)
             asked.edits (optional_text asked.manifest_path)) }
+        // Where edits come back, none is asked for that stays, whatever rustup answers.
+        ensures back { IfOk result (λ asked. asked.edits ≡ Edits.Back
+            → RestoresEdits env.now (names_of words.now)) }
     {
         // What is known of rustup matters only for whether the command line is refused.
         match Args::parse(alloc, words, env, Rustup::Known(u32::MAX)) {
