@@ -14,10 +14,6 @@ pub enum StartFault {
     Words,
     /// A variable that matters is not valid UTF-8.
     Variables,
-    /// Another call edits the manifests of this workspace.
-    Busy,
-    /// An interrupted call left a journal, and the folder of the workspace can't be locked.
-    Unlocked,
 }
 
 impl StartFault {
@@ -27,10 +23,6 @@ impl StartFault {
             StartFault::Memory => "out of memory",
             StartFault::Words => "the words must be UTF-8",
             StartFault::Variables => "the variables of the environment must be UTF-8",
-            StartFault::Busy => "another call is editing the manifests of this workspace",
-            StartFault::Unlocked => {
-                "there is a journal of edited manifests, and the folder of the workspace can't be locked"
-            }
         }
     }
 }

@@ -1,0 +1,48 @@
+//! Locks on the folders of the operating system. No contract says who has them; tests check it.
+
+ghost use Rattle.hack_recovery.specs.Events.{LocksView};
+ghost use Rattle.std.specs.Prelude.{[], false};
+
+use hack_recovery::locks::{Holder, Locks};
+use std::alloc::{AllocError, Global};
+use std::fs::{File, OpenOptions, TryLockError};
+use std::rt;
+
+/// Locks on folders. What was taken ends with the value, and with the program.
+#[derive(Drop)]
+pub struct Folders<R: rt::Files<File = File> + Drop> {
+    rt: R,
+    held: Option<File>,
+}
+
+impl<R: rt::Files<File = File> + Drop> Folders<R> {
+    /// Locks on the folders of the operating system, of which none is taken.
+    pub fn new(rt: R) -> Self {
+        Folders { rt, held: None }
+    }
+}
+
+impl<R: rt::Files<File = File> + Drop> Locks for Folders<R> {
+    ghost tells = { ⊥ };
+
+    ghost shown = { λ _. record { takings = []; is_held = false } };
+
+    fn take(&mut self, _alloc: Global, folder: &str) -> Result<Holder, AllocError> {
+        let mut options = OpenOptions::new();
+        let Ok(file) = options.read(true).open(&self.rt, folder) else {
+            return Ok(Holder::Unknown);
+        };
+        match file.try_lock() {
+            Ok(()) => {
+                self.held = Some(file);
+                Ok(Holder::Ours)
+            }
+            Err(TryLockError::WouldBlock) => Ok(Holder::Theirs),
+            Err(TryLockError::Error(_)) => Ok(Holder::Unknown),
+        }
+    }
+
+    fn release(&mut self) {
+        self.held = None;
+    }
+}

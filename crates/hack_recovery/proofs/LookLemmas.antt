@@ -1,0 +1,65 @@
+-- Looks at files, one after another.
+use Rattle.std.proofs.Common.{◌≡◌, ◌+◌, ◌∙◌, [], ℕ, Bool, true, false, IsTrue, arith, refl, subst}
+use Rattle.std.specs.Prelude.{◌↔◌, IsSome, Option, Some, None, List}
+use Rattle.std.proofs.Math.Path.{fun_ext}
+use Rattle.hack_files.specs.Files.{Contents, GrowsBy, KeepsAll}
+use Rattle.hack_journal.specs.SafeLaws.{makes_append}
+use Rattle.hack_recovery.specs.Looks.{FilesView, Finds, Unchanged}
+
+-- where each path holds the same, the contents are one function
+pub all_same : (m n : Contents) → KeepsAll m n → n ≡ m
+all_same m n h = fun_ext h
+
+-- failures of two steps add up
+pub grows_more : (j k x y z : ℕ) → GrowsBy j x y → GrowsBy k y z → GrowsBy (j + k) x z
+grows_more j k x y z f g = λ low. let first = f low in let second = g (omega (arith, first)) in omega (arith, first, second)
+
+-- what two looks, one after another, found together
+pub finds_both : (T P Q R : Type 0) (x y z : ℕ) → Finds T x y P → Finds T y z Q → (T → P → Q → R) → Finds T x z R
+finds_both T P Q R x y z f g h = record {
+  failures = f.failures + g.failures;
+  counted = grows_more f.failures g.failures x y z f.counted g.counted;
+  holds = λ none t. h t (f.holds (omega (arith, none)) t) (g.holds (omega (arith, none)) t);
+}
+
+-- what follows from what was found
+pub finds_then : (T P Q : Type 0) (x y : ℕ) → Finds T x y P → (T → P → Q) → Finds T x y Q
+finds_then T P Q x y f h = record { failures = f.failures; counted = f.counted; holds = λ none t. h t (f.holds none t) }
+
+-- one call failed
+pub finds_failed : (T P : Type 0) (x y : ℕ) → GrowsBy 1 x y → Finds T x y P
+finds_failed T P x y one = record { failures = 1; counted = one; holds = λ none t. absurd (omega (arith, none)) }
+
+-- no call failed
+pub finds_here : (T P : Type 0) (x y : ℕ) → GrowsBy 0 x y → (T → P) → Finds T x y P
+finds_here T P x y none h = record { failures = 0; counted = none; holds = λ _ t. h t }
+
+-- no call was made
+pub finds_still : (T P : Type 0) (x : ℕ) → (T → P) → Finds T x x P
+finds_still T P x h = record { failures = 0; counted = λ low. omega arith; holds = λ _ t. h t }
+
+-- looks one after another change nothing
+pub unchanged_then : (T W : Type 0) (a b c : FilesView) → Unchanged T W a b → Unchanged T W b c → Unchanged T W a c
+unchanged_then T W a b c f g = record {
+  same = λ t q. g.same t q ∙ f.same t q;
+  untraced = λ w. makes_append [] [] _ _ _ _ _ _ (f.untraced w) (g.untraced w);
+}
+
+-- where nothing is there, it is none
+pub none_there : (o : Option (List ℕ)) (there : Bool) → there ≡ false → (IsTrue there ↔ IsSome o) → o ≡ None
+none_there None there off h = refl
+none_there (Some x) there off h = let on : there ≡ true = h.1 refl in cc
+
+-- a look after others: what is seen there is what was there at first
+pub seen_first : (T P : Type 0) (there : Bool) (path : List ℕ) (first mid : Contents) (x y z : ℕ) → Finds T x y P → (T → KeepsAll first mid)
+    → Finds T y z (IsTrue there ↔ IsSome (mid path)) → Finds T x z (IsTrue there ↔ IsSome (first path))
+seen_first T P there path first mid x y z f same g =
+    finds_both T P (IsTrue there ↔ IsSome (mid path)) (IsTrue there ↔ IsSome (first path)) x y z f g (λ t p q. subst (λ (o : Option (List ℕ)). IsTrue there ↔ IsSome o) (same t path) q)
+
+-- a later look doesn't change what was found
+pub found_first : (T P Q : Type 0) (x y z : ℕ) → Finds T x y P → Finds T y z Q → Finds T x z P
+found_first T P Q x y z f g = finds_both T P Q P x y z f g (λ t p q. p)
+
+-- a look that failed, after others
+pub failed_then : (T P Q : Type 0) (x y z : ℕ) → Finds T x y P → GrowsBy 1 y z → Finds T x z Q
+failed_then T P Q x y z f one = finds_both T P ⊥ Q x y z f (finds_failed T ⊥ y z one) (λ t p q. absurd q)

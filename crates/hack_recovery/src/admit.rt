@@ -1,0 +1,66 @@
+//! Whether a call may go on, by who has the lock of its workspace's folder.
+
+ghost use Rattle.std.specs.Prelude.{◌≡◌};
+ghost use Rattle.hack_recovery.specs.Locking.{IsAdmitted, needs_lock, way_of};
+
+use crate::asked::Edits;
+use crate::fault::CallFault;
+use crate::locks::{Holder, Locks};
+use std::alloc::Global;
+
+/// How a call may go on.
+#[derive(Clone, Copy, Debug, PartialEq, Eq)]
+pub enum Way {
+    /// Without a journal, and without looking at one that is there.
+    Plain,
+    /// Under its own lock of the workspace's folder.
+    Guarded,
+}
+
+/// How a call may go on that does this to manifests, where a journal is in its workspace's folder
+/// or isn't. Takes the lock of the folder, unless there is nothing to guard.
+pub fn admit<K: Locks>(
+    alloc: Global,
+    edits: Edits,
+    folder: &str,
+    is_there: bool,
+    locks: &mut K,
+) -> Result<Way, CallFault>
+    ensures { IsAdmitted K.tells edits folder.now is_there
+        (K.shown locks.old) (K.shown locks.new) result }
+{
+    if !needs_lock(edits, is_there) {
+        return Ok(Way::Plain);
+    }
+    let holder = locks.take(alloc, folder)?;
+    decided(edits, is_there, holder)
+}
+
+/// Whether there is something to guard.
+fn needs_lock(edits: Edits, is_there: bool) -> bool
+    ensures { result ≡ needs_lock edits is_there }
+{
+    edits.is_edit() || is_there
+}
+
+/// How a call may go on, given who has the lock.
+fn decided(edits: Edits, is_there: bool, holder: Holder) -> Result<Way, CallFault>
+    ensures { result ≡ way_of edits is_there holder }
+{
+    match holder {
+        Holder::Ours => Ok(Way::Guarded),
+        Holder::Theirs => {
+            if edits.is_edit() {
+                return Err(CallFault::Busy);
+            }
+            Ok(Way::Plain)
+        }
+        // Without a lock a journal of this call would be useless.
+        Holder::Unknown => {
+            if edits.is_edit() && is_there {
+                return Err(CallFault::Unlocked);
+            }
+            Ok(Way::Plain)
+        }
+    }
+}

@@ -1,0 +1,113 @@
+//! Locks on folders: who may use a workspace's journal.
+
+ghost use Rattle.std.specs.Prelude.{◌≡◌, [], IfOk, OnErr, false, map};
+ghost use Rattle.hack_recovery.specs.Events.{LocksView, after_asking, after_release, held_after};
+ghost use Rattle.hack_recovery.specs.Takings.{taking_of};
+
+use std::alloc::{AllocError, Global};
+
+/// Who has the lock of a folder.
+#[derive(Clone, Copy, Debug, PartialEq, Eq)]
+pub enum Holder {
+    /// This call.
+    Ours,
+    /// Another call.
+    Theirs,
+    /// Nobody can tell: the folder can't be locked.
+    Unknown,
+}
+
+/// Takes locks of folders. What this call has taken it has until it lets go, or ends.
+pub trait Locks {
+    /// Whether the type says what was taken, by `shown`.
+    ghost tells: { Type 0 };
+
+    /// What was asked for so far, with each answer, and whether this call has a lock. It means
+    /// something only where `tells` holds.
+    ghost shown: { Self → LocksView };
+
+    /// Takes the lock of a folder, unless another call has it, and returns who has it then.
+    fn take(&mut self, alloc: Global, folder: &str) -> Result<Holder, AllocError>
+        ensures taken { IfOk result (λ holder. tells
+            → shown self.new ≡ after_asking folder.now holder (shown self.old)) }
+        ensures refused { OnErr result (tells → shown self.new ≡ shown self.old) };
+
+    /// Lets go of what was taken.
+    fn release(&mut self)
+        ensures { tells → shown self.new ≡ after_release (shown self.old) };
+}
+
+/// A lock that was asked for, and the answer.
+#[derive(Debug, Drop)]
+pub struct Taken {
+    pub folder: String,
+    pub holder: Holder,
+}
+
+/// Locks in memory, for tests: each is held by the same, and what was asked for is kept.
+#[derive(Debug, Drop)]
+pub struct FakeLocks {
+    holder: Holder,
+    taken: Vec<Taken>,
+    is_held: bool,
+}
+
+impl FakeLocks {
+    /// Locks that are all held by this one, of which none was asked for yet.
+    pub fn new(alloc: Global, holder: Holder) -> Self
+        ensures holder { result.holder ≡ holder }
+        ensures taken { result.taken.items ≡ [] }
+        ensures is_held { result.is_held ≡ false }
+    {
+        FakeLocks {
+            holder,
+            taken: Vec::new(alloc),
+            is_held: false,
+        }
+    }
+
+    /// What was asked for so far, in order.
+    pub fn taken(&self) -> &[Taken]
+        ensures { result.now ≡ self.now.taken.items }
+    {
+        &self.taken
+    }
+
+    /// Whether this call has a lock.
+    pub fn is_held(&self) -> bool
+        ensures { result ≡ self.now.is_held }
+    {
+        self.is_held
+    }
+}
+
+impl Locks for FakeLocks {
+    ghost tells = { Unit {0} };
+
+    ghost shown = { λ locks. record {
+      takings = map taking_of locks.taken.items;
+      is_held = locks.is_held;
+    } };
+
+    fn take(&mut self, alloc: Global, folder: &str) -> Result<Holder, AllocError> {
+        let folder = String::from_str(alloc, folder)?;
+        let holder = self.holder;
+        self.taken.push(Taken { folder, holder })?;
+        self.is_held = is_held_after(holder, self.is_held);
+        Ok(holder)
+    }
+
+    fn release(&mut self) {
+        self.is_held = false;
+    }
+}
+
+/// Whether this call has a lock after this answer.
+fn is_held_after(holder: Holder, before: bool) -> bool
+    ensures { result ≡ held_after holder before }
+{
+    match holder {
+        Holder::Ours => true,
+        Holder::Theirs | Holder::Unknown => before,
+    }
+}
