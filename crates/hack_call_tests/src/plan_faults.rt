@@ -33,6 +33,40 @@ fn faults_in_order(rt: HostRuntime) -> Result<(), Wrong> {
     )
 }
 
+/// Forty features have too many sets. That shows before any set is listed.
+#[test]
+fn too_many_sets(rt: HostRuntime) -> Result<(), Wrong> {
+    on(
+        rt.alloc(),
+        Show::Fault,
+        "p - a b c d e f g h i j k l m n o p q r s t u v w x y z A B C D E F G H I J K L M N",
+        "
+            > check --feature-powerset
+            | too many runs
+            > check --feature-powerset --exclude-no-default-features --exclude-all-features
+            | too many runs
+            > check --feature-powerset --mutually-exclusive-features a,b,c --at-least-one-of d,e
+            | too many runs
+            > check --feature-powerset --depth 2
+            | a plan
+            > check --feature-powerset --strength 2
+            | a plan
+            > check --feature-powerset --include-features a,b,c
+            | a plan
+            > check --each-feature
+            | a plan
+
+            # Features that enable each other: all others, one other, the next one.
+            > members p - a b c d e f g h i j k l m n o p q r s t u v w x y z A B C D E F G H I J K L M N 0:a,b,c,d,e,f,g,h,i,j,k,l,m,n,o,p,q,r,s,t,u,v,w,x,y,z,A,B,C,D,E,F,G,H,I,J,K,L,M,N $ check --feature-powerset
+            | too many runs
+            > members p - a b:a c:a d:a e:a f:a g:a h:a i:a j:a k:a l:a m:a n:a o:a p:a q:a r:a s:a t:a u:a v:a w:a x:a y:a z:a A:a B:a C:a D:a E:a F:a G:a H:a I:a J:a K:a L:a M:a N:a $ check --feature-powerset
+            | too many runs
+            > members p - a:b b:c c:d d:e e:f f:g g:h h:i i:j j:k k:l l:m m:n n:o o:p p:q q:r r:s s:t t:u u:v v:w w:x x:y y:z z:A A:B B:C C:D D:E E:F F:G G:H H:I I:J J:K K:L L:M M:N N $ check --feature-powerset
+            | a plan
+        ",
+    )
+}
+
 #[test]
 fn faults_of_ranges(rt: HostRuntime) -> Result<(), Wrong> {
     on(

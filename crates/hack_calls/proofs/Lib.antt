@@ -9,3 +9,4 @@ mod SceneLemmas
 mod OnceLemmas
 mod NeverLemmas
 mod SampleLemmas
+mod LeastLemmas

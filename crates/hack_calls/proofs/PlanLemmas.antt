@@ -28,9 +28,9 @@ use Rattle.hack_calls.specs.Calls.{AreMembers, starts, grows, ArePlanned, begins
 use Rattle.hack_calls.specs.Made.{IsPlan, run_counts}
 use Rattle.hack_calls.specs.Covered.{AreCovered, HoldsCover, choice_at}
 
--- the candidates of a kind are those of its package, unless the package has a plain run alone
-pub of-kind : (w : Wishes) (p : Known) (kind : Kind) (groups : List Names) (runs : List PackageRun) → groups ≡ candidates_in kind → runs ≡ runs_of kind → IsKind w p kind → (groups ≡ candidates w p) ⊎ (runs ≡ Plain ∷ [])
-of-kind w p Normal groups runs g r h = inr r
+-- the candidates of a kind are those of its package, or none where the package has a plain run alone
+pub of-kind : (w : Wishes) (p : Known) (kind : Kind) (groups : List Names) (runs : List PackageRun) → groups ≡ candidates_in kind → runs ≡ runs_of kind → IsKind w p kind → (groups ≡ candidates w p) ⊎ ((groups ≡ []) × (runs ≡ Plain ∷ []))
+of-kind w p Normal groups runs g r h = inr (g, r)
 of-kind w p (Each list sets) groups runs g r h = inl (g ∙ h.2)
 of-kind w p (Powerset list sets) groups runs g r h = inl (g ∙ h.1)
 

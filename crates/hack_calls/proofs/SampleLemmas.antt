@@ -8,6 +8,7 @@ use Rattle.hack_base.proofs.Members.{Contains-cons_cases, Contains-head, Contain
 use Rattle.hack_features.specs.Rules.{IsListed}
 use Rattle.hack_features.specs.Samples.{IsSample, CoversPatterns, Shows}
 use Rattle.hack_features.specs.Sets.{IsSelection, Pairwise}
+use Rattle.hack_samples.specs.Samples.{most_sets}
 use Rattle.hack_samples.specs.declared.sets.Setting.{Setting}
 use Rattle.hack_load.specs.Contexts.{ContextRecord}
 use Rattle.hack_load.specs.declared.features.Features.{Features}
@@ -19,6 +20,7 @@ use Rattle.hack_packages.specs.CandidatesView.{wishes}
 use Rattle.hack_packages.specs.ContextMembers.{AreChosen, known_as}
 use Rattle.hack_packages.specs.Kinds.{ArePowersets, AreSets, AreSetRuns, AreRuns, IsUnsampled, RunsBy, choice_of, options_of}
 use Rattle.hack_packages.specs.KindsView.{IsRunsFault as IsNotSampled}
+use Rattle.hack_packages.proofs.LeastLemmas.{length-turned}
 use Rattle.hack_samples.specs.declared.fault.SampleFault.{SampleFault}
 use Rattle.hack_samples.specs.declared.fault.SampleFault.TheVariants as questions
 use Rattle.hack_plan.specs.Quads.{HasRun}
@@ -86,6 +88,7 @@ sample w p strength runs is given made =
       covers = λ pattern few s selection listed shows.
           let by = both.1 pattern few s selection listed shows in
           record { by = by.by; chosen = subst (λ (l : List (List ℕ)). Contains l by.by) (sym same) (in-turned sets.0 h.sets by.by by.chosen); shows = by.shows };
+      few = subst (λ k. k ≤ most_sets n strength) (sym (ap length same ∙ length-turned sets.0 h.sets)) both.2;
     }
 
 -- with a strength each chosen package of a plan has a sample

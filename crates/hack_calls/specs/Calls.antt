@@ -141,7 +141,7 @@ pub record IsPlanned (cx : ContextRecord) (single : Bool) (id : ℕ) (k : Packag
   pub name : k.name ≡ pkg.name
   pub path : k.manifest_path ≡ given_path cx.args.no_manifest_path cx.current_dir (Some pkg)
   pub given : k.features ≡ passed_for cx (Some id)
-  pub candidates : (k.candidates ≡ candidates (wishes cx.args) (known_as pkg features)) ⊎ (k.runs ≡ Plain ∷ [])
+  pub candidates : (k.candidates ≡ candidates (wishes cx.args) (known_as pkg features)) ⊎ ((k.candidates ≡ []) × (k.runs ≡ Plain ∷ []))
   pub runs : AreRuns (wishes cx.args) (known_as pkg features) k.runs
   pub covered : cx.args.feature_powerset ≡ true → cx.args.strength ≡ None → AreCovering (wishes cx.args) (known_as pkg features) k.runs
   pub settings : AreRunSettings cx.args.strength (choice_of (wishes cx.args) (known_as pkg features)) k.runs k.settings

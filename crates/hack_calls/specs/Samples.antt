@@ -3,6 +3,7 @@ use Rattle.std.specs.Prelude.{ℕ, ◌≡◌, ◌≢◌, ◌<◌, ◌≤◌, Lis
 use Rattle.hack_features.specs.Rules.{Choice, IsListed}
 use Rattle.hack_features.specs.Samples.{CoversPatterns, Shows}
 use Rattle.hack_features.specs.Sets.{IsSelection, Pairwise}
+use Rattle.hack_samples.specs.Samples.{most_sets}
 use Rattle.hack_samples.specs.declared.sets.Setting.{Setting}
 use Rattle.hack_load.specs.Contexts.{ContextRecord, package_at, features_at}
 use Rattle.hack_load.specs.declared.features.Features.{Features}
@@ -18,12 +19,13 @@ use Rattle.hack_calls.specs.Calls.{IsSceneOf}
 use Rattle.hack_calls.specs.Covered.{choice_at}
 use Rattle.hack_calls.specs.Powersets.{sets_of}
 
--- the sets of the runs are listed ones, each once, and show each pattern of at most so many candidates that some listed set
--- shows
+-- the sets of the runs are listed ones, each once, show each pattern of at most so many candidates that some listed set shows,
+-- and are few
 pub record IsSampleOf (choice : Choice) (strength : ℕ) (runs : List PackageRun) : Type 0 where
   pub listed : (s : List ℕ) → Contains (sets_of runs) s → IsSelection (length choice.candidates) s × IsListed choice s
   pub once : Pairwise (λ s t. s ≢ t) (sets_of runs)
   pub covers : CoversPatterns choice (length choice.candidates) strength (sets_of runs)
+  pub few : length (sets_of runs) ≤ most_sets (length choice.candidates) strength
 
 -- the plan has exactly the chosen packages, and the sets of each package's runs are a sample
 pub record HaveSamples (cx : ContextRecord) (strength : ℕ) (plan : PlanView) : Type 0 where

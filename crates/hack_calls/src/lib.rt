@@ -3,6 +3,7 @@
 
 mod chosen;
 pub mod fault;
+mod least;
 mod notes;
 pub mod plan;
 mod scene;

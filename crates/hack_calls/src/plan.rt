@@ -19,6 +19,7 @@ ghost use Rattle.hack_calls.specs.Samples.{HaveSamples, ArePatternsHeld};
 
 use crate::chosen::chosen_packages;
 use crate::fault::{PlanFault, of_packages, of_places, of_range};
+use crate::least::refuse_too_many;
 use crate::notes::left_out;
 use crate::scene::scene;
 use crate::words::call_words;
@@ -122,6 +123,9 @@ fn plan_by(
     let scene = scene(alloc, cx, list.ids.as_slice())?;
     let (versions, mut on_range) = versions_of(alloc, &scene, latest)?;
     let ids = list.ids.as_slice();
+    if let Err(fault) = refuse_too_many(alloc, cx, ids, &scene, &versions) {
+        return Err(fault);
+    }
     let (packages, mut on_features) = match chosen_packages(alloc, cx, ids, list.is_single) {
         Ok(answer) => answer,
         Err(fault) => return Err(fault),

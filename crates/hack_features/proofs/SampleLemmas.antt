@@ -4,7 +4,7 @@ use Rattle.std.specs.Prelude.{◌&&◌, ◌||◌, ◌==◌}
 use Rattle.std.specs.List.{list_all, list_any, range_with_len}
 use Rattle.std.proofs.lemmas.Bool.{and_parts, and_from}
 use Rattle.std.proofs.lemmas.Bool.Decides.{eqb_tells}
-use Rattle.std.proofs.lemmas.List.{take_all, get_or-replicate}
+use Rattle.std.proofs.lemmas.List.{take_all, get_or-replicate, length-map}
 use Rattle.std.proofs.Math.ListN.{get_or-map}
 use Rattle.std.proofs.lemmas.List.FromFn.{get_or-map-range_with_len, length-map-range_with_len}
 use Rattle.std.proofs.lemmas.List.Folds.{list_all-append}
@@ -137,6 +137,9 @@ module _ (r : Rules) where
 
   all_of : length c.candidates ≡ n
   all_of = length-candidates_of r.given.features.now
+
+  pub length-providers : length providers ≡ n
+  length-providers = length-map cands (map (providers_of marks cands)) ∙ (placed_of r).candidates_at.count ∙ all_of
 
   low : (s : List Bool) → length s ≡ n → All (λ p. p < length c.candidates) (positions_of s)
   low s e = (selected (length c.candidates) s (e ∙ sym all_of)).below

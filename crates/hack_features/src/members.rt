@@ -40,7 +40,7 @@ pub(crate) fn members_of(alloc: Global, set: &[bool]) -> Result<Vec<usize>, Allo
 }
 
 /// The row at the place; an empty row past the last one.
-fn bits_at(rows: &[Vec<bool>], place: usize) -> &[bool]
+pub(crate) fn bits_at(rows: &[Vec<bool>], place: usize) -> &[bool]
     ensures { result.now ≡ slice_index_or (rows_of rows.now) place [] }
 {
     match rows.get(place) {

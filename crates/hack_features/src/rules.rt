@@ -111,7 +111,8 @@ impl<'a> Rules<'a> {
 
     /// How many positions a permitted set has at most, if a depth is given.
     pub fn most(&self) -> Option<usize>
-        ensures { (s : List ℕ) → IsTrue (may_of self.now s) → IsWithin result s }
+        ensures given { result ≡ (choice_of self.now).depth }
+        ensures within { (s : List ℕ) → IsTrue (may_of self.now s) → IsWithin result s }
     {
         self.given.depth
     }
@@ -186,6 +187,11 @@ impl<'a> Rules<'a> {
         ensures { result.now ≡ self.now.enabled }
     {
         &self.enabled
+    }
+
+    /// For each candidate, which other ones it spares.
+    pub(crate) fn spares(&self) -> &[Vec<bool>] {
+        self.tables.spares.as_slice()
     }
 
     /// For each at-least-one group that some key serves, which candidates serve it.

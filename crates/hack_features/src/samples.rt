@@ -138,6 +138,7 @@ impl Allowed for Rules<'_> {
 impl Rules<'_> {
     ghost use Rattle.std.specs.Prelude.{◌≡◌, ◌≤◌, ◌+◌, ◌-◌, ◌^◌, min, IfOk, IfErr};
     ghost use Rattle.hack_samples.specs.Questions.{IsTired};
+    ghost use Rattle.hack_samples.specs.Samples.{most_sets};
     ghost use Rattle.hack_features.specs.Forest.{sets_in};
     ghost use Rattle.hack_features.specs.Samples.{IsSample, CoversPatterns};
     ghost use Rattle.hack_features.specs.View.{choice_of, size_of, asked_of};
@@ -155,6 +156,10 @@ impl Rules<'_> {
             IsSample (choice_of self.old) (size_of self.old) (sets_in sets)) }
         ensures covers { IfOk result (λ sets.
             CoversPatterns (choice_of self.old) (size_of self.old) strength (sets_in sets)) }
+
+        // There are at most as many sets as such patterns of all candidates, and 128 more.
+        ensures few { IfOk result (λ sets.
+            length (sets_in sets) ≤ most_sets (size_of self.old) strength) }
         ensures tired { IfErr result (IsTired (min (asked_of self.old + most_questions)
             (2 ^ 128 - 1)) (asked_of self.new)) }
         ensures within { asked_of self.new ≤ asked_of self.old + most_questions }

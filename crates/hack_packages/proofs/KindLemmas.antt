@@ -1,5 +1,5 @@
 -- The sets of a package and its runs.
-use Rattle.std.proofs.Common.{◌≡◌, ◌∙◌, ℕ, ◌+◌, ◌-◌, ◌<◌, List, [], ◌∷◌, ◌++◌, length, get_or, take, drop, map, Contains, Bool, true, false, not, inl, inr, refl, ap, sym, subst, arith, eqb-true}
+use Rattle.std.proofs.Common.{◌≡◌, ◌∙◌, ℕ, ◌+◌, ◌-◌, ◌<◌, List, [], ◌∷◌, ◌++◌, length, get_or, take, drop, map, Contains, Bool, true, false, not, Some, inl, inr, refl, ap, sym, subst, arith, eqb-true}
 use Rattle.std.specs.Prelude.{nat_lt, ◌&&◌, ◌||◌, ◌==◌, if◌then◌else◌}
 use Rattle.std.specs.Borrow.{Bor}
 use Rattle.std.proofs.lemmas.List.{map-append, take-append-drop, length-map, get_or-map}
@@ -43,7 +43,7 @@ runs-has o sets t some c =
     subst (λ b. Contains (if b then Plain ∷ [] else (run_if (keeps_all o) AllFeatures ++ run_if (not o.exclude_no_default_features) NoDefaultFeatures) ++ map Set (in_turn o sets)) (Set t)) (sym some)
     (Contains-append_right (run_if (keeps_all o) AllFeatures ++ run_if (not o.exclude_no_default_features) NoDefaultFeatures) (map Set (in_turn o sets)) (Set t) (in-map (in_turn o sets) t turned))
 
-first-true : (a b : Bool) → (a && b) ≡ true → a ≡ true
+pub first-true : (a b : Bool) → (a && b) ≡ true → a ≡ true
 first-true true b h = refl
 first-true false b h = h
 
@@ -68,7 +68,7 @@ covering-plain w p sets runs plain covers s sel wanted =
     let t = covers s sel wanted in
     absurd (plain-none (options_of w p) sets t.0 plain t.2)
 
-or-true : (a : Bool) → (a || true) ≡ true
+pub or-true : (a : Bool) → (a || true) ≡ true
 or-true true = refl
 or-true false = refl
 
@@ -88,3 +88,10 @@ pub runs-of_kind : (w : Wishes) (p : Known) (kind : Kind) → IsKind w p kind �
 runs-of_kind w p Normal h = plain-by w p (asks w) refl h
 runs-of_kind w p (Each list runs) h = subst (λ b. RunsBy b w p (runs_of (Each list runs))) (sym (ap (λ b. b || w.powerset) h.0)) (set-runs w p (runs_of (Each list runs)) h.3)
 runs-of_kind w p (Powerset list runs) h = subst (λ b. RunsBy b w p (runs_of (Powerset list runs))) (sym (ap (λ b. w.each || b) h.0 ∙ or-true w.each)) (set-runs w p (runs_of (Powerset list runs)) h.2)
+
+-- what holds of some arguments, package and features holds of those that are equal to them
+pub moved : {A X Y : Type 0} (F : A → X → Y → Type 0) (a b : A) (x x' : X) (y y' : Y) → a ≡ b → Some x' ≡ Some x → Some y' ≡ Some y → F a x y → F b x' y'
+moved F a b x x' y y' ea ex ey h =
+    let e : x' ≡ x = cc in
+    let g : y' ≡ y = cc in
+    subst (λ t. F t x' y') ea (subst (λ t. F a t y') (sym e) (subst (λ t. F a x t) (sym g) h))

@@ -5,3 +5,4 @@ pub mod PackageLemmas
 pub mod DepthLemmas
 pub mod RowLemmas
 pub mod SampleLemmas
+pub mod LeastLemmas

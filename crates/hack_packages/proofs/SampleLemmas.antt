@@ -1,4 +1,4 @@
--- Why there is no sample of a package, and what holds of both clauses of a result.
+-- Why there is no sample of a package, and what follows from several clauses of a result.
 use Rattle.std.proofs.Common.{◌≡◌, ℕ, ◌≤◌, ◌⊎◌, inl, inr, refl, List, Option, None, Some, Bool, true, Result, Ok, Err, IfOk, IfErr, is_some, arith}
 use Rattle.std.specs.List.{AllZip}
 use Rattle.hack_features.specs.Rules.{Choice}
@@ -25,10 +25,10 @@ tired w p strength asked end fault.TooManyQuestions powerset given made_for most
   spent = omega (arith, most, at_end);
 })
 
--- if two things hold of what is returned, so does what follows from both
-pub ok-both : {X E : Type 0} (r : Result X E) (P Q R : X → Type 0) → ((x : X) → P x → Q x → R x) → IfOk r P → IfOk r Q → IfOk r R
-ok-both (Ok x) P Q R f p q = f x p q
-ok-both (Err e) P Q R f p q = tt
+-- if three things hold of what is returned, so does what follows from all
+pub ok-all : {X E : Type 0} (r : Result X E) (P Q R S : X → Type 0) → ((x : X) → P x → Q x → R x → S x) → IfOk r P → IfOk r Q → IfOk r R → IfOk r S
+ok-all (Ok x) P Q R S f p q h = f x p q h
+ok-all (Err e) P Q R S f p q h = tt
 
 -- if something holds of an error, so does what follows from it
 pub err-weaker : {X E : Type 0} (r : Result X E) (P Q : E → Type 0) → ((e : E) → P e → Q e) → IfErr r P → IfErr r Q

@@ -5,6 +5,7 @@ use Rattle.hack_base.specs.Names.{Name}
 use Rattle.hack_features.specs.Sets.{IsListing, IsSelection, singles}
 use Rattle.hack_features.specs.Rules.{Choice, IsListed, IsWanted, Covers, unlifted_groups}
 use Rattle.hack_features.specs.Samples.{IsSample, CoversPatterns}
+use Rattle.hack_samples.specs.Samples.{most_sets}
 use Rattle.hack_features.specs.Settings.{AreSettings, AreSettingsOfAll}
 use Rattle.hack_features.specs.View as rules
 use Rattle.hack_features.specs.declared.rules.Rules.{Rules}
@@ -35,10 +36,10 @@ options_of w p = record {
 }
 
 -- the sets of a powerset: all that are listed, or with a strength a sample of them, which shows
--- each pattern of at most that many candidates that some listed set shows
+-- each pattern of at most that many candidates that some listed set shows, and has few sets
 abbrev pub ArePowersets : Option ℕ → Choice → ℕ → List (List ℕ) → Type 0
 ArePowersets None c n sets = IsListing n (IsListed c) sets
-ArePowersets (Some strength) c n sets = IsSample c n sets × CoversPatterns c n strength sets
+ArePowersets (Some strength) c n sets = IsSample c n sets × CoversPatterns c n strength sets × (length sets ≤ most_sets n strength)
 
 -- the sets of a package: under a powerset those that are listed or a sample of them, else each candidate alone
 abbrev pub AreSets : Bool → Wishes → Known → List (List ℕ) → Type 0

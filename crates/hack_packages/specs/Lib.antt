@@ -7,4 +7,5 @@ pub mod Candidates
 pub mod CandidatesView
 pub mod Kinds
 pub mod KindsView
+pub mod Least
 pub mod ContextMembers

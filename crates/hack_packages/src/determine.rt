@@ -1,7 +1,7 @@
 //! Which packages a call runs on, after its context was loaded, and which runs each of them has.
 
-ghost use Rattle.std.specs.Prelude.{◌≡◌, ◌<◌, ◌⊎◌, Contains, IfOk, IfErr, None, Some, length, map, true};
-ghost use Rattle.std.specs.Prelude.{option_copied};
+ghost use Rattle.std.specs.Prelude.{◌≡◌, ◌<◌, ◌⊎◌, Contains, IfOk, IfErr, None, Some, length};
+ghost use Rattle.std.specs.Prelude.{map, option_copied, true};
 ghost use Rattle.hack_load.specs.Contexts.{IsWhole, package_at, features_at};
 ghost use Rattle.hack_load.specs.ContextView.{context_view};
 ghost use Rattle.hack_load.specs.declared.features.Features.{Features as Loaded};
@@ -14,12 +14,14 @@ ghost use Rattle.hack_packages.specs.Kinds.{AreRuns, AreCovering, IsDepthOne, as
 ghost use Rattle.hack_packages.specs.Kinds.{AreRunSettings, choice_of};
 ghost use Rattle.hack_features.specs.Sets.{rows_of};
 ghost use Rattle.hack_packages.specs.KindsView.{IsKind, IsRunsFault, runs_of};
+ghost use Rattle.hack_packages.specs.Least.{HasRunsAtLeast};
 ghost use Rattle.hack_packages.specs.ContextMembers.{member_at, members_in, name_at as named_at};
 ghost use Rattle.hack_packages.specs.ContextMembers.{current_name as current_called};
 ghost use Rattle.hack_packages.specs.ContextMembers.{AreChosen, IsChoiceFault, known_as};
 
 use crate::fault::PackagesFault;
 use crate::kind::{PackageRuns, determine_runs};
+use crate::least::least_runs;
 use crate::member::Member;
 use crate::packages::{PackageList, choose_packages};
 use hack_base::notice::Notice;
@@ -157,4 +159,22 @@ pub fn determine_kind(
     let pkg = context.packages(id);
     let features = context.pkg_features(id);
     determine_runs(alloc, context.args(), id, pkg, features, single)
+}
+
+/// Returns a number, of which a member of the workspace has at least as many runs under a powerset
+/// without a strength. It is found without a list of its sets.
+pub fn least_count(alloc: Global, context: &Context, id: PackageId) -> Result<usize, AllocError>
+    requires member { Contains (context_view context.now).metadata.workspace_members id.index }
+    requires powerset { (context_view context.now).args.feature_powerset ≡ true }
+    requires all { (context_view context.now).args.strength ≡ None }
+    ensures { (p : PackageRecord) (features : Loaded)
+        → package_at (context_view context.now) id.index ≡ Some p
+        → features_at (context_view context.now) id.index ≡ Some features
+        → IfOk result
+        (HasRunsAtLeast (wishes (context_view context.now).args) (known_as p features)) }
+{
+    let _ = context.workspace_members();
+    let pkg = context.packages(id);
+    let features = context.pkg_features(id);
+    least_runs(alloc, context.args(), pkg, features)
 }

@@ -154,7 +154,7 @@ impl PackageRuns {
 }
 
 /// References to all features.
-fn all_of<'a>(alloc: Global, features: &'a [Feature]) -> Result<Vec<&'a Feature>, AllocError>
+pub(crate) fn all_of<'a>(alloc: Global, features: &'a [Feature]) -> Result<Vec<&'a Feature>, AllocError>
     ensures { IfOk result (λ all. candidates_of all.items ≡ groups_of features.now) }
 {
     let mut all = Vec::with_capacity(alloc, features.len())?;
@@ -165,7 +165,7 @@ fn all_of<'a>(alloc: Global, features: &'a [Feature]) -> Result<Vec<&'a Feature>
 }
 
 /// The rules of the package; `all` has references to all its candidates.
-fn rules_of<'a>(
+pub(crate) fn rules_of<'a>(
     alloc: Global,
     args: &'a Args,
     pkg: &'a Package,

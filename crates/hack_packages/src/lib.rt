@@ -5,6 +5,7 @@ mod candidates;
 pub mod determine;
 pub mod fault;
 pub mod kind;
+mod least;
 mod lifts;
 mod listing;
 pub mod member;

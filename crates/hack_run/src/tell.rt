@@ -6,6 +6,7 @@ ghost use Rattle.hack_run.specs.Told.{after_notes};
 
 use crate::fault::RunFault;
 use hack_base::notice::Notice;
+use hack_calls::fault::PlanFault;
 use hack_load::context::ContextFault;
 use hack_load::metadata::AskFault;
 use hack_process::process::ProcessFault;
@@ -17,13 +18,15 @@ use std::io::Write;
 const CHOICE: &str =
     "cargo is chosen by CARGO_HACK_CARGO_SRC or CARGO, and rustup by CARGO_HACK_RUSTUP";
 
-/// Reports an error. Where a program couldn't be started, the line on how to choose another one
-/// comes first.
+/// The line on how a call has fewer runs.
+const FEWER: &str = "--depth and --strength make fewer runs";
+
+/// Reports an error. Where the user can do something about it, a line on that comes first.
 pub(crate) fn tell<E: Write>(alloc: Global, fault: &RunFault, term: &mut Term, err: &mut E)
     ensures { term.new ≡ record term.old { error = true } }
 {
-    if is_missing(fault) {
-        let _ = term.info(CHOICE, err);
+    if let Some(line) = advice(fault) {
+        let _ = term.info(line, err);
     }
     match format!(in alloc; "{fault}") {
         Ok(text) => {
@@ -32,6 +35,18 @@ pub(crate) fn tell<E: Write>(alloc: Global, fault: &RunFault, term: &mut Term, e
         Err(_) => {
             let _ = term.error("out of memory", err);
         }
+    }
+}
+
+/// What the user can do: choose another program where one couldn't be started, or ask for fewer
+/// runs where there are too many.
+fn advice(fault: &RunFault) -> Option<&'static str> {
+    if is_missing(fault) {
+        return Some(CHOICE);
+    }
+    match fault {
+        RunFault::Plan(PlanFault::TooManyRuns) => Some(FEWER),
+        _ => None,
     }
 }
 

@@ -4,4 +4,5 @@ pub mod ShowLemmas
 pub mod DemandLemmas
 pub mod OrderLemmas
 pub mod SampleLemmas
+pub mod CountLemmas
 pub mod CoverLemmas

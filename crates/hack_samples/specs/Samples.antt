@@ -1,5 +1,5 @@
 -- What a sample of sets covers.
-use Rattle.std.specs.Prelude.{◌≡◌, ◌≤◌, ℕ, List, Bool, true, All, AllPairs, Contains, length}
+use Rattle.std.specs.Prelude.{◌≡◌, ◌≤◌, ◌+◌, ◌*◌, ℕ, zero, suc, List, Bool, true, All, AllPairs, Contains, length}
 use Rattle.hack_samples.specs.Sets.{is_on, has_each, Meets}
 use Rattle.hack_samples.specs.Order.{IsBefore}
 use Rattle.hack_samples.specs.declared.sets.Setting.{Setting}
@@ -24,6 +24,16 @@ pub record SomeShows (providers : List (List (List ℕ))) (pattern : List Settin
 abbrev pub Covers : (List Bool → Bool) → ℕ → List (List ℕ) → List (List (List ℕ)) → ℕ → List (List Bool) → Type 0
 Covers may n required providers t sets =
     (pattern : List Setting) → length pattern ≤ t → (s : List Bool) → IsListed may n required s → Shows providers pattern s → SomeShows providers pattern sets
+
+-- how many patterns there are of at most t of n candidates, each on or off
+abbrev pub count_patterns : ℕ → ℕ → ℕ
+count_patterns n zero = 1
+count_patterns zero (suc t) = 1
+count_patterns (suc n) (suc t) = count_patterns n (suc t) + 2 * count_patterns n t
+
+-- how many sets a sample has at most: one for each pattern, and 128 that advice adds
+abbrev pub most_sets : ℕ → ℕ → ℕ
+most_sets n t = 128 + count_patterns n t
 
 -- the sets are listed, and each is before all later ones
 pub record IsSample (may : List Bool → Bool) (n : ℕ) (required : List (List ℕ)) (sets : List (List Bool)) : Type 0 where

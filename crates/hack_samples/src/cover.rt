@@ -5,6 +5,7 @@ ghost use Rattle.std.specs.Prelude.{true, false, length, min, IsTrue, IfOk, IfEr
 ghost use Rattle.std.specs.Prelude.{Contains, ◌⊎◌};
 ghost use Rattle.hack_samples.specs.Sets.{rows_of, tables_of};
 ghost use Rattle.hack_samples.specs.Samples.{IsListed, IsSample, Shows, SomeShows, Covers};
+ghost use Rattle.hack_samples.specs.Samples.{count_patterns, most_sets};
 ghost use Rattle.hack_samples.specs.Descends.{CoversBelow, IsPossible, AreKept};
 ghost use Rattle.hack_samples.specs.Questions.{IsTired, StaysWithin};
 
@@ -80,6 +81,8 @@ fn show<A: Allowed>(
         (rows_of chosen.new.sets.items))
         (IsPossible (A.may allowed.old) (A.size allowed.old) (rows_of wanted.now.required.now)
         (tables_of wanted.now.providers.now) pattern.now → ⊥)) }
+    ensures few { OnOk result (length chosen.new.sets.items
+        ≤ length chosen.old.sets.items + 1) }
     ensures tired { IfErr result (IsTired wanted.now.end (A.count allowed.new)) }
     ensures within { StaysWithin wanted.now.end (A.count allowed.old) (A.count allowed.new) }
     ensures same_size { A.size allowed.new ≡ A.size allowed.old }
@@ -119,6 +122,8 @@ fn cover<A: Allowed>(
     ensures covered { OnOk result (CoversBelow (A.may allowed.old) (A.size allowed.old)
         (rows_of wanted.now.required.now) (tables_of wanted.now.providers.now) pattern.now limit
         more (rows_of chosen.new.sets.items)) }
+    ensures few { OnOk result (length chosen.new.sets.items
+        ≤ length chosen.old.sets.items + count_patterns limit more) }
     ensures tired { IfErr result (IsTired wanted.now.end (A.count allowed.new)) }
     ensures within { StaysWithin wanted.now.end (A.count allowed.old) (A.count allowed.new) }
     ensures same_size { A.size allowed.new ≡ A.size allowed.old }
@@ -186,6 +191,8 @@ fn follow<A: Allowed>(
         (rows_of wanted.now.required.now) (rows_of chosen.old.sets.items) }
     ensures sample { OnOk result (IsSample (A.may allowed.old) (A.size allowed.old)
         (rows_of wanted.now.required.now) (rows_of chosen.new.sets.items)) }
+    ensures few { OnOk result (length chosen.new.sets.items
+        ≤ length chosen.old.sets.items + 1) }
     ensures tired { IfErr result (IsTired wanted.now.end (A.count allowed.new)) }
     ensures within { StaysWithin wanted.now.end (A.count allowed.old) (A.count allowed.new) }
     ensures same_size { A.size allowed.new ≡ A.size allowed.old }
@@ -209,6 +216,13 @@ fn follow<A: Allowed>(
     Ok(())
 }
 
+/// How many rows of the guide are followed.
+fn rows_of_guide(columns: &Columns, guided: bool) -> u32
+    ensures { result ≤ 128 }
+{
+    if guided { columns.rows().min(128) } else { 0 }
+}
+
 /// Returns a sample as `sample` does. If `guided` is true, the first sets are those that the rows
 /// of the guide lead to.
 fn sample_by<A: Allowed>(
@@ -222,6 +236,8 @@ fn sample_by<A: Allowed>(
     ensures covers { IfOk result (λ sets. Covers (A.may allowed.old) (A.size allowed.old)
         (rows_of wanted.now.required.now) (tables_of wanted.now.providers.now)
         wanted.now.strength (rows_of sets.items)) }
+    ensures few { IfOk result (λ sets. length sets.items
+        ≤ most_sets (length wanted.now.providers.now) wanted.now.strength) }
     ensures tired { IfErr result (IsTired wanted.now.end (A.count allowed.new)) }
     ensures within { StaysWithin wanted.now.end (A.count allowed.old) (A.count allowed.new) }
     ensures same_size { A.size allowed.new ≡ A.size allowed.old }
@@ -230,7 +246,7 @@ fn sample_by<A: Allowed>(
 {
     let candidates = wanted.providers.len();
     let columns = Columns::new(alloc, candidates, wanted.strength)?;
-    let rows = if guided { columns.rows() } else { 0 };
+    let rows = rows_of_guide(&columns, guided);
     let mut chosen = Chosen {
         sets: Vec::new(alloc),
         columns,
@@ -272,6 +288,10 @@ pub fn sample<A: Allowed>(
         (rows_of required.now) (rows_of sets.items)) }
     ensures covers { IfOk result (λ sets. Covers (A.may allowed.old) (A.size allowed.old)
         (rows_of required.now) (tables_of providers.now) strength (rows_of sets.items)) }
+
+    // There are at most as many sets as such patterns, and 128 more.
+    ensures few { IfOk result (λ sets. length sets.items
+        ≤ most_sets (length providers.now) strength) }
     ensures tired { IfErr result (IsTired (min (A.count allowed.old + most_questions)
         (2 ^ 128 - 1)) (A.count allowed.new)) }
     ensures within { A.count allowed.new ≤ A.count allowed.old + most_questions }

@@ -1,7 +1,7 @@
 //! The order of sets: a set is before another if the greatest position that is in only one of them
 //! is in the other.
 
-ghost use Rattle.std.specs.Prelude.{◌≡◌, ℕ, List, Bool, length, OnOk, MatchOption, ◌⊎◌};
+ghost use Rattle.std.specs.Prelude.{◌≡◌, ◌≤◌, ◌+◌, ℕ, List, Bool, length, OnOk, MatchOption, ◌⊎◌};
 ghost use Rattle.std.specs.Prelude.{All, AllPairs, Contains};
 ghost use Rattle.std.specs.Ordering.{MatchOrdering};
 ghost use Rattle.hack_samples.specs.Sets.{rows_of};
@@ -59,6 +59,7 @@ pub(crate) fn put(sets: &mut Vec<Vec<bool>>, set: Vec<bool>) -> Result<(), Alloc
     ensures added { OnOk result (Contains (rows_of sets.new.items) set.items) }
     ensures only { OnOk result ((s : List Bool) → Contains (rows_of sets.new.items) s
         → Contains (rows_of sets.old.items) s ⊎ (s ≡ set.items)) }
+    ensures few { OnOk result (length sets.new.items ≤ length sets.old.items + 1) }
 {
     let Some(place) = place_of(sets.as_slice(), set.as_slice()) else {
         return Ok(());

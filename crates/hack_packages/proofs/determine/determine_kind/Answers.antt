@@ -12,17 +12,11 @@ use Rattle.hack_packages.specs.KindsView.{IsKind, IsRunsFault, runs_of}
 use Rattle.hack_packages.specs.ContextMembers.{known_as}
 use Rattle.hack_features.specs.Sets.{rows_of}
 use Rattle.hack_samples.specs.declared.fault.SampleFault.TheVariants as fault
+use Rattle.hack_packages.proofs.KindLemmas.{moved}
 use Rattle.hack_packages.proofs.determine.determine_kind.Goals as goal
 
 pub packages-pkg-requires : goal.packages-pkg-requires
 packages-pkg-requires c = c.workspace_members.ensures.whole.packages c.args.id.index c.requires
-
--- what holds of some arguments, package and features holds of those that are equal to them
-moved : {A X Y : Type 0} (F : A → X → Y → Type 0) (a b : A) (x x' : X) (y y' : Y) → a ≡ b → Some x' ≡ Some x → Some y' ≡ Some y → F a x y → F b x' y'
-moved F a b x x' y y' ea ex ey h =
-    let e : x' ≡ x = cc in
-    let g : y' ≡ y = cc in
-    subst (λ t. F t x' y') ea (subst (λ t. F a t y') (sym e) (subst (λ t. F a x t) (sym g) h))
 
 pub returns-clause-kind : goal.returns-clause-kind
 returns-clause-kind c = λ (p : PackageRecord) (f : Features) ep ef.

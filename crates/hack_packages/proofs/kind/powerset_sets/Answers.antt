@@ -1,4 +1,4 @@
-use Rattle.std.proofs.Common.{◌≡◌, ◌∙◌, ◌⊎◌, ◌+◌, ◌-◌, ◌^◌, List, Some, true, length, min, sym, ap, subst, arith}
+use Rattle.std.proofs.Common.{◌≡◌, ◌∙◌, ◌⊎◌, ◌≤◌, ◌+◌, ◌-◌, ◌^◌, List, Some, true, length, min, sym, ap, subst, arith}
 use Rattle.hack_features.specs.Feature.{candidates_of}
 use Rattle.hack_features.specs.Samples.{IsSample, CoversPatterns}
 use Rattle.hack_features.specs.Sets.{IsListing}
@@ -8,12 +8,13 @@ use Rattle.hack_features.specs.View.{choice_of, size_of, asked_of}
 use Rattle.hack_features.proofs.CandidateLemmas.{length-candidates_of}
 use Rattle.hack_load.specs.declared.features.Features.{Features}
 use Rattle.hack_samples.specs.Questions.{IsTired}
+use Rattle.hack_samples.specs.Samples.{most_sets}
 use Rattle.hack_samples.specs.declared.fault.SampleFault.TheVariants.{Memory}
 use Rattle.hack_packages.specs.Candidates.{Wishes, Known, candidates, lifted_for}
 use Rattle.hack_packages.specs.CandidatesView.{wishes, known_of_package}
 use Rattle.hack_packages.specs.Kinds as kinds
 use Rattle.hack_packages.specs.KindsView.{IsRunsFault}
-use Rattle.hack_packages.proofs.SampleLemmas.{ok-both, err-weaker, tired}
+use Rattle.hack_packages.proofs.SampleLemmas.{ok-all, err-weaker, tired}
 use Rattle.hack_packages.proofs.kind.powerset_sets.Goals as goal
 
 pub returns-in-Some-clause-sets : goal.returns-in-Some-clause-sets
@@ -23,14 +24,16 @@ returns-in-Some-clause-sets c = λ (features : Features) e.
     let p : Known = known_of_package c.args.pkg.now features in
     let same : choice_of r ≡ kinds.choice_of w p = c.in_ok-rules.ensures.choice features (ap candidates_of c.as_slice.ensures.value ∙ c.in_ok-all.ensures ∙ e) (c.as_slice-2.ensures.value ∙ c.in_ok-lifted.ensures ∙ ap (lifted_for w) c.as_str.ensures.value) in
     let size : size_of r ≡ length (candidates w p) = c.in_ok-rules.ensures.size ∙ ap length c.as_slice.ensures.value ∙ sym (length-candidates_of c.in_ok-all.all.items) ∙ ap length (c.in_ok-all.ensures ∙ e) in
-    ok-both c.sample.result (λ sets. IsSample (choice_of r) (size_of r) (sets_in sets)) (λ sets. CoversPatterns (choice_of r) (size_of r) c.in-Some.strength (sets_in sets)) (λ sets. kinds.AreSets true w p (sets_in sets))
-    (λ sets sample covers.
+    ok-all c.sample.result (λ sets. IsSample (choice_of r) (size_of r) (sets_in sets)) (λ sets. CoversPatterns (choice_of r) (size_of r) c.in-Some.strength (sets_in sets))
+    (λ sets. length (sets_in sets) ≤ most_sets (size_of r) c.in-Some.strength) (λ sets. kinds.AreSets true w p (sets_in sets))
+    (λ sets sample covers few.
     let both : kinds.ArePowersets (Some c.in-Some.strength) (kinds.choice_of w p) (length (candidates w p)) (sets_in sets) = (
       subst (λ (q : Choice). IsSample q (length (candidates w p)) (sets_in sets)) same (subst (λ n. IsSample (choice_of r) n (sets_in sets)) size sample),
       subst (λ (q : Choice). CoversPatterns q (length (candidates w p)) c.in-Some.strength (sets_in sets)) same (subst (λ n. CoversPatterns (choice_of r) n c.in-Some.strength (sets_in sets)) size covers),
+      subst (λ n. length (sets_in sets) ≤ most_sets n c.in-Some.strength) size few,
     ) in
     subst (λ o. kinds.ArePowersets o (kinds.choice_of w p) (length (candidates w p)) (sets_in sets)) (sym c.in-Some.is) both)
-    c.sample.ensures.sample c.sample.ensures.covers
+    c.sample.ensures.sample c.sample.ensures.covers c.sample.ensures.few
 
 pub returns-in-Some-clause-err : goal.returns-in-Some-clause-err
 returns-in-Some-clause-err c = λ (features : Features) e powerset.

@@ -5,6 +5,7 @@ use Rattle.hack_samples.specs.Descends.{CoversBelow, AreKept}
 use Rattle.hack_samples.specs.declared.sets.Setting.{Setting}
 use Rattle.hack_samples.proofs.SetLemmas.{both_turned}
 use Rattle.hack_samples.proofs.SampleLemmas.{some-kept}
+use Rattle.hack_samples.proofs.CountLemmas.{count-step, count-some}
 use Rattle.hack_samples.proofs.CoverLemmas.{covers-all, covers-kept, covers-step}
 use Rattle.hack_samples.proofs.cover.+cover.Goals as goal
 
@@ -37,6 +38,7 @@ loop-candidate-preserved g t c =
           (both_turned (λ m k. CoversBelow m k required providers c.as_slice-next.result.now f more second) inv.same_may inv.same_size c.in_ok-cover.ensures.covered)))
           (subst (λ p. CoversBelow may n required providers p f more third) (c.as_slice-next-in-loop-candidate.ensures.value ∙ c.in_ok-off.ensures)
           (both_turned (λ m k. CoversBelow m k required providers c.as_slice-next-in-loop-candidate.result.now f more third) may-2 size-2 c.in_ok-cover-2.ensures.covered));
+      few = omega (arith, inv.few, c.in_ok-cover.ensures.few, c.in_ok-cover-2.ensures.few, count-step f c.args.more (omega arith));
       within = λ k end old. c.cover-in-loop-candidate.ensures.within k end (c.cover.ensures.within k end (inv.within k end old));
       same_size = c.cover-in-loop-candidate.ensures.same_size ∙ size-2;
       same_may = c.cover-in-loop-candidate.ensures.same_may ∙ may-2;

@@ -1,6 +1,6 @@
-use Rattle.std.proofs.Common.{◌≡◌, ◌<◌, ◌-◌, ◌++◌, ◌∷◌, []}
+use Rattle.std.proofs.Common.{◌≡◌, ◌<◌, ◌≤◌, ◌+◌, ◌-◌, ◌++◌, ◌∷◌, [], length}
 use Rattle.hack_samples.specs.Sets.{rows_of, tables_of}
-use Rattle.hack_samples.specs.Samples.{IsSample, SomeShows}
+use Rattle.hack_samples.specs.Samples.{IsSample, SomeShows, count_patterns}
 use Rattle.hack_samples.specs.Descends.{CoversBelow, AreKept}
 use Rattle.hack_samples.specs.Questions.{StaysWithin}
 use Rattle.hack_samples.specs.declared.sets.Setting.{Setting}
@@ -15,6 +15,7 @@ invariant-loop-candidate g l = record {
   kept : AreKept (rows_of l.fn.chosen.sets.items) (rows_of l.chosen.sets.items);
   shown : SomeShows (tables_of l.wanted.providers.now) l.pattern (rows_of l.chosen.sets.items);
   covered : (x : Setting) → x.candidate < l.candidate → CoversBelow (g.A.Allowed.may l.fn.allowed) (g.A.Allowed.size l.fn.allowed) (rows_of l.wanted.required.now) (tables_of l.wanted.providers.now) (l.pattern ++ x ∷ []) x.candidate (l.more - 1) (rows_of l.chosen.sets.items);
+  few : length l.chosen.sets.items ≤ length l.fn.chosen.sets.items + count_patterns l.candidate l.more;
   within : StaysWithin l.wanted.end (g.A.Allowed.count l.fn.allowed) (g.A.Allowed.count l.allowed);
   same_size : g.A.Allowed.size l.allowed ≡ g.A.Allowed.size l.fn.allowed;
   same_may : g.A.Allowed.may l.allowed ≡ g.A.Allowed.may l.fn.allowed;

@@ -1,4 +1,4 @@
-use Rattle.std.proofs.Common.{◌∙◌, [], sym, subst, List, Bool, ℕ, length}
+use Rattle.std.proofs.Common.{◌∙◌, [], sym, subst, List, Bool, ℕ, length, arith}
 use Rattle.std.proofs.lemmas.List.{length-map}
 use Rattle.hack_samples.specs.Sets.{rows_of, tables_of}
 use Rattle.hack_samples.specs.Samples.{IsSample}
@@ -21,6 +21,7 @@ loop-row-preserved g c =
     let made = c.follow.ensures in
     record {
       sample = both_turned (λ m k. IsSample m k (rows_of c.args.wanted.now.required.now) (rows_of c.follow.new.chosen.sets.items)) inv.same_may inv.same_size c.in_ok-follow.ensures.sample;
+      few = omega (arith, inv.few, c.in_ok-follow.ensures.few);
       within = λ k end old. made.within k end (inv.within k end old);
       same_size = made.same_size ∙ inv.same_size;
       same_may = made.same_may ∙ inv.same_may;

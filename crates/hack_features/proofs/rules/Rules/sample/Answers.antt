@@ -1,10 +1,11 @@
-use Rattle.std.proofs.Common.{◌≡◌, ◌∙◌, ◌++◌, ◌∷◌, [], subst, sym, ap, map, replicate, true, List, Bool}
-use Rattle.hack_samples.specs.Sets.{tables_of}
+use Rattle.std.proofs.Common.{◌≡◌, ◌∙◌, ◌≤◌, ◌++◌, ◌∷◌, [], subst, sym, ap, map, replicate, true, ℕ, List, Bool, length, arith}
+use Rattle.std.proofs.lemmas.List.{length-map}
+use Rattle.hack_samples.specs.Sets.{tables_of, rows_of as samples_rows}
 use Rattle.hack_samples.specs.Samples as samples
 use Rattle.hack_features.specs.Sets.{rows_of}
 use Rattle.hack_features.specs.View.{choice_of, size_of}
 use Rattle.hack_features.specs.Samples.{IsSample, CoversPatterns, positions_of, all_providers}
-use Rattle.hack_features.proofs.SampleLemmas.{sample_of, covers_of, may, required, providers}
+use Rattle.hack_features.proofs.SampleLemmas.{sample_of, covers_of, may, required, providers, length-providers}
 use Rattle.hack_features.proofs.rules.Rules.sample.Goals as goal
 
 pub returns-clause-sample : goal.returns-clause-sample
@@ -33,3 +34,17 @@ returns-clause-covers c =
     let k = subst (λ q. samples.Covers (may r) (size_of r) q (providers r) c.args.strength rows) groups
     (subst (λ q. samples.Covers (may r) (size_of r) (rows_of c.as_slice-2.result.now) q c.args.strength rows) names c.in_ok-sets.ensures.covers) in
     subst (CoversPatterns (choice_of r) (size_of r) c.args.strength) (sym (c.in_ok-sets_from.ensures ∙ ap (λ l. map positions_of (rows_of l)) c.as_slice-3.ensures.value)) (covers_of r c.args.strength rows h k)
+
+pub returns-clause-few : goal.returns-clause-few
+returns-clause-few c =
+    let r = c.args.self.now in
+    let names : tables_of c.as_slice.result.now ≡ providers r =
+    ap tables_of c.as_slice.ensures.value ∙ c.in_ok-providers.ensures
+    ∙ ap (λ e. all_providers (rows_of e.routes.marks.items) (rows_of e.candidates.items)) c.enabled.ensures in
+    let all : length c.as_slice.result.now ≡ size_of r = sym (length-map c.as_slice.result.now (λ table. samples_rows table.items)) ∙ ap length names ∙ length-providers r in
+    let made = c.in_ok-sets_from.ensures ∙ ap (λ l. map positions_of (rows_of l)) c.as_slice-3.ensures.value in
+    let sets = c.in_ok-sets.sets.items in
+    let as_many : length (map positions_of (rows_of sets)) ≡ length sets = length-map (rows_of sets) positions_of ∙ length-map sets (λ set. set.items) in
+    subst (λ ls. length ls ≤ samples.most_sets (size_of r) c.args.strength) (sym made)
+    (subst (λ n. n ≤ samples.most_sets (size_of r) c.args.strength) (sym as_many)
+    (subst (λ n. length sets ≤ samples.most_sets n c.args.strength) all c.in_ok-sets.ensures.few))
