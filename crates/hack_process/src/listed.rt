@@ -60,8 +60,8 @@ impl<T: AsStr> fmt::Display for Names<'_, T> {
     fn fmt<W: fmt::Write>(&self, f: &mut fmt::Formatter<W>) -> fmt::Result {
         let mut before = " --features ";
         for name in self.names {
-            let text = name.as_str();
-            write!(f, "{before}{text}")?;
+            f.write_str(before)?;
+            f.write_str(name.as_str())?;
             before = ",";
         }
         Ok(())

@@ -346,7 +346,8 @@ impl fmt::Display for Spaced<'_> {
 
     fn fmt<W: fmt::Write>(&self, f: &mut fmt::Formatter<W>) -> fmt::Result {
         for word in self.0 {
-            write!(f, " {word}")?;
+            f.write_str(" ")?;
+            f.write_str(word.as_str())?;
         }
         Ok(())
     }
@@ -411,17 +412,17 @@ impl fmt::Display for OwnWord<'_> {
     ghost output = { λ own. Some (shown_own own.is_path own.full own.dir.now own.word.now) };
 
     fn fmt<W: fmt::Write>(&self, f: &mut fmt::Formatter<W>) -> fmt::Result {
-        let word = self.word;
         if self.awaits_path() {
             return Ok(());
         }
         if !self.is_path {
-            return write!(f, " {word}");
+            f.write_str(" ")?;
+            return f.write_str(self.word);
         }
         if !self.full {
             return Ok(());
         }
-        let path = under(word, self.dir);
+        let path = under(self.word, self.dir);
         write!(f, " {MANIFEST_PATH} {path}")
     }
 }
