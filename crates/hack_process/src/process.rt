@@ -412,17 +412,18 @@ impl fmt::Display for OwnWord<'_> {
     ghost output = { λ own. Some (shown_own own.is_path own.full own.dir.now own.word.now) };
 
     fn fmt<W: fmt::Write>(&self, f: &mut fmt::Formatter<W>) -> fmt::Result {
+        let word = self.word;
         if self.awaits_path() {
             return Ok(());
         }
         if !self.is_path {
             f.write_str(" ")?;
-            return f.write_str(self.word);
+            return f.write_str(word);
         }
         if !self.full {
             return Ok(());
         }
-        let path = under(self.word, self.dir);
+        let path = under(word, self.dir);
         write!(f, " {MANIFEST_PATH} {path}")
     }
 }
