@@ -3,11 +3,12 @@
 //!
 //! Of a whole call the sections of `shown` are shown; if none is named, these are the calls, both
 //! streams and the changes of files. The status comes last. The other questions are those of the
-//! modules `edits`, `journaled`, `listed`, `sessions`, `steps` and `toolchains`.
+//! modules `edits`, `journaled`, `listed`, `performed`, `sessions`, `steps` and `toolchains`.
 
 use crate::edits::edits;
 use crate::journaled::journaled;
 use crate::listed::{cuts, list};
+use crate::performed::performed;
 use crate::scene::{scene_of, told};
 use crate::sessions::session;
 use crate::shown::push_sections;
@@ -39,6 +40,9 @@ impl Ask for Asked<'_> {
 fn answered(alloc: Global, kind: &str, world: &str, words: &str) -> Result<String, AllocError> {
     match kind {
         "journal" => journaled(alloc, world, words),
+        "perform ours" => performed(alloc, world, "ours", words),
+        "perform theirs" => performed(alloc, world, "theirs", words),
+        "perform unknown" => performed(alloc, world, "unknown", words),
         "edits" => told(alloc, edits(alloc, world, words)),
         "session" => told(alloc, session(alloc, world, words, false)),
         "context" => told(alloc, session(alloc, world, words, true)),

@@ -12,7 +12,7 @@ use hack_run::journaled::run_journaled;
 use std::alloc::{AllocError, Global};
 
 /// The paths that were changed from an index on.
-fn push_paths(text: &mut String, steps: &[Step], first: usize) -> Result<(), AllocError> {
+pub fn push_paths(text: &mut String, steps: &[Step], first: usize) -> Result<(), AllocError> {
     for (place, step) in steps.iter().enumerate() {
         if first <= place {
             text.push_str(if step.bytes.is_none() { " -" } else { " " })?;

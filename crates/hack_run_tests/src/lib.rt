@@ -20,6 +20,8 @@ mod lists;
 #[cfg(test)]
 mod manifests;
 #[cfg(test)]
+mod performed;
+#[cfg(test)]
 mod runs;
 #[cfg(test)]
 mod scene;
