@@ -14,7 +14,7 @@ use Rattle.hack_words.specs.declared.cli.parse.Parsed.TheVariants as answer
 use Rattle.hack_recovery.specs.declared.asked.Edits.{Edits}
 use Rattle.hack_recovery.specs.declared.asked.Edits.TheVariants as edits
 
--- what arguments do to manifests: `--remove-dev-deps` edits them for good, `--no-dev-deps` and
+-- what arguments do to manifests: `--remove-dev-deps` edits them permanently, `--no-dev-deps` and
 -- `--no-private` edit them and bring them back, and all others leave them
 abbrev pub edits_asked : Args → Edits
 edits_asked args = if args.remove_dev_deps then edits.Good else (if args.no_dev_deps || args.no_private then edits.Back else edits.None)
@@ -25,7 +25,7 @@ edits_by (answer.Args args) = edits_asked args
 edits_by (answer.Print text) = edits.None
 edits_by answer.List = edits.None
 
--- a call edits manifests, for good or not
+-- a call edits manifests, permanently or not
 abbrev pub is_edit : Edits → Bool
 is_edit edits.None = false
 is_edit edits.Back = true

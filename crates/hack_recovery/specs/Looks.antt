@@ -13,7 +13,7 @@ pub record Unchanged (tells whole : Type 0) (old new : FilesView) : Type 0 where
   pub same : tells → KeepsAll old.held new.held
   pub untraced : whole → Makes [] old.trace new.trace old.held new.held
 
--- this was found: where the files tell what they hold, and none of the calls of them failed, it
+-- this was found: where the files show what they hold, and none of the calls of them failed, it
 -- holds
 pub record Finds (tells : Type 0) (before now : ℕ) (P : Type 0) : Type 0 where
   pub failures : ℕ

@@ -146,13 +146,13 @@ pub record Journals (tells whole locked talks : Type 0) (words : List Name) (env
   pub safe : tells → whole → old.files.held journal ≡ None → StaysSafe journal old.files.held old.files.trace new.files.trace old.files.held new.files.held
   pub locks : new.locks ≡ old.locks
 
--- after it no file is at the journal's path, or one is, which is told as a warning
+-- after it no file is at the journal's path, or one is, which is reported as a warning
 abbrev pub IsClosed : Type 0 → Name → FilesView → FilesView → Term → Term → Type 0
 IsClosed tells journal old new was now =
     ((now ≡ was) × Finds tells old.failed new.failed (¬ IsSome (old.held journal)))
     ⊎ ((now ≡ record was { warn = true }) × (tells → IsSome (old.held journal)))
 
--- after it the journal's path was only looked at, and a journal that stays was told; or memory was
+-- after it the journal's path was only looked at, and a journal that stays was reported; or memory was
 -- refused for that, which is an error
 pub record Closes (tells whole : Type 0) (journal : Name) (old new : World) : Type 0 where
   pub untouched : Untouched tells whole old new
@@ -161,7 +161,7 @@ pub record Closes (tells whole : Type 0) (journal : Name) (old new : World) : Ty
 
 -- ---- the ways
 
--- how a call with a journal goes: it is performed, and then it is told where the journal stays; or
+-- how a call with a journal goes: it is performed, and then a journal that stays is reported; or
 -- memory was refused before it was, and nothing is changed or called
 pub data IsJournaledCall (tells whole locked talks : Type 0) (words : List Name) (env : Env) (journal : Name) (old new : World) : Type 0 where
   performed : (failed : ℕ) (last : World) → Journals tells whole locked talks words env journal failed old last → Closes tells whole journal last new

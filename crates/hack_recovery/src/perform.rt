@@ -234,7 +234,7 @@ fn go_on<F: Files, L: Files, K: Locks, C: Caller, O: Write, E: Write>(
     }
 }
 
-/// Performs a call with a journal at this path, and tells where the journal stays.
+/// Performs a call with a journal at this path, and warns where the journal stays.
 fn journaled<F: Files, L: Files, C: Caller, O: Write, E: Write>(
     alloc: Global,
     words: &[String],
@@ -292,7 +292,7 @@ fn journaled<F: Files, L: Files, C: Caller, O: Write, E: Write>(
     }
 }
 
-/// Tells where a journal stays.
+/// Warns where a journal stays.
 fn close<F: Files, E: Write>(
     alloc: Global,
     journal: &str,

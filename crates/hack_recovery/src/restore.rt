@@ -44,7 +44,7 @@ pub(crate) fn restore<F: Files, E: Write>(
     }
 }
 
-/// The first path that the journal tells of and that is no manifest inside the folder.
+/// The first path in the journal that is no manifest inside the folder.
 fn stranger_in<F: Files>(
     alloc: Global,
     folder: &str,
