@@ -1,9 +1,10 @@
 -- A prefix of a text that a writer took, and what is written after it.
-use Rattle.std.proofs.Common.{◌≡◌, ℕ, ◌-◌, List, ◌++◌, length, take, drop, Option, Some, None, ap, sym, ◌∙◌, append_assoc, take-append-drop}
+use Rattle.std.proofs.Common.{◌≡◌, inl, inr, ℕ, zero, suc, ◌-◌, List, ◌++◌, length, take, drop, Option, Some, None, Result, Ok, Err, IsErrAnd, OnOk, [], ap, sym, subst, ◌∙◌, append_assoc, take-append-drop, arith}
+use Rattle.std.proofs.Math.Nat.{eq-or-lt_of_le}
 use Rattle.std.proofs.lemmas.List.{take_rest}
 use Rattle.std.specs.Io.KnownBytes.{Appends, Keeps}
-use Rattle.std.proofs.KnownBytes.{Appends-trans}
-use Rattle.hack_base.specs.Writes.{AppendsFront}
+use Rattle.std.proofs.KnownBytes.{Appends-nil, Appends-trans}
+use Rattle.hack_base.specs.Writes.{AppendsFront, CountsErrors, CountsWrite, HasFailed, NoFewer, Writes, one_more}
 
 -- all of one text, and a prefix of the next
 pub AppendsFront-then : (a b c : Option (List ℕ)) (bs cs : List ℕ) → Appends a b bs → AppendsFront b c cs → AppendsFront a c (bs ++ cs)
@@ -23,3 +24,88 @@ Appends-kept None b c bs p q = tt
 Appends-kept (Some x) None c bs p q = absurd p
 Appends-kept (Some x) (Some y) None bs p q = absurd q
 Appends-kept (Some x) (Some y) (Some z) bs p q = q ∙ p
+
+-- ---- counts of failures
+
+pub NoFewer-refl : (a : Option ℕ) → NoFewer a a
+NoFewer-refl None = tt
+NoFewer-refl (Some n) = omega arith
+
+pub NoFewer-trans : (a b c : Option ℕ) → NoFewer a b → NoFewer b c → NoFewer a c
+NoFewer-trans None b c p q = tt
+NoFewer-trans (Some n) None c p q = absurd p
+NoFewer-trans (Some n) (Some m) None p q = absurd q
+NoFewer-trans (Some n) (Some m) (Some k) p q = omega (arith, p, q)
+
+-- a count that stayed is no fewer
+pub stayed : (a b : Option ℕ) → b ≡ a → NoFewer a b
+stayed a b is = subst (NoFewer a) (sym is) (NoFewer-refl a)
+
+pub grown : (a b : Option ℕ) → HasFailed a b → NoFewer a b
+grown None b p = tt
+grown (Some n) None p = absurd p
+grown (Some n) (Some m) p = p.0
+
+-- one failure more was counted
+pub one-failed : (a b : Option ℕ) → b ≡ one_more a → HasFailed a b
+one-failed a b is = subst (HasFailed a) (sym is) (rose a)
+  where
+    rose : (a : Option ℕ) → HasFailed a (one_more a)
+    rose None = tt
+    rose (Some n) = (omega arith, λ room. omega (arith, room))
+
+pub failed-later : (a b c : Option ℕ) → NoFewer a b → HasFailed b c → HasFailed a c
+failed-later None b c p q = tt
+failed-later (Some n) None c p q = absurd p
+failed-later (Some n) (Some m) None p q = absurd q
+failed-later (Some n) (Some m) (Some k) p q = (omega (arith, p, q.0), λ room. elim (eq-or-lt_of_le p) [ inl is ↦ omega (arith, is, q.1 (omega (arith, is, room))) | inr lt ↦ omega (arith, lt, q.0) ])
+
+pub failed-first : (a b c : Option ℕ) → HasFailed a b → NoFewer b c → HasFailed a c
+failed-first None b c p q = tt
+failed-first (Some n) None c p q = absurd p
+failed-first (Some n) (Some m) None p q = absurd q
+failed-first (Some n) (Some m) (Some k) p q = (omega (arith, p.0, q), λ room. omega (arith, p.1 room, q))
+
+-- what one write counts
+pub write-grows : {E : Type 0} (a b : Option ℕ) (r : Result ℕ E) → CountsWrite a b r → NoFewer a b
+write-grows a b (Ok zero) is = grown a b (one-failed a b is)
+write-grows a b (Ok (suc n)) is = stayed a b is
+write-grows a b (Err fault) is = grown a b (one-failed a b is)
+
+-- a write that takes nothing counts as failed
+pub took-none : (E : Type 0) (a b : Option ℕ) (n : ℕ) → CountsWrite {E = E} a b (Ok n) → n ≡ 0 → HasFailed a b
+took-none E a b zero is none = one-failed a b is
+took-none E a b (suc n) is none = absurd (omega (arith, none))
+
+-- a write after tries that took nothing
+pub Appends-after : (a b c : Option (List ℕ)) (bs : List ℕ) → Keeps a b → Appends b c bs → Appends a c bs
+Appends-after None b c bs p q = tt
+Appends-after (Some x) None c bs p q = absurd p
+Appends-after (Some x) (Some y) None bs p q = absurd q
+Appends-after (Some x) (Some y) (Some z) bs p q = q ∙ ap (λ l. l ++ bs) p
+
+-- an error with a failure that was counted
+pub counts-refused : (T E : Type 0) (P : E → Type 0) (a b : Option ℕ) (r : Result T E) → IsErrAnd r P → HasFailed a b → CountsErrors a b r
+counts-refused T E P a b (Ok done) refused p = absurd refused
+counts-refused T E P a b (Err fault) refused p = p
+
+-- a text written after others
+pub errors-later : (T E : Type 0) (a b c : Option ℕ) (r : Result T E) → NoFewer a b → CountsErrors b c r → CountsErrors a c r
+errors-later T E a b c (Ok done) p q = NoFewer-trans a b c p q
+errors-later T E a b c (Err fault) p q = failed-later a b c p q
+
+-- ---- a text that was written whole, or with a failure
+
+-- what a result says of it
+pub writes-by : (T E : Type 0) (a b : Option (List ℕ)) (m n : Option ℕ) (text : List ℕ) (r : Result T E) → OnOk r (Appends a b text) → CountsErrors m n r → Writes a b m n text
+writes-by T E a b m n text (Ok done) p q = inr (p, q)
+writes-by T E a b m n text (Err fault) p q = inl q
+
+pub writes-none : (a : Option (List ℕ)) (m : Option ℕ) → Writes a a m m []
+writes-none a m = inr (Appends-nil a, NoFewer-refl m)
+
+pub writes-then : (a b c : Option (List ℕ)) (l m n : Option ℕ) (xs ys : List ℕ) → Writes a b l m xs → Writes b c m n ys → Writes a c l n (xs ++ ys)
+writes-then a b c l m n xs ys (inl p) (inl q) = inl (failed-first l m n p (grown m n q))
+writes-then a b c l m n xs ys (inl p) (inr q) = inl (failed-first l m n p q.1)
+writes-then a b c l m n xs ys (inr p) (inl q) = inl (failed-later l m n p.1 q)
+writes-then a b c l m n xs ys (inr p) (inr q) = inr (Appends-trans a b c xs ys p.0 q.0, NoFewer-trans l m n p.1 q.1)

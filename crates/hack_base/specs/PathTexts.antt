@@ -1,5 +1,5 @@
 -- Paths as texts.
-use Rattle.std.specs.Prelude.{ℕ, ◌-◌, Bool, ◌||◌, ◌==◌, List, [], ◌∷◌, ◌++◌, length, drop, codes, nat_eq, bytes_eq, take, fold, slice_get, unwrap_or, Option, Some, None, map, if◌then◌else◌}
+use Rattle.std.specs.Prelude.{ℕ, ◌-◌, Bool, ◌||◌, ◌==◌, List, [], ◌∷◌, ◌++◌, length, drop, codes, nat_eq, bytes_eq, take, fold, slice_get, unwrap_or, Option, Some, None, if◌then◌else◌}
 use Rattle.std.specs.List.{starts_with, ends_with, before_last, after_last, slice_split, join_by}
 
 -- a byte is `/`

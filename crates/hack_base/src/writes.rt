@@ -1,26 +1,98 @@
-//! Texts written as far as a writer takes them.
+//! What lines and lists are written to, and texts written as far as it takes them.
 
-ghost use Rattle.std.specs.Prelude.{OnOk};
-ghost use Rattle.std.specs.Io.KnownBytes.{Appends};
-ghost use Rattle.hack_base.specs.Writes.{AppendsFront, line};
+ghost use Rattle.std.specs.Prelude.{◌≡◌, ℕ, List, Option, None, Some, OnOk, MatchResult};
+ghost use Rattle.std.specs.Io.{WritesAtMost};
+ghost use Rattle.std.specs.Io.KnownBytes.{Appends, Keeps, WriteAppends};
+ghost use Rattle.hack_base.specs.Writes.{AppendsFront, Counts, CountsErrors, CountsWrite};
+ghost use Rattle.hack_base.specs.Writes.{HasFailed, NoFewer, line};
 
 use std::io;
 use std::io::{ErrorKind, Write};
 
-/// Writes a text, or a prefix of it where a write fails. An interrupted write is tried again; a
-/// write that takes nothing is the error `WriteZero`.
-pub fn write_front<W: Write>(text: &str, out: &mut W) -> io::Result<()>
-    ensures all { OnOk result (Appends (W.contents out.old) (W.contents out.new) text.now) }
-    ensures front { AppendsFront (W.contents out.old) (W.contents out.new) text.now }
-{
-    let mut rest = text.as_bytes();
-    for _ in 0..u64::MAX {
-        if rest.is_empty() {
-            return Ok(());
+/// What bytes are written to: any writer, and those that count how often they fail.
+pub trait Sink {
+    /// The bytes that were written, if the type shows them.
+    ghost contents: { Self → Option (List ℕ) };
+
+    /// How often a call failed, if the type counts it. At 2^64 - 1 the count stays.
+    ghost failed: { Self → Option ℕ };
+
+    /// Writes some bytes from the front on, and returns how many. Taking none counts as a failure.
+    fn put_some(&mut self, bytes: &[u8]) -> io::Result<usize>
+        ensures bound { WritesAtMost result bytes.now }
+        ensures bytes { WriteAppends (contents self.old) (contents self.new) result bytes.now }
+        ensures counted { CountsWrite (failed self.old) (failed self.new) result };
+
+    /// Flushes what was written.
+    fn finish(&mut self) -> io::Result<()>
+        ensures bytes { Keeps (contents self.old) (contents self.new) }
+        ensures counted { Counts (failed self.old) (failed self.new) result };
+}
+
+impl<W: Write> Sink for W {
+    ghost contents = { W.contents };
+
+    ghost failed = { λ _. None };
+
+    fn put_some(&mut self, bytes: &[u8]) -> io::Result<usize> {
+        self.write(bytes)
+    }
+
+    fn finish(&mut self) -> io::Result<()> {
+        self.flush()
+    }
+}
+
+/// A reader or a writer whose failures are counted.
+#[derive(Drop)]
+pub struct Counted<'a, S> {
+    pub stream: &'a mut S,
+    /// How often it failed.
+    pub failed: u64,
+}
+
+impl<W: Write> Sink for Counted<'_, W> {
+    ghost contents = { λ counted. W.contents counted.stream.now };
+
+    ghost failed = { λ counted. Some counted.failed };
+
+    fn put_some(&mut self, bytes: &[u8]) -> io::Result<usize> {
+        match self.stream.write(bytes) {
+            Ok(0) => {
+                self.failed = self.failed.saturating_add(1);
+                Ok(0)
+            }
+            Ok(n) => Ok(n),
+            Err(error) => {
+                self.failed = self.failed.saturating_add(1);
+                Err(error)
+            }
         }
-        match out.write(rest) {
-            Ok(0) => return Err(io::Error::from(ErrorKind::WriteZero)),
-            Ok(n) => rest = &rest[n..],
+    }
+
+    fn finish(&mut self) -> io::Result<()> {
+        match self.stream.flush() {
+            Ok(()) => Ok(()),
+            Err(error) => {
+                self.failed = self.failed.saturating_add(1);
+                Err(error)
+            }
+        }
+    }
+}
+
+/// Writes some bytes, again where that was interrupted.
+fn put_again<W: Sink>(bytes: &[u8], out: &mut W) -> io::Result<usize>
+    ensures bound { WritesAtMost result bytes.now }
+    ensures bytes { WriteAppends (W.contents out.old) (W.contents out.new) result bytes.now }
+    ensures grows { NoFewer (W.failed out.old) (W.failed out.new) }
+    ensures missed { MatchResult result
+        (λ n. n ≡ 0 → HasFailed (W.failed out.old) (W.failed out.new))
+        (λ _. HasFailed (W.failed out.old) (W.failed out.new)) }
+{
+    for _ in 0..u64::MAX {
+        match out.put_some(bytes) {
+            Ok(n) => return Ok(n),
             Err(fault) => {
                 if fault.kind() != ErrorKind::Interrupted {
                     return Err(fault);
@@ -31,12 +103,31 @@ pub fn write_front<W: Write>(text: &str, out: &mut W) -> io::Result<()>
     Err(io::Error::from(ErrorKind::Interrupted))
 }
 
+/// Writes a text, or a prefix of it where a write fails. An interrupted write is tried again; a
+/// write that takes nothing is the error `WriteZero`.
+pub fn write_front<W: Sink>(text: &str, out: &mut W) -> io::Result<()>
+    ensures all { OnOk result (Appends (W.contents out.old) (W.contents out.new) text.now) }
+    ensures front { AppendsFront (W.contents out.old) (W.contents out.new) text.now }
+    ensures counted { CountsErrors (W.failed out.old) (W.failed out.new) result }
+{
+    let mut rest = text.as_bytes();
+    while !rest.is_empty() {
+        match put_again(rest, out) {
+            Ok(0) => return Err(io::Error::from(ErrorKind::WriteZero)),
+            Ok(n) => rest = &rest[n..],
+            Err(fault) => return Err(fault),
+        }
+    }
+    Ok(())
+}
+
 /// Writes a line of two parts, or a prefix of it where a write fails.
-pub fn write_line<W: Write>(label: &str, text: &str, out: &mut W) -> io::Result<()>
+pub fn write_line<W: Sink>(label: &str, text: &str, out: &mut W) -> io::Result<()>
     ensures all { OnOk result (Appends (W.contents out.old) (W.contents out.new)
         (line label.now text.now)) }
     ensures front { AppendsFront (W.contents out.old) (W.contents out.new)
         (line label.now text.now) }
+    ensures counted { CountsErrors (W.failed out.old) (W.failed out.new) result }
 {
     write_front(label, out)?;
     write_front(text, out)?;

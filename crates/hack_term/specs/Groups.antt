@@ -43,3 +43,8 @@ message_line GithubActions coloring text = []
 -- the line that ends a group
 abbrev pub closing_line : List ℕ
 closing_line = codes "::endgroup::\n"
+
+-- where the text of a group goes: what belongs to `out`, or to `err` where lines aren't grouped
+abbrev pub on_screen : {A : Type 0} → LogGroup → A → A → A
+on_screen None out err = err
+on_screen GithubActions out err = out

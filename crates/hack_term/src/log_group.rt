@@ -3,15 +3,14 @@
 ghost use Rattle.std.specs.Prelude.{◌≡◌, ◌↔◌, ◌⊎◌, IsTrue, IfOk, IfErr, MatchResult, OnOk};
 ghost use Rattle.std.specs.Prelude.{IsSome, Some, None as Nothing};
 ghost use Rattle.std.specs.Io.KnownBytes.{Appends};
-ghost use Rattle.hack_base.specs.Writes.{AppendsFront};
+ghost use Rattle.hack_base.specs.Writes.{AppendsFront, CountsErrors};
 ghost use Rattle.hack_term.specs.Groups.{group_name, RefusesGroup, log_group_of};
-ghost use Rattle.hack_term.specs.Groups.{opening_line, message_line, closing_line};
+ghost use Rattle.hack_term.specs.Groups.{opening_line, message_line, closing_line, on_screen};
 
 use crate::term::Term;
-use hack_base::writes::{write_front, write_line};
+use hack_base::writes::{Sink, write_front, write_line};
 use std::alloc::{AllocError, Global};
 use std::io;
-use std::io::Write;
 use thiserror::Error;
 
 /// Why a kind of log groups can't be read.
@@ -76,7 +75,7 @@ impl LogGroup {
 
     /// Opens a group with the text on `out`, or writes an info line with it on `err`. The group
     /// counts as open even where that write fails, so the error is returned beside the guard.
-    pub fn print<O: Write, E: Write>(
+    pub fn print<O: Sink, E: Sink>(
         self,
         term: &Term,
         text: &str,
@@ -92,6 +91,10 @@ impl LogGroup {
             (opening_line self text.now) }
         ensures err { AppendsFront (E.contents err.old) (E.contents err.new)
             (message_line self term.now.coloring text.now) }
+        ensures counted { CountsErrors (on_screen self (O.failed out.old) (E.failed err.old))
+            (on_screen self (O.failed out.new) (E.failed err.new)) result.1 }
+        ensures out_kept { self ≡ LogGroup.None → out.new ≡ out.old }
+        ensures err_kept { self ≡ LogGroup.GithubActions → err.new ≡ err.old }
     {
         match self {
             LogGroup::None => (None, term.info(text, err)),
@@ -105,10 +108,11 @@ impl LogGroup {
 
 impl LogGroupGuard {
     /// Writes the line that ends the group.
-    pub fn end<O: Write>(self, out: &mut O) -> io::Result<()>
+    pub fn end<O: Sink>(self, out: &mut O) -> io::Result<()>
         ensures line { OnOk result (Appends (O.contents out.old) (O.contents out.new)
             closing_line) }
         ensures front { AppendsFront (O.contents out.old) (O.contents out.new) closing_line }
+        ensures counted { CountsErrors (O.failed out.old) (O.failed out.new) result }
     {
         let LogGroupGuard { _open: () } = self;
         write_front("::endgroup::\n", out)

@@ -1,11 +1,12 @@
 //! Lines for the user, and what they mean for the exit status. A line is written to a given writer,
 //! and needs no memory. The result is Ok where the whole line was written, and else the error of
-//! the write, which a caller may ignore; then a prefix of the line was written.
+//! the write, which a caller may ignore; then a prefix of the line was written. A writer that counts
+//! its failures shows that an error comes only with one: where it never fails, lines are written.
 
 ghost use Rattle.std.specs.Prelude.{◌≡◌, ◌↔◌, ◌≤◌, ◌⊎◌, IsTrue, IfSome, IfNone, OnOk, true, false};
 ghost use Rattle.std.specs.Prelude.{string_bytes};
 ghost use Rattle.std.specs.Io.KnownBytes.{Appends};
-ghost use Rattle.hack_base.specs.Writes.{AppendsFront};
+ghost use Rattle.hack_base.specs.Writes.{AppendsFront, CountsErrors};
 ghost use Rattle.hack_term.specs.Lines.{coloring_name, IsNoColoring, coloring_of};
 ghost use Rattle.hack_term.specs.Lines.{info_label as label_of_info};
 ghost use Rattle.hack_term.specs.Lines.{warning_label as label_of_warnings};
@@ -14,9 +15,8 @@ ghost use Rattle.hack_term.specs.Lines.{error_line, notice_line, after_notice};
 
 pub use crate::log_group::{LogGroup, LogGroupFault, LogGroupGuard};
 pub use hack_base::notice::{Notice, NoticeKind};
-use hack_base::writes::write_line;
+use hack_base::writes::{Sink, write_line};
 use std::io;
-use std::io::Write;
 
 /// Whether the word that begins a line is coloured.
 #[derive(Clone, Copy, Debug, PartialEq, Eq)]
@@ -96,46 +96,50 @@ impl Term {
     }
 
     /// Writes a line that begins with `info: `.
-    pub fn info<W: Write>(&self, text: &str, out: &mut W) -> io::Result<()>
+    pub fn info<W: Sink>(&self, text: &str, out: &mut W) -> io::Result<()>
         ensures line { OnOk result (Appends (W.contents out.old) (W.contents out.new)
             (info_line self.now.coloring text.now)) }
         ensures front { AppendsFront (W.contents out.old) (W.contents out.new)
             (info_line self.now.coloring text.now) }
+        ensures counted { CountsErrors (W.failed out.old) (W.failed out.new) result }
     {
         write_line(info_label(self.coloring), text, out)
     }
 
     /// Writes a line that begins with `warning: `. The warning is recorded even if the write fails.
-    pub fn warn<W: Write>(&mut self, text: &str, out: &mut W) -> io::Result<()>
+    pub fn warn<W: Sink>(&mut self, text: &str, out: &mut W) -> io::Result<()>
         ensures noted { self.new ≡ record self.old { warn = true } }
         ensures line { OnOk result (Appends (W.contents out.old) (W.contents out.new)
             (warning_line self.old.coloring text.now)) }
         ensures front { AppendsFront (W.contents out.old) (W.contents out.new)
             (warning_line self.old.coloring text.now) }
+        ensures counted { CountsErrors (W.failed out.old) (W.failed out.new) result }
     {
         self.warn = true;
         write_line(warning_label(self.coloring), text, out)
     }
 
     /// Writes a line that begins with `error: `. The error is recorded even if the write fails.
-    pub fn error<W: Write>(&mut self, text: &str, out: &mut W) -> io::Result<()>
+    pub fn error<W: Sink>(&mut self, text: &str, out: &mut W) -> io::Result<()>
         ensures noted { self.new ≡ record self.old { error = true } }
         ensures line { OnOk result (Appends (W.contents out.old) (W.contents out.new)
             (error_line self.old.coloring text.now)) }
         ensures front { AppendsFront (W.contents out.old) (W.contents out.new)
             (error_line self.old.coloring text.now) }
+        ensures counted { CountsErrors (W.failed out.old) (W.failed out.new) result }
     {
         self.error = true;
         write_line(error_label(self.coloring), text, out)
     }
 
     /// Writes a notice as its kind requires.
-    pub fn notice<W: Write>(&mut self, notice: &Notice, out: &mut W) -> io::Result<()>
+    pub fn notice<W: Sink>(&mut self, notice: &Notice, out: &mut W) -> io::Result<()>
         ensures noted { self.new ≡ after_notice self.old notice.now.kind }
         ensures line { OnOk result (Appends (W.contents out.old) (W.contents out.new)
             (notice_line self.old.coloring notice.now.kind (string_bytes notice.now.text))) }
         ensures front { AppendsFront (W.contents out.old) (W.contents out.new)
             (notice_line self.old.coloring notice.now.kind (string_bytes notice.now.text)) }
+        ensures counted { CountsErrors (W.failed out.old) (W.failed out.new) result }
     {
         let text = notice.text.as_str();
         match notice.kind {
