@@ -22,7 +22,7 @@ pub struct ListedLine<'b> {
     pub own: Vec<&'b str>,
     /// The names of the features, which are shown joined by `,`.
     pub names: Vec<&'b str>,
-    /// The arguments that the user wrote behind `--`.
+    /// The arguments that the user wrote after `--`.
     pub trailing: &'b [String],
     /// The folder to which the own `--manifest-path` is shown relative, where it is inside.
     pub dir: &'b str,
@@ -60,8 +60,8 @@ impl<T: AsStr> fmt::Display for Names<'_, T> {
     fn fmt<W: fmt::Write>(&self, f: &mut fmt::Formatter<W>) -> fmt::Result {
         let mut before = " --features ";
         for name in self.names {
-            let text = name.as_str();
-            write!(f, "{before}{text}")?;
+            f.write_str(before)?;
+            f.write_str(name.as_str())?;
             before = ",";
         }
         Ok(())

@@ -346,7 +346,8 @@ impl fmt::Display for Spaced<'_> {
 
     fn fmt<W: fmt::Write>(&self, f: &mut fmt::Formatter<W>) -> fmt::Result {
         for word in self.0 {
-            write!(f, " {word}")?;
+            f.write_str(" ")?;
+            f.write_str(word.as_str())?;
         }
         Ok(())
     }
@@ -416,7 +417,8 @@ impl fmt::Display for OwnWord<'_> {
             return Ok(());
         }
         if !self.is_path {
-            return write!(f, " {word}");
+            f.write_str(" ")?;
+            return f.write_str(word);
         }
         if !self.full {
             return Ok(());

@@ -13,6 +13,9 @@ use std::{fmt, io};
 /// How many bytes are gathered, unless a text is longer.
 const ROOM: usize = 8192;
 
+/// How many bytes a line has room for at first.
+const LINE_ROOM: usize = 256;
+
 /// Lines on a writer that are gathered, and written together. What can't be written stays gathered.
 /// A line that then has no room is left out whole.
 #[derive(Drop)]
@@ -95,7 +98,7 @@ fn put_line<O: Write, D: fmt::Display + Drop>(
     ensures missed { OnErr result (Keeps (append_known (O.contents out.old) gathered.old.items)
         (append_known (O.contents out.new) gathered.new.items)) }
 {
-    let mut line = String::new(alloc);
+    let mut line = String::with_capacity(alloc, LINE_ROOM)?;
     match line.writeln(text) {
         Ok(()) => gather(out, gathered, line.as_str()),
         Err(AllocError) => Err(LineFault::Memory),

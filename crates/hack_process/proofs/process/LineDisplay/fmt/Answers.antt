@@ -1,4 +1,4 @@
-use Rattle.std.proofs.Common.{◌++◌, List, ℕ, ap, map, string_bytes, subst}
+use Rattle.std.proofs.Common.{List, ℕ, ap, map, string_bytes, subst}
 use Rattle.std.specs.Fmt.{HasWritten}
 use Rattle.hack_process.specs.Commands.{command_of}
 use Rattle.hack_process.specs.CommandTexts.{each_spaced, shown_words, shown_features, shown_trailing}
