@@ -10,19 +10,17 @@ use std::alloc::{AllocError, Global};
 use std::io::{ErrorKind, Write};
 use std::{fmt, io};
 
-/// How many bytes are gathered, unless a text is longer.
-const ROOM: usize = 8192;
-
-/// How many bytes a line has room for at first.
-const LINE_ROOM: usize = 256;
+/// How many bytes are gathered, unless a text is longer: as many as a pipe takes at once.
+const ROOM: usize = 65_536;
 
 /// Lines on a writer that are gathered, and written together. What can't be written stays gathered.
 /// A line that then has no room is left out whole.
 #[derive(Drop)]
 pub(crate) struct GatheredLines<'a, O: Write> {
-    alloc: Global,
     pub(crate) out: &'a mut O,
     pub(crate) gathered: &'a mut Vec<u8>,
+    /// Where a line is put together; its memory is used for the next one.
+    line: String,
     /// How many lines could not be written.
     pub(crate) failed: u64,
     /// Whether memory ran out for one of them.
@@ -46,7 +44,7 @@ impl<O: Write> Lines for GatheredLines<'_, O> {
     ghost stays_more = { λ a b c p q. (p.0 ∙ q.0, p.1 ∙ q.1) };
 
     fn line<D: fmt::Display + Drop>(&mut self, text: D) -> Result<(), fmt::Error> {
-        match put_line(self.alloc, self.out, self.gathered, text) {
+        match put_line(self.out, self.gathered, &mut self.line, text) {
             Ok(()) => Ok(()),
             Err(fault) => {
                 self.failed = self.failed.saturating_add(1);
@@ -77,19 +75,19 @@ pub(crate) fn gather_on<'a, O: Write>(
     ensures failed { result.failed ≡ 0 }
 {
     GatheredLines {
-        alloc,
         out,
         gathered,
+        line: String::new(alloc),
         failed: 0,
         short: false,
     }
 }
 
-/// Gathers a text and a line feed.
+/// Gathers a text and a line feed, put together in `line`.
 fn put_line<O: Write, D: fmt::Display + Drop>(
-    alloc: Global,
     out: &mut O,
     gathered: &mut Vec<u8>,
+    line: &mut String,
     text: D,
 ) -> Result<(), LineFault>
     ensures written { OnOk result (IfSome (with_newline (D.output text))
@@ -98,7 +96,7 @@ fn put_line<O: Write, D: fmt::Display + Drop>(
     ensures missed { OnErr result (Keeps (append_known (O.contents out.old) gathered.old.items)
         (append_known (O.contents out.new) gathered.new.items)) }
 {
-    let mut line = String::with_capacity(alloc, LINE_ROOM)?;
+    line.clear();
     match line.writeln(text) {
         Ok(()) => gather(out, gathered, line.as_str()),
         Err(AllocError) => Err(LineFault::Memory),
