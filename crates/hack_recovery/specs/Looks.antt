@@ -8,6 +8,10 @@ pub record FilesView : Type 0 where
   pub trace : List Change
   pub failed : ℕ
 
+-- files that hold this, with these changes so far and so many failed calls
+abbrev pub files_of : Contents → List Change → ℕ → FilesView
+files_of held trace failed = record { held = held; trace = trace; failed = failed }
+
 -- nothing was changed
 pub record Unchanged (tells whole : Type 0) (old new : FilesView) : Type 0 where
   pub same : tells → KeepsAll old.held new.held

@@ -40,6 +40,10 @@ pub record World : Type 0 where
   pub out : Option (List ℕ)
   pub term : Term
 
+-- these files and lockfiles, these locks and calls, this output and this report
+abbrev pub world_of : FilesView → Contents → LocksView → List Call → Option (List ℕ) → Term → World
+world_of files lockfiles locks calls out term = record { files = files; lockfiles = lockfiles; locks = locks; calls = calls; out = out; term = term }
+
 -- files were looked at, and a lock may have been taken: nothing was changed, called or printed
 pub record Untouched (tells whole : Type 0) (old new : World) : Type 0 where
   pub files : Unchanged tells whole old.files new.files

@@ -3,6 +3,7 @@
 ghost use Rattle.std.specs.Prelude.{◌≡◌, [], IfOk, option_map, string_bytes};
 ghost use Rattle.hack_base.specs.Names.{names_of, optional_text};
 ghost use Rattle.hack_files.specs.Files.{KeepsAll, Makes};
+ghost use Rattle.hack_recovery.specs.Looks.{files_of};
 ghost use Rattle.hack_recovery.specs.Ways.{Begins};
 
 use crate::asked::{Asked, Edits};
@@ -34,16 +35,8 @@ pub(crate) fn begin<F: Files>(
 ) -> Result<Begun, AllocError>
     ensures begun { IfOk result (λ begun. Begins F.tells (names_of words.now) env.now begun.edits
         (string_bytes begun.folder) (string_bytes begun.journal) begun.is_there
-        (record {
-          held = F.bytes_at files.old;
-          trace = F.trace files.old;
-          failed = F.failed files.old;
-        })
-        (record {
-          held = F.bytes_at files.new;
-          trace = F.trace files.new;
-          failed = F.failed files.new;
-        })) }
+        (files_of (F.bytes_at files.old) (F.trace files.old) (F.failed files.old))
+        (files_of (F.bytes_at files.new) (F.trace files.new) (F.failed files.new))) }
     ensures same { F.tells → KeepsAll (F.bytes_at files.old) (F.bytes_at files.new) }
     ensures untraced { F.whole → Makes [] (F.trace files.old) (F.trace files.new)
         (F.bytes_at files.old) (F.bytes_at files.new) }

@@ -5,8 +5,9 @@ ghost use Rattle.std.specs.Prelude.{◌≡◌, ◌↔◌, ◌⊎◌, ◌≤◌, 
 ghost use Rattle.hack_base.specs.Names.{names_of};
 ghost use Rattle.hack_files.specs.Files.{KeepsAll, Makes};
 ghost use Rattle.hack_recovery.specs.Events.{LocksView};
+ghost use Rattle.hack_recovery.specs.Looks.{files_of};
 ghost use Rattle.hack_recovery.specs.Ways.{Continues, Goes, GoesOn, IsClosed, IsJournaledCall};
-ghost use Rattle.hack_recovery.specs.Ways.{World};
+ghost use Rattle.hack_recovery.specs.Ways.{world_of};
 
 use crate::admit::{Way, admit};
 use crate::asked::Edits;
@@ -43,31 +44,13 @@ pub fn perform<F: Files, L: Files, K: Locks, C: Caller, O: Write, E: Write>(
     ensures one { (result.0 ≡ 1)
         ↔ (IsTrue term.new.error ⊎ (IsTrue term.new.warn × IsTrue env.now.deny_warnings)) }
     ensures at_most_one { result.0 ≤ 1 }
-    ensures goes { let old : World = record {
-      files = record {
-        held = F.bytes_at files;
-        trace = F.trace files;
-        failed = F.failed files;
-      };
-      lockfiles = L.bytes_at lockfiles;
-      locks = K.shown locks.old;
-      calls = C.calls caller.old;
-      out = O.contents out.old;
-      term = term.old;
-    } in
-        let new : World = record {
-          files = record {
-            held = F.bytes_at result.1;
-            trace = F.trace result.1;
-            failed = F.failed result.1;
-          };
-          lockfiles = L.bytes_at result.2;
-          locks = K.shown locks.new;
-          calls = C.calls caller.new;
-          out = O.contents out.new;
-          term = term.new;
-        } in
-        Goes F.tells F.whole L.tells C.tells K.tells (names_of words.now) env.now old new }
+    ensures goes { Goes F.tells F.whole L.tells C.tells K.tells (names_of words.now) env.now
+        (world_of (files_of (F.bytes_at files) (F.trace files) (F.failed files))
+        (L.bytes_at lockfiles) (K.shown locks.old) (C.calls caller.old) (O.contents out.old)
+        term.old)
+        (world_of (files_of (F.bytes_at result.1) (F.trace result.1) (F.failed result.1))
+        (L.bytes_at result.2) (K.shown locks.new) (C.calls caller.new) (O.contents out.new)
+        term.new) }
 {
     let mut files = files;
     let begun = match begin(alloc, words, env, &mut files) {
@@ -118,32 +101,14 @@ fn guarded<F: Files, L: Files, K: Locks, C: Caller, O: Write, E: Write>(
     ensures one { (result.0 ≡ 1)
         ↔ (IsTrue term.new.error ⊎ (IsTrue term.new.warn × IsTrue env.now.deny_warnings)) }
     ensures at_most_one { result.0 ≤ 1 }
-    ensures goes { let old : World = record {
-      files = record {
-        held = F.bytes_at files;
-        trace = F.trace files;
-        failed = F.failed files;
-      };
-      lockfiles = L.bytes_at lockfiles;
-      locks = K.shown locks.old;
-      calls = C.calls caller.old;
-      out = O.contents out.old;
-      term = term.old;
-    } in
-        let new : World = record {
-          files = record {
-            held = F.bytes_at result.1;
-            trace = F.trace result.1;
-            failed = F.failed result.1;
-          };
-          lockfiles = L.bytes_at result.2;
-          locks = K.shown locks.new;
-          calls = C.calls caller.new;
-          out = O.contents out.new;
-          term = term.new;
-        } in
-        GoesOn F.tells F.whole L.tells C.tells K.tells (names_of words.now) env.now
-        begun.edits (string_bytes begun.folder) (string_bytes begun.journal) old new }
+    ensures goes { GoesOn F.tells F.whole L.tells C.tells K.tells (names_of words.now) env.now
+        begun.edits (string_bytes begun.folder) (string_bytes begun.journal)
+        (world_of (files_of (F.bytes_at files) (F.trace files) (F.failed files))
+        (L.bytes_at lockfiles) (K.shown locks.old) (C.calls caller.old) (O.contents out.old)
+        term.old)
+        (world_of (files_of (F.bytes_at result.1) (F.trace result.1) (F.failed result.1))
+        (L.bytes_at result.2) (K.shown locks.new) (C.calls caller.new) (O.contents out.new)
+        term.new) }
 {
     let mut files = files;
     let Begun {
@@ -190,32 +155,14 @@ fn go_on<F: Files, L: Files, K: Locks, C: Caller, O: Write, E: Write>(
     ensures one { (result.0 ≡ 1)
         ↔ (IsTrue term.new.error ⊎ (IsTrue term.new.warn × IsTrue env.now.deny_warnings)) }
     ensures at_most_one { result.0 ≤ 1 }
-    ensures goes { let old : World = record {
-      files = record {
-        held = F.bytes_at files;
-        trace = F.trace files;
-        failed = F.failed files;
-      };
-      lockfiles = L.bytes_at lockfiles;
-      locks = K.shown locks.old;
-      calls = C.calls caller.old;
-      out = O.contents out.old;
-      term = term.old;
-    } in
-        let new : World = record {
-          files = record {
-            held = F.bytes_at result.1;
-            trace = F.trace result.1;
-            failed = F.failed result.1;
-          };
-          lockfiles = L.bytes_at result.2;
-          locks = K.shown locks.new;
-          calls = C.calls caller.new;
-          out = O.contents out.new;
-          term = term.new;
-        } in
-        Continues F.tells F.whole L.tells C.tells K.tells (names_of words.now) env.now
-        edits (string_bytes journal) old new }
+    ensures goes { Continues F.tells F.whole L.tells C.tells K.tells (names_of words.now) env.now
+        edits (string_bytes journal)
+        (world_of (files_of (F.bytes_at files) (F.trace files) (F.failed files))
+        (L.bytes_at lockfiles) (K.shown locks.old) (C.calls caller.old) (O.contents out.old)
+        term.old)
+        (world_of (files_of (F.bytes_at result.1) (F.trace result.1) (F.failed result.1))
+        (L.bytes_at result.2) (K.shown locks.new) (C.calls caller.new) (O.contents out.new)
+        term.new) }
 {
     let mut files = files;
     match edits {
@@ -250,33 +197,12 @@ fn journaled<F: Files, L: Files, C: Caller, O: Write, E: Write>(
     ensures one { (result.0 ≡ 1)
         ↔ (IsTrue term.new.error ⊎ (IsTrue term.new.warn × IsTrue env.now.deny_warnings)) }
     ensures at_most_one { result.0 ≤ 1 }
-    ensures goes { (locks : LocksView) →
-        let old : World = record {
-          files = record {
-            held = F.bytes_at files;
-            trace = F.trace files;
-            failed = F.failed files;
-          };
-          lockfiles = L.bytes_at lockfiles;
-          locks = locks;
-          calls = C.calls caller.old;
-          out = O.contents out.old;
-          term = term.old;
-        } in
-        let new : World = record {
-          files = record {
-            held = F.bytes_at result.1;
-            trace = F.trace result.1;
-            failed = F.failed result.1;
-          };
-          lockfiles = L.bytes_at result.2;
-          locks = locks;
-          calls = C.calls caller.new;
-          out = O.contents out.new;
-          term = term.new;
-        } in
-        IsJournaledCall F.tells F.whole L.tells C.tells (names_of words.now) env.now
-        (string_bytes journal) old new }
+    ensures goes { (locks : LocksView) → IsJournaledCall F.tells F.whole L.tells C.tells (names_of
+        words.now) env.now (string_bytes journal)
+        (world_of (files_of (F.bytes_at files) (F.trace files) (F.failed files)) (L.bytes_at
+        lockfiles) locks (C.calls caller.old) (O.contents out.old) term.old)
+        (world_of (files_of (F.bytes_at result.1) (F.trace result.1) (F.failed result.1))
+        (L.bytes_at result.2) locks (C.calls caller.new) (O.contents out.new) term.new) }
 {
     let path = match String::from_str(alloc, journal.as_str()) {
         Ok(path) => path,
@@ -301,16 +227,9 @@ fn close<F: Files, E: Write>(
     err: &mut E,
 ) -> Result<(), AllocError>
     ensures told { OnOk result (IsClosed F.tells journal.now
-        (record {
-          held = F.bytes_at files.old;
-          trace = F.trace files.old;
-          failed = F.failed files.old;
-        })
-        (record {
-          held = F.bytes_at files.new;
-          trace = F.trace files.new;
-          failed = F.failed files.new;
-        }) term.old term.new) }
+        (files_of (F.bytes_at files.old) (F.trace files.old) (F.failed files.old))
+        (files_of (F.bytes_at files.new) (F.trace files.new) (F.failed files.new)) term.old
+        term.new) }
     ensures same { F.tells → KeepsAll (F.bytes_at files.old) (F.bytes_at files.new) }
     ensures untraced { F.whole → Makes [] (F.trace files.old) (F.trace files.new)
         (F.bytes_at files.old) (F.bytes_at files.new) }

@@ -3,7 +3,7 @@
 ghost use Rattle.std.specs.Prelude.{◌≡◌, [], IfOk, MatchOption, OnErr, OnOk, false, true};
 ghost use Rattle.std.specs.Prelude.{string_bytes};
 ghost use Rattle.hack_files.specs.Files.{KeepsAll, Makes};
-ghost use Rattle.hack_recovery.specs.Looks.{Finds};
+ghost use Rattle.hack_recovery.specs.Looks.{Finds, files_of};
 ghost use Rattle.hack_recovery.specs.Strangers.{Names, NamesNone};
 ghost use Rattle.hack_recovery.specs.Ways.{IsBroughtBack, Restores, noted};
 
@@ -27,16 +27,9 @@ pub(crate) fn restore<F: Files, E: Write>(
     err: &mut E,
 ) -> Result<bool, CallFault>
     ensures { Restores F.tells F.whole folder.now journal.now
-        (record {
-          held = F.bytes_at files.old;
-          trace = F.trace files.old;
-          failed = F.failed files.old;
-        })
-        (record {
-          held = F.bytes_at files.new;
-          trace = F.trace files.new;
-          failed = F.failed files.new;
-        }) term.old term.new result }
+        (files_of (F.bytes_at files.old) (F.trace files.old) (F.failed files.old))
+        (files_of (F.bytes_at files.new) (F.trace files.new) (F.failed files.new))
+        term.old term.new result }
 {
     match stranger_in(alloc, folder, journal, files)? {
         Some(path) => tell_stranger(alloc, journal, path.as_str(), term, err),
@@ -93,16 +86,9 @@ fn bring_back<F: Files, E: Write>(
     err: &mut E,
 ) -> Result<bool, CallFault>
     ensures { IsBroughtBack F.tells F.whole journal.now
-        (record {
-          held = F.bytes_at files.old;
-          trace = F.trace files.old;
-          failed = F.failed files.old;
-        })
-        (record {
-          held = F.bytes_at files.new;
-          trace = F.trace files.new;
-          failed = F.failed files.new;
-        }) term.old term.new result }
+        (files_of (F.bytes_at files.old) (F.trace files.old) (F.failed files.old))
+        (files_of (F.bytes_at files.new) (F.trace files.new) (F.failed files.new))
+        term.old term.new result }
 {
     match recover(alloc, files, journal) {
         Ok(count) => tell_count(alloc, count, term, err),
