@@ -197,10 +197,10 @@ fn journaled<F: Files, L: Files, C: Caller, O: Write, E: Write>(
     ensures one { (result.0 ≡ 1)
         ↔ (IsTrue term.new.error ⊎ (IsTrue term.new.warn × IsTrue env.now.deny_warnings)) }
     ensures at_most_one { result.0 ≤ 1 }
-    ensures goes { (locks : LocksView) → IsJournaledCall F.tells F.whole L.tells C.tells (names_of
-        words.now) env.now (string_bytes journal)
-        (world_of (files_of (F.bytes_at files) (F.trace files) (F.failed files)) (L.bytes_at
-        lockfiles) locks (C.calls caller.old) (O.contents out.old) term.old)
+    ensures goes { (locks : LocksView) → IsJournaledCall F.tells F.whole L.tells C.tells
+        (names_of words.now) env.now (string_bytes journal)
+        (world_of (files_of (F.bytes_at files) (F.trace files) (F.failed files))
+        (L.bytes_at lockfiles) locks (C.calls caller.old) (O.contents out.old) term.old)
         (world_of (files_of (F.bytes_at result.1) (F.trace result.1) (F.failed result.1))
         (L.bytes_at result.2) locks (C.calls caller.new) (O.contents out.new) term.new) }
 {
@@ -228,8 +228,8 @@ fn close<F: Files, E: Write>(
 ) -> Result<(), AllocError>
     ensures told { OnOk result (IsClosed F.tells journal.now
         (files_of (F.bytes_at files.old) (F.trace files.old) (F.failed files.old))
-        (files_of (F.bytes_at files.new) (F.trace files.new) (F.failed files.new)) term.old
-        term.new) }
+        (files_of (F.bytes_at files.new) (F.trace files.new) (F.failed files.new))
+        term.old term.new) }
     ensures same { F.tells → KeepsAll (F.bytes_at files.old) (F.bytes_at files.new) }
     ensures untraced { F.whole → Makes [] (F.trace files.old) (F.trace files.new)
         (F.bytes_at files.old) (F.bytes_at files.new) }
