@@ -1,0 +1,115 @@
+#!/usr/bin/env python3
+"""Prints which definitions a public function's contract rests on: what somebody has to read who wants to know what is promised.
+
+usage: tests/closure.py [--list] [CRATE::MODULE::FUNCTION ..]
+
+A name in a clause leads by the imports of its file to a definition in some crate's specs/, and that to those that it names;
+definitions of the standard library and of the kit's crates aren't followed. A definition's lines are counted without blank
+ones and comments. Without a function, those of the headline and of a whole call are taken. With --list each definition is
+printed with its lines, most first. A line a function: its name, how many definitions, and how many lines they have.
+"""
+import argparse
+import functools
+import os
+import re
+import sys
+
+ROOT = os.path.dirname(os.path.dirname(os.path.realpath(__file__)))
+# The plan of a loaded call with what a session hands out of it; and a call from its arguments to its status.
+PROMISES = ["hack_calls::plan::plan_of", "hack_session::runner::drive_plan", "hack_run::run::run"]
+NAME = re.compile(r"[A-Za-z_][\w'-]*")
+IMPORT = re.compile(r"(?:ghost )?use Rattle\.(hack_\w+)\.specs\.([\w.]+?)(?:\.\{([^}]*)\}| as (\w+))?;?\s*(?:--.*)?$")
+DEFINES = re.compile(r"( *)(?:(?:abbrev|record|data|pub) )+(\S+)")
+FUNCTION = re.compile(r"( *)(?:pub(?:\([^)]*\))? )?(?:final )?fn (\w+)")
+
+
+@functools.cache
+def lines_of(path):
+    with open(path, encoding="utf-8") as it:
+        return it.read().split("\n")
+
+
+def imports(lines):
+    """What the imports among these lines bring in: for each name the crate, the module and the name there."""
+    found = {}
+    for line in lines:
+        said = IMPORT.match(line.strip())
+        for part in said[3].split(",") if said and said[3] else []:
+            name, _, alias = (it.strip() for it in part.partition(" as "))
+            found[alias or name] = (said[1], said[2], name)
+    return found
+
+
+@functools.cache
+def module(crate, name):
+    """A module of specs: its definitions, each with its lines, and its imports."""
+    path = f"{ROOT}/crates/{crate}/specs/{name.replace('.', '/')}.antt"
+    if not os.path.isfile(path):
+        return {}, {}
+    # Definitions stand at the margin, and those of a module with parameters further in.
+    found, current, margin = {}, None, ""
+    for line in lines_of(path):
+        if not line.strip() or line.lstrip().startswith(("--", "use ", "pub use ", "pub mod ")):
+            continue
+        if line.startswith("module "):
+            margin = "  "
+            continue
+        if not line.startswith(" "):
+            margin = ""
+        begun = DEFINES.match(line)
+        if begun and begun[1] == margin:
+            current = begun[2]
+        if current:
+            found.setdefault(current, []).append(line)
+    return found, imports([*lines_of(path)])
+
+
+def follow(start):
+    """The definitions that these names lead to, each with its lines."""
+    found, left = {}, [*start]
+    while left:
+        crate, name, item = left.pop()
+        defined, brought = module(crate, name)
+        if (crate, name, item) in found or item not in defined:
+            continue
+        found[crate, name, item] = defined[item]
+        for word in {*NAME.findall("\n".join(defined[item]))}:
+            if word in brought:
+                left.append(brought[word])
+            elif word in defined:
+                left.append((crate, name, word))
+    return found
+
+
+def contract(function):
+    """What the clauses of a function name in some crate's specs."""
+    crate, *modules, name = function.split("::")
+    path = f"{ROOT}/crates/{crate}/src/{'/'.join(modules)}.rt"
+    if not os.path.isfile(path):
+        sys.exit(f"{function}: there is no {path}")
+    lines = lines_of(path)
+    at = next((n for n, it in enumerate(lines) if (m := FUNCTION.match(it)) and m[2] == name), None)
+    if at is None:
+        sys.exit(f"{function}: it isn't in {path}")
+    indent = FUNCTION.match(lines[at])[1]
+    end = next(n for n in range(at, len(lines)) if lines[n] == f"{indent}{{" or lines[n].partition("//")[0].endswith(";"))
+    text = "\n".join(it.partition("//")[0] for it in lines[at:end])
+    brought = imports(lines)
+    return [brought[word] for word in {*NAME.findall(text)} if word in brought]
+
+
+def main():
+    parser = argparse.ArgumentParser(description=__doc__, formatter_class=argparse.RawDescriptionHelpFormatter)
+    parser.add_argument("--list", action="store_true", help="print each definition with its lines")
+    parser.add_argument("function", nargs="*", metavar="FUNCTION")
+    asked = parser.parse_args()
+    for function in asked.function or PROMISES:
+        found = follow(contract(function))
+        if asked.list:
+            for (crate, name, item), lines in sorted(found.items(), key=lambda it: -len(it[1])):
+                print(f"{len(lines):4} {crate}::{name}::{item}")
+        print(f"{function}: {len(found)} definitions, {sum(map(len, found.values()))} lines")
+
+
+if __name__ == "__main__":
+    main()
