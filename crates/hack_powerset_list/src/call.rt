@@ -7,7 +7,8 @@ ghost use Rattle.hack_powerset_list.specs.Streams.{IsCounted};
 
 use crate::fault::ListFault;
 use crate::list::powerset_list;
-use crate::streams::{Sink, Source};
+use crate::streams::Source;
+use hack_base::writes::Sink;
 use std::alloc::{AllocError, Global};
 use std::env::Args;
 use std::io;

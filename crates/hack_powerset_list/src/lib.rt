@@ -19,4 +19,5 @@ pub use call::{Ending, call_powerset_list};
 pub use commands::command;
 pub use fault::ListFault;
 pub use list::powerset_list;
-pub use streams::{Counted, Sink, Source};
+pub use hack_base::writes::{Counted, Sink};
+pub use streams::{CountedReader, Source};

@@ -11,8 +11,9 @@ ghost use Rattle.hack_powerset_list.specs.Streams.{IsCounted};
 use crate::fault::ListFault;
 use crate::input::{all_of, features_of, map_of};
 use crate::runs::write_lines;
-use crate::streams::{Sink, Source};
+use crate::streams::{Source, read_whole};
 use crate::wishes::Wishes;
+use hack_base::writes::Sink;
 use hack_features::{Feature, Rules};
 use std::alloc::{AllocError, Global};
 use std::collections::BTreeMap;
@@ -62,7 +63,7 @@ pub fn powerset_list<R: Source, W: Sink>(
         (W.failed out.old) (W.failed out.new)) }
 {
     let wishes = Wishes::of(alloc, words)?;
-    let bytes = match input.read_whole(alloc) {
+    let bytes = match read_whole(alloc, input) {
         Ok(bytes) => bytes,
         Err(error) => return Err(ListFault::of_error(&error, ListFault::Read)),
     };
