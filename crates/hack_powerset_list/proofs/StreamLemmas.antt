@@ -1,14 +1,17 @@
 -- Errors of streams, and failures that are counted.
-use Rattle.std.proofs.Common.{◌≡◌, ◌∙◌, ℕ, List, Option, None, Some, Bool, true, false, if◌then◌else◌, sym, refl}
+use Rattle.std.proofs.Common.{◌≡◌, ◌∙◌, ℕ, List, Option, None, Some, Bool, true, false, Result, Ok, Err, IsErrAnd, if◌then◌else◌, sym, ap, refl}
 use Rattle.std.specs.Io.KnownBytes.{Consumes, Keeps}
+use Rattle.std.specs.declared.io.Error.{Error}
 use Rattle.std.specs.declared.io.ErrorKind.{ErrorKind}
-use Rattle.hack_base.specs.Writes.{HasFailed}
+use Rattle.std.specs.IoError.{error_kind}
+use Rattle.hack_base.specs.Writes.{HasFailed, NoFewer}
+use Rattle.hack_base.proofs.WriteLemmas.{NoFewer-trans, failed-later}
 use Rattle.hack_powerset_list.specs.declared.fault.ListFault.TheVariants.{NotText, Read, Write, Memory}
 use Rattle.hack_powerset_list.specs.declared.wishes.WordsFault.{WordsFault}
 use Rattle.hack_powerset_list.specs.declared.wishes.WordsFault.TheVariants as said
 use Rattle.hack_powerset_list.specs.Faults.{is_memory, told_as}
 use Rattle.hack_powerset_list.specs.Words.{list_fault}
-use Rattle.hack_powerset_list.specs.Streams.{IsCounted}
+use Rattle.hack_powerset_list.specs.Streams.{IsCounted, Stops}
 
 -- a read after tries that gave nothing
 pub Consumes-after : (a b c : Option (List ℕ)) (bs : List ℕ) → Keeps a b → Consumes b c bs → Consumes a c bs
@@ -16,6 +19,11 @@ Consumes-after None b c bs p q = tt
 Consumes-after (Some x) None c bs p q = absurd p
 Consumes-after (Some x) (Some y) None bs p q = absurd q
 Consumes-after (Some x) (Some y) (Some z) bs p q = sym p ∙ q
+
+-- an error that a later call returned
+pub stops-refused : (T : Type 0) (a b c : Option ℕ) (e : Error) (r : Result T Error) → IsErrAnd r (λ f. f ≡ e) → NoFewer a b → Stops {T = T} b c (Err e) → Stops a c r
+stops-refused T a b c e (Ok done) refused p q = absurd refused
+stops-refused T a b c e (Err f) refused p q = (λ real. failed-later a b c p (q.0 (ap (λ x. is_memory (error_kind x)) (sym refused) ∙ real)), NoFewer-trans a b c p q.1)
 
 module _ (read_old read_new write_old write_new : Option ℕ) where
   -- an error in the arguments is no error of streams

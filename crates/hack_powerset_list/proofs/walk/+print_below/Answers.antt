@@ -10,6 +10,7 @@ use Rattle.hack_powerset_list.specs.Room.{set_in, most_in}
 use Rattle.hack_features.specs.Walk.{below}
 use Rattle.hack_powerset_list.specs.Walks.{is_other, set_lines}
 use Rattle.hack_powerset_list.proofs.PageLemmas.{prints-none, prints-then, prints-front, prints-stopped, on_err-any}
+use Rattle.hack_powerset_list.proofs.StreamLemmas.{stops-refused}
 use Rattle.hack_powerset_list.proofs.WalkLemmas.{selection-front, selection-short, above-front, above-cons}
 use Rattle.hack_powerset_list.proofs.ListedLemmas.{other-same, below-full, lines_below, line_at, lines_under, text-step, text-skip, text-all}
 use Rattle.hack_powerset_list.proofs.walk.+print_below.Goals as goal
@@ -301,6 +302,14 @@ loop-p-preserved g t c =
         | else-p-gt0 w ↦ ap whole_of w.rules-is ∙ c.may_begin.ensures.same_whole ∙ c.loop-p.invariant.same_whole
       ];
     }
+
+pub returns-in_err-print_other-clause-counted : goal.returns-in_err-print_other-clause-counted
+returns-in_err-print_other-clause-counted g t c =
+    stops-refused Unit _ _ _ _ _ c.from_residual.ensures.1 c.loop-p.invariant.count c.in_err-print_other.ensures.counted
+
+pub returns-in_err-print_below-clause-counted : goal.returns-in_err-print_below-clause-counted
+returns-in_err-print_below-clause-counted g t c =
+    stops-refused Unit _ _ _ _ _ c.from_residual-in_err-print_below.ensures.1 (NoFewer-trans _ _ _ c.loop-p.invariant.count c.in_ok-print_other.ensures.counted) c.in_err-print_below.ensures.counted
 
 pub returns-clause-ok : goal.returns-clause-ok
 returns-clause-ok g t c =
