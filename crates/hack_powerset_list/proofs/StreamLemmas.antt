@@ -20,6 +20,11 @@ Consumes-after (Some x) None c bs p q = absurd p
 Consumes-after (Some x) (Some y) None bs p q = absurd q
 Consumes-after (Some x) (Some y) (Some z) bs p q = sym p ∙ q
 
+-- what a later call counted
+pub stops-later : (T : Type 0) (a b c : Option ℕ) (r : Result T Error) → NoFewer a b → Stops b c r → Stops a c r
+stops-later T a b c (Ok done) p q = NoFewer-trans a b c p q
+stops-later T a b c (Err e) p q = (λ real. failed-later a b c p (q.0 real), NoFewer-trans a b c p q.1)
+
 -- an error that a later call returned
 pub stops-refused : (T : Type 0) (a b c : Option ℕ) (e : Error) (r : Result T Error) → IsErrAnd r (λ f. f ≡ e) → NoFewer a b → Stops {T = T} b c (Err e) → Stops a c r
 stops-refused T a b c e (Ok done) refused p q = absurd refused
