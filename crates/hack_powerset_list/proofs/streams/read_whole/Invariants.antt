@@ -1,4 +1,4 @@
-use Rattle.std.proofs.Common.{◌<◌, ◌-◌, ◌^◌, ◌≡◌, length}
+use Rattle.std.proofs.Common.{◌<◌, ◌-◌, ◌^◌, length}
 use Rattle.std.specs.Io.KnownBytes.{Consumes}
 use Rattle.hack_base.specs.Writes.{NoFewer}
 use Rattle.hack_powerset_list.proofs.streams.read_whole.Given as goal
