@@ -1,6 +1,7 @@
 //! The list of commands of a package's feature powerset, from the bytes of its feature map.
 
 ghost use Rattle.std.specs.Prelude.{◌≡◌, length, map, string_bytes, OnOk, IfOk, IfErr};
+ghost use Rattle.hack_base.specs.Writes.{NoFewer};
 ghost use Rattle.hack_features.specs.Feature.{candidates_of, groups_of};
 ghost use Rattle.hack_features.specs.FeatureMap.{feature_map};
 ghost use Rattle.hack_features.specs.View.{choice_of, size_of};
@@ -61,6 +62,8 @@ pub fn powerset_list<R: Source, W: Sink>(
         (R.remaining input.old) (W.contents out.old) (W.contents out.new)) }
     ensures counted { IfErr result (IsCounted (R.failed input.old) (R.failed input.new)
         (W.failed out.old) (W.failed out.new)) }
+    ensures kept { NoFewer (R.failed input.old) (R.failed input.new)
+        × NoFewer (W.failed out.old) (W.failed out.new) }
 {
     let wishes = Wishes::of(alloc, words)?;
     let bytes = match read_whole(alloc, input) {
