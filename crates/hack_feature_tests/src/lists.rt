@@ -24,7 +24,9 @@ use crate::shown::told;
 use crate::streams::{Broken, OTHER_KINDS, Page, Source, Takes, kind_of};
 use hack_holds::{Ask, Wrong, hold};
 use hack_plan::runs::Run;
-use hack_powerset_list::{Counted, Ending, ListFault, call_powerset_list, command, powerset_list};
+use hack_powerset_list::{
+    Counted, CountedReader, Ending, ListFault, call_powerset_list, command, powerset_list,
+};
 use std::alloc::{AllocError, Global};
 use std::env::Args;
 use std::io;
@@ -116,7 +118,7 @@ fn counted(
 
 fn counted_reads(alloc: Global, fault: ErrorKind) -> Result<String, AllocError> {
     let mut broken = Broken { fault };
-    let mut input = Counted {
+    let mut input = CountedReader {
         stream: &mut broken,
         failed: 0,
     };

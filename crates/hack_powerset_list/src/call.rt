@@ -2,12 +2,14 @@
 
 ghost use Rattle.std.specs.Prelude.{◌≡◌, ◌⊎◌, drop, OnOk, IfOk, IfErr};
 ghost use Rattle.std.specs.Vec.Iter.{into_iter_items};
+ghost use Rattle.hack_base.specs.Writes.{NoFewer};
 ghost use Rattle.hack_powerset_list.specs.Endings.{IsDone, IsRefused, RefusesCall, WritesForCall};
 ghost use Rattle.hack_powerset_list.specs.Streams.{IsCounted};
 
 use crate::fault::ListFault;
 use crate::list::powerset_list;
-use crate::streams::{Sink, Source};
+use crate::streams::Source;
+use hack_base::writes::Sink;
 use std::alloc::{AllocError, Global};
 use std::env::Args;
 use std::io;
@@ -43,6 +45,8 @@ fn list_for<R: Source, W: Sink>(
         (R.remaining input.old) (W.contents out.old) (W.contents out.new)) }
     ensures counted { IfErr result (IsCounted (R.failed input.old) (R.failed input.new)
         (W.failed out.old) (W.failed out.new)) }
+    ensures kept { NoFewer (R.failed input.old) (R.failed input.new)
+        × NoFewer (W.failed out.old) (W.failed out.new) }
 {
     match arguments {
         Ok(all) => {
@@ -63,11 +67,14 @@ pub fn call_powerset_list<R: Source, W: Sink, E: Write>(
     out: &mut W,
     err: &mut E,
 ) -> Ending
-    ensures { IsDone arguments (R.remaining input.old) (W.contents out.old) (W.contents out.new)
+    ensures ended { IsDone arguments
+        (R.remaining input.old) (W.contents out.old) (W.contents out.new)
         (E.contents err.old) (E.contents err.new) result
         ⊎ IsRefused arguments (R.remaining input.old) (W.contents out.old) (W.contents out.new)
         (IsCounted (R.failed input.old) (R.failed input.new) (W.failed out.old) (W.failed out.new))
         (E.contents err.old) (E.contents err.new) result }
+    ensures kept { NoFewer (R.failed input.old) (R.failed input.new)
+        × NoFewer (W.failed out.old) (W.failed out.new) }
 {
     match list_for(alloc, arguments, input, out) {
         Ok(()) => Ending {

@@ -6,14 +6,11 @@ ghost use Rattle.hack_base.specs.Names.{names_of};
 ghost use Rattle.hack_features.specs.Feature.{groups_of, candidates_of, name_of};
 ghost use Rattle.hack_features.specs.FeatureMap.{feature_map};
 ghost use Rattle.hack_powerset_list.specs.Input.{values_in, IsMapText, IsNoMapText, keys_of};
-ghost use Rattle.hack_powerset_list.specs.CommandList.{IsInput};
 
 use hack_features::Feature;
 use serde_json::Value;
 use std::alloc::{AllocError, Global};
 use std::collections::BTreeMap;
-use std::io;
-use std::io::Read;
 
 /// The texts of an array; None if the value is no array of texts.
 fn texts_of(alloc: Global, value: Value) -> Result<Option<Vec<String>>, AllocError>
@@ -57,15 +54,6 @@ pub fn map_of(
         map.insert(key, texts)?;
     }
     Ok(Some(map))
-}
-
-/// All bytes that the reader has left.
-pub fn bytes_of<R: Read>(alloc: Global, input: &mut R) -> io::Result<Vec<u8>>
-    ensures { IfOk result (λ bytes. IsInput (R.remaining input.old) bytes.items) }
-{
-    let mut bytes = Vec::new(alloc);
-    input.read_to_end(&mut bytes)?;
-    Ok(bytes)
 }
 
 /// A feature of its own for each key of the map, in the order of the keys.

@@ -18,5 +18,6 @@ mod writes;
 pub use call::{Ending, call_powerset_list};
 pub use commands::command;
 pub use fault::ListFault;
+pub use hack_base::writes::{Counted, Sink};
 pub use list::powerset_list;
-pub use streams::{Counted, Sink, Source};
+pub use streams::{CountedReader, Source};

@@ -11,7 +11,7 @@ ghost use Rattle.hack_base.specs.Writes.{AppendsFront};
 ghost use Rattle.hack_powerset_list.specs.LineWords.{bare_command, Prints, TurnsPage};
 ghost use Rattle.hack_powerset_list.specs.Streams.{Stops};
 
-use crate::streams::Sink;
+use hack_base::writes::{Sink, write_front};
 use hack_features::Feature;
 use hack_process::process::ProcessBuilder;
 use std::alloc::{AllocError, Global};
@@ -99,7 +99,7 @@ fn turn_full_page<W: Sink>(page: &mut String, out: &mut W) -> io::Result<()>
     if page.len() < FULL {
         return Ok(());
     }
-    out.put_text(page.as_str())?;
+    write_front(page.as_str(), out)?;
     page.clear();
     Ok(())
 }

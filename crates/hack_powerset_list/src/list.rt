@@ -1,6 +1,7 @@
 //! The list of commands of a package's feature powerset, from the bytes of its feature map.
 
 ghost use Rattle.std.specs.Prelude.{◌≡◌, length, map, string_bytes, OnOk, IfOk, IfErr};
+ghost use Rattle.hack_base.specs.Writes.{NoFewer};
 ghost use Rattle.hack_features.specs.Feature.{candidates_of, groups_of};
 ghost use Rattle.hack_features.specs.FeatureMap.{feature_map};
 ghost use Rattle.hack_features.specs.View.{choice_of, size_of};
@@ -11,8 +12,9 @@ ghost use Rattle.hack_powerset_list.specs.Streams.{IsCounted};
 use crate::fault::ListFault;
 use crate::input::{all_of, features_of, map_of};
 use crate::runs::write_lines;
-use crate::streams::{Sink, Source};
+use crate::streams::{Source, read_whole};
 use crate::wishes::Wishes;
+use hack_base::writes::Sink;
 use hack_features::{Feature, Rules};
 use std::alloc::{AllocError, Global};
 use std::collections::BTreeMap;
@@ -60,9 +62,11 @@ pub fn powerset_list<R: Source, W: Sink>(
         (R.remaining input.old) (W.contents out.old) (W.contents out.new)) }
     ensures counted { IfErr result (IsCounted (R.failed input.old) (R.failed input.new)
         (W.failed out.old) (W.failed out.new)) }
+    ensures kept { NoFewer (R.failed input.old) (R.failed input.new)
+        × NoFewer (W.failed out.old) (W.failed out.new) }
 {
     let wishes = Wishes::of(alloc, words)?;
-    let bytes = match input.read_whole(alloc) {
+    let bytes = match read_whole(alloc, input) {
         Ok(bytes) => bytes,
         Err(error) => return Err(ListFault::of_error(&error, ListFault::Read)),
     };

@@ -18,9 +18,9 @@ ghost use Rattle.hack_powerset_list.specs.Streams.{Stops};
 
 use crate::lines::{Texts, empty_page, print_line};
 use crate::room::SetRoom;
-use crate::streams::Sink;
 use crate::walk::{SetLines, last_below, print_below, print_whole};
 use crate::wishes::Wishes;
+use hack_base::writes::{Sink, write_front};
 use hack_features::{Feature, Rules};
 use hack_plan::runs::fits_two;
 use std::alloc::Global;
@@ -144,6 +144,6 @@ pub fn write_lines<W: Sink>(
 {
     let mut page = empty_page(alloc)?;
     print_runs(alloc, wishes, features, rules, &mut page, out)?;
-    out.put_text(page.as_str())?;
+    write_front(page.as_str(), out)?;
     out.finish()
 }

@@ -1,17 +1,17 @@
-//! What a feature map is read from, and what its list is written to: any reader and any writer, and
-//! those that also count how often they fail.
+//! What a feature map is read from: any reader, and one that also counts how often it fails.
 
-ghost use Rattle.std.specs.Prelude.{◌≡◌, ℕ, List, Option, None, Some, IfOk, OnOk};
-ghost use Rattle.std.specs.Io.KnownBytes.{Appends, Keeps};
-ghost use Rattle.hack_base.specs.Writes.{AppendsFront};
+ghost use Rattle.std.specs.Prelude.{◌≡◌, ◌≢◌, ℕ, List, Option, None, Some, IfErr, IfOk, length};
+ghost use Rattle.std.specs.Io.{ReadsAtMost};
+ghost use Rattle.std.specs.Io.KnownBytes.{ReadConsumes};
+ghost use Rattle.std.specs.IoError.{error_kind};
+ghost use Rattle.std.specs.declared.io.ErrorKind.TheVariants.{Interrupted};
+ghost use Rattle.hack_base.specs.Writes.{Counts, CountsErrors};
 ghost use Rattle.hack_powerset_list.specs.CommandList.{IsInput};
-ghost use Rattle.hack_powerset_list.specs.Streams.{Counts};
+ghost use Rattle.hack_powerset_list.specs.Streams.{Stops};
 
-use crate::input::bytes_of;
-use hack_base::writes::write_front;
-use std::alloc::Global;
+use std::alloc::{AllocError, Global};
 use std::io;
-use std::io::{Read, Write};
+use std::io::{ErrorKind, Read};
 
 /// What a feature map is read from.
 pub trait Source {
@@ -21,29 +21,11 @@ pub trait Source {
     /// How often reading failed, if the type counts it. At 2^64 - 1 the count stays.
     ghost failed: { Self → Option ℕ };
 
-    /// All bytes that are left.
-    fn read_whole(&mut self, alloc: Global) -> io::Result<Vec<u8>>
-        ensures bytes { IfOk result (λ bytes. IsInput (remaining self.old) bytes.items) }
-        ensures counted { Counts (failed self.old) (failed self.new) result };
-}
-
-/// What a list is written to.
-pub trait Sink {
-    /// The bytes that were written, if the type shows them.
-    ghost contents: { Self → Option (List ℕ) };
-
-    /// How often writing failed, if the type counts it. At 2^64 - 1 the count stays.
-    ghost failed: { Self → Option ℕ };
-
-    /// Writes a text, or a front of it if that fails.
-    fn put_text(&mut self, text: &str) -> io::Result<()>
-        ensures all { OnOk result (Appends (contents self.old) (contents self.new) text.now) }
-        ensures front { AppendsFront (contents self.old) (contents self.new) text.now }
-        ensures counted { Counts (failed self.old) (failed self.new) result };
-
-    /// Flushes what was written.
-    fn finish(&mut self) -> io::Result<()>
-        ensures bytes { Keeps (contents self.old) (contents self.new) }
+    /// Reads some bytes, and returns how many. None are given only at the end, or if there is no
+    /// room for one.
+    fn read_some(&mut self, bytes: &mut [u8]) -> io::Result<usize>
+        ensures bound { ReadsAtMost result bytes.new }
+        ensures bytes { ReadConsumes (remaining self.old) (remaining self.new) result bytes.new }
         ensures counted { Counts (failed self.old) (failed self.new) result };
 }
 
@@ -52,41 +34,27 @@ impl<R: Read> Source for R {
 
     ghost failed = { λ _. None };
 
-    fn read_whole(&mut self, alloc: Global) -> io::Result<Vec<u8>> {
-        bytes_of(alloc, self)
+    fn read_some(&mut self, bytes: &mut [u8]) -> io::Result<usize> {
+        self.read(bytes)
     }
 }
 
-impl<W: Write> Sink for W {
-    ghost contents = { W.contents };
-
-    ghost failed = { λ _. None };
-
-    fn put_text(&mut self, text: &str) -> io::Result<()> {
-        write_front(text, self)
-    }
-
-    fn finish(&mut self) -> io::Result<()> {
-        self.flush()
-    }
-}
-
-/// A reader or a writer whose failures are counted.
+/// A reader whose failures are counted.
 #[derive(Drop)]
-pub struct Counted<'a, S> {
-    pub stream: &'a mut S,
+pub struct CountedReader<'a, R> {
+    pub stream: &'a mut R,
     /// How often it failed.
     pub failed: u64,
 }
 
-impl<R: Read> Source for Counted<'_, R> {
+impl<R: Read> Source for CountedReader<'_, R> {
     ghost remaining = { λ counted. R.remaining counted.stream.now };
 
     ghost failed = { λ counted. Some counted.failed };
 
-    fn read_whole(&mut self, alloc: Global) -> io::Result<Vec<u8>> {
-        match self.stream.read_whole(alloc) {
-            Ok(bytes) => Ok(bytes),
+    fn read_some(&mut self, bytes: &mut [u8]) -> io::Result<usize> {
+        match self.stream.read(bytes) {
+            Ok(n) => Ok(n),
             Err(error) => {
                 self.failed = self.failed.saturating_add(1);
                 Err(error)
@@ -95,28 +63,51 @@ impl<R: Read> Source for Counted<'_, R> {
     }
 }
 
-impl<W: Write> Sink for Counted<'_, W> {
-    ghost contents = { λ counted. W.contents counted.stream.now };
+/// How many bytes are read at a time, at most.
+const ROOM: usize = 32_768;
 
-    ghost failed = { λ counted. Some counted.failed };
+/// Room for this many bytes.
+fn room_for(alloc: Global, bytes: usize) -> Result<Vec<u8>, AllocError>
+    ensures { IfOk result (λ room. length room.items ≡ bytes) }
+{
+    vec![in alloc; 0; bytes]
+}
 
-    fn put_text(&mut self, text: &str) -> io::Result<()> {
-        match self.stream.put_text(text) {
-            Ok(()) => Ok(()),
-            Err(error) => {
-                self.failed = self.failed.saturating_add(1);
-                Err(error)
+/// Reads some bytes, again where that was interrupted.
+fn read_again<R: Source>(bytes: &mut [u8], source: &mut R) -> io::Result<usize>
+    ensures bound { ReadsAtMost result bytes.new }
+    ensures bytes { ReadConsumes (R.remaining source.old) (R.remaining source.new)
+        result bytes.new }
+    ensures retried { IfErr result (λ fault. error_kind fault ≢ Interrupted) }
+    ensures counted { CountsErrors (R.failed source.old) (R.failed source.new) result }
+{
+    for _ in 0..u64::MAX {
+        match source.read_some(bytes) {
+            Ok(n) => return Ok(n),
+            Err(fault) => {
+                if fault.kind() != ErrorKind::Interrupted {
+                    return Err(fault);
+                }
             }
         }
     }
+    Err(io::Error::from(ErrorKind::TimedOut))
+}
 
-    fn finish(&mut self) -> io::Result<()> {
-        match self.stream.flush() {
-            Ok(()) => Ok(()),
-            Err(error) => {
-                self.failed = self.failed.saturating_add(1);
-                Err(error)
-            }
+/// Reads all bytes that are left. The kind of the error is `OutOfMemory` if memory is refused; an
+/// interrupted read is tried again.
+pub fn read_whole<R: Source>(alloc: Global, source: &mut R) -> io::Result<Vec<u8>>
+    ensures bytes { IfOk result (λ bytes. IsInput (R.remaining source.old) bytes.items) }
+    ensures retried { IfErr result (λ error. error_kind error ≢ Interrupted) }
+    ensures counted { Stops (R.failed source.old) (R.failed source.new) result }
+{
+    let mut room = room_for(alloc, ROOM)?;
+    let mut whole = Vec::new(alloc);
+    loop {
+        let n = read_again(room.as_mut_slice(), source)?;
+        if n == 0 {
+            return Ok(whole);
         }
+        whole.extend_from_slice(&room[..n])?;
     }
 }

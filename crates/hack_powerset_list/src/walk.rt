@@ -18,7 +18,7 @@ ghost use Rattle.hack_powerset_list.specs.Streams.{Stops};
 
 use crate::lines::{Texts, print_line};
 use crate::room::SetRoom;
-use crate::streams::Sink;
+use hack_base::writes::Sink;
 use hack_features::{Feature, Questions, Rules};
 use std::alloc::{AllocError, Global};
 use std::io;

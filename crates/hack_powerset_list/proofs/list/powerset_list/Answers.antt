@@ -65,4 +65,4 @@ returns-clause-err g c =
 
 pub returns-clause-counted : goal.returns-clause-counted
 returns-clause-counted g c =
-    rw c.of_error-in-Err-write_lines.ensures (counted-writing _ _ _ _ (error_kind c.in-Err-write_lines.error) c.in-Err-write_lines.ensures.counted)
+    rw c.of_error-in-Err-write_lines.ensures (counted-writing _ _ _ _ (error_kind c.in-Err-write_lines.error) c.in-Err-write_lines.ensures.counted.0)

@@ -11,6 +11,7 @@ use Rattle.hack_powerset_list.specs.Room.{set_in}
 use Rattle.hack_powerset_list.specs.Walks.{EndsIn, listed_below, listed_in, set_lines}
 use Rattle.hack_powerset_list.proofs.PageLemmas.{prints-none, prints-then, prints-front, prints-stopped, on_ok-same, on_err-same, on_err-any, on_ok-then, on_err-then}
 use Rattle.hack_powerset_list.proofs.ListedLemmas.{Ends, listed-in-same}
+use Rattle.hack_powerset_list.proofs.StreamLemmas.{stops-later}
 use Rattle.hack_powerset_list.proofs.RunsLemmas.{runs-none, runs-some}
 use Rattle.hack_powerset_list.proofs.runs.print_runs.Goals as goal
 
@@ -167,3 +168,6 @@ returns-clause-err g c =
     (subst (λ l. AppendsFront (g.W.Sink.contents c.print_front-2.new.out) (g.W.Sink.contents c.print_sets.new.out) (string_bytes c.print_front-2.new.page ++ l)) shown h)
     (is ∙ ap (λ l. front ++ l) (sym (append-nil lines))))
     c.print_sets.ensures.err
+
+pub returns-clause-counted : goal.returns-clause-counted
+returns-clause-counted g c = stops-later Unit _ _ _ _ c.in_ok-print_front.ensures.counted c.print_sets.ensures.counted

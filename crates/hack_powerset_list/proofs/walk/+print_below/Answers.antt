@@ -1,5 +1,6 @@
 use Rattle.std.proofs.Common.{◌≡◌, ◌∙◌, ◌<◌, ◌≤◌, ◌+◌, ◌++◌, ◌∷◌, [], ℕ, zero, List, Bool, length, filter, map, true, false, ap, sym, subst, arith, drop, append_assoc, string_bytes, All}
-use Rattle.hack_base.specs.Writes.{AppendsFront}
+use Rattle.hack_base.specs.Writes.{AppendsFront, NoFewer}
+use Rattle.hack_base.proofs.WriteLemmas.{NoFewer-trans, stayed}
 use Rattle.hack_base.specs.Names.{Name}
 use Rattle.hack_features.specs.Feature.{name_of}
 use Rattle.hack_features.specs.Sets.{IsSelection, items_at}
@@ -9,6 +10,7 @@ use Rattle.hack_powerset_list.specs.Room.{set_in, most_in}
 use Rattle.hack_features.specs.Walk.{below}
 use Rattle.hack_powerset_list.specs.Walks.{is_other, set_lines}
 use Rattle.hack_powerset_list.proofs.PageLemmas.{prints-none, prints-then, prints-front, prints-stopped, on_err-any}
+use Rattle.hack_powerset_list.proofs.StreamLemmas.{stops-refused}
 use Rattle.hack_powerset_list.proofs.WalkLemmas.{selection-front, selection-short, above-front, above-cons}
 use Rattle.hack_powerset_list.proofs.ListedLemmas.{other-same, below-full, lines_below, line_at, lines_under, text-step, text-skip, text-all}
 use Rattle.hack_powerset_list.proofs.walk.+print_below.Goals as goal
@@ -44,7 +46,7 @@ loop-p-preserved-then-not-may_begin g t c =
     record {
       printed = subst (Prints (g.W.Sink.contents c.args.out.now) (g.W.Sink.contents c.loop-p.out) (string_bytes c.args.page.now) (string_bytes c.loop-p.page))
           (sym (text-skip names test may s p refused)) c.loop-p.invariant.printed;
-      same_count = c.loop-p.invariant.same_count;
+      count = c.loop-p.invariant.count;
       kept = c.loop-p.invariant.kept;
       room = c.loop-p.invariant.room;
       same_size = c.may_begin.ensures.same_size ∙ c.loop-p.invariant.same_size;
@@ -276,13 +278,15 @@ loop-p-preserved g t c =
           (subst (Prints (g.W.Sink.contents c.print_other.new.out) (g.W.Sink.contents c.print_other.new.out) (string_bytes c.print_other.new.page) (string_bytes c.print_other.new.page)) (sym none)
           (prints-none (g.W.Sink.contents c.print_other.new.out) (string_bytes c.print_other.new.page))))
     ] in
+    let count : NoFewer (g.W.Sink.failed c.print_other.new.out) (g.W.Sink.failed c.if-p-gt0.out) =
+    elim c.if-p-gt0.branch [
+      | then-p-gt0+then-not-is_full+in_ok-longer+in_ok-print_below w ↦ subst (λ o. NoFewer (g.W.Sink.failed c.print_other.new.out) (g.W.Sink.failed o)) (sym w.out-is) w.in_ok-print_below.ensures.counted
+      | else-p-gt0 w ↦ stayed _ _ (ap g.W.Sink.failed w.out-is)
+    ] in
     record {
       printed = subst (Prints (g.W.Sink.contents c.args.out.now) out_new (string_bytes c.args.page.now) page_new) (sym next)
           (prints-then _ _ _ (string_bytes c.args.page.now) (string_bytes c.print_other.new.page) page_new (lines_below names test may s p ++ line_at names test may s p) (lines_under names test may s p) so_far behind);
-      same_count = elim c.if-p-gt0.branch [
-        | then-p-gt0+then-not-is_full+in_ok-longer+in_ok-print_below w ↦ ap g.W.Sink.failed w.out-is ∙ w.in_ok-print_below.ensures.counted ∙ c.in_ok-print_other.ensures.counted ∙ c.loop-p.invariant.same_count
-        | else-p-gt0 w ↦ ap g.W.Sink.failed w.out-is ∙ c.in_ok-print_other.ensures.counted ∙ c.loop-p.invariant.same_count
-      ];
+      count = NoFewer-trans _ _ _ c.loop-p.invariant.count (NoFewer-trans _ _ _ c.in_ok-print_other.ensures.counted count);
       kept = c.take.ensures.set ∙ ap (drop 1) kept;
       room = c.take.ensures.most ∙ room;
       same_size = elim c.if-p-gt0.branch [
@@ -298,6 +302,14 @@ loop-p-preserved g t c =
         | else-p-gt0 w ↦ ap whole_of w.rules-is ∙ c.may_begin.ensures.same_whole ∙ c.loop-p.invariant.same_whole
       ];
     }
+
+pub returns-in_err-print_other-clause-counted : goal.returns-in_err-print_other-clause-counted
+returns-in_err-print_other-clause-counted g t c =
+    stops-refused Unit _ _ _ _ _ c.from_residual.ensures.1 c.loop-p.invariant.count c.in_err-print_other.ensures.counted
+
+pub returns-in_err-print_below-clause-counted : goal.returns-in_err-print_below-clause-counted
+returns-in_err-print_below-clause-counted g t c =
+    stops-refused Unit _ _ _ _ _ c.from_residual-in_err-print_below.ensures.1 (NoFewer-trans _ _ _ c.loop-p.invariant.count c.in_ok-print_other.ensures.counted) c.in_err-print_below.ensures.counted
 
 pub returns-clause-ok : goal.returns-clause-ok
 returns-clause-ok g t c =

@@ -1,4 +1,5 @@
 use Rattle.std.proofs.Common.{◌≡◌, map, filter, string_bytes}
+use Rattle.hack_base.specs.Writes.{NoFewer}
 use Rattle.hack_features.specs.Feature.{name_of}
 use Rattle.hack_features.specs.View.{may_of, size_of, whole_of}
 use Rattle.hack_powerset_list.specs.LineWords.{Prints}
@@ -14,7 +15,7 @@ abbrev pub invariant-loop-p : goal.invariant-loop-p
 invariant-loop-p g l = record {
   printed : Prints (g.W.Sink.contents l.fn.out) (g.W.Sink.contents l.out) (string_bytes l.fn.page) (string_bytes l.page)
       (set_lines (map name_of l.lines.features.now) (filter (is_other l.fn.rules l.lines.last.now) (below (may_of l.fn.rules) l.p (set_in l.fn.room))));
-  same_count : g.W.Sink.failed l.out ≡ g.W.Sink.failed l.fn.out;
+  count : NoFewer (g.W.Sink.failed l.fn.out) (g.W.Sink.failed l.out);
   kept : set_in l.room ≡ set_in l.fn.room;
   room : most_in l.room ≡ most_in l.fn.room;
   same_size : size_of l.rules ≡ size_of l.fn.rules;
