@@ -1,0 +1,285 @@
+-- What the parts of steps print.
+use Rattle.std.proofs.Common.{◌≡◌, ◌≢◌, ◌⊎◌, inl, inr, ◌+◌, ◌<◌, ℕ, zero, suc, Bool, true, false, List, [], ◌∷◌, ◌++◌, length, take, Option, Some, None, Result, Ok, Err, OnOk, refl, sym, ◌∙◌, ap, subst, append-nil, arith, rules, ◌&&◌}
+use Rattle.std.specs.Prelude.{codes, slice_get, IfSome, MatchResult, MatchBool, if◌then◌else◌}
+use Rattle.std.specs.Io.KnownBytes.{Appends}
+use Rattle.std.proofs.lemmas.Option.{slice_get_cases}
+use Rattle.hack_base.specs.Writes.{CountsErrors, Writes}
+use Rattle.hack_base.proofs.WriteLemmas.{writes-by, writes-none}
+use Rattle.hack_term.specs.declared.log_group.LogGroup.{LogGroup}
+use Rattle.hack_term.specs.declared.log_group.LogGroup.TheVariants.{None as Ungrouped, GithubActions}
+use Rattle.hack_term.specs.Groups.{closing_line, opening_line, message_line}
+use Rattle.hack_term.specs.Lines.{info_line, error_line}
+use Rattle.hack_plan.specs.declared.places.Quad.{Quad}
+use Rattle.hack_process.specs.declared.fault.ProcessFault.{ProcessFault}
+use Rattle.hack_process.specs.declared.fault.ProcessFault.TheVariants.{Memory, EmptyProgram, NeverExecuted, NotText, Failed as ByFailure}
+use Rattle.hack_process.specs.CommandTexts.{Command}
+use Rattle.hack_runs.specs.Commands.{clean_command, package_at}
+use Rattle.hack_runs.specs.View.{PlanView}
+use Rattle.hack_session.specs.declared.step.Step.{Step}
+use Rattle.hack_session.specs.declared.step.Step.TheVariants.{Run}
+use Rattle.hack_session.specs.declared.step.Outcome.{Outcome}
+use Rattle.hack_session.specs.declared.step.Outcome.TheVariants.{Passed, Failed}
+use Rattle.hack_session.specs.declared.step.Handed.{Handed}
+use Rattle.hack_session.specs.Performs.{Comes, GrowsBy, is_memory}
+use Rattle.hack_session.specs.Shown.{Shown, on_err, both_shown, all_shown, Manner, space_before, end_line, group_shown, cleaning_shown, run_cleaning_shown, status_shown, run_parts, skip_parts, parts_of, IsWhole, IsPart, IsFront, Displays, is_run, IsErrorLine, TellsError, memory_shown, Shows, ShowsAll, Streams, Prints, HasShown}
+use Rattle.hack_session.specs.JoinedShown.{then-nothing, both-assoc, prints_as, prints_then, prints_none}
+use Rattle.hack_session.proofs.RunLemmas.{comes_fault, comes_map, not_cut, cut_of}
+
+-- ---- lists of parts
+
+pub one_whole : (x s : Shown) → s ≡ x → IsWhole (x ∷ []) s
+one_whole x s e = e ∙ sym (then-nothing x)
+
+pub whole_is : (x s : Shown) → IsWhole (x ∷ []) s → s ≡ x
+whole_is x s e = e ∙ then-nothing x
+
+pub no_part : (parts : List Shown) → IsPart parts (on_err [])
+no_part parts = (0, refl)
+
+pub whole_part : (parts : List Shown) (s : Shown) → IsWhole parts s → IsPart parts s
+whole_part parts s e = (length parts, e ∙ ap all_shown (sym (all parts)))
+  where
+    all : (l : List Shown) → take (length l) l ≡ l
+    all [] = refl
+    all (x ∷ l) = ap (λ (m : List Shown). x ∷ m) (all l)
+
+pub part_more : (x : Shown) (parts : List Shown) (s : Shown) → IsPart parts s → IsPart (x ∷ parts) (both_shown x s)
+part_more x parts s p = (suc p.0, ap (both_shown x) p.1)
+
+-- ---- by what was returned
+
+abbrev pub Part : {T : Type 0} → List Shown → Result T ProcessFault → Shown → Type 0
+Part parts r s = Comes (λ _. IsWhole parts s) (IsPart parts s) r
+
+comes_both : (T : Type 0) (r : Result T ProcessFault) (A : Outcome → Type 0) (C : Type 0) → ((o : Outcome) → A o) → C → Comes A C r
+comes_both T (Ok done) A C f c = f Passed
+comes_both T (Err Memory) A C f c = c
+comes_both T (Err EmptyProgram) A C f c = f Failed
+comes_both T (Err (NeverExecuted text)) A C f c = f Failed
+comes_both T (Err (NotText text)) A C f c = f Failed
+comes_both T (Err (ByFailure failure)) A C f c = f Failed
+
+retyped : (S T : Type 0) (fault : ProcessFault) (A : Outcome → Type 0) (C : Type 0) → Comes {T = S} A C (Err fault) → Comes {T = T} A C (Err fault)
+retyped S T Memory A C h = h
+retyped S T EmptyProgram A C h = h
+retyped S T (NeverExecuted text) A C h = h
+retyped S T (NotText text) A C h = h
+retyped S T (ByFailure failure) A C h = h
+
+-- the one part was printed, whatever was returned
+pub printed_part : (T : Type 0) (r : Result T ProcessFault) (x : Shown) (a b : Streams) → Prints (λ s. s ≡ x) a b → Prints (Part (x ∷ []) r) a b
+printed_part T r x a b p = prints_as (λ s. s ≡ x) (Part (x ∷ []) r) a b (λ s e. comes_both T r (λ _. IsWhole (x ∷ []) s) (IsPart (x ∷ []) s) (λ _. one_whole x s e) (whole_part (x ∷ []) s (one_whole x s e))) p
+
+-- a step without parts
+pub printed_none : (T : Type 0) (r : Result T ProcessFault) (a : Streams) → Prints (Part [] r) a a
+printed_none T r a = prints_none (Part [] r) a (comes_both T r (λ _. IsWhole [] (on_err [])) (IsPart [] (on_err [])) (λ _. refl) (no_part []))
+
+-- memory was refused before anything was printed
+pub refused_part : (T : Type 0) (r : Result T ProcessFault) (A : Outcome → Shown → Type 0) (parts : List Shown) (a : Streams) → r ≡ Err Memory → Prints (λ s. Comes (λ o. A o s) (IsPart parts s) r) a a
+refused_part T r A parts a e = subst (λ (x : Result T ProcessFault). Prints (λ s. Comes (λ o. A o s) (IsPart parts s) x) a a) (sym e) (prints_none (λ s. Comes {T = T} (λ o. A o s) (IsPart parts s) (Err Memory)) a (no_part parts))
+
+pub cut_part : (T : Type 0) (fault : ProcessFault) (A : Outcome → Shown → Type 0) (parts : List Shown) (a : Streams) → true ≡ is_memory fault → Prints (λ s. Comes {T = T} (λ o. A o s) (IsPart parts s) (Err fault)) a a
+cut_part T fault A parts a e = prints_none (λ s. Comes {T = T} (λ o. A o s) (IsPart parts s) (Err fault)) a (only fault e)
+  where
+    only : (f : ProcessFault) → true ≡ is_memory f → Comes {T = T} (λ o. A o (on_err [])) (IsPart parts (on_err [])) (Err f)
+    only Memory e = no_part parts
+    only EmptyProgram e = absurd (cc)
+    only (NeverExecuted text) e = absurd (cc)
+    only (NotText text) e = absurd (cc)
+    only (ByFailure failure) e = absurd (cc)
+
+pub in_manner : (P : Manner → Shown → Type 0) (m n : Manner) (a b : Streams) → m ≡ n → Prints (P m) a b → Prints (P n) a b
+in_manner P m n a b e p = subst (λ (x : Manner). Prints (P x) a b) e p
+
+pub prints_err : (text : List ℕ) (out old new : Option (List ℕ)) (out_failed before now : Option ℕ) → Writes old new before now text
+    → Prints (λ s. s ≡ on_err text) (record { out = out; out_failed = out_failed; err = old; err_failed = before }) (record { out = out; out_failed = out_failed; err = new; err_failed = now })
+prints_err text out old new out_failed before now w = record { shown = on_err text; such = refl; out_written = writes-none out out_failed; err_written = w }
+
+pub prints_out : (text : List ℕ) (err old new : Option (List ℕ)) (err_failed before now : Option ℕ) → Writes old new before now text
+    → Prints (λ s. s ≡ record { out = text; err = [] }) (record { out = old; out_failed = before; err = err; err_failed = err_failed }) (record { out = new; out_failed = now; err = err; err_failed = err_failed })
+prints_out text err old new err_failed before now w = record { shown = record { out = text; err = [] }; such = refl; out_written = w; err_written = writes-none err err_failed }
+
+-- a group's opening and its end
+pub prints_group : (m : Manner) (text : List ℕ) (a b c : Streams)
+    → Prints (λ s. s ≡ record { out = opening_line m.group text; err = message_line m.group m.coloring text }) a b → Prints (λ s. s ≡ record { out = end_line m.group; err = [] }) b c → Prints (λ s. s ≡ group_shown m text) a c
+prints_group m text a b c p q =
+    let opened : Shown = record { out = opening_line m.group text; err = message_line m.group m.coloring text } in
+    let ended : Shown = record { out = end_line m.group; err = [] } in
+    prints_then (λ s. s ≡ opened) (λ s. s ≡ ended) (λ s. s ≡ group_shown m text) a b c
+    (λ s t e f. ap (λ (x : Shown). both_shown x t) e ∙ ap (both_shown opened) f ∙ ap (λ (l : List ℕ). record { out = opening_line m.group text ++ end_line m.group; err = l }) (append-nil (message_line m.group m.coloring text))) p q
+
+-- one part and others after it
+pub part_then : (T : Type 0) (r : Result T ProcessFault) (x : Shown) (parts : List Shown) (a b c : Streams) → Prints (λ s. s ≡ x) a b → Prints (Part parts r) b c → Prints (Part (x ∷ parts) r) a c
+part_then T r x parts a b c p q = prints_then (λ s. s ≡ x) (Part parts r) (Part (x ∷ parts) r) a b c
+    (λ s t e h. comes_map T r (λ _. IsWhole parts t) (λ _. IsWhole (x ∷ parts) (both_shown s t)) (IsPart parts t) (IsPart (x ∷ parts) (both_shown s t))
+    (λ _ w. ap (λ (y : Shown). both_shown y t) e ∙ ap (both_shown x) w)
+    (λ w. subst (λ (y : Shown). IsPart (x ∷ parts) (both_shown y t)) (sym e) (part_more x parts t w)) h) p q
+
+quad_at : (quads : List Quad) (place : ℕ) → place < length quads → (q : Quad) × (slice_get quads place ≡ Some q)
+quad_at quads place lt = elim (slice_get_cases quads place).1 [
+  | inl w ↦ (w.0, w.2)
+  | inr w ↦ absurd (omega arith)
+]
+
+-- the empty line before a place
+pub space_run : (m : Manner) (plan : PlanView) (place : ℕ) (s : Shown) → place < length plan.quads → s ≡ on_err (space_before m.group place) → IsPart (run_parts m plan place (slice_get plan.quads place)) s
+space_run m plan place s lt e =
+    let q = quad_at plan.quads place lt in
+    subst (λ (o : Option Quad). IsPart (run_parts m plan place o) s) (sym q.1) (1, e ∙ sym (then-nothing (on_err (space_before m.group place))))
+
+pub space_skip : (m : Manner) (plan : PlanView) (place : ℕ) (s : Shown) → place < length plan.quads → s ≡ on_err (space_before m.group place) → IsPart (skip_parts m plan place (slice_get plan.quads place)) s
+space_skip m plan place s lt e =
+    let q = quad_at plan.quads place lt in
+    subst (λ (o : Option Quad). IsPart (skip_parts m plan place o) s) (sym q.1) (1, e ∙ sym (then-nothing (on_err (space_before m.group place))))
+
+-- ---- runs
+
+no_cleaning : (m : Manner) (plan : PlanView) (q : Quad) → plan.call.clean_per_run ≡ false → run_cleaning_shown m plan q ≡ on_err []
+no_cleaning m plan q e = go plan.call.clean_per_run e
+  where
+    go : (flag : Bool) → flag ≡ false → (if flag then cleaning_shown m plan.call.dir (clean_command plan.call (package_at plan.packages q.package)) else on_err []) ≡ on_err []
+    go true b = absurd (cc)
+    go false b = refl
+
+pub own_cleaning : (m : Manner) (plan : PlanView) (o : Option Quad) (q : Quad) (clean : Command) → o ≡ Some q → IfSome o (λ x. clean ≡ clean_command plan.call (package_at plan.packages x.package)) → plan.call.clean_per_run ≡ true → cleaning_shown m plan.call.dir clean ≡ run_cleaning_shown m plan q
+own_cleaning m plan o q clean e g b =
+    let h : clean ≡ clean_command plan.call (package_at plan.packages q.package) = subst (λ (x : Option Quad). IfSome x (λ y. clean ≡ clean_command plan.call (package_at plan.packages y.package))) e g in
+    ap (cleaning_shown m plan.call.dir) h ∙ sym (go plan.call.clean_per_run b)
+  where
+    go : (flag : Bool) → flag ≡ true → (if flag then cleaning_shown m plan.call.dir (clean_command plan.call (package_at plan.packages q.package)) else on_err []) ≡ cleaning_shown m plan.call.dir (clean_command plan.call (package_at plan.packages q.package))
+    go true b = refl
+    go false b = absurd (cc)
+
+-- a run is shown by the parts that it has
+pub ran_part : (T : Type 0) (r : Result T ProcessFault) (m : Manner) (plan : PlanView) (place : ℕ) (a b : Streams)
+    → Prints (Part (run_parts m plan place (slice_get plan.quads place)) r) a b
+    → Prints (λ s. Comes (λ o. Displays m plan (Run place) o s) (IsPart (parts_of m plan (Run place)) s) r) a b
+ran_part T r m plan place a b p = prints_as (Part (run_parts m plan place (slice_get plan.quads place)) r) (λ s. Comes (λ o. Displays m plan (Run place) o s) (IsPart (parts_of m plan (Run place)) s) r) a b
+    (λ s h. comes_map T r (λ _. IsWhole (run_parts m plan place (slice_get plan.quads place)) s) (λ o. Displays m plan (Run place) o s) (IsPart (run_parts m plan place (slice_get plan.quads place)) s) (IsPart (parts_of m plan (Run place)) s)
+    (λ o w. of_outcome o s w) (λ w. w) h) p
+  where
+    of_outcome : (o : Outcome) (s : Shown) → IsWhole (run_parts m plan place (slice_get plan.quads place)) s → Displays m plan (Run place) o s
+    of_outcome Passed s w = w
+    of_outcome Failed s w = inl w
+
+-- without a cleaning
+pub ran_plain : (T : Type 0) (r : Result T ProcessFault) (m : Manner) (plan : PlanView) (place : ℕ) (q : Quad) (a b c : Streams)
+    → slice_get plan.quads place ≡ Some q → plan.call.clean_per_run ≡ false
+    → Prints (λ s. s ≡ on_err (space_before m.group place)) a b
+    → Prints (Part (status_shown m (codes "running") plan place q ∷ []) r) b c
+    → Prints (λ s. Comes (λ o. Displays m plan (Run place) o s) (IsPart (parts_of m plan (Run place)) s) r) a c
+ran_plain T r m plan place q a b c e f p t =
+    let status = status_shown m (codes "running") plan place q in
+    let mid : Prints (Part (run_cleaning_shown m plan q ∷ status ∷ []) r) b c = part_then T r (run_cleaning_shown m plan q) (status ∷ []) b b c (prints_none (λ s. s ≡ run_cleaning_shown m plan q) b (sym (no_cleaning m plan q f))) t in
+    ran_part T r m plan place a c
+    (subst (λ (o : Option Quad). Prints (Part (run_parts m plan place o) r) a c) (sym e)
+    (part_then T r (on_err (space_before m.group place)) (run_cleaning_shown m plan q ∷ status ∷ []) a b c p mid))
+
+-- with a cleaning that passed
+pub ran_cleaned : (S T : Type 0) (done : S) (r : Result T ProcessFault) (m : Manner) (plan : PlanView) (place : ℕ) (q : Quad) (x : Shown) (a b c d : Streams)
+    → slice_get plan.quads place ≡ Some q → x ≡ run_cleaning_shown m plan q
+    → Prints (λ s. s ≡ on_err (space_before m.group place)) a b
+    → Prints (Part {T = S} (x ∷ []) (Ok done)) b c
+    → Prints (Part (status_shown m (codes "running") plan place q ∷ []) r) c d
+    → Prints (λ s. Comes (λ o. Displays m plan (Run place) o s) (IsPart (parts_of m plan (Run place)) s) r) a d
+ran_cleaned S T done r m plan place q x a b c d e f p u t =
+    let status = status_shown m (codes "running") plan place q in
+    let clean : Prints (λ s. s ≡ run_cleaning_shown m plan q) b c = prints_as (Part {T = S} (x ∷ []) (Ok done)) (λ s. s ≡ run_cleaning_shown m plan q) b c (λ s h. whole_is x s h ∙ f) u in
+    ran_part T r m plan place a d
+    (subst (λ (o : Option Quad). Prints (Part (run_parts m plan place o) r) a d) (sym e)
+    (part_then T r (on_err (space_before m.group place)) (run_cleaning_shown m plan q ∷ status ∷ []) a b d p
+    (part_then T r (run_cleaning_shown m plan q) (status ∷ []) b c d clean t)))
+
+one_part : (x s : Shown) → IsPart (x ∷ []) s → (s ≡ on_err []) ⊎ (s ≡ x)
+one_part x s (zero, e) = inl e
+one_part x s (suc k, e) = inr (e ∙ ap (both_shown x) (none k) ∙ then-nothing x)
+  where
+    none : (k : ℕ) → all_shown (take k []) ≡ on_err []
+    none zero = refl
+    none (suc k) = refl
+
+-- with a cleaning that failed
+pub ran_not : (S T : Type 0) (fault : ProcessFault) (m : Manner) (plan : PlanView) (place : ℕ) (q : Quad) (x : Shown) (a b c : Streams)
+    → slice_get plan.quads place ≡ Some q → x ≡ run_cleaning_shown m plan q → plan.call.clean_per_run ≡ true
+    → Prints (λ s. s ≡ on_err (space_before m.group place)) a b
+    → Prints (Part {T = S} (x ∷ []) (Err fault)) b c
+    → Prints (λ s. Comes {T = T} (λ o. Displays m plan (Run place) o s) (IsPart (parts_of m plan (Run place)) s) (Err fault)) a c
+ran_not S T fault m plan place q x a b c e f g p u =
+    prints_then (λ s. s ≡ on_err (space_before m.group place)) (Part {T = S} (x ∷ []) (Err fault)) (λ s. Comes {T = T} (λ o. Displays m plan (Run place) o s) (IsPart (parts_of m plan (Run place)) s) (Err fault)) a b c
+    (λ s t is h. fault_as S T fault (λ o. Displays m plan (Run place) o (both_shown s t)) (IsPart (parts_of m plan (Run place)) (both_shown s t)) t
+    (λ w. inr (g, subst (λ (o : Option Quad). IsFront 2 (run_parts m plan place o) (both_shown s t)) (sym e) (two s t is (whole_is x t w ∙ f))))
+    (λ w. subst (λ (o : Option Quad). IsPart (run_parts m plan place o) (both_shown s t)) (sym e) (some s t is (one_part x t w))) h) p u
+  where
+    two : (s t : Shown) → s ≡ on_err (space_before m.group place) → t ≡ run_cleaning_shown m plan q → both_shown s t ≡ all_shown (on_err (space_before m.group place) ∷ run_cleaning_shown m plan q ∷ [])
+    two s t is it = ap (λ (y : Shown). both_shown y t) is ∙ ap (both_shown (on_err (space_before m.group place))) (it ∙ sym (then-nothing (run_cleaning_shown m plan q)))
+    some : (s t : Shown) → s ≡ on_err (space_before m.group place) → (t ≡ on_err []) ⊎ (t ≡ x) → IsPart (run_parts m plan place (Some q)) (both_shown s t)
+    some s t is (inl w) = (1, ap (λ (y : Shown). both_shown y t) is ∙ ap (both_shown (on_err (space_before m.group place))) w)
+    some s t is (inr w) = (2, two s t is (w ∙ f))
+    fault_as : (S T : Type 0) (fault : ProcessFault) (B : Outcome → Type 0) (D : Type 0) (t : Shown) → (IsWhole (x ∷ []) t → B Failed) → (IsPart (x ∷ []) t → D) → Comes {T = S} (λ _. IsWhole (x ∷ []) t) (IsPart (x ∷ []) t) (Err fault) → Comes {T = T} B D (Err fault)
+    fault_as S T fault B D t y z h = retyped S T fault B D (comes_fault S fault (λ _. IsWhole (x ∷ []) t) B (IsPart (x ∷ []) t) D y z h)
+
+-- ---- skipped places
+
+pub skipped : (m : Manner) (plan : PlanView) (place : ℕ) (q : Quad) (a b c : Streams) → slice_get plan.quads place ≡ Some q
+    → Prints (λ s. s ≡ on_err (space_before m.group place)) a b → Prints (λ s. s ≡ status_shown m (codes "skipping") plan place q) b c
+    → Prints (IsWhole (skip_parts m plan place (slice_get plan.quads place))) a c
+skipped m plan place q a b c e p t =
+    let space = on_err (space_before m.group place) in
+    let status = status_shown m (codes "skipping") plan place q in
+    subst (λ (o : Option Quad). Prints (IsWhole (skip_parts m plan place o)) a c) (sym e)
+    (prints_then (λ s. s ≡ space) (λ s. s ≡ status) (IsWhole (skip_parts m plan place (Some q))) a b c
+    (λ u v is it. ap (λ (x : Shown). both_shown x v) is ∙ ap (both_shown space) (it ∙ sym (then-nothing status))) p t)
+
+-- ---- whole steps
+
+-- what a step prints, by what it returned
+abbrev pub Does : {T : Type 0} → Manner → PlanView → Step → Result T ProcessFault → Shown → Type 0
+Does m plan step r s = Comes (λ o. Displays m plan step o s) (IsPart (parts_of m plan step) s) r
+
+one_shows : (keep_going : Bool) (m : Manner) (plan : PlanView) (h : Handed) (s : Shown) (cut : ℕ) → Shows keep_going m plan h s cut → ShowsAll keep_going m plan (h ∷ []) s cut
+one_shows keep_going m plan h s cut p = (s, on_err [], cut, 0, sym (then-nothing s), omega arith, p, (refl, refl))
+
+pub shown_passed : (T : Type 0) (done : T) (keep_going : Bool) (m : Manner) (plan : PlanView) (step : Step) (a b : Streams) (n : ℕ) → Prints (Does {T = T} m plan step (Ok done)) a b → HasShown keep_going m plan (record { step = step; outcome = Passed } ∷ []) a b n n
+shown_passed T done keep_going m plan step a b n p =
+    let h : Handed = record { step = step; outcome = Passed } in
+    record {
+      cut = 0;
+      counted = λ t. omega arith;
+      printed = prints_as (Does {T = T} m plan step (Ok done)) (λ s. ShowsAll keep_going m plan (h ∷ []) s 0) a b
+          (λ s d. one_shows keep_going m plan h s 0 (inl (s, on_err [], sym (then-nothing s), d, refl, refl))) p;
+    }
+
+pub shown_cut : (T : Type 0) (fault : ProcessFault) (keep_going : Bool) (m : Manner) (plan : PlanView) (step : Step) (a b c : Streams) (n k : ℕ) → true ≡ is_memory fault → GrowsBy 1 n k
+    → Prints (Does {T = T} m plan step (Err fault)) a b → Prints (λ s. s ≡ memory_shown m) b c → HasShown keep_going m plan (record { step = step; outcome = Failed } ∷ []) a c n k
+shown_cut T fault keep_going m plan step a b c n k e grows p q =
+    let h : Handed = record { step = step; outcome = Failed } in
+    record {
+      cut = 1;
+      counted = grows;
+      printed = prints_then (Does {T = T} m plan step (Err fault)) (λ s. s ≡ memory_shown m) (λ s. ShowsAll keep_going m plan (h ∷ []) s 1) a b c
+          (λ s t d is. one_shows keep_going m plan h (both_shown s t) 1 (inr (s, ap (both_shown s) is, cut_of T fault (λ o. Displays m plan step o s) (IsPart (parts_of m plan step) s) e d, refl, refl))) p q;
+    }
+
+-- a step failed, and its error was told or not
+shown_error : (T : Type 0) (fault : ProcessFault) (keep_going : Bool) (m : Manner) (plan : PlanView) (step : Step) (a b c : Streams) (n : ℕ) → fault ≢ Memory
+    → Prints (Does {T = T} m plan step (Err fault)) a b → Prints (TellsError keep_going m step Failed) b c → HasShown keep_going m plan (record { step = step; outcome = Failed } ∷ []) a c n n
+shown_error T fault keep_going m plan step a b c n ne p q =
+    let h : Handed = record { step = step; outcome = Failed } in
+    record {
+      cut = 0;
+      counted = λ t. omega arith;
+      printed = prints_then (Does {T = T} m plan step (Err fault)) (TellsError keep_going m step Failed) (λ s. ShowsAll keep_going m plan (h ∷ []) s 0) a b c
+          (λ s t d tells. one_shows keep_going m plan h (both_shown s t) 0 (inl (s, t, refl, not_cut T fault (λ o. Displays m plan step o s) (IsPart (parts_of m plan step) s) ne d, tells, refl))) p q;
+    }
+
+pub shown_told : (T : Type 0) (fault : ProcessFault) (keep_going : Bool) (m : Manner) (plan : PlanView) (step : Step) (a b c : Streams) (n : ℕ) → fault ≢ Memory → keep_going ≡ true → is_run step ≡ true
+    → Prints (Does {T = T} m plan step (Err fault)) a b → Prints (IsErrorLine m) b c → HasShown keep_going m plan (record { step = step; outcome = Failed } ∷ []) a c n n
+shown_told T fault keep_going m plan step a b c n ne e f p q =
+    shown_error T fault keep_going m plan step a b c n ne p
+    (prints_as (IsErrorLine m) (TellsError keep_going m step Failed) b c (λ s l. subst (λ (x : Bool). MatchBool (x && is_run step) (IsErrorLine m s) (s ≡ on_err [])) (sym e) (subst (λ (x : Bool). MatchBool x (IsErrorLine m s) (s ≡ on_err [])) (sym f) l)) q)
+
+pub shown_untold : (T : Type 0) (fault : ProcessFault) (keep_going : Bool) (m : Manner) (plan : PlanView) (step : Step) (a b : Streams) (n : ℕ) → fault ≢ Memory → (keep_going && is_run step) ≡ false
+    → Prints (Does {T = T} m plan step (Err fault)) a b → HasShown keep_going m plan (record { step = step; outcome = Failed } ∷ []) a b n n
+shown_untold T fault keep_going m plan step a b n ne e p =
+    shown_error T fault keep_going m plan step a b b n ne p
+    (prints_none (TellsError keep_going m step Failed) b (subst (λ (x : Bool). MatchBool x (IsErrorLine m (on_err [])) (on_err [] ≡ on_err [])) (sym e) refl))
