@@ -1,27 +1,33 @@
 -- What the parts of steps print.
 use Rattle.std.proofs.Common.{◌≡◌, ◌≢◌, ◌⊎◌, inl, inr, ◌+◌, ◌<◌, ℕ, zero, suc, Bool, true, false, List, [], ◌∷◌, ◌++◌, length, take, Option, Some, None, Result, Ok, Err, OnOk, refl, sym, ◌∙◌, ap, subst, append-nil, arith, rules, ◌&&◌}
-use Rattle.std.specs.Prelude.{codes, slice_get, IfSome, MatchResult, MatchBool, if◌then◌else◌}
+use Rattle.std.proofs.Common.{String, Global, map}
+use Rattle.std.specs.Prelude.{codes, slice_get, string_bytes, ◌==◌, IfSome, MatchResult, MatchBool, if◌then◌else◌}
 use Rattle.std.specs.Io.KnownBytes.{Appends}
 use Rattle.std.proofs.lemmas.Option.{slice_get_cases}
 use Rattle.hack_base.specs.Writes.{CountsErrors, Writes}
 use Rattle.hack_base.proofs.WriteLemmas.{writes-by, writes-none}
 use Rattle.hack_term.specs.declared.log_group.LogGroup.{LogGroup}
 use Rattle.hack_term.specs.declared.log_group.LogGroup.TheVariants.{None as Ungrouped, GithubActions}
+use Rattle.hack_term.specs.declared.term.Term.{Term}
 use Rattle.hack_term.specs.Groups.{closing_line, opening_line, message_line}
 use Rattle.hack_term.specs.Lines.{info_line, error_line}
 use Rattle.hack_plan.specs.declared.places.Quad.{Quad}
 use Rattle.hack_process.specs.declared.fault.ProcessFault.{ProcessFault}
 use Rattle.hack_process.specs.declared.fault.ProcessFault.TheVariants.{Memory, EmptyProgram, NeverExecuted, NotText, Failed as ByFailure}
 use Rattle.hack_process.specs.CommandTexts.{Command}
-use Rattle.hack_runs.specs.Commands.{clean_command, package_at}
+use Rattle.hack_runs.specs.declared.parts.Preparation.TheVariants.{Toolchain}
+use Rattle.hack_runs.specs.Commands.{clean_command, package_at, toolchain_of}
+use Rattle.hack_versions.specs.declared.version.Version.{Version}
 use Rattle.hack_runs.specs.View.{PlanView}
 use Rattle.hack_session.specs.declared.step.Step.{Step}
-use Rattle.hack_session.specs.declared.step.Step.TheVariants.{Run}
+use Rattle.hack_session.specs.declared.step.Step.TheVariants.{Run, Prepare}
+use Rattle.hack_session.specs.Statuses.{place_status}
+use Rattle.hack_session.specs.Toolchains.{addition_of, toolchain_name}
 use Rattle.hack_session.specs.declared.step.Outcome.{Outcome}
 use Rattle.hack_session.specs.declared.step.Outcome.TheVariants.{Passed, Failed}
 use Rattle.hack_session.specs.declared.step.Handed.{Handed}
-use Rattle.hack_session.specs.Performs.{Comes, GrowsBy, is_memory}
-use Rattle.hack_session.specs.Shown.{Shown, on_err, both_shown, all_shown, Manner, space_before, end_line, group_shown, cleaning_shown, run_cleaning_shown, status_shown, run_parts, skip_parts, parts_of, IsWhole, IsPart, IsFront, Displays, is_run, IsErrorLine, TellsError, memory_shown, Shows, ShowsAll, Streams, Prints, HasShown}
+use Rattle.hack_session.specs.Performs.{Comes, GrowsBy, is_memory, number_at}
+use Rattle.hack_session.specs.Shown.{Shown, on_err, both_shown, all_shown, Manner, space_before, end_line, group_shown, cleaning_shown, run_cleaning_shown, status_shown, addition_shown, addition_parts, run_parts, skip_parts, parts_of, IsWhole, IsPart, IsFront, Displays, is_run, IsErrorLine, TellsError, memory_shown, Shows, ShowsAll, Streams, Prints, HasShown}
 use Rattle.hack_session.specs.JoinedShown.{then-nothing, both-assoc, prints_as, prints_then, prints_none}
 use Rattle.hack_session.proofs.RunLemmas.{comes_fault, comes_map, not_cut, cut_of}
 
@@ -88,12 +94,31 @@ cut_part T fault A parts a e = prints_none (λ s. Comes {T = T} (λ o. A o s) (I
     only (NotText text) e = absurd (cc)
     only (ByFailure failure) e = absurd (cc)
 
+-- memory was refused, and nothing was printed
+pub nothing_part : (T : Type 0) (r : Result T ProcessFault) (parts : List Shown) (a b : Streams) → r ≡ Err Memory → Prints (λ s. s ≡ on_err []) a b → Prints (Part parts r) a b
+nothing_part T r parts a b e p = subst (λ (x : Result T ProcessFault). Prints (Part parts x) a b) (sym e) (prints_as (λ s. s ≡ on_err []) (Part {T = T} parts (Err Memory)) a b (λ s is. (0, is)) p)
+
+pub err_nothing : (T E : Type 0) (r : Result T E) (fault : E) (P : Shown → Type 0) (a : Streams) → r ≡ Err fault → Prints (λ s. MatchResult r (λ _. P s) (λ _. s ≡ on_err [])) a a
+err_nothing T E r fault P a e = subst (λ (x : Result T E). Prints (λ s. MatchResult x (λ _. P s) (λ _. s ≡ on_err [])) a a) (sym e) (prints_none (λ s. MatchResult {T = T} (Err fault) (λ _. P s) (λ _. s ≡ on_err [])) a refl)
+
+-- a group with a text
+pub group_part : (T : Type 0) (r : Result T ProcessFault) (m : Manner) (text other : List ℕ) (a b : Streams) → text ≡ other → Prints (λ s. s ≡ group_shown m text) a b → Prints (Part (group_shown m other ∷ []) r) a b
+group_part T r m text other a b e p = printed_part T r (group_shown m other) a b (subst (λ (x : List ℕ). Prints (λ s. s ≡ group_shown m x) a b) e p)
+
+-- all of it, or what ends early
+pub or_early : (T : Type 0) (r : Result T ProcessFault) (parts : List Shown) (A : Outcome → Shown → Type 0) (a b : Streams) → Prints (Part parts r) a b → Prints (λ s. Comes (λ o. IsWhole parts s ⊎ A o s) (IsPart parts s) r) a b
+or_early T r parts A a b p = prints_as (Part parts r) (λ s. Comes (λ o. IsWhole parts s ⊎ A o s) (IsPart parts s) r) a b (λ s h. comes_map T r (λ _. IsWhole parts s) (λ o. IsWhole parts s ⊎ A o s) (IsPart parts s) (IsPart parts s) (λ o w. inl w) (λ w. w) h) p
+
 pub in_manner : (P : Manner → Shown → Type 0) (m n : Manner) (a b : Streams) → m ≡ n → Prints (P m) a b → Prints (P n) a b
 in_manner P m n a b e p = subst (λ (x : Manner). Prints (P x) a b) e p
 
 pub prints_err : (text : List ℕ) (out old new : Option (List ℕ)) (out_failed before now : Option ℕ) → Writes old new before now text
     → Prints (λ s. s ≡ on_err text) (record { out = out; out_failed = out_failed; err = old; err_failed = before }) (record { out = out; out_failed = out_failed; err = new; err_failed = now })
 prints_err text out old new out_failed before now w = record { shown = on_err text; such = refl; out_written = writes-none out out_failed; err_written = w }
+
+pub prints_line : (m : Manner) (text : List ℕ) (out old new : Option (List ℕ)) (out_failed before now : Option ℕ) → Writes old new before now (error_line m.coloring text)
+    → Prints (IsErrorLine m) (record { out = out; out_failed = out_failed; err = old; err_failed = before }) (record { out = out; out_failed = out_failed; err = new; err_failed = now })
+prints_line m text out old new out_failed before now w = record { shown = on_err (error_line m.coloring text); such = (text, refl); out_written = writes-none out out_failed; err_written = w }
 
 pub prints_out : (text : List ℕ) (err old new : Option (List ℕ)) (err_failed before now : Option ℕ) → Writes old new before now text
     → Prints (λ s. s ≡ record { out = text; err = [] }) (record { out = old; out_failed = before; err = err; err_failed = err_failed }) (record { out = new; out_failed = now; err = err; err_failed = err_failed })
@@ -131,6 +156,20 @@ pub space_skip : (m : Manner) (plan : PlanView) (place : ℕ) (s : Shown) → pl
 space_skip m plan place s lt e =
     let q = quad_at plan.quads place lt in
     subst (λ (o : Option Quad). IsPart (skip_parts m plan place o) s) (sym q.1) (1, e ∙ sym (then-nothing (on_err (space_before m.group place))))
+
+pub run_refused : (T : Type 0) (r : Result T ProcessFault) (m : Manner) (plan : PlanView) (place : ℕ) (a b : Streams) → place < length plan.quads → r ≡ Err Memory
+    → Prints (λ s. s ≡ on_err (space_before m.group place)) a b → Prints (λ s. Comes (λ o. Displays m plan (Run place) o s) (IsPart (parts_of m plan (Run place)) s) r) a b
+run_refused T r m plan place a b lt e p = prints_as (λ s. s ≡ on_err (space_before m.group place)) (λ s. Comes (λ o. Displays m plan (Run place) o s) (IsPart (parts_of m plan (Run place)) s) r) a b
+    (λ s is. subst (λ (x : Result T ProcessFault). Comes (λ o. Displays m plan (Run place) o s) (IsPart (parts_of m plan (Run place)) s) x) (sym e) (space_run m plan place s lt is)) p
+
+pub skip_refused : (T E : Type 0) (r : Result T E) (fault : E) (m : Manner) (plan : PlanView) (place : ℕ) (a b : Streams) → place < length plan.quads → r ≡ Err fault
+    → Prints (λ s. s ≡ on_err (space_before m.group place)) a b → Prints (λ s. MatchResult r (λ _. IsWhole (skip_parts m plan place (slice_get plan.quads place)) s) (λ _. IsPart (skip_parts m plan place (slice_get plan.quads place)) s)) a b
+skip_refused T E r fault m plan place a b lt e p = prints_as (λ s. s ≡ on_err (space_before m.group place)) (λ s. MatchResult r (λ _. IsWhole (skip_parts m plan place (slice_get plan.quads place)) s) (λ _. IsPart (skip_parts m plan place (slice_get plan.quads place)) s)) a b
+    (λ s is. subst (λ (x : Result T E). MatchResult x (λ _. IsWhole (skip_parts m plan place (slice_get plan.quads place)) s) (λ _. IsPart (skip_parts m plan place (slice_get plan.quads place)) s)) (sym e) (space_skip m plan place s lt is)) p
+
+-- a cleaning by other names of its folder and its command
+pub cleaned_as : (T : Type 0) (r : Result T ProcessFault) (m : Manner) (dir other : List ℕ) (k l : Command) (a b : Streams) → dir ≡ other → k ≡ l → Prints (Part (cleaning_shown m dir k ∷ []) r) a b → Prints (Part (cleaning_shown m other l ∷ []) r) a b
+cleaned_as T r m dir other k l a b e f p = subst (λ (x : List ℕ). Prints (Part (cleaning_shown m x l ∷ []) r) a b) e (subst (λ (x : Command). Prints (Part (cleaning_shown m dir x ∷ []) r) a b) f p)
 
 -- ---- runs
 
@@ -220,6 +259,14 @@ ran_not S T fault m plan place q x a b c e f g p u =
 
 -- ---- skipped places
 
+-- a group at a place: its text, in the manner that has stayed
+pub placed_group : (verb : List ℕ) (plan : PlanView) (place : ℕ) (q : Quad) (m n k : Manner) (text : List ℕ) (a b c : Streams) → n ≡ m → k ≡ n → text ≡ place_status verb n.verbose plan place q
+    → Prints (λ s. s ≡ record { out = opening_line n.group text; err = message_line n.group n.coloring text }) a b → Prints (λ s. s ≡ record { out = end_line k.group; err = [] }) b c → Prints (λ s. s ≡ status_shown m verb plan place q) a c
+placed_group verb plan place q m n k text a b c e f g p t =
+    in_manner (λ x s. s ≡ status_shown x verb plan place q) n m a c e
+    (subst (λ (x : List ℕ). Prints (λ s. s ≡ group_shown n x) a c) g
+    (prints_group n text a b c p (in_manner (λ x s. s ≡ record { out = end_line x.group; err = [] }) k n b c f t)))
+
 pub skipped : (m : Manner) (plan : PlanView) (place : ℕ) (q : Quad) (a b c : Streams) → slice_get plan.quads place ≡ Some q
     → Prints (λ s. s ≡ on_err (space_before m.group place)) a b → Prints (λ s. s ≡ status_shown m (codes "skipping") plan place q) b c
     → Prints (IsWhole (skip_parts m plan place (slice_get plan.quads place))) a c
@@ -229,6 +276,59 @@ skipped m plan place q a b c e p t =
     subst (λ (o : Option Quad). Prints (IsWhole (skip_parts m plan place o)) a c) (sym e)
     (prints_then (λ s. s ≡ space) (λ s. s ≡ status) (IsWhole (skip_parts m plan place (Some q))) a b c
     (λ u v is it. ap (λ (x : Shown). both_shown x v) is ∙ ap (both_shown space) (it ∙ sym (then-nothing status))) p t)
+
+-- ---- toolchains
+
+-- what the addition of a toolchain prints, or nothing where it is found
+abbrev pub Adds : {T : Type 0} → List Shown → Type 0 → Result T ProcessFault → Shown → Type 0
+Adds parts without r s = Comes (λ o. IsWhole parts s ⊎ ((o ≡ Passed) × without × (s ≡ on_err []))) (IsPart parts s) r
+
+-- the addition of a toolchain by another name of its command
+pub added_as : (T : Type 0) (r : Result T ProcessFault) (m : Manner) (dir : List ℕ) (k l : Command) (A : Outcome → Shown → Type 0) (a b : Streams) → k ≡ l
+    → Prints (Part (addition_shown m dir k ∷ []) r) a b → Prints (λ s. Comes (λ o. IsWhole (addition_shown m dir l ∷ []) s ⊎ A o s) (IsPart (addition_shown m dir l ∷ []) s) r) a b
+added_as T r m dir k l A a b e p = or_early T r (addition_shown m dir l ∷ []) A a b (subst (λ (x : Command). Prints (Part (addition_shown m dir x ∷ []) r) a b) e p)
+
+pub no_targets : (xs : List (String Global)) → true ≡ (length xs == 0) → map string_bytes xs ≡ []
+no_targets [] e = refl
+no_targets (x ∷ xs) e = absurd (search rules)
+
+pub tried_shown : (T : Type 0) (r : Result T ProcessFault) (parts more : List Shown) (without : Type 0) (a b : Streams) → parts ≡ more → without
+    → Prints (λ s. Comes (λ o. IsWhole parts s ⊎ ((o ≡ Passed) × (s ≡ on_err []))) (IsPart parts s) r) a b → Prints (Adds more without r) a b
+tried_shown T r parts more without a b e w p = subst (λ (l : List Shown). Prints (Adds l without r) a b) e
+    (prints_as (λ s. Comes (λ o. IsWhole parts s ⊎ ((o ≡ Passed) × (s ≡ on_err []))) (IsPart parts s) r) (Adds parts without r) a b
+    (λ s h. comes_map T r (λ o. IsWhole parts s ⊎ ((o ≡ Passed) × (s ≡ on_err []))) (λ o. IsWhole parts s ⊎ ((o ≡ Passed) × without × (s ≡ on_err []))) (IsPart parts s) (IsPart parts s)
+    (λ o q. either o s q) (λ q. q) h) p)
+  where
+    either : (o : Outcome) (s : Shown) → IsWhole parts s ⊎ ((o ≡ Passed) × (s ≡ on_err [])) → IsWhole parts s ⊎ ((o ≡ Passed) × without × (s ≡ on_err []))
+    either o s (inl q) = inl q
+    either o s (inr q) = inr (q.0, w, q.1)
+
+-- the toolchain of a version that has a number
+pub install_shown : (T : Type 0) (r : Result T ProcessFault) (m : Manner) (plan : PlanView) (o : Option Version) (v : Version) (dir rustup name : List ℕ) (targets : List (List ℕ)) (a b : Streams)
+    → Some v ≡ o → dir ≡ plan.call.dir → rustup ≡ plan.call.rustup → name ≡ toolchain_of v → targets ≡ plan.call.targets
+    → Prints (Adds (addition_shown m dir (addition_of rustup (toolchain_name name) targets) ∷ []) (targets ≡ []) r) a b
+    → Prints (Adds (addition_parts m plan o) (plan.call.targets ≡ []) r) a b
+install_shown T r m plan o v dir rustup name targets a b e d f g h p =
+    subst (λ (x : Option Version). Prints (Adds (addition_parts m plan x) (plan.call.targets ≡ []) r) a b) e
+    (subst (λ (x : List ℕ). Prints (Adds (addition_shown m x (addition_of plan.call.rustup (toolchain_of v) plan.call.targets) ∷ []) (plan.call.targets ≡ []) r) a b) d
+    (subst (λ (x : List ℕ). Prints (Adds (addition_shown m dir (addition_of x (toolchain_of v) plan.call.targets) ∷ []) (plan.call.targets ≡ []) r) a b) f
+    (subst (λ (x : List ℕ). Prints (Adds (addition_shown m dir (addition_of rustup (toolchain_name x) plan.call.targets) ∷ []) (plan.call.targets ≡ []) r) a b) g
+    (subst (λ (x : List (List ℕ)). Prints (Adds (addition_shown m dir (addition_of rustup (toolchain_name name) x) ∷ []) (x ≡ []) r) a b) h p))))
+
+pub none_added : (T : Type 0) (done : T) (m : Manner) (plan : PlanView) (o : Option Version) (a : Streams) → None ≡ o → Prints (Adds {T = T} (addition_parts m plan o) (plan.call.targets ≡ []) (Ok done)) a a
+none_added T done m plan o a e = subst (λ (x : Option Version). Prints (Adds {T = T} (addition_parts m plan x) (plan.call.targets ≡ []) (Ok done)) a a) e (prints_none (Adds {T = T} (addition_parts m plan None) (plan.call.targets ≡ []) (Ok done)) a (inl refl))
+
+pub toolchain_step : (T : Type 0) (r : Result T ProcessFault) (m : Manner) (plan : PlanView) (v : ℕ) (a b : Streams)
+    → Prints (Adds (addition_parts m plan (number_at (slice_get plan.versions v))) (plan.call.targets ≡ []) r) a b → Prints (λ s. Comes (λ o. Displays m plan (Prepare (Toolchain v)) o s) (IsPart (parts_of m plan (Prepare (Toolchain v))) s) r) a b
+toolchain_step T r m plan v a b p = prints_as (Adds (addition_parts m plan (number_at (slice_get plan.versions v))) (plan.call.targets ≡ []) r) (λ s. Comes (λ o. Displays m plan (Prepare (Toolchain v)) o s) (IsPart (parts_of m plan (Prepare (Toolchain v))) s) r) a b
+    (λ s h. comes_map T r (λ o. IsWhole (addition_parts m plan (number_at (slice_get plan.versions v))) s ⊎ ((o ≡ Passed) × (plan.call.targets ≡ []) × (s ≡ on_err []))) (λ o. Displays m plan (Prepare (Toolchain v)) o s) (IsPart (addition_parts m plan (number_at (slice_get plan.versions v))) s) (IsPart (parts_of m plan (Prepare (Toolchain v))) s)
+    (λ o q. either o s q) (λ q. q) h) p
+  where
+    either : (o : Outcome) (s : Shown) → IsWhole (addition_parts m plan (number_at (slice_get plan.versions v))) s ⊎ ((o ≡ Passed) × (plan.call.targets ≡ []) × (s ≡ on_err [])) → Displays m plan (Prepare (Toolchain v)) o s
+    either Passed s (inl q) = inl q
+    either Passed s (inr q) = inr (q.1, q.2)
+    either Failed s (inl q) = q
+    either Failed s (inr q) = absurd (cc (q.0))
 
 -- ---- whole steps
 
@@ -283,3 +383,15 @@ pub shown_untold : (T : Type 0) (fault : ProcessFault) (keep_going : Bool) (m : 
 shown_untold T fault keep_going m plan step a b n ne e p =
     shown_error T fault keep_going m plan step a b b n ne p
     (prints_none (TellsError keep_going m step Failed) b (subst (λ (x : Bool). MatchBool x (IsErrorLine m (on_err [])) (on_err [] ≡ on_err [])) (sym e) refl))
+
+-- an error was noted, and nothing else
+pub error_noted : (a b : Term) → b ≡ record a { error = true } → b ≡ record a { error = b.error }
+error_noted a b e = e ∙ ap (λ (x : Bool). record a { error = x }) (sym (ap (λ (t : Term). t.error) e))
+
+pub and_not : (a b : Bool) → b ≡ false → (a && b) ≡ false
+and_not true b e = e
+and_not false b e = refl
+
+pub not_and : (a b : Bool) → a ≡ false → (a && b) ≡ false
+not_and true b e = absurd (cc)
+not_and false b e = refl
