@@ -73,17 +73,16 @@ pub(crate) fn starter<'a, C: Caller, O: Write, E: Write>(
     ensures args { (result.keep_going ≡ args.now.keep_going)
         × (result.log_group ≡ args.now.log_group) }
 {
-    Starter {
+    Starter::new(
         alloc,
         caller,
         term,
         out,
         err,
-        log_group: args.log_group,
-        keep_going: args.keep_going,
+        args.log_group,
+        args.keep_going,
         fault,
-        refused: 0,
-    }
+    )
 }
 
 /// Hands the plan to a starter. The error that stopped it goes to `fault`, unless it was reported.

@@ -27,7 +27,7 @@ use Rattle.hack_session.specs.declared.step.Outcome.{Outcome}
 use Rattle.hack_session.specs.declared.step.Outcome.TheVariants.{Passed, Failed}
 use Rattle.hack_session.specs.declared.step.Handed.{Handed}
 use Rattle.hack_session.specs.Performs.{Comes, GrowsBy, is_memory, number_at}
-use Rattle.hack_session.specs.Shown.{Shown, on_err, both_shown, all_shown, Manner, space_before, end_line, group_shown, cleaning_shown, run_cleaning_shown, status_shown, addition_shown, addition_parts, run_parts, skip_parts, parts_of, IsWhole, IsPart, IsFront, Displays, is_run, IsErrorLine, TellsError, memory_shown, Shows, ShowsAll, Streams, Prints, HasShown}
+use Rattle.hack_session.specs.Shown.{Shown, on_err, both_shown, all_shown, Manner, space_before, end_line, end_shown, opening_shown, group_shown, cleaning_shown, run_cleaning_shown, status_shown, addition_shown, addition_parts, run_parts, skip_parts, parts_of, IsWhole, IsPart, IsFront, Displays, is_run, IsErrorLine, TellsError, memory_shown, Shows, ShowsAll, Streams, Prints, HasShown}
 use Rattle.hack_session.specs.JoinedShown.{then-nothing, both-assoc, prints_as, prints_then, prints_none}
 use Rattle.hack_session.proofs.RunLemmas.{comes_fault, comes_map, not_cut, cut_of}
 
@@ -120,18 +120,12 @@ pub prints_line : (m : Manner) (text : List ℕ) (out old new : Option (List ℕ
     → Prints (IsErrorLine m) (record { out = out; out_failed = out_failed; err = old; err_failed = before }) (record { out = out; out_failed = out_failed; err = new; err_failed = now })
 prints_line m text out old new out_failed before now w = record { shown = on_err (error_line m.coloring text); such = (text, refl); out_written = writes-none out out_failed; err_written = w }
 
-pub prints_out : (text : List ℕ) (err old new : Option (List ℕ)) (err_failed before now : Option ℕ) → Writes old new before now text
-    → Prints (λ s. s ≡ record { out = text; err = [] }) (record { out = old; out_failed = before; err = err; err_failed = err_failed }) (record { out = new; out_failed = now; err = err; err_failed = err_failed })
-prints_out text err old new err_failed before now w = record { shown = record { out = text; err = [] }; such = refl; out_written = w; err_written = writes-none err err_failed }
-
 -- a group's opening and its end
 pub prints_group : (m : Manner) (text : List ℕ) (a b c : Streams)
-    → Prints (λ s. s ≡ record { out = opening_line m.group text; err = message_line m.group m.coloring text }) a b → Prints (λ s. s ≡ record { out = end_line m.group; err = [] }) b c → Prints (λ s. s ≡ group_shown m text) a c
+    → Prints (λ s. s ≡ opening_shown m text) a b → Prints (λ s. s ≡ end_shown m) b c → Prints (λ s. s ≡ group_shown m text) a c
 prints_group m text a b c p q =
-    let opened : Shown = record { out = opening_line m.group text; err = message_line m.group m.coloring text } in
-    let ended : Shown = record { out = end_line m.group; err = [] } in
-    prints_then (λ s. s ≡ opened) (λ s. s ≡ ended) (λ s. s ≡ group_shown m text) a b c
-    (λ s t e f. ap (λ (x : Shown). both_shown x t) e ∙ ap (both_shown opened) f ∙ ap (λ (l : List ℕ). record { out = opening_line m.group text ++ end_line m.group; err = l }) (append-nil (message_line m.group m.coloring text))) p q
+    prints_then (λ s. s ≡ opening_shown m text) (λ s. s ≡ end_shown m) (λ s. s ≡ group_shown m text) a b c
+    (λ s t e f. ap (λ (x : Shown). both_shown x t) e ∙ ap (both_shown (opening_shown m text)) f ∙ ap (λ (l : List ℕ). record { out = opening_line m.group text ++ end_line m.group; err = l }) (append-nil (message_line m.group m.coloring text))) p q
 
 -- one part and others after it
 pub part_then : (T : Type 0) (r : Result T ProcessFault) (x : Shown) (parts : List Shown) (a b c : Streams) → Prints (λ s. s ≡ x) a b → Prints (Part parts r) b c → Prints (Part (x ∷ parts) r) a c
@@ -251,9 +245,11 @@ ran_not S T fault m plan place q x a b c e f g p u =
   where
     two : (s t : Shown) → s ≡ on_err (space_before m.group place) → t ≡ run_cleaning_shown m plan q → both_shown s t ≡ all_shown (on_err (space_before m.group place) ∷ run_cleaning_shown m plan q ∷ [])
     two s t is it = ap (λ (y : Shown). both_shown y t) is ∙ ap (both_shown (on_err (space_before m.group place))) (it ∙ sym (then-nothing (run_cleaning_shown m plan q)))
+
     some : (s t : Shown) → s ≡ on_err (space_before m.group place) → (t ≡ on_err []) ⊎ (t ≡ x) → IsPart (run_parts m plan place (Some q)) (both_shown s t)
     some s t is (inl w) = (1, ap (λ (y : Shown). both_shown y t) is ∙ ap (both_shown (on_err (space_before m.group place))) w)
     some s t is (inr w) = (2, two s t is (w ∙ f))
+
     fault_as : (S T : Type 0) (fault : ProcessFault) (B : Outcome → Type 0) (D : Type 0) (t : Shown) → (IsWhole (x ∷ []) t → B Failed) → (IsPart (x ∷ []) t → D) → Comes {T = S} (λ _. IsWhole (x ∷ []) t) (IsPart (x ∷ []) t) (Err fault) → Comes {T = T} B D (Err fault)
     fault_as S T fault B D t y z h = retyped S T fault B D (comes_fault S fault (λ _. IsWhole (x ∷ []) t) B (IsPart (x ∷ []) t) D y z h)
 
@@ -261,11 +257,11 @@ ran_not S T fault m plan place q x a b c e f g p u =
 
 -- a group at a place: its text, in the manner that has stayed
 pub placed_group : (verb : List ℕ) (plan : PlanView) (place : ℕ) (q : Quad) (m n k : Manner) (text : List ℕ) (a b c : Streams) → n ≡ m → k ≡ n → text ≡ place_status verb n.verbose plan place q
-    → Prints (λ s. s ≡ record { out = opening_line n.group text; err = message_line n.group n.coloring text }) a b → Prints (λ s. s ≡ record { out = end_line k.group; err = [] }) b c → Prints (λ s. s ≡ status_shown m verb plan place q) a c
+    → Prints (λ s. s ≡ opening_shown n text) a b → Prints (λ s. s ≡ end_shown k) b c → Prints (λ s. s ≡ status_shown m verb plan place q) a c
 placed_group verb plan place q m n k text a b c e f g p t =
     in_manner (λ x s. s ≡ status_shown x verb plan place q) n m a c e
     (subst (λ (x : List ℕ). Prints (λ s. s ≡ group_shown n x) a c) g
-    (prints_group n text a b c p (in_manner (λ x s. s ≡ record { out = end_line x.group; err = [] }) k n b c f t)))
+    (prints_group n text a b c p (in_manner (λ x s. s ≡ end_shown x) k n b c f t)))
 
 pub skipped : (m : Manner) (plan : PlanView) (place : ℕ) (q : Quad) (a b c : Streams) → slice_get plan.quads place ≡ Some q
     → Prints (λ s. s ≡ on_err (space_before m.group place)) a b → Prints (λ s. s ≡ status_shown m (codes "skipping") plan place q) b c
@@ -395,3 +391,7 @@ and_not false b e = refl
 pub not_and : (a b : Bool) → a ≡ false → (a && b) ≡ false
 not_and true b e = absurd (cc)
 not_and false b e = refl
+
+-- what a step does, by the step's name
+pub does_as : (T : Type 0) (r : Result T ProcessFault) (m : Manner) (plan : PlanView) (step other : Step) (a b : Streams) → step ≡ other → Prints (Does m plan other r) a b → Prints (Does m plan step r) a b
+does_as T r m plan step other a b e p = subst (λ (x : Step). Prints (Does m plan x r) a b) (sym e) p

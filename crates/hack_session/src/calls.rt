@@ -56,7 +56,8 @@ pub(crate) fn call_in_group<C: Caller, O: Sink, E: Sink>(
         Comes (Follows (asked_of false (command_of command.now) ∷ []) calls)
         (Breaks (asked_of false (command_of command.now) ∷ []) calls) result)
         (C.calls caller.old) (C.calls caller.new) }
-    ensures shown { Prints (λ shown. shown ≡ group_shown (manner_of screen.old.log_group screen.old.term.now) text.now)
+    ensures shown { Prints (λ shown. shown
+        ≡ group_shown (manner_of screen.old.log_group screen.old.term.now) text.now)
         (streams O.contents O.failed E.contents E.failed screen.old.out.now screen.old.err.now)
         (streams O.contents O.failed E.contents E.failed screen.new.out.now screen.new.err.now) }
     ensures lent { (screen.new.out.ghost_name ≡ screen.old.out.ghost_name)

@@ -240,8 +240,8 @@ fn run<C: Caller, O: Sink, E: Sink>(
     ensures shown { Prints (λ shown. Comes
         (λ outcome. Displays (manner_of screen.old.log_group screen.old.term.now)
         plan.now (Step.Run place) outcome shown)
-        (IsPart (parts_of (manner_of screen.old.log_group screen.old.term.now) plan.now (Step.Run place))
-        shown) result)
+        (IsPart (parts_of (manner_of screen.old.log_group screen.old.term.now)
+        plan.now (Step.Run place)) shown) result)
         (streams O.contents O.failed E.contents E.failed screen.old.out.now screen.old.err.now)
         (streams O.contents O.failed E.contents E.failed screen.new.out.now screen.new.err.now) }
     ensures lent { (screen.new.out.ghost_name ≡ screen.old.out.ghost_name)
@@ -279,10 +279,10 @@ fn run_own<C: Caller, O: Sink, E: Sink>(
         (Breaks (asked_of false (command_of run.now.command) ∷ []) calls) result)
         (C.calls caller.old) (C.calls caller.new) }
     ensures shown { Prints (λ shown. Comes
-        (λ _. IsWhole (status_shown (manner_of screen.old.log_group screen.old.term.now) (codes "running")
-        plan.now place run.now.quad ∷ []) shown)
-        (IsPart (status_shown (manner_of screen.old.log_group screen.old.term.now) (codes "running")
-        plan.now place run.now.quad ∷ []) shown) result)
+        (λ _. IsWhole (status_shown (manner_of screen.old.log_group screen.old.term.now)
+        (codes "running") plan.now place run.now.quad ∷ []) shown)
+        (IsPart (status_shown (manner_of screen.old.log_group screen.old.term.now)
+        (codes "running") plan.now place run.now.quad ∷ []) shown) result)
         (streams O.contents O.failed E.contents E.failed screen.old.out.now screen.old.err.now)
         (streams O.contents O.failed E.contents E.failed screen.new.out.now screen.new.err.now) }
     ensures lent { (screen.new.out.ghost_name ≡ screen.old.out.ghost_name)

@@ -4,10 +4,9 @@ ghost use Rattle.std.specs.Prelude.{◌≡◌, ◌↔◌, [], IfOk, IsSome, Matc
 ghost use Rattle.std.specs.Prelude.{string_bytes};
 ghost use Rattle.hack_process.specs.CommandTexts.{text_of};
 ghost use Rattle.hack_process.specs.Commands.{command_of};
-ghost use Rattle.hack_session.specs.Shown.{Prints, cleaning_shown, end_line, manner_of, on_err};
-ghost use Rattle.hack_session.specs.Shown.{space_before, streams};
+ghost use Rattle.hack_session.specs.Shown.{Prints, cleaning_shown, end_shown, manner_of, on_err};
+ghost use Rattle.hack_session.specs.Shown.{opening_shown, space_before, streams};
 ghost use Rattle.hack_session.specs.Statuses.{on_text, running_text, status_text};
-ghost use Rattle.hack_term.specs.Groups.{message_line, opening_line};
 
 use hack_base::writes::{Sink, write_front};
 use hack_process::process::ProcessBuilder;
@@ -45,8 +44,8 @@ impl<O: Sink, E: Sink> Screen<'_, O, E> {
     /// Opens a group with a text, or writes the text on a line of its own.
     pub(crate) fn open(&mut self, text: &str) -> Option<LogGroupGuard>
         ensures guard { IsSome result ↔ (self.old.log_group ≡ LogGroup.GithubActions) }
-        ensures shown { Prints (λ shown. shown ≡ record { out = opening_line self.old.log_group text.now;
-            err = message_line self.old.log_group self.old.term.now.coloring text.now })
+        ensures shown { Prints (λ shown. shown
+            ≡ opening_shown (manner_of self.old.log_group self.old.term.now) text.now)
             (streams O.contents O.failed E.contents E.failed self.old.out.now self.old.err.now)
             (streams O.contents O.failed E.contents E.failed self.new.out.now self.new.err.now) }
         ensures lent { (self.new.out.ghost_name ≡ self.old.out.ghost_name)
@@ -61,7 +60,8 @@ impl<O: Sink, E: Sink> Screen<'_, O, E> {
     /// Ends a group.
     pub(crate) fn close(&mut self, guard: Option<LogGroupGuard>)
         requires { IsSome guard ↔ (self.now.log_group ≡ LogGroup.GithubActions) }
-        ensures shown { Prints (λ shown. shown ≡ record { out = end_line self.old.log_group; err = [] })
+        ensures shown { Prints (λ shown. shown
+            ≡ end_shown (manner_of self.old.log_group self.old.term.now))
             (streams O.contents O.failed E.contents E.failed self.old.out.now self.old.err.now)
             (streams O.contents O.failed E.contents E.failed self.new.out.now self.new.err.now) }
         ensures lent { (self.new.out.ghost_name ≡ self.old.out.ghost_name)

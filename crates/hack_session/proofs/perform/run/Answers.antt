@@ -1,7 +1,7 @@
 use Rattle.std.proofs.Common.{ap, ◌∙◌, sym, slice_get, Err, ◌∷◌, [], false, codes, refl, Ok}
 use Rattle.std.proofs.lemmas.Result.{err_from_is_err_and}
 use Rattle.hack_process.specs.Commands.{asked_of, command_of}
-use Rattle.hack_session.proofs.RunLemmas.{cut_run, ran_as, run_cleaned, run_then, run_stops}
+use Rattle.hack_session.proofs.RunLemmas.{cut_run, ran_as, run_plain, run_cleaned, run_then, run_stops}
 use Rattle.hack_session.specs.Shown.{manner_of, status_shown, cleaning_shown}
 use Rattle.hack_session.proofs.ShownLemmas.{Part, cleaned_as, in_manner, own_cleaning, ran_plain, ran_cleaned, ran_not, run_refused}
 use Rattle.hack_session.proofs.perform.run.Goals as goal
@@ -54,3 +54,9 @@ returns-clause-shown g c =
     (own_cleaning (manner_of c.args.screen.now.log_group c.args.screen.now.term.now) c.args.plan.now (slice_get c.args.plan.now.quads c.args.place) c.in_ok-run.run'.quad (command_of c.in_ok-cleaning.cleaning) c.in_ok-run.ensures.quad c.in_ok-cleaning.ensures (sym c.if-not-cleans_per_run.ensures))
     (sym c.if-not-cleans_per_run.ensures) c.space.ensures.shown
     (in_manner (λ m s. Part {T = Unit {0}} (cleaning_shown m c.args.plan.now.call.dir (command_of c.in_ok-cleaning.cleaning) ∷ []) (Err c.in-Err.fault) s) _ _ _ _ c.space.ensures.manner (cleaned_as (Unit {0}) (Err c.in-Err.fault) (manner_of c.space.new.self.log_group c.space.new.self.term.now) _ _ (command_of c.in_ok-cleaning.cleaning) (command_of c.in_ok-cleaning.cleaning) _ _ c.dir.ensures refl c.in-Err.ensures.shown))
+
+pub returns-then-not-cleans_per_run-clause-made : goal.returns-then-not-cleans_per_run-clause-made
+returns-then-not-cleans_per_run-clause-made g c = λ t.
+    ran_as (Unit {0}) c.run_own.result _ _ _ _
+    (run_plain c.args.plan.now (slice_get c.args.plan.now.quads c.args.place) c.in_ok-run.run'.quad (command_of c.in_ok-run.run'.command) c.in_ok-run.ensures.quad c.in_ok-run.ensures.command (sym c.if-not-cleans_per_run.ensures))
+    (c.run_own.ensures.made t)
