@@ -44,12 +44,13 @@ fn list_on<W: Write>(alloc: Global, cx: &Context, list: &mut W) -> Result<(usize
     let mut caller = FakeCaller::new(alloc, End::Status(0));
     let mut term = Term::new(Coloring::Never, false);
     let mut fault = None;
+    let (mut out, mut err) = (io::sink(), io::sink());
     let mut starter = Starter::new(
         alloc,
         &mut caller,
         &mut term,
-        &mut io::sink(),
-        &mut io::sink(),
+        &mut out,
+        &mut err,
         LogGroup::None,
         cx.args().keep_going,
         &mut fault,
