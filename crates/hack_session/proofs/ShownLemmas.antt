@@ -1,16 +1,13 @@
 -- What the parts of steps print.
-use Rattle.std.proofs.Common.{◌≡◌, ◌≢◌, ◌⊎◌, inl, inr, ◌+◌, ◌<◌, ℕ, zero, suc, Bool, true, false, List, [], ◌∷◌, ◌++◌, length, take, Option, Some, None, Result, Ok, Err, OnOk, refl, sym, ◌∙◌, ap, subst, append-nil, arith, rules, ◌&&◌}
+use Rattle.std.proofs.Common.{◌≡◌, ◌≢◌, ◌⊎◌, inl, inr, ◌<◌, ℕ, zero, suc, Bool, true, false, List, [], ◌∷◌, ◌++◌, length, take, Option, Some, None, Result, Ok, Err, refl, sym, ◌∙◌, ap, subst, append-nil, arith, rules, ◌&&◌}
 use Rattle.std.proofs.Common.{String, Global, map}
 use Rattle.std.specs.Prelude.{codes, slice_get, string_bytes, ◌==◌, IfSome, MatchResult, MatchBool, if◌then◌else◌}
-use Rattle.std.specs.Io.KnownBytes.{Appends}
 use Rattle.std.proofs.lemmas.Option.{slice_get_cases}
-use Rattle.hack_base.specs.Writes.{CountsErrors, Writes}
-use Rattle.hack_base.proofs.WriteLemmas.{writes-by, writes-none}
-use Rattle.hack_term.specs.declared.log_group.LogGroup.{LogGroup}
-use Rattle.hack_term.specs.declared.log_group.LogGroup.TheVariants.{None as Ungrouped, GithubActions}
+use Rattle.hack_base.specs.Writes.{Writes}
+use Rattle.hack_base.proofs.WriteLemmas.{writes-none}
 use Rattle.hack_term.specs.declared.term.Term.{Term}
-use Rattle.hack_term.specs.Groups.{closing_line, opening_line, message_line}
-use Rattle.hack_term.specs.Lines.{info_line, error_line}
+use Rattle.hack_term.specs.Groups.{opening_line, message_line}
+use Rattle.hack_term.specs.Lines.{error_line}
 use Rattle.hack_plan.specs.declared.places.Quad.{Quad}
 use Rattle.hack_process.specs.declared.fault.ProcessFault.{ProcessFault}
 use Rattle.hack_process.specs.declared.fault.ProcessFault.TheVariants.{Memory, EmptyProgram, NeverExecuted, NotText, Failed as ByFailure}
@@ -28,7 +25,7 @@ use Rattle.hack_session.specs.declared.step.Outcome.TheVariants.{Passed, Failed}
 use Rattle.hack_session.specs.declared.step.Handed.{Handed}
 use Rattle.hack_session.specs.Performs.{Comes, GrowsBy, is_memory, number_at}
 use Rattle.hack_session.specs.Shown.{Shown, on_err, both_shown, all_shown, Manner, space_before, end_line, end_shown, opening_shown, group_shown, cleaning_shown, run_cleaning_shown, status_shown, addition_shown, addition_parts, run_parts, skip_parts, parts_of, IsWhole, IsPart, IsFront, Displays, is_run, IsErrorLine, TellsError, memory_shown, Shows, ShowsAll, Streams, Prints, HasShown}
-use Rattle.hack_session.specs.JoinedShown.{then-nothing, both-assoc, prints_as, prints_then, prints_none}
+use Rattle.hack_session.specs.JoinedShown.{then-nothing, prints_as, prints_then, prints_none}
 use Rattle.hack_session.proofs.RunLemmas.{comes_fault, comes_map, not_cut, cut_of}
 
 -- ---- lists of parts

@@ -1,12 +1,12 @@
-use Rattle.std.proofs.Common.{ap, ◌∙◌, Err, ◌∷◌, [], ℕ, List, None, subst, false}
+use Rattle.std.proofs.Common.{ap, ◌∙◌, Err, ◌∷◌, [], None, subst, false}
 use Rattle.std.proofs.lemmas.Result.{err_from_is_err_and}
-use Rattle.hack_process.specs.Commands.{asked_of, command_of}
+use Rattle.hack_process.specs.Commands.{asked_of}
 use Rattle.hack_process.specs.CommandTexts.{Command}
 use Rattle.hack_runs.specs.Commands.{clean_command}
 use Rattle.hack_session.specs.Performs.{Makes}
-use Rattle.hack_session.specs.Shown.{IsWhole, Prints, cleaning_shown, manner_of, streams}
+use Rattle.hack_session.specs.Shown.{IsWhole, cleaning_shown, manner_of}
 use Rattle.hack_session.proofs.RunLemmas.{Ran}
-use Rattle.hack_session.proofs.ShownLemmas.{Part, cleaned_as, refused_part}
+use Rattle.hack_session.proofs.ShownLemmas.{cleaned_as, refused_part}
 use Rattle.hack_session.proofs.perform.clean_all.Goals as goal
 
 pub returns-in_err-command-clause-shown : goal.returns-in_err-command-clause-shown

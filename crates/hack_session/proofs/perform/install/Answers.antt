@@ -1,4 +1,4 @@
-use Rattle.std.proofs.Common.{◌≡◌, ◌⊎◌, inl, inr, ap, ◌∙◌, Err, [], sym, refl, None, subst}
+use Rattle.std.proofs.Common.{◌≡◌, ◌⊎◌, ap, ◌∙◌, Err, [], sym, refl}
 use Rattle.std.specs.Prelude.{slice_get}
 use Rattle.std.proofs.lemmas.Result.{err_from_is_err_and}
 use Rattle.hack_session.specs.declared.step.Outcome.TheVariants.{Passed}

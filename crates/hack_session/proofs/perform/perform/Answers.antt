@@ -1,4 +1,4 @@
-use Rattle.std.proofs.Common.{rules, ap, ◌∙◌}
+use Rattle.std.proofs.Common.{ap, ◌∙◌}
 use Rattle.hack_runs.specs.declared.parts.Preparation.TheVariants.{Lockfile, Toolchain}
 use Rattle.hack_session.specs.declared.step.Step.TheVariants.{Prepare}
 use Rattle.hack_session.specs.Shown.{manner_of}

@@ -1,9 +1,6 @@
-use Rattle.std.proofs.Common.{◌≡◌, ◌∙◌, [], ap, codes, sym, subst}
-use Rattle.std.specs.Prelude.{◌↔◌, IsSome}
+use Rattle.std.proofs.Common.{◌∙◌, codes}
 use Rattle.std.proofs.lemmas.Result.{err_from_is_err_and}
-use Rattle.hack_term.specs.declared.log_group.LogGroup.{LogGroup}
-use Rattle.hack_term.specs.declared.log_group.LogGroup.TheVariants.{GithubActions}
-use Rattle.hack_session.specs.Shown.{Manner, manner_of}
+use Rattle.hack_session.specs.Shown.{manner_of}
 use Rattle.hack_session.proofs.ShownLemmas.{placed_group, skip_refused, skipped}
 use Rattle.hack_session.proofs.perform.skip.Goals as goal
 

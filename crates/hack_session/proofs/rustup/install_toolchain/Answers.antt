@@ -6,8 +6,8 @@ use Rattle.hack_session.specs.Performs.{Makes}
 use Rattle.hack_session.specs.Toolchains.{addition_of, toolchain_name, trial_of}
 use Rattle.std.proofs.lemmas.Result.{err_from_is_err_and}
 use Rattle.hack_session.specs.declared.step.Outcome.TheVariants.{Passed}
-use Rattle.hack_session.specs.Shown.{IsWhole, Prints, Shown, addition_shown, manner_of, on_err, streams}
-use Rattle.hack_session.proofs.ShownLemmas.{Part, added_as, no_targets, or_early, refused_part, tried_shown}
+use Rattle.hack_session.specs.Shown.{IsWhole, addition_shown, manner_of, on_err}
+use Rattle.hack_session.proofs.ShownLemmas.{added_as, no_targets, refused_part, tried_shown}
 use Rattle.hack_session.proofs.RunLemmas.{Ran, Installed, with_targets, without_targets}
 use Rattle.hack_session.proofs.rustup.install_toolchain.Goals as goal
 

@@ -1,4 +1,4 @@
-use Rattle.std.proofs.Common.{◌≡◌, ◌⊎◌, inl, inr, refl, ◌∷◌, []}
+use Rattle.std.proofs.Common.{◌≡◌, ◌⊎◌, inr, refl, ◌∷◌, []}
 use Rattle.hack_process.specs.Commands.{command_of}
 use Rattle.hack_session.specs.declared.step.Outcome.TheVariants.{Passed}
 use Rattle.hack_session.specs.Shown.{IsWhole, addition_shown, manner_of, on_err}
