@@ -99,13 +99,13 @@ fn hand_to_lister<C: Caller, O: Write, E: Write>(
     let mut starter = starter(
         alloc,
         cx.args(),
+        LogGroup::None,
         &mut fault,
         term,
         caller,
         &mut nothing,
         err,
     );
-    starter.log_group = LogGroup::None;
     let mut lines = gather_on(alloc, out, gathered);
     let refused = list_over(alloc, cx, rustup, stable, &mut lines, &mut starter);
     Listed {

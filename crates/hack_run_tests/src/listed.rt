@@ -44,17 +44,17 @@ fn list_on<W: Write>(alloc: Global, cx: &Context, list: &mut W) -> Result<(usize
     let mut caller = FakeCaller::new(alloc, End::Status(0));
     let mut term = Term::new(Coloring::Never, false);
     let mut fault = None;
-    let mut starter = Starter {
+    let (mut out, mut err) = (io::sink(), io::sink());
+    let mut starter = Starter::new(
         alloc,
-        caller: &mut caller,
-        term: &mut term,
-        out: &mut io::sink(),
-        err: &mut io::sink(),
-        log_group: LogGroup::None,
-        keep_going: cx.args().keep_going,
-        fault: &mut fault,
-        refused: 0,
-    };
+        &mut caller,
+        &mut term,
+        &mut out,
+        &mut err,
+        LogGroup::None,
+        cx.args().keep_going,
+        &mut fault,
+    );
     let mut lines = LineWriter {
         out: list,
         failed: 0,

@@ -55,17 +55,16 @@ struct Left {
 
 fn performed(alloc: Global, cx: &Context, scene: &mut Scene, is_whole: bool) -> Result<Left, Off> {
     let mut fault = None;
-    let mut starter = Starter {
+    let mut starter = Starter::new(
         alloc,
-        caller: &mut scene.caller,
-        term: &mut scene.term,
-        out: &mut scene.out,
-        err: &mut scene.err,
-        log_group: cx.args().log_group,
-        keep_going: cx.args().keep_going,
-        fault: &mut fault,
-        refused: 0,
-    };
+        &mut scene.caller,
+        &mut scene.term,
+        &mut scene.out,
+        &mut scene.err,
+        cx.args().log_group,
+        cx.args().keep_going,
+        &mut fault,
+    );
     let session = if is_whole {
         driven_whole(alloc, cx, &mut starter)?
     } else {

@@ -3,6 +3,7 @@ pub mod ScheduleLemmas
 pub mod CursorLemmas
 pub mod CallLemmas
 pub mod RunLemmas
+pub mod ShownLemmas
 pub mod ToolchainLemmas
 pub mod Headline
 pub mod ListLemmas

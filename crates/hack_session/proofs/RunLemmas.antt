@@ -25,14 +25,14 @@ use Rattle.hack_session.proofs.CallLemmas.{One}
 abbrev pub Ran : {T : Type 0} → List Asked → Result T ProcessFault → List Call → Type 0
 Ran commands r calls = Comes (Follows commands calls) (Breaks commands calls) r
 
-comes_fault : (T : Type 0) (fault : ProcessFault) (A B : Outcome → Type 0) (C D : Type 0) → (A Failed → B Failed) → (C → D) → Comes {T = T} A C (Err fault) → Comes {T = T} B D (Err fault)
+pub comes_fault : (T : Type 0) (fault : ProcessFault) (A B : Outcome → Type 0) (C D : Type 0) → (A Failed → B Failed) → (C → D) → Comes {T = T} A C (Err fault) → Comes {T = T} B D (Err fault)
 comes_fault T Memory A B C D f g h = g h
 comes_fault T EmptyProgram A B C D f g h = f h
 comes_fault T (NeverExecuted text) A B C D f g h = f h
 comes_fault T (NotText text) A B C D f g h = f h
 comes_fault T (ByFailure failure) A B C D f g h = f h
 
-comes_map : (T : Type 0) (r : Result T ProcessFault) (A B : Outcome → Type 0) (C D : Type 0) → ((o : Outcome) → A o → B o) → (C → D) → Comes A C r → Comes B D r
+pub comes_map : (T : Type 0) (r : Result T ProcessFault) (A B : Outcome → Type 0) (C D : Type 0) → ((o : Outcome) → A o → B o) → (C → D) → Comes A C r → Comes B D r
 comes_map T (Ok d) A B C D f g h = f Passed h
 comes_map T (Err fault) A B C D f g h = comes_fault T fault A B C D (f Failed) g h
 
@@ -121,7 +121,7 @@ not_memory (NeverExecuted text) e = λ h. cc
 not_memory (NotText text) e = λ h. cc
 not_memory (ByFailure failure) e = λ h. cc
 
-not_cut : (T : Type 0) (fault : ProcessFault) (A : Outcome → Type 0) (C : Type 0) → fault ≢ Memory → Comes {T = T} A C (Err fault) → A Failed
+pub not_cut : (T : Type 0) (fault : ProcessFault) (A : Outcome → Type 0) (C : Type 0) → fault ≢ Memory → Comes {T = T} A C (Err fault) → A Failed
 not_cut T Memory A C ne h = absurd (ne refl)
 not_cut T EmptyProgram A C ne h = h
 not_cut T (NeverExecuted text) A C ne h = h
@@ -174,7 +174,7 @@ step_failed T fault plan step a b n ne p = record {
   performed = one_step plan (record { step = step; outcome = Failed }) p.made 0 (inl (not_cut T fault (Exactly plan step p.made) (IsCut plan step p.made) ne p.such, refl));
 }
 
-cut_of : (T : Type 0) (fault : ProcessFault) (A : Outcome → Type 0) (C : Type 0) → true ≡ is_memory fault → Comes {T = T} A C (Err fault) → C
+pub cut_of : (T : Type 0) (fault : ProcessFault) (A : Outcome → Type 0) (C : Type 0) → true ≡ is_memory fault → Comes {T = T} A C (Err fault) → C
 cut_of T Memory A C e h = h
 cut_of T EmptyProgram A C e h = absurd (cc)
 cut_of T (NeverExecuted text) A C e h = absurd (cc)

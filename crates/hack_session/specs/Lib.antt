@@ -6,6 +6,8 @@ pub mod Toolchains
 pub mod Performs
 pub mod Joined
 pub mod Statuses
+pub mod Shown
+pub mod JoinedShown
 pub mod Lists
 pub mod Joins
 pub mod Reports

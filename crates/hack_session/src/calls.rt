@@ -3,11 +3,12 @@
 ghost use Rattle.std.specs.Prelude.{◌≡◌, ◌∷◌, [], true, false};
 ghost use Rattle.hack_process.specs.Commands.{asked_of, command_of};
 ghost use Rattle.hack_session.specs.Performs.{Breaks, Comes, Follows, Makes, is_memory as is_want};
+ghost use Rattle.hack_session.specs.Shown.{Prints, group_shown, manner_of, streams};
 
 use crate::screen::Screen;
+use hack_base::writes::Sink;
 use hack_process::process::{Caller, ProcessBuilder, ProcessFault};
 use std::alloc::Global;
-use std::io::Write;
 
 /// Runs a command with the standard streams of this process.
 pub(crate) fn call<C: Caller>(
@@ -43,7 +44,7 @@ pub(crate) fn call_quietly<C: Caller>(
 }
 
 /// Runs a command within a log group that begins with a text.
-pub(crate) fn call_in_group<C: Caller, O: Write, E: Write>(
+pub(crate) fn call_in_group<C: Caller, O: Sink, E: Sink>(
     alloc: Global,
     caller: &mut C,
     screen: &mut Screen<'_, O, E>,
@@ -51,10 +52,18 @@ pub(crate) fn call_in_group<C: Caller, O: Write, E: Write>(
     text: &str,
     dir: &str,
 ) -> Result<(), ProcessFault>
-    ensures { C.tells → Makes (λ calls.
+    ensures made { C.tells → Makes (λ calls.
         Comes (Follows (asked_of false (command_of command.now) ∷ []) calls)
         (Breaks (asked_of false (command_of command.now) ∷ []) calls) result)
         (C.calls caller.old) (C.calls caller.new) }
+    ensures shown { Prints (λ shown. shown
+        ≡ group_shown (manner_of screen.old.log_group screen.old.term.now) text.now)
+        (streams O.contents O.failed E.contents E.failed screen.old.out.now screen.old.err.now)
+        (streams O.contents O.failed E.contents E.failed screen.new.out.now screen.new.err.now) }
+    ensures lent { (screen.new.out.ghost_name ≡ screen.old.out.ghost_name)
+        × (screen.new.err.ghost_name ≡ screen.old.err.ghost_name) }
+    ensures manner { manner_of screen.new.log_group screen.new.term.now
+        ≡ manner_of screen.old.log_group screen.old.term.now }
 {
     let guard = screen.open(text);
     let came = call(alloc, caller, command, dir);

@@ -1,67 +1,94 @@
 //! The steps of a plan, performed by commands.
 
-ghost use Rattle.std.specs.Prelude.{◌≡◌, ◌<◌, ◌∷◌, [], IfOk, None, Some, false, length, option_map};
-ghost use Rattle.std.specs.Prelude.{slice_get, string_bytes};
+ghost use Rattle.std.specs.Prelude.{◌≡◌, ◌⊎◌, ◌<◌, ◌∷◌, [], IfOk, MatchResult, None, Some, codes};
+ghost use Rattle.std.specs.Prelude.{false, length, option_map, slice_get, string_bytes};
 ghost use Rattle.hack_process.specs.Commands.{asked_of, command_of};
 ghost use Rattle.hack_runs.specs.Commands.{clean_command, command_of_quad, name_in, package_at};
 ghost use Rattle.hack_session.specs.Histories.{IsStepOf};
 ghost use Rattle.hack_session.specs.Performs.{Breaks, BreaksInstallAt, Comes, Exactly, Follows};
 ghost use Rattle.hack_session.specs.Performs.{InstallsAt, IsCut, Makes, lockfile_commands};
 ghost use Rattle.hack_session.specs.Performs.{number_at, run_commands};
+ghost use Rattle.hack_session.specs.Shown.{Displays, IsPart, IsWhole, Prints, addition_parts};
+ghost use Rattle.hack_session.specs.Shown.{cleaning_shown, manner_of, on_err, parts_of};
+ghost use Rattle.hack_session.specs.Shown.{skip_parts, status_shown, streams};
+ghost use Rattle.hack_session.specs.declared.step.Outcome.TheVariants.{Passed};
 ghost use Rattle.hack_session.specs.Statuses.{place_status, told_name as name_told};
 
 use crate::calls::{call, call_in_group, call_quietly};
 use crate::rustup::install_toolchain;
 use crate::screen::{Screen, Status};
 use crate::step::Step;
+use hack_base::writes::Sink;
 use hack_process::process::{Caller, ProcessBuilder, ProcessFault};
 use hack_runs::parts::Preparation;
 use hack_runs::plan::{Plan, PlannedRun, toolchain};
 use hack_versions::version::Version;
 use std::alloc::{AllocError, Global};
-use std::io::Write;
 
 /// Performs a step. `ProcessFault::Memory` means that memory was refused, which cut the step short.
-pub(crate) fn perform<C: Caller, O: Write, E: Write>(
+pub(crate) fn perform<C: Caller, O: Sink, E: Sink>(
     alloc: Global,
     caller: &mut C,
-    mut screen: Screen<'_, O, E>,
+    screen: &mut Screen<'_, O, E>,
     plan: &Plan,
     step: Step,
 ) -> Result<(), ProcessFault>
     requires { IsStepOf plan.now step }
-    ensures { C.tells → Makes (λ calls.
+    ensures made { C.tells → Makes (λ calls.
         Comes (Exactly plan.now step calls) (IsCut plan.now step calls) result)
         (C.calls caller.old) (C.calls caller.new) }
+    ensures shown { Prints (λ shown. Comes
+        (λ outcome. Displays (manner_of screen.old.log_group screen.old.term.now)
+        plan.now step outcome shown)
+        (IsPart (parts_of (manner_of screen.old.log_group screen.old.term.now) plan.now step) shown)
+        result)
+        (streams O.contents O.failed E.contents E.failed screen.old.out.now screen.old.err.now)
+        (streams O.contents O.failed E.contents E.failed screen.new.out.now screen.new.err.now) }
+    ensures lent { (screen.new.out.ghost_name ≡ screen.old.out.ghost_name)
+        × (screen.new.err.ghost_name ≡ screen.old.err.ghost_name) }
+    ensures manner { manner_of screen.new.log_group screen.new.term.now
+        ≡ manner_of screen.old.log_group screen.old.term.now }
 {
     match step {
         Step::Prepare(Preparation::Toolchain(version)) => {
-            install(alloc, caller, &mut screen, plan, version)
+            install(alloc, caller, screen, plan, version)
         }
         Step::Prepare(Preparation::Lockfile(version)) => {
             generate_lockfile(alloc, caller, plan, version)
         }
-        Step::Prepare(Preparation::Clean(_)) => clean_all(alloc, caller, &mut screen, plan),
-        Step::Skip(place) => match skip(alloc, &mut screen, plan, place) {
+        Step::Prepare(Preparation::Clean(_)) => clean_all(alloc, caller, screen, plan),
+        Step::Skip(place) => match skip(alloc, screen, plan, place) {
             Ok(()) => Ok(()),
             Err(AllocError) => Err(ProcessFault::Memory),
         },
-        Step::Run(place) => run(alloc, caller, &mut screen, plan, place),
+        Step::Run(place) => run(alloc, caller, screen, plan, place),
     }
 }
 
 /// Makes sure that a version's toolchain is installed.
-fn install<C: Caller, O: Write, E: Write>(
+fn install<C: Caller, O: Sink, E: Sink>(
     alloc: Global,
     caller: &mut C,
     screen: &mut Screen<'_, O, E>,
     plan: &Plan,
     version: usize,
 ) -> Result<(), ProcessFault>
-    ensures { C.tells → Makes (λ calls. Comes
+    ensures made { C.tells → Makes (λ calls. Comes
         (InstallsAt plan.now (number_at (slice_get plan.now.versions version)) calls)
         (BreaksInstallAt plan.now (number_at (slice_get plan.now.versions version)) calls) result)
         (C.calls caller.old) (C.calls caller.new) }
+    ensures shown { Prints (λ shown. Comes
+        (λ outcome. IsWhole (addition_parts (manner_of screen.old.log_group screen.old.term.now)
+        plan.now (number_at (slice_get plan.now.versions version))) shown
+        ⊎ ((outcome ≡ Passed) × (plan.now.call.targets ≡ []) × (shown ≡ on_err [])))
+        (IsPart (addition_parts (manner_of screen.old.log_group screen.old.term.now)
+        plan.now (number_at (slice_get plan.now.versions version))) shown) result)
+        (streams O.contents O.failed E.contents E.failed screen.old.out.now screen.old.err.now)
+        (streams O.contents O.failed E.contents E.failed screen.new.out.now screen.new.err.now) }
+    ensures lent { (screen.new.out.ghost_name ≡ screen.old.out.ghost_name)
+        × (screen.new.err.ghost_name ≡ screen.old.err.ghost_name) }
+    ensures manner { manner_of screen.new.log_group screen.new.term.now
+        ≡ manner_of screen.old.log_group screen.old.term.now }
 {
     match number(plan, version) {
         Some(number) => {
@@ -115,46 +142,79 @@ fn generate_lockfile<C: Caller>(
 }
 
 /// Removes what was built before.
-fn clean_all<C: Caller, O: Write, E: Write>(
+fn clean_all<C: Caller, O: Sink, E: Sink>(
     alloc: Global,
     caller: &mut C,
     screen: &mut Screen<'_, O, E>,
     plan: &Plan,
 ) -> Result<(), ProcessFault>
-    ensures { C.tells → Makes (λ calls.
+    ensures made { C.tells → Makes (λ calls.
         Comes (Follows (asked_of false (clean_command plan.now.call None) ∷ []) calls)
         (Breaks (asked_of false (clean_command plan.now.call None) ∷ []) calls) result)
         (C.calls caller.old) (C.calls caller.new) }
+    ensures shown { Prints (λ shown. Comes
+        (λ _. IsWhole (cleaning_shown (manner_of screen.old.log_group screen.old.term.now)
+        plan.now.call.dir (clean_command plan.now.call None) ∷ []) shown)
+        (IsPart (cleaning_shown (manner_of screen.old.log_group screen.old.term.now)
+        plan.now.call.dir (clean_command plan.now.call None) ∷ []) shown) result)
+        (streams O.contents O.failed E.contents E.failed screen.old.out.now screen.old.err.now)
+        (streams O.contents O.failed E.contents E.failed screen.new.out.now screen.new.err.now) }
+    ensures lent { (screen.new.out.ghost_name ≡ screen.old.out.ghost_name)
+        × (screen.new.err.ghost_name ≡ screen.old.err.ghost_name) }
+    ensures manner { manner_of screen.new.log_group screen.new.term.now
+        ≡ manner_of screen.old.log_group screen.old.term.now }
 {
     let command = plan.cleaning(alloc)?;
     clean(alloc, caller, screen, &command, plan.dir())
 }
 
 /// Runs a cleaning.
-fn clean<C: Caller, O: Write, E: Write>(
+fn clean<C: Caller, O: Sink, E: Sink>(
     alloc: Global,
     caller: &mut C,
     screen: &mut Screen<'_, O, E>,
     command: &ProcessBuilder<'_>,
     dir: &str,
 ) -> Result<(), ProcessFault>
-    ensures { C.tells → Makes (λ calls.
+    ensures made { C.tells → Makes (λ calls.
         Comes (Follows (asked_of false (command_of command.now) ∷ []) calls)
         (Breaks (asked_of false (command_of command.now) ∷ []) calls) result)
         (C.calls caller.old) (C.calls caller.new) }
+    ensures shown { Prints (λ shown. Comes
+        (λ _. IsWhole (cleaning_shown (manner_of screen.old.log_group screen.old.term.now)
+        dir.now (command_of command.now) ∷ []) shown)
+        (IsPart (cleaning_shown (manner_of screen.old.log_group screen.old.term.now)
+        dir.now (command_of command.now) ∷ []) shown) result)
+        (streams O.contents O.failed E.contents E.failed screen.old.out.now screen.old.err.now)
+        (streams O.contents O.failed E.contents E.failed screen.new.out.now screen.new.err.now) }
+    ensures lent { (screen.new.out.ghost_name ≡ screen.old.out.ghost_name)
+        × (screen.new.err.ghost_name ≡ screen.old.err.ghost_name) }
+    ensures manner { manner_of screen.new.log_group screen.new.term.now
+        ≡ manner_of screen.old.log_group screen.old.term.now }
 {
     screen.tell_cleaning(alloc, command, dir)?;
     call(alloc, caller, command, dir)
 }
 
 /// Prints that a place is skipped.
-fn skip<O: Write, E: Write>(
+fn skip<O: Sink, E: Sink>(
     alloc: Global,
     screen: &mut Screen<'_, O, E>,
     plan: &Plan,
     place: usize,
 ) -> Result<(), AllocError>
     requires { place < length plan.now.quads }
+    ensures shown { Prints (λ shown. MatchResult result
+        (λ _. IsWhole (skip_parts (manner_of screen.old.log_group screen.old.term.now)
+        plan.now place (slice_get plan.now.quads place)) shown)
+        (λ _. IsPart (skip_parts (manner_of screen.old.log_group screen.old.term.now)
+        plan.now place (slice_get plan.now.quads place)) shown))
+        (streams O.contents O.failed E.contents E.failed screen.old.out.now screen.old.err.now)
+        (streams O.contents O.failed E.contents E.failed screen.new.out.now screen.new.err.now) }
+    ensures lent { (screen.new.out.ghost_name ≡ screen.old.out.ghost_name)
+        × (screen.new.err.ghost_name ≡ screen.old.err.ghost_name) }
+    ensures manner { manner_of screen.new.log_group screen.new.term.now
+        ≡ manner_of screen.old.log_group screen.old.term.now }
 {
     screen.space(place);
     let run = plan.run(alloc, place)?;
@@ -165,7 +225,7 @@ fn skip<O: Write, E: Write>(
 }
 
 /// Runs a place: its cleaning where runs are cleaned, and its own command.
-fn run<C: Caller, O: Write, E: Write>(
+fn run<C: Caller, O: Sink, E: Sink>(
     alloc: Global,
     caller: &mut C,
     screen: &mut Screen<'_, O, E>,
@@ -173,10 +233,21 @@ fn run<C: Caller, O: Write, E: Write>(
     place: usize,
 ) -> Result<(), ProcessFault>
     requires { place < length plan.now.quads }
-    ensures { C.tells → Makes (λ calls.
+    ensures made { C.tells → Makes (λ calls.
         Comes (Follows (run_commands plan.now (slice_get plan.now.quads place)) calls)
         (Breaks (run_commands plan.now (slice_get plan.now.quads place)) calls) result)
         (C.calls caller.old) (C.calls caller.new) }
+    ensures shown { Prints (λ shown. Comes
+        (λ outcome. Displays (manner_of screen.old.log_group screen.old.term.now)
+        plan.now (Step.Run place) outcome shown)
+        (IsPart (parts_of (manner_of screen.old.log_group screen.old.term.now)
+        plan.now (Step.Run place)) shown) result)
+        (streams O.contents O.failed E.contents E.failed screen.old.out.now screen.old.err.now)
+        (streams O.contents O.failed E.contents E.failed screen.new.out.now screen.new.err.now) }
+    ensures lent { (screen.new.out.ghost_name ≡ screen.old.out.ghost_name)
+        × (screen.new.err.ghost_name ≡ screen.old.err.ghost_name) }
+    ensures manner { manner_of screen.new.log_group screen.new.term.now
+        ≡ manner_of screen.old.log_group screen.old.term.now }
 {
     screen.space(place);
     let run = plan.run(alloc, place)?;
@@ -191,7 +262,7 @@ fn run<C: Caller, O: Write, E: Write>(
 }
 
 /// Prints a place's status, and runs its own command.
-fn run_own<C: Caller, O: Write, E: Write>(
+fn run_own<C: Caller, O: Sink, E: Sink>(
     alloc: Global,
     caller: &mut C,
     screen: &mut Screen<'_, O, E>,
@@ -203,10 +274,21 @@ fn run_own<C: Caller, O: Write, E: Write>(
     requires name { option_map (λ name. name.now) run.now.name
         ≡ name_in (package_at plan.now.packages run.now.quad.package) }
     requires command { command_of run.now.command ≡ command_of_quad plan.now run.now.quad }
-    ensures { C.tells → Makes (λ calls.
+    ensures made { C.tells → Makes (λ calls.
         Comes (Follows (asked_of false (command_of run.now.command) ∷ []) calls)
         (Breaks (asked_of false (command_of run.now.command) ∷ []) calls) result)
         (C.calls caller.old) (C.calls caller.new) }
+    ensures shown { Prints (λ shown. Comes
+        (λ _. IsWhole (status_shown (manner_of screen.old.log_group screen.old.term.now)
+        (codes "running") plan.now place run.now.quad ∷ []) shown)
+        (IsPart (status_shown (manner_of screen.old.log_group screen.old.term.now)
+        (codes "running") plan.now place run.now.quad ∷ []) shown) result)
+        (streams O.contents O.failed E.contents E.failed screen.old.out.now screen.old.err.now)
+        (streams O.contents O.failed E.contents E.failed screen.new.out.now screen.new.err.now) }
+    ensures lent { (screen.new.out.ghost_name ≡ screen.old.out.ghost_name)
+        × (screen.new.err.ghost_name ≡ screen.old.err.ghost_name) }
+    ensures manner { manner_of screen.new.log_group screen.new.term.now
+        ≡ manner_of screen.old.log_group screen.old.term.now }
 {
     let text = status(alloc, "running", screen.term.verbose, plan, place, run)?;
     call_in_group(alloc, caller, screen, &run.command, &text, plan.dir())

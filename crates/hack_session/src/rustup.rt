@@ -1,22 +1,25 @@
 //! Toolchains that rustup adds.
 
-ghost use Rattle.std.specs.Prelude.{◌≡◌, ◌≢◌, ◌∷◌, [], List, ℕ, IfOk, MatchOption, false, true};
-ghost use Rattle.std.specs.Prelude.{map, not, string_bytes};
+ghost use Rattle.std.specs.Prelude.{◌≡◌, ◌≢◌, ◌∷◌, ◌⊎◌, [], List, ℕ, IfOk, MatchOption};
+ghost use Rattle.std.specs.Prelude.{false, map, not, string_bytes, true};
 ghost use Rattle.hack_process.specs.Commands.{asked_of, command_of};
+ghost use Rattle.hack_session.specs.declared.step.Outcome.TheVariants.{Passed};
 ghost use Rattle.hack_session.specs.Performs.{Breaks, BreaksInstall, Comes, Fails, Follows};
 ghost use Rattle.hack_session.specs.Performs.{Installs, Makes};
+ghost use Rattle.hack_session.specs.Shown.{IsPart, IsWhole, Prints, addition_shown, manner_of};
+ghost use Rattle.hack_session.specs.Shown.{on_err, streams};
 ghost use Rattle.hack_session.specs.Toolchains.{addition_of, toolchain_name, trial_of};
 
 use crate::calls::{call_in_group, call_quietly, is_memory};
 use crate::screen::{Screen, running};
+use hack_base::writes::Sink;
 use hack_process::process::{Caller, ProcessBuilder, ProcessFault};
 use std::alloc::{AllocError, Global};
-use std::io::Write;
 
 /// Makes sure that rustup has a toolchain with these targets. Where there are none, it is tried,
 /// and added if that fails; where there are some, it is added at once. One leading `+` of its name
 /// is dropped. Without `print_output` nothing is printed, and what rustup writes is dropped.
-pub fn install_toolchain<C: Caller, O: Write, E: Write>(
+pub fn install_toolchain<C: Caller, O: Sink, E: Sink>(
     alloc: Global,
     caller: &mut C,
     screen: &mut Screen<'_, O, E>,
@@ -37,6 +40,20 @@ pub fn install_toolchain<C: Caller, O: Write, E: Write>(
         (map string_bytes target.now))) calls) result)
         (C.calls caller.old) (C.calls caller.new) }
     ensures quiet { print_output ≡ false → screen.new ≡ screen.old }
+    ensures shown { print_output ≡ true → Prints (λ shown. Comes
+        (λ outcome. IsWhole (addition_shown (manner_of screen.old.log_group screen.old.term.now)
+        dir.now (addition_of rustup.now (toolchain_name toolchain.now)
+        (map string_bytes target.now)) ∷ []) shown
+        ⊎ ((outcome ≡ Passed) × (map string_bytes target.now ≡ []) × (shown ≡ on_err [])))
+        (IsPart (addition_shown (manner_of screen.old.log_group screen.old.term.now)
+        dir.now (addition_of rustup.now (toolchain_name toolchain.now)
+        (map string_bytes target.now)) ∷ []) shown) result)
+        (streams O.contents O.failed E.contents E.failed screen.old.out.now screen.old.err.now)
+        (streams O.contents O.failed E.contents E.failed screen.new.out.now screen.new.err.now) }
+    ensures lent { (screen.new.out.ghost_name ≡ screen.old.out.ghost_name)
+        × (screen.new.err.ghost_name ≡ screen.old.err.ghost_name) }
+    ensures manner { manner_of screen.new.log_group screen.new.term.now
+        ≡ manner_of screen.old.log_group screen.old.term.now }
 {
     let name = without_plus(toolchain);
     let add = addition(alloc, rustup, name, target)?;
@@ -48,7 +65,7 @@ pub fn install_toolchain<C: Caller, O: Write, E: Write>(
 }
 
 /// Tries a toolchain with one command, and adds it with another if that fails.
-pub(crate) fn try_toolchain<C: Caller, O: Write, E: Write>(
+pub(crate) fn try_toolchain<C: Caller, O: Sink, E: Sink>(
     alloc: Global,
     caller: &mut C,
     screen: &mut Screen<'_, O, E>,
@@ -64,6 +81,18 @@ pub(crate) fn try_toolchain<C: Caller, O: Write, E: Write>(
         (asked_of (not print_output) (command_of add.now)) calls) result)
         (C.calls caller.old) (C.calls caller.new) }
     ensures quiet { print_output ≡ false → screen.new ≡ screen.old }
+    ensures shown { print_output ≡ true → Prints (λ shown. Comes
+        (λ outcome. IsWhole (addition_shown (manner_of screen.old.log_group screen.old.term.now)
+        dir.now (command_of add.now) ∷ []) shown
+        ⊎ ((outcome ≡ Passed) × (shown ≡ on_err [])))
+        (IsPart (addition_shown (manner_of screen.old.log_group screen.old.term.now)
+        dir.now (command_of add.now) ∷ []) shown) result)
+        (streams O.contents O.failed E.contents E.failed screen.old.out.now screen.old.err.now)
+        (streams O.contents O.failed E.contents E.failed screen.new.out.now screen.new.err.now) }
+    ensures lent { (screen.new.out.ghost_name ≡ screen.old.out.ghost_name)
+        × (screen.new.err.ghost_name ≡ screen.old.err.ghost_name) }
+    ensures manner { manner_of screen.new.log_group screen.new.term.now
+        ≡ manner_of screen.old.log_group screen.old.term.now }
 {
     match call_quietly(alloc, caller, trial, dir) {
         Ok(()) => Ok(()),
@@ -77,7 +106,7 @@ pub(crate) fn try_toolchain<C: Caller, O: Write, E: Write>(
 }
 
 /// Adds a toolchain.
-pub(crate) fn add_toolchain<C: Caller, O: Write, E: Write>(
+pub(crate) fn add_toolchain<C: Caller, O: Sink, E: Sink>(
     alloc: Global,
     caller: &mut C,
     screen: &mut Screen<'_, O, E>,
@@ -90,6 +119,17 @@ pub(crate) fn add_toolchain<C: Caller, O: Write, E: Write>(
         (Breaks (asked_of (not print_output) (command_of add.now) ∷ []) calls) result)
         (C.calls caller.old) (C.calls caller.new) }
     ensures quiet { print_output ≡ false → screen.new ≡ screen.old }
+    ensures shown { print_output ≡ true → Prints (λ shown. Comes
+        (λ _. IsWhole (addition_shown (manner_of screen.old.log_group screen.old.term.now)
+        dir.now (command_of add.now) ∷ []) shown)
+        (IsPart (addition_shown (manner_of screen.old.log_group screen.old.term.now)
+        dir.now (command_of add.now) ∷ []) shown) result)
+        (streams O.contents O.failed E.contents E.failed screen.old.out.now screen.old.err.now)
+        (streams O.contents O.failed E.contents E.failed screen.new.out.now screen.new.err.now) }
+    ensures lent { (screen.new.out.ghost_name ≡ screen.old.out.ghost_name)
+        × (screen.new.err.ghost_name ≡ screen.old.err.ghost_name) }
+    ensures manner { manner_of screen.new.log_group screen.new.term.now
+        ≡ manner_of screen.old.log_group screen.old.term.now }
 {
     if !print_output {
         return call_quietly(alloc, caller, add, dir);

@@ -1,19 +1,22 @@
 //! The lines that are printed while steps are performed. An error of writing them is ignored.
 
-ghost use Rattle.std.specs.Prelude.{◌≡◌, IfOk, Some, option_map, string_bytes};
+ghost use Rattle.std.specs.Prelude.{◌≡◌, ◌↔◌, [], IfOk, IsSome, MatchResult, Some, option_map};
+ghost use Rattle.std.specs.Prelude.{string_bytes};
 ghost use Rattle.hack_process.specs.CommandTexts.{text_of};
 ghost use Rattle.hack_process.specs.Commands.{command_of};
+ghost use Rattle.hack_session.specs.Shown.{Prints, cleaning_shown, end_shown, manner_of, on_err};
+ghost use Rattle.hack_session.specs.Shown.{opening_shown, space_before, streams};
 ghost use Rattle.hack_session.specs.Statuses.{on_text, running_text, status_text};
 
+use hack_base::writes::{Sink, write_front};
 use hack_process::process::ProcessBuilder;
 use hack_term::term::{LogGroup, LogGroupGuard, Term};
 use std::alloc::{AllocError, Global};
 use std::fmt;
-use std::io::Write;
 
 /// Where the lines of steps go.
 #[derive(Drop)]
-pub struct Screen<'a, O: Write, E: Write> {
+pub struct Screen<'a, O: Sink, E: Sink> {
     pub term: &'a Term,
     /// Where the lines of log groups go.
     pub out: &'a mut O,
@@ -22,22 +25,50 @@ pub struct Screen<'a, O: Write, E: Write> {
     pub log_group: LogGroup,
 }
 
-impl<O: Write, E: Write> Screen<'_, O, E> {
+impl<O: Sink, E: Sink> Screen<'_, O, E> {
     /// Writes the empty line before each place but the first, where lines aren't grouped.
-    pub(crate) fn space(&mut self, place: usize) {
+    pub(crate) fn space(&mut self, place: usize)
+        ensures shown { Prints (λ shown. shown ≡ on_err (space_before self.old.log_group place))
+            (streams O.contents O.failed E.contents E.failed self.old.out.now self.old.err.now)
+            (streams O.contents O.failed E.contents E.failed self.new.out.now self.new.err.now) }
+        ensures lent { (self.new.out.ghost_name ≡ self.old.out.ghost_name)
+            × (self.new.err.ghost_name ≡ self.old.err.ghost_name) }
+        ensures manner { manner_of self.new.log_group self.new.term.now
+            ≡ manner_of self.old.log_group self.old.term.now }
+    {
         if place > 0 && self.log_group == LogGroup::None {
-            let _ = self.err.write_all(b"\n");
+            let _ = write_front("\n", self.err);
         }
     }
 
     /// Opens a group with a text, or writes the text on a line of its own.
-    pub(crate) fn open(&mut self, text: &str) -> Option<LogGroupGuard> {
+    pub(crate) fn open(&mut self, text: &str) -> Option<LogGroupGuard>
+        ensures guard { IsSome result ↔ (self.old.log_group ≡ LogGroup.GithubActions) }
+        ensures shown { Prints (λ shown. shown
+            ≡ opening_shown (manner_of self.old.log_group self.old.term.now) text.now)
+            (streams O.contents O.failed E.contents E.failed self.old.out.now self.old.err.now)
+            (streams O.contents O.failed E.contents E.failed self.new.out.now self.new.err.now) }
+        ensures lent { (self.new.out.ghost_name ≡ self.old.out.ghost_name)
+            × (self.new.err.ghost_name ≡ self.old.err.ghost_name) }
+        ensures manner { manner_of self.new.log_group self.new.term.now
+            ≡ manner_of self.old.log_group self.old.term.now }
+    {
         let (guard, _told) = self.log_group.print(self.term, text, self.out, self.err);
         guard
     }
 
     /// Ends a group.
-    pub(crate) fn close(&mut self, guard: Option<LogGroupGuard>) {
+    pub(crate) fn close(&mut self, guard: Option<LogGroupGuard>)
+        requires { IsSome guard ↔ (self.now.log_group ≡ LogGroup.GithubActions) }
+        ensures shown { Prints (λ shown. shown
+            ≡ end_shown (manner_of self.old.log_group self.old.term.now))
+            (streams O.contents O.failed E.contents E.failed self.old.out.now self.old.err.now)
+            (streams O.contents O.failed E.contents E.failed self.new.out.now self.new.err.now) }
+        ensures lent { (self.new.out.ghost_name ≡ self.old.out.ghost_name)
+            × (self.new.err.ghost_name ≡ self.old.err.ghost_name) }
+        ensures manner { manner_of self.new.log_group self.new.term.now
+            ≡ manner_of self.old.log_group self.old.term.now }
+    {
         if let Some(guard) = guard {
             let _ = guard.end(self.out);
         }
@@ -49,7 +80,17 @@ impl<O: Write, E: Write> Screen<'_, O, E> {
         alloc: Global,
         command: &ProcessBuilder<'_>,
         dir: &str,
-    ) -> Result<(), AllocError> {
+    ) -> Result<(), AllocError>
+        ensures shown { Prints (λ shown. MatchResult result (λ _. shown
+            ≡ cleaning_shown (manner_of self.old.log_group self.old.term.now)
+            dir.now (command_of command.now)) (λ _. shown ≡ on_err []))
+            (streams O.contents O.failed E.contents E.failed self.old.out.now self.old.err.now)
+            (streams O.contents O.failed E.contents E.failed self.new.out.now self.new.err.now) }
+        ensures lent { (self.new.out.ghost_name ≡ self.old.out.ghost_name)
+            × (self.new.err.ghost_name ≡ self.old.err.ghost_name) }
+        ensures manner { manner_of self.new.log_group self.new.term.now
+            ≡ manner_of self.old.log_group self.old.term.now }
+    {
         if self.term.verbose {
             let text = running(alloc, command, true, dir)?;
             let _ = self.term.info(&text, self.err);

@@ -1,25 +1,30 @@
 //! Who performs the steps of a plan by commands.
 
-ghost use Rattle.std.specs.Prelude.{◌≡◌, ◌⊎◌, All, true};
+ghost use Rattle.std.specs.Prelude.{◌≡◌, ◌⊎◌, All, List, ℕ, true};
 ghost use Rattle.std.proofs.Common.{◌∙◌, refl, inl};
+ghost use Rattle.hack_base.specs.Writes.{Writes};
 ghost use Rattle.hack_session.specs.Histories.{HasPassed};
 ghost use Rattle.hack_session.specs.Performs.{HasPerformed, HasTold};
 ghost use Rattle.hack_session.specs.Joined.{performed_none, performed_more, none_passed, passed_or};
+ghost use Rattle.hack_session.specs.JoinedShown.{error_alone, manner_stays, shown_more};
+ghost use Rattle.hack_session.specs.JoinedShown.{shown_none};
+ghost use Rattle.hack_session.specs.Shown.{HasShown, is_run as is_run_step, manner_of, streams};
+ghost use Rattle.hack_term.specs.Lines.{error_line};
 
 use crate::calls::is_memory;
 use crate::perform::perform;
 use crate::runner::Runner;
 use crate::screen::Screen;
 use crate::step::{Outcome, Step};
+use hack_base::writes::Sink;
 use hack_process::process::{Caller, ProcessFault};
 use hack_runs::plan::Plan;
 use hack_term::term::{LogGroup, Term};
 use std::alloc::Global;
-use std::io::Write;
 
 /// Performs steps by commands through a caller, and prints their lines on writers.
 #[derive(Drop)]
-pub struct Starter<'a, C: Caller, O: Write, E: Write> {
+pub struct Starter<'a, C: Caller, O: Sink, E: Sink> {
     pub alloc: Global,
     pub caller: &'a mut C,
     pub term: &'a mut Term,
@@ -27,9 +32,9 @@ pub struct Starter<'a, C: Caller, O: Write, E: Write> {
     pub out: &'a mut O,
     /// Where all other lines go.
     pub err: &'a mut E,
-    pub log_group: LogGroup,
+    log_group: LogGroup,
     /// Whether runs go on after a failed one.
-    pub keep_going: bool,
+    keep_going: bool,
     /// Why the step failed that stopped the session. It isn't reported yet, since its line comes
     /// last. Out of memory isn't kept here.
     pub fault: &'a mut Option<ProcessFault>,
@@ -37,7 +42,48 @@ pub struct Starter<'a, C: Caller, O: Write, E: Write> {
     pub refused: u64,
 }
 
-impl<C: Caller, O: Write, E: Write> Runner for Starter<'_, C, O, E> {
+impl<'a, C: Caller, O: Sink, E: Sink> Starter<'a, C, O, E> {
+    /// A starter that prints lines by the kind of log groups. The error that stops it goes to
+    /// `fault`; with `keep_going` that of a run doesn't stop it.
+    pub fn new(
+        alloc: Global,
+        caller: &'a mut C,
+        term: &'a mut Term,
+        out: &'a mut O,
+        err: &'a mut E,
+        log_group: LogGroup,
+        keep_going: bool,
+        fault: &'a mut Option<ProcessFault>,
+    ) -> Starter<'a, C, O, E>
+        ensures caller { (result.caller.ghost_name ≡ caller.entry.ghost_name)
+            × (result.caller.now ≡ caller.entry.now) }
+        ensures term { (result.term.ghost_name ≡ term.entry.ghost_name)
+            × (result.term.now ≡ term.entry.now) }
+        ensures out { (result.out.ghost_name ≡ out.entry.ghost_name)
+            × (result.out.now ≡ out.entry.now) }
+        ensures err { (result.err.ghost_name ≡ err.entry.ghost_name)
+            × (result.err.now ≡ err.entry.now) }
+        ensures fault { (result.fault.ghost_name ≡ fault.entry.ghost_name)
+            × (result.fault.now ≡ fault.entry.now) }
+        ensures log_group { result.log_group ≡ log_group }
+        ensures keep_going { result.keep_going ≡ keep_going }
+        ensures refused { result.refused ≡ 0 }
+    {
+        Starter {
+            alloc,
+            caller,
+            term,
+            out,
+            err,
+            log_group,
+            keep_going,
+            fault,
+            refused: 0,
+        }
+    }
+}
+
+impl<C: Caller, O: Sink, E: Sink> Runner for Starter<'_, C, O, E> {
     ghost ran = { λ plan steps a b. (a.caller.ghost_name ≡ b.caller.ghost_name)
         × (a.term.ghost_name ≡ b.term.ghost_name)
         × (a.fault.ghost_name ≡ b.fault.ghost_name)
@@ -45,7 +91,16 @@ impl<C: Caller, O: Write, E: Write> Runner for Starter<'_, C, O, E> {
         a.refused b.refused)
         × (HasTold a.term.now a.fault.now → HasTold b.term.now b.fault.now)
         × (All HasPassed steps ⊎ HasTold b.term.now b.fault.now)
-        × (b.term.now.warn ≡ a.term.now.warn) };
+        × (b.term.now.warn ≡ a.term.now.warn)
+        × (a.out.ghost_name ≡ b.out.ghost_name)
+        × (a.err.ghost_name ≡ b.err.ghost_name)
+        × (a.keep_going ≡ b.keep_going)
+        × (a.log_group ≡ b.log_group)
+        × (b.term.now ≡ record a.term.now { error = b.term.now.error })
+        × HasShown a.keep_going (manner_of a.log_group a.term.now) plan steps
+        (streams O.contents O.failed E.contents E.failed a.out.now a.err.now)
+        (streams O.contents O.failed E.contents E.failed b.out.now b.err.now)
+        a.refused b.refused };
 
     ghost ran_none = { λ plan a. (
       refl,
@@ -55,6 +110,13 @@ impl<C: Caller, O: Write, E: Write> Runner for Starter<'_, C, O, E> {
       λ told. told,
       inl none_passed,
       refl,
+      refl,
+      refl,
+      refl,
+      refl,
+      refl,
+      shown_none a.keep_going (manner_of a.log_group a.term.now) plan
+          (streams O.contents O.failed E.contents E.failed a.out.now a.err.now) a.refused,
     ) };
 
     ghost ran_more = { λ plan steps more a b c p q. (
@@ -67,16 +129,28 @@ impl<C: Caller, O: Write, E: Write> Runner for Starter<'_, C, O, E> {
       passed_or HasPassed (HasTold b.term.now b.fault.now) (HasTold c.term.now c.fault.now) steps
           more p.5 q.4 q.5,
       q.6 ∙ p.6,
+      p.7 ∙ q.7,
+      p.8 ∙ q.8,
+      p.9 ∙ q.9,
+      p.10 ∙ q.10,
+      error_alone a.term.now b.term.now c.term.now p.11 q.11,
+      shown_more a.keep_going b.keep_going (manner_of a.log_group a.term.now)
+          (manner_of b.log_group b.term.now) plan steps more
+          (streams O.contents O.failed E.contents E.failed a.out.now a.err.now)
+          (streams O.contents O.failed E.contents E.failed b.out.now b.err.now)
+          (streams O.contents O.failed E.contents E.failed c.out.now c.err.now)
+          a.refused b.refused c.refused p.9
+          (manner_stays a.log_group b.log_group a.term.now b.term.now p.10 p.11) p.12 q.12,
     ) };
 
     fn step(&mut self, plan: &Plan, step: Step) -> Outcome {
-        let screen = Screen {
+        let mut screen = Screen {
             term: self.term,
             out: self.out,
             err: self.err,
             log_group: self.log_group,
         };
-        match perform(self.alloc, self.caller, screen, plan, step) {
+        match perform(self.alloc, self.caller, &mut screen, plan, step) {
             Ok(()) => Outcome::Passed,
             Err(fault) => {
                 if is_memory(&fault) {
@@ -95,7 +169,9 @@ impl<C: Caller, O: Write, E: Write> Runner for Starter<'_, C, O, E> {
     }
 }
 
-fn is_run(step: Step) -> bool {
+fn is_run(step: Step) -> bool
+    ensures { result ≡ is_run_step step }
+{
     match step {
         Step::Run(_) => true,
         Step::Prepare(_) | Step::Skip(_) => false,
@@ -103,8 +179,10 @@ fn is_run(step: Step) -> bool {
 }
 
 /// Reports an error at once.
-fn tell_fault<E: Write>(alloc: Global, term: &mut Term, err: &mut E, fault: &ProcessFault)
-    ensures { term.new ≡ record term.old { error = true } }
+fn tell_fault<E: Sink>(alloc: Global, term: &mut Term, err: &mut E, fault: &ProcessFault)
+    ensures noted { term.new ≡ record term.old { error = true } }
+    ensures shown { (text : List ℕ) × Writes (E.contents err.old) (E.contents err.new)
+        (E.failed err.old) (E.failed err.new) (error_line term.old.coloring text) }
 {
     match format!(in alloc; "{fault}") {
         Ok(text) => {
