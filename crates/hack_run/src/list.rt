@@ -10,11 +10,10 @@ ghost use Rattle.hack_run.specs.Runs.{DoesPlan, ListsOver, SendsAll};
 use crate::drive::{Teller, drive_context};
 use crate::fault::RunFault;
 use crate::gathered::{gather_on, room, write_last};
-use crate::start::starter;
 use hack_calls::fault::PlanFault;
 use hack_load::context::Context;
 use hack_process::process::{Caller, ProcessFault};
-use hack_session::session::{Lines, Lister};
+use hack_session::session::{Lines, Lister, Starter};
 use hack_term::term::{LogGroup, Term};
 use hack_versions::version::Version;
 use std::alloc::Global;
@@ -96,15 +95,15 @@ fn hand_to_lister<C: Caller, O: Write, E: Write>(
 {
     let mut nothing = io::sink();
     let mut fault = None;
-    let mut starter = starter(
+    let mut starter = Starter::new(
         alloc,
-        cx.args(),
-        LogGroup::None,
-        &mut fault,
-        term,
         caller,
+        term,
         &mut nothing,
         err,
+        LogGroup::None,
+        cx.args().keep_going,
+        &mut fault,
     );
     let mut lines = gather_on(alloc, out, gathered);
     let refused = list_over(alloc, cx, rustup, stable, &mut lines, &mut starter);

@@ -13,7 +13,7 @@ use hack_load::context::Context;
 use hack_process::process::{Caller, ProcessFault};
 use hack_session::session::{Handed, History, Outcome, Session, Starter, Step};
 use hack_session::suspect_notes::suspect_notes;
-use hack_term::term::{LogGroup, Term};
+use hack_term::term::Term;
 use hack_versions::version::Version;
 use hack_words::cli::Args;
 use std::alloc::{AllocError, Global};
@@ -53,12 +53,11 @@ pub(crate) fn start<C: Caller, O: Write, E: Write>(
     }
 }
 
-/// Returns a starter that performs runs as the arguments say, but for the kind of log groups. The
-/// error that stops it goes to `fault`.
-pub(crate) fn starter<'a, C: Caller, O: Write, E: Write>(
+/// Returns a starter that performs runs as the arguments say. The error that stops it goes to
+/// `fault`.
+fn starter<'a, C: Caller, O: Write, E: Write>(
     alloc: Global,
     args: &Args,
-    log_group: LogGroup,
     fault: &'a mut Option<ProcessFault>,
     term: &'a mut Term,
     caller: &'a mut C,
@@ -72,7 +71,7 @@ pub(crate) fn starter<'a, C: Caller, O: Write, E: Write>(
     ensures fault { (result.fault.ghost_name ≡ fault.entry.ghost_name)
         × (result.fault.now ≡ fault.entry.now) }
     ensures args { (result.keep_going ≡ args.now.keep_going)
-        × (result.log_group ≡ log_group) }
+        × (result.log_group ≡ args.now.log_group) }
 {
     Starter::new(
         alloc,
@@ -80,7 +79,7 @@ pub(crate) fn starter<'a, C: Caller, O: Write, E: Write>(
         term,
         out,
         err,
-        log_group,
+        args.log_group,
         args.keep_going,
         fault,
     )
@@ -106,17 +105,7 @@ fn drive<C: Caller, O: Write, E: Write>(
     ensures made { C.tells → PerformsAtMostOne false (context_view cx.now) stable rustup.now
         (O.contents out.old) (O.contents out.new) (C.calls caller.old) (C.calls caller.new) }
 {
-    let log_group = cx.args().log_group;
-    let mut starter = starter(
-        alloc,
-        cx.args(),
-        log_group,
-        fault,
-        term,
-        caller,
-        out,
-        err,
-    );
+    let mut starter = starter(alloc, cx.args(), fault, term, caller, out, err);
     let session = drive_context(alloc, cx, rustup, stable, &mut starter)?;
     Ok(session)
 }

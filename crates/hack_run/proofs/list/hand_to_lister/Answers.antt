@@ -20,9 +20,9 @@ returns-clause-done g c = λ ok none short quiet t.
     let stays = c.list_over-refused.ensures.stays in
     let had = append_known (contents c.gather_on-lines.result.out.now) c.gather_on-lines.result.gathered.now.items in
     let has = append_known (contents lines.out.now) lines.gathered.now.items in
-    let caller_is = c.caller-1.given.1 (sym c.starter-starter.ensures.caller.0 ∙ l.told.0 ∙ l.ran.0) in
-    let term_is = c.term-1.given.1 (sym c.starter-starter.ensures.term.0 ∙ l.told.1 ∙ l.ran.1) in
-    let fault_is = c.fault-2-1.given.1 (sym c.starter-starter.ensures.fault.0 ∙ l.told.2 ∙ l.ran.2) in
+    let caller_is = c.caller-1.given.1 (sym c.new-starter.ensures.caller.0 ∙ l.told.0 ∙ l.ran.0) in
+    let term_is = c.term-1.given.1 (sym c.new-starter.ensures.term.0 ∙ l.told.1 ∙ l.ran.1) in
+    let fault_is = c.fault-2-1.given.1 (sym c.new-starter.ensures.fault.0 ∙ l.told.2 ∙ l.ran.2) in
     let out_is = c.out-1.given.1 (sym c.gather_on-lines.ensures.out.0 ∙ stays.0) in
     let gathered_is = c.gathered-1.given.1 (sym c.gather_on-lines.ensures.gathered.0 ∙ stays.1) in
     rw (out_is, gathered_is, caller_is, term_is, sym c.gather_on-lines.ensures.out.1, sym c.gather_on-lines.ensures.gathered.1)
@@ -30,10 +30,10 @@ returns-clause-done g c = λ ok none short quiet t.
       plan = l.course.plan;
       notes = l.notes;
       planned = l.planned;
-      done = subst (λ old. SendsAll had has l.course.plan cx.args.partition (calls old) (calls last.caller.now)) (l.told.3 ∙ c.starter-starter.ensures.caller.1)
+      done = subst (λ old. SendsAll had has l.course.plan cx.args.partition (calls old) (calls last.caller.now)) (l.told.3 ∙ c.new-starter.ensures.caller.1)
           (sends_all l.course.plan cx.args.partition l.course.schedule l.course.handed (calls l.mid.caller.now) (calls last.caller.now) l.mid.refused last.refused last.term.now last.fault.now had has
           l.handed.schedule (whole l.course l.handed.history l.handed.complete) (l.ran.3 t) l.ran.5 list.listed list.written (sym fault_is ∙ none) (sym (ap (λ (k : Term). k.error) term_is) ∙ quiet));
-      warned = warned_run c.args.term.now c.starter-starter.result.term.now l.mid.term.now last.term.now l.notes c.starter-starter.ensures.term.1 l.told.6 l.ran.6;
+      warned = warned_run c.args.term.now c.new-starter.result.term.now l.mid.term.now last.term.now l.notes c.new-starter.ensures.term.1 l.told.6 l.ran.6;
     })
 
 pub returns-clause-made : goal.returns-clause-made
@@ -46,8 +46,8 @@ returns-clause-made g c = λ t.
     let has = append_known (contents lines.out.now) lines.gathered.now.items in
     let last = c.list_over-refused.new.runner in
     let names = handed_keeps (Unit {0}) had has _ _ (context_view c.args.cx.now) c.args.stable c.args.rustup.now _ last c.list_over-refused.ensures.made (λ s. s.caller.ghost_name) (λ notes x y told. told.0) (λ plan steps x y ran. ran.0) in
-    let caller_is = c.caller-1.given.1 (sym c.starter-starter.ensures.caller.0 ∙ names) in
+    let caller_is = c.caller-1.given.1 (sym c.new-starter.ensures.caller.0 ∙ names) in
     let out_is = c.out-1.given.1 (sym c.gather_on-lines.ensures.out.0 ∙ stays.0) in
     let gathered_is = c.gathered-1.given.1 (sym c.gather_on-lines.ensures.gathered.0 ∙ stays.1) in
-    rw (out_is, gathered_is, caller_is, sym c.gather_on-lines.ensures.out.1, sym c.gather_on-lines.ensures.gathered.1, sym c.starter-starter.ensures.caller.1)
+    rw (out_is, gathered_is, caller_is, sym c.gather_on-lines.ensures.out.1, sym c.gather_on-lines.ensures.gathered.1, sym c.new-starter.ensures.caller.1)
     (handed_makes (Unit {0}) had has _ _ (context_view c.args.cx.now) c.args.stable c.args.rustup.now _ last c.list_over-refused.ensures.made tt (λ s. calls s.caller.now) (λ s. s.refused) (λ notes x y told. ap calls told.3) (λ plan steps x y ran. ran.3 t))
