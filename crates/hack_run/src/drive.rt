@@ -11,6 +11,7 @@ ghost use Rattle.hack_run.specs.Told.{after_notes};
 
 use crate::tell::tell_all;
 use hack_base::notice::Notice;
+use hack_base::writes::Sink;
 use hack_calls::fault::PlanFault;
 use hack_calls::plan::plan_of;
 use hack_load::context::Context;
@@ -18,7 +19,6 @@ use hack_process::process::Caller;
 use hack_session::session::{Lines, Lister, Runner, Session, Starter, drive_plan};
 use hack_versions::version::Version;
 use std::alloc::Global;
-use std::io::Write;
 
 /// A runner that also prints notices for the user.
 pub trait Teller: Runner {
@@ -80,14 +80,19 @@ pub fn drive_context<R: Teller>(
     Ok(session)
 }
 
-impl<C: Caller, O: Write, E: Write> Teller for Starter<'_, C, O, E> {
+impl<C: Caller, O: Sink, E: Sink> Teller for Starter<'_, C, O, E> {
     ghost told = { λ notes a b. (a.caller.ghost_name ≡ b.caller.ghost_name)
         × (a.term.ghost_name ≡ b.term.ghost_name)
         × (a.fault.ghost_name ≡ b.fault.ghost_name)
         × (b.caller.now ≡ a.caller.now)
         × (b.refused ≡ a.refused)
         × (b.fault.now ≡ a.fault.now)
-        × (b.term.now ≡ after_notes a.term.now notes) };
+        × (b.term.now ≡ after_notes a.term.now notes)
+        × (a.out.ghost_name ≡ b.out.ghost_name)
+        × (a.err.ghost_name ≡ b.err.ghost_name)
+        × (b.out.now ≡ a.out.now)
+        × (b.keep_going ≡ a.keep_going)
+        × (b.log_group ≡ a.log_group) };
 
     fn tell(&mut self, notices: &[Notice]) {
         tell_all(notices, self.term, self.err);

@@ -6,6 +6,7 @@ ghost use Rattle.hack_run.specs.Told.{after_notes};
 
 use crate::fault::RunFault;
 use hack_base::notice::Notice;
+use hack_base::writes::Sink;
 use hack_calls::fault::PlanFault;
 use hack_load::context::ContextFault;
 use hack_load::metadata::AskFault;
@@ -86,7 +87,7 @@ pub(crate) fn tell_end<E: Write>(
 }
 
 /// Prints notices, and notes a warning where one of them counts as such.
-pub(crate) fn tell_all<E: Write>(notices: &[Notice], term: &mut Term, err: &mut E)
+pub(crate) fn tell_all<E: Sink>(notices: &[Notice], term: &mut Term, err: &mut E)
     ensures { term.new ≡ after_notes term.old (map note_of notices.now) }
 {
     for notice in notices {
