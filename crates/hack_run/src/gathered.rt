@@ -20,7 +20,7 @@ pub(crate) struct GatheredLines<'a, O: Write> {
     pub(crate) out: &'a mut O,
     pub(crate) gathered: &'a mut Vec<u8>,
     /// Where a line is put together; its memory is used for the next one.
-    line: String,
+    line: &'a mut String,
     /// How many lines could not be written.
     pub(crate) failed: u64,
     /// Whether memory ran out for one of them.
@@ -44,7 +44,7 @@ impl<O: Write> Lines for GatheredLines<'_, O> {
     ghost stays_more = { λ a b c p q. (p.0 ∙ q.0, p.1 ∙ q.1) };
 
     fn line<D: fmt::Display + Drop>(&mut self, text: D) -> Result<(), fmt::Error> {
-        match put_line(self.out, self.gathered, &mut self.line, text) {
+        match put_line(self.out, self.gathered, self.line, text) {
             Ok(()) => Ok(()),
             Err(fault) => {
                 self.failed = self.failed.saturating_add(1);
@@ -62,11 +62,12 @@ pub(crate) fn room(alloc: Global) -> Result<Vec<u8>, AllocError>
     Vec::with_capacity(alloc, ROOM)
 }
 
-/// Returns lines that are gathered in this buffer, none of which has failed.
+/// Returns lines that are gathered in this buffer, none of which has failed. Each is put together in
+/// `line`.
 pub(crate) fn gather_on<'a, O: Write>(
-    alloc: Global,
     out: &'a mut O,
     gathered: &'a mut Vec<u8>,
+    line: &'a mut String,
 ) -> GatheredLines<'a, O>
     ensures out { (result.out.ghost_name ≡ out.entry.ghost_name)
         × (result.out.now ≡ out.entry.now) }
@@ -77,7 +78,7 @@ pub(crate) fn gather_on<'a, O: Write>(
     GatheredLines {
         out,
         gathered,
-        line: String::new(alloc),
+        line,
         failed: 0,
         short: false,
     }

@@ -105,7 +105,8 @@ fn hand_to_lister<C: Caller, O: Write, E: Write>(
         cx.args().keep_going,
         &mut fault,
     );
-    let mut lines = gather_on(alloc, out, gathered);
+    let mut line = String::new(alloc);
+    let mut lines = gather_on(out, gathered, &mut line);
     let refused = list_over(alloc, cx, rustup, stable, &mut lines, &mut starter);
     Listed {
         refused,
