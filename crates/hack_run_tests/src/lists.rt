@@ -99,7 +99,7 @@ fn lists_that_go_on(rt: HostRuntime) -> Result<(), Wrong> {
         rt.alloc(),
         PLAIN,
         r#"
-            > calls err: hack check --feature-powerset --version-range 1.60..=1.61 --print-command-list; features a b c d e f g; broken write 1
+            > calls err: hack check --feature-powerset --version-range 1.60..=1.61 --print-command-list; features a b c d e f g h i j; broken write 1
             | rustup --version
             | cargo -vV
             | rustup run stable cargo -vV
@@ -110,7 +110,7 @@ fn lists_that_go_on(rt: HostRuntime) -> Result<(), Wrong> {
             | error: failed to write the command list
             | status 1
 
-            > calls err: hack check --feature-powerset --version-range 1.60..=1.61 --print-command-list --keep-going; features a b c d e f g; broken write 1
+            > calls err: hack check --feature-powerset --version-range 1.60..=1.61 --print-command-list --keep-going; features a b c d e f g h i j; broken write 1
             | rustup --version
             | cargo -vV
             | rustup run stable cargo -vV
