@@ -15,8 +15,8 @@ import re
 import sys
 
 ROOT = os.path.dirname(os.path.dirname(os.path.realpath(__file__)))
-# The plan of a loaded call with what a session hands out of it; and a call from its arguments to its status.
-PROMISES = ["hack_calls::plan::plan_of", "hack_session::runner::drive_plan", "hack_run::run::run"]
+# The call that carries the headline, and a call from its arguments to its status.
+PROMISES = ["hack_run::drive::drive_context", "hack_run::run::run"]
 NAME = re.compile(r"[A-Za-z_][\w'-]*")
 IMPORT = re.compile(r"(?:ghost )?use Rattle\.(hack_\w+)\.specs\.([\w.]+?)(?:\.\{([^}]*)\}| as (\w+))?;?\s*(?:--.*)?$")
 DEFINES = re.compile(r"( *)(?:(?:abbrev|record|data|pub) )+(\S+)")
@@ -61,7 +61,7 @@ def module(crate, name):
             current = begun[2]
         if current:
             found.setdefault(current, []).append(line)
-    return found, imports([*lines_of(path)])
+    return found, imports(lines_of(path))
 
 
 def follow(start):
