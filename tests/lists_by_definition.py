@@ -1,7 +1,7 @@
 #!/usr/bin/env python3
 """Asks `cargo-hack` for the command lists of random small workspaces, and compares each, byte for byte, with the list
 that is computed here from the definitions alone, slowly: chains by closure, filters over all lists of positions, a set
-of quadruples that is sorted.
+of entries that is sorted.
 
 usage: tests/lists_by_definition.py PROGRAM [--cases N] [--seed S] [--counts K]      PROGRAM: cargo-hack
 

@@ -43,7 +43,7 @@ impl<W: Write> Sink for W {
     }
 }
 
-/// A reader or a writer whose failures are counted.
+/// A writer whose failures are counted.
 #[derive(Drop)]
 pub struct Counted<'a, S> {
     pub stream: &'a mut S,

@@ -151,7 +151,7 @@ fn push_members(
 fn place_text(alloc: Global, cx: &Context) -> Result<String, AllocError> {
     let root = cx.workspace_root();
     let dir = cx.current_dir();
-    let own = cx.cargo_version();
+    let own = cx.cargo_minor();
     let told = cx.metadata().cargo_version;
     let cargo = cx.cargo(alloc)?;
     format!(in alloc; "{root} by {cargo} 1.{own} (1.{told}) in {dir}\n")

@@ -9,9 +9,9 @@ use hack_base::notice::Notice;
 use hack_features::SampleFault;
 use hack_load::context::Context;
 use hack_metadata::metadata::{Metadata, PackageId};
-use hack_packages::determine::{determine_kind, determine_package_list};
-use hack_packages::kind::{Kind, PackageRuns};
-use hack_packages::packages::PackageList;
+use hack_planner::determine::{determine_kind, determine_package_list};
+use hack_planner::kind::{Kind, PackageRuns};
+use hack_planner::packages::PackageList;
 use hack_plan::runs::Run;
 use std::alloc::{AllocError, Global};
 

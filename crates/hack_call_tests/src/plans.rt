@@ -3,11 +3,11 @@
 use crate::shown::push_notices;
 use crate::workspace::push_all;
 use hack_base::notice::Notice;
-use hack_calls::plan::Plan;
+use hack_planner::plan::Plan;
 use hack_plan::progress::Progress;
 use hack_process::process::ProcessBuilder;
-use hack_runs::parts::{PlanVersion, Preparation};
-use hack_runs::plan::PlannedRun;
+use hack_plan::parts::{PlanVersion, Preparation};
+use hack_plan::plan::PlannedCommand;
 use hack_term::partition::{Partition, PartitionFault};
 use std::alloc::{AllocError, Global};
 
@@ -15,7 +15,7 @@ fn push_run(
     text: &mut String,
     alloc: Global,
     plan: &Plan,
-    run: &PlannedRun<'_>,
+    run: &PlannedCommand<'_>,
 ) -> Result<(), AllocError> {
     let command = run.command.text(alloc, false, false, plan.dir())?;
     let name = run.name.unwrap_or("all");

@@ -54,11 +54,6 @@ pub fn remove_dev_deps(alloc: Global, text: &str) -> Result<String, ManifestFaul
     without_dev_pieces(alloc, old, &cut)
 }
 
-/// Carries a law: the result of a removal has nothing to take out, so a second one changes nothing.
-pub fn nothing_left()
-    ensures { (text new : List ℕ) → IsWithoutDev text new → HasNoDev new }
-{}
-
 /// Edits a manifest that has something to take out.
 fn without_dev_pieces(alloc: Global, old: Table, cut: &Pieces<'_>) -> Result<String, ManifestFault>
     requires { (text : List ℕ) × AreCut text (pieces_view cut.now) cut.now.tail.now }

@@ -8,6 +8,7 @@ mod dev_tree;
 mod exclude;
 mod fault;
 mod key_paths;
+mod laws;
 mod lookup;
 pub mod manifest;
 mod members;

@@ -1,10 +1,7 @@
 //! Which members of a workspace are private crates, and which private crates no member's text leads
 //! to.
 
-ghost use Rattle.std.specs.Prelude.{◌≡◌, false, List, IfOk, OnOk, string_bytes};
-ghost use Rattle.std.specs.List.{list_any};
-ghost use Rattle.std.specs.List.Sorted.{IsStrictlySortedBy};
-ghost use Rattle.std.specs.Str.{bytes_eq};
+ghost use Rattle.std.specs.Prelude.{◌≡◌, false, IfOk, OnOk, string_bytes};
 ghost use Rattle.hack_base.specs.Names.{Name};
 ghost use Rattle.std.specs.BTreeSet.{insert_key};
 ghost use Rattle.std.specs.Cmp.Lexicographic.{slice_cmp};
@@ -36,13 +33,6 @@ pub fn in_order<'a>(alloc: Global, paths: &[&'a str]) -> Result<Vec<&'a str>, Al
     }
     Ok(all)
 }
-
-/// Carries a law: paths in order rise by their bytes, and are those that were given.
-pub fn paths_in_order()
-    ensures rising { (ps : List Name) → IsStrictlySortedBy (slice_cmp nat_cmp) (in_order ps) }
-    ensures given { (ps : List Name) (p : Name)
-        → list_any (bytes_eq p) (in_order ps) ≡ list_any (bytes_eq p) ps }
-{}
 
 /// The paths as a set.
 fn sorted_set<'a>(alloc: Global, paths: &[&'a str]) -> Result<BTreeSet<&'a str>, AllocError>

@@ -1,4 +1,4 @@
-//! Questions on the sets of a scene. The rules follow each question, and `-` is the empty set.
+//! Questions on the sets of an input. The rules follow each question, and `-` is the empty set.
 //!
 //! - `list`: the listed sets by their names; `sets`: by the places of their candidates.
 //! - `cover 0,2`: the set that covers this one, or `none`; `covers`: the same for each set.
@@ -284,10 +284,10 @@ fn of_sets(alloc: Global, kind: &str, rest: &str) -> Result<String, AllocError> 
     }
 }
 
-/// The answer to a question on a scene.
-fn answer(alloc: Global, scene: &str, question: &str) -> Result<String, AllocError> {
+/// The answer to a question on an input.
+fn answer(alloc: Global, input: &str, question: &str) -> Result<String, AllocError> {
     let (kind, rest) = question.split_once(' ').unwrap_or((question, ""));
-    let case = case_of(alloc, scene, rest)?;
+    let case = case_of(alloc, input, rest)?;
     let refs = refs(alloc, case.candidates.as_slice())?;
     let refs = refs.as_slice();
     let word = word_at(rest, 0);
@@ -307,26 +307,26 @@ fn answer(alloc: Global, scene: &str, question: &str) -> Result<String, AllocErr
     }
 }
 
-/// The answer to the question `all` on a scene with these rules.
-pub fn all_of(alloc: Global, scene: &str, rules: &str) -> Result<String, AllocError> {
-    let case = case_of(alloc, scene, rules)?;
+/// The answer to the question `all` on an input with these rules.
+pub fn all_of(alloc: Global, input: &str, rules: &str) -> Result<String, AllocError> {
+    let case = case_of(alloc, input, rules)?;
     let refs = refs(alloc, case.candidates.as_slice())?;
     all(alloc, &case, refs.as_slice())
 }
 
-/// A scene of which questions are asked.
+/// An input of which questions are asked.
 #[derive(Drop)]
 struct Asked<'a> {
-    scene: &'a str,
+    input: &'a str,
 }
 
 impl Ask for Asked<'_> {
     fn answer(&mut self, alloc: Global, question: &str) -> Result<String, AllocError> {
-        answer(alloc, self.scene, question)
+        answer(alloc, self.input, question)
     }
 }
 
-/// Checks rows on a scene.
-pub fn on(alloc: Global, scene: &str, rows: &str) -> Result<(), Wrong> {
-    hold(alloc, &mut Asked { scene }, rows)
+/// Checks rows on an input.
+pub fn on(alloc: Global, input: &str, rows: &str) -> Result<(), Wrong> {
+    hold(alloc, &mut Asked { input }, rows)
 }

@@ -1,6 +1,6 @@
 //! Feature maps, features and whole choices, made from short texts.
 //!
-//! A scene is a map, and after ` $ ` its candidates, separated by spaces. A map is its lines,
+//! An input is a map, and after ` $ ` its candidates, separated by spaces. A map is its lines,
 //! separated by `;`: `a:;b: a c`. A feature is a name; `[a|b]` is the group of `a` and `b`, `()`
 //! the group of no names, and `dep>feat` a path. Rules are words: `depth=2`, and groups of names
 //! separated by commas. A set needs one of `some=a,b`, and has at most one of `apart=a,b`;
@@ -129,9 +129,9 @@ pub struct Case {
     pub lifted: Vec<bool>,
 }
 
-/// The case of a scene with these rules.
-pub fn case_of(alloc: Global, scene: &str, rules: &str) -> Result<Case, AllocError> {
-    let (map, candidates) = scene.split_once(" $ ").unwrap_or((scene, ""));
+/// The case of an input with these rules.
+pub fn case_of(alloc: Global, input: &str, rules: &str) -> Result<Case, AllocError> {
+    let (map, candidates) = input.split_once(" $ ").unwrap_or((input, ""));
     Ok(Case {
         map: map_of(alloc, map)?,
         candidates: features(alloc, candidates)?,
@@ -170,7 +170,7 @@ fn chain(alloc: Global, n: usize) -> Result<String, AllocError> {
     Ok(text)
 }
 
-/// The scene of the candidates `f1` to `f{n}`: they are a chain where `is_chain` says so, else no
+/// The input of the candidates `f1` to `f{n}`: they are a chain where `is_chain` says so, else no
 /// keys.
 pub fn numbered(alloc: Global, n: usize, is_chain: bool) -> Result<String, AllocError> {
     let mut text = String::new(alloc);

@@ -25,7 +25,7 @@ mod rules;
 #[cfg(test)]
 mod samples;
 #[cfg(test)]
-mod scenes;
+mod inputs;
 #[cfg(test)]
 mod settings;
 #[cfg(test)]

@@ -118,7 +118,7 @@ fn names_of(candidate: &str) -> &str {
     }
 }
 
-/// A scene and its rules.
+/// An input and its rules.
 #[derive(Drop)]
 struct Plain<'a> {
     candidates: &'a str,
@@ -157,8 +157,8 @@ fn reached_by_each(map: &str) -> [u64; 6] {
 }
 
 impl<'a> Plain<'a> {
-    fn of(scene: &'a str, rules: &'a str) -> Plain<'a> {
-        let (map, candidates) = scene.split_once(" $ ").unwrap_or((scene, ""));
+    fn of(input: &'a str, rules: &'a str) -> Plain<'a> {
+        let (map, candidates) = input.split_once(" $ ").unwrap_or((input, ""));
         Plain {
             candidates,
             rules,
@@ -415,11 +415,11 @@ fn push_covers(
     Ok(())
 }
 
-/// The expected answer to the question `all` on a scene with these rules. As numbers the sets
+/// The expected answer to the question `all` on an input with these rules. As numbers the sets
 /// ascend, so of two sets that one is later which has the greatest position that is in only one of
 /// them.
-pub fn all(alloc: Global, scene: &str, rules: &str) -> Result<String, AllocError> {
-    let plain = Plain::of(scene, rules);
+pub fn all(alloc: Global, input: &str, rules: &str) -> Result<String, AllocError> {
+    let plain = Plain::of(input, rules);
     let judged = plain.judged();
     let mut text = String::new(alloc);
     push_list(&mut text, &plain, judged.listed)?;

@@ -33,10 +33,10 @@ fn few_questions_on_runtimes(rt: HostRuntime) -> Result<(), Wrong> {
 
 #[test]
 fn few_questions_on_pairs_of_30(rt: HostRuntime) -> Result<(), Wrong> {
-    let scene = numbered(rt.alloc(), 30, false)?;
+    let input = numbered(rt.alloc(), 30, false)?;
     on(
         rt.alloc(),
-        scene.as_str(),
+        input.as_str(),
         "
             > count 13980 depth=2
             | 465 465 465 few true same true
@@ -46,10 +46,10 @@ fn few_questions_on_pairs_of_30(rt: HostRuntime) -> Result<(), Wrong> {
 
 #[test]
 fn few_questions_on_a_chain_of_60(rt: HostRuntime) -> Result<(), Wrong> {
-    let scene = numbered(rt.alloc(), 60, true)?;
+    let input = numbered(rt.alloc(), 60, true)?;
     on(
         rt.alloc(),
-        scene.as_str(),
+        input.as_str(),
         "
             > count 3660
             | 60 60 60 few true same true
@@ -59,10 +59,10 @@ fn few_questions_on_a_chain_of_60(rt: HostRuntime) -> Result<(), Wrong> {
 
 #[test]
 fn few_questions_on_a_chain_of_300(rt: HostRuntime) -> Result<(), Wrong> {
-    let scene = numbered(rt.alloc(), 300, true)?;
+    let input = numbered(rt.alloc(), 300, true)?;
     on(
         rt.alloc(),
-        scene.as_str(),
+        input.as_str(),
         "
             > count 90300
             | 300 300 300 few true same true

@@ -104,7 +104,8 @@ impl Feature {
     }
 
     /// Whether a chain of values leads from `s` to one of the feature's names. Values are cut
-    /// before their first `/`, and values that begin with `dep:` count too.
+    /// before their first `/`, and values that begin with `dep:` count too. No program here calls
+    /// it: it is for users of the library.
     pub fn matches_recursive(
         &self,
         alloc: Global,

@@ -41,7 +41,7 @@ pub record IsContextOf (given : Args) (minor : ℕ) (l : Loaded) (cx : ContextRe
   pub manifests : cx.manifests ≡ l.manifests.items
   pub features : AreFeatures (metadata_view l.metadata) given.include_deps_features (metadata_view l.metadata).workspace_members l.manifests.items cx.features
   pub cargo : cx.cargo ≡ string_bytes l.cargo
-  pub cargo_version : cx.cargo_version ≡ minor
+  pub cargo_minor : cx.cargo_minor ≡ minor
   pub current_dir : cx.current_dir ≡ string_bytes l.current_dir
   pub current_package : IsCurrent l cx
 

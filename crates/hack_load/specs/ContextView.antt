@@ -19,11 +19,11 @@ context_of args metadata manifests features cargo minor dir current = record {
   manifests = manifests;
   features = features;
   cargo = string_bytes cargo;
-  cargo_version = minor;
+  cargo_minor = minor;
   current_dir = string_bytes dir;
   current_package = option_map place_at current;
 }
 
 -- a context as plain data
 abbrev pub context_view : Context → ContextRecord
-context_view c = context_of c.args c.metadata c.manifests.items c.features.items c.cargo c.cargo_version c.current_dir c.current_package
+context_view c = context_of c.args c.metadata c.manifests.items c.features.items c.cargo c.cargo_minor c.current_dir c.current_package

@@ -18,7 +18,7 @@ pub record ContextRecord : Type 0 where
   pub features : List Features
   -- the program to run as cargo, and its own minor version, 0 where that isn't known
   pub cargo : Name
-  pub cargo_version : ℕ
+  pub cargo_minor : ℕ
   pub current_dir : Name
   -- the current package
   pub current_package : Option ℕ

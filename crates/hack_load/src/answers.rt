@@ -11,7 +11,7 @@ use crate::fault::ContextFault;
 pub use crate::loaded::Loaded;
 use crate::located::Located;
 use crate::members::manifests_of;
-use crate::told::{Told, minor_of};
+use crate::cargo_version::{CargoVersion, minor_of};
 use hack_files::fs::Files;
 use hack_files::restore::Manager;
 use hack_metadata::metadata::{AskFault, Metadata};
@@ -52,7 +52,7 @@ impl Answers {
             (F.failed files.old) (F.failed files.new) (C.calls caller.old) (C.calls caller.new)
             result }
     {
-        let told = match Told::ask(alloc, args, env, caller) {
+        let told = match CargoVersion::ask(alloc, args, env, caller) {
             Ok(told) => told,
             Err(AllocError) => return out_of_memory(),
         };

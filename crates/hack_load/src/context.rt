@@ -26,7 +26,7 @@ pub use crate::fault::ContextFault;
 use crate::features::Features;
 pub use crate::located::{Located, current_package};
 pub use crate::name::VerboseName;
-use crate::told::minor_of;
+use crate::cargo_version::minor_of;
 use hack_base::notice::{Notice, NoticeKind};
 use hack_base::paths::parent;
 use hack_manifest::manifest::Manifest;
@@ -44,7 +44,7 @@ pub struct Context {
     manifests: Vec<Manifest>,
     features: Vec<Features>,
     cargo: String,
-    cargo_version: u32,
+    cargo_minor: u32,
     current_dir: String,
     current_package: Option<PackageId>,
     ghost each_manifest: { length manifests.items ≡ length metadata.workspace_members.items },
@@ -116,7 +116,7 @@ impl Context {
             manifests,
             features,
             cargo,
-            cargo_version: minor,
+            cargo_minor: minor,
             current_dir,
             current_package,
         })
@@ -170,10 +170,10 @@ impl Context {
 
     /// Returns the minor version of that cargo itself, 0 where it isn't known. The cargo that
     /// reported the metadata may be newer.
-    pub fn cargo_version(&self) -> u32
-        ensures { result ≡ (context_view self.now).cargo_version }
+    pub fn cargo_minor(&self) -> u32
+        ensures { result ≡ (context_view self.now).cargo_minor }
     {
-        self.cargo_version
+        self.cargo_minor
     }
 
     /// The folder that the call was made in, empty where it isn't known.

@@ -12,7 +12,7 @@ mod located;
 mod members;
 mod name;
 pub mod process;
-mod told;
+mod cargo_version;
 
 pub use hack_manifest::manifest;
 pub use hack_metadata::metadata;

@@ -20,6 +20,7 @@ pub use hack_process::process::{
 use std::alloc::{AllocError, Global};
 
 /// Gives a command the call's arguments for cargo: those before the call's `--`, and those after.
+/// No program here calls it: it is for users of the library.
 pub fn apply_context<'a>(command: &mut ProcessBuilder<'a>, cx: &'a Context)
     ensures { command_of command.new ≡ record (command_of command.old) {
       passed = map string_bytes (context_view cx.now).args.leading_args.items;
@@ -32,7 +33,7 @@ pub fn apply_context<'a>(command: &mut ProcessBuilder<'a>, cx: &'a Context)
 
 /// Appends the features of the call to those of a command, which is for the package `id`, or for
 /// all. Under `--ignore-unknown-features` those that the package doesn't have are left out, and a
-/// notice is returned for each.
+/// notice is returned for each. No program here calls it: it is for users of the library.
 pub fn append_features_from_args(
     alloc: Global,
     command: &mut ProcessBuilder<'_>,

@@ -4,6 +4,7 @@
 
 mod fault;
 mod features;
+mod laws;
 pub mod lookup;
 pub mod manifest;
 mod package;

@@ -1,10 +1,10 @@
 //! A package's manifest: its text, and what it says about its package and features.
 //! <https://doc.rust-lang.org/cargo/reference/manifest.html>
 
-ghost use Rattle.std.specs.Prelude.{◌≡◌, ℕ, List, Some, IfOk, IfErr, string_bytes};
+ghost use Rattle.std.specs.Prelude.{◌≡◌, Some, IfOk, IfErr, string_bytes};
 ghost use Rattle.toml.specs.Parse.{parse_document};
 ghost use Rattle.toml.specs.View.{table_view};
-ghost use Rattle.hack_manifest.specs.Manifest.{read_manifest, Reading, Facts, IsReadAs};
+ghost use Rattle.hack_manifest.specs.Manifest.{read_manifest};
 ghost use Rattle.hack_manifest.specs.View.{slice_view};
 ghost use Rattle.hack_manifest.specs.Reads.{Gives, Tells, facts_view, IsManifest};
 ghost use Rattle.hack_manifest.specs.Reads.{IsRefusal, IsTomlFault, IsFieldFault};
@@ -13,7 +13,8 @@ use crate::fault::ReadFault;
 use crate::features::features_of;
 pub use crate::package::Package;
 use crate::package::{package_of, package_table};
-pub use crate::pieces::{Piece, Pieces, PiecesFault, cut_is_one, pieces_join};
+pub use crate::laws::{cut_is_one, manifest_is_one, pieces_join};
+pub use crate::pieces::{Piece, Pieces, PiecesFault};
 use crate::pieces::{cut, is_inline};
 use std::alloc::{AllocError, Global};
 use std::collections::BTreeMap;
@@ -82,12 +83,6 @@ impl Manifest {
         }
     }
 }
-
-/// Carries a law: a manifest's text is read in only one way.
-pub fn manifest_is_one()
-    ensures { (text : List ℕ) (minor : ℕ) (read other : Reading Facts) → IsReadAs text minor read
-        → IsReadAs text minor other → read ≡ other }
-{}
 
 /// The error of a text that is no TOML.
 fn toml_fault(alloc: Global, path: &str) -> ManifestFault

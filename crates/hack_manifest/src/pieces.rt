@@ -1,10 +1,10 @@
 //! A text cut into pieces with their key paths. A piece is a header or a key with its value, with
 //! the blank lines and comments before it.
 
-ghost use Rattle.std.specs.Prelude.{◌≡◌, ◌++◌, ℕ, List, None, IsSome, IfOk};
+ghost use Rattle.std.specs.Prelude.{◌≡◌, None, IsSome, IfOk};
 ghost use Rattle.toml.specs.Parse.{parse_document};
 ghost use Rattle.hack_base.specs.Names.{names_of};
-ghost use Rattle.hack_manifest.specs.Paths.{View, AreCut, joined_pieces, next_header};
+ghost use Rattle.hack_manifest.specs.Paths.{AreCut, next_header};
 ghost use Rattle.hack_manifest.specs.View.{pieces_view, slice_view, piece_view};
 ghost use Rattle.hack_manifest.specs.Manifest.{is_value_of, is_inline};
 ghost use Rattle.hack_manifest.specs.declared.pieces.PiecesFault.TheVariants.{Memory, Toml};
@@ -110,18 +110,6 @@ pub fn cut(alloc: Global, text: &str) -> Result<Pieces<'_>, AllocError>
         tail: rest,
     })
 }
-
-/// Carries a law: the pieces and the tail joined are the text.
-pub fn pieces_join()
-    ensures { (text tail : List ℕ) (pieces : List View) → AreCut text pieces tail
-        → text ≡ joined_pieces pieces ++ tail }
-{}
-
-/// Carries a law: a text is cut in only one way.
-pub fn cut_is_one()
-    ensures { (text tail end : List ℕ) (pieces others : List View) → AreCut text pieces tail
-        → AreCut text others end → (pieces ≡ others) × (tail ≡ end) }
-{}
 
 /// Whether a piece is a key of just this name with its value.
 fn is_value_of(piece: &Piece<'_>, name: &str) -> bool

@@ -1,10 +1,10 @@
--- Lists of quadruples joined.
+-- Lists of entries joined.
 use Rattle.std.proofs.Common.{◌⊎◌, ℕ, ◌-◌, ◌<◌, ◌≤◌, List, [], ◌++◌, length, arith, refl, ap, sym, ◌∙◌, inl, inr, get_or, length-append, append_assoc, append-nil}
 use Rattle.std.specs.List.{AllPairs, Contains}
 use Rattle.std.proofs.lemmas.List.{get_or_append_left, get_or-append_right}
 use Rattle.std.proofs.lemmas.List.Elements.{Contains-get_or, All-append, All-contains, All-weaker, Contains-append_left, Contains-append_right}
-use Rattle.hack_plan.specs.declared.places.Quad.{Quad}
-use Rattle.hack_plan.specs.Quads.{Lists, Adds, Before, Overfills}
+use Rattle.hack_plan.specs.declared.places.PlanEntry.{PlanEntry}
+use Rattle.hack_plan.specs.Entries.{Lists, Adds, Before, Overfills}
 
 lt_or_le : (a b : ℕ) → (a < b) ⊎ (b ≤ a)
 lt_or_le a b = grind arith
@@ -22,31 +22,31 @@ AllPairs-append R xs ys f g h i j d l m = go (lt_or_le j (length xs)) (lt_or_le 
         let k : i - length xs < j - length xs = omega arith in
         rw (get_or-append_right xs ys (length xs) i d refl v, get_or-append_right xs ys (length xs) j d refl u) (g (i - length xs) (j - length xs) d k w)
 
-pub Lists-append : (P Q R : Quad → Type 0) (xs ys : List Quad) → Lists P xs → Lists Q ys → ((a b : Quad) → P a → Q b → Before a b) → ((q : Quad) → R q → P q ⊎ Q q) → ((q : Quad) → P q → R q) → ((q : Quad) → Q q → R q) → Lists R (xs ++ ys)
+pub Lists-append : (P Q R : PlanEntry → Type 0) (xs ys : List PlanEntry) → Lists P xs → Lists Q ys → ((a b : PlanEntry) → P a → Q b → Before a b) → ((q : PlanEntry) → R q → P q ⊎ Q q) → ((q : PlanEntry) → P q → R q) → ((q : PlanEntry) → Q q → R q) → Lists R (xs ++ ys)
 Lists-append P Q R xs ys f g before split left right = record {
   increasing = AllPairs-append Before xs ys f.increasing g.increasing (λ a b x y. before a b (All-contains P xs a f.sound x) (All-contains Q ys b g.sound y));
   sound = All-append R xs ys (All-weaker P R left xs f.sound) (All-weaker Q R right ys g.sound);
   complete = λ q r. elim (split q r) [ inl p ↦ Contains-append_left xs ys q (f.complete q p) | inr p ↦ Contains-append_right xs ys q (g.complete q p) ];
 }
 
-pub Adds-then : (P Q R : Quad → Type 0) (old mid new : List Quad) → Adds P old mid → Adds Q mid new → ((a b : Quad) → P a → Q b → Before a b) → ((q : Quad) → R q → P q ⊎ Q q) → ((q : Quad) → P q → R q) → ((q : Quad) → Q q → R q) → Adds R old new
+pub Adds-then : (P Q R : PlanEntry → Type 0) (old mid new : List PlanEntry) → Adds P old mid → Adds Q mid new → ((a b : PlanEntry) → P a → Q b → Before a b) → ((q : PlanEntry) → R q → P q ⊎ Q q) → ((q : PlanEntry) → P q → R q) → ((q : PlanEntry) → Q q → R q) → Adds R old new
 Adds-then P Q R old mid new f g before split left right = record {
   added = f.added ++ g.added;
   grown = g.grown ∙ ap (λ t. t ++ g.added) f.grown ∙ append_assoc old f.added g.added;
   lists = Lists-append P Q R f.added g.added f.lists g.lists before split left right;
 }
 
-pub Lists-nil : (P : Quad → Type 0) → ((q : Quad) → P q → ⊥) → Lists P []
+pub Lists-nil : (P : PlanEntry → Type 0) → ((q : PlanEntry) → P q → ⊥) → Lists P []
 Lists-nil P none = record {
   increasing = λ i j d l m. absurd (omega arith);
   sound = λ k d h. absurd (omega arith);
   complete = λ q p. absurd (none q p);
 }
 
-pub Adds-nil : (P : Quad → Type 0) (old : List Quad) → ((q : Quad) → P q → ⊥) → Adds P old old
+pub Adds-nil : (P : PlanEntry → Type 0) (old : List PlanEntry) → ((q : PlanEntry) → P q → ⊥) → Adds P old old
 Adds-nil P old none = record { added = []; grown = sym (append-nil old); lists = Lists-nil P none }
 
-pub Overfills-then : (P Q R : Quad → Type 0) (old mid : List Quad) → Adds P old mid → Overfills Q mid → ((a b : Quad) → P a → Q b → Before a b) → ((q : Quad) → P q → R q) → ((q : Quad) → Q q → R q) → Overfills R old
+pub Overfills-then : (P Q R : PlanEntry → Type 0) (old mid : List PlanEntry) → Adds P old mid → Overfills Q mid → ((a b : PlanEntry) → P a → Q b → Before a b) → ((q : PlanEntry) → P q → R q) → ((q : PlanEntry) → Q q → R q) → Overfills R old
 Overfills-then P Q R old mid f g before left right = record {
   added = f.added ++ g.added;
   increasing = AllPairs-append Before f.added g.added f.lists.increasing g.increasing (λ a b x y. before a b (All-contains P f.added a f.lists.sound x) (All-contains Q g.added b g.sound y));

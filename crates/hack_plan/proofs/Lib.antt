@@ -7,3 +7,6 @@ mod Never
 mod SpanLemmas
 mod Below
 mod TwoLemmas
+mod CommandJoins
+mod Ready
+mod Within

@@ -10,10 +10,10 @@ use Rattle.hack_versions.specs.VersionOrder.{IsAtMost, one, strip_patch}
 use Rattle.hack_versions.specs.RangeSteps.{IsLowest, IsBound, AreSteps, AreStepsOf}
 use Rattle.hack_versions.specs.Uses.{UsesBy, IsStepFor, HasStepFrom, own_of}
 use Rattle.hack_versions.proofs.OrderLemmas.{at_most-both}
-use Rattle.hack_plan.specs.declared.places.Quad.{Quad}
-use Rattle.hack_plan.specs.declared.versions.Scene.{Scene}
-use Rattle.hack_plan.specs.Scenes.{IsStepList, UsesVersion, IsVersion, owns_of}
-use Rattle.hack_plan.specs.Quads.{IsAdmissible, HasRun, ArePlaces, HasTooMany}
+use Rattle.hack_plan.specs.declared.places.PlanEntry.{PlanEntry}
+use Rattle.hack_plan.specs.declared.versions.PlanInput.{PlanInput}
+use Rattle.hack_plan.specs.Inputs.{IsStepList, UsesVersion, IsVersion, owns_of}
+use Rattle.hack_plan.specs.Entries.{IsAdmissible, HasRun, ArePlaces, HasTooMany}
 use Rattle.hack_plan.proofs.Pigeon.{not-too-many}
 
 abbrev IsOver : Version → Option Version → Type 0
@@ -56,28 +56,28 @@ module _ (s t : List Version) (same : (v : Version) → Contains s v → Contain
   by-same (Given w) end own v u = from own v u
   by-same Stable end own v u = from own v u
 
-  uses-same : (range : Option VersionRange) (z : Scene) (version : Option Version) (p : ℕ) → UsesVersion range z s version p → UsesVersion range z t version p
+  uses-same : (range : Option VersionRange) (z : PlanInput) (version : Option Version) (p : ℕ) → UsesVersion range z s version p → UsesVersion range z t version p
   uses-same None z None p u = u
   uses-same None z (Some v) p u = u
   uses-same (Some range) z None p u = u
   uses-same (Some range) z (Some v) p u = (u.0, u.1, by-same range.start_inclusive range.end_inclusive (own_of u.0) v u.2)
 
-  version-same : (range : Option VersionRange) (z : Scene) (version : Option Version) → IsVersion range z s version → IsVersion range z t version
+  version-same : (range : Option VersionRange) (z : PlanInput) (version : Option Version) → IsVersion range z s version → IsVersion range z t version
   version-same None z v u = u
   version-same (Some range) z v u = (u.0, uses-same (Some range) z v u.0 u.1)
 
-  run-same : (b : Bool) (z : Scene) (counts : List ℕ) (q : Quad) → HasRun b z counts s q → HasRun b z counts t q
+  run-same : (b : Bool) (z : PlanInput) (counts : List ℕ) (q : PlanEntry) → HasRun b z counts s q → HasRun b z counts t q
   run-same false z counts q h = (h.0, h.1, uses-same z.range z q.version h.0 h.2, h.3)
   run-same true z counts q h = (h.0, h.1, version-same z.range z q.version h.2)
 
-  admissible-same : (z : Scene) (counts : List ℕ) (q : Quad) → IsAdmissible z counts s q → IsAdmissible z counts t q
+  admissible-same : (z : PlanInput) (counts : List ℕ) (q : PlanEntry) → IsAdmissible z counts s q → IsAdmissible z counts t q
   admissible-same z counts q h = record { run = run-same z.as_cargo z counts q h.run; slot = h.slot }
 
-list-same : (range : Option VersionRange) (z : Scene) (stable : Option Version) (s t : List Version) → IsStepList range z stable s → IsStepList range z stable t → (v : Version) → Contains s v → Contains t v
+list-same : (range : Option VersionRange) (z : PlanInput) (stable : Option Version) (s t : List Version) → IsStepList range z stable s → IsStepList range z stable t → (v : Version) → Contains s v → Contains t v
 list-same None z stable s t f g v c = subst (λ xs. Contains xs v) (f ∙ sym g) c
 list-same (Some range) z stable s t f g v c = same-steps range z.step (owns_of z) stable s t f g v c
 
 -- where a plan is short enough, there is no list of too many places
-pub never-too-many : (z : Scene) (counts : List ℕ) (stable : Option Version) (quads : List Quad) → ArePlaces z counts stable quads → length quads < 2 ^ 32 → HasTooMany z counts stable → ⊥
-never-too-many z counts stable quads p short w =
-    not-too-many (IsAdmissible z counts p.0) (IsAdmissible z counts w.0) quads (admissible-same w.0 p.0 (list-same z.range z stable w.0 p.0 w.1 p.1) z counts) p.2 short w.2
+pub never-too-many : (z : PlanInput) (counts : List ℕ) (stable : Option Version) (entries : List PlanEntry) → ArePlaces z counts stable entries → length entries < 2 ^ 32 → HasTooMany z counts stable → ⊥
+never-too-many z counts stable entries p short w =
+    not-too-many (IsAdmissible z counts p.0) (IsAdmissible z counts w.0) entries (admissible-same w.0 p.0 (list-same z.range z stable w.0 p.0 w.1 p.1) z counts) p.2 short w.2

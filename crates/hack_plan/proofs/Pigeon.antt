@@ -5,8 +5,8 @@ use Rattle.std.proofs.lemmas.List.{get_or_default}
 use Rattle.std.proofs.lemmas.List.Elements.{All-contains, Contains-get_or}
 use Rattle.hack_versions.specs.declared.version.Version.{Version}
 use Rattle.hack_versions.proofs.OrderLemmas.{before-trans, before-self}
-use Rattle.hack_plan.specs.declared.places.Quad.{Quad}
-use Rattle.hack_plan.specs.Quads.{Lists, AreTooMany, Before, BySlot, ByPackage, IsLower, IsOlder}
+use Rattle.hack_plan.specs.declared.places.PlanEntry.{PlanEntry}
+use Rattle.hack_plan.specs.Entries.{Lists, AreTooMany, Before, BySlot, ByPackage, IsLower, IsOlder}
 
 pub trio : (i j : ℕ) → (i < j) ⊎ (i ≡ j) ⊎ (j < i)
 trio i j = grind arith
@@ -52,13 +52,13 @@ lower-apart None b f e = f
 lower-apart (Some a) None f e = cc
 lower-apart (Some a) (Some b) f e = lower-strict (Some a) (Some b) f (subst (λ v. IsLower v (Some a)) e (subst (IsLower (Some a)) (sym e) f))
 
-rank-strict : (a b : Quad) → ByPackage a b → ByPackage b a → ⊥
+rank-strict : (a b : PlanEntry) → ByPackage a b → ByPackage b a → ⊥
 rank-strict a b (inl f) (inl g) = lower-strict a.package b.package f g
 rank-strict a b (inl f) (inr g) = lower-apart a.package b.package f (sym g.0)
 rank-strict a b (inr f) (inl g) = lower-apart b.package a.package g (sym f.0)
 rank-strict a b (inr f) (inr g) = absurd (omega (arith, f.1, g.1))
 
-slot-strict : (a b : Quad) → BySlot a b → BySlot b a → ⊥
+slot-strict : (a b : PlanEntry) → BySlot a b → BySlot b a → ⊥
 slot-strict a b (inl f) (inl g) = absurd (omega arith)
 slot-strict a b (inl f) (inr g) = absurd (omega (arith, g.0))
 slot-strict a b (inr f) (inl g) = absurd (omega (arith, f.0))
@@ -74,14 +74,14 @@ older-apart None b f e = f
 older-apart (Some a) None f e = cc
 older-apart (Some a) (Some b) f e = older-strict (Some a) (Some b) f (subst (λ v. IsOlder v (Some a)) e (subst (IsOlder (Some a)) (sym e) f))
 
-pub before-strict : (a b : Quad) → Before a b → Before b a → ⊥
+pub before-strict : (a b : PlanEntry) → Before a b → Before b a → ⊥
 before-strict a b (inl f) (inl g) = older-strict a.version b.version f g
 before-strict a b (inl f) (inr g) = older-apart a.version b.version f (sym g.0)
 before-strict a b (inr f) (inl g) = older-apart b.version a.version g (sym f.0)
 before-strict a b (inr f) (inr g) = slot-strict a b f.1 g.1
 
 -- where a short list has all that pass, no long list of such exists
-pub not-too-many : (P Q : Quad → Type 0) (quads : List Quad) → ((q : Quad) → Q q → P q) → Lists P quads → length quads < 2 ^ 32 → AreTooMany Q → ⊥
-not-too-many P Q quads same lists short many =
-    let fits : length many.quads ≤ length quads = no-longer Before before-strict many.quads quads many.increasing lists.increasing (λ q c. lists.complete q (same q (All-contains Q many.quads q many.sound c))) in
+pub not-too-many : (P Q : PlanEntry → Type 0) (entries : List PlanEntry) → ((q : PlanEntry) → Q q → P q) → Lists P entries → length entries < 2 ^ 32 → AreTooMany Q → ⊥
+not-too-many P Q entries same lists short many =
+    let fits : length many.entries ≤ length entries = no-longer Before before-strict many.entries entries many.increasing lists.increasing (λ q c. lists.complete q (same q (All-contains Q many.entries q many.sound c))) in
     absurd (omega (arith, fits, short, many.many))

@@ -8,28 +8,28 @@ use Rattle.hack_versions.specs.declared.version.VersionRange.{VersionRange}
 use Rattle.hack_versions.specs.declared.group.VersionGroup.{VersionGroup}
 use Rattle.hack_versions.specs.VersionOrder.{IsBefore}
 use Rattle.hack_versions.specs.Uses.{UsesAt, AreGroups}
-use Rattle.hack_plan.specs.declared.places.Quad.{Quad}
+use Rattle.hack_plan.specs.declared.places.PlanEntry.{PlanEntry}
 use Rattle.hack_plan.specs.declared.places.Span.{Span}
-use Rattle.hack_plan.specs.declared.versions.Scene.{Scene}
-use Rattle.hack_plan.specs.Quads.{Adds, IsOlder}
+use Rattle.hack_plan.specs.declared.versions.PlanInput.{PlanInput}
+use Rattle.hack_plan.specs.Entries.{Adds, IsOlder}
 use Rattle.hack_plan.specs.Parts.{InVersion}
 use Rattle.hack_plan.specs.Spans.{Laid, IsSpan, AreSpans, AreTiled, IsNext, version_in, version_at}
 use Rattle.hack_plan.proofs.Groups.{InGroups, earlier}
 
-abbrev IsOlderQuad : Option Version → Quad → Type 0
-IsOlderQuad v q = IsOlder q.version v
+abbrev IsOlderEntry : Option Version → PlanEntry → Type 0
+IsOlderEntry v q = IsOlder q.version v
 
-abbrev IsHere : Option Version → Quad → Type 0
+abbrev IsHere : Option Version → PlanEntry → Type 0
 IsHere v q = q.version ≡ v
 
-abbrev IsLater : Option Version → Quad → Type 0
+abbrev IsLater : Option Version → PlanEntry → Type 0
 IsLater v q = IsOlder v q.version
 
-abbrev span_of : Option Version → List Quad → List Quad → Span
+abbrev span_of : Option Version → List PlanEntry → List PlanEntry → Span
 span_of v old new = record { version = v; first = length old; end = length new }
 
-span-more : (quads added : List Quad) (s : Span) → IsSpan quads s → All (IsLater s.version) added → IsSpan (quads ++ added) s
-span-more quads added s f h = record {
+span-more : (entries added : List PlanEntry) (s : Span) → IsSpan entries s → All (IsLater s.version) added → IsSpan (entries ++ added) s
+span-more entries added s f h = record {
   older = f.older;
   here = f.here;
   later = f.later ++ added;
@@ -41,7 +41,7 @@ span-more quads added s f h = record {
   behind = All-append (IsLater s.version) f.later added f.behind h;
 }
 
-span-last : (v : Option Version) (old added : List Quad) → All (IsOlderQuad v) old → All (IsHere v) added → IsSpan (old ++ added) (span_of v old (old ++ added))
+span-last : (v : Option Version) (old added : List PlanEntry) → All (IsOlderEntry v) old → All (IsHere v) added → IsSpan (old ++ added) (span_of v old (old ++ added))
 span-last v old added f g = record {
   older = old;
   here = added;
@@ -57,7 +57,7 @@ span-last v old added f g = record {
 All-unmap : {X Y : Type 0} (f : X → Y) (P : Y → Type 0) (xs : List X) → All P (map f xs) → All (λ x. P (f x)) xs
 All-unmap f P xs h k d l = subst P (get_or-map f xs k d (f d) l) (h k (f d) (omega (arith, length-map xs f, l)))
 
-later-than : (v w : Option Version) (added : List Quad) → IsOlder w v → All (IsHere v) added → All (IsLater w) added
+later-than : (v w : Option Version) (added : List PlanEntry) → IsOlder w v → All (IsHere v) added → All (IsLater w) added
 later-than v w added l h = All-weaker (IsHere v) (IsLater w) (λ q e. subst (IsOlder w) (sym e) l) added h
 
 -- one version's places, added after those before it
@@ -65,39 +65,39 @@ tiled-more : (from : ℕ) (ss : List Span) (s : Span) (mid to : ℕ) → AreTile
 tiled-more from [] s mid to t first le end = (first ∙ sym t, omega (arith, t), end)
 tiled-more from (x ∷ ss) s mid to t first le end = (t.0, t.1, tiled-more x.end ss s mid to t.2 first le end)
 
-pub spans-next : (names : List (Option Version)) (v : Option Version) (old new : Laid) (added : List Quad) → new.quads ≡ old.quads ++ added → IsNext v old new → AreSpans names old
-    → All (IsOlderQuad v) old.quads → All (IsHere v) added → All (λ w. IsOlder w v) names → AreSpans (names ++ v ∷ []) new
+pub spans-next : (names : List (Option Version)) (v : Option Version) (old new : Laid) (added : List PlanEntry) → new.entries ≡ old.entries ++ added → IsNext v old new → AreSpans names old
+    → All (IsOlderEntry v) old.entries → All (IsHere v) added → All (λ w. IsOlder w v) names → AreSpans (names ++ v ∷ []) new
 spans-next names v old new added grown next f before here older = record {
-  names = ap (map version_at) next ∙ map-append version_at old.spans (span_of v old.quads new.quads ∷ []) ∙ ap (λ t. t ++ v ∷ []) f.names;
-  each = subst (All (IsSpan new.quads)) (sym next) (All-push (IsSpan new.quads) old.spans (span_of v old.quads new.quads) all last);
-  tiled = subst (λ ss. AreTiled 0 ss (length new.quads)) (sym next) (tiled-more 0 old.spans (span_of v old.quads new.quads) (length old.quads) (length new.quads) f.tiled refl longer refl);
+  names = ap (map version_at) next ∙ map-append version_at old.spans (span_of v old.entries new.entries ∷ []) ∙ ap (λ t. t ++ v ∷ []) f.names;
+  each = subst (All (IsSpan new.entries)) (sym next) (All-push (IsSpan new.entries) old.spans (span_of v old.entries new.entries) all last);
+  tiled = subst (λ ss. AreTiled 0 ss (length new.entries)) (sym next) (tiled-more 0 old.spans (span_of v old.entries new.entries) (length old.entries) (length new.entries) f.tiled refl longer refl);
 }
   where
-    longer : length old.quads ≤ length new.quads
-    longer = omega (arith, ap length grown, length-append old.quads added)
+    longer : length old.entries ≤ length new.entries
+    longer = omega (arith, ap length grown, length-append old.entries added)
 
     lower : All (λ (s : Span). IsOlder s.version v) old.spans
     lower = All-unmap version_at (λ w. IsOlder w v) old.spans (subst (All (λ w. IsOlder w v)) (sym f.names) older)
 
-    all : All (IsSpan new.quads) old.spans
+    all : All (IsSpan new.entries) old.spans
     all k d h = subst (λ t. IsSpan t (get_or old.spans k d)) (sym grown)
-        (span-more old.quads added (get_or old.spans k d) (f.each k d h) (later-than v (get_or old.spans k d).version added (lower k d h) here))
+        (span-more old.entries added (get_or old.spans k d) (f.each k d h) (later-than v (get_or old.spans k d).version added (lower k d h) here))
 
-    last : IsSpan new.quads (span_of v old.quads new.quads)
-    last = subst (λ t. IsSpan t (span_of v old.quads t)) (sym grown) (span-last v old.quads added before here)
+    last : IsSpan new.entries (span_of v old.entries new.entries)
+    last = subst (λ t. IsSpan t (span_of v old.entries t)) (sym grown) (span-last v old.entries added before here)
 
-pub spans-none : (p : Laid) → p.quads ≡ [] → p.spans ≡ [] → AreSpans [] p
-spans-none p no_quads e = record {
+pub spans-none : (p : Laid) → p.entries ≡ [] → p.spans ≡ [] → AreSpans [] p
+spans-none p no_entries e = record {
   names = ap (map version_at) e;
-  each = subst (All (IsSpan p.quads)) (sym e) (λ k d h. absurd (omega arith));
-  tiled = subst (λ ss. AreTiled 0 ss (length p.quads)) (sym e) (ap length (sym no_quads));
+  each = subst (All (IsSpan p.entries)) (sym e) (λ k d h. absurd (omega arith));
+  tiled = subst (λ ss. AreTiled 0 ss (length p.entries)) (sym e) (ap length (sym no_entries));
 }
 
 -- a plan of a single version
-pub spans-alone : (whole : Bool) (v : Option Version) (slots : ℕ) (places counts : List ℕ) (old new : Laid) → old.quads ≡ [] → old.spans ≡ [] → Adds (InVersion whole v slots places counts) old.quads new.quads → IsNext v old new → AreSpans (v ∷ []) new
+pub spans-alone : (whole : Bool) (v : Option Version) (slots : ℕ) (places counts : List ℕ) (old new : Laid) → old.entries ≡ [] → old.spans ≡ [] → Adds (InVersion whole v slots places counts) old.entries new.entries → IsNext v old new → AreSpans (v ∷ []) new
 spans-alone whole v slots places counts old new e f g next =
     spans-next [] v old new g.added g.grown next (spans-none old e f)
-    (subst (All (IsOlderQuad v)) (sym e) (λ k d h. absurd (omega arith)))
+    (subst (All (IsOlderEntry v)) (sym e) (λ k d h. absurd (omega arith)))
     (All-weaker (InVersion whole v slots places counts) (IsHere v) (λ q p. p.0) g.added g.lists.sound)
     (λ k d h. absurd (omega arith))
 
@@ -105,9 +105,9 @@ older-here : (v w : Option Version) (a b : Version) → v ≡ Some a → w ≡ S
 older-here v w a b e f l = rw (e, f) l
 
 -- the next group's version, added after those before it
-pub spans-group : (s : Scene) (counts : List ℕ) (range : VersionRange) (some : s.range ≡ Some range) (steps : List Version) (groups : List VersionGroup) (are : AreGroups (UsesAt range steps s.packages.items) groups) (i : ℕ) (g : VersionGroup) (at : i < length groups) (is : get_or groups i g ≡ g)
-    (whole : Bool) (slots : ℕ) (old new : Laid) → Adds (InGroups s counts steps (take i groups)) [] old.quads → AreSpans (map version_in (take i groups)) old
-    → Adds (InVersion whole (Some g.version) slots g.packages.items counts) old.quads new.quads → IsNext (Some g.version) old new → AreSpans (map version_in (take (i + 1) groups)) new
+pub spans-group : (s : PlanInput) (counts : List ℕ) (range : VersionRange) (some : s.range ≡ Some range) (steps : List Version) (groups : List VersionGroup) (are : AreGroups (UsesAt range steps s.packages.items) groups) (i : ℕ) (g : VersionGroup) (at : i < length groups) (is : get_or groups i g ≡ g)
+    (whole : Bool) (slots : ℕ) (old new : Laid) → Adds (InGroups s counts steps (take i groups)) [] old.entries → AreSpans (map version_in (take i groups)) old
+    → Adds (InVersion whole (Some g.version) slots g.packages.items counts) old.entries new.entries → IsNext (Some g.version) old new → AreSpans (map version_in (take (i + 1) groups)) new
 spans-group s counts range some steps groups are i g at is whole slots old new f spans k next =
     subst (λ names. AreSpans names new) (sym names-more)
     (spans-next (map version_in (take i groups)) (Some g.version) old new k.added k.grown next spans before
@@ -119,9 +119,9 @@ spans-group s counts range some steps groups are i g at is whole slots old new f
     low : (h : VersionGroup) → Contains (take i groups) h → IsBefore h.version g.version
     low h m = earlier s counts range some steps groups are i g at is h m
 
-    before : All (IsOlderQuad (Some g.version)) old.quads
-    before = subst (All (IsOlderQuad (Some g.version))) (sym f.grown)
-        (All-weaker (InGroups s counts steps (take i groups)) (IsOlderQuad (Some g.version)) (λ q p. older-here q.version (Some g.version) p.1.0.version g.version p.1.2 refl (low p.1.0 p.1.1)) f.added f.lists.sound)
+    before : All (IsOlderEntry (Some g.version)) old.entries
+    before = subst (All (IsOlderEntry (Some g.version))) (sym f.grown)
+        (All-weaker (InGroups s counts steps (take i groups)) (IsOlderEntry (Some g.version)) (λ q p. older-here q.version (Some g.version) p.1.0.version g.version p.1.2 refl (low p.1.0 p.1.1)) f.added f.lists.sound)
 
     names-older : All (λ w. IsOlder w (Some g.version)) (map version_in (take i groups))
     names-older = All-map (λ w. IsOlder w (Some g.version)) version_in (take i groups) (λ m d h. low (get_or (take i groups) m d) (Contains-get_or (take i groups) m d h))

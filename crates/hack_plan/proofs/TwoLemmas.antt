@@ -3,7 +3,7 @@ use Rattle.std.proofs.Common.{◌≡◌, ◌≢◌, ◌↔◌, List, [], ◌∷�
 use Rattle.std.specs.List.{Contains}
 use Rattle.hack_versions.specs.declared.group.PackageVersion.{PackageVersion}
 use Rattle.hack_versions.specs.Uses.{own_of}
-use Rattle.hack_plan.specs.Scenes.{HaveTwo}
+use Rattle.hack_plan.specs.Inputs.{HaveTwo}
 
 -- some package's own version differs from this one's
 abbrev pub Other : List PackageVersion → PackageVersion → Type 0

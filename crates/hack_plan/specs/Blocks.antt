@@ -1,20 +1,20 @@
 -- A plan as blocks of places.
 use Rattle.std.specs.Prelude.{ℕ, ◌≡◌, ◌+◌, ◌<◌, ◌^◌, List, map, take, length, sum_by, slice_index_or}
 use Rattle.std.specs.List.{range_with_len, flat_map}
-use Rattle.hack_plan.specs.declared.places.Quad.{Quad}
+use Rattle.hack_plan.specs.declared.places.PlanEntry.{PlanEntry}
 use Rattle.hack_plan.specs.declared.blocks.Block.{Block}
 
 -- the run of a block at a rank
-abbrev pub quad_at : Block → ℕ → Quad
-quad_at b rank = record { version = b.version; slot = b.slot; «package» = b.package; rank = rank }
+abbrev pub entry_at : Block → ℕ → PlanEntry
+entry_at b rank = record { version = b.version; slot = b.slot; «package» = b.package; rank = rank }
 
 -- the places of a block
-abbrev pub quads_in : Block → List Quad
-quads_in b = map (quad_at b) (range_with_len 0 b.runs)
+abbrev pub entries_in : Block → List PlanEntry
+entries_in b = map (entry_at b) (range_with_len 0 b.runs)
 
 -- the places of blocks, in order
-abbrev pub quads_of : List Block → List Quad
-quads_of blocks = flat_map quads_in blocks
+abbrev pub entries_of : List Block → List PlanEntry
+entries_of blocks = flat_map entries_in blocks
 
 -- the number of runs of a block
 abbrev pub runs_in : Block → ℕ

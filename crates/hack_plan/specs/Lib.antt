@@ -1,8 +1,13 @@
-pub mod Scenes
-pub mod Quads
+pub mod Inputs
+pub mod Entries
 pub mod Blocks
 pub mod Parts
 pub mod Spans
 pub mod Runs
 pub mod RunsView
 pub mod Fronts
+pub mod View
+pub mod Commands
+pub mod Plans
+pub mod Prepared
+pub mod RunWords

@@ -1,25 +1,25 @@
 -- The parts that a plan is made of.
 use Rattle.std.specs.Prelude.{Option, None, Some, Bool, true, false, ℕ, ◌≡◌, ◌<◌, List, Contains, slice_index}
 use Rattle.hack_versions.specs.declared.version.Version.{Version}
-use Rattle.hack_plan.specs.declared.places.Quad.{Quad}
+use Rattle.hack_plan.specs.declared.places.PlanEntry.{PlanEntry}
 
 -- one version, slot and package, and a rank below the number of runs
-abbrev pub InBlock : Option Version → ℕ → Option ℕ → ℕ → Quad → Type 0
+abbrev pub InBlock : Option Version → ℕ → Option ℕ → ℕ → PlanEntry → Type 0
 InBlock version slot place runs q = (q.version ≡ version) × (q.slot ≡ slot) × (q.package ≡ place) × (q.rank < runs)
 
 -- one of the packages, and a rank below the number of its runs
-abbrev pub OfPackage : List ℕ → List ℕ → Quad → Type 0
+abbrev pub OfPackage : List ℕ → List ℕ → PlanEntry → Type 0
 OfPackage packages runs q = (p : ℕ) × (q.package ≡ Some p) × Contains packages p × (q.rank < slice_index runs p)
 
 -- one version and slot, and any of the packages
-abbrev pub InSlot : Option Version → ℕ → List ℕ → List ℕ → Quad → Type 0
+abbrev pub InSlot : Option Version → ℕ → List ℕ → List ℕ → PlanEntry → Type 0
 InSlot version slot packages runs q = (q.version ≡ version) × (q.slot ≡ slot) × OfPackage packages runs q
 
 -- the one run for all packages, or a run of any of them
-abbrev pub InWhole : Bool → List ℕ → List ℕ → Quad → Type 0
+abbrev pub InWhole : Bool → List ℕ → List ℕ → PlanEntry → Type 0
 InWhole false packages runs q = OfPackage packages runs q
 InWhole true packages runs q = (q.package ≡ None) × (q.rank ≡ 0)
 
 -- one version, and a slot below the number of slots
-abbrev pub InVersion : Bool → Option Version → ℕ → List ℕ → List ℕ → Quad → Type 0
+abbrev pub InVersion : Bool → Option Version → ℕ → List ℕ → List ℕ → PlanEntry → Type 0
 InVersion whole version slots packages runs q = (q.version ≡ version) × (q.slot < slots) × InWhole whole packages runs q

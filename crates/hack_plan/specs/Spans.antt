@@ -3,22 +3,22 @@ use Rattle.std.specs.Prelude.{ℕ, ◌≡◌, ◌+◌, ◌≤◌, ◌++◌, List
 use Rattle.hack_versions.specs.declared.version.Version.{Version}
 use Rattle.hack_versions.specs.declared.version.VersionRange.{VersionRange}
 use Rattle.hack_versions.specs.declared.group.VersionGroup.{VersionGroup}
-use Rattle.hack_plan.specs.declared.places.Quad.{Quad}
+use Rattle.hack_plan.specs.declared.places.PlanEntry.{PlanEntry}
 use Rattle.hack_plan.specs.declared.places.Span.{Span}
-use Rattle.hack_plan.specs.Quads.{IsOlder}
+use Rattle.hack_plan.specs.Entries.{IsOlder}
 
 -- a plan, and the places of each of its versions
 pub record Laid : Type 0 where
-  pub quads : List Quad
+  pub entries : List PlanEntry
   pub spans : List Span
 
 -- the plan consists of the places of older versions, this one's from first to end, and those of
 -- later versions
-pub record IsSpan (quads : List Quad) (s : Span) : Type 0 where
-  pub older : List Quad
-  pub here : List Quad
-  pub later : List Quad
-  pub all : quads ≡ older ++ here ++ later
+pub record IsSpan (entries : List PlanEntry) (s : Span) : Type 0 where
+  pub older : List PlanEntry
+  pub here : List PlanEntry
+  pub later : List PlanEntry
+  pub all : entries ≡ older ++ here ++ later
   pub first : s.first ≡ length older
   pub end : s.end ≡ length older + length here
   pub before : All (λ q. IsOlder q.version s.version) older
@@ -36,7 +36,7 @@ versions_of (Some range) groups = map version_in groups
 
 -- the version's places are appended to the plan so far
 abbrev pub IsNext : Option Version → Laid → Laid → Type 0
-IsNext version old new = new.spans ≡ old.spans ++ record { version = version; first = length old.quads; end = length new.quads } ∷ []
+IsNext version old new = new.spans ≡ old.spans ++ record { version = version; first = length old.entries; end = length new.entries } ∷ []
 
 -- the version of a span
 abbrev pub version_at : Span → Option Version
@@ -50,5 +50,5 @@ AreTiled from (s ∷ ss) to = (s.first ≡ from) × (from ≤ s.end) × AreTiled
 -- each version, in order, with its places, which partition those of the plan
 pub record AreSpans (versions : List (Option Version)) (p : Laid) : Type 0 where
   pub names : map version_at p.spans ≡ versions
-  pub each : All (IsSpan p.quads) p.spans
-  pub tiled : AreTiled 0 p.spans (length p.quads)
+  pub each : All (IsSpan p.entries) p.spans
+  pub tiled : AreTiled 0 p.spans (length p.entries)

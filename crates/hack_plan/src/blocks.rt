@@ -3,10 +3,10 @@
 
 ghost use Rattle.std.specs.Prelude.{ℕ, true, false, ◌≡◌, ◌<◌, ◌≤◌, ◌+◌, ◌^◌, ◌⊎◌, [], length, All};
 ghost use Rattle.std.specs.Prelude.{AllPairs, OnOk, OnErr, IfOk, IfErr, slice_get, slice_index};
-ghost use Rattle.hack_plan.specs.Quads.{Adds, Overfills};
+ghost use Rattle.hack_plan.specs.Entries.{Adds, Overfills};
 ghost use Rattle.hack_plan.specs.Parts.{InBlock, InSlot, InVersion};
 
-use crate::places::{PlacesFault, Quad};
+use crate::places::{PlacesFault, PlanEntry};
 use hack_versions::version::Version;
 use std::alloc::Global;
 use std::marker::Model;
@@ -33,12 +33,12 @@ pub struct Blocks {
 
 impl Model for Blocks {
     ghost use Rattle.std.specs.Prelude.{List};
-    ghost use Rattle.hack_plan.specs.declared.places.Quad.{Quad};
-    ghost use Rattle.hack_plan.specs.Blocks.{quads_of, AreSums};
+    ghost use Rattle.hack_plan.specs.declared.places.PlanEntry.{PlanEntry};
+    ghost use Rattle.hack_plan.specs.Blocks.{entries_of, AreSums};
 
-    ghost Value = { List Quad };
+    ghost Value = { List PlanEntry };
 
-    ghost view = { λ p. quads_of p.blocks.items };
+    ghost view = { λ p. entries_of p.blocks.items };
 
     ghost invariant = { λ p. AreSums p.blocks.items p.total };
 }
@@ -63,13 +63,13 @@ impl Blocks {
     }
 
     /// The run at a place.
-    pub fn run(&self, place: usize) -> Quad
+    pub fn run(&self, place: usize) -> PlanEntry
         requires { place < length self.now }
         ensures { slice_get self.now place ≡ Some result }
     {
         let at = self.blocks.partition_point(|block| block.end <= place);
         let block = &self.blocks[at];
-        Quad {
+        PlanEntry {
             version: block.version,
             slot: block.slot,
             package: block.package,

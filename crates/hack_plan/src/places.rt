@@ -1,18 +1,18 @@
-//! The plan of a scene: its runs in order, kept as blocks with running sums, in which binary search
+//! The plan of an input: its runs in order, kept as blocks with running sums, in which binary search
 //! finds a run.
 
 ghost use Rattle.std.specs.Prelude.{ℕ, ◌≡◌, ◌<◌, ◌≤◌, ◌^◌, ◌⊎◌, ◌↔◌, ◌++◌, ◌∷◌, [], Some, None};
 ghost use Rattle.std.specs.Prelude.{true, false, length, All, AllPairs, Contains, OnOk, OnErr};
 ghost use Rattle.std.specs.Prelude.{IfOk, IfErr, slice_get};
 ghost use Rattle.hack_versions.specs.declared.group.VersionGroup.{VersionGroup as Group};
-ghost use Rattle.hack_plan.specs.Scenes.{AreVersions, AreCounted, GroupsBy, slots_of};
-ghost use Rattle.hack_plan.specs.Quads.{ArePlaces, HasTooMany, Lists, IsAdmissible, AreTooMany};
-ghost use Rattle.hack_plan.specs.Quads.{Adds, Overfills};
+ghost use Rattle.hack_plan.specs.Inputs.{AreVersions, AreCounted, GroupsBy, slots_of};
+ghost use Rattle.hack_plan.specs.Entries.{ArePlaces, HasTooMany, Lists, IsAdmissible, AreTooMany};
+ghost use Rattle.hack_plan.specs.Entries.{Adds, Overfills};
 ghost use Rattle.hack_plan.specs.Parts.{InVersion};
 ghost use Rattle.hack_plan.specs.declared.places.PlacesFault.TheVariants.{Memory as OutOfMemory};
 
 use crate::blocks::Blocks;
-use crate::versions::{Scene, Versions};
+use crate::versions::{PlanInput, Versions};
 use hack_versions::rustup::VersionGroup;
 use hack_versions::version::{Version, VersionRange};
 use std::alloc::{AllocError, AllocFailed, Global};
@@ -22,7 +22,7 @@ use thiserror::Error;
 /// One run: its version (none without a range), its slot, its package as an index into the chosen
 /// ones (none where one run is for all), and its rank among the package's runs.
 #[derive(Clone, Copy)]
-pub struct Quad {
+pub struct PlanEntry {
     pub version: Option<Version>,
     pub slot: usize,
     pub package: Option<usize>,
@@ -63,7 +63,7 @@ impl<T: Drop> From<AllocFailed<T>> for PlacesFault {
     }
 }
 
-/// The runs of a scene, in order.
+/// The runs of an input, in order.
 #[derive(Drop)]
 pub struct Places {
     blocks: Blocks,
@@ -75,48 +75,49 @@ impl Model for Places {
 
     ghost Value = { Laid };
 
-    ghost view = { λ p. record { quads = p.blocks; spans = p.spans.items } };
+    ghost view = { λ p. record { entries = p.blocks; spans = p.spans.items } };
 }
 
 impl Places {
     ghost use Rattle.std.specs.Prelude.{List};
     ghost use Rattle.hack_plan.specs.Spans.{AreSpans, versions_of};
 
-    /// The plan. `versions` are those of the scene, and `counts` the number of runs of each
+    /// The plan. `versions` are those of the input, and `counts` the number of runs of each
     /// package; `counts` doesn't matter where one run is for all.
     pub fn new(
         alloc: Global,
-        scene: &Scene,
+        input: &PlanInput,
         versions: &Versions,
         counts: &[usize],
     ) -> Result<Places, PlacesFault>
-        requires versions { AreVersions scene.now versions.now }
-        requires counted { AreCounted scene.now counts.now }
-        ensures ok { IfOk result (λ p. ArePlaces scene.now counts.now versions.now.stable p.quads) }
-        ensures spans { IfOk result (AreSpans (versions_of scene.now.range
+        requires versions { AreVersions input.now versions.now }
+        requires counted { AreCounted input.now counts.now }
+        ensures ok { IfOk result (λ p. ArePlaces input.now counts.now versions.now.stable p.entries) }
+        ensures spans { IfOk result (AreSpans (versions_of input.now.range
             versions.now.groups.items)) }
-        ensures never { IfOk result (λ _. ¬ HasTooMany scene.now counts.now versions.now.stable) }
+        ensures never { IfOk result (λ _. ¬ HasTooMany input.now counts.now versions.now.stable) }
         ensures err { IfErr result (λ e. (e ≡ PlacesFault.Memory)
-            ⊎ ((e ≡ PlacesFault.TooManyRuns) × HasTooMany scene.now counts.now
+            ⊎ ((e ≡ PlacesFault.TooManyRuns) × HasTooMany input.now counts.now
             versions.now.stable)) }
     {
-        let places = Places::of(alloc, scene, versions, counts)?;
+        let places = Places::of(alloc, input, versions, counts)?;
+        // This call promises that there are less than 2^32.
         let _ = places.len();
         Ok(places)
     }
 
     /// The number of places, at most 4294967295.
     pub fn len(&self) -> usize
-        ensures value { result ≡ length self.now.quads }
-        ensures short { length self.now.quads < 2 ^ 32 }
+        ensures value { result ≡ length self.now.entries }
+        ensures short { length self.now.entries < 2 ^ 32 }
     {
         self.blocks.len()
     }
 
     /// The run at a place.
-    pub fn run(&self, place: usize) -> Quad
-        requires { place < length self.now.quads }
-        ensures { slice_get self.now.quads place ≡ Some result }
+    pub fn run(&self, place: usize) -> PlanEntry
+        requires { place < length self.now.entries }
+        ensures { slice_get self.now.entries place ≡ Some result }
     {
         self.blocks.run(place)
     }
@@ -135,7 +136,7 @@ impl Places {
 
     /// No place.
     pub fn empty(alloc: Global) -> Places
-        ensures quads { result.quads ≡ [] }
+        ensures entries { result.entries ≡ [] }
         ensures spans { result.spans ≡ [] }
     {
         Places {
@@ -147,26 +148,26 @@ impl Places {
     /// Appends the places of one version.
     fn add(
         &mut self,
-        scene: &Scene,
+        input: &PlanInput,
         version: Option<Version>,
         packages: &[usize],
         counts: &[usize],
     ) -> Result<(), PlacesFault>
         requires increasing { AllPairs (λ a b. a < b) packages.now }
-        requires within { scene.now.as_cargo ≡ false
+        requires within { input.now.as_cargo ≡ false
             → All (λ p. p < length counts.now) packages.now }
-        ensures ok { OnOk result (Adds (InVersion scene.now.as_cargo version
-            (slots_of scene.now version) packages.now counts.now) self.old.quads self.new.quads) }
+        ensures ok { OnOk result (Adds (InVersion input.now.as_cargo version
+            (slots_of input.now version) packages.now counts.now) self.old.entries self.new.entries) }
         ensures next { OnOk result (IsNext version self.old self.new) }
         ensures err { IfErr result (λ e. (e ≡ PlacesFault.Memory)
-            ⊎ ((e ≡ PlacesFault.TooManyRuns) × Overfills (InVersion scene.now.as_cargo version
-            (slots_of scene.now version) packages.now counts.now) self.old.quads)) }
+            ⊎ ((e ≡ PlacesFault.TooManyRuns) × Overfills (InVersion input.now.as_cargo version
+            (slots_of input.now version) packages.now counts.now) self.old.entries)) }
     {
         let first = self.blocks.len();
-        let slots = slots(scene, version);
+        let slots = slots(input, version);
         if let Err(fault) = self
             .blocks
-            .add_version(scene.as_cargo, version, slots, packages, counts)
+            .add_version(input.as_cargo, version, slots, packages, counts)
         {
             return Err(fault);
         }
@@ -182,84 +183,85 @@ impl Places {
         Ok(())
     }
 
-    /// The plan of a scene without a range.
-    fn without_range(alloc: Global, scene: &Scene, counts: &[usize]) -> Result<Places, PlacesFault>
-        requires none { scene.now.range ≡ None }
-        requires counted { AreCounted scene.now counts.now }
-        ensures ok { IfOk result (λ p. Lists (IsAdmissible scene.now counts.now []) p.quads) }
+    /// The plan of an input without a range.
+    fn without_range(alloc: Global, input: &PlanInput, counts: &[usize]) -> Result<Places, PlacesFault>
+        requires none { input.now.range ≡ None }
+        requires counted { AreCounted input.now counts.now }
+        ensures ok { IfOk result (λ p. Lists (IsAdmissible input.now counts.now []) p.entries) }
         ensures spans { IfOk result (AreSpans (None ∷ [])) }
         ensures err { IfErr result (λ e. (e ≡ PlacesFault.Memory)
-            ⊎ ((e ≡ PlacesFault.TooManyRuns) × AreTooMany (IsAdmissible scene.now counts.now []))) }
+            ⊎ ((e ≡ PlacesFault.TooManyRuns) × AreTooMany (IsAdmissible input.now counts.now []))) }
     {
-        let all = all_below(alloc, scene.packages.len())?;
+        let all = all_below(alloc, input.packages.len())?;
         let mut places = Places::empty(alloc);
-        match places.add(scene, None, &all, counts) {
+        match places.add(input, None, &all, counts) {
             Ok(()) => Ok(places),
             Err(fault) => Err(fault),
         }
     }
 
-    /// The plan of a scene with a range.
+    /// The plan of an input with a range.
     fn with_range(
         alloc: Global,
-        scene: &Scene,
+        input: &PlanInput,
         range: VersionRange,
         versions: &Versions,
         counts: &[usize],
     ) -> Result<Places, PlacesFault>
-        requires some { scene.now.range ≡ Some range }
-        requires versions { GroupsBy (Some range) scene.now versions.now }
-        requires counted { AreCounted scene.now counts.now }
-        ensures ok { IfOk result (λ p. ArePlaces scene.now counts.now versions.now.stable p.quads) }
+        requires some { input.now.range ≡ Some range }
+        requires versions { GroupsBy (Some range) input.now versions.now }
+        requires counted { AreCounted input.now counts.now }
+        ensures ok { IfOk result (λ p. ArePlaces input.now counts.now versions.now.stable p.entries) }
         ensures spans { IfOk result (AreSpans
             (versions_of (Some range) versions.now.groups.items)) }
         ensures err { IfErr result (λ e. (e ≡ PlacesFault.Memory)
-            ⊎ ((e ≡ PlacesFault.TooManyRuns) × HasTooMany scene.now counts.now
+            ⊎ ((e ≡ PlacesFault.TooManyRuns) × HasTooMany input.now counts.now
             versions.now.stable)) }
     {
+        // Only the contract speaks of it.
         let _ = range;
         let mut places = Places::empty(alloc);
         for group in versions.groups.as_slice() {
-            if let Err(fault) = places.add(scene, Some(group.version), &group.packages, counts) {
+            if let Err(fault) = places.add(input, Some(group.version), &group.packages, counts) {
                 return Err(fault);
             }
         }
         Ok(places)
     }
 
-    /// The plan of a scene.
+    /// The plan of an input.
     fn of(
         alloc: Global,
-        scene: &Scene,
+        input: &PlanInput,
         versions: &Versions,
         counts: &[usize],
     ) -> Result<Places, PlacesFault>
-        requires versions { AreVersions scene.now versions.now }
-        requires counted { AreCounted scene.now counts.now }
-        ensures ok { IfOk result (λ p. ArePlaces scene.now counts.now versions.now.stable p.quads) }
-        ensures spans { IfOk result (AreSpans (versions_of scene.now.range
+        requires versions { AreVersions input.now versions.now }
+        requires counted { AreCounted input.now counts.now }
+        ensures ok { IfOk result (λ p. ArePlaces input.now counts.now versions.now.stable p.entries) }
+        ensures spans { IfOk result (AreSpans (versions_of input.now.range
             versions.now.groups.items)) }
         ensures err { IfErr result (λ e. (e ≡ PlacesFault.Memory)
-            ⊎ ((e ≡ PlacesFault.TooManyRuns) × HasTooMany scene.now counts.now
+            ⊎ ((e ≡ PlacesFault.TooManyRuns) × HasTooMany input.now counts.now
             versions.now.stable)) }
     {
-        match scene.range {
-            None => Places::without_range(alloc, scene, counts),
-            Some(range) => Places::with_range(alloc, scene, range, versions, counts),
+        match input.range {
+            None => Places::without_range(alloc, input, counts),
+            Some(range) => Places::with_range(alloc, input, range, versions, counts),
         }
     }
 }
 
 /// The number of slots of a version: below 1.64 cargo takes one target at a time.
-pub fn slots(scene: &Scene, version: Option<Version>) -> usize
-    ensures { result ≡ slots_of scene.now version }
+pub fn slots(input: &PlanInput, version: Option<Version>) -> usize
+    ensures { result ≡ slots_of input.now version }
 {
     let minor = match version {
         Some(version) => version.minor,
-        None => scene.cargo_minor,
+        None => input.cargo_minor,
     };
-    if scene.targets > 0 && minor < 64 {
-        scene.targets
+    if input.targets > 0 && minor < 64 {
+        input.targets
     } else {
         1
     }

@@ -6,8 +6,8 @@ ghost use Rattle.std.specs.Prelude.{Contains, map};
 ghost use Rattle.hack_versions.specs.RangeSteps.{NeedsStable};
 ghost use Rattle.hack_versions.specs.Uses.{own_of};
 ghost use Rattle.hack_base.specs.Notes.{note_of};
-ghost use Rattle.hack_plan.specs.Scenes.{given_of, HaveTwo, AreVersions, AreNotices};
-ghost use Rattle.hack_plan.specs.Scenes.{IsVersionsFault};
+ghost use Rattle.hack_plan.specs.Inputs.{given_of, HaveTwo, AreVersions, AreNotices};
+ghost use Rattle.hack_plan.specs.Inputs.{IsVersionsFault};
 ghost use Rattle.hack_versions.specs.declared.group.PackageVersion.{PackageVersion as Member};
 
 use hack_base::notice::Notice;
@@ -19,7 +19,7 @@ use std::alloc::{AllocError, Global};
 
 /// The input of a plan, except for the numbers of runs.
 #[derive(Drop)]
-pub struct Scene {
+pub struct PlanInput {
     /// The range of `--version-range` or `--rust-version`.
     pub range: Option<VersionRange>,
     /// The step of `--version-step`.
@@ -34,7 +34,7 @@ pub struct Scene {
     pub packages: Vec<PackageVersion>,
 }
 
-/// The versions that the packages of a scene use.
+/// The versions that the packages of an input use.
 #[derive(Drop)]
 pub struct Versions {
     /// The version of the toolchain `stable`, where one was asked for.
@@ -48,20 +48,20 @@ impl Versions {
     /// `stable` is the version of the toolchain `stable`.
     pub fn new(
         alloc: Global,
-        scene: &Scene,
+        input: &PlanInput,
         stable: Option<Version>,
     ) -> Result<(Versions, Vec<Notice>), RangeFault>
-        requires { IfSome scene.now.range (λ range. NeedsStable range → IsSome stable) }
-        ensures ok { IfOk result (λ answer. AreVersions scene.now answer.0) }
+        requires { IfSome input.now.range (λ range. NeedsStable range → IsSome stable) }
+        ensures ok { IfOk result (λ answer. AreVersions input.now answer.0) }
         ensures stable { IfOk result (λ answer. answer.0.stable ≡ stable) }
-        ensures notices { IfOk result (λ answer. AreNotices scene.now.range scene.now stable
+        ensures notices { IfOk result (λ answer. AreNotices input.now.range input.now stable
             (map note_of answer.1.items)) }
         ensures never { IfOk result (λ _. (e : RangeFault)
-            → ¬ IsVersionsFault scene.now.range scene.now stable e) }
+            → ¬ IsVersionsFault input.now.range input.now stable e) }
         ensures err { IfErr result (λ e. (e ≡ RangeFault.Memory)
-            ⊎ IsVersionsFault scene.now.range scene.now stable e) }
+            ⊎ IsVersionsFault input.now.range input.now stable e) }
     {
-        match scene.range {
+        match input.range {
             None => Ok((
                 Versions {
                     stable,
@@ -69,7 +69,7 @@ impl Versions {
                 },
                 Vec::new(alloc),
             )),
-            Some(range) => in_range(alloc, scene, range, stable),
+            Some(range) => in_range(alloc, input, range, stable),
         }
     }
 }
@@ -77,27 +77,27 @@ impl Versions {
 /// The versions of a range.
 fn in_range(
     alloc: Global,
-    scene: &Scene,
+    input: &PlanInput,
     range: VersionRange,
     stable: Option<Version>,
 ) -> Result<(Versions, Vec<Notice>), RangeFault>
-    requires some { scene.now.range ≡ Some range }
+    requires some { input.now.range ≡ Some range }
     requires stable { NeedsStable range → IsSome stable }
-    ensures ok { IfOk result (λ answer. AreVersions scene.now answer.0) }
+    ensures ok { IfOk result (λ answer. AreVersions input.now answer.0) }
     ensures stable { IfOk result (λ answer. answer.0.stable ≡ stable) }
-    ensures notices { IfOk result (λ answer. AreNotices (Some range) scene.now stable
+    ensures notices { IfOk result (λ answer. AreNotices (Some range) input.now stable
         (map note_of answer.1.items)) }
     ensures never { IfOk result (λ _. (e : RangeFault)
-        → ¬ IsVersionsFault (Some range) scene.now stable e) }
+        → ¬ IsVersionsFault (Some range) input.now stable e) }
     ensures err { IfErr result (λ e. (e ≡ RangeFault.Memory)
-        ⊎ IsVersionsFault (Some range) scene.now stable e) }
+        ⊎ IsVersionsFault (Some range) input.now stable e) }
 {
-    let owns = owns_of(alloc, &scene.packages)?;
-    let (steps, mut notices) = version_range(alloc, range, scene.step, &owns, stable)?;
-    if scene.as_cargo && have_two(&scene.packages) {
+    let owns = owns_of(alloc, &input.packages)?;
+    let (steps, mut notices) = version_range(alloc, range, input.step, &owns, stable)?;
+    if input.as_cargo && have_two(&input.packages) {
         return Err(RangeFault::SingleMsrv);
     }
-    let (groups, mut skips) = match group_by_version(alloc, range, &steps, &scene.packages) {
+    let (groups, mut skips) = match group_by_version(alloc, range, &steps, &input.packages) {
         Ok(answer) => answer,
         Err(fault) => return Err(fault),
     };

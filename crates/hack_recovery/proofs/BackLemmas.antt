@@ -17,7 +17,8 @@ use Rattle.hack_words.specs.declared.cli.env.Env.{Env}
 use Rattle.hack_words.specs.declared.cli.parse.Parsed.TheVariants as answer
 use Rattle.hack_recovery.specs.declared.asked.Edits.{Edits}
 use Rattle.hack_recovery.specs.declared.asked.Edits.TheVariants as edits
-use Rattle.hack_recovery.specs.Asks.{AsksFor, newest}
+use Rattle.hack_recovery.specs.Asks.{AsksFor}
+use Rattle.hack_versions.specs.declared.rustup.Rustup.TheVariants.{Unasked}
 use Rattle.hack_recovery.specs.Asks.AsksFor.{parsed, faulty}
 
 -- the outcome of uses by their verdict
@@ -55,7 +56,7 @@ not_good true leaves e = cc
 
 pub back_restores : (env : Env) (words : List Name) (does : Edits) (path : Option Name) → AsksFor env words does path → does ≡ edits.Back → RestoresEdits env words
 back_restores env words does path (parsed (answer.Args args) notes h is at) back rustup (answer.Args more) told k =
-    let same = same_uses (around_of env rustup) (around_of env newest) words k.0 h.0 k.1 h.1 k.2 h.2 k.3 h.3 in
+    let same = same_uses (around_of env rustup) (around_of env Unasked) words k.0 h.0 k.1 h.1 k.2 h.2 k.3 h.3 in
     k.4.flags.remove_dev_deps ∙ ap (λ (us : List Use). is_given opt.RemoveDevDeps us) same ∙ sym h.4.flags.remove_dev_deps ∙ not_good args.remove_dev_deps (args.no_dev_deps || args.no_private) (sym back ∙ is)
 back_restores env words does path (parsed (answer.Args args) notes h is at) back rustup (answer.Print text) told k = tt
 back_restores env words does path (parsed (answer.Args args) notes h is at) back rustup answer.List told k = tt

@@ -4,7 +4,7 @@ use Rattle.hack_base.specs.Names.{Name, optional_text}
 use Rattle.hack_base.specs.Notes.{Note}
 use Rattle.hack_rules.specs.CliFaults.{Fault}
 use Rattle.hack_versions.specs.declared.rustup.Rustup.{Rustup}
-use Rattle.hack_versions.specs.declared.rustup.Rustup.TheVariants.{Known}
+use Rattle.hack_versions.specs.declared.rustup.Rustup.TheVariants.{Unasked}
 use Rattle.hack_words.specs.Answers.{Answers as IsAnswer, around_of}
 use Rattle.hack_words.specs.Call.{ComesTo, Faulty}
 use Rattle.hack_words.specs.declared.cli.args.Args.{Args}
@@ -37,14 +37,10 @@ manifest_by (answer.Args args) = optional_text args.manifest_path
 manifest_by (answer.Print text) = None
 manifest_by answer.List = None
 
--- a rustup that suits each range of versions: what is known of rustup matters only for whether a
--- command line is refused
-abbrev pub newest : Rustup
-newest = Known (2 ^ 32 - 1)
-
 -- what a command line does to manifests, and the one that it names: what it is parsed into says
--- so, and one that is refused does nothing and names none
+-- so, and one that is refused does nothing and names none; what is known of rustup matters only for
+-- whether it is refused
 pub data AsksFor (env : Env) (words : List Name) (does : Edits) (path : Option Name) : Type 0 where
-  parsed : (read : Parsed) (notes : List Note) → IsAnswer (around_of env newest) (ComesTo (around_of env newest) words) read notes
+  parsed : (read : Parsed) (notes : List Note) → IsAnswer (around_of env Unasked) (ComesTo (around_of env Unasked) words) read notes
       → does ≡ edits_by read → path ≡ manifest_by read → AsksFor env words does path
-  faulty : (told : Fault) → ComesTo (around_of env newest) words (Faulty told) → does ≡ edits.None → path ≡ None → AsksFor env words does path
+  faulty : (told : Fault) → ComesTo (around_of env Unasked) words (Faulty told) → does ≡ edits.None → path ≡ None → AsksFor env words does path

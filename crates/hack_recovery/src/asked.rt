@@ -65,7 +65,7 @@ impl Asked {
             → RestoresEdits env.now (names_of words.now)) }
     {
         // What is known of rustup matters only for whether the command line is refused.
-        match Args::parse(alloc, words, env, Rustup::Known(u32::MAX)) {
+        match Args::parse(alloc, words, env, Rustup::Unasked) {
             Ok(read) => {
                 let (parsed, _) = read;
                 Asked::by(alloc, &parsed)

@@ -115,5 +115,5 @@ asks_in_vain tells wants rustup shown c old new (Ok known) e is same failed unkn
 asks_in_vain tells wants rustup shown c old new (Err x) e is same failed unknown lacks = tt
 
 -- nothing was asked
-pub asks_nothing : (wants : Bool) (rustup : Name) (old : List Call) → wants ≡ false → AsksRustup wants rustup (known.Known (2 ^ 32 - 1)) old old
-asks_nothing wants rustup old is = subst (λ b. AsksRustup b rustup (known.Known (2 ^ 32 - 1)) old old) (sym is) (refl, refl)
+pub asks_nothing : (wants : Bool) (rustup : Name) (old : List Call) → wants ≡ false → AsksRustup wants rustup known.Unasked old old
+asks_nothing wants rustup old is = subst (λ b. AsksRustup b rustup known.Unasked old old) (sym is) (refl, refl)

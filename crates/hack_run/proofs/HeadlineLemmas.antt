@@ -1,12 +1,12 @@
 -- The headline, put together from the plan and its session.
 use Rattle.std.proofs.Common.{◌≡◌, sym, subst, List, ℕ, Option, None, Some, Result, Ok, true, IsSome, Global, String, length}
-use Rattle.hack_calls.specs.Made.{IsPlanOf}
-use Rattle.hack_calls.specs.Powersets.{HavePowersets}
-use Rattle.hack_calls.specs.Samples.{HaveSamples, ArePatternsHeld}
+use Rattle.hack_planner.specs.Made.{IsPlanOf}
+use Rattle.hack_planner.specs.Powersets.{HavePowersets}
+use Rattle.hack_planner.specs.Samples.{HaveSamples, ArePatternsHeld}
 use Rattle.hack_uses.specs.declared.behavior.WorkspaceBehavior.TheVariants.{Cargo}
 use Rattle.hack_base.specs.Names.{Name}
 use Rattle.hack_load.specs.Contexts.{ContextRecord}
-use Rattle.hack_runs.specs.View.{PlanView}
+use Rattle.hack_plan.specs.View.{PlanView}
 use Rattle.hack_session.specs.Handouts.{HandsOut}
 use Rattle.hack_session.specs.Histories.{Course, IsHistory, next_of}
 use Rattle.hack_session.specs.Schedules.{IsSchedule}
@@ -28,7 +28,7 @@ pub handed_out : (cx : ContextRecord) (stable : Result (Option Version) (String 
     → IsPlanOf cx.args.subcommand stable cx rustup plan notes → (IsSome cx.args.subcommand → cx.args.feature_powerset ≡ true → cx.args.strength ≡ None → HavePowersets cx plan)
     → ((strength : ℕ) → IsSome cx.args.subcommand → cx.args.feature_powerset ≡ true → cx.args.strength ≡ Some strength → HaveSamples cx strength plan)
     → ((strength : ℕ) (latest : Option Version) → stable ≡ Ok latest → IsSome cx.args.subcommand → cx.args.feature_powerset ≡ true → cx.args.strength ≡ Some strength → ¬ (cx.args.workspace_behavior ≡ Cargo) → ArePatternsHeld cx strength latest plan)
-    → t.plan ≡ plan → t.keep_going ≡ cx.args.keep_going → IsSchedule given.partition plan t.schedule → next_of t ≡ None → IsHistory t → HandsOut given.partition (length plan.quads) t
+    → t.plan ≡ plan → t.keep_going ≡ cx.args.keep_going → IsSchedule given.partition plan t.schedule → next_of t ≡ None → IsHistory t → HandsOut given.partition (length plan.entries) t
     → IsHandedOut cx stable rustup t
 handed_out cx stable rustup t plan notes given args planned powersets samples patterns same goes_on schedule complete history runs = record {
   notes = notes;
@@ -37,8 +37,8 @@ handed_out cx stable rustup t plan notes given args planned powersets samples pa
   goes_on = goes_on;
   history = history;
   complete = complete;
-  runs = subst (λ (p : PlanView). HandsOut cx.args.partition (length p.quads) t) (sym same) (subst (λ (a : Args). HandsOut a.partition (length plan.quads) t) args runs);
-  pieces = shared t.plan.quads;
+  runs = subst (λ (p : PlanView). HandsOut cx.args.partition (length p.entries) t) (sym same) (subst (λ (a : Args). HandsOut a.partition (length plan.entries) t) args runs);
+  pieces = shared t.plan.entries;
   powersets = λ some powerset all. subst (λ (p : PlanView). HavePowersets cx p) (sym same) (powersets some powerset all);
   samples = λ strength some powerset sampled. subst (λ (p : PlanView). HaveSamples cx strength p) (sym same) (samples strength some powerset sampled);
   patterns = λ strength latest is some powerset sampled each. subst (λ (p : PlanView). ArePatternsHeld cx strength latest p) (sym same) (patterns strength latest is some powerset sampled each);

@@ -10,13 +10,13 @@ use Rattle.hack_process.specs.Calls.{Call}
 use Rattle.hack_process.specs.declared.fault.ProcessFault.{ProcessFault}
 use Rattle.hack_term.specs.declared.term.Term.{Term}
 use Rattle.hack_term.specs.declared.partition.Partition.{Partition}
-use Rattle.hack_runs.specs.View.{PlanView}
+use Rattle.hack_plan.specs.View.{PlanView}
 use Rattle.hack_session.specs.Histories.{HasPassed, passed_step}
 use Rattle.hack_session.specs.Lists.{IsListed, Lists, ListsAll, Page, has_failed, is_sent, is_sent_step, lines_listed, lines_written, step_lines}
 use Rattle.hack_session.specs.Performs.{Exactly, HasPerformed, HasTold, Makes, Performs, PerformsAll}
 use Rattle.hack_session.specs.Schedules.{IsSchedule}
 use Rattle.hack_session.specs.declared.step.Handed.{Handed}
-use Rattle.hack_runs.specs.declared.parts.Preparation.TheVariants.{Toolchain, Lockfile, Clean}
+use Rattle.hack_plan.specs.declared.parts.Preparation.TheVariants.{Toolchain, Lockfile, Clean}
 use Rattle.hack_session.specs.declared.step.Step.{Step}
 use Rattle.hack_session.specs.declared.step.Step.TheVariants.{Prepare, Skip, Run}
 use Rattle.hack_session.specs.declared.step.Outcome.{Outcome}

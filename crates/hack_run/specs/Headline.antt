@@ -1,9 +1,9 @@
 -- The headline: what is handed out for a context, whatever comes of its steps.
 use Rattle.std.specs.Prelude.{ℕ, ◌≡◌, ◌<◌, true, List, Option, None, Some, Result, Ok, IsSome, length}
 use Rattle.std.proofs.Common.{Global, String}
-use Rattle.hack_calls.specs.Made.{IsPlanOf}
-use Rattle.hack_calls.specs.Powersets.{HavePowersets}
-use Rattle.hack_calls.specs.Samples.{HaveSamples, ArePatternsHeld}
+use Rattle.hack_planner.specs.Made.{IsPlanOf}
+use Rattle.hack_planner.specs.Powersets.{HavePowersets}
+use Rattle.hack_planner.specs.Samples.{HaveSamples, ArePatternsHeld}
 use Rattle.hack_uses.specs.declared.behavior.WorkspaceBehavior.TheVariants.{Cargo}
 use Rattle.hack_base.specs.Names.{Name}
 use Rattle.hack_load.specs.Contexts.{ContextRecord}
@@ -34,8 +34,8 @@ pub record IsHandedOut (cx : ContextRecord) (stable : Result (Option Version) (S
   pub goes_on : t.keep_going ≡ cx.args.keep_going
   pub history : IsHistory t
   pub complete : next_of t ≡ None
-  pub runs : HandsOut cx.args.partition (length t.plan.quads) t
-  pub pieces : AreShared t.plan.quads
+  pub runs : HandsOut cx.args.partition (length t.plan.entries) t
+  pub pieces : AreShared t.plan.entries
   pub powersets : IsSome cx.args.subcommand → cx.args.feature_powerset ≡ true → cx.args.strength ≡ None → HavePowersets cx t.plan
   pub samples : (strength : ℕ) → IsSome cx.args.subcommand → cx.args.feature_powerset ≡ true → cx.args.strength ≡ Some strength → HaveSamples cx strength t.plan
   pub patterns : (strength : ℕ) (latest : Option Version) → stable ≡ Ok latest → IsSome cx.args.subcommand → cx.args.feature_powerset ≡ true

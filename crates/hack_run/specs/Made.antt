@@ -11,8 +11,8 @@ use Rattle.hack_load.specs.Contexts.{ContextRecord}
 use Rattle.hack_load.specs.declared.answers.Answers.{Answers}
 use Rattle.hack_process.specs.Calls.{Asked, Call, MayAdd}
 use Rattle.hack_process.specs.Commands.{asked_of}
-use Rattle.hack_runs.specs.Commands.{plain_command}
-use Rattle.hack_runs.specs.View.{PlanView}
+use Rattle.hack_plan.specs.Commands.{plain_command}
+use Rattle.hack_plan.specs.View.{PlanView}
 use Rattle.hack_session.specs.Histories.{Course}
 use Rattle.hack_session.specs.Lists.{is_sent, lines_written}
 use Rattle.hack_session.specs.Performs.{BreaksInstall, Installs, Makes, PerformsAll}

@@ -3,18 +3,17 @@ use Rattle.std.specs.Prelude.{◌≡◌, ◌⊎◌, ◌∷◌, ◌^◌, ◌-◌,
 use Rattle.std.specs.Str.{IsUtf8}
 use Rattle.std.proofs.Common.{Global, String}
 use Rattle.hack_base.specs.Names.{Name}
-use Rattle.std.specs.Str.{IsUtf8}
 use Rattle.hack_process.specs.Calls.{Asked, Call, IsSuccess}
 use Rattle.hack_process.specs.CargoTexts.{release_part}
 use Rattle.hack_process.specs.Commands.{asked_of}
 use Rattle.hack_process.specs.CommandTexts.{Command}
 use Rattle.hack_process.specs.Faults.{Had, without_line_ends}
-use Rattle.hack_runs.specs.Commands.{plain_command}
+use Rattle.hack_plan.specs.Commands.{plain_command}
 use Rattle.hack_versions.specs.RangeSteps.{NeedsStable}
 use Rattle.hack_versions.specs.ToolTexts.{IsAnswerFault, TellsRelease, rustup_part}
 use Rattle.hack_versions.specs.declared.rustup.VersionTextFault.{VersionTextFault}
 use Rattle.hack_versions.specs.declared.rustup.Rustup.{Rustup}
-use Rattle.hack_versions.specs.declared.rustup.Rustup.TheVariants.{Known, Unknown}
+use Rattle.hack_versions.specs.declared.rustup.Rustup.TheVariants.{Known, Unasked, Unknown}
 use Rattle.hack_versions.specs.declared.version.Version.{Version}
 use Rattle.hack_words.specs.declared.cli.args.Args.{Args}
 use Rattle.hack_session.specs.Performs.{Installs, Makes}
@@ -32,11 +31,13 @@ rustup_asked rustup = asked_of true (rustup_command rustup)
 -- an answer has rustup's minor version; where that isn't known, the answer can't be read
 abbrev pub TellsMinor : Name → Rustup → Type 0
 TellsMinor answer (Known minor) = (v : Version) × TellsRelease (rustup_part answer) v × (minor ≡ v.minor)
+TellsMinor answer Unasked = ⊥
 TellsMinor answer (Unknown text) = (fault : VersionTextFault) × IsAnswerFault answer (rustup_part answer) fault
 
 -- rustup's version isn't known
 abbrev pub IsUnknown : Rustup → Type 0
 IsUnknown (Known minor) = ⊥
+IsUnknown Unasked = ⊥
 IsUnknown (Unknown text) = Unit {0}
 
 -- a command gave no answer: its program has no name, and nothing was called; or it didn't end with
@@ -51,9 +52,9 @@ pub record ReadsRustup (rustup : Name) (known : Rustup) (old new : List Call) : 
   pub told : TellsMinor answer known
 
 -- where an argument needs it, rustup was asked, and `known` is what its answer says, or unknown
--- where it gave no answer; else nothing was asked, and `known` is the greatest version number
+-- where it gave no answer; else nothing was asked, and `known` says so
 abbrev pub AsksRustup : Bool → Name → Rustup → List Call → List Call → Type 0
-AsksRustup false rustup known old new = (known ≡ Known (2 ^ 32 - 1)) × (new ≡ old)
+AsksRustup false rustup known old new = (known ≡ Unasked) × (new ≡ old)
 AsksRustup true rustup known old new = ReadsRustup rustup known old new ⊎ (IsUnknown known × AsksInVain (rustup_asked rustup) old new)
 
 -- the command that asks stable's cargo for its version

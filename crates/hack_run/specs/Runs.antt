@@ -3,12 +3,12 @@ use Rattle.std.specs.Prelude.{ℕ, ◌≡◌, ◌++◌, ◌∷◌, [], All, Bool
 use Rattle.std.specs.List.{flat_map}
 use Rattle.std.specs.Io.KnownBytes.{Appends}
 use Rattle.std.proofs.Common.{Global, String}
-use Rattle.hack_calls.specs.Made.{IsPlanOf}
+use Rattle.hack_planner.specs.Made.{IsPlanOf}
 use Rattle.hack_base.specs.Names.{Name}
 use Rattle.hack_load.specs.Contexts.{ContextRecord}
 use Rattle.hack_process.specs.Calls.{Call}
 use Rattle.hack_term.specs.declared.partition.Partition.{Partition}
-use Rattle.hack_runs.specs.View.{PlanView}
+use Rattle.hack_plan.specs.View.{PlanView}
 use Rattle.hack_session.specs.Histories.{Course}
 use Rattle.hack_session.specs.Lists.{IsListed, is_sent, is_sent_step, lines_listed, lines_written, step_lines}
 use Rattle.hack_session.specs.Performs.{Exactly, Makes}

@@ -23,9 +23,9 @@ use Rattle.hack_words.specs.declared.cli.env.Env.{Env}
 use Rattle.hack_words.specs.declared.cli.parse.Parsed.{Parsed}
 use Rattle.hack_words.specs.declared.cli.parse.Parsed.TheVariants as parsed
 use Rattle.hack_rules.specs.CliFaults.{Fault}
-use Rattle.hack_runs.specs.Commands.{plain_command}
-use Rattle.hack_runs.specs.View.{PlanView}
-use Rattle.hack_calls.specs.Made.{IsPlanOf}
+use Rattle.hack_plan.specs.Commands.{plain_command}
+use Rattle.hack_plan.specs.View.{PlanView}
+use Rattle.hack_planner.specs.Made.{IsPlanOf}
 use Rattle.hack_prepare.specs.Prepared.{IsPrepared}
 use Rattle.hack_prepare.specs.PreparedView.{members_in, wanted_in}
 use Rattle.hack_run.specs.Questions.{AsksRustup, AsksStable, NeedsAnswer}

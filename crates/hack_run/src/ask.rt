@@ -45,7 +45,7 @@ pub(crate) fn rustup_for<C: Caller>(
     ensures unneeded { rustup_wanted (names_of words.now) ≡ false → caller.new ≡ caller.old }
 {
     if !wants_rustup(words) {
-        return Ok(Rustup::Known(u32::MAX));
+        return Ok(Rustup::Unasked);
     }
     let asked = rustup_command(alloc, env)?;
     match asked.read(alloc, caller, env.current_dir.as_str()) {

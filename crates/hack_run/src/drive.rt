@@ -1,9 +1,9 @@
 //! What a call runs: the plan of what is loaded, handed out to a runner.
 
 ghost use Rattle.std.specs.Prelude.{◌≡◌, ◌⊎◌, IfErr, IfOk, List, map};
-ghost use Rattle.hack_calls.specs.Made.{IsCauseOf, IsPlanOf, IsSureCauseOf};
+ghost use Rattle.hack_planner.specs.Made.{IsCauseOf, IsPlanOf, IsSureCauseOf};
 ghost use Rattle.hack_load.specs.ContextView.{context_view};
-ghost use Rattle.hack_runs.specs.View.{PlanView};
+ghost use Rattle.hack_plan.specs.View.{PlanView};
 ghost use Rattle.hack_base.specs.Notes.{Note, note_of};
 ghost use Rattle.hack_run.specs.Headline.{IsHandedOut};
 ghost use Rattle.hack_run.specs.Questions.{IsAnswered};
@@ -12,8 +12,8 @@ ghost use Rattle.hack_run.specs.Told.{after_notes};
 use crate::tell::tell_all;
 use hack_base::notice::Notice;
 use hack_base::writes::Sink;
-use hack_calls::fault::PlanFault;
-use hack_calls::plan::plan_of;
+use hack_planner::fault::PlanFault;
+use hack_planner::plan::plan_of;
 use hack_load::context::Context;
 use hack_process::process::Caller;
 use hack_session::session::{Lines, Lister, Runner, Session, Starter, drive_plan};

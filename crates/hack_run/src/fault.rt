@@ -1,6 +1,6 @@
 //! The errors that end a call.
 
-use hack_calls::fault::PlanFault;
+use hack_planner::fault::PlanFault;
 use hack_load::context::ContextFault;
 use hack_prepare::manifest::PrepareFault;
 use hack_process::process::ProcessFault;

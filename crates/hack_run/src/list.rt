@@ -10,7 +10,7 @@ ghost use Rattle.hack_run.specs.Runs.{DoesPlan, ListsOver, SendsAll};
 use crate::drive::{Teller, drive_context};
 use crate::fault::RunFault;
 use crate::gathered::{gather_on, room, write_last};
-use hack_calls::fault::PlanFault;
+use hack_planner::fault::PlanFault;
 use hack_load::context::Context;
 use hack_process::process::{Caller, ProcessFault};
 use hack_session::session::{Lines, Lister, Starter};

@@ -8,7 +8,7 @@ ghost use Rattle.hack_run.specs.Runs.{DoesPlan, RunsAll};
 
 use crate::drive::drive_context;
 use crate::fault::RunFault;
-use hack_calls::fault::PlanFault;
+use hack_planner::fault::PlanFault;
 use hack_load::context::Context;
 use hack_process::process::{Caller, ProcessFault};
 use hack_session::session::{Handed, History, Outcome, Session, Starter, Step};

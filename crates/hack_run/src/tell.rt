@@ -7,7 +7,7 @@ ghost use Rattle.hack_run.specs.Told.{after_notes};
 use crate::fault::RunFault;
 use hack_base::notice::Notice;
 use hack_base::writes::Sink;
-use hack_calls::fault::PlanFault;
+use hack_planner::fault::PlanFault;
 use hack_load::context::ContextFault;
 use hack_load::metadata::AskFault;
 use hack_process::process::ProcessFault;

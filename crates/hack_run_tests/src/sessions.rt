@@ -6,7 +6,7 @@ use crate::asked::on;
 use crate::scene::{Off, Scene, context_of, scene_of};
 use crate::shown::push_sections;
 use crate::worlds::PLAIN;
-use hack_calls::plan::{Plan, plan_of};
+use hack_planner::plan::{Plan, plan_of};
 use hack_holds::Wrong;
 use hack_load::context::Context;
 use hack_process::process::ProcessFault;

@@ -5,8 +5,8 @@ use Rattle.std.specs.List.{flat_map, list_any}
 use Rattle.std.proofs.lemmas.List.{drop-drop, drop_all, drop_more}
 use Rattle.std.proofs.lemmas.Option.{get_or_from_slice_get, slice_get_past, slice_get_within}
 use Rattle.hack_term.specs.declared.partition.Partition.{Partition}
-use Rattle.hack_runs.specs.declared.parts.PlanVersion.{PlanVersion}
-use Rattle.hack_runs.specs.View.{PlanView}
+use Rattle.hack_plan.specs.declared.parts.PlanVersion.{PlanVersion}
+use Rattle.hack_plan.specs.View.{PlanView}
 use Rattle.hack_session.specs.declared.schedule.Cursor.{Cursor}
 use Rattle.hack_session.specs.declared.step.Step.{Step}
 use Rattle.hack_session.specs.declared.step.Outcome.{Outcome}
@@ -30,8 +30,8 @@ left_first inside (v ∷ vs) = refl
 
 pub left_at_start : (piece : Option Partition) (plan : PlanView) (cursor : Cursor) → cursor.version ≡ 0 → cursor.taken ≡ 0 → steps_left piece plan cursor ≡ all_steps piece plan
 left_at_start piece plan cursor e f =
-    ap (λ (i : ℕ). left_in (in_piece piece (length plan.quads)) cursor.taken (drop i plan.versions)) e ∙ ap (λ (n : ℕ). left_in (in_piece piece (length plan.quads)) n (drop 0 plan.versions)) f
-    ∙ left_first (in_piece piece (length plan.quads)) plan.versions
+    ap (λ (i : ℕ). left_in (in_piece piece (length plan.entries)) cursor.taken (drop i plan.versions)) e ∙ ap (λ (n : ℕ). left_in (in_piece piece (length plan.entries)) n (drop 0 plan.versions)) f
+    ∙ left_first (in_piece piece (length plan.entries)) plan.versions
 
 pub left_taken : (inside : ℕ → Bool) (vs : List PlanVersion) (i n : ℕ) (v : PlanVersion) (step : Step) → slice_get vs i ≡ Some v → slice_get (steps_of inside v) n ≡ Some step
     → left_in inside n (drop i vs) ≡ step ∷ left_in inside (n + 1) (drop i vs)

@@ -1,7 +1,7 @@
 -- A session after one more step.
 use Rattle.std.proofs.Common.{◌≡◌, List, [], ◌∷◌, ◌++◌, Option, Some, sym, ◌∙◌, ap, subst, append_assoc}
 use Rattle.std.specs.Prelude.{IfSome}
-use Rattle.hack_runs.specs.View.{PlanView}
+use Rattle.hack_plan.specs.View.{PlanView}
 use Rattle.hack_session.specs.declared.step.Step.{Step}
 use Rattle.hack_session.specs.declared.step.Outcome.{Outcome}
 use Rattle.hack_session.specs.declared.step.Handed.{Handed}

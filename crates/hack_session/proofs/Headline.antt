@@ -13,7 +13,7 @@ use Rattle.hack_term.specs.declared.partition.Partition.{Partition}
 use Rattle.hack_term.specs.declared.partition.PartitionKind.{PartitionKind}
 use Rattle.hack_term.specs.declared.partition.PartitionKind.TheVariants.{Block, Turn}
 use Rattle.hack_term.specs.Pieces.{InPiece}
-use Rattle.hack_runs.specs.View.{PlanView}
+use Rattle.hack_plan.specs.View.{PlanView}
 use Rattle.hack_session.specs.declared.step.Step.{Step}
 use Rattle.hack_session.specs.declared.step.Step.TheVariants.{Prepare, Skip, Run}
 use Rattle.hack_session.specs.declared.step.Outcome.{Outcome}
@@ -128,20 +128,20 @@ pub ends : (xs : List Step) (n : ℕ) → slice_get xs n ≡ None → length xs 
 ends xs n e = elim (slice_get_cases xs n).1 [ inl w ↦ let f : slice_get xs n ≡ Some w.0 = w.2 in absurd (cc) | inr w ↦ omega arith ]
 
 -- a complete history hands out the runs of its schedule, in order
-pub hands_out : (piece : Option Partition) (t : Course) → IsSchedule piece t.plan t.schedule → IsHistory t → next_of t ≡ None → HandsOut piece (length t.plan.quads) t
+pub hands_out : (piece : Option Partition) (t : Course) → IsSchedule piece t.plan t.schedule → IsHistory t → next_of t ≡ None → HandsOut piece (length t.plan.entries) t
 hands_out piece t schedule history complete = go (list_any (stops t.keep_going) t.handed) refl
   where
-    all : runs_of t.schedule ≡ filter schedule.inside (range_with_len 0 (length t.plan.quads))
-    all = sym (only_places t.schedule) ∙ ap runs_of schedule.places ∙ marked schedule.inside (range_with_len 0 (length t.plan.quads))
+    all : runs_of t.schedule ≡ filter schedule.inside (range_with_len 0 (length t.plan.entries))
+    all = sym (only_places t.schedule) ∙ ap runs_of schedule.places ∙ marked schedule.inside (range_with_len 0 (length t.plan.entries))
 
     front : runs_of t.schedule ≡ runs_of (map step_of t.handed) ++ runs_of (drop (length t.handed) t.schedule)
     front = ap runs_of (sym (take-append-drop (length t.handed) t.schedule)) ∙ filter_map-append run_place (take (length t.handed) t.schedule) (drop (length t.handed) t.schedule)
         ∙ ap (λ (l : List Step). runs_of l ++ runs_of (drop (length t.handed) t.schedule)) (sym history.front)
 
-    chosen : ArePiece piece (length t.plan.quads) (runs_of t.schedule)
-    chosen = subst (ArePiece piece (length t.plan.quads)) (sym all) (are_piece piece (length t.plan.quads) schedule.inside schedule.test)
+    chosen : ArePiece piece (length t.plan.entries) (runs_of t.schedule)
+    chosen = subst (ArePiece piece (length t.plan.entries)) (sym all) (are_piece piece (length t.plan.entries) schedule.inside schedule.test)
 
-    go : (b : Bool) → list_any (stops t.keep_going) t.handed ≡ b → HandsOut piece (length t.plan.quads) t
+    go : (b : Bool) → list_any (stops t.keep_going) t.handed ≡ b → HandsOut piece (length t.plan.entries) t
     go true e = record { places = runs_of t.schedule; left = runs_of (drop (length t.handed) t.schedule); chosen = chosen; in_order = front; until = inl e }
     go false e =
         let at : slice_get t.schedule (length t.handed) ≡ None = rw e at complete in

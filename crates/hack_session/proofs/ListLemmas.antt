@@ -3,24 +3,24 @@ use Rattle.std.proofs.Common.{◌≡◌, ℕ, filter, List, [], ◌∷◌, ◌++
 use Rattle.std.specs.Prelude.{IfSome, OnOk, codes}
 use Rattle.std.specs.Io.KnownBytes.{Appends}
 use Rattle.std.proofs.lemmas.Result.{on_ok_weaker}
-use Rattle.hack_plan.specs.declared.places.Quad.{Quad}
+use Rattle.hack_plan.specs.declared.places.PlanEntry.{PlanEntry}
 use Rattle.hack_process.specs.CommandTexts.{Command, listed_of}
-use Rattle.hack_runs.specs.View.{PlanView}
-use Rattle.hack_runs.specs.Commands.{clean_command, command_of_quad, package_at}
+use Rattle.hack_plan.specs.View.{PlanView}
+use Rattle.hack_plan.specs.Commands.{clean_command, command_of_entry, package_at}
 use Rattle.hack_session.specs.declared.lines.LineFault.{LineFault}
 use Rattle.hack_session.specs.declared.step.Handed.{Handed}
 use Rattle.hack_session.specs.Lists.{Lists, ListsAll, Page, is_sent, is_sent_step, line_of, run_lines}
 
-cleaned_lines : (plan : PlanView) (o : Option Quad) (text : List ℕ) (clean : Command) → option_map (λ q. listed_of plan.call.dir (command_of_quad plan q)) o ≡ Some text → IfSome o (λ x. clean ≡ clean_command plan.call (package_at plan.packages x.package)) → true ≡ plan.call.clean_per_run
+cleaned_lines : (plan : PlanView) (o : Option PlanEntry) (text : List ℕ) (clean : Command) → option_map (λ q. listed_of plan.call.dir (command_of_entry plan q)) o ≡ Some text → IfSome o (λ x. clean ≡ clean_command plan.call (package_at plan.packages x.package)) → true ≡ plan.call.clean_per_run
     → line_of plan.call.dir clean ++ (text ++ codes "\n") ≡ run_lines plan o
 cleaned_lines plan None text clean e f b = absurd (cc)
 cleaned_lines plan (Some q) text clean e f b =
-    let own : text ≡ listed_of plan.call.dir (command_of_quad plan q) = cc in
+    let own : text ≡ listed_of plan.call.dir (command_of_entry plan q) = cc in
     ap (λ (c : Command). line_of plan.call.dir c ++ (text ++ codes "\n")) f
     ∙ ap (λ (t : List ℕ). line_of plan.call.dir (clean_command plan.call (package_at plan.packages q.package)) ++ (t ++ codes "\n")) own
-    ∙ ap (λ (f : Bool). if f then line_of plan.call.dir (clean_command plan.call (package_at plan.packages q.package)) ++ line_of plan.call.dir (command_of_quad plan q) else line_of plan.call.dir (command_of_quad plan q)) b
+    ∙ ap (λ (f : Bool). if f then line_of plan.call.dir (clean_command plan.call (package_at plan.packages q.package)) ++ line_of plan.call.dir (command_of_entry plan q) else line_of plan.call.dir (command_of_entry plan q)) b
 
-pub two_lines : {T : Type 0} (r : Result T LineFault) (plan : PlanView) (o : Option Quad) (text : List ℕ) (clean : Command) (dir : List ℕ) (a b : Option (List ℕ)) → option_map (λ q. listed_of plan.call.dir (command_of_quad plan q)) o ≡ Some text
+pub two_lines : {T : Type 0} (r : Result T LineFault) (plan : PlanView) (o : Option PlanEntry) (text : List ℕ) (clean : Command) (dir : List ℕ) (a b : Option (List ℕ)) → option_map (λ q. listed_of plan.call.dir (command_of_entry plan q)) o ≡ Some text
     → IfSome o (λ x. clean ≡ clean_command plan.call (package_at plan.packages x.package)) → true ≡ plan.call.clean_per_run → dir ≡ plan.call.dir
     → OnOk r (Appends a b (line_of dir clean ++ (text ++ codes "\n"))) → OnOk r (Appends a b (run_lines plan o))
 two_lines r plan o text clean dir a b e f g h written =

@@ -4,14 +4,14 @@ use Rattle.std.specs.Prelude.{All, IfSome, string_bytes, slice_get, ◌==◌}
 use Rattle.std.proofs.Common.{String, Global}
 use Rattle.std.proofs.lemmas.Option.{slice_get_cases}
 use Rattle.hack_versions.specs.declared.version.Version.{Version}
-use Rattle.hack_plan.specs.declared.places.Quad.{Quad}
+use Rattle.hack_plan.specs.declared.places.PlanEntry.{PlanEntry}
 use Rattle.hack_process.specs.declared.fault.ProcessFault.{ProcessFault}
 use Rattle.hack_process.specs.declared.fault.ProcessFault.TheVariants.{Memory, EmptyProgram, NeverExecuted, NotText, Failed as ByFailure}
 use Rattle.hack_process.specs.CommandTexts.{Command}
 use Rattle.hack_process.specs.Calls.{Asked, Call}
 use Rattle.hack_process.specs.Commands.{asked_of}
-use Rattle.hack_runs.specs.View.{PlanView}
-use Rattle.hack_runs.specs.Commands.{clean_command, command_of_quad, package_at, toolchain_of}
+use Rattle.hack_plan.specs.View.{PlanView}
+use Rattle.hack_plan.specs.Commands.{clean_command, command_of_entry, package_at, toolchain_of}
 use Rattle.hack_session.specs.declared.step.Step.{Step}
 use Rattle.hack_session.specs.declared.step.Outcome.{Outcome}
 use Rattle.hack_session.specs.declared.step.Outcome.TheVariants.{Passed, Failed}
@@ -77,19 +77,19 @@ run_stops S T fault first more a b p =
     as_t (NotText text) s x = x
     as_t (ByFailure failure) s x = x
 
-pub run_plain : (plan : PlanView) (o : Option Quad) (q : Quad) (own : Command) → o ≡ Some q → own ≡ command_of_quad plan q → plan.call.clean_per_run ≡ false → asked_of false own ∷ [] ≡ run_commands plan o
+pub run_plain : (plan : PlanView) (o : Option PlanEntry) (q : PlanEntry) (own : Command) → o ≡ Some q → own ≡ command_of_entry plan q → plan.call.clean_per_run ≡ false → asked_of false own ∷ [] ≡ run_commands plan o
 run_plain plan o q own e f b = ap (λ (c : Command). asked_of false c ∷ []) f ∙ sym (ap (run_commands plan) e ∙ at_flag plan q plan.call.clean_per_run b)
   where
-    at_flag : (plan : PlanView) (q : Quad) (flag : Bool) → flag ≡ false → (if flag then cleaning_asked plan q ∷ own_asked plan q ∷ [] else own_asked plan q ∷ []) ≡ own_asked plan q ∷ []
+    at_flag : (plan : PlanView) (q : PlanEntry) (flag : Bool) → flag ≡ false → (if flag then cleaning_asked plan q ∷ own_asked plan q ∷ [] else own_asked plan q ∷ []) ≡ own_asked plan q ∷ []
     at_flag plan q true b = absurd (cc)
     at_flag plan q false b = refl
 
-pub run_cleaned : (plan : PlanView) (o : Option Quad) (q : Quad) (own clean : Command) → o ≡ Some q → own ≡ command_of_quad plan q → IfSome o (λ x. clean ≡ clean_command plan.call (package_at plan.packages x.package)) → plan.call.clean_per_run ≡ true → asked_of false clean ∷ asked_of false own ∷ [] ≡ run_commands plan o
+pub run_cleaned : (plan : PlanView) (o : Option PlanEntry) (q : PlanEntry) (own clean : Command) → o ≡ Some q → own ≡ command_of_entry plan q → IfSome o (λ x. clean ≡ clean_command plan.call (package_at plan.packages x.package)) → plan.call.clean_per_run ≡ true → asked_of false clean ∷ asked_of false own ∷ [] ≡ run_commands plan o
 run_cleaned plan o q own clean e f g b =
-    let h : clean ≡ clean_command plan.call (package_at plan.packages q.package) = subst (λ (x : Option Quad). IfSome x (λ y. clean ≡ clean_command plan.call (package_at plan.packages y.package))) e g in
+    let h : clean ≡ clean_command plan.call (package_at plan.packages q.package) = subst (λ (x : Option PlanEntry). IfSome x (λ y. clean ≡ clean_command plan.call (package_at plan.packages y.package))) e g in
     ap (λ (c : Command). asked_of false c ∷ asked_of false own ∷ []) h ∙ ap (λ (c : Command). cleaning_asked plan q ∷ asked_of false c ∷ []) f ∙ sym (ap (run_commands plan) e ∙ at_flag plan q plan.call.clean_per_run b)
   where
-    at_flag : (plan : PlanView) (q : Quad) (flag : Bool) → flag ≡ true → (if flag then cleaning_asked plan q ∷ own_asked plan q ∷ [] else own_asked plan q ∷ []) ≡ cleaning_asked plan q ∷ own_asked plan q ∷ []
+    at_flag : (plan : PlanView) (q : PlanEntry) (flag : Bool) → flag ≡ true → (if flag then cleaning_asked plan q ∷ own_asked plan q ∷ [] else own_asked plan q ∷ []) ≡ cleaning_asked plan q ∷ own_asked plan q ∷ []
     at_flag plan q false b = absurd (cc)
     at_flag plan q true b = refl
 
@@ -190,7 +190,7 @@ step_cut T fault plan step a b n m e grows p = record {
   performed = one_step plan (record { step = step; outcome = Failed }) p.made 1 (inr (cut_of T fault (Exactly plan step p.made) (IsCut plan step p.made) e p.such, refl, refl));
 }
 
-no_call : (plan : PlanView) (q : Quad) → Breaks (run_commands plan (Some q)) []
+no_call : (plan : PlanView) (q : PlanEntry) → Breaks (run_commands plan (Some q)) []
 no_call plan q = go plan.call.clean_per_run
   where
     go : (flag : Bool) → Breaks (if flag then cleaning_asked plan q ∷ own_asked plan q ∷ [] else own_asked plan q ∷ []) []
@@ -198,13 +198,13 @@ no_call plan q = go plan.call.clean_per_run
     go false = inl (inl refl)
 
 -- memory was refused before the first command of a run
-pub cut_run : (T : Type 0) (r : Result T ProcessFault) (plan : PlanView) (place : ℕ) (calls : List Call) → place < length plan.quads → r ≡ Err Memory → Makes (Ran (run_commands plan (slice_get plan.quads place)) r) calls calls
+pub cut_run : (T : Type 0) (r : Result T ProcessFault) (plan : PlanView) (place : ℕ) (calls : List Call) → place < length plan.entries → r ≡ Err Memory → Makes (Ran (run_commands plan (slice_get plan.entries place)) r) calls calls
 cut_run T r plan place calls lt e =
-    let none : Breaks (run_commands plan (slice_get plan.quads place)) [] = elim (slice_get_cases plan.quads place).1 [
-      | inl w ↦ subst (λ (o : Option Quad). Breaks (run_commands plan o) []) (sym w.2) (no_call plan w.0)
+    let none : Breaks (run_commands plan (slice_get plan.entries place)) [] = elim (slice_get_cases plan.entries place).1 [
+      | inl w ↦ subst (λ (o : Option PlanEntry). Breaks (run_commands plan o) []) (sym w.2) (no_call plan w.0)
       | inr w ↦ absurd (omega arith)
     ] in
-    subst (λ (s : Result T ProcessFault). Makes (Ran (run_commands plan (slice_get plan.quads place)) s) calls calls) (sym e) (record { made = []; grown = sym (append-nil calls); such = none })
+    subst (λ (s : Result T ProcessFault). Makes (Ran (run_commands plan (slice_get plan.entries place)) s) calls calls) (sym e) (record { made = []; grown = sym (append-nil calls); such = none })
 
 pub all_passed : (step : Step) → All HasPassed (record { step = step; outcome = Passed } ∷ [])
 all_passed step = λ k d lt. go k d lt

@@ -9,11 +9,11 @@ use Rattle.std.proofs.lemmas.List.FromFn.{length-map-range_with_len, get_or-map-
 use Rattle.std.proofs.lemmas.Option.{none-some, same_Some, slice_get-get_or, slice_get_past, slice_get_read}
 use Rattle.std.proofs.lemmas.Grind.{flat_map-append, common_steps}
 use Rattle.hack_term.specs.declared.partition.Partition.{Partition}
-use Rattle.hack_runs.specs.declared.parts.Preparation.{Preparation}
-use Rattle.hack_runs.specs.declared.parts.PlanVersion.{PlanVersion}
+use Rattle.hack_plan.specs.declared.parts.Preparation.{Preparation}
+use Rattle.hack_plan.specs.declared.parts.PlanVersion.{PlanVersion}
 use Rattle.hack_plan.specs.Spans.{AreTiled}
-use Rattle.hack_runs.specs.Prepared.{span_of}
-use Rattle.hack_runs.specs.View.{PlanView}
+use Rattle.hack_plan.specs.Prepared.{span_of}
+use Rattle.hack_plan.specs.View.{PlanView}
 use Rattle.hack_session.specs.declared.step.Step.{Step}
 use Rattle.hack_session.specs.declared.step.Step.TheVariants.{Prepare, Skip, Run}
 use Rattle.hack_session.specs.Histories.{IsStepOf}
@@ -75,15 +75,15 @@ laid_places inside from (v ∷ vs) to t =
     total = omega (arith, t.1, order)
 
 -- the steps of a plan are its schedule
-pub schedule_is : (piece : Option Partition) (plan : PlanView) → AreTiled 0 (map span_of plan.versions) (length plan.quads) → IsSchedule piece plan (all_steps piece plan)
+pub schedule_is : (piece : Option Partition) (plan : PlanView) → AreTiled 0 (map span_of plan.versions) (length plan.entries) → IsSchedule piece plan (all_steps piece plan)
 schedule_is piece plan t = record {
-  inside = in_piece piece (length plan.quads);
-  test = piece_test piece (length plan.quads);
-  places = laid_places (in_piece piece (length plan.quads)) 0 plan.versions (length plan.quads) t ∙ ap (λ (n : ℕ). map (mark (in_piece piece (length plan.quads))) (range_with_len 0 n)) whole;
+  inside = in_piece piece (length plan.entries);
+  test = piece_test piece (length plan.entries);
+  places = laid_places (in_piece piece (length plan.entries)) 0 plan.versions (length plan.entries) t ∙ ap (λ (n : ℕ). map (mark (in_piece piece (length plan.entries))) (range_with_len 0 n)) whole;
   steps = refl;
 }
   where
-    whole : length plan.quads - 0 ≡ length plan.quads
+    whole : length plan.entries - 0 ≡ length plan.entries
     whole = omega arith
 
 -- the places of a version are some of the plan's
@@ -97,7 +97,7 @@ pub found : (vs ws : List PlanVersion) (i : ℕ) (v : PlanVersion) → ws ≡ vs
 found vs ws i v e lt is = sym (ap (λ (l : List PlanVersion). slice_get l i) e) ∙ slice_get_read ws (length ws) i v refl lt is
 
 -- a place of the plan has a step of it
-pub marked_step : (plan : PlanView) (inside : ℕ → Bool) (place : ℕ) → place < length plan.quads → IsStepOf plan (mark inside place)
+pub marked_step : (plan : PlanView) (inside : ℕ → Bool) (place : ℕ) → place < length plan.entries → IsStepOf plan (mark inside place)
 marked_step plan inside place lt = go (inside place)
   where
     go : (b : Bool) → IsStepOf plan (cond b (Run place) (Skip place))

@@ -8,14 +8,14 @@ use Rattle.hack_base.proofs.WriteLemmas.{writes-none}
 use Rattle.hack_term.specs.declared.term.Term.{Term}
 use Rattle.hack_term.specs.Groups.{opening_line, message_line}
 use Rattle.hack_term.specs.Lines.{error_line}
-use Rattle.hack_plan.specs.declared.places.Quad.{Quad}
+use Rattle.hack_plan.specs.declared.places.PlanEntry.{PlanEntry}
 use Rattle.hack_process.specs.declared.fault.ProcessFault.{ProcessFault}
 use Rattle.hack_process.specs.declared.fault.ProcessFault.TheVariants.{Memory, EmptyProgram, NeverExecuted, NotText, Failed as ByFailure}
 use Rattle.hack_process.specs.CommandTexts.{Command}
-use Rattle.hack_runs.specs.declared.parts.Preparation.TheVariants.{Toolchain}
-use Rattle.hack_runs.specs.Commands.{clean_command, package_at, toolchain_of}
+use Rattle.hack_plan.specs.declared.parts.Preparation.TheVariants.{Toolchain}
+use Rattle.hack_plan.specs.Commands.{clean_command, package_at, toolchain_of}
 use Rattle.hack_versions.specs.declared.version.Version.{Version}
-use Rattle.hack_runs.specs.View.{PlanView}
+use Rattle.hack_plan.specs.View.{PlanView}
 use Rattle.hack_session.specs.declared.step.Step.{Step}
 use Rattle.hack_session.specs.declared.step.Step.TheVariants.{Run, Prepare}
 use Rattle.hack_session.specs.Statuses.{place_status}
@@ -131,32 +131,32 @@ part_then T r x parts a b c p q = prints_then (λ s. s ≡ x) (Part parts r) (Pa
     (λ _ w. ap (λ (y : Shown). both_shown y t) e ∙ ap (both_shown x) w)
     (λ w. subst (λ (y : Shown). IsPart (x ∷ parts) (both_shown y t)) (sym e) (part_more x parts t w)) h) p q
 
-quad_at : (quads : List Quad) (place : ℕ) → place < length quads → (q : Quad) × (slice_get quads place ≡ Some q)
-quad_at quads place lt = elim (slice_get_cases quads place).1 [
+entry_at : (entries : List PlanEntry) (place : ℕ) → place < length entries → (q : PlanEntry) × (slice_get entries place ≡ Some q)
+entry_at entries place lt = elim (slice_get_cases entries place).1 [
   | inl w ↦ (w.0, w.2)
   | inr w ↦ absurd (omega arith)
 ]
 
 -- the empty line before a place
-pub space_run : (m : Manner) (plan : PlanView) (place : ℕ) (s : Shown) → place < length plan.quads → s ≡ on_err (space_before m.group place) → IsPart (run_parts m plan place (slice_get plan.quads place)) s
+pub space_run : (m : Manner) (plan : PlanView) (place : ℕ) (s : Shown) → place < length plan.entries → s ≡ on_err (space_before m.group place) → IsPart (run_parts m plan place (slice_get plan.entries place)) s
 space_run m plan place s lt e =
-    let q = quad_at plan.quads place lt in
-    subst (λ (o : Option Quad). IsPart (run_parts m plan place o) s) (sym q.1) (1, e ∙ sym (then-nothing (on_err (space_before m.group place))))
+    let q = entry_at plan.entries place lt in
+    subst (λ (o : Option PlanEntry). IsPart (run_parts m plan place o) s) (sym q.1) (1, e ∙ sym (then-nothing (on_err (space_before m.group place))))
 
-pub space_skip : (m : Manner) (plan : PlanView) (place : ℕ) (s : Shown) → place < length plan.quads → s ≡ on_err (space_before m.group place) → IsPart (skip_parts m plan place (slice_get plan.quads place)) s
+pub space_skip : (m : Manner) (plan : PlanView) (place : ℕ) (s : Shown) → place < length plan.entries → s ≡ on_err (space_before m.group place) → IsPart (skip_parts m plan place (slice_get plan.entries place)) s
 space_skip m plan place s lt e =
-    let q = quad_at plan.quads place lt in
-    subst (λ (o : Option Quad). IsPart (skip_parts m plan place o) s) (sym q.1) (1, e ∙ sym (then-nothing (on_err (space_before m.group place))))
+    let q = entry_at plan.entries place lt in
+    subst (λ (o : Option PlanEntry). IsPart (skip_parts m plan place o) s) (sym q.1) (1, e ∙ sym (then-nothing (on_err (space_before m.group place))))
 
-pub run_refused : (T : Type 0) (r : Result T ProcessFault) (m : Manner) (plan : PlanView) (place : ℕ) (a b : Streams) → place < length plan.quads → r ≡ Err Memory
+pub run_refused : (T : Type 0) (r : Result T ProcessFault) (m : Manner) (plan : PlanView) (place : ℕ) (a b : Streams) → place < length plan.entries → r ≡ Err Memory
     → Prints (λ s. s ≡ on_err (space_before m.group place)) a b → Prints (λ s. Comes (λ o. Displays m plan (Run place) o s) (IsPart (parts_of m plan (Run place)) s) r) a b
 run_refused T r m plan place a b lt e p = prints_as (λ s. s ≡ on_err (space_before m.group place)) (λ s. Comes (λ o. Displays m plan (Run place) o s) (IsPart (parts_of m plan (Run place)) s) r) a b
     (λ s is. subst (λ (x : Result T ProcessFault). Comes (λ o. Displays m plan (Run place) o s) (IsPart (parts_of m plan (Run place)) s) x) (sym e) (space_run m plan place s lt is)) p
 
-pub skip_refused : (T E : Type 0) (r : Result T E) (fault : E) (m : Manner) (plan : PlanView) (place : ℕ) (a b : Streams) → place < length plan.quads → r ≡ Err fault
-    → Prints (λ s. s ≡ on_err (space_before m.group place)) a b → Prints (λ s. MatchResult r (λ _. IsWhole (skip_parts m plan place (slice_get plan.quads place)) s) (λ _. IsPart (skip_parts m plan place (slice_get plan.quads place)) s)) a b
-skip_refused T E r fault m plan place a b lt e p = prints_as (λ s. s ≡ on_err (space_before m.group place)) (λ s. MatchResult r (λ _. IsWhole (skip_parts m plan place (slice_get plan.quads place)) s) (λ _. IsPart (skip_parts m plan place (slice_get plan.quads place)) s)) a b
-    (λ s is. subst (λ (x : Result T E). MatchResult x (λ _. IsWhole (skip_parts m plan place (slice_get plan.quads place)) s) (λ _. IsPart (skip_parts m plan place (slice_get plan.quads place)) s)) (sym e) (space_skip m plan place s lt is)) p
+pub skip_refused : (T E : Type 0) (r : Result T E) (fault : E) (m : Manner) (plan : PlanView) (place : ℕ) (a b : Streams) → place < length plan.entries → r ≡ Err fault
+    → Prints (λ s. s ≡ on_err (space_before m.group place)) a b → Prints (λ s. MatchResult r (λ _. IsWhole (skip_parts m plan place (slice_get plan.entries place)) s) (λ _. IsPart (skip_parts m plan place (slice_get plan.entries place)) s)) a b
+skip_refused T E r fault m plan place a b lt e p = prints_as (λ s. s ≡ on_err (space_before m.group place)) (λ s. MatchResult r (λ _. IsWhole (skip_parts m plan place (slice_get plan.entries place)) s) (λ _. IsPart (skip_parts m plan place (slice_get plan.entries place)) s)) a b
+    (λ s is. subst (λ (x : Result T E). MatchResult x (λ _. IsWhole (skip_parts m plan place (slice_get plan.entries place)) s) (λ _. IsPart (skip_parts m plan place (slice_get plan.entries place)) s)) (sym e) (space_skip m plan place s lt is)) p
 
 -- a cleaning by other names of its folder and its command
 pub cleaned_as : (T : Type 0) (r : Result T ProcessFault) (m : Manner) (dir other : List ℕ) (k l : Command) (a b : Streams) → dir ≡ other → k ≡ l → Prints (Part (cleaning_shown m dir k ∷ []) r) a b → Prints (Part (cleaning_shown m other l ∷ []) r) a b
@@ -164,16 +164,16 @@ cleaned_as T r m dir other k l a b e f p = subst (λ (x : List ℕ). Prints (Par
 
 -- ---- runs
 
-no_cleaning : (m : Manner) (plan : PlanView) (q : Quad) → plan.call.clean_per_run ≡ false → run_cleaning_shown m plan q ≡ on_err []
+no_cleaning : (m : Manner) (plan : PlanView) (q : PlanEntry) → plan.call.clean_per_run ≡ false → run_cleaning_shown m plan q ≡ on_err []
 no_cleaning m plan q e = go plan.call.clean_per_run e
   where
     go : (flag : Bool) → flag ≡ false → (if flag then cleaning_shown m plan.call.dir (clean_command plan.call (package_at plan.packages q.package)) else on_err []) ≡ on_err []
     go true b = absurd (cc)
     go false b = refl
 
-pub own_cleaning : (m : Manner) (plan : PlanView) (o : Option Quad) (q : Quad) (clean : Command) → o ≡ Some q → IfSome o (λ x. clean ≡ clean_command plan.call (package_at plan.packages x.package)) → plan.call.clean_per_run ≡ true → cleaning_shown m plan.call.dir clean ≡ run_cleaning_shown m plan q
+pub own_cleaning : (m : Manner) (plan : PlanView) (o : Option PlanEntry) (q : PlanEntry) (clean : Command) → o ≡ Some q → IfSome o (λ x. clean ≡ clean_command plan.call (package_at plan.packages x.package)) → plan.call.clean_per_run ≡ true → cleaning_shown m plan.call.dir clean ≡ run_cleaning_shown m plan q
 own_cleaning m plan o q clean e g b =
-    let h : clean ≡ clean_command plan.call (package_at plan.packages q.package) = subst (λ (x : Option Quad). IfSome x (λ y. clean ≡ clean_command plan.call (package_at plan.packages y.package))) e g in
+    let h : clean ≡ clean_command plan.call (package_at plan.packages q.package) = subst (λ (x : Option PlanEntry). IfSome x (λ y. clean ≡ clean_command plan.call (package_at plan.packages y.package))) e g in
     ap (cleaning_shown m plan.call.dir) h ∙ sym (go plan.call.clean_per_run b)
   where
     go : (flag : Bool) → flag ≡ true → (if flag then cleaning_shown m plan.call.dir (clean_command plan.call (package_at plan.packages q.package)) else on_err []) ≡ cleaning_shown m plan.call.dir (clean_command plan.call (package_at plan.packages q.package))
@@ -182,19 +182,19 @@ own_cleaning m plan o q clean e g b =
 
 -- a run is shown by the parts that it has
 pub ran_part : (T : Type 0) (r : Result T ProcessFault) (m : Manner) (plan : PlanView) (place : ℕ) (a b : Streams)
-    → Prints (Part (run_parts m plan place (slice_get plan.quads place)) r) a b
+    → Prints (Part (run_parts m plan place (slice_get plan.entries place)) r) a b
     → Prints (λ s. Comes (λ o. Displays m plan (Run place) o s) (IsPart (parts_of m plan (Run place)) s) r) a b
-ran_part T r m plan place a b p = prints_as (Part (run_parts m plan place (slice_get plan.quads place)) r) (λ s. Comes (λ o. Displays m plan (Run place) o s) (IsPart (parts_of m plan (Run place)) s) r) a b
-    (λ s h. comes_map T r (λ _. IsWhole (run_parts m plan place (slice_get plan.quads place)) s) (λ o. Displays m plan (Run place) o s) (IsPart (run_parts m plan place (slice_get plan.quads place)) s) (IsPart (parts_of m plan (Run place)) s)
+ran_part T r m plan place a b p = prints_as (Part (run_parts m plan place (slice_get plan.entries place)) r) (λ s. Comes (λ o. Displays m plan (Run place) o s) (IsPart (parts_of m plan (Run place)) s) r) a b
+    (λ s h. comes_map T r (λ _. IsWhole (run_parts m plan place (slice_get plan.entries place)) s) (λ o. Displays m plan (Run place) o s) (IsPart (run_parts m plan place (slice_get plan.entries place)) s) (IsPart (parts_of m plan (Run place)) s)
     (λ o w. of_outcome o s w) (λ w. w) h) p
   where
-    of_outcome : (o : Outcome) (s : Shown) → IsWhole (run_parts m plan place (slice_get plan.quads place)) s → Displays m plan (Run place) o s
+    of_outcome : (o : Outcome) (s : Shown) → IsWhole (run_parts m plan place (slice_get plan.entries place)) s → Displays m plan (Run place) o s
     of_outcome Passed s w = w
     of_outcome Failed s w = inl w
 
 -- without a cleaning
-pub ran_plain : (T : Type 0) (r : Result T ProcessFault) (m : Manner) (plan : PlanView) (place : ℕ) (q : Quad) (a b c : Streams)
-    → slice_get plan.quads place ≡ Some q → plan.call.clean_per_run ≡ false
+pub ran_plain : (T : Type 0) (r : Result T ProcessFault) (m : Manner) (plan : PlanView) (place : ℕ) (q : PlanEntry) (a b c : Streams)
+    → slice_get plan.entries place ≡ Some q → plan.call.clean_per_run ≡ false
     → Prints (λ s. s ≡ on_err (space_before m.group place)) a b
     → Prints (Part (status_shown m (codes "running") plan place q ∷ []) r) b c
     → Prints (λ s. Comes (λ o. Displays m plan (Run place) o s) (IsPart (parts_of m plan (Run place)) s) r) a c
@@ -202,12 +202,12 @@ ran_plain T r m plan place q a b c e f p t =
     let status = status_shown m (codes "running") plan place q in
     let mid : Prints (Part (run_cleaning_shown m plan q ∷ status ∷ []) r) b c = part_then T r (run_cleaning_shown m plan q) (status ∷ []) b b c (prints_none (λ s. s ≡ run_cleaning_shown m plan q) b (sym (no_cleaning m plan q f))) t in
     ran_part T r m plan place a c
-    (subst (λ (o : Option Quad). Prints (Part (run_parts m plan place o) r) a c) (sym e)
+    (subst (λ (o : Option PlanEntry). Prints (Part (run_parts m plan place o) r) a c) (sym e)
     (part_then T r (on_err (space_before m.group place)) (run_cleaning_shown m plan q ∷ status ∷ []) a b c p mid))
 
 -- with a cleaning that passed
-pub ran_cleaned : (S T : Type 0) (done : S) (r : Result T ProcessFault) (m : Manner) (plan : PlanView) (place : ℕ) (q : Quad) (x : Shown) (a b c d : Streams)
-    → slice_get plan.quads place ≡ Some q → x ≡ run_cleaning_shown m plan q
+pub ran_cleaned : (S T : Type 0) (done : S) (r : Result T ProcessFault) (m : Manner) (plan : PlanView) (place : ℕ) (q : PlanEntry) (x : Shown) (a b c d : Streams)
+    → slice_get plan.entries place ≡ Some q → x ≡ run_cleaning_shown m plan q
     → Prints (λ s. s ≡ on_err (space_before m.group place)) a b
     → Prints (Part {T = S} (x ∷ []) (Ok done)) b c
     → Prints (Part (status_shown m (codes "running") plan place q ∷ []) r) c d
@@ -216,7 +216,7 @@ ran_cleaned S T done r m plan place q x a b c d e f p u t =
     let status = status_shown m (codes "running") plan place q in
     let clean : Prints (λ s. s ≡ run_cleaning_shown m plan q) b c = prints_as (Part {T = S} (x ∷ []) (Ok done)) (λ s. s ≡ run_cleaning_shown m plan q) b c (λ s h. whole_is x s h ∙ f) u in
     ran_part T r m plan place a d
-    (subst (λ (o : Option Quad). Prints (Part (run_parts m plan place o) r) a d) (sym e)
+    (subst (λ (o : Option PlanEntry). Prints (Part (run_parts m plan place o) r) a d) (sym e)
     (part_then T r (on_err (space_before m.group place)) (run_cleaning_shown m plan q ∷ status ∷ []) a b d p
     (part_then T r (run_cleaning_shown m plan q) (status ∷ []) b c d clean t)))
 
@@ -229,16 +229,16 @@ one_part x s (suc k, e) = inr (e ∙ ap (both_shown x) (none k) ∙ then-nothing
     none (suc k) = refl
 
 -- with a cleaning that failed
-pub ran_not : (S T : Type 0) (fault : ProcessFault) (m : Manner) (plan : PlanView) (place : ℕ) (q : Quad) (x : Shown) (a b c : Streams)
-    → slice_get plan.quads place ≡ Some q → x ≡ run_cleaning_shown m plan q → plan.call.clean_per_run ≡ true
+pub ran_not : (S T : Type 0) (fault : ProcessFault) (m : Manner) (plan : PlanView) (place : ℕ) (q : PlanEntry) (x : Shown) (a b c : Streams)
+    → slice_get plan.entries place ≡ Some q → x ≡ run_cleaning_shown m plan q → plan.call.clean_per_run ≡ true
     → Prints (λ s. s ≡ on_err (space_before m.group place)) a b
     → Prints (Part {T = S} (x ∷ []) (Err fault)) b c
     → Prints (λ s. Comes {T = T} (λ o. Displays m plan (Run place) o s) (IsPart (parts_of m plan (Run place)) s) (Err fault)) a c
 ran_not S T fault m plan place q x a b c e f g p u =
     prints_then (λ s. s ≡ on_err (space_before m.group place)) (Part {T = S} (x ∷ []) (Err fault)) (λ s. Comes {T = T} (λ o. Displays m plan (Run place) o s) (IsPart (parts_of m plan (Run place)) s) (Err fault)) a b c
     (λ s t is h. fault_as S T fault (λ o. Displays m plan (Run place) o (both_shown s t)) (IsPart (parts_of m plan (Run place)) (both_shown s t)) t
-    (λ w. inr (g, subst (λ (o : Option Quad). IsFront 2 (run_parts m plan place o) (both_shown s t)) (sym e) (two s t is (whole_is x t w ∙ f))))
-    (λ w. subst (λ (o : Option Quad). IsPart (run_parts m plan place o) (both_shown s t)) (sym e) (some s t is (one_part x t w))) h) p u
+    (λ w. inr (g, subst (λ (o : Option PlanEntry). IsFront 2 (run_parts m plan place o) (both_shown s t)) (sym e) (two s t is (whole_is x t w ∙ f))))
+    (λ w. subst (λ (o : Option PlanEntry). IsPart (run_parts m plan place o) (both_shown s t)) (sym e) (some s t is (one_part x t w))) h) p u
   where
     two : (s t : Shown) → s ≡ on_err (space_before m.group place) → t ≡ run_cleaning_shown m plan q → both_shown s t ≡ all_shown (on_err (space_before m.group place) ∷ run_cleaning_shown m plan q ∷ [])
     two s t is it = ap (λ (y : Shown). both_shown y t) is ∙ ap (both_shown (on_err (space_before m.group place))) (it ∙ sym (then-nothing (run_cleaning_shown m plan q)))
@@ -253,20 +253,20 @@ ran_not S T fault m plan place q x a b c e f g p u =
 -- ---- skipped places
 
 -- a group at a place: its text, in the manner that has stayed
-pub placed_group : (verb : List ℕ) (plan : PlanView) (place : ℕ) (q : Quad) (m n k : Manner) (text : List ℕ) (a b c : Streams) → n ≡ m → k ≡ n → text ≡ place_status verb n.verbose plan place q
+pub placed_group : (verb : List ℕ) (plan : PlanView) (place : ℕ) (q : PlanEntry) (m n k : Manner) (text : List ℕ) (a b c : Streams) → n ≡ m → k ≡ n → text ≡ place_status verb n.verbose plan place q
     → Prints (λ s. s ≡ opening_shown n text) a b → Prints (λ s. s ≡ end_shown k) b c → Prints (λ s. s ≡ status_shown m verb plan place q) a c
 placed_group verb plan place q m n k text a b c e f g p t =
     in_manner (λ x s. s ≡ status_shown x verb plan place q) n m a c e
     (subst (λ (x : List ℕ). Prints (λ s. s ≡ group_shown n x) a c) g
     (prints_group n text a b c p (in_manner (λ x s. s ≡ end_shown x) k n b c f t)))
 
-pub skipped : (m : Manner) (plan : PlanView) (place : ℕ) (q : Quad) (a b c : Streams) → slice_get plan.quads place ≡ Some q
+pub skipped : (m : Manner) (plan : PlanView) (place : ℕ) (q : PlanEntry) (a b c : Streams) → slice_get plan.entries place ≡ Some q
     → Prints (λ s. s ≡ on_err (space_before m.group place)) a b → Prints (λ s. s ≡ status_shown m (codes "skipping") plan place q) b c
-    → Prints (IsWhole (skip_parts m plan place (slice_get plan.quads place))) a c
+    → Prints (IsWhole (skip_parts m plan place (slice_get plan.entries place))) a c
 skipped m plan place q a b c e p t =
     let space = on_err (space_before m.group place) in
     let status = status_shown m (codes "skipping") plan place q in
-    subst (λ (o : Option Quad). Prints (IsWhole (skip_parts m plan place o)) a c) (sym e)
+    subst (λ (o : Option PlanEntry). Prints (IsWhole (skip_parts m plan place o)) a c) (sym e)
     (prints_then (λ s. s ≡ space) (λ s. s ≡ status) (IsWhole (skip_parts m plan place (Some q))) a b c
     (λ u v is it. ap (λ (x : Shown). both_shown x v) is ∙ ap (both_shown space) (it ∙ sym (then-nothing status))) p t)
 

@@ -3,8 +3,8 @@ use Rattle.std.proofs.Common.{◌≡◌, ◌≢◌, ℕ, ◌+◌, ◌<◌, List,
 use Rattle.std.proofs.lemmas.List.{take_more}
 use Rattle.std.proofs.lemmas.List.Elements.{Contains-get_or, Contains-append_left, Contains-append_right, Contains-append_cases, Contains-push, Contains-push_cases}
 use Rattle.std.proofs.lemmas.List.Quantifiers.{all_pairs_push}
-use Rattle.hack_runs.specs.View.{PlanView}
-use Rattle.hack_plan.specs.declared.places.Quad.{Quad}
+use Rattle.hack_plan.specs.View.{PlanView}
+use Rattle.hack_plan.specs.declared.places.PlanEntry.{PlanEntry}
 use Rattle.hack_suspects.specs.Suspects.{Outcome as Run_outcome}
 use Rattle.hack_session.specs.declared.step.Handed.{Handed}
 use Rattle.hack_session.specs.declared.step.Outcome.{Outcome}
@@ -18,7 +18,7 @@ use Rattle.hack_suspects.specs.declared.suspect.Outcome.{Outcome as Ran}
 use Rattle.hack_suspects.specs.Suspects.{outcomes_of}
 use Rattle.hack_session.specs.Histories.{Course}
 use Rattle.hack_session.specs.Suspects.{AreExplained, ExplainedView, IsExplained, outcome_of, part_explained, settings_in}
-use Rattle.hack_session.specs.Suspects.{AddsOnce, AreDistinct, FailsBefore, HasFailed, is_failed, part_at, part_where, part_of, quad_of}
+use Rattle.hack_session.specs.Suspects.{AddsOnce, AreDistinct, FailsBefore, HasFailed, is_failed, part_at, part_where, part_of, entry_of}
 
 bools-differ : {b : Bool} → b ≡ true → b ≡ false → ⊥
 bools-differ p q = let e : true ≡ false = sym p ∙ q in cc
@@ -131,14 +131,14 @@ not-among-more parts i part lt not differs c =
     ]
 
 -- a step of another part, or of none, adds nothing
-pub no-quad : (plan : PlanView) (h : Handed) (part : Part) → quad_of plan h.step ≡ None → part_at plan h ≢ Some part
-no-quad plan h part none e = let f : None ≡ Some part = sym (ap part_where none) ∙ e in cc
+pub no-entry : (plan : PlanView) (h : Handed) (part : Part) → entry_of plan h.step ≡ None → part_at plan h ≢ Some part
+no-entry plan h part none e = let f : None ≡ Some part = sym (ap part_where none) ∙ e in cc
 
-pub other-quad : (plan : PlanView) (h : Handed) (q : Quad) (part : Part) → quad_of plan h.step ≡ Some q → part_of q ≢ Some part → part_at plan h ≢ Some part
-other-quad plan h q part is other e = other (sym (ap part_where is) ∙ e)
+pub other-entry : (plan : PlanView) (h : Handed) (q : PlanEntry) (part : Part) → entry_of plan h.step ≡ Some q → part_of q ≢ Some part → part_at plan h ≢ Some part
+other-entry plan h q part is other e = other (sym (ap part_where is) ∙ e)
 
 -- what came of one more run is added
-pub outcome-pushed : (plan : PlanView) (part : Part) (q : Quad) (outcome : Outcome) (old new : List Ran) (run : Ran) → new ≡ old ++ run ∷ [] → run.on.items ≡ slice_index_or (settings_in (slice_get plan.packages part.package)) q.rank [] → run.failed ≡ is_failed outcome
+pub outcome-pushed : (plan : PlanView) (part : Part) (q : PlanEntry) (outcome : Outcome) (old new : List Ran) (run : Ran) → new ≡ old ++ run ∷ [] → run.on.items ≡ slice_index_or (settings_in (slice_get plan.packages part.package)) q.rank [] → run.failed ≡ is_failed outcome
     → outcomes_of new ≡ outcomes_of old ++ outcome_of plan part q outcome ∷ []
 outcome-pushed plan part q outcome old new run more on failed =
     let plain : Ran → Run_outcome = λ r. record { on = r.on.items; failed = r.failed } in

@@ -2,8 +2,8 @@
 use Rattle.std.specs.Prelude.{ℕ, ◌≡◌, ◌≤◌, Bool, List, [], ◌∷◌, ◌++◌, drop, length, Option}
 use Rattle.std.specs.List.{flat_map, list_any}
 use Rattle.hack_term.specs.declared.partition.Partition.{Partition}
-use Rattle.hack_runs.specs.declared.parts.PlanVersion.{PlanVersion}
-use Rattle.hack_runs.specs.View.{PlanView}
+use Rattle.hack_plan.specs.declared.parts.PlanVersion.{PlanVersion}
+use Rattle.hack_plan.specs.View.{PlanView}
 use Rattle.hack_session.specs.declared.schedule.Cursor.{Cursor}
 use Rattle.hack_session.specs.declared.step.Step.{Step}
 use Rattle.hack_session.specs.declared.step.Outcome.{Outcome}
@@ -18,7 +18,7 @@ left_in inside taken (v ∷ vs) = drop taken (steps_of inside v) ++ flat_map (st
 
 -- the steps that are left at a cursor
 abbrev pub steps_left : Option Partition → PlanView → Cursor → List Step
-steps_left piece plan c = left_in (in_piece piece (length plan.quads)) c.taken (drop c.version plan.versions)
+steps_left piece plan c = left_in (in_piece piece (length plan.entries)) c.taken (drop c.version plan.versions)
 
 -- steps with their outcomes, as far as there are both
 abbrev pub with_outcomes : List Step → List Outcome → List Handed

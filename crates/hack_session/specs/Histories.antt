@@ -1,7 +1,7 @@
 -- What a session hands out, and the outcomes that it records.
 use Rattle.std.specs.Prelude.{ℕ, ◌≡◌, ◌+◌, ◌<◌, ◌++◌, List, ◌∷◌, [], length, map, take, slice_get, slice_index_or, Bool, true, false, not, Option, None, IfSome, if◌then◌else◌}
 use Rattle.std.specs.List.{list_any}
-use Rattle.hack_runs.specs.View.{PlanView}
+use Rattle.hack_plan.specs.View.{PlanView}
 use Rattle.hack_session.specs.declared.step.Step.{Step}
 use Rattle.hack_session.specs.declared.step.Step.TheVariants.{Prepare, Skip, Run}
 use Rattle.hack_session.specs.declared.step.Outcome.{Outcome}
@@ -19,8 +19,8 @@ pub record Course : Type 0 where
 -- the plan has the place of a step
 abbrev pub IsStepOf : PlanView → Step → Type 0
 IsStepOf plan (Prepare preparation) = Unit {0}
-IsStepOf plan (Skip place) = place < length plan.quads
-IsStepOf plan (Run place) = place < length plan.quads
+IsStepOf plan (Skip place) = place < length plan.entries
+IsStepOf plan (Run place) = place < length plan.entries
 
 -- a failed preparation stops, and a failed run does unless runs go on; a skipped place never stops
 abbrev pub stops_at : Bool → Step → Outcome → Bool

@@ -3,7 +3,7 @@ use Rattle.std.proofs.Common.{◌≡◌, ◌+◌, ℕ, Bool, List, [], ◌∷◌
 use Rattle.hack_base.proofs.WriteLemmas.{writes-none, writes-then}
 use Rattle.hack_term.specs.declared.log_group.LogGroup.{LogGroup}
 use Rattle.hack_term.specs.declared.term.Term.{Term}
-use Rattle.hack_runs.specs.View.{PlanView}
+use Rattle.hack_plan.specs.View.{PlanView}
 use Rattle.hack_session.specs.declared.step.Handed.{Handed}
 use Rattle.hack_session.specs.Joined.{grows_more}
 use Rattle.hack_session.specs.Shown.{Shown, on_err, both_shown, Manner, manner_of, ShowsAll, Streams, Prints, HasShown}

@@ -1,11 +1,11 @@
 -- The command list.
 use Rattle.std.specs.Prelude.{ℕ, ◌≡◌, ◌⊎◌, Bool, true, false, List, [], ◌∷◌, ◌++◌, Option, Some, None, Result, Ok, Err, codes, slice_get, if◌then◌else◌}
 use Rattle.std.specs.Io.KnownBytes.{Appends, Keeps}
-use Rattle.hack_plan.specs.declared.places.Quad.{Quad}
+use Rattle.hack_plan.specs.declared.places.PlanEntry.{PlanEntry}
 use Rattle.hack_process.specs.CommandTexts.{Command, listed_of}
-use Rattle.hack_runs.specs.declared.parts.Preparation.TheVariants.{Toolchain, Lockfile, Clean}
-use Rattle.hack_runs.specs.View.{PlanView}
-use Rattle.hack_runs.specs.Commands.{clean_command, command_of_quad, package_at}
+use Rattle.hack_plan.specs.declared.parts.Preparation.TheVariants.{Toolchain, Lockfile, Clean}
+use Rattle.hack_plan.specs.View.{PlanView}
+use Rattle.hack_plan.specs.Commands.{clean_command, command_of_entry, package_at}
 use Rattle.hack_session.specs.declared.step.Step.{Step}
 use Rattle.hack_session.specs.declared.step.Step.TheVariants.{Prepare, Skip, Run}
 use Rattle.hack_session.specs.declared.step.Outcome.{Outcome}
@@ -20,14 +20,14 @@ abbrev pub line_of : List ℕ → Command → List ℕ
 line_of dir command = listed_of dir command ++ codes "\n"
 
 -- the lines of a run: that of its cleaning where runs are cleaned, and its own
-abbrev pub lines_of : PlanView → Quad → List ℕ
+abbrev pub lines_of : PlanView → PlanEntry → List ℕ
 lines_of plan q =
     if plan.call.clean_per_run
-    then line_of plan.call.dir (clean_command plan.call (package_at plan.packages q.package)) ++ line_of plan.call.dir (command_of_quad plan q)
-    else line_of plan.call.dir (command_of_quad plan q)
+    then line_of plan.call.dir (clean_command plan.call (package_at plan.packages q.package)) ++ line_of plan.call.dir (command_of_entry plan q)
+    else line_of plan.call.dir (command_of_entry plan q)
 
 -- the lines of the run at a place
-abbrev pub run_lines : PlanView → Option Quad → List ℕ
+abbrev pub run_lines : PlanView → Option PlanEntry → List ℕ
 run_lines plan None = []
 run_lines plan (Some q) = lines_of plan q
 
@@ -37,7 +37,7 @@ step_lines plan (Prepare (Toolchain v)) = []
 step_lines plan (Prepare (Lockfile v)) = []
 step_lines plan (Prepare (Clean v)) = line_of plan.call.dir (clean_command plan.call None)
 step_lines plan (Skip place) = []
-step_lines plan (Run place) = run_lines plan (slice_get plan.quads place)
+step_lines plan (Run place) = run_lines plan (slice_get plan.entries place)
 
 -- what a step that was handed out lists
 abbrev pub lines_listed : PlanView → Handed → List ℕ

@@ -7,11 +7,11 @@ use Rattle.hack_process.specs.Calls.{Asked, Call, IsSuccess}
 use Rattle.hack_process.specs.Commands.{asked_of}
 use Rattle.hack_term.specs.declared.term.Term.{Term}
 use Rattle.hack_versions.specs.declared.version.Version.{Version}
-use Rattle.hack_plan.specs.declared.places.Quad.{Quad}
-use Rattle.hack_runs.specs.declared.parts.PlanVersion.{PlanVersion}
-use Rattle.hack_runs.specs.declared.parts.Preparation.TheVariants.{Toolchain, Lockfile, Clean}
-use Rattle.hack_runs.specs.View.{PlanView}
-use Rattle.hack_runs.specs.Commands.{clean_command, command_of_quad, lockfile_command, package_at, toolchain_of}
+use Rattle.hack_plan.specs.declared.places.PlanEntry.{PlanEntry}
+use Rattle.hack_plan.specs.declared.parts.PlanVersion.{PlanVersion}
+use Rattle.hack_plan.specs.declared.parts.Preparation.TheVariants.{Toolchain, Lockfile, Clean}
+use Rattle.hack_plan.specs.View.{PlanView}
+use Rattle.hack_plan.specs.Commands.{clean_command, command_of_entry, lockfile_command, package_at, toolchain_of}
 use Rattle.hack_session.specs.Toolchains.{addition_of, trial_of}
 use Rattle.hack_session.specs.declared.step.Step.{Step}
 use Rattle.hack_session.specs.declared.step.Step.TheVariants.{Prepare, Skip, Run}
@@ -72,19 +72,19 @@ BreaksInstall [] try add calls =
 BreaksInstall (target ∷ targets) try add calls = Breaks (add ∷ []) calls
 
 -- what a run's own command asks
-abbrev pub own_asked : PlanView → Quad → Asked
-own_asked plan q = asked_of false (command_of_quad plan q)
+abbrev pub own_asked : PlanView → PlanEntry → Asked
+own_asked plan q = asked_of false (command_of_entry plan q)
 
 -- what a run's cleaning asks
-abbrev pub cleaning_asked : PlanView → Quad → Asked
+abbrev pub cleaning_asked : PlanView → PlanEntry → Asked
 cleaning_asked plan q = asked_of false (clean_command plan.call (package_at plan.packages q.package))
 
 -- the commands of a run: its cleaning where runs are cleaned, and its own
-abbrev pub commands_of : PlanView → Quad → List Asked
+abbrev pub commands_of : PlanView → PlanEntry → List Asked
 commands_of plan q = if plan.call.clean_per_run then cleaning_asked plan q ∷ own_asked plan q ∷ [] else own_asked plan q ∷ []
 
 -- the commands of the run at a place
-abbrev pub run_commands : PlanView → Option Quad → List Asked
+abbrev pub run_commands : PlanView → Option PlanEntry → List Asked
 run_commands plan None = []
 run_commands plan (Some q) = commands_of plan q
 
@@ -122,7 +122,7 @@ Exactly plan (Prepare (Toolchain v)) calls outcome = InstallsAt plan (number_at 
 Exactly plan (Prepare (Lockfile v)) calls outcome = Follows (lockfile_commands plan (number_at (slice_get plan.versions v))) calls outcome
 Exactly plan (Prepare (Clean v)) calls outcome = Follows (asked_of false (clean_command plan.call None) ∷ []) calls outcome
 Exactly plan (Skip place) calls outcome = (calls ≡ []) × (outcome ≡ Passed)
-Exactly plan (Run place) calls outcome = Follows (run_commands plan (slice_get plan.quads place)) calls outcome
+Exactly plan (Run place) calls outcome = Follows (run_commands plan (slice_get plan.entries place)) calls outcome
 
 -- the calls are those of the step up to where memory was refused
 abbrev pub IsCut : PlanView → Step → List Call → Type 0
@@ -130,7 +130,7 @@ IsCut plan (Prepare (Toolchain v)) calls = BreaksInstallAt plan (number_at (slic
 IsCut plan (Prepare (Lockfile v)) calls = Breaks (lockfile_commands plan (number_at (slice_get plan.versions v))) calls
 IsCut plan (Prepare (Clean v)) calls = Breaks (asked_of false (clean_command plan.call None) ∷ []) calls
 IsCut plan (Skip place) calls = calls ≡ []
-IsCut plan (Run place) calls = Breaks (run_commands plan (slice_get plan.quads place)) calls
+IsCut plan (Run place) calls = Breaks (run_commands plan (slice_get plan.entries place)) calls
 
 -- memory was refused
 abbrev pub is_memory : ProcessFault → Bool

@@ -5,10 +5,10 @@ use Rattle.std.specs.Option.{option_map_or}
 use Rattle.std.specs.Fmt.{decimal}
 use Rattle.std.specs.BTreeMap.{BTreeMap, get_by_text}
 use Rattle.std.proofs.Common.{Global, String, Vec}
-use Rattle.hack_plan.specs.declared.places.Quad.{Quad}
+use Rattle.hack_plan.specs.declared.places.PlanEntry.{PlanEntry}
 use Rattle.hack_process.specs.CommandTexts.{text_of}
-use Rattle.hack_runs.specs.View.{PlanView}
-use Rattle.hack_runs.specs.Commands.{command_of_quad, name_in, package_at}
+use Rattle.hack_plan.specs.View.{PlanView}
+use Rattle.hack_plan.specs.Commands.{command_of_entry, name_in, package_at}
 use Rattle.hack_session.specs.declared.step.Step.{Step}
 use Rattle.hack_session.specs.declared.step.Step.TheVariants.{Prepare, Skip, Run}
 use Rattle.hack_session.specs.declared.step.Outcome.{Outcome}
@@ -24,13 +24,13 @@ pub record FailedRun : Type 0 where
   pub text : List ℕ
 
 -- a run at a place as it is reported where it failed
-abbrev pub run_at : PlanView → Option Quad → Option FailedRun
+abbrev pub run_at : PlanView → Option PlanEntry → Option FailedRun
 run_at plan None = None
-run_at plan (Some q) = Some (record { name = unwrap_or (name_in (package_at plan.packages q.package)) []; text = text_of true plan.call.dir (command_of_quad plan q) })
+run_at plan (Some q) = Some (record { name = unwrap_or (name_in (package_at plan.packages q.package)) []; text = text_of true plan.call.dir (command_of_entry plan q) })
 
 -- a step's failed run, where it is one
 abbrev pub failed_run : PlanView → Step → Outcome → Option FailedRun
-failed_run plan (Run place) Failed = run_at plan (slice_get plan.quads place)
+failed_run plan (Run place) Failed = run_at plan (slice_get plan.entries place)
 failed_run plan (Prepare preparation) Failed = None
 failed_run plan (Skip place) Failed = None
 failed_run plan step Passed = None

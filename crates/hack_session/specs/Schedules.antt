@@ -6,8 +6,8 @@ use Rattle.hack_term.specs.declared.partition.Partition.{Partition}
 use Rattle.hack_term.specs.declared.partition.PartitionKind.{PartitionKind}
 use Rattle.hack_term.specs.declared.partition.PartitionKind.TheVariants.{Block, Turn}
 use Rattle.hack_term.specs.Pieces.{InPiece}
-use Rattle.hack_runs.specs.declared.parts.PlanVersion.{PlanVersion}
-use Rattle.hack_runs.specs.View.{PlanView}
+use Rattle.hack_plan.specs.declared.parts.PlanVersion.{PlanVersion}
+use Rattle.hack_plan.specs.View.{PlanView}
 use Rattle.hack_session.specs.declared.step.Step.{Step}
 use Rattle.hack_session.specs.declared.step.Step.TheVariants.{Prepare, Skip, Run}
 
@@ -41,8 +41,8 @@ is_place (Run place) = true
 -- all places in order, each once, those outside the piece marked as skipped: for each version in order its preparations and then its places
 pub record IsSchedule (piece : Option Partition) (plan : PlanView) (schedule : List Step) : Type 0 where
   pub inside : ℕ → Bool
-  pub test : IsTestOf piece (length plan.quads) inside
-  pub places : filter is_place schedule ≡ map (mark inside) (range_with_len 0 (length plan.quads))
+  pub test : IsTestOf piece (length plan.entries) inside
+  pub places : filter is_place schedule ≡ map (mark inside) (range_with_len 0 (length plan.entries))
   pub steps : schedule ≡ flat_map (steps_of inside) plan.versions
 
 -- the piece of a kind has the place, as a test
@@ -57,4 +57,4 @@ in_piece (Some piece) total place = in_kind piece.kind piece.piece piece.count t
 
 -- the steps of a plan, of which those outside the piece are skipped
 abbrev pub all_steps : Option Partition → PlanView → List Step
-all_steps piece plan = flat_map (steps_of (in_piece piece (length plan.quads))) plan.versions
+all_steps piece plan = flat_map (steps_of (in_piece piece (length plan.entries))) plan.versions

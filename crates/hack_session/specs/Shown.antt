@@ -8,11 +8,11 @@ use Rattle.hack_term.specs.declared.term.Term.{Term}
 use Rattle.hack_term.specs.Groups.{opening_line, message_line, closing_line}
 use Rattle.hack_term.specs.Lines.{info_line, error_line}
 use Rattle.hack_versions.specs.declared.version.Version.{Version}
-use Rattle.hack_plan.specs.declared.places.Quad.{Quad}
+use Rattle.hack_plan.specs.declared.places.PlanEntry.{PlanEntry}
 use Rattle.hack_process.specs.CommandTexts.{Command, text_of}
-use Rattle.hack_runs.specs.declared.parts.Preparation.TheVariants.{Toolchain, Lockfile, Clean}
-use Rattle.hack_runs.specs.View.{PlanView}
-use Rattle.hack_runs.specs.Commands.{clean_command, package_at, toolchain_of}
+use Rattle.hack_plan.specs.declared.parts.Preparation.TheVariants.{Toolchain, Lockfile, Clean}
+use Rattle.hack_plan.specs.View.{PlanView}
+use Rattle.hack_plan.specs.Commands.{clean_command, package_at, toolchain_of}
 use Rattle.hack_session.specs.Toolchains.{addition_of}
 use Rattle.hack_session.specs.Statuses.{place_status, running_text}
 use Rattle.hack_session.specs.Performs.{GrowsBy, number_at}
@@ -81,20 +81,20 @@ abbrev pub cleaning_shown : Manner → List ℕ → Command → Shown
 cleaning_shown m dir command = on_err (if m.verbose then info_line m.coloring (running_text (text_of true dir command)) else [])
 
 -- the line on a run's cleaning, where runs are cleaned
-abbrev pub run_cleaning_shown : Manner → PlanView → Quad → Shown
+abbrev pub run_cleaning_shown : Manner → PlanView → PlanEntry → Shown
 run_cleaning_shown m plan q = if plan.call.clean_per_run then cleaning_shown m plan.call.dir (clean_command plan.call (package_at plan.packages q.package)) else on_err []
 
 -- the status of a run at a place: what is done there, its number, and the number of all
-abbrev pub status_shown : Manner → List ℕ → PlanView → ℕ → Quad → Shown
+abbrev pub status_shown : Manner → List ℕ → PlanView → ℕ → PlanEntry → Shown
 status_shown m verb plan place q = group_shown m (place_status verb m.verbose plan place q)
 
 -- what a run shows: an empty line, its cleaning, and its status
-abbrev pub run_parts : Manner → PlanView → ℕ → Option Quad → List Shown
+abbrev pub run_parts : Manner → PlanView → ℕ → Option PlanEntry → List Shown
 run_parts m plan place None = []
 run_parts m plan place (Some q) = on_err (space_before m.group place) ∷ run_cleaning_shown m plan q ∷ status_shown m (codes "running") plan place q ∷ []
 
 -- what a skipped place shows: an empty line, and its status
-abbrev pub skip_parts : Manner → PlanView → ℕ → Option Quad → List Shown
+abbrev pub skip_parts : Manner → PlanView → ℕ → Option PlanEntry → List Shown
 skip_parts m plan place None = []
 skip_parts m plan place (Some q) = on_err (space_before m.group place) ∷ status_shown m (codes "skipping") plan place q ∷ []
 
@@ -112,8 +112,8 @@ abbrev pub parts_of : Manner → PlanView → Step → List Shown
 parts_of m plan (Prepare (Toolchain v)) = addition_parts m plan (number_at (slice_get plan.versions v))
 parts_of m plan (Prepare (Lockfile v)) = []
 parts_of m plan (Prepare (Clean v)) = cleaning_shown m plan.call.dir (clean_command plan.call None) ∷ []
-parts_of m plan (Skip place) = skip_parts m plan place (slice_get plan.quads place)
-parts_of m plan (Run place) = run_parts m plan place (slice_get plan.quads place)
+parts_of m plan (Skip place) = skip_parts m plan place (slice_get plan.entries place)
+parts_of m plan (Run place) = run_parts m plan place (slice_get plan.entries place)
 
 -- ---- what steps show
 

@@ -2,9 +2,9 @@
 use Rattle.std.specs.Prelude.{ℕ, ◌+◌, Bool, true, false, List, [], ◌++◌, codes, length, Option, Some, None}
 use Rattle.std.specs.Fmt.{decimal}
 use Rattle.hack_process.specs.CommandTexts.{text_of}
-use Rattle.hack_plan.specs.declared.places.Quad.{Quad}
-use Rattle.hack_runs.specs.View.{PlanView}
-use Rattle.hack_runs.specs.Commands.{command_of_quad, name_in, package_at}
+use Rattle.hack_plan.specs.declared.places.PlanEntry.{PlanEntry}
+use Rattle.hack_plan.specs.View.{PlanView}
+use Rattle.hack_plan.specs.Commands.{command_of_entry, name_in, package_at}
 
 -- the line on a command that is run outside the plan's places
 abbrev pub running_text : List ℕ → List ℕ
@@ -26,6 +26,6 @@ told_name true name = None
 told_name false name = name
 
 -- the status of a run at a place: its number is the place from 1, and the total is the plan's length
-abbrev pub place_status : List ℕ → Bool → PlanView → ℕ → Quad → List ℕ
+abbrev pub place_status : List ℕ → Bool → PlanView → ℕ → PlanEntry → List ℕ
 place_status verb verbose plan place q =
-    status_text verb (text_of verbose plan.call.dir (command_of_quad plan q)) (told_name verbose (name_in (package_at plan.packages q.package))) (place + 1) (length plan.quads)
+    status_text verb (text_of verbose plan.call.dir (command_of_entry plan q)) (told_name verbose (name_in (package_at plan.packages q.package))) (place + 1) (length plan.entries)

@@ -6,8 +6,8 @@ use Rattle.hack_base.specs.Notes.{Note}
 use Rattle.hack_base.specs.declared.notice.NoticeKind.TheVariants.{Info}
 use Rattle.hack_versions.specs.declared.version.Version.{Version}
 use Rattle.hack_versions.specs.VersionTexts.{version_text}
-use Rattle.hack_runs.specs.View.{PackageView, PlanView}
-use Rattle.hack_runs.specs.Commands.{name_in, slot_target}
+use Rattle.hack_plan.specs.View.{PackageView, PlanView}
+use Rattle.hack_plan.specs.Commands.{name_in, slot_target}
 use Rattle.hack_samples.specs.declared.sets.Setting.{Setting}
 use Rattle.hack_session.specs.declared.suspects.Part.{Part}
 use Rattle.hack_session.specs.Suspects.{ExplainedView}

@@ -1,8 +1,8 @@
 -- Which small patterns explain the failed runs of a plan.
 use Rattle.std.specs.Prelude.{ℕ, ◌≡◌, ◌≢◌, ◌<◌, ◌≤◌, ◌*◌, ◌++◌, ◌↔◌, ◌⊎◌, List, [], ◌∷◌, Bool, true, false, Option, Some, None, All, AllPairs, Contains, length, map, option_map, slice_get}
 use Rattle.std.specs.List.{slice_index_or}
-use Rattle.hack_plan.specs.declared.places.Quad.{Quad}
-use Rattle.hack_runs.specs.View.{PackageView, PlanView}
+use Rattle.hack_plan.specs.declared.places.PlanEntry.{PlanEntry}
+use Rattle.hack_plan.specs.View.{PackageView, PlanView}
 use Rattle.hack_samples.specs.Sets.{rows_of}
 use Rattle.hack_samples.specs.declared.sets.Setting.{Setting}
 use Rattle.hack_suspects.specs.Suspects.{Outcome as Run_outcome, AreSuspects, choices}
@@ -16,28 +16,28 @@ use Rattle.hack_session.specs.declared.suspects.Explained.{Explained}
 use Rattle.hack_session.specs.Histories.{Course}
 
 -- the runs of a version, a slot and a package
-abbrev pub part_in : Quad → Option ℕ → Option Part
+abbrev pub part_in : PlanEntry → Option ℕ → Option Part
 part_in q None = None
 part_in q (Some place) = Some (record { version = q.version; slot = q.slot; «package» = place })
 
 -- the part of a run, where it is for a single package
-abbrev pub part_of : Quad → Option Part
+abbrev pub part_of : PlanEntry → Option Part
 part_of q = part_in q q.package
 
 -- the run of a step, where it has one
-abbrev pub quad_of : PlanView → Step → Option Quad
-quad_of plan (Prepare preparation) = None
-quad_of plan (Skip place) = None
-quad_of plan (Run place) = slice_get plan.quads place
+abbrev pub entry_of : PlanView → Step → Option PlanEntry
+entry_of plan (Prepare preparation) = None
+entry_of plan (Skip place) = None
+entry_of plan (Run place) = slice_get plan.entries place
 
 -- the part of a run, where there is one
-abbrev pub part_where : Option Quad → Option Part
+abbrev pub part_where : Option PlanEntry → Option Part
 part_where None = None
 part_where (Some q) = part_of q
 
 -- the part that a handed step is a run of, where it is one of a single package
 abbrev pub part_at : PlanView → Handed → Option Part
-part_at plan h = part_where (quad_of plan h.step)
+part_at plan h = part_where (entry_of plan h.step)
 
 -- for each run of a package which candidates are on in it
 abbrev pub settings_in : Option PackageView → List (List Bool)
@@ -55,13 +55,13 @@ is_failed Passed = false
 is_failed Failed = true
 
 -- what came of a part's run: which candidates were on in it, and whether it failed
-abbrev pub outcome_of : PlanView → Part → Quad → Outcome → Run_outcome
+abbrev pub outcome_of : PlanView → Part → PlanEntry → Outcome → Run_outcome
 outcome_of plan part q outcome = record { on = slice_index_or (settings_in (slice_get plan.packages part.package)) q.rank []; failed = is_failed outcome }
 
 -- what came of the part's runs among the handed steps, in order
 pub data AreOutcomes (plan : PlanView) (part : Part) : List Handed → List Run_outcome → Type 0 where
   starts : AreOutcomes plan part [] []
-  ran : {handed : List Handed} {outcomes : List Run_outcome} (h : Handed) (q : Quad) → AreOutcomes plan part handed outcomes → quad_of plan h.step ≡ Some q → part_of q ≡ Some part
+  ran : {handed : List Handed} {outcomes : List Run_outcome} (h : Handed) (q : PlanEntry) → AreOutcomes plan part handed outcomes → entry_of plan h.step ≡ Some q → part_of q ≡ Some part
       → AreOutcomes plan part (handed ++ h ∷ []) (outcomes ++ outcome_of plan part q h.outcome ∷ [])
   passes : {handed : List Handed} {outcomes : List Run_outcome} (h : Handed) → AreOutcomes plan part handed outcomes → part_at plan h ≢ Some part → AreOutcomes plan part (handed ++ h ∷ []) outcomes
 

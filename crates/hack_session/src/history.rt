@@ -7,7 +7,7 @@ ghost use Rattle.hack_session.specs.Schedules.{all_steps};
 
 use crate::schedule::Cursor;
 use crate::step::{Handed, Outcome};
-use hack_runs::plan::Plan;
+use hack_plan::plan::Plan;
 use hack_term::partition::Partition;
 use std::marker::Model;
 

@@ -6,7 +6,7 @@ ghost use Rattle.std.specs.Fmt.{with_newline};
 ghost use Rattle.std.specs.Io.KnownBytes.{Appends, Keeps};
 ghost use Rattle.std.proofs.Common.{◌∙◌, refl};
 ghost use Rattle.hack_process.specs.Commands.{command_of, line_text, listed_text};
-ghost use Rattle.hack_runs.specs.Commands.{clean_command};
+ghost use Rattle.hack_plan.specs.Commands.{clean_command};
 ghost use Rattle.hack_session.specs.Histories.{IsStepOf};
 ghost use Rattle.hack_session.specs.Lists.{CountsLines, ListsAll, is_sent, is_sent_step, line_of};
 ghost use Rattle.hack_session.specs.Lists.{page_of, run_lines, step_lines};
@@ -16,8 +16,8 @@ use crate::lines::{LineFault, Lines};
 use crate::runner::Runner;
 use crate::step::{Outcome, Step};
 use hack_process::process::{Line, ListedLine, ProcessBuilder};
-use hack_runs::parts::Preparation;
-use hack_runs::plan::Plan;
+use hack_plan::parts::Preparation;
+use hack_plan::plan::Plan;
 use std::alloc::Global;
 use std::fmt;
 
@@ -124,9 +124,9 @@ fn list_run<W: Lines>(
     plan: &Plan,
     place: usize,
 ) -> Result<(), LineFault>
-    requires { place < length plan.now.quads }
+    requires { place < length plan.now.entries }
     ensures written { OnOk result (Appends (W.contents out.old) (W.contents out.new)
-        (run_lines plan.now (slice_get plan.now.quads place))) }
+        (run_lines plan.now (slice_get plan.now.entries place))) }
     ensures counted { CountsLines (W.failed out.old) (W.failed out.new) result }
     ensures kept { result ≡ Err LineFault.Memory → out.new ≡ out.old }
     ensures left { result ≡ Err LineFault.Unwritten

@@ -3,7 +3,7 @@
 ghost use Rattle.std.specs.Prelude.{◌≡◌, ◌⊎◌, ◌<◌, ◌∷◌, [], IfOk, MatchResult, None, Some, codes};
 ghost use Rattle.std.specs.Prelude.{false, length, option_map, slice_get, string_bytes};
 ghost use Rattle.hack_process.specs.Commands.{asked_of, command_of};
-ghost use Rattle.hack_runs.specs.Commands.{clean_command, command_of_quad, name_in, package_at};
+ghost use Rattle.hack_plan.specs.Commands.{clean_command, command_of_entry, name_in, package_at};
 ghost use Rattle.hack_session.specs.Histories.{IsStepOf};
 ghost use Rattle.hack_session.specs.Performs.{Breaks, BreaksInstallAt, Comes, Exactly, Follows};
 ghost use Rattle.hack_session.specs.Performs.{InstallsAt, IsCut, Makes, lockfile_commands};
@@ -20,8 +20,8 @@ use crate::screen::{Screen, Status};
 use crate::step::Step;
 use hack_base::writes::Sink;
 use hack_process::process::{Caller, ProcessBuilder, ProcessFault};
-use hack_runs::parts::Preparation;
-use hack_runs::plan::{Plan, PlannedRun, toolchain};
+use hack_plan::parts::Preparation;
+use hack_plan::plan::{Plan, PlannedCommand, toolchain};
 use hack_versions::version::Version;
 use std::alloc::{AllocError, Global};
 
@@ -203,12 +203,12 @@ fn skip<O: Sink, E: Sink>(
     plan: &Plan,
     place: usize,
 ) -> Result<(), AllocError>
-    requires { place < length plan.now.quads }
+    requires { place < length plan.now.entries }
     ensures shown { Prints (λ shown. MatchResult result
         (λ _. IsWhole (skip_parts (manner_of screen.old.log_group screen.old.term.now)
-        plan.now place (slice_get plan.now.quads place)) shown)
+        plan.now place (slice_get plan.now.entries place)) shown)
         (λ _. IsPart (skip_parts (manner_of screen.old.log_group screen.old.term.now)
-        plan.now place (slice_get plan.now.quads place)) shown))
+        plan.now place (slice_get plan.now.entries place)) shown))
         (streams O.contents O.failed E.contents E.failed screen.old.out.now screen.old.err.now)
         (streams O.contents O.failed E.contents E.failed screen.new.out.now screen.new.err.now) }
     ensures lent { (screen.new.out.ghost_name ≡ screen.old.out.ghost_name)
@@ -232,10 +232,10 @@ fn run<C: Caller, O: Sink, E: Sink>(
     plan: &Plan,
     place: usize,
 ) -> Result<(), ProcessFault>
-    requires { place < length plan.now.quads }
+    requires { place < length plan.now.entries }
     ensures made { C.tells → Makes (λ calls.
-        Comes (Follows (run_commands plan.now (slice_get plan.now.quads place)) calls)
-        (Breaks (run_commands plan.now (slice_get plan.now.quads place)) calls) result)
+        Comes (Follows (run_commands plan.now (slice_get plan.now.entries place)) calls)
+        (Breaks (run_commands plan.now (slice_get plan.now.entries place)) calls) result)
         (C.calls caller.old) (C.calls caller.new) }
     ensures shown { Prints (λ shown. Comes
         (λ outcome. Displays (manner_of screen.old.log_group screen.old.term.now)
@@ -268,21 +268,21 @@ fn run_own<C: Caller, O: Sink, E: Sink>(
     screen: &mut Screen<'_, O, E>,
     plan: &Plan,
     place: usize,
-    run: &PlannedRun<'_>,
+    run: &PlannedCommand<'_>,
 ) -> Result<(), ProcessFault>
-    requires place { place < length plan.now.quads }
+    requires place { place < length plan.now.entries }
     requires name { option_map (λ name. name.now) run.now.name
-        ≡ name_in (package_at plan.now.packages run.now.quad.package) }
-    requires command { command_of run.now.command ≡ command_of_quad plan.now run.now.quad }
+        ≡ name_in (package_at plan.now.packages run.now.entry.package) }
+    requires command { command_of run.now.command ≡ command_of_entry plan.now run.now.entry }
     ensures made { C.tells → Makes (λ calls.
         Comes (Follows (asked_of false (command_of run.now.command) ∷ []) calls)
         (Breaks (asked_of false (command_of run.now.command) ∷ []) calls) result)
         (C.calls caller.old) (C.calls caller.new) }
     ensures shown { Prints (λ shown. Comes
         (λ _. IsWhole (status_shown (manner_of screen.old.log_group screen.old.term.now)
-        (codes "running") plan.now place run.now.quad ∷ []) shown)
+        (codes "running") plan.now place run.now.entry ∷ []) shown)
         (IsPart (status_shown (manner_of screen.old.log_group screen.old.term.now)
-        (codes "running") plan.now place run.now.quad ∷ []) shown) result)
+        (codes "running") plan.now place run.now.entry ∷ []) shown) result)
         (streams O.contents O.failed E.contents E.failed screen.old.out.now screen.old.err.now)
         (streams O.contents O.failed E.contents E.failed screen.new.out.now screen.new.err.now) }
     ensures lent { (screen.new.out.ghost_name ≡ screen.old.out.ghost_name)
@@ -301,14 +301,14 @@ fn status(
     verbose: bool,
     plan: &Plan,
     place: usize,
-    run: &PlannedRun<'_>,
+    run: &PlannedCommand<'_>,
 ) -> Result<String, AllocError>
-    requires place { place < length plan.now.quads }
+    requires place { place < length plan.now.entries }
     requires name { option_map (λ name. name.now) run.now.name
-        ≡ name_in (package_at plan.now.packages run.now.quad.package) }
-    requires command { command_of run.now.command ≡ command_of_quad plan.now run.now.quad }
+        ≡ name_in (package_at plan.now.packages run.now.entry.package) }
+    requires command { command_of run.now.command ≡ command_of_entry plan.now run.now.entry }
     ensures { IfOk result (λ text. string_bytes text
-        ≡ place_status verb.now verbose plan.now place run.now.quad) }
+        ≡ place_status verb.now verbose plan.now place run.now.entry) }
 {
     let total = plan.len();
     let command = run.command.text(alloc, false, verbose, plan.dir())?;

@@ -11,7 +11,7 @@ ghost use Rattle.hack_session.specs.Reports.{run_at, texts_in, told_text};
 use crate::history::History;
 use crate::session::Session;
 use crate::step::{Handed, Outcome, Step};
-use hack_runs::plan::Plan;
+use hack_plan::plan::Plan;
 use std::alloc::{AllocError, Global};
 use std::collections::BTreeMap;
 use std::fmt;
@@ -36,7 +36,7 @@ pub struct KeepGoing {
 /// Returns the run at a place as one that failed.
 fn failure_at(alloc: Global, plan: &Plan, place: usize) -> Result<Option<Failure>, AllocError>
     ensures { IfOk result (λ found. option_map failure_view found
-        ≡ run_at plan.now (slice_get plan.now.quads place)) }
+        ≡ run_at plan.now (slice_get plan.now.entries place)) }
 {
     if place >= plan.len() {
         return Ok(None);

@@ -1,7 +1,7 @@
 //! Who performs the steps of a session, and the loop that hands them out.
 
 ghost use Rattle.std.specs.Prelude.{◌≡◌, ◌∷◌, ◌++◌, [], List, None, All, IfOk, OnErr, length, map};
-ghost use Rattle.hack_runs.specs.View.{PlanView};
+ghost use Rattle.hack_plan.specs.View.{PlanView};
 ghost use Rattle.hack_session.specs.declared.step.Handed.{Handed as HandedStep};
 ghost use Rattle.hack_session.specs.Handouts.{HandsOut};
 ghost use Rattle.hack_session.specs.Histories.{HasPassed, IsHistory, IsSameCourse, IsStepOf};
@@ -10,7 +10,7 @@ ghost use Rattle.hack_session.specs.Schedules.{IsSchedule};
 
 use crate::session::Session;
 use crate::step::{Outcome, Step};
-use hack_runs::plan::Plan;
+use hack_plan::plan::Plan;
 use hack_term::partition::Partition;
 use std::alloc::{AllocError, Global};
 
@@ -46,6 +46,7 @@ pub fn drive<R: Runner>(session: Session, runner: &mut R) -> Session
         let outcome = runner.step(session.plan(), step);
         session.done(outcome);
     }
+    // This call promises that what was handed out is one history of the plan.
     let _ = session.handed();
     session
 }
@@ -72,7 +73,7 @@ pub fn drive_plan<R: Runner>(
 
     // The runs handed out are the chosen piece of the plan, in order, each place once, until a
     // preparation fails, a run fails and runs don't go on, or the piece ends.
-    ensures hands_out { IfOk result (HandsOut partition (length plan.quads)) }
+    ensures hands_out { IfOk result (HandsOut partition (length plan.entries)) }
 
     // Where each step passed, the whole schedule was handed out.
     ensures whole { IfOk result (λ s. All HasPassed s.handed → s.handed

@@ -10,8 +10,8 @@ ghost use Rattle.hack_session.specs.Cursors.{steps_left};
 
 use crate::step::Step;
 use hack_plan::progress::Progress;
-use hack_runs::parts::PlanVersion;
-use hack_runs::plan::Plan;
+use hack_plan::parts::PlanVersion;
+use hack_plan::plan::Plan;
 use hack_term::partition::Partition;
 
 /// How far the steps of a plan were taken: those of all versions before one, and the first ones of
@@ -62,9 +62,9 @@ fn step_at(
     taken: usize,
 ) -> Option<Step>
     requires order { version.now.first ≤ version.now.end }
-    requires within { version.now.end ≤ length plan.now.quads }
+    requires within { version.now.end ≤ length plan.now.entries }
     ensures value { result
-        ≡ slice_get (steps_of (in_piece piece (length plan.now.quads)) version.now) taken }
+        ≡ slice_get (steps_of (in_piece piece (length plan.now.entries)) version.now) taken }
     ensures of { IfSome result (IsStepOf plan.now) }
     ensures short { IfSome result (λ _. taken + 1 < 2 ^ 64) }
 {

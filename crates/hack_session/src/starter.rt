@@ -18,7 +18,7 @@ use crate::screen::Screen;
 use crate::step::{Outcome, Step};
 use hack_base::writes::Sink;
 use hack_process::process::{Caller, ProcessFault};
-use hack_runs::plan::Plan;
+use hack_plan::plan::Plan;
 use hack_term::term::{LogGroup, Term};
 use std::alloc::Global;
 

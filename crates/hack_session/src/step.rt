@@ -3,7 +3,7 @@
 ghost use Rattle.std.specs.Prelude.{◌≡◌};
 ghost use Rattle.hack_session.specs.Histories.{stops};
 
-use hack_runs::parts::Preparation;
+use hack_plan::parts::Preparation;
 
 /// A step of a session. Places and versions are those of its plan, from 0.
 #[derive(Clone, Copy, Debug, PartialEq, Eq)]

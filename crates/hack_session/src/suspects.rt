@@ -10,12 +10,12 @@ ghost use Rattle.hack_suspects.specs.Suspects.{outcomes_of};
 ghost use Rattle.hack_session.specs.Suspects.{AddsOnce, AreExplained, AreFound, AreOutcomes};
 ghost use Rattle.hack_session.specs.Suspects.{FailsBefore, HasFailed, IsExplained, count_in};
 ghost use Rattle.hack_session.specs.Suspects.{explained_view, is_failed, part_at, part_explained};
-ghost use Rattle.hack_session.specs.Suspects.{part_of, quad_of, settings_in};
+ghost use Rattle.hack_session.specs.Suspects.{part_of, entry_of, settings_in};
 
 use crate::session::Session;
 use crate::step::{Handed, Outcome, Step};
-use hack_plan::places::Quad;
-use hack_runs::plan::Plan;
+use hack_plan::places::PlanEntry;
+use hack_plan::plan::Plan;
 use hack_samples::Setting;
 use hack_suspects::{Outcome as RunOutcome, SuspectFault};
 use hack_versions::version::Version;
@@ -194,36 +194,36 @@ fn add_outcome(
         → AreOutcomes plan.now part before (outcomes_of outcomes.old.items)
         → AreOutcomes plan.now part (before ++ handed ∷ []) (outcomes_of outcomes.new.items)) }
 {
-    let Some(quad) = quad_of(plan, handed.step) else {
+    let Some(entry) = entry_of(plan, handed.step) else {
         return Ok(());
     };
-    if !is_in(quad, part) {
+    if !is_in(entry, part) {
         return Ok(());
     }
-    let on = Vec::from_slice(alloc, settings_at(plan, part.package, quad.rank))?;
+    let on = Vec::from_slice(alloc, settings_at(plan, part.package, entry.rank))?;
     let failed = is_failed(handed.outcome);
     outcomes.push(RunOutcome { on, failed })?;
     Ok(())
 }
 
 /// Whether a run is of the part.
-fn is_in(quad: Quad, part: Part) -> bool
-    ensures { MatchBool result (part_of quad ≡ Some part) (part_of quad ≢ Some part) }
+fn is_in(entry: PlanEntry, part: Part) -> bool
+    ensures { MatchBool result (part_of entry ≡ Some part) (part_of entry ≢ Some part) }
 {
-    match part_of(quad) {
+    match part_of(entry) {
         Some(own) => is_same(own, part),
         None => false,
     }
 }
 
 /// The part of a run; none where it is for all packages.
-fn part_of(quad: Quad) -> Option<Part>
-    ensures { result ≡ part_of quad }
+fn part_of(entry: PlanEntry) -> Option<Part>
+    ensures { result ≡ part_of entry }
 {
-    match quad.package {
+    match entry.package {
         Some(package) => Some(Part {
-            version: quad.version,
-            slot: quad.slot,
+            version: entry.version,
+            slot: entry.slot,
             package,
         }),
         None => None,
@@ -234,30 +234,30 @@ fn part_of(quad: Quad) -> Option<Part>
 fn part_at(plan: &Plan, handed: Handed) -> Option<Part>
     ensures { result ≡ part_at plan.now handed }
 {
-    match quad_of(plan, handed.step) {
-        Some(quad) => part_of(quad),
+    match entry_of(plan, handed.step) {
+        Some(entry) => part_of(entry),
         None => None,
     }
 }
 
 /// The version, slot, package and rank of a step that is a run.
-fn quad_of(plan: &Plan, step: Step) -> Option<Quad>
-    ensures { result ≡ quad_of plan.now step }
+fn entry_of(plan: &Plan, step: Step) -> Option<PlanEntry>
+    ensures { result ≡ entry_of plan.now step }
 {
     match step {
-        Step::Run(place) => quad_at(plan, place),
+        Step::Run(place) => entry_at(plan, place),
         Step::Prepare(_) | Step::Skip(_) => None,
     }
 }
 
 /// The version, slot, package and rank of a place.
-fn quad_at(plan: &Plan, place: usize) -> Option<Quad>
-    ensures { result ≡ slice_get plan.now.quads place }
+fn entry_at(plan: &Plan, place: usize) -> Option<PlanEntry>
+    ensures { result ≡ slice_get plan.now.entries place }
 {
     if place >= plan.len() {
         return None;
     }
-    Some(plan.quad(place))
+    Some(plan.entry(place))
 }
 
 /// Whether a run failed.

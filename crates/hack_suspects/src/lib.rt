@@ -7,7 +7,9 @@
 #![tactic(auto)]
 
 mod choices;
+mod laws;
 mod patterns;
 pub mod suspect;
 
-pub use suspect::{Outcome, SuspectFault, finds_faults, suspects};
+pub use laws::finds_faults;
+pub use suspect::{Outcome, SuspectFault, suspects};

@@ -1,13 +1,12 @@
 //! Which small patterns explain the failed runs of a package: those that some failed run shows and
 //! no passed run, and that have no smaller part of this kind.
 
-ghost use Rattle.std.specs.Prelude.{◌≡◌, ◌<◌, ◌≤◌, ◌+◌, ◌*◌, ◌++◌, ◌∷◌, ◌-◌, ◌^◌, ℕ, List, []};
+ghost use Rattle.std.specs.Prelude.{◌≡◌, ◌<◌, ◌≤◌, ◌+◌, ◌*◌, ◌++◌, ◌∷◌, ◌-◌, ◌^◌, ℕ, []};
 ghost use Rattle.std.specs.Prelude.{false, min};
 ghost use Rattle.std.specs.Prelude.{Contains, length, remove, IfOk, IfErr, OnOk, MatchBool};
 ghost use Rattle.hack_samples.specs.Sets.{rows_of};
 ghost use Rattle.hack_suspects.specs.Suspects.{outcomes_of, choices, RowShows, IsShown, Rises};
-ghost use Rattle.hack_suspects.specs.Suspects.{IsSuspect, AreSuspects, IsRefused, Outcome as Plain};
-ghost use Rattle.hack_suspects.specs.Faults.{FailBy, FaultsAreFound};
+ghost use Rattle.hack_suspects.specs.Suspects.{IsSuspect, AreSuspects, IsRefused};
 ghost use Rattle.hack_suspects.specs.Walks.{IsFailedRow, AreSomeSuspects, FindsFrom};
 ghost use Rattle.hack_suspects.specs.Walks.{PatternsAreKept};
 
@@ -94,14 +93,6 @@ pub fn suspects(
     }
     Ok(found)
 }
-
-/// Does nothing; its contract says that suspects find faults. A fault is a pattern. If exactly
-/// those runs failed that show one of the faults, then each fault of at most `t` candidates below
-/// `n`, in increasing order, that some run shows is a suspect or has one as a part.
-pub fn finds_faults()
-    ensures { (outcomes : List Plain) (n t : ℕ) (faults : List (List Setting))
-        → FailBy faults outcomes → FaultsAreFound outcomes n t faults }
-{}
 
 /// Whether the number of outcomes times the number of choices is more than `most`. `patterns` is
 /// the number of choices, or the greatest `u128` if there are more.

@@ -2,6 +2,7 @@
 
 mod args;
 mod env;
+mod laws;
 mod notes;
 mod parse;
 mod start;
@@ -12,5 +13,6 @@ pub use hack_features::Feature;
 pub use hack_options::{Help, Opt};
 pub use hack_rules::fault::{Beside, CliFault};
 pub use hack_uses::{CutFault, OwnedFlag, WorkspaceBehavior};
-pub use parse::{Parsed, outcome_is_one};
+pub use laws::outcome_is_one;
+pub use parse::Parsed;
 pub use start::wants_rustup;

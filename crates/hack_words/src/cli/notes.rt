@@ -54,8 +54,7 @@ pub fn tell_rustup(
             let text = rustup_text(alloc, why.as_str())?;
             tell(notices, true, NoticeKind::Warn, text)
         }
-        Rustup::Unknown(_) => Ok(()),
-        Rustup::Known(_) => Ok(()),
+        Rustup::Unknown(_) | Rustup::Unasked | Rustup::Known(_) => Ok(()),
     }
 }
 

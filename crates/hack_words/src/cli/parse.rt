@@ -1,15 +1,15 @@
 //! A command line into arguments, or the first error.
 
-ghost use Rattle.std.specs.Prelude.{ℕ, List, ◌≡◌, IfOk, IfErr, MatchOption, OnOk, map};
+ghost use Rattle.std.specs.Prelude.{List, ◌≡◌, IfOk, IfErr, MatchOption, OnOk, map};
 ghost use Rattle.std.specs.Prelude.{string_bytes};
 ghost use Rattle.hack_base.specs.Names.{names_of};
 ghost use Rattle.hack_uses.specs.Passed.{leading_of};
-ghost use Rattle.hack_uses.specs.Uses.{views, subcommand_of};
+ghost use Rattle.hack_uses.specs.Uses.{views};
 ghost use Rattle.hack_base.specs.Notes.{note_of, AddsNotes};
 ghost use Rattle.hack_words.specs.Answers.{Judges, IsJudged, IsText, IsPrinted, Answers};
 ghost use Rattle.hack_words.specs.Answers.{Refuses, GivesCuts, BreakNoRule, around_of, around_in};
 ghost use Rattle.hack_rules.specs.Asked.{is_old_asked};
-ghost use Rattle.hack_words.specs.Call.{Around, Outcome, ComesFrom, ComesTo, Faulty, outcome_of};
+ghost use Rattle.hack_words.specs.Call.{ComesFrom, ComesTo, Faulty, outcome_of};
 ghost use Rattle.hack_words.specs.Call.{later_notes, in_vain};
 ghost use Rattle.hack_rules.specs.CliFaults.{fault_of};
 ghost use Rattle.hack_rules.specs.Listed.{listed_by};
@@ -62,7 +62,7 @@ fn known_minor(rustup: &Rustup) -> Option<u32>
 {
     match rustup {
         Rustup::Known(minor) => Some(*minor),
-        Rustup::Unknown(_) => None,
+        Rustup::Unknown(_) | Rustup::Unasked => None,
     }
 }
 
@@ -223,12 +223,6 @@ fn read_words(
     let start = Start::of(alloc, words)?;
     parse_start(alloc, around, start)
 }
-
-/// The law that a command line has one outcome. It does nothing; its contract is the law.
-pub fn outcome_is_one()
-    ensures { (around : Around) (words : List (List ℕ)) (a b : Outcome) → ComesTo around words a
-        → ComesTo around words b → a ≡ b }
-{}
 
 impl Args {
     /// What the arguments after the program's name ask for, with the notices on them; or the error

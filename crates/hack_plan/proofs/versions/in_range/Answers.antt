@@ -1,6 +1,6 @@
 use Rattle.std.proofs.Common.{inl, inr}
 use Rattle.hack_plan.proofs.versions.in_range.Goals as goal
-use Rattle.hack_plan.proofs.versions.in_range.Goals.{else-scene-via-then-scene+else-have_two, else-scene-via-else-scene}
+use Rattle.hack_plan.proofs.versions.in_range.Goals.{else-input-via-then-input+else-have_two, else-input-via-else-input}
 
 pub returns-in-Err-clause-err : goal.returns-in-Err-clause-err
 returns-in-Err-clause-err c =
@@ -13,9 +13,9 @@ returns-clause-never c = λ e w.
       | inl r ↦ (rw (c.deref-2.ensures.value, c.in_ok-owns.ensures, c.deref.ensures.value) at c.in_ok-steps.ensures.never) e r
       | inr x ↦ elim x [
         | inl g ↦ (rw c.deref-4.ensures.value at c.in-Ok.ensures.never) e g
-        | inr t ↦ elim c.else-scene.branch [
-          | else-scene-via-then-scene+else-have_two b ↦ let p = (rw b.deref-then-scene.ensures.value at b.have_two.ensures).1 t.1 in cc (p, b.if-have_two.false)
-          | else-scene-via-else-scene b ↦ cc (t.0, b.if-scene.false)
+        | inr t ↦ elim c.else-input.branch [
+          | else-input-via-then-input+else-have_two b ↦ let p = (rw b.deref-then-input.ensures.value at b.have_two.ensures).1 t.1 in cc (p, b.if-have_two.false)
+          | else-input-via-else-input b ↦ cc (t.0, b.if-input.false)
         ]
       ]
     ]

@@ -1,7 +1,7 @@
 use Rattle.std.proofs.Common.{◌∙◌, ap, map, subst, sym}
 use Rattle.hack_words.specs.declared.cli.args.Args.{Args}
-use Rattle.hack_calls.specs.Made.{IsPlanOf}
-use Rattle.hack_runs.specs.View.{PlanView}
+use Rattle.hack_planner.specs.Made.{IsPlanOf}
+use Rattle.hack_plan.specs.View.{PlanView}
 use Rattle.hack_load.specs.ContextView.{context_view}
 use Rattle.hack_base.specs.Notes.{note_of}
 use Rattle.hack_run.proofs.HeadlineLemmas.{handed_out}

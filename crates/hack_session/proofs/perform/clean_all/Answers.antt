@@ -2,7 +2,7 @@ use Rattle.std.proofs.Common.{ap, ◌∙◌, Err, ◌∷◌, [], None, subst, fa
 use Rattle.std.proofs.lemmas.Result.{err_from_is_err_and}
 use Rattle.hack_process.specs.Commands.{asked_of}
 use Rattle.hack_process.specs.CommandTexts.{Command}
-use Rattle.hack_runs.specs.Commands.{clean_command}
+use Rattle.hack_plan.specs.Commands.{clean_command}
 use Rattle.hack_session.specs.Performs.{Makes}
 use Rattle.hack_session.specs.Shown.{IsWhole, cleaning_shown, manner_of}
 use Rattle.hack_session.proofs.RunLemmas.{Ran}

@@ -1,5 +1,5 @@
 use Rattle.std.proofs.Common.{ap, ◌∙◌}
-use Rattle.hack_runs.specs.declared.parts.Preparation.TheVariants.{Lockfile, Toolchain}
+use Rattle.hack_plan.specs.declared.parts.Preparation.TheVariants.{Lockfile, Toolchain}
 use Rattle.hack_session.specs.declared.step.Step.TheVariants.{Prepare}
 use Rattle.hack_session.specs.Shown.{manner_of}
 use Rattle.hack_session.proofs.ShownLemmas.{does_as, printed_none, toolchain_step}

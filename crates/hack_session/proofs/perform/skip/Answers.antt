@@ -16,6 +16,6 @@ returns-in_err-text-clause-shown g c =
 
 pub returns-clause-shown : goal.returns-clause-shown
 returns-clause-shown g c =
-    skipped (manner_of c.args.screen.now.log_group c.args.screen.now.term.now) c.args.plan.now c.args.place c.in_ok-run.run'.quad _ _ _ c.in_ok-run.ensures.quad c.space.ensures.shown
-    (placed_group (codes "skipping") c.args.plan.now c.args.place c.in_ok-run.run'.quad (manner_of c.args.screen.now.log_group c.args.screen.now.term.now) (manner_of c.space.new.self.log_group c.space.new.self.term.now) (manner_of c.open-guard.new.self.log_group c.open-guard.new.self.term.now) c.deref.result.now _ _ _
+    skipped (manner_of c.args.screen.now.log_group c.args.screen.now.term.now) c.args.plan.now c.args.place c.in_ok-run.run'.entry _ _ _ c.in_ok-run.ensures.entry c.space.ensures.shown
+    (placed_group (codes "skipping") c.args.plan.now c.args.place c.in_ok-run.run'.entry (manner_of c.args.screen.now.log_group c.args.screen.now.term.now) (manner_of c.space.new.self.log_group c.space.new.self.term.now) (manner_of c.open-guard.new.self.log_group c.open-guard.new.self.term.now) c.deref.result.now _ _ _
     c.space.ensures.manner c.open-guard.ensures.manner (c.deref.ensures ∙ c.in_ok-text.ensures) c.open-guard.ensures.shown c.close.ensures.shown)

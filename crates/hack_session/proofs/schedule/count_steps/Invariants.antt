@@ -5,4 +5,4 @@ use Rattle.hack_session.specs.Schedules.{in_piece, steps_of}
 use Rattle.hack_session.proofs.schedule.count_steps.Given as goal
 
 abbrev pub invariant-loop-version : goal.invariant-loop-version
-invariant-loop-version l = (piece : Option Partition) → l.count ≡ length (flat_map (steps_of (in_piece piece (length l.plan.quads))) (take l.version-index l.version-items))
+invariant-loop-version l = (piece : Option Partition) → l.count ≡ length (flat_map (steps_of (in_piece piece (length l.plan.entries))) (take l.version-index l.version-items))

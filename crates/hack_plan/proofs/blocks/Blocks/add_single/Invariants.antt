@@ -1,5 +1,5 @@
 use Rattle.std.proofs.Common.{true, []}
-use Rattle.hack_plan.specs.Quads.{Adds}
+use Rattle.hack_plan.specs.Entries.{Adds}
 use Rattle.hack_plan.specs.Parts.{InVersion}
 use Rattle.hack_plan.proofs.blocks.Blocks.add_single.Given as goal
 

@@ -1,5 +1,5 @@
 use Rattle.std.proofs.Common.{take}
-use Rattle.hack_plan.specs.Quads.{Adds}
+use Rattle.hack_plan.specs.Entries.{Adds}
 use Rattle.hack_plan.specs.Parts.{InSlot}
 use Rattle.hack_plan.proofs.blocks.Blocks.add_slot.Given as goal
 

@@ -3,7 +3,7 @@ use Rattle.std.proofs.lemmas.List.{take_all}
 use Rattle.std.proofs.lemmas.List.Elements.{Contains-get_or}
 use Rattle.hack_versions.specs.declared.group.VersionGroup.{VersionGroup}
 use Rattle.hack_versions.specs.Uses.{UsesAt, AreGroups}
-use Rattle.hack_plan.specs.Scenes.{IsStepList, slots_of}
+use Rattle.hack_plan.specs.Inputs.{IsStepList, slots_of}
 use Rattle.hack_plan.specs.Spans.{AreSpans, version_in}
 use Rattle.hack_plan.proofs.Groups.{in_owns, groups-more, groups-over, groups-all}
 use Rattle.hack_plan.proofs.SpanLemmas.{spans-group}
@@ -13,25 +13,25 @@ pub add-requires-clause-within : goal.add-requires-clause-within
 add-requires-clause-within c = λ b.
     let v = c.as_slice-group-items.ensures.value in
     let steps = c.requires.versions.0 in
-    let are = subst (λ xs. AreGroups (UsesAt c.args.range steps c.args.scene.now.packages.items) xs) (sym v) c.requires.versions.2 in
+    let are = subst (λ xs. AreGroups (UsesAt c.args.range steps c.args.input.now.packages.items) xs) (sym v) c.requires.versions.2 in
     rw c.deref.ensures.value (λ k d l.
-    let p = in_owns c.args.scene.now c.args.counts.now c.args.range c.requires.some steps c.as_slice-group-items.result.now are c.loop-group.group-index c.group-item.result c.loop-group-test.true (sym c.group-item.is) _ (Contains-get_or c.group-item.result.packages.items k d l) in
+    let p = in_owns c.args.input.now c.args.counts.now c.args.range c.requires.some steps c.as_slice-group-items.result.now are c.loop-group.group-index c.group-item.result c.loop-group-test.true (sym c.group-item.is) _ (Contains-get_or c.group-item.result.packages.items k d l) in
     omega (arith, p, c.requires.counted b))
 
 pub loop-group-preserved : goal.loop-group-preserved
 loop-group-preserved c = λ steps are.
     let k = c.loop-group.invariant steps are in
     let f = rw c.deref.ensures.value at c.in_default.ensures.ok in (
-      groups-more c.args.scene.now c.args.counts.now c.args.range c.requires.some steps c.as_slice-group-items.result.now are c.loop-group.group-index c.group-item.result c.loop-group-test.true (sym c.group-item.is) _ _ _ k.0 f,
-      spans-group c.args.scene.now c.args.counts.now c.args.range c.requires.some steps c.as_slice-group-items.result.now are c.loop-group.group-index c.group-item.result c.loop-group-test.true (sym c.group-item.is)
-          c.args.scene.now.as_cargo (slots_of c.args.scene.now (Some c.group-item.result.version)) _ _ k.0 k.1 f c.in_default.ensures.next,
+      groups-more c.args.input.now c.args.counts.now c.args.range c.requires.some steps c.as_slice-group-items.result.now are c.loop-group.group-index c.group-item.result c.loop-group-test.true (sym c.group-item.is) _ _ _ k.0 f,
+      spans-group c.args.input.now c.args.counts.now c.args.range c.requires.some steps c.as_slice-group-items.result.now are c.loop-group.group-index c.group-item.result c.loop-group-test.true (sym c.group-item.is)
+          c.args.input.now.as_cargo (slots_of c.args.input.now (Some c.group-item.result.version)) _ _ k.0 k.1 f c.in_default.ensures.next,
     )
 
 pub returns-in-Err-clause-err : goal.returns-in-Err-clause-err
 returns-in-Err-clause-err c =
     let v = c.as_slice-group-items.ensures.value in
     let steps = c.requires.versions.0 in
-    let are = subst (λ xs. AreGroups (UsesAt c.args.range steps c.args.scene.now.packages.items) xs) (sym v) c.requires.versions.2 in
+    let are = subst (λ xs. AreGroups (UsesAt c.args.range steps c.args.input.now.packages.items) xs) (sym v) c.requires.versions.2 in
     let k = c.loop-group.invariant steps are in
     let f = rw c.deref.ensures.value at c.in-Err.ensures.err in
     elim f [
@@ -40,8 +40,8 @@ returns-in-Err-clause-err c =
         w.0,
         (
           steps,
-          subst (λ r. IsStepList r c.args.scene.now c.args.versions.now.stable steps) (sym c.requires.some) c.requires.versions.1,
-          groups-over c.args.scene.now c.args.counts.now c.args.range c.requires.some steps c.as_slice-group-items.result.now are c.loop-group.group-index c.group-item.result c.loop-group-test.true (sym c.group-item.is) _ k.0 w.1,
+          subst (λ r. IsStepList r c.args.input.now c.args.versions.now.stable steps) (sym c.requires.some) c.requires.versions.1,
+          groups-over c.args.input.now c.args.counts.now c.args.range c.requires.some steps c.as_slice-group-items.result.now are c.loop-group.group-index c.group-item.result c.loop-group-test.true (sym c.group-item.is) _ k.0 w.1,
         ),
       )
     ]
@@ -50,17 +50,17 @@ pub returns-clause-ok : goal.returns-clause-ok
 returns-clause-ok c =
     let v = c.as_slice-group-items.ensures.value in
     let steps = c.requires.versions.0 in
-    let are = subst (λ xs. AreGroups (UsesAt c.args.range steps c.args.scene.now.packages.items) xs) (sym v) c.requires.versions.2 in
+    let are = subst (λ xs. AreGroups (UsesAt c.args.range steps c.args.input.now.packages.items) xs) (sym v) c.requires.versions.2 in
     let k = rw (take_all c.loop-group.group-index c.as_slice-group-items.result.now c.loop-group-test.false) at (c.loop-group.invariant steps are) in (
       steps,
-      subst (λ r. IsStepList r c.args.scene.now c.args.versions.now.stable steps) (sym c.requires.some) c.requires.versions.1,
-      groups-all c.args.scene.now c.args.counts.now c.args.range steps c.as_slice-group-items.result.now _ c.requires.some are k.0,
+      subst (λ r. IsStepList r c.args.input.now c.args.versions.now.stable steps) (sym c.requires.some) c.requires.versions.1,
+      groups-all c.args.input.now c.args.counts.now c.args.range steps c.as_slice-group-items.result.now _ c.requires.some are k.0,
     )
 
 pub returns-clause-spans : goal.returns-clause-spans
 returns-clause-spans c =
     let v = c.as_slice-group-items.ensures.value in
     let steps = c.requires.versions.0 in
-    let are = subst (λ xs. AreGroups (UsesAt c.args.range steps c.args.scene.now.packages.items) xs) (sym v) c.requires.versions.2 in
+    let are = subst (λ xs. AreGroups (UsesAt c.args.range steps c.args.input.now.packages.items) xs) (sym v) c.requires.versions.2 in
     let k = rw (take_all c.loop-group.group-index c.as_slice-group-items.result.now c.loop-group-test.false) at (c.loop-group.invariant steps are) in
     subst (λ (xs : List VersionGroup). AreSpans (map version_in xs) c.loop-group.places) v k.1

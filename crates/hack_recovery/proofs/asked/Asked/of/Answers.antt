@@ -4,7 +4,7 @@ use Rattle.hack_base.specs.Names.{names_of, optional_text}
 use Rattle.hack_base.specs.Notes.{note_of}
 use Rattle.hack_words.specs.Answers.{around_of}
 use Rattle.hack_words.specs.Call.{ComesTo}
-use Rattle.hack_recovery.specs.Asks.{newest}
+use Rattle.hack_versions.specs.declared.rustup.Rustup.TheVariants.{Unasked}
 use Rattle.hack_recovery.specs.Asks.AsksFor.{parsed, faulty}
 use Rattle.hack_recovery.proofs.AskLemmas.{refusal}
 use Rattle.hack_recovery.proofs.BackLemmas.{back_restores}
@@ -21,7 +21,7 @@ pub returns-in-Err-clause-asks : goal.returns-in-Err-clause-asks
 returns-in-Err-clause-asks c =
     IfOk-weaker c.refused.result _ _
     (λ asked h.
-    let told = refusal (ComesTo (around_of c.args.env.now newest) (names_of c.args.words.now)) c.in-Err.fault c.in-Err.ensures.err h.0 in
+    let told = refusal (ComesTo (around_of c.args.env.now Unasked) (names_of c.args.words.now)) c.in-Err.fault c.in-Err.ensures.err h.0 in
     faulty told.0 told.1 h.1 (ap (λ (path : Option (String Global)). optional_text path) h.2)) c.refused.ensures
 
 pub returns-in-Err-clause-back : goal.returns-in-Err-clause-back

@@ -1,5 +1,0 @@
-use Rattle.hack_edits.proofs.AgainLemmas.{again}
-use Rattle.hack_edits.proofs.dev_deps.nothing_left.Goals as goal
-
-pub returns : goal.returns
-returns c = again

@@ -1,5 +1,0 @@
-use Rattle.hack_manifest.proofs.OnceLemmas.{read-once}
-use Rattle.hack_manifest.proofs.manifest.manifest_is_one.Goals as goal
-
-pub returns : goal.returns
-returns c = read-once

@@ -1,5 +1,0 @@
-use Rattle.hack_manifest.proofs.OnceLemmas.{cut-once}
-use Rattle.hack_manifest.proofs.pieces.cut_is_one.Goals as goal
-
-pub returns : goal.returns
-returns c = cut-once

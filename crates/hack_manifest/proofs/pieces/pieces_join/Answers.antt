@@ -1,5 +1,0 @@
-use Rattle.hack_manifest.proofs.OnceLemmas.{joined-cut}
-use Rattle.hack_manifest.proofs.pieces.pieces_join.Goals as goal
-
-pub returns : goal.returns
-returns c = joined-cut

@@ -1,9 +1,0 @@
-use Rattle.std.proofs.Common.{take, map, Contains}
-use Rattle.hack_metadata.specs.PackageSpecs.{Matches}
-use Rattle.hack_packages.specs.Members.{Member, identity}
-use Rattle.hack_packages.specs.MembersView.{member_view}
-use Rattle.hack_packages.proofs.member.matches_some.Given as goal
-
--- the specification matches no member so far
-abbrev pub invariant-loop-member : goal.invariant-loop-member
-invariant-loop-member l = (m : Member) → Contains (take l.member-index (map member_view l.members)) m → ¬ Matches (identity m.pkg) l.spec

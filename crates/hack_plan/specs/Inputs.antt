@@ -1,0 +1,81 @@
+-- The input of a plan, and the versions that packages use.
+use Rattle.std.specs.Prelude.{ℕ, ◌≡◌, ◌≢◌, ◌<◌, ◌++◌, ◌⊎◌, List, [], length, map, Contains, Option, Some, None, true, false, nat_lt, ◌&&◌, if◌then◌else◌}
+use Rattle.hack_versions.specs.declared.version.Version.{Version}
+use Rattle.hack_versions.specs.declared.version.VersionRange.{VersionRange}
+use Rattle.hack_versions.specs.declared.group.PackageVersion.{PackageVersion}
+use Rattle.hack_versions.specs.declared.rustup.RangeFault.{RangeFault}
+use Rattle.hack_versions.specs.declared.rustup.RangeFault.TheVariants.{SingleMsrv}
+use Rattle.hack_versions.specs.RangeSteps.{AreStepsOf, IsRangeFault, range_notes}
+use Rattle.hack_versions.specs.Uses.{own_of, UsesAt, AreGroups, IsGroupFault, AreSkipNotes}
+use Rattle.hack_base.specs.Notes.{Note}
+use Rattle.hack_plan.specs.declared.versions.PlanInput.{PlanInput}
+use Rattle.hack_plan.specs.declared.versions.Versions.{Versions}
+
+-- a package's own version as its manifest gives it
+abbrev pub given_of : PackageVersion → Option Version
+given_of member = member.rust_version
+
+-- the own versions of a scene's packages
+abbrev pub owns_of : PlanInput → List (Option Version)
+owns_of s = map given_of s.packages.items
+
+-- the steps of a call; none without a range
+abbrev pub IsStepList : Option VersionRange → PlanInput → Option Version → List Version → Type 0
+IsStepList None s stable steps = steps ≡ []
+IsStepList (Some range) s stable steps = AreStepsOf range s.step (owns_of s) stable steps
+
+-- the package at index p uses the version, which is "none" without a range
+abbrev pub UsesVersion : Option VersionRange → PlanInput → List Version → Option Version → ℕ → Type 0
+UsesVersion None s steps None p = p < length s.packages.items
+UsesVersion (Some range) s steps (Some v) p = UsesAt range steps s.packages.items v p
+UsesVersion None s steps (Some v) p = ⊥
+UsesVersion (Some range) s steps None p = ⊥
+
+-- some package uses the version; without a range it is "none", also where there are no packages
+abbrev pub IsVersion : Option VersionRange → PlanInput → List Version → Option Version → Type 0
+IsVersion None s steps v = v ≡ None
+IsVersion (Some range) s steps v = (p : ℕ) × UsesVersion (Some range) s steps v p
+
+-- cargo's minor version for a version; its own where that is "none"
+abbrev pub minor_of : ℕ → Option Version → ℕ
+minor_of own None = own
+minor_of own (Some v) = v.minor
+
+-- the slots of a version: one for each target below 1.64, else one for all targets
+abbrev pub slots_of : PlanInput → Option Version → ℕ
+slots_of s version = if nat_lt 0 s.targets && nat_lt (minor_of s.cargo_minor version) 64 then s.targets else 1
+
+-- the groups of a range: each version that a package uses, with its packages
+abbrev pub GroupsBy : Option VersionRange → PlanInput → Versions → Type 0
+GroupsBy None s versions = versions.groups.items ≡ []
+GroupsBy (Some range) s versions = (steps : List Version) × AreStepsOf range s.step (owns_of s) versions.stable steps × AreGroups (UsesAt range steps s.packages.items) versions.groups.items
+
+-- the versions of an input
+abbrev pub AreVersions : PlanInput → Versions → Type 0
+AreVersions s versions = GroupsBy s.range s versions
+
+-- each package has a number of runs, where these matter
+abbrev pub AreCounted : PlanInput → List ℕ → Type 0
+AreCounted s counts = s.as_cargo ≡ false → length counts ≡ length s.packages.items
+
+-- the notices on a range: on its patch numbers, and on the packages that it skips
+abbrev pub AreNotices : Option VersionRange → PlanInput → Option Version → List Note → Type 0
+AreNotices None s stable notes = notes ≡ []
+AreNotices (Some range) s stable notes = (steps : List Version) × (skips : List Note) × AreStepsOf range s.step (owns_of s) stable steps × AreSkipNotes range steps s.packages.items skips × (notes ≡ range_notes range ++ skips)
+
+-- two packages have different own versions, or exactly one of them has none
+pub record HaveTwo (packages : List PackageVersion) : Type 0 where
+  pub one : PackageVersion
+  pub other : PackageVersion
+  pub first : Contains packages one
+  pub second : Contains packages other
+  pub differ : own_of one ≢ own_of other
+
+-- there is to be one run for packages with different own versions
+abbrev pub IsTwoFault : PlanInput → RangeFault → Type 0
+IsTwoFault s e = (s.as_cargo ≡ true) × HaveTwo s.packages.items × (e ≡ SingleMsrv)
+
+-- why there are no versions: the range is refused, or a package under it, or own versions differ
+abbrev pub IsVersionsFault : Option VersionRange → PlanInput → Option Version → RangeFault → Type 0
+IsVersionsFault None s stable e = ⊥
+IsVersionsFault (Some range) s stable e = IsRangeFault range (owns_of s) stable e ⊎ (IsGroupFault range s.packages.items e ⊎ IsTwoFault s e)

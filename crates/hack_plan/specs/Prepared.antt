@@ -1,0 +1,45 @@
+-- What is done before the runs of each version.
+use Rattle.std.specs.Prelude.{ℕ, ◌≡◌, ◌<◌, ◌++◌, ◌↔◌, List, [], ◌∷◌, length, Bool, true, false, not, Option, Some, None, IsTrue, filter_map, slice_get}
+use Rattle.hack_versions.specs.declared.version.Version.{Version}
+use Rattle.hack_versions.specs.Lockfiles.{NeedsLockfile}
+use Rattle.hack_plan.specs.declared.places.Span.{Span}
+use Rattle.hack_plan.specs.declared.parts.PlanVersion.{PlanVersion}
+use Rattle.hack_plan.specs.declared.parts.Preparation.{Preparation}
+use Rattle.hack_plan.specs.declared.parts.Preparation.TheVariants.{Toolchain, Lockfile, Clean}
+
+-- a version and its places
+abbrev pub span_of : PlanVersion → Span
+span_of v = record { version = v.version; first = v.first; end = v.end }
+
+-- the version, if there is one
+abbrev pub number_of : PlanVersion → Option Version
+number_of v = v.version
+
+-- the preparation, where it is asked for
+abbrev pub where_asked : Bool → Preparation → List Preparation
+where_asked true p = p ∷ []
+where_asked false p = []
+
+-- the toolchain, then the lockfile where it is regenerated, then the cleaning where it is asked
+-- for; nothing without a version
+abbrev pub preparations_of : Option Version → ℕ → Bool → Bool → List Preparation
+preparations_of None place remakes cleans = []
+preparations_of (Some v) place remakes cleans = Toolchain place ∷ where_asked remakes (Lockfile place) ++ where_asked cleans (Clean place)
+
+-- the lockfile is regenerated before the version at an index
+abbrev pub Remakes : Bool → List Version → ℕ → Type 0
+Remakes locked versions place = (locked ≡ false) × NeedsLockfile versions place
+
+-- the flags that are set are those of the versions before which the lockfile is regenerated
+abbrev pub AreFlags : Bool → List Version → List Bool → Type 0
+AreFlags locked versions flags = (place : ℕ) → (slice_get flags place ≡ Some true) ↔ Remakes locked versions place
+
+-- the version at an index has its preparations
+pub record IsPrepared (locked cleans : Bool) (versions : List Version) (place : ℕ) (v : PlanVersion) : Type 0 where
+  pub remakes : Bool
+  pub exact : IsTrue remakes ↔ Remakes locked versions place
+  pub made : v.preparations.items ≡ preparations_of v.version place remakes cleans
+
+-- each version has its preparations
+abbrev pub ArePrepared : Bool → Bool → List PlanVersion → Type 0
+ArePrepared locked cleans versions = (place : ℕ) (v : PlanVersion) → slice_get versions place ≡ Some v → IsPrepared locked cleans (filter_map number_of versions) place v

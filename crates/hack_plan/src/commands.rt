@@ -1,0 +1,449 @@
+//! The commands of a plan.
+
+ghost use Rattle.std.specs.Prelude.{◌≡◌, ◌++◌, ◌∷◌, [], Some, None, map, option_map, IfOk, OnOk};
+ghost use Rattle.std.specs.Prelude.{List, ℕ, take, drop, string_bytes, codes, slice_get};
+ghost use Rattle.std.specs.List.{flat_map, slice_index_or};
+ghost use Rattle.hack_base.specs.Names.{names_behind, optional_text};
+ghost use Rattle.hack_features.specs.Feature.{groups_of};
+ghost use Rattle.hack_plan.specs.Runs.{run_of};
+ghost use Rattle.hack_process.specs.Commands.{command_of, listed_text};
+ghost use Rattle.hack_process.specs.CommandTexts.{listed_of};
+ghost use Rattle.hack_plan.specs.View.{call_view, package_view};
+ghost use Rattle.hack_plan.specs.Commands.{toolchain_of, program_of, leading_of, is_split};
+ghost use Rattle.hack_plan.specs.Commands.{targets_in, target_pair, manifest_words, run_words};
+ghost use Rattle.hack_plan.specs.Commands.{names_at, run_names, call_command, whole_command};
+ghost use Rattle.hack_plan.specs.Commands.{run_command, plain_command, locked_words, cleaned_words};
+ghost use Rattle.hack_plan.specs.Commands.{clean_command, lockfile_command, slot_target};
+ghost use Rattle.hack_plan.specs.RunWords.{words_command};
+
+use crate::parts::{CommandParts, PlanPackage};
+use hack_features::Feature;
+use crate::runs::Run;
+use hack_process::process::{ListedLine, ProcessBuilder};
+use hack_versions::version::Version;
+use std::alloc::{AllocError, Global};
+use std::slice;
+
+/// The toolchain of a version, as rustup names it.
+pub fn toolchain(alloc: Global, version: Version) -> Result<String, AllocError>
+    ensures { IfOk result (λ text. string_bytes text ≡ toolchain_of version) }
+{
+    let minor = version.minor;
+    format!(in alloc; "1.{minor}")
+}
+
+/// The arguments that make rustup run the cargo of a version.
+fn leading(alloc: Global, version: Option<Version>) -> Result<Vec<String>, AllocError>
+    ensures { IfOk result (λ words. map string_bytes words.items ≡ leading_of version) }
+{
+    let Some(version) = version else {
+        return Ok(Vec::new(alloc));
+    };
+    let mut words = Vec::with_capacity(alloc, 3)?;
+    words.push(String::from_str(alloc, "run")?)?;
+    words.push(toolchain(alloc, version)?)?;
+    words.push(String::from_str(alloc, "cargo")?)?;
+    Ok(words)
+}
+
+/// What a run has besides the arguments that are passed on: arguments of its own, and the names of
+/// features.
+#[derive(Drop)]
+struct RunWords<'a> {
+    own: Vec<&'a str>,
+    names: Vec<&'a str>,
+}
+
+impl CommandParts {
+    /// The program of a version's commands.
+    fn program_of(&self, version: Option<Version>) -> &str
+        ensures { result.now ≡ program_of (call_view self.now) version }
+    {
+        match version {
+            None => self.cargo.as_str(),
+            Some(_) => self.rustup.as_str(),
+        }
+    }
+
+    /// The command of cargo for a version, without further arguments.
+    fn program<'a>(
+        &self,
+        alloc: Global,
+        version: Option<Version>,
+    ) -> Result<ProcessBuilder<'a>, AllocError>
+        ensures { IfOk result (λ command. command_of command
+            ≡ plain_command (program_of (call_view self.now) version) (leading_of version) []) }
+    {
+        let words = leading(alloc, version)?;
+        let mut command = ProcessBuilder::new(alloc, self.program_of(version))?;
+        for word in &words {
+            command.leading_arg(word.as_str())?;
+        }
+        Ok(command)
+    }
+
+    /// The command of a run.
+    fn command(
+        &self,
+        alloc: Global,
+        version: Option<Version>,
+        words: &RunWords<'_>,
+    ) -> Result<ProcessBuilder<'_>, AllocError>
+        ensures { IfOk result (λ command. command_of command
+            ≡ words_command (call_view self.now) version words.now) }
+    {
+        let mut command = self.program(alloc, version)?;
+        command.pass_words(self.passed.as_slice(), self.trailing.as_slice());
+        command.args(words.own.as_slice())?;
+        command.append_features(words.names.as_slice())?;
+        Ok(command)
+    }
+
+    /// The line of a run.
+    fn line<'a>(
+        &'a self,
+        alloc: Global,
+        version: Option<Version>,
+        words: RunWords<'a>,
+    ) -> Result<ListedLine<'a>, AllocError>
+        ensures { IfOk result (λ line. listed_text line ≡ listed_of (call_view self.now).dir
+            (words_command (call_view self.now) version words.entry)) }
+    {
+        let leading = leading(alloc, version)?;
+        Ok(ListedLine {
+            program: self.program_of(version),
+            leading,
+            passed: self.passed.as_slice(),
+            own: words.own,
+            names: words.names,
+            trailing: self.trailing.as_slice(),
+            dir: self.dir.as_str(),
+        })
+    }
+
+    /// Whether each target is a separate slot.
+    fn is_split(&self, version: Option<Version>) -> bool
+        ensures { result ≡ is_split (call_view self.now) version }
+    {
+        let minor = match version {
+            None => self.cargo_minor,
+            Some(version) => version.minor,
+        };
+        !self.targets.is_empty() && minor < 64
+    }
+
+    /// The target of a slot that has one of its own.
+    pub(crate) fn slot_target(&self, version: Option<Version>, slot: usize) -> Option<&str>
+        ensures { option_map (λ target. target.now) result
+            ≡ slot_target (call_view self.now) version slot }
+    {
+        if !self.is_split(version) {
+            return None;
+        }
+        text_at(self.targets.as_slice(), slot)
+    }
+
+    /// The targets of a slot.
+    fn targets_in(&self, version: Option<Version>, slot: usize) -> &[String]
+        ensures { map string_bytes result.now ≡ targets_in (call_view self.now) version slot }
+    {
+        if !self.is_split(version) {
+            return self.targets.as_slice();
+        }
+        one_at(self.targets.as_slice(), slot)
+    }
+
+    /// The command of a run for all packages.
+    pub fn whole(
+        &self,
+        alloc: Global,
+        version: Option<Version>,
+        slot: usize,
+    ) -> Result<ProcessBuilder<'_>, AllocError>
+        ensures { IfOk result (λ command. command_of command
+            ≡ whole_command (call_view self.now) version slot) }
+    {
+        let words = self.whole_words(alloc, version, slot)?;
+        self.command(alloc, version, &words)
+    }
+
+    /// The line of a run for all packages.
+    pub(crate) fn whole_line(
+        &self,
+        alloc: Global,
+        version: Option<Version>,
+        slot: usize,
+    ) -> Result<ListedLine<'_>, AllocError>
+        ensures { IfOk result (λ line. listed_text line ≡ listed_of (call_view self.now).dir
+            (whole_command (call_view self.now) version slot)) }
+    {
+        let words = self.whole_words(alloc, version, slot)?;
+        self.line(alloc, version, words)
+    }
+
+    /// What a run for all packages has.
+    fn whole_words(
+        &self,
+        alloc: Global,
+        version: Option<Version>,
+        slot: usize,
+    ) -> Result<RunWords<'_>, AllocError>
+        ensures { IfOk result (λ words. words_command (call_view self.now) version words
+            ≡ whole_command (call_view self.now) version slot) }
+    {
+        let mut own = Vec::new(alloc);
+        push_targets(&mut own, self.targets_in(version, slot))?;
+        let mut names = Vec::new(alloc);
+        push_all(&mut names, self.features.as_slice())?;
+        Ok(RunWords { own, names })
+    }
+
+    /// The command of a package's run; where it is the run of a set, `positions` are those of the
+    /// set's candidates.
+    pub fn run(
+        &self,
+        alloc: Global,
+        version: Option<Version>,
+        slot: usize,
+        member: &PlanPackage,
+        run: Run,
+        positions: &[usize],
+    ) -> Result<ProcessBuilder<'_>, AllocError>
+        ensures { IfOk result (λ command. command_of command
+            ≡ run_command (call_view self.now) version slot (package_view member.now)
+            (run_of run positions.now)) }
+    {
+        let words = self.run_words(alloc, version, slot, member, run, positions)?;
+        self.command(alloc, version, &words)
+    }
+
+    /// The line of a package's run, like its command.
+    pub(crate) fn run_line<'a>(
+        &'a self,
+        alloc: Global,
+        version: Option<Version>,
+        slot: usize,
+        member: &'a PlanPackage,
+        run: Run,
+        positions: &[usize],
+    ) -> Result<ListedLine<'a>, AllocError>
+        ensures { IfOk result (λ line. listed_text line ≡ listed_of (call_view self.now).dir
+            (run_command (call_view self.now) version slot (package_view member.now)
+            (run_of run positions.now))) }
+    {
+        let words = self.run_words(alloc, version, slot, member, run, positions)?;
+        self.line(alloc, version, words)
+    }
+
+    /// What a package's run has.
+    fn run_words<'a>(
+        &'a self,
+        alloc: Global,
+        version: Option<Version>,
+        slot: usize,
+        member: &'a PlanPackage,
+        run: Run,
+        positions: &[usize],
+    ) -> Result<RunWords<'a>, AllocError>
+        ensures { IfOk result (λ words. words_command (call_view self.now) version words
+            ≡ run_command (call_view self.now) version slot (package_view member.now)
+            (run_of run positions.now)) }
+    {
+        let targets = self.targets_in(version, slot);
+        let mut own = Vec::with_capacity(alloc, 2 * targets.len() + 3)?;
+        push_targets(&mut own, targets)?;
+        push_manifest(&mut own, &member.manifest_path)?;
+        push_run(&mut own, run)?;
+        let names = run_names(alloc, member, run, positions)?;
+        Ok(RunWords { own, names })
+    }
+
+    /// The command that removes the artifacts of a package, or all artifacts.
+    pub fn cleaning(
+        &self,
+        alloc: Global,
+        member: Option<&PlanPackage>,
+    ) -> Result<ProcessBuilder<'_>, AllocError>
+        ensures { IfOk result (λ command. command_of command
+            ≡ clean_command (call_view self.now)
+            (option_map (λ k. package_view k.now) member.entry)) }
+    {
+        let mut command = self.program(alloc, None)?;
+        command.arg("clean")?;
+        if self.locked {
+            command.arg("--locked")?;
+        }
+        add_cleaned(&mut command, member)?;
+        Ok(command)
+    }
+
+    /// The command that regenerates the lockfile with the cargo of a version.
+    pub fn lockfile(
+        &self,
+        alloc: Global,
+        version: Version,
+    ) -> Result<ProcessBuilder<'_>, AllocError>
+        ensures { IfOk result (λ command. command_of command
+            ≡ lockfile_command (call_view self.now) version) }
+    {
+        let mut command = self.program(alloc, Some(version))?;
+        command.arg("generate-lockfile")?;
+        let mut manifest = Vec::new(alloc);
+        push_manifest(&mut manifest, &self.current_manifest)?;
+        command.args(manifest.as_slice())?;
+        Ok(command)
+    }
+}
+
+/// The text at an index, if there is one.
+fn text_at(texts: &[String], place: usize) -> Option<&str>
+    ensures { option_map (λ text. text.now) result
+        ≡ slice_get (map string_bytes texts.now) place }
+{
+    match texts.get(place) {
+        Some(text) => Some(text.as_str()),
+        None => None,
+    }
+}
+
+/// The text at an index as a list, if there is one.
+fn one_at(texts: &[String], place: usize) -> &[String]
+    ensures { map string_bytes result.now ≡ take 1 (drop place (map string_bytes texts.now)) }
+{
+    match texts.get(place) {
+        Some(text) => slice::from_ref(text),
+        None => &[],
+    }
+}
+
+/// Adds an argument.
+fn push_word<'a>(words: &mut Vec<&'a str>, word: &'a str) -> Result<(), AllocError>
+    ensures { OnOk result (names_behind words.new.items
+        ≡ names_behind words.old.items ++ word.now ∷ []) }
+{
+    words.push(word)?;
+    Ok(())
+}
+
+/// Adds an option and its value.
+fn push_pair<'a>(
+    words: &mut Vec<&'a str>,
+    option: &'a str,
+    value: &'a str,
+) -> Result<(), AllocError>
+    ensures { OnOk result (names_behind words.new.items
+        ≡ names_behind words.old.items ++ option.now ∷ value.now ∷ []) }
+{
+    push_word(words, option)?;
+    push_word(words, value)
+}
+
+/// Adds each target after its option.
+fn push_targets<'a>(words: &mut Vec<&'a str>, targets: &'a [String]) -> Result<(), AllocError>
+    ensures { OnOk result (names_behind words.new.items
+        ≡ names_behind words.old.items ++ flat_map target_pair (map string_bytes targets.now)) }
+{
+    for target in targets {
+        push_pair(words, "--target", target.as_str())?;
+    }
+    Ok(())
+}
+
+/// Adds a manifest's path after its option.
+fn push_manifest<'a>(words: &mut Vec<&'a str>, path: &'a Option<String>) -> Result<(), AllocError>
+    ensures { OnOk result (names_behind words.new.items
+        ≡ names_behind words.old.items ++ manifest_words (optional_text path.now)) }
+{
+    match path {
+        Some(path) => push_pair(words, "--manifest-path", path.as_str()),
+        None => Ok(()),
+    }
+}
+
+/// Adds the argument that says which features a run has.
+fn push_run(words: &mut Vec<&str>, run: Run) -> Result<(), AllocError>
+    ensures { (positions : List ℕ) → OnOk result (names_behind words.new.items
+        ≡ names_behind words.old.items ++ run_words (run_of run positions)) }
+{
+    match run {
+        Run::Plain => Ok(()),
+        Run::AllFeatures => push_word(words, "--all-features"),
+        Run::NoDefaultFeatures => push_word(words, "--no-default-features"),
+        Run::Features => push_word(words, "--no-default-features"),
+    }
+}
+
+/// The names of the features of the candidate at an index.
+fn names_of(candidates: &[Feature], place: usize) -> &[String]
+    ensures { map string_bytes result.now ≡ slice_index_or (groups_of candidates.now) place [] }
+{
+    match candidates.get(place) {
+        Some(feature) => feature.as_group(),
+        None => &[],
+    }
+}
+
+/// Appends names.
+fn push_all<'a>(names: &mut Vec<&'a str>, more: &'a [String]) -> Result<(), AllocError>
+    ensures { OnOk result (names_behind names.new.items
+        ≡ names_behind names.old.items ++ map string_bytes more.now) }
+{
+    for name in more {
+        names.push(name.as_str())?;
+    }
+    Ok(())
+}
+
+/// Appends the names of the candidates at the positions.
+fn push_names<'a>(
+    names: &mut Vec<&'a str>,
+    candidates: &'a [Feature],
+    positions: &[usize],
+) -> Result<(), AllocError>
+    ensures { OnOk result (names_behind names.new.items ≡ names_behind names.old.items
+        ++ names_at (groups_of candidates.now) positions.now) }
+{
+    for position in positions {
+        push_all(names, names_of(candidates, *position))?;
+    }
+    Ok(())
+}
+
+/// The features of `--features`, and after them those of the run's set, if it has one.
+fn run_names<'a>(
+    alloc: Global,
+    member: &'a PlanPackage,
+    run: Run,
+    positions: &[usize],
+) -> Result<Vec<&'a str>, AllocError>
+    ensures { IfOk result (λ names. names_behind names.items
+        ≡ (package_view member.now).features
+        ++ run_names (package_view member.now).candidates (run_of run positions.now)) }
+{
+    let mut names = Vec::with_capacity(alloc, member.features.len() + positions.len())?;
+    push_all(&mut names, member.features.as_slice())?;
+    match run {
+        Run::Features => push_names(&mut names, member.candidates.as_slice(), positions)?,
+        Run::Plain | Run::AllFeatures | Run::NoDefaultFeatures => {}
+    }
+    Ok(names)
+}
+
+/// Adds the package whose artifacts are removed, if it is a single one.
+fn add_cleaned(
+    command: &mut ProcessBuilder<'_>,
+    member: Option<&PlanPackage>,
+) -> Result<(), AllocError>
+    ensures { OnOk result (command_of command.new ≡ record (command_of command.old) {
+      own = (command_of command.old).own
+          ++ cleaned_words (option_map (λ k. package_view k.now) member.entry);
+    }) }
+{
+    match member {
+        Some(member) => {
+            command.arg("--package")?;
+            command.arg(member.name.as_str())
+        }
+        None => Ok(()),
+    }
+}

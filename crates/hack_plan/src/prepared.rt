@@ -1,0 +1,111 @@
+//! What is done before the runs of each version.
+
+ghost use Rattle.std.specs.Prelude.{◌≡◌, ◌++◌, ◌∷◌, [], List, ℕ, IfOk, OnOk, length, map};
+ghost use Rattle.std.specs.Prelude.{filter_map, not, slice_get, Some, None, option_map, IsTrue};
+ghost use Rattle.std.specs.Prelude.{◌↔◌, ◌&&◌, true};
+ghost use Rattle.hack_plan.specs.Spans.{version_at};
+ghost use Rattle.hack_plan.specs.Prepared.{ArePrepared, IsPrepared, AreFlags, preparations_of};
+ghost use Rattle.hack_plan.specs.Prepared.{span_of};
+
+use crate::parts::{PlanVersion, Preparation};
+use crate::places::Span;
+use hack_versions::rustup::lockfile_before;
+use hack_versions::version::Version;
+use std::alloc::{AllocError, Global};
+
+/// The versions of a plan, from their places. With `locked` the lockfile is never regenerated, and
+/// with `clean` artifacts are removed before each version.
+pub fn prepared(
+    alloc: Global,
+    spans: &[Span],
+    locked: bool,
+    clean: bool,
+) -> Result<Vec<PlanVersion>, AllocError>
+    ensures spans { IfOk result (λ versions. map span_of versions.items ≡ spans.now) }
+    ensures each { IfOk result (λ versions. ArePrepared locked clean versions.items) }
+{
+    let flags = lockfile_flags(alloc, spans, locked)?;
+    let mut versions = Vec::with_capacity(alloc, spans.len())?;
+    for (place, span) in spans.iter().enumerate() {
+        let remakes = is_set(flags.as_slice(), place);
+        versions.push(version(alloc, *span, place, remakes, clean)?)?;
+    }
+    Ok(versions)
+}
+
+/// The version of a span, with what is done before its runs.
+fn version(
+    alloc: Global,
+    span: Span,
+    place: usize,
+    remakes: bool,
+    clean: bool,
+) -> Result<PlanVersion, AllocError>
+    ensures span { IfOk result (λ v. span_of v ≡ span) }
+    ensures made { IfOk result (λ v.
+        v.preparations.items ≡ preparations_of span.version place remakes clean) }
+{
+    Ok(PlanVersion {
+        version: span.version,
+        preparations: preparations(alloc, span.version, place, remakes, clean)?,
+        first: span.first,
+        end: span.end,
+    })
+}
+
+/// Whether the flag at an index is set.
+fn is_set(flags: &[bool], place: usize) -> bool
+    ensures { IsTrue result ↔ (slice_get flags.now place ≡ Some true) }
+{
+    match flags.get(place) {
+        Some(flag) => *flag,
+        None => false,
+    }
+}
+
+/// Before which of the versions the lockfile is regenerated.
+fn lockfile_flags(alloc: Global, spans: &[Span], locked: bool) -> Result<Vec<bool>, AllocError>
+    ensures { IfOk result (λ flags. AreFlags locked (filter_map version_at spans.now) flags.items) }
+{
+    let mut versions = Vec::new(alloc);
+    for span in spans {
+        add_version(&mut versions, span)?;
+    }
+    lockfile_before(alloc, versions.as_slice(), locked)
+}
+
+/// Adds the version of a span, if it has one.
+fn add_version(versions: &mut Vec<Version>, span: &Span) -> Result<(), AllocError>
+    ensures { OnOk result (versions.new.items
+        ≡ versions.old.items ++ filter_map version_at (span.now ∷ [])) }
+{
+    match span.version {
+        Some(version) => Ok(versions.push(version)?),
+        None => Ok(()),
+    }
+}
+
+/// What is done before the runs of a version.
+fn preparations(
+    alloc: Global,
+    version: Option<Version>,
+    place: usize,
+    remakes: bool,
+    clean: bool,
+) -> Result<Vec<Preparation>, AllocError>
+    ensures { IfOk result (λ found.
+        found.items ≡ preparations_of version place remakes clean) }
+{
+    let mut found = Vec::new(alloc);
+    if version.is_none() {
+        return Ok(found);
+    }
+    found.push(Preparation::Toolchain(place))?;
+    if remakes {
+        found.push(Preparation::Lockfile(place))?;
+    }
+    if clean {
+        found.push(Preparation::Clean(place))?;
+    }
+    Ok(found)
+}

@@ -1,0 +1,68 @@
+-- Errors of the parts of a plan are causes to refuse it, and the notices on all parts.
+use Rattle.std.proofs.Common.{◌≡◌, refl, sym, ap, subst, ◌∙◌, ◌⊎◌, inl, inr, ℕ, List, [], ◌∷◌, ◌++◌, map, Bool, Option, append_assoc}
+use Rattle.std.proofs.lemmas.List.{map-append}
+use Rattle.hack_load.specs.Contexts.{ContextRecord}
+use Rattle.hack_planner.specs.ContextMembers.{AreChosen}
+use Rattle.hack_plan.specs.Entries.{HasTooMany}
+use Rattle.hack_plan.specs.declared.places.PlacesFault.{PlacesFault}
+use Rattle.hack_plan.specs.declared.places.PlacesFault.TheVariants as places
+use Rattle.hack_plan.specs.declared.versions.PlanInput.{PlanInput}
+use Rattle.hack_plan.specs.Plans.{counts_in, count_in}
+use Rattle.hack_plan.specs.View.{package_view}
+use Rattle.hack_plan.specs.declared.parts.PlanPackage.{PlanPackage}
+use Rattle.hack_base.specs.Notes.{Note, note_of}
+use Rattle.hack_base.specs.declared.notice.Notice.{Notice}
+use Rattle.hack_versions.specs.declared.version.Version.{Version}
+use Rattle.hack_planner.specs.Calls.{ArePlanned, IsInputOf}
+use Rattle.hack_planner.specs.Made.{IsCause, IsRangeFault, run_counts}
+use Rattle.hack_planner.specs.Turned.{of_places}
+use Rattle.hack_planner.specs.declared.fault.PlanFault.{PlanFault}
+use Rattle.hack_planner.specs.declared.fault.PlanFault.TheVariants as fault
+
+-- the error of the range is a cause
+pub range-cause : (cx : ContextRecord) (ids : List ℕ) (single : Bool) (notes : List Note) (s : PlanInput) (latest : Option Version) (e : PlanFault) → AreChosen cx ids single notes → IsInputOf cx ids s
+    → (e ≡ fault.Memory) ⊎ IsRangeFault s latest e → (e ≡ fault.Memory) ⊎ IsCause cx latest e
+range-cause cx ids single notes s latest fault.Memory chosen of_call h = inl refl
+range-cause cx ids single notes s latest (fault.Stable text) chosen of_call (inl e) = absurd (cc)
+range-cause cx ids single notes s latest (fault.Stable text) chosen of_call (inr bad) = absurd bad
+range-cause cx ids single notes s latest (fault.Packages e) chosen of_call (inl m) = absurd (cc)
+range-cause cx ids single notes s latest (fault.Packages e) chosen of_call (inr bad) = absurd bad
+range-cause cx ids single notes s latest (fault.Version e) chosen of_call (inl m) = absurd (cc)
+range-cause cx ids single notes s latest (fault.Version e) chosen of_call (inr bad) = absurd bad
+range-cause cx ids single notes s latest (fault.Range e) chosen of_call (inl m) = absurd (cc)
+range-cause cx ids single notes s latest (fault.Range e) chosen of_call (inr bad) = inr (record { ids = ids; single = single; notes = notes; input = s; chosen = chosen; of_call = of_call; bad = bad })
+range-cause cx ids single notes s latest (fault.TooManyQuestions name) chosen of_call (inl e) = absurd (cc)
+range-cause cx ids single notes s latest (fault.TooManyQuestions name) chosen of_call (inr bad) = absurd bad
+range-cause cx ids single notes s latest fault.TooManyRuns chosen of_call (inl e) = absurd (cc)
+range-cause cx ids single notes s latest fault.TooManyRuns chosen of_call (inr bad) = absurd bad
+
+-- the numbers of runs of packages and of their views
+pub counts-same : (packages : List PlanPackage) → run_counts (map package_view packages) ≡ counts_in packages
+counts-same [] = refl
+counts-same (k ∷ ks) = ap (λ l. count_in k ∷ l) (counts-same ks)
+
+-- too many runs are a cause to refuse the plan
+pub places-cause : (cx : ContextRecord) (ids : List ℕ) (single : Bool) (notes : List Note) (s : PlanInput) (stable latest : Option Version) (packages : List PlanPackage) (on_features : List Note) (e : PlacesFault) → AreChosen cx ids single notes → IsInputOf cx ids s
+    → ArePlanned cx single ids (map package_view packages) on_features → stable ≡ latest → (e ≡ places.Memory) ⊎ ((e ≡ places.TooManyRuns) × HasTooMany s (counts_in packages) stable) → (of_places e ≡ fault.Memory) ⊎ IsCause cx latest (of_places e)
+places-cause cx ids single notes s stable latest packages on_features places.Memory chosen of_call planned newest h = inl refl
+places-cause cx ids single notes s stable latest packages on_features places.TooManyRuns chosen of_call planned newest (inl e) = absurd (cc)
+places-cause cx ids single notes s stable latest packages on_features places.TooManyRuns chosen of_call planned newest (inr h) = inr (record {
+  ids = ids;
+  single = single;
+  notes = notes;
+  input = s;
+  packages = map package_view packages;
+  on_features = on_features;
+  chosen = chosen;
+  of_call = of_call;
+  planned = planned;
+  many = subst (λ counts. HasTooMany s counts latest) (sym (counts-same packages)) (subst (HasTooMany s (counts_in packages)) newest h.1);
+})
+
+-- notices in the order of the parts
+pub all-told : (old features range left n1 n2 n3 : List Notice) (notes : List Note) → n1 ≡ old ++ features → n2 ≡ n1 ++ range → n3 ≡ n2 ++ left → map note_of left ≡ notes
+    → map note_of n3 ≡ map note_of old ++ (map note_of features ++ (map note_of range ++ notes))
+all-told old features range left n1 n2 n3 notes e1 e2 e3 told =
+    ap (map note_of) (e3 ∙ ap (λ l. l ++ left) (e2 ∙ ap (λ l. l ++ range) e1) ∙ append_assoc (old ++ features) range left ∙ append_assoc old features (range ++ left))
+    ∙ map-append note_of old (features ++ (range ++ left))
+    ∙ ap (λ l. map note_of old ++ l) (map-append note_of features (range ++ left) ∙ ap (λ l. map note_of features ++ l) (map-append note_of range left ∙ ap (λ l. map note_of range ++ l) told))

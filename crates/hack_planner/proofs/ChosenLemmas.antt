@@ -1,0 +1,101 @@
+-- Chosen packages one by one; they are members.
+use Rattle.std.proofs.Common.{◌≡◌, ℕ, ◌+◌, ◌<◌, List, [], ◌∷◌, ◌++◌, length, take, get_or, map, ap, sym, subst, ◌∙◌, Option, Some, None, Bool, true, false, inl, inr, Contains, All, option_map}
+use Rattle.std.specs.List.{filter_map, cons_option, slice_index_or}
+use Rattle.std.specs.Str.{bytes_eq}
+use Rattle.std.proofs.lemmas.Bool.{cases_Bool}
+use Rattle.std.proofs.lemmas.List.{take_more, map-append, get_or_default}
+use Rattle.std.proofs.lemmas.List.Elements.{Contains-push_cases, All-contains_itself}
+use Rattle.hack_base.specs.Names.{Name}
+use Rattle.hack_base.proofs.Members.{Contains-cons_cases, Contains-head, Contains-tail, Contains-nil, Contains-map, Contains-map_from, Contains-filter_from}
+use Rattle.hack_load.specs.Contexts.{ContextRecord, package_at, is_private_at, rust_version_at}
+use Rattle.hack_metadata.specs.Records.{PackageRecord}
+use Rattle.hack_metadata.specs.View.{place_at}
+use Rattle.hack_metadata.specs.declared.resolve.PackageId.{PackageId}
+use Rattle.hack_planner.specs.ContextMembers.{member_at, AreChosen}
+use Rattle.hack_planner.specs.Members.{Member, Choosing, taken, left, ends, Keeps, IsMatched, IsAbout, members_without_names, first_called}
+use Rattle.hack_base.specs.Notes.{Note}
+use Rattle.hack_versions.specs.declared.version.VersionFault.{VersionFault}
+use Rattle.hack_versions.specs.declared.group.PackageVersion.{PackageVersion}
+use Rattle.hack_planner.specs.Calls.{IsMember, AreMembers, grows, IsPlanned, ArePlanned, adds, IsBadOwn, HasBadOwn}
+use Rattle.hack_plan.specs.View.{PackageView}
+
+-- one id more
+id-more : (ids : List PackageId) (i : ℕ) (d : PackageId) → i < length ids → map place_at (take (i + 1) ids) ≡ map place_at (take i ids) ++ (get_or ids i d).index ∷ []
+id-more ids i d lt = ap (map place_at) (take_more ids i d lt) ∙ map-append place_at (take i ids) (get_or ids i d ∷ [])
+
+-- one chosen package more
+pub members-more : (cx : ContextRecord) (ids : List PackageId) (i : ℕ) (d : PackageId) → i < length ids → (members : List PackageVersion) (member : PackageVersion) → IsMember cx (get_or ids i d).index member
+    → AreMembers cx (map place_at (take i ids)) members → AreMembers cx (map place_at (take (i + 1) ids)) (members ++ member ∷ [])
+members-more cx ids i d lt members member is before = subst (λ ps. AreMembers cx ps (members ++ member ∷ [])) (sym (id-more ids i d lt)) (grows before is)
+
+-- one planned package more
+pub planned-more : (cx : ContextRecord) (single : Bool) (ids : List PackageId) (i : ℕ) (d : PackageId) → i < length ids → (packages : List PackageView) (k : PackageView) (notes more : List Note) → IsPlanned cx single (get_or ids i d).index k more
+    → ArePlanned cx single (map place_at (take i ids)) packages notes → ArePlanned cx single (map place_at (take (i + 1) ids)) (packages ++ k ∷ []) (notes ++ more)
+planned-more cx single ids i d lt packages k notes more is before = subst (λ ps. ArePlanned cx single ps (packages ++ k ∷ []) (notes ++ more)) (sym (id-more ids i d lt)) (adds before is)
+
+-- a package whose own version can't be read is one of them
+pub bad-at : (cx : ContextRecord) (ids : List PackageId) (i : ℕ) (d : PackageId) → i < length ids → (e : VersionFault) → IsBadOwn cx.args.version_range (rust_version_at cx (get_or ids i d).index) e → HasBadOwn cx (map place_at ids) e
+bad-at cx ids i d lt e bad =
+    ((get_or ids i d).index, Contains-map place_at ids (get_or ids i d) (i, lt, get_or_default ids i (get_or ids i d) d lt), bad)
+
+-- none so far, and this one isn't either
+pub none-bad-more : (cx : ContextRecord) (ids : List PackageId) (i : ℕ) (d : PackageId) → i < length ids → ((e : VersionFault) → ¬ IsBadOwn cx.args.version_range (rust_version_at cx (get_or ids i d).index) e)
+    → ((e : VersionFault) → ¬ HasBadOwn cx (map place_at (take i ids)) e) → (e : VersionFault) → ¬ HasBadOwn cx (map place_at (take (i + 1) ids)) e
+none-bad-more cx ids i d lt here before e bad =
+    elim (Contains-push_cases (map place_at (take i ids)) (get_or ids i d).index bad.0 (subst (λ ps. Contains ps bad.0) (id-more ids i d lt) bad.1)) [
+      | inl w ↦ before e (bad.0, w, bad.2)
+      | inr same ↦ here e (subst (λ p. IsBadOwn cx.args.version_range (rust_version_at cx p) e) (sym same) bad.2)
+    ]
+
+-- a member that is kept was in the list
+kept-in : (P : Member → Type 0) (xs ys : List Member) (m : Member) → Keeps P xs ys → Contains ys m → Contains xs m
+kept-in P xs ys m ends c = c
+kept-in P (x ∷ xs) (y ∷ ys) m (taken holds rest) c =
+    elim (Contains-cons_cases x ys m c) [
+      | inl e ↦ subst (λ z. Contains (x ∷ xs) z) e (Contains-head x xs)
+      | inr w ↦ Contains-tail x xs m (kept-in P xs ys m rest w)
+    ]
+kept-in P (x ∷ xs) ys m (left fails rest) c = Contains-tail x xs m (kept-in P xs ys m rest c)
+
+-- the first member with a name was in the list
+first-in : (members : List Member) (name : Name) (m : Member) → Contains (first_called members name) m → Contains members m
+first-in [] name m c = c
+first-in (x ∷ xs) name m c =
+    elim (cases_Bool (bytes_eq x.pkg.name name)) [
+      | inl t ↦ elim (Contains-cons_cases x [] m (rw t at c)) [ inl e ↦ subst (λ z. Contains (x ∷ xs) z) e (Contains-head x xs) | inr w ↦ absurd (Contains-nil m w) ]
+      | inr f ↦ Contains-tail x xs m (first-in xs name m (rw f at c))
+    ]
+
+-- a member that a call is about was in the list
+about-in : (named : Bool) (c : Choosing) (members about : List Member) (m : Member) → IsAbout named c members about → Contains about m → Contains members m
+about-in true c members about m is h = kept-in (IsMatched c.named) members about m is h
+about-in false c members about m is h = unnamed-in c.everyone c.current (subst (λ l. Contains l m) is h)
+  where
+    unnamed-in : (everyone : Bool) (current : Option Name) → Contains (members_without_names everyone current members) m → Contains members m
+    unnamed-in true current h = h
+    unnamed-in false None h = h
+    unnamed-in false (Some name) h = first-in members name m h
+
+-- the id of a member is one of the workspace
+member-step : (cx : ContextRecord) (id : ℕ) (ids : List ℕ) (m : Member) (o : Option PackageRecord) → Contains (cons_option (option_map (λ p. record { place = id; pkg = p; is_private = is_private_at cx id }) o) (filter_map (member_at cx) ids)) m
+    → (Contains (filter_map (member_at cx) ids) m → Contains ids m.place) → Contains (id ∷ ids) m.place
+member-step cx id ids m None c ih = Contains-tail id ids m.place (ih c)
+member-step cx id ids m (Some p) c ih =
+    elim (Contains-cons_cases (record { place = id; pkg = p; is_private = is_private_at cx id }) (filter_map (member_at cx) ids) m c) [
+      | inl e ↦ subst (λ (k : Member). Contains (id ∷ ids) k.place) e (Contains-head id ids)
+      | inr w ↦ Contains-tail id ids m.place (ih w)
+    ]
+
+member-in : (cx : ContextRecord) (ids : List ℕ) (m : Member) → Contains (filter_map (member_at cx) ids) m → Contains ids m.place
+member-in cx [] m c = absurd (Contains-nil m c)
+member-in cx (id ∷ ids) m c = member-step cx id ids m (package_at cx id) c (member-in cx ids m)
+
+-- the chosen packages are members of the workspace
+pub ids-in : (cx : ContextRecord) (ids : List PackageId) (single : Bool) (notes : List Note) → AreChosen cx (map place_at ids) single notes → All (λ (id : PackageId). Contains cx.metadata.workspace_members id.index) ids
+ids-in cx ids single notes chosen k d lt =
+    let id = slice_index_or ids k d in
+    let at = subst (λ ps. Contains ps id.index) chosen.chosen (Contains-map place_at ids id (All-contains_itself ids k d lt)) in
+    let from = Contains-map_from (λ (m : Member). m.place) _ id.index at in
+    let kept = Contains-filter_from _ chosen.remaining from.0 from.1 in
+    let there = about-in _ _ _ chosen.about from.0 chosen.is_about (kept-in _ chosen.about chosen.remaining from.0 chosen.remain kept.0) in
+    subst (λ p. Contains cx.metadata.workspace_members p) from.2 (member-in cx cx.metadata.workspace_members from.0 there)

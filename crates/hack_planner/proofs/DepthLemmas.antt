@@ -1,0 +1,176 @@
+-- Sets of one candidate: those that a powerset lists are each candidate alone, and their runs are those of each feature.
+use Rattle.std.proofs.Common.{◌≡◌, ◌∙◌, ◌≢◌, ℕ, zero, suc, ◌+◌, ◌<◌, ◌≤◌, List, [], ◌∷◌, ◌++◌, length, map, Contains, All, Option, None, Some, Bool, true, false, not, inl, inr, refl, ap, sym, subst, arith}
+use Rattle.std.specs.Prelude.{nat_lt, ◌&&◌, ◌||◌, if◌then◌else◌}
+use Rattle.std.specs.List.{range_with_len}
+use Rattle.std.proofs.lemmas.Bool.{lt-ltb}
+use Rattle.std.proofs.lemmas.List.FromFn.{get_or-map-range_with_len, length-map-range_with_len}
+use Rattle.hack_base.specs.Names.{Name}
+use Rattle.hack_features.specs.Sets.{IsSelection, IsBefore, IsListing, IsWithin, Pairwise, singles}
+use Rattle.hack_features.specs.Rules.{Choice, IsListed, IsRedundant, NotBothReach, Serves, names_at, names_in, unlifted_groups}
+use Rattle.hack_features.specs.FeatureMap.{EnablesOneOf}
+use Rattle.hack_base.proofs.Members.{Contains-cons_cases}
+use Rattle.hack_features.proofs.Listing.{selection_none, selection_push, selection_up}
+use Rattle.hack_features.proofs.CoverLemmas.{before_trans}
+use Rattle.hack_plan.specs.Runs.{PackageRun, Plain, AllFeatures, NoDefaultFeatures, Set, is_plain, keeps_all, run_if, with_last_first, in_turn, allows_two, is_unlimited}
+use Rattle.hack_planner.specs.Candidates.{Wishes, Known, candidates, lifted_for}
+use Rattle.hack_planner.specs.Kinds.{ArePowersets, AreSetRuns, AreRuns, AreSets, RunsBy, IsDepthOne, as_each, asks, choice_of, options_of}
+
+in-none : {X : Type 0} (x : X) → Contains [] x → ⊥
+in-none x c = absurd (omega (arith, c.1))
+
+in-one : (p q : ℕ) → Contains (p ∷ []) q → p ≡ q
+in-one p q c = elim (Contains-cons_cases p [] q c) [ inl e ↦ e | inr d ↦ absurd (in-none q d) ]
+
+before-one : (p q : ℕ) → p < q → IsBefore (p ∷ []) (q ∷ [])
+before-one p q lt = record {
+  greatest = q;
+  absent = λ c. let e : p ≡ q = in-one p q c in absurd (omega arith);
+  present = (0, omega arith, refl);
+  above = λ r h. (
+    λ c. let e : p ≡ r = in-one p r c in absurd (omega arith),
+    λ c. let e : q ≡ r = in-one q r c in absurd (omega arith),
+  );
+}
+
+ordered : (a n : ℕ) → Pairwise IsBefore (map (λ (p : ℕ). p ∷ []) (range_with_len a n))
+ordered a zero = tt
+ordered a (suc n) = (
+  λ k d lt.
+      let inside : k < n = omega (arith, lt, length-map-range_with_len (λ (p : ℕ). p ∷ []) (a + 1) n) in
+      subst (λ t. IsBefore (a ∷ []) t) (sym (get_or-map-range_with_len (λ (p : ℕ). p ∷ []) (a + 1) n k (a + 1 + k) d inside refl)) (before-one a (a + 1 + k) (omega arith)),
+  ordered (a + 1) n,
+)
+
+single-from : (n : ℕ) (s : List ℕ) → Contains (singles n) s → (p : ℕ) × (p < n) × (p ∷ [] ≡ s)
+single-from n s c =
+    let inside : c.0 < n = omega (arith, c.1, length-map-range_with_len (λ (p : ℕ). p ∷ []) 0 n) in
+    (c.0, inside, sym (get_or-map-range_with_len (λ (p : ℕ). p ∷ []) 0 n c.0 c.0 s inside (omega arith)) ∙ c.2)
+
+single-in : (n p : ℕ) → p < n → Contains (singles n) (p ∷ [])
+single-in n p lt = (p, omega (arith, length-map-range_with_len (λ (p : ℕ). p ∷ []) 0 n), get_or-map-range_with_len (λ (p : ℕ). p ∷ []) 0 n p p (p ∷ []) lt (omega arith))
+
+selection-one : (n p : ℕ) → p < n → IsSelection n (p ∷ [])
+selection-one n p lt = selection_up (suc p) n (p ∷ []) (omega arith) (selection_push p [] (selection_none p))
+
+at : {X : Type 0} (P : X → Type 0) (xs : List X) (x : X) → All P xs → Contains xs x → P x
+at P xs x all c = subst P c.2 (all c.0 x c.1)
+
+strict : (s t : List ℕ) → IsBefore s t → IsBefore t s → ⊥
+strict s t b d = let r = before_trans s t s b d in r.absent r.present
+
+-- a set of one candidate is lean
+lean-one : (c : Choice) (p : ℕ) → IsRedundant c (p ∷ []) → ⊥
+lean-one c p r =
+    let k : r.keeper ≡ r.spared = sym (in-one p r.keeper r.kept) ∙ in-one p r.spared r.member in
+    let named : Contains (names_at c r.spared) r.spares.by = subst (λ q. Contains (names_at c q) r.spares.by) k r.spares.named in
+    (r.spares.enabled named.0 r.spares.by named.1).0 named.2
+
+-- an empty list has no item of which anything has to hold
+all-none : {X : Type 0} (P : X → Type 0) (xs : List X) → xs ≡ [] → All P xs
+all-none P xs e = subst (λ l. All P l) (sym e) (λ k d lt. absurd (omega (arith, lt)))
+
+-- each candidate alone is listed, if the depth is 1 and there are no groups
+listed-one : (c : Choice) (p : ℕ) → c.depth ≡ Some 1 → c.exclusive ≡ [] → c.at_least_one_of ≡ [] → IsListed c (p ∷ [])
+listed-one c p depth exclusive wanted = record {
+  nonempty = λ e. cc;
+  permitted = record {
+    within = subst (λ d. IsWithin d (p ∷ [])) (sym depth) (omega arith);
+    lean = lean-one c p;
+    exclusive = all-none (λ group. Pairwise (NotBothReach c.map group) (names_in c (p ∷ []))) c.exclusive exclusive;
+  };
+  required = all-none (λ group. (key : Name) → EnablesOneOf c.map group key → Serves c group (p ∷ [])) c.at_least_one_of wanted;
+}
+
+-- a nonempty set within a depth of 1 is one candidate alone
+one-listed : (n : ℕ) (s : List ℕ) → s ≢ [] → length s ≤ 1 → IsSelection n s → Contains (singles n) s
+one-listed n [] some short sel = absurd (some refl)
+one-listed n (p ∷ []) some short sel = single-in n p (sel.below 0 0 (omega arith))
+one-listed n (p ∷ q ∷ rest) some short sel = absurd (omega (arith, short))
+
+singles-listing : (n : ℕ) (c : Choice) → c.depth ≡ Some 1 → c.exclusive ≡ [] → c.at_least_one_of ≡ [] → IsListing n (IsListed c) (singles n)
+singles-listing n c depth exclusive wanted = record {
+  ordered = ordered 0 n;
+  exact = λ s. (
+    λ h. let w = single-from n s h in
+        (subst (IsSelection n) w.2 (selection-one n w.0 w.1), subst (IsListed c) w.2 (listed-one c w.0 depth exclusive wanted)),
+    λ w. one-listed n s w.1.nonempty (subst (λ d. IsWithin d s) depth w.1.permitted.within) w.0,
+  );
+}
+
+first-of : {X : Type 0} (x : X) (xs : List X) → Contains (x ∷ xs) x
+first-of x xs = (0, omega arith, refl)
+
+behind : {X : Type 0} (x : X) (xs : List X) (y : X) → Contains xs y → Contains (x ∷ xs) y
+behind x xs y c = (suc c.0, omega (arith, c.1), c.2)
+
+tail-in : (x y : List ℕ) (xs ys : List (List ℕ)) → x ≡ y → All (IsBefore x) xs → ((s : List ℕ) → Contains (x ∷ xs) s → Contains (y ∷ ys) s) → (s : List ℕ) → Contains xs s → Contains ys s
+tail-in x y xs ys same before f s c =
+    elim (Contains-cons_cases y ys s (f s (behind x xs s c))) [
+      | inl e ↦ absurd (strict x x (subst (IsBefore x) (sym (same ∙ e)) (at (IsBefore x) xs s before c)) (subst (IsBefore x) (sym (same ∙ e)) (at (IsBefore x) xs s before c)))
+      | inr d ↦ d
+    ]
+
+-- two lists in order with the same members are the same
+unique : (xs ys : List (List ℕ)) → Pairwise IsBefore xs → Pairwise IsBefore ys → ((s : List ℕ) → Contains xs s → Contains ys s) → ((s : List ℕ) → Contains ys s → Contains xs s) → xs ≡ ys
+unique [] [] ox oy f g = refl
+unique [] (y ∷ ys) ox oy f g = absurd (in-none y (g y (first-of y ys)))
+unique (x ∷ xs) [] ox oy f g = absurd (in-none x (f x (first-of x xs)))
+unique (x ∷ xs) (y ∷ ys) ox oy f g =
+    let same : x ≡ y =
+    elim (Contains-cons_cases y ys x (f x (first-of x xs))) [
+      | inl e ↦ sym e
+      | inr iny ↦ elim (Contains-cons_cases x xs y (g y (first-of y ys))) [
+        | inl e ↦ e
+        | inr inx ↦ absurd (strict x y (at (IsBefore x) xs y ox.0 inx) (at (IsBefore y) ys x oy.0 iny))
+      ]
+    ] in
+    let rest : xs ≡ ys = unique xs ys ox.1 oy.1 (tail-in x y xs ys same ox.0 f) (tail-in y x ys xs (sym same) oy.0 g) in
+    ap (λ t. t ∷ xs) same ∙ ap (λ t. y ∷ t) rest
+
+-- a listing of sets of one candidate is each alone
+all-single : (n : ℕ) (c : Choice) (sets : List (List ℕ)) → c.depth ≡ Some 1 → c.exclusive ≡ [] → c.at_least_one_of ≡ [] → IsListing n (IsListed c) sets → sets ≡ singles n
+all-single n c sets depth exclusive wanted l =
+    let m = singles-listing n c depth exclusive wanted in
+    unique sets (singles n) l.ordered m.ordered (λ s h. (m.exact s).1 ((l.exact s).0 h)) (λ s h. (l.exact s).1 ((m.exact s).0 h))
+
+or-true : (a : Bool) → (a || true) ≡ true
+or-true true = refl
+or-true false = refl
+
+and-false : (a : Bool) → (a && false) ≡ false
+and-false true = refl
+and-false false = refl
+
+same-keeps : (ex all pw : Bool) (opt norm : ℕ) (d : Option ℕ) → pw ≡ true → d ≡ Some 1 → nat_lt 0 opt ≡ true
+    → (not ex && (if pw then nat_lt 0 opt && not (all && is_unlimited d) else nat_lt 0 opt || nat_lt 1 norm)) ≡ (not ex && (nat_lt 0 opt || nat_lt 1 norm))
+same-keeps ex all pw opt norm d is depth some =
+    ap (λ b. not ex && b)
+    (ap (λ b. if b then nat_lt 0 opt && not (all && is_unlimited d) else nat_lt 0 opt || nat_lt 1 norm) is
+    ∙ ap (λ b. b && not (all && is_unlimited d)) some
+    ∙ ap (λ e. not (all && is_unlimited e)) depth
+    ∙ ap not (and-false all)
+    ∙ sym (ap (λ b. b || nat_lt 1 norm) some))
+
+-- sets of one candidate have the runs of each feature, if the package has optional dependencies
+pub depth-one : (w : Wishes) (p : Known) (runs : List PackageRun) → IsDepthOne w → 0 < length p.optional → AreRuns w p runs → AreRuns (as_each w) p runs
+depth-one w p runs h some are =
+    let asked : asks w ≡ true = ap (λ b. w.each || b) h.powerset ∙ or-true w.each in
+    let r : AreSetRuns w p runs = subst (λ b. RunsBy b w p runs) asked are in
+    let n = length (candidates w p) in
+    let picked : AreSets true w p r.sets = subst (λ b. AreSets b w p r.sets) h.powerset r.are_sets in
+    let listing : ArePowersets None (choice_of w p) n r.sets = subst (λ o. ArePowersets o (choice_of w p) n r.sets) h.all picked in
+    let none : unlifted_groups w.exclusive (lifted_for w p.name) ≡ [] = ap (λ l. unlifted_groups l (lifted_for w p.name)) h.exclusive in
+    let same : r.sets ≡ singles n = all-single n (choice_of w p) r.sets h.depth none h.at_least_one_of listing in
+    let o = options_of w p in
+    let e = options_of (as_each w) p in
+    let keeps : keeps_all o ≡ keeps_all e = same-keeps w.exclude_all_features o.all_optional_deps w.powerset (length p.optional) (length p.normal) w.depth h.powerset h.depth (lt-ltb 0 (length p.optional) some) in
+    let turn : in_turn o r.sets ≡ in_turn e r.sets =
+    ap (λ d. with_last_first (w.powerset && not (keeps_all o) && nat_lt 1 (length r.sets) && allows_two d) r.sets) h.depth
+    ∙ ap (λ b. with_last_first b r.sets) (and-false (w.powerset && not (keeps_all o) && nat_lt 1 (length r.sets))) in
+    record {
+      sets = r.sets;
+      are_sets = same;
+      made = r.made
+          ∙ ap (λ k. if is_plain o r.sets then Plain ∷ [] else run_if k AllFeatures ++ run_if (not w.exclude_no_default_features) NoDefaultFeatures ++ map Set (in_turn o r.sets)) keeps
+          ∙ ap (λ t. if is_plain o r.sets then Plain ∷ [] else run_if (keeps_all e) AllFeatures ++ run_if (not w.exclude_no_default_features) NoDefaultFeatures ++ map Set t) turn;
+    }

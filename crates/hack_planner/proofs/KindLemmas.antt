@@ -1,0 +1,97 @@
+-- The sets of a package and its runs.
+use Rattle.std.proofs.Common.{◌≡◌, ◌∙◌, ℕ, ◌+◌, ◌-◌, ◌<◌, List, [], ◌∷◌, ◌++◌, length, get_or, take, drop, map, Contains, Bool, true, false, not, Some, inl, inr, refl, ap, sym, subst, arith, eqb-true}
+use Rattle.std.specs.Prelude.{nat_lt, ◌&&◌, ◌||◌, ◌==◌, if◌then◌else◌}
+use Rattle.std.specs.Borrow.{Bor}
+use Rattle.std.proofs.lemmas.List.{map-append, take-append-drop, length-map, get_or-map}
+use Rattle.std.proofs.lemmas.List.Elements.{Contains-append_left, Contains-append_right, Contains-append_cases}
+use Rattle.hack_features.specs.declared.feature.Feature.{Feature}
+use Rattle.hack_features.specs.Feature.{group_of, groups_of, candidates_of}
+use Rattle.hack_features.specs.Rules.{AreCovers}
+use Rattle.hack_base.proofs.Steps.{seen-next}
+use Rattle.hack_plan.specs.declared.runs.RunOptions.{RunOptions}
+use Rattle.hack_plan.specs.Runs.{PackageRun, Plain, AllFeatures, NoDefaultFeatures, Set, is_plain, keeps_all, run_if, last_first, in_turn, allows_two, runs_from}
+use Rattle.hack_planner.specs.declared.kind.Kind.{Kind}
+use Rattle.hack_planner.specs.declared.kind.Kind.TheVariants.{Normal, Each, Powerset}
+use Rattle.hack_planner.specs.Candidates.{Wishes, Known, candidates}
+use Rattle.hack_planner.specs.Kinds.{AreSetRuns, RunsBy, AreRuns, HasPlainRun, HasSetRuns, AreCovering, asks, choice_of, options_of}
+use Rattle.hack_planner.specs.KindsView.{IsKind, runs_of}
+
+-- references to features, after one more
+pub candidates-next : (all new : List (Bor Feature)) (features : List Feature) (k : ℕ) (f : Bor Feature) → new ≡ all ++ f ∷ [] → candidates_of all ≡ take k (groups_of features)
+    → k < length features → f.now ≡ get_or features k f.now → candidates_of new ≡ take (k + 1) (groups_of features)
+candidates-next all new features k f pushed before lt is =
+    ap candidates_of pushed ∙ map-append (λ (g : Bor Feature). group_of g.now) all (f ∷ []) ∙ ap (λ names. names ++ group_of f.now ∷ []) before ∙ sym (seen-next group_of features k f.now lt is)
+
+in-last_first : {X : Type 0} (xs : List X) (t : X) → Contains xs t → Contains (last_first xs) t
+in-last_first xs t c =
+    elim (Contains-append_cases (take (length xs - 1) xs) (drop (length xs - 1) xs) t (subst (λ ys. Contains ys t) (sym (take-append-drop (length xs - 1) xs)) c)) [
+      | inl w ↦ Contains-append_right (drop (length xs - 1) xs) (take (length xs - 1) xs) t w
+      | inr w ↦ Contains-append_left (drop (length xs - 1) xs) (take (length xs - 1) xs) t w
+    ]
+
+pick : {X : Type 0} (b : Bool) (xs ys : List X) (t : X) → Contains xs t → Contains ys t → Contains (if b then xs else ys) t
+pick true xs ys t c d = c
+pick false xs ys t c d = d
+
+in-map : (xs : List (List ℕ)) (t : List ℕ) → Contains xs t → Contains (map Set xs) (Set t)
+in-map xs t c = (c.0, omega (arith, c.1, length-map xs Set), get_or-map Set xs c.0 t (Set t) c.1 ∙ ap Set c.2)
+
+-- each set has its run
+runs-has : (o : RunOptions) (sets : List (List ℕ)) (t : List ℕ) → is_plain o sets ≡ false → Contains sets t → Contains (runs_from o sets) (Set t)
+runs-has o sets t some c =
+    let turned : Contains (in_turn o sets) t = pick (o.powerset && not (keeps_all o) && nat_lt 1 (length sets) && allows_two o.depth) (last_first sets) sets t (in-last_first sets t c) c in
+    subst (λ b. Contains (if b then Plain ∷ [] else (run_if (keeps_all o) AllFeatures ++ run_if (not o.exclude_no_default_features) NoDefaultFeatures) ++ map Set (in_turn o sets)) (Set t)) (sym some)
+    (Contains-append_right (run_if (keeps_all o) AllFeatures ++ run_if (not o.exclude_no_default_features) NoDefaultFeatures) (map Set (in_turn o sets)) (Set t) (in-map (in_turn o sets) t turned))
+
+pub first-true : (a b : Bool) → (a && b) ≡ true → a ≡ true
+first-true true b h = refl
+first-true false b h = h
+
+nothing-in : (n : ℕ) (sets : List (List ℕ)) (t : List ℕ) → (length sets == 0) ≡ true → Contains sets t → ⊥
+nothing-in n [] t e c = absurd (omega (arith, c.1))
+nothing-in n (s ∷ ss) t e c = absurd (omega (arith, eqb-true (length (s ∷ ss)) 0 e))
+
+-- where the runs are one plain run, there is no set
+plain-none : (o : RunOptions) (sets : List (List ℕ)) (t : List ℕ) → is_plain o sets ≡ true → Contains sets t → ⊥
+plain-none o sets t plain c = nothing-in 0 sets t (first-true (length sets == 0) ((o.normal == 0) && (o.optional == 0) || o.included) plain) c
+
+-- if sets cover, their runs cover too
+pub covering-runs : (w : Wishes) (p : Known) (sets : List (List ℕ)) (runs : List PackageRun) → is_plain (options_of w p) sets ≡ false → AreCovers (choice_of w p) (length (candidates w p)) sets
+    → runs ≡ runs_from (options_of w p) sets → AreCovering w p runs
+covering-runs w p sets runs some covers made s sel wanted =
+    let t = covers s sel wanted in
+    (t.0, t.1, subst (λ l. Contains l (Set t.0)) (sym made) (runs-has (options_of w p) sets t.0 some t.2))
+
+-- so does a single plain run, since then no set has to be covered
+pub covering-plain : (w : Wishes) (p : Known) (sets : List (List ℕ)) (runs : List PackageRun) → is_plain (options_of w p) sets ≡ true → AreCovers (choice_of w p) (length (candidates w p)) sets → AreCovering w p runs
+covering-plain w p sets runs plain covers s sel wanted =
+    let t = covers s sel wanted in
+    absurd (plain-none (options_of w p) sets t.0 plain t.2)
+
+pub or-true : (a : Bool) → (a || true) ≡ true
+or-true true = refl
+or-true false = refl
+
+plain-by : (w : Wishes) (p : Known) (b : Bool) → asks w ≡ b → HasPlainRun w p → RunsBy b w p (Plain ∷ [])
+plain-by w p false is h = refl
+plain-by w p true is h = record {
+  sets = h.sets;
+  are_sets = h.are_sets is;
+  made = ap (λ (b : Bool). if b then Plain ∷ [] else (run_if (keeps_all (options_of w p)) AllFeatures ++ run_if (not w.exclude_no_default_features) NoDefaultFeatures) ++ map Set (in_turn (options_of w p) h.sets)) (sym (h.plain is));
+}
+
+set-runs : (w : Wishes) (p : Known) (runs : List PackageRun) → HasSetRuns w p runs → AreSetRuns w p runs
+set-runs w p runs h = record { sets = h.sets; are_sets = h.are_sets; made = h.made }
+
+-- the runs of a kind are the package's
+pub runs-of_kind : (w : Wishes) (p : Known) (kind : Kind) → IsKind w p kind → AreRuns w p (runs_of kind)
+runs-of_kind w p Normal h = plain-by w p (asks w) refl h
+runs-of_kind w p (Each list runs) h = subst (λ b. RunsBy b w p (runs_of (Each list runs))) (sym (ap (λ b. b || w.powerset) h.0)) (set-runs w p (runs_of (Each list runs)) h.3)
+runs-of_kind w p (Powerset list runs) h = subst (λ b. RunsBy b w p (runs_of (Powerset list runs))) (sym (ap (λ b. w.each || b) h.0 ∙ or-true w.each)) (set-runs w p (runs_of (Powerset list runs)) h.2)
+
+-- what holds of some arguments, package and features holds of those that are equal to them
+pub moved : {A X Y : Type 0} (F : A → X → Y → Type 0) (a b : A) (x x' : X) (y y' : Y) → a ≡ b → Some x' ≡ Some x → Some y' ≡ Some y → F a x y → F b x' y'
+moved F a b x x' y y' ea ex ey h =
+    let e : x' ≡ x = cc in
+    let g : y' ≡ y = cc in
+    subst (λ t. F t x' y') ea (subst (λ t. F a t y') (sym e) (subst (λ t. F a x t) (sym g) h))

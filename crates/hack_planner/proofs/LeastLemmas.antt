@@ -1,0 +1,63 @@
+-- The runs of a package are at least as many as its sets, and one without features.
+use Rattle.std.proofs.Common.{◌≡◌, ◌∙◌, ℕ, ◌+◌, ◌-◌, ◌≤◌, List, [], ◌∷◌, ◌++◌, length, take, drop, map, Bool, true, false, cond, not, Option, None, Some, inl, inr, refl, ap, sym, subst, arith, eqb-true, length-append}
+use Rattle.std.specs.Prelude.{nat_lt, ◌&&◌, ◌||◌, ◌==◌, if◌then◌else◌}
+use Rattle.std.proofs.lemmas.Bool.{cases_Bool}
+use Rattle.std.proofs.lemmas.List.{take-append-drop, length-map}
+use Rattle.hack_features.specs.Rules.{Choice}
+use Rattle.hack_plan.specs.declared.runs.RunOptions.{RunOptions}
+use Rattle.hack_plan.specs.Runs.{PackageRun, Plain, AllFeatures, NoDefaultFeatures, Set, allows_two, in_turn, is_plain, keeps_all, run_if, runs_from, with_last_first}
+use Rattle.hack_planner.specs.Candidates.{Wishes, Known, candidates}
+use Rattle.hack_planner.specs.Kinds.{ArePowersets, AreSets, RunsBy, AreSetRuns, asks, choice_of, options_of}
+use Rattle.hack_planner.specs.Least.{ListsAtLeast, HasRunsAtLeast}
+use Rattle.hack_planner.proofs.KindLemmas.{covering-plain, covering-runs, first-true, or-true}
+
+pub length-turned : (b : Bool) (sets : List (List ℕ)) → length (with_last_first b sets) ≡ length sets
+length-turned true sets =
+    let front = take (length sets - 1) sets in
+    let rest = drop (length sets - 1) sets in
+    omega (arith, length-append rest front, length-append front rest, ap length (take-append-drop (length sets - 1) sets))
+length-turned false sets = refl
+
+length-kept : (excluded : Bool) → length (run_if (not excluded) NoDefaultFeatures) ≡ cond excluded 0 1
+length-kept true = refl
+length-kept false = refl
+
+many-by : (o : RunOptions) (sets : List (List ℕ)) (n least : ℕ) (plain : Bool) → is_plain o sets ≡ plain → n ≤ length sets → least ≤ n + cond o.exclude_no_default_features 0 1 → (n ≡ 0 → least ≡ 0) → least ≤ length (runs_from o sets)
+many-by o sets n least true is enough most none =
+    let empty : length sets ≡ 0 = eqb-true (length sets) 0 (first-true (length sets == 0) ((o.normal == 0) && (o.optional == 0) || o.included) is) in
+    omega (arith, none (omega (arith, enough, empty)))
+many-by o sets n least false is enough most none =
+    let all = run_if (keeps_all o) AllFeatures in
+    let bare = run_if (not o.exclude_no_default_features) NoDefaultFeatures in
+    let turned = in_turn o sets in
+    let made : length (runs_from o sets) ≡ length ((all ++ bare) ++ map Set turned) = ap (λ b. length (if b then Plain ∷ [] else (all ++ bare) ++ map Set turned)) is in
+    omega (
+      arith,
+      made,
+      length-append (all ++ bare) (map Set turned),
+      length-append all bare,
+      length-map turned Set,
+      length-turned (o.powerset && not (keeps_all o) && nat_lt 1 (length sets) && allows_two o.depth) sets,
+      length-kept o.exclude_no_default_features,
+      enough,
+      most,
+    )
+
+-- under a powerset of all sets, a package of so many listed sets
+pub runs-at_least : (w : Wishes) (p : Known) (n least : ℕ) → w.powerset ≡ true → w.strength ≡ None → ListsAtLeast (choice_of w p) (length (candidates w p)) n → least ≤ n + cond w.exclude_no_default_features 0 1 → (n ≡ 0 → least ≡ 0)
+    → HasRunsAtLeast w p least
+runs-at_least w p n least powerset strength h most none =
+    let o = options_of w p in
+    let asked : asks w ≡ true = ap (λ b. w.each || b) powerset ∙ or-true w.each in
+    let listed : ArePowersets w.strength (choice_of w p) (length (candidates w p)) h.sets = subst (λ s. ArePowersets s (choice_of w p) (length (candidates w p)) h.sets) (sym strength) h.listing in
+    let are : AreSets w.powerset w p h.sets = subst (λ b. AreSets b w p h.sets) (sym powerset) listed in
+    let made : AreSetRuns w p (runs_from o h.sets) = record { sets = h.sets; are_sets = are; made = refl } in
+    record {
+      runs = runs_from o h.sets;
+      are_runs = subst (λ b. RunsBy b w p (runs_from o h.sets)) (sym asked) made;
+      covering = elim (cases_Bool (is_plain o h.sets)) [
+        | inl plain ↦ covering-plain w p h.sets (runs_from o h.sets) plain h.covers
+        | inr some ↦ covering-runs w p h.sets (runs_from o h.sets) some h.covers refl
+      ];
+      enough = many-by o h.sets n least (is_plain o h.sets) refl h.enough most none;
+    }

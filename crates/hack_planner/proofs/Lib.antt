@@ -1,0 +1,21 @@
+pub mod Growth
+pub mod CandidateLemmas
+pub mod KindLemmas
+pub mod PackageLemmas
+pub mod DepthLemmas
+pub mod RowLemmas
+pub mod SampleLemmas
+pub mod SetLemmas
+pub mod LeastLemmas
+mod ChosenLemmas
+mod NoteLemmas
+mod FaultLemmas
+mod PlanLemmas
+mod PowersetLemmas
+mod CauseLemmas
+mod MadeLemmas
+mod InputLemmas
+mod OnceLemmas
+mod NeverLemmas
+mod PlanSampleLemmas
+mod LeastPlaceLemmas

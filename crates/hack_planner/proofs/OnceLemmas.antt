@@ -1,0 +1,160 @@
+-- What a call determines: which packages are chosen, and the name, the own version and the runs of
+-- each.
+use Rattle.std.proofs.Common.{◌≡◌, ◌↔◌, refl, sym, ap, subst, ◌∙◌, inl, inr, ℕ, List, [], ◌∷◌, map, filter, length, not, Bool, true, false, Option, Some, None, IsTrue, All, Contains}
+use Rattle.std.specs.List.{AllZip}
+use Rattle.std.proofs.lemmas.List.Elements.{All-contains}
+use Rattle.std.proofs.lemmas.Option.{same_Some}
+use Rattle.hack_base.specs.Names.{Name}
+use Rattle.hack_features.specs.Rules.{IsListed}
+use Rattle.hack_features.specs.Sets.{IsBefore, IsListing, Pairwise}
+use Rattle.hack_features.proofs.CoverLemmas.{before_trans}
+use Rattle.hack_base.proofs.Members.{Contains-cons_cases, Contains-head, Contains-tail, Contains-nil}
+use Rattle.hack_load.specs.Contexts.{ContextRecord, rust_version_at}
+use Rattle.hack_load.proofs.FeatureLemmas.{each-join}
+use Rattle.hack_metadata.specs.Records.{PackageRecord}
+use Rattle.hack_planner.specs.Candidates.{Known, Wishes, candidates}
+use Rattle.hack_planner.specs.CandidatesView.{wishes}
+use Rattle.hack_planner.specs.ContextMembers.{AreChosen, current_name, known_as, members_in}
+use Rattle.hack_planner.specs.Kinds.{ArePowersets, AreRuns, AreSets, RunsBy, asks, choice_of, options_of}
+use Rattle.hack_planner.specs.Members.{Choosing, Collects, ends, taken, left, IsAbout, IsMatched, IsPackageList, Keeps, Member, is_skipped, names_some}
+use Rattle.hack_planner.specs.MembersView.{choosing_of}
+use Rattle.hack_plan.specs.Runs.{PackageRun, runs_from}
+use Rattle.hack_plan.specs.declared.versions.PlanInput.{PlanInput}
+use Rattle.hack_plan.specs.View.{PackageView}
+use Rattle.hack_base.specs.Notes.{Note}
+use Rattle.hack_versions.specs.declared.group.PackageVersion.{PackageVersion}
+use Rattle.hack_versions.specs.declared.version.Version.{Version}
+use Rattle.hack_versions.specs.declared.version.VersionRange.{VersionRange}
+use Rattle.hack_versions.proofs.RangeLemmas.{version-same}
+use Rattle.hack_planner.specs.Calls.{AreMembers, starts, grows, ArePlanned, begins, adds, IsMember, IsOwn, IsPlanned, IsInputOf}
+use Rattle.hack_planner.specs.Made.{run_counts}
+use Rattle.hack_planner.proofs.InputLemmas.{AgreeInputs, AreAlike, map-alike, zip-alike}
+
+-- ---- the chosen packages
+
+-- collecting from one list gives one result
+collects-once : {X Y : Type 0} (P : X → Type 0) (f : X → Y) (xs : List X) (ys zs : List Y) → Collects P f xs ys → Collects P f xs zs → ys ≡ zs
+collects-once P f xs ys zs ends ends = refl
+collects-once P f (x ∷ xs) ys zs (taken {ys = before} h c) (taken {ys = after} k d) = ap (λ l. f x ∷ l) (collects-once P f xs before after c d)
+collects-once P f (x ∷ xs) ys zs (taken h c) (left k d) = absurd (k h)
+collects-once P f (x ∷ xs) ys zs (left h c) (taken k d) = absurd (h k)
+collects-once P f (x ∷ xs) ys zs (left h c) (left k d) = collects-once P f xs ys zs c d
+
+about-once : (named : Bool) (c : Choosing) (members xs ys : List Member) → IsAbout named c members xs → IsAbout named c members ys → xs ≡ ys
+about-once true c members xs ys h k = collects-once (IsMatched c.named) (λ m. m) members xs ys h k
+about-once false c members xs ys h k = h ∙ sym k
+
+listed-once : (c : Choosing) (root : Name) (members : List Member) (places others : List ℕ) (single one : Bool) (notes more : List Note) → IsPackageList c root members places single notes → IsPackageList c root members others one more → places ≡ others
+listed-once c root members places others single one notes more h k =
+    let about : h.about ≡ k.about = about-once (names_some c) c members h.about k.about h.is_about k.is_about in
+    let remain = subst (λ l. Keeps (λ m. ¬ IsMatched c.excluded m) l h.remaining) about h.remain in
+    let remaining : h.remaining ≡ k.remaining = collects-once (λ m. ¬ IsMatched c.excluded m) (λ m. m) k.about h.remaining k.remaining remain k.remain in
+    h.chosen ∙ ap (λ l. map (λ (m : Member). m.place) (filter (λ m. not (is_skipped c m)) l)) remaining ∙ sym k.chosen
+
+-- two choices of one call have the same ids
+pub chosen-once : (cx : ContextRecord) (ids others : List ℕ) (single one : Bool) (notes more : List Note) → AreChosen cx ids single notes → AreChosen cx others one more → ids ≡ others
+chosen-once cx ids others single one notes more h k = listed-once (choosing_of cx.args (current_name cx)) cx.metadata.workspace_root (members_in cx) ids others single one notes more h k
+
+-- ---- their own versions
+
+own-once : (range : Option VersionRange) (text : Option Name) (v w : Option Version) → IsOwn range text v → IsOwn range text w → v ≡ w
+own-once None text v w h k = h ∙ sym k
+own-once (Some range) None v w h k = h ∙ sym k
+own-once (Some range) (Some text) None w h k = absurd h
+own-once (Some range) (Some text) (Some v) None h k = absurd k
+own-once (Some range) (Some text) (Some v) (Some w) h k = ap Some (version-same text v w h k)
+
+member-once : (cx : ContextRecord) (id : ℕ) (m n : PackageVersion) → IsMember cx id m → IsMember cx id n → AreAlike m n
+member-once cx id m n h k = record {
+  name = h.name ∙ ap (λ (p : PackageRecord). p.name) (same_Some h.pkg k.pkg (sym h.known ∙ k.known)) ∙ sym k.name;
+  own = own-once cx.args.version_range (rust_version_at cx id) m.rust_version n.rust_version h.own k.own;
+}
+
+members-each : (cx : ContextRecord) (ids : List ℕ) (members : List PackageVersion) → AreMembers cx ids members → AllZip (IsMember cx) ids members
+members-each cx ids members starts = tt
+members-each cx _ _ (grows {ids} {members} {id} {member} before is) = each-join (IsMember cx) ids (id ∷ []) members (member ∷ []) (members-each cx ids members before) (is, tt)
+
+test-once : (a b : Bool) (P : Type 0) → (IsTrue a ↔ P) → (IsTrue b ↔ P) → a ≡ b
+test-once true b P f g = sym (g.1 (f.0 refl))
+test-once false true P f g = f.1 (g.0 refl)
+test-once false false P f g = refl
+
+-- two inputs of the chosen packages agree
+pub inputs-agree : (cx : ContextRecord) (ids : List ℕ) (s t : PlanInput) → IsInputOf cx ids s → IsInputOf cx ids t → AgreeInputs s t
+inputs-agree cx ids s t h k = record {
+  range = h.range ∙ sym k.range;
+  step = h.step ∙ sym k.step;
+  as_cargo = test-once s.as_cargo t.as_cargo _ h.as_cargo k.as_cargo;
+  targets = h.targets ∙ sym k.targets;
+  cargo_minor = h.cargo_minor ∙ sym k.cargo_minor;
+  members = zip-alike (IsMember cx) AreAlike (member-once cx) ids s.packages.items t.packages.items (members-each cx ids s.packages.items h.members) (members-each cx ids t.packages.items k.members);
+}
+
+-- ---- their runs
+
+strict : (s t : List ℕ) → IsBefore s t → IsBefore t s → ⊥
+strict s t b d = let r = before_trans s t s b d in r.absent r.present
+
+-- where two ordered lists have the same members and the same first one, so do their tails
+behind-in : (x y : List ℕ) (xs ys : List (List ℕ)) → x ≡ y → All (IsBefore x) xs → ((s : List ℕ) → Contains (x ∷ xs) s → Contains (y ∷ ys) s) → (s : List ℕ) → Contains xs s → Contains ys s
+behind-in x y xs ys same before f s c =
+    let behind = All-contains (IsBefore x) xs s before c in
+    elim (Contains-cons_cases y ys s (f s (Contains-tail x xs s c))) [
+      | inl e ↦ let here = subst (IsBefore x) (sym (same ∙ e)) behind in absurd (strict x x here here)
+      | inr d ↦ d
+    ]
+
+-- two ordered lists with the same members are equal
+ordered-once : (xs ys : List (List ℕ)) → Pairwise IsBefore xs → Pairwise IsBefore ys → ((s : List ℕ) → Contains xs s → Contains ys s) → ((s : List ℕ) → Contains ys s → Contains xs s) → xs ≡ ys
+ordered-once [] [] ox oy f g = refl
+ordered-once [] (y ∷ ys) ox oy f g = absurd (Contains-nil y (g y (Contains-head y ys)))
+ordered-once (x ∷ xs) [] ox oy f g = absurd (Contains-nil x (f x (Contains-head x xs)))
+ordered-once (x ∷ xs) (y ∷ ys) ox oy f g =
+    let same : x ≡ y =
+    elim (Contains-cons_cases y ys x (f x (Contains-head x xs))) [
+      | inl e ↦ sym e
+      | inr c ↦ elim (Contains-cons_cases x xs y (g y (Contains-head y ys))) [
+        | inl e ↦ e
+        | inr d ↦ absurd (strict x y (All-contains (IsBefore x) xs y ox.0 d) (All-contains (IsBefore y) ys x oy.0 c))
+      ]
+    ] in
+    let rest : xs ≡ ys = ordered-once xs ys ox.1 oy.1 (behind-in x y xs ys same ox.0 f) (behind-in y x ys xs (sym same) oy.0 g) in
+    ap (λ t. t ∷ xs) same ∙ ap (λ t. y ∷ t) rest
+
+listing-once : (n : ℕ) (P : List ℕ → Type 0) (xs ys : List (List ℕ)) → IsListing n P xs → IsListing n P ys → xs ≡ ys
+listing-once n P xs ys h k = ordered-once xs ys h.ordered k.ordered (λ s c. (k.exact s).1 ((h.exact s).0 c)) (λ s c. (h.exact s).1 ((k.exact s).0 c))
+
+sets-once : (b : Bool) (w : Wishes) (p : Known) (xs ys : List (List ℕ)) → w.strength ≡ None → AreSets b w p xs → AreSets b w p ys → xs ≡ ys
+sets-once true w p xs ys all h k =
+    let c = choice_of w p in
+    let n = length (candidates w p) in
+    listing-once n (IsListed c) xs ys (subst (λ o. ArePowersets o c n xs) all h) (subst (λ o. ArePowersets o c n ys) all k)
+sets-once false w p xs ys all h k = h ∙ sym k
+
+runs-once : (b : Bool) (w : Wishes) (p : Known) (xs ys : List PackageRun) → w.strength ≡ None → RunsBy b w p xs → RunsBy b w p ys → xs ≡ ys
+runs-once true w p xs ys all h k = h.made ∙ ap (runs_from (options_of w p)) (sets-once w.powerset w p h.sets k.sets all h.are_sets k.are_sets) ∙ sym k.made
+runs-once false w p xs ys all h k = h ∙ sym k
+
+-- a package with its runs, as in a plan
+abbrev HasRuns : ContextRecord → ℕ → PackageView → Type 0
+HasRuns cx id k = (single : Bool) × (notes : List Note) × IsPlanned cx single id k notes
+
+package-once : (cx : ContextRecord) → cx.args.strength ≡ None → (id : ℕ) (k l : PackageView) → HasRuns cx id k → HasRuns cx id l → length k.runs ≡ length l.runs
+package-once cx all id k l h i =
+    let a = h.2 in
+    let b = i.2 in
+    let pkg = same_Some a.pkg b.pkg (sym a.known ∙ b.known) in
+    let features = same_Some a.features b.features (sym a.loaded ∙ b.loaded) in
+    let runs = subst (λ q. AreRuns (wishes cx.args) (known_as q b.features) k.runs) pkg (subst (λ f. AreRuns (wishes cx.args) (known_as a.pkg f) k.runs) features a.runs) in
+    ap (λ (rs : List PackageRun). length rs) (runs-once (asks (wishes cx.args)) (wishes cx.args) (known_as b.pkg b.features) k.runs l.runs all runs b.runs)
+
+planned-each : (cx : ContextRecord) (single : Bool) (ids : List ℕ) (packages : List PackageView) (notes : List Note) → ArePlanned cx single ids packages notes → AllZip (HasRuns cx) ids packages
+planned-each cx single ids packages notes begins = tt
+planned-each cx single _ _ _ (adds {ids} {packages} {notes} {id} {k} {more} before is) =
+    each-join (HasRuns cx) ids (id ∷ []) packages (k ∷ []) (planned-each cx single ids packages notes before) ((single, more, is), tt)
+
+-- the number of runs of each chosen package is determined, where there are no samples
+pub counts-once : (cx : ContextRecord) → cx.args.strength ≡ None → (ids : List ℕ) (single one : Bool) (packages others : List PackageView) (notes more : List Note) → ArePlanned cx single ids packages notes → ArePlanned cx one ids others more → run_counts packages ≡ run_counts others
+counts-once cx all ids single one packages others notes more h k =
+    map-alike (λ (p q : PackageView). length p.runs ≡ length q.runs) (λ p. length p.runs) (λ p q e. e) packages others
+    (zip-alike (HasRuns cx) (λ (p q : PackageView). length p.runs ≡ length q.runs) (package-once cx all) ids packages others (planned-each cx single ids packages notes h) (planned-each cx one ids others more k))

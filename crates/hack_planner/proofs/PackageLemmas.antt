@@ -1,0 +1,40 @@
+-- Which packages a call runs on, put together.
+use Rattle.std.proofs.Common.{◌≡◌, ◌∙◌, List, ◌++◌, ◌∷◌, Contains, true, false, refl, sym, ap, subst, arith, string_bytes, append_assoc, map}
+use Rattle.std.proofs.lemmas.List.{map-append}
+use Rattle.std.proofs.lemmas.List.Elements.{Contains-append_right}
+use Rattle.hack_base.specs.Names.{Name}
+use Rattle.hack_base.specs.declared.notice.Notice.{Notice}
+use Rattle.hack_base.specs.Notes.{Note, note_of}
+use Rattle.hack_planner.specs.declared.fault.PackagesFault.{PackagesFault}
+use Rattle.hack_planner.specs.declared.fault.PackagesFault.TheVariants.{Memory, Unmatched}
+use Rattle.hack_planner.specs.Members.{Member, Choosing, AllMatch, names_some}
+use Rattle.hack_planner.specs.ListingView.{IsNamedFault}
+use Rattle.hack_planner.specs.PackagesView.{IsListFault}
+
+-- a call that names no packages has no such error
+pub never-unnamed : (c : Choosing) (ms : List Member) → names_some c ≡ false → (e : PackagesFault) → IsListFault c ms e → ⊥
+never-unnamed c ms f Memory h = h
+never-unnamed c ms f (Unmatched spec) h = let e : true ≡ false = sym h.0 ∙ f in absurd (cc)
+
+among : (before behind : List Name) (spec : Name) → Contains (before ++ spec ∷ behind) spec
+among before behind spec = Contains-append_right before (spec ∷ behind) spec (0, omega arith, refl)
+
+-- nor has a call of which each specification matches a member
+pub never-named : (c : Choosing) (ms : List Member) → AllMatch ms c.named → (e : PackagesFault) → IsListFault c ms e → ⊥
+never-named c ms all Memory h = h
+never-named c ms all (Unmatched spec) h =
+    h.1.unmatched (all (string_bytes spec) (subst (λ l. Contains l (string_bytes spec)) (sym h.1.whole) (among h.1.before h.1.behind (string_bytes spec))))
+
+-- a specification that matches no member is an error of a call that names packages
+pub named-fault : (c : Choosing) (ms : List Member) (specs : List Name) (e : PackagesFault) → specs ≡ c.named → names_some c ≡ true → IsNamedFault ms specs e → IsListFault c ms e
+named-fault c ms specs Memory same some h = h
+named-fault c ms specs (Unmatched spec) same some h = (some, subst (λ l. IsNamedFault ms l (Unmatched spec)) same h)
+
+-- three lists of notices, one after another
+pub three-lists : (a b d ab all : List Notice) (x y : List Note) → ab ≡ a ++ b → all ≡ ab ++ d → map note_of b ≡ x → map note_of d ≡ y → map note_of all ≡ map note_of a ++ (x ++ y)
+three-lists a b d ab all x y eab eall eb ed =
+    ap (map note_of) eall ∙ map-append note_of ab d
+    ∙ ap (λ t. t ++ map note_of d) (ap (map note_of) eab ∙ map-append note_of a b)
+    ∙ append_assoc (map note_of a) (map note_of b) (map note_of d)
+    ∙ ap (λ t. map note_of a ++ (t ++ map note_of d)) eb
+    ∙ ap (λ t. map note_of a ++ (x ++ t)) ed

@@ -1,0 +1,157 @@
+-- The samples of a plan's packages.
+use Rattle.std.proofs.Common.{◌≡◌, ◌≢◌, refl, sym, ap, subst, ◌∙◌, ℕ, ◌<◌, ◌≤◌, List, [], ◌∷◌, ◌⊎◌, inl, inr, length, get_or, map, Bool, true, false, Option, Some, Contains, All}
+use Rattle.std.specs.Prelude.{IsSomeAnd, slice_get, ◌||◌}
+use Rattle.std.proofs.lemmas.List.{get_or_default}
+use Rattle.std.proofs.lemmas.List.Elements.{All-contains}
+use Rattle.std.proofs.lemmas.Option.{slice_get_read}
+use Rattle.hack_base.proofs.Members.{Contains-cons_cases, Contains-head, Contains-tail, Contains-nil, Contains-map}
+use Rattle.hack_features.specs.Rules.{IsListed}
+use Rattle.hack_features.specs.Samples.{IsSample, CoversPatterns, Shows}
+use Rattle.hack_features.specs.Sets.{IsSelection, Pairwise}
+use Rattle.hack_samples.specs.declared.sets.Setting.{Setting}
+use Rattle.hack_load.specs.Contexts.{ContextRecord}
+use Rattle.hack_load.specs.declared.features.Features.{Features}
+use Rattle.hack_metadata.specs.Records.{PackageRecord}
+use Rattle.hack_metadata.specs.View.{place_at}
+use Rattle.hack_metadata.specs.declared.resolve.PackageId.{PackageId}
+use Rattle.hack_planner.specs.Candidates.{Wishes, Known, candidates}
+use Rattle.hack_planner.specs.CandidatesView.{wishes}
+use Rattle.hack_planner.specs.ContextMembers.{AreChosen, known_as}
+use Rattle.hack_planner.specs.Kinds.{ArePowersets, AreSets, AreSetRuns, AreRuns, IsUnsampled, RunsBy, choice_of, options_of}
+use Rattle.hack_planner.specs.KindsView.{IsRunsFault as IsNotSampled}
+use Rattle.hack_samples.specs.declared.fault.SampleFault.{SampleFault}
+use Rattle.hack_samples.specs.declared.fault.SampleFault.TheVariants as questions
+use Rattle.hack_plan.specs.Entries.{HasRun}
+use Rattle.hack_plan.specs.Runs.{PackageRun, Plain, AllFeatures, NoDefaultFeatures, Set, is_plain}
+use Rattle.hack_plan.specs.Inputs.{UsesVersion, slots_of}
+use Rattle.hack_plan.specs.declared.places.PlanEntry.{PlanEntry}
+use Rattle.hack_plan.specs.View.{PackageView, PlanView}
+use Rattle.hack_base.specs.Notes.{Note}
+use Rattle.hack_versions.specs.declared.version.Version.{Version}
+use Rattle.hack_uses.specs.declared.behavior.WorkspaceBehavior.TheVariants.{Cargo}
+use Rattle.hack_planner.specs.Calls.{IsRunsFault, HasRunsFault}
+use Rattle.hack_planner.specs.Covered.{choice_at}
+use Rattle.hack_planner.specs.Made.{IsCause, IsPlan, run_counts}
+use Rattle.hack_planner.specs.Powersets.{sets_of}
+use Rattle.hack_planner.specs.Samples.{IsSampleOf, HaveSamples, HoldsPattern, ArePatternsHeld}
+use Rattle.hack_planner.specs.declared.fault.PlanFault.{PlanFault}
+use Rattle.hack_planner.specs.declared.fault.PlanFault.TheVariants as fault
+use Rattle.hack_planner.proofs.PlanLemmas.{below-count, not-all, planned-at, planned-length, same_some}
+use Rattle.hack_planner.proofs.PowersetLemmas.{apart, apart-turned, from-turned, in-turned, or-true, sets_of-runs}
+
+-- a package whose runs have too many questions has no sample
+pub no-sample : (w : Wishes) (p : Known) (e : SampleFault) → e ≡ questions.TooManyQuestions → (e ≡ questions.Memory) ⊎ IsNotSampled w p e → IsUnsampled w p
+no-sample w p questions.Memory is h = absurd (cc)
+no-sample w p questions.TooManyQuestions is (inl e) = absurd (cc)
+no-sample w p questions.TooManyQuestions is (inr h) = h
+
+-- a package without a sample is one of them
+pub runs-at : (cx : ContextRecord) (ids : List PackageId) (i : ℕ) (d : PackageId) → i < length ids → (e : PlanFault) → IsRunsFault cx (get_or ids i d).index e → HasRunsFault cx (map place_at ids) e
+runs-at cx ids i d lt e bad =
+    ((get_or ids i d).index, Contains-map place_at ids (get_or ids i d) (i, lt, get_or_default ids i (get_or ids i d) d lt), bad)
+
+-- that there is no sample is a cause to refuse the plan
+pub sample-cause : (cx : ContextRecord) (ids : List ℕ) (single : Bool) (notes : List Note) (latest : Option Version) (e : PlanFault) → AreChosen cx ids single notes
+    → (e ≡ fault.Memory) ⊎ HasRunsFault cx ids e → (e ≡ fault.Memory) ⊎ IsCause cx latest e
+sample-cause cx ids single notes latest fault.Memory chosen h = inl refl
+sample-cause cx ids single notes latest (fault.Stable text) chosen (inl e) = absurd (cc)
+sample-cause cx ids single notes latest (fault.Stable text) chosen (inr bad) = absurd bad.2
+sample-cause cx ids single notes latest (fault.Packages e) chosen (inl m) = absurd (cc)
+sample-cause cx ids single notes latest (fault.Packages e) chosen (inr bad) = absurd bad.2
+sample-cause cx ids single notes latest (fault.Version e) chosen (inl m) = absurd (cc)
+sample-cause cx ids single notes latest (fault.Version e) chosen (inr bad) = absurd bad.2
+sample-cause cx ids single notes latest (fault.Range e) chosen (inl m) = absurd (cc)
+sample-cause cx ids single notes latest (fault.Range e) chosen (inr bad) = absurd bad.2
+sample-cause cx ids single notes latest (fault.TooManyQuestions name) chosen (inl e) = absurd (cc)
+sample-cause cx ids single notes latest (fault.TooManyQuestions name) chosen (inr bad) = inr (record { ids = ids; single = single; notes = notes; chosen = chosen; wide = bad })
+sample-cause cx ids single notes latest fault.TooManyRuns chosen (inl e) = absurd (cc)
+sample-cause cx ids single notes latest fault.TooManyRuns chosen (inr bad) = absurd bad.2
+
+-- the sets of a package's runs under a strength
+sample : (w : Wishes) (p : Known) (strength : ℕ) (runs : List PackageRun) → w.powerset ≡ true → w.strength ≡ Some strength → AreRuns w p runs → IsSampleOf (choice_of w p) strength runs
+sample w p strength runs is given made =
+    let c = choice_of w p in
+    let n = length (candidates w p) in
+    let asked = ap (λ b. w.each || b) is ∙ or-true w.each in
+    let h : AreSetRuns w p runs = subst (λ b. RunsBy b w p runs) asked made in
+    let picked : AreSets true w p h.sets = subst (λ b. AreSets b w p h.sets) is h.are_sets in
+    let both : ArePowersets (Some strength) c n h.sets = subst (λ o. ArePowersets o c n h.sets) given picked in
+    let sets = sets_of-runs (options_of w p) h.sets (is_plain (options_of w p) h.sets) refl in
+    let same = ap sets_of h.made ∙ sets.1 in
+    record {
+      listed = λ s there.
+          let in_sets = from-turned sets.0 h.sets s (subst (λ (l : List (List ℕ)). Contains l s) same there) in
+          (All-contains (IsSelection n) h.sets s both.0.selections in_sets, All-contains (IsListed c) h.sets s both.0.listed in_sets);
+      once = subst (Pairwise (λ s t. s ≢ t)) (sym same) (apart-turned sets.0 h.sets (apart h.sets both.0.ordered));
+      covers = λ pattern few s selection listed shows.
+          let by = both.1 pattern few s selection listed shows in
+          record { by = by.by; chosen = subst (λ (l : List (List ℕ)). Contains l by.by) (sym same) (in-turned sets.0 h.sets by.by by.chosen); shows = by.shows };
+    }
+
+-- with a strength each chosen package of a plan has a sample
+pub samples : (cx : ContextRecord) (rustup : List ℕ) (latest : Option Version) (plan : PlanView) (notes : List Note) (strength : ℕ) → IsPlan cx rustup latest plan notes
+    → cx.args.feature_powerset ≡ true → cx.args.strength ≡ Some strength → HaveSamples cx strength plan
+samples cx rustup latest plan notes strength h is given = record {
+  ids = h.ids;
+  single = h.single;
+  notes = h.on_packages;
+  chosen = h.chosen;
+  as_many = planned-length cx h.single h.ids plan.packages h.on_features h.planned;
+  each = λ place id p features at known loaded.
+      let m = planned-at cx h.single h.ids plan.packages h.on_features place id h.planned at in
+      let same_p = same_some m.3.pkg p (sym m.3.known ∙ known) in
+      let same_f = same_some m.3.features features (sym m.3.loaded ∙ loaded) in
+      let runs = subst (λ q. AreRuns (wishes cx.args) (known_as q features) m.0.runs) same_p (subst (λ f. AreRuns (wishes cx.args) (known_as m.3.pkg f) m.0.runs) same_f m.3.runs) in
+      subst (λ o. IsSomeAnd o (λ (k : PackageView). IsSampleOf (choice_at cx p features) strength k.runs)) (sym m.2) (sample (wishes cx.args) (known_as p features) strength m.0.runs is given runs);
+}
+
+-- a set of runs has its run
+in-runs : (runs : List PackageRun) (s : List ℕ) → Contains (sets_of runs) s → Contains runs (Set s)
+in-runs [] s c = absurd (Contains-nil s c)
+in-runs (Plain ∷ runs) s c = Contains-tail Plain runs (Set s) (in-runs runs s c)
+in-runs (AllFeatures ∷ runs) s c = Contains-tail AllFeatures runs (Set s) (in-runs runs s c)
+in-runs (NoDefaultFeatures ∷ runs) s c = Contains-tail NoDefaultFeatures runs (Set s) (in-runs runs s c)
+in-runs (Set t ∷ runs) s c =
+    elim (Contains-cons_cases t (sets_of runs) s c) [
+      | inl e ↦ subst (λ u. Contains (Set t ∷ runs) (Set u)) e (Contains-head (Set t) runs)
+      | inr w ↦ Contains-tail (Set t) runs (Set s) (in-runs runs s w)
+    ]
+
+-- where a package's sample shows a pattern, the plan does
+pattern-at : (cx : ContextRecord) (rustup : List ℕ) (latest : Option Version) (plan : PlanView) (notes : List Note) (h : IsPlan cx rustup latest plan notes) → h.input.as_cargo ≡ false
+    → (place : ℕ) (p : PackageRecord) (features : Features) (version : Option Version) (slot : ℕ) (pattern : List Setting) → UsesVersion h.input.range h.input h.places.0 version place → slot < slots_of h.input version
+    → (k : PackageView) → slice_get plan.packages place ≡ Some k → (s : List ℕ) → Contains (sets_of k.runs) s → Shows (choice_at cx p features) pattern s
+    → HoldsPattern plan version slot place (choice_at cx p features) pattern
+pattern-at cx rustup latest plan notes h each place p features version slot pattern uses within k at s there shows =
+    let run = in-runs k.runs s there in
+    let rank = run.0 in
+    let entry : PlanEntry = record { version = version; slot = slot; «package» = Some place; rank = rank } in
+    let has = subst (λ b. HasRun b h.input (run_counts plan.packages) h.places.0 entry) (sym each) (place, refl, uses, below-count plan.packages place rank k at run.1) in
+    record {
+      rank = rank;
+      set = s;
+      held = h.places.2.complete entry (record { run = has; slot = within });
+      run = subst (λ o. IsSomeAnd o (λ (m : PackageView). slice_get m.runs rank ≡ Some (Set s))) (sym at) (slice_get_read k.runs (length k.runs) rank (Set s) refl run.1 (sym run.2));
+      shows = shows;
+    }
+
+-- with a strength a plan holds a place for each pattern
+pub patterns : (cx : ContextRecord) (rustup : List ℕ) (latest : Option Version) (plan : PlanView) (notes : List Note) (strength : ℕ) → IsPlan cx rustup latest plan notes
+    → cx.args.feature_powerset ≡ true → cx.args.strength ≡ Some strength → ¬ (cx.args.workspace_behavior ≡ Cargo) → ArePatternsHeld cx strength latest plan
+patterns cx rustup latest plan notes strength h is given each = record {
+  ids = h.ids;
+  single = h.single;
+  notes = h.on_packages;
+  input = h.input;
+  steps = h.places.0;
+  chosen = h.chosen;
+  of_call = h.of_call;
+  on_steps = h.places.1;
+  held = λ place id p features version slot pattern s at known loaded uses within few selection listed shows.
+      let m = planned-at cx h.single h.ids plan.packages h.on_features place id h.planned at in
+      let same_p = same_some m.3.pkg p (sym m.3.known ∙ known) in
+      let same_f = same_some m.3.features features (sym m.3.loaded ∙ loaded) in
+      let runs = subst (λ q. AreRuns (wishes cx.args) (known_as q features) m.0.runs) same_p (subst (λ f. AreRuns (wishes cx.args) (known_as m.3.pkg f) m.0.runs) same_f m.3.runs) in
+      let by = (sample (wishes cx.args) (known_as p features) strength m.0.runs is given runs).covers pattern few s selection listed shows in
+      pattern-at cx rustup latest plan notes h (not-all h.input.as_cargo _ h.of_call.as_cargo each) place p features version slot pattern uses within m.0 m.2 by.by by.chosen by.shows;
+}

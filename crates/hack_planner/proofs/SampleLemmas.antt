@@ -1,0 +1,41 @@
+-- Why there is no sample of a package, and what holds of both clauses of a result.
+use Rattle.std.proofs.Common.{◌≡◌, ℕ, ◌≤◌, ◌⊎◌, inl, inr, refl, List, Option, None, Some, Bool, true, Result, Ok, Err, IfOk, IfErr, is_some, arith}
+use Rattle.std.specs.List.{AllZip}
+use Rattle.hack_features.specs.Rules.{Choice}
+use Rattle.hack_plan.specs.Runs.{PackageRun}
+use Rattle.hack_samples.specs.Questions.{IsTired}
+use Rattle.hack_samples.specs.declared.fault.SampleFault.{SampleFault}
+use Rattle.hack_samples.specs.declared.fault.SampleFault.TheVariants as fault
+use Rattle.hack_features.specs.declared.rules.Rules.{Rules}
+use Rattle.hack_features.specs.View.{choice_of, asked_of}
+use Rattle.hack_planner.specs.Candidates.{Wishes, Known}
+use Rattle.hack_planner.specs.Kinds as kinds
+use Rattle.hack_planner.specs.KindsView.{IsRunsFault}
+
+-- an error of rules that were asked as many questions as they may is one of the package
+pub tired : (w : Wishes) (p : Known) (strength : ℕ) (asked : Rules) (end : ℕ) (e : SampleFault) → w.powerset ≡ true → w.strength ≡ Some strength → choice_of asked ≡ kinds.choice_of w p
+    → kinds.most_questions ≤ end → IsTired end (asked_of asked) e → (e ≡ fault.Memory) ⊎ IsRunsFault w p e
+tired w p strength asked end fault.Memory powerset given made_for most at_end = inl refl
+tired w p strength asked end fault.TooManyQuestions powerset given made_for most at_end = inr (record {
+  strength = strength;
+  powerset = powerset;
+  given = given;
+  asked = asked;
+  made_for = made_for;
+  spent = omega (arith, most, at_end);
+})
+
+-- if two things hold of what is returned, so does what follows from both
+pub ok-both : {X E : Type 0} (r : Result X E) (P Q R : X → Type 0) → ((x : X) → P x → Q x → R x) → IfOk r P → IfOk r Q → IfOk r R
+ok-both (Ok x) P Q R f p q = f x p q
+ok-both (Err e) P Q R f p q = tt
+
+-- if something holds of an error, so does what follows from it
+pub err-weaker : {X E : Type 0} (r : Result X E) (P Q : E → Type 0) → ((e : E) → P e → Q e) → IfErr r P → IfErr r Q
+err-weaker (Ok x) P Q f p = tt
+err-weaker (Err e) P Q f p = f e p
+
+-- with a strength the rows of runs are those that are promised
+pub with-strength : (strength : Option ℕ) (c : Choice) (runs : List PackageRun) (rows : List (List Bool)) → is_some strength ≡ true → AllZip (kinds.IsRowOf c) runs rows → kinds.AreRunSettings strength c runs rows
+with-strength None c runs rows some are = absurd (cc)
+with-strength (Some strength) c runs rows some are = are

@@ -1,0 +1,56 @@
+use Rattle.std.proofs.Common.{◌∙◌, List, sym, ap, subst, Some, inr}
+use Rattle.hack_features.specs.Feature.{groups_of}
+use Rattle.hack_base.specs.Names.{names_behind}
+use Rattle.hack_load.specs.ContextView.{context_view}
+use Rattle.hack_metadata.specs.View.{package_view}
+use Rattle.hack_planner.specs.CandidatesView.{wishes}
+use Rattle.hack_planner.specs.ContextMembers.{known_as}
+use Rattle.hack_planner.specs.Kinds.{AreRuns, AreCovering, AreRunSettings, choice_of}
+use Rattle.hack_plan.specs.Runs.{PackageRun}
+use Rattle.hack_features.specs.Sets.{rows_of}
+use Rattle.hack_plan.specs.RunsView.{runs_in}
+use Rattle.hack_words.specs.declared.cli.args.Args.{Args}
+use Rattle.hack_planner.specs.Calls.{given_path}
+use Rattle.hack_planner.proofs.PlanLemmas.{of-kind}
+use Rattle.hack_planner.proofs.PlanSampleLemmas.{no-sample}
+use Rattle.hack_planner.proofs.chosen.chosen_package.Goals as goal
+
+pub returns-clause-ok : goal.returns-clause-ok
+returns-clause-ok c =
+    let cx = context_view c.args.cx.now in
+    let pkg = package_view c.packages-pkg.result.now in
+    let features = c.pkg_features.result.now in
+    let known = c.packages-pkg.ensures in
+    let loaded = c.pkg_features.ensures in
+    let found = c.in-Ok.ensures in
+    let parts = c.in_ok-candidates.ensures in
+    record {
+      pkg = pkg;
+      features = features;
+      known = known;
+      loaded = loaded;
+      name = c.in_ok-from_str.ensures.ok ∙ c.as_str-2.ensures.value;
+      path = c.in_ok-given_path.ensures
+          ∙ ap (λ (a : Args). given_path a.no_manifest_path c.current_dir.result.now (Some pkg)) c.args-2.ensures
+          ∙ ap (λ dir. given_path cx.args.no_manifest_path dir (Some pkg)) c.current_dir.ensures;
+      given = c.in_ok-features.ensures ∙ ap names_behind c.as_slice.ensures.value ∙ c.in_ok-given.ensures.names;
+      candidates = of-kind (wishes cx.args) (known_as pkg features) c.in-Ok.answer.0.kind (groups_of c.in_ok-candidates.candidates.items) (runs_in c.in_ok-candidates.runs) parts.candidates parts.runs (found.kind pkg features known loaded);
+      runs = subst (AreRuns (wishes cx.args) (known_as pkg features)) (sym parts.runs) (found.runs pkg features known loaded);
+      covered = λ powerset all. subst (AreCovering (wishes cx.args) (known_as pkg features)) (sym parts.runs) (found.covered pkg features known loaded powerset all);
+      settings = subst (λ (rs : List PackageRun). AreRunSettings cx.args.strength (choice_of (wishes cx.args) (known_as pkg features)) rs (rows_of c.in-Ok.answer.0.settings.items)) (sym parts.runs) (found.settings pkg features known loaded);
+      told = found.notices pkg features known loaded;
+    }
+
+pub returns-in-Err-TooManyQuestions-clause-err : goal.returns-in-Err-TooManyQuestions-clause-err
+returns-in-Err-TooManyQuestions-clause-err c =
+    let cx = context_view c.args.cx.now in
+    let pkg = package_view c.packages-pkg.result.now in
+    let features = c.pkg_features.result.now in
+    inr (record {
+      pkg = pkg;
+      features = features;
+      known = c.packages-pkg.ensures;
+      loaded = c.pkg_features.ensures;
+      called = c.in_ok-name-in-Err-TooManyQuestions.ensures.ok ∙ c.as_str.ensures.value;
+      wide = no-sample (wishes cx.args) (known_as pkg features) c.in-Err-TooManyQuestions.field-0 c.in-Err-TooManyQuestions.field-0-is (c.in-Err-TooManyQuestions.ensures.err pkg features c.packages-pkg.ensures c.pkg_features.ensures);
+    })

@@ -1,0 +1,11 @@
+use Rattle.std.proofs.Common.{◌≡◌, take, map}
+use Rattle.std.specs.List.{filter_map}
+use Rattle.hack_load.specs.ContextView.{context_view}
+use Rattle.hack_metadata.specs.View.{place_at}
+use Rattle.hack_planner.specs.MembersView.{member_view}
+use Rattle.hack_planner.specs.ContextMembers.{member_at}
+use Rattle.hack_planner.proofs.determine.members_of.Given as goal
+
+-- the members so far
+abbrev pub invariant-loop-id : goal.invariant-loop-id
+invariant-loop-id l = map member_view l.members.items ≡ filter_map (member_at (context_view l.context)) (take l.id-index (map place_at l.id-items))

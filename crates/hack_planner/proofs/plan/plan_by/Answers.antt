@@ -1,0 +1,145 @@
+use Rattle.std.proofs.Common.{◌≡◌, ◌⊎◌, ◌∙◌, sym, ap, subst, List, map, All, Contains}
+use Rattle.std.proofs.lemmas.List.{length-map}
+use Rattle.std.proofs.lemmas.Result.{err_from_is_err_and}
+use Rattle.hack_load.specs.ContextView.{context_view}
+use Rattle.hack_metadata.specs.View.{place_at}
+use Rattle.hack_metadata.specs.declared.resolve.PackageId.{PackageId}
+use Rattle.hack_planner.specs.ContextMembers.{AreChosen}
+use Rattle.hack_plan.specs.Entries.{ArePlaces, HasTooMany}
+use Rattle.hack_plan.specs.Plans.{counts_in}
+use Rattle.hack_plan.specs.Prepared.{ArePrepared}
+use Rattle.hack_plan.specs.View.{CallView, package_view}
+use Rattle.hack_base.specs.Notes.{note_of}
+use Rattle.hack_versions.specs.declared.version.VersionFault.{VersionFault}
+use Rattle.hack_planner.specs.Calls.{IsInputOf, ArePlanned, HasBadOwn, HasRunsFault, left_out_notes}
+use Rattle.hack_planner.specs.Made.{IsCause, run_counts}
+use Rattle.hack_planner.proofs.CauseLemmas.{range-cause, places-cause, counts-same, all-told}
+use Rattle.hack_planner.proofs.NeverLemmas.{no-cause}
+use Rattle.hack_planner.proofs.PlanLemmas.{members-length, planned-length, covers}
+use Rattle.hack_planner.proofs.PlanSampleLemmas.{sample-cause}
+use Rattle.hack_planner.specs.declared.fault.PlanFault.TheVariants as fault
+use Rattle.hack_planner.proofs.plan.plan_by.Goals as goal
+
+pub returns-in_err-versions-clause-err : goal.returns-in_err-versions-clause-err
+returns-in_err-versions-clause-err c =
+    let cx = context_view c.args.cx.now in
+    let ids = c.in_ok-list.list.ids.items in
+    let p = err_from_is_err_and c.from_residual-in_err-versions.result c.from_residual-in_err-versions.ensures.1 in
+    let of_call = subst (λ l. IsInputOf cx (map place_at l) c.in_ok-input.input) c.as_slice.ensures.value c.in_ok-input.ensures.ok in
+    rw (p.1, p.2) (range-cause cx (map place_at ids) c.in_ok-list.list.is_single (map note_of c.in_ok-list.notices.items) c.in_ok-input.input c.args.latest _ c.in_ok-list.ensures.ok of_call c.in_err-versions.ensures.err)
+
+pub chosen_packages-requires : goal.chosen_packages-requires
+chosen_packages-requires c =
+    subst (λ l. All (λ (id : PackageId). Contains (context_view c.args.cx.now).metadata.workspace_members id.index) l) (sym c.as_slice-ids.ensures.value) c.in_ok-list.ensures.members
+
+pub left_out-requires : goal.left_out-requires
+left_out-requires c =
+    subst (λ l. All (λ (id : PackageId). Contains (context_view c.args.cx.now).metadata.workspace_members id.index) l) (sym c.as_slice-ids.ensures.value) c.in_ok-list.ensures.members
+
+pub of_input-requires-clause-packages : goal.of_input-requires-clause-packages
+of_input-requires-clause-packages c =
+    let cx = context_view c.args.cx.now in
+    let ids = c.in_ok-list.list.ids.items in
+    let of_call = subst (λ l. IsInputOf cx (map place_at l) c.in_ok-input.input) c.as_slice.ensures.value c.in_ok-input.ensures.ok in
+    let planned = subst (λ l. ArePlanned cx c.in_ok-list.list.is_single (map place_at l) (map package_view c.in-Ok.answer.0.items) (map note_of c.in-Ok.answer.1.items)) c.as_slice-ids.ensures.value c.in-Ok.ensures.ok in
+    sym (length-map c.in-Ok.answer.0.items package_view)
+    ∙ sym (planned-length cx c.in_ok-list.list.is_single (map place_at ids) _ _ planned)
+    ∙ members-length cx (map place_at ids) c.in_ok-input.input.packages.items of_call.members
+
+pub refuse_too_many-requires-clause-members : goal.refuse_too_many-requires-clause-members
+refuse_too_many-requires-clause-members c =
+    subst (λ l. All (λ (id : PackageId). Contains (context_view c.args.cx.now).metadata.workspace_members id.index) l) (sym c.as_slice-ids.ensures.value) c.in_ok-list.ensures.members
+
+pub refuse_too_many-requires-clause-input : goal.refuse_too_many-requires-clause-input
+refuse_too_many-requires-clause-input c =
+    let cx = context_view c.args.cx.now in
+    subst (λ (l : List PackageId). IsInputOf cx (map place_at l) c.in_ok-input.input) (sym c.as_slice-ids.ensures.value)
+    (subst (λ l. IsInputOf cx (map place_at l) c.in_ok-input.input) c.as_slice.ensures.value c.in_ok-input.ensures.ok)
+
+pub returns-in-Err-clause-err : goal.returns-in-Err-clause-err
+returns-in-Err-clause-err c =
+    let cx = context_view c.args.cx.now in
+    let chosen = subst (λ (l : List PackageId). AreChosen cx (map place_at l) c.in_ok-list.list.is_single (map note_of c.in_ok-list.notices.items)) (sym c.as_slice-ids.ensures.value) c.in_ok-list.ensures.ok in
+    subst (λ v. (c.in-Err.fault ≡ fault.Memory) ⊎ IsCause cx v c.in-Err.fault) c.in_ok-versions.ensures.stable
+    (c.in-Err.ensures c.in_ok-list.list.is_single (map note_of c.in_ok-list.notices.items) chosen)
+
+pub returns-in-Err-chosen_packages-clause-err : goal.returns-in-Err-chosen_packages-clause-err
+returns-in-Err-chosen_packages-clause-err c =
+    let cx = context_view c.args.cx.now in
+    let ids = c.in_ok-list.list.ids.items in
+    let cause = subst (λ (l : List PackageId). (c.in-Err-chosen_packages.fault ≡ fault.Memory) ⊎ HasRunsFault cx (map place_at l) c.in-Err-chosen_packages.fault) c.as_slice-ids.ensures.value c.in-Err-chosen_packages.ensures.err in
+    sample-cause cx (map place_at ids) c.in_ok-list.list.is_single (map note_of c.in_ok-list.notices.items) c.args.latest c.in-Err-chosen_packages.fault c.in_ok-list.ensures.ok cause
+
+pub returns-in-Err-of_input-clause-err : goal.returns-in-Err-of_input-clause-err
+returns-in-Err-of_input-clause-err c =
+    let cx = context_view c.args.cx.now in
+    let ids = c.in_ok-list.list.ids.items in
+    let of_call = subst (λ l. IsInputOf cx (map place_at l) c.in_ok-input.input) c.as_slice.ensures.value c.in_ok-input.ensures.ok in
+    let planned = subst (λ l. ArePlanned cx c.in_ok-list.list.is_single (map place_at l) (map package_view c.in-Ok.answer.0.items) (map note_of c.in-Ok.answer.1.items)) c.as_slice-ids.ensures.value c.in-Ok.ensures.ok in
+    rw c.of_places.ensures (places-cause cx (map place_at ids) c.in_ok-list.list.is_single (map note_of c.in_ok-list.notices.items) c.in_ok-input.input c.in_ok-versions.versions.stable c.args.latest c.in-Ok.answer.0.items (map note_of c.in-Ok.answer.1.items) c.in-Err-of_input.fault c.in_ok-list.ensures.ok of_call planned c.in_ok-versions.ensures.stable c.in-Err-of_input.ensures.err)
+
+pub returns-clause-ok : goal.returns-clause-ok
+returns-clause-ok c = λ rustup call.
+    let cx = context_view c.args.cx.now in
+    let ids = c.in_ok-list.list.ids.items in
+    let single = c.in_ok-list.list.is_single in
+    let input = c.in_ok-input.input in
+    let plan = c.in-Ok-of_input.plan in
+    let packages = c.in-Ok.answer.0.items in
+    let on_features = map note_of c.in-Ok.answer.1.items in
+    let counts = ap run_counts c.in-Ok-of_input.ensures.packages ∙ counts-same packages in
+    let planned = subst (λ l. ArePlanned cx single (map place_at l) (map package_view packages) on_features) c.as_slice-ids.ensures.value c.in-Ok.ensures.ok in
+    record {
+      ids = map place_at ids;
+      single = single;
+      input = input;
+      versions = c.in_ok-versions.versions;
+      on_packages = map note_of c.in_ok-list.notices.items;
+      on_features = on_features;
+      on_range = map note_of c.in_ok-versions.on_range.items;
+      chosen = c.in_ok-list.ensures.ok;
+      of_call = subst (λ l. IsInputOf cx (map place_at l) input) c.as_slice.ensures.value c.in_ok-input.ensures.ok;
+      of_range = c.in_ok-versions.ensures.ok;
+      newest = c.in_ok-versions.ensures.stable;
+      ranged = c.in_ok-versions.ensures.notices;
+      planned = subst (λ ks. ArePlanned cx single (map place_at ids) ks on_features) (sym c.in-Ok-of_input.ensures.packages) planned;
+      call = c.in-Ok-of_input.ensures.call ∙ call;
+      places = subst (λ ns. ArePlaces input ns c.args.latest plan.entries) (sym counts) (subst (λ v. ArePlaces input (counts_in packages) v plan.entries) c.in_ok-versions.ensures.stable c.in-Ok-of_input.ensures.entries);
+      laid = c.in-Ok-of_input.ensures.spans;
+      prepared = subst (λ (k : CallView). ArePrepared k.locked k.clean_per_version plan.versions) call c.in-Ok-of_input.ensures.prepared;
+      told = all-told c.in_ok-list.notices.items c.in-Ok.answer.1.items c.in_ok-versions.on_range.items c.in_ok-on_left_out.on_left_out.items c.append.new.self.items c.append-2.new.self.items c.append-3.new.self.items
+          (left_out_notes cx (map place_at ids) input c.in_ok-versions.versions.groups.items)
+          c.in_ok-append.ensures.items c.in_ok-append-2.ensures.items c.in_ok-append-3.ensures.items
+          (c.in_ok-on_left_out.ensures ∙ ap (λ (l : List PackageId). left_out_notes cx (map place_at l) input c.in_ok-versions.versions.groups.items) c.as_slice-ids.ensures.value);
+      readable = subst (λ (l : List PackageId). (e : VersionFault) → ¬ HasBadOwn cx (map place_at l) e) c.as_slice.ensures.value c.in_ok-input.ensures.never;
+      in_range = c.in_ok-versions.ensures.never;
+      fits = λ many. c.in-Ok-of_input.ensures.never (subst (λ v. HasTooMany input (counts_in packages) v) (sym c.in_ok-versions.ensures.stable) (subst (λ ns. HasTooMany input ns c.args.latest) counts many));
+    }
+
+pub returns-clause-covered : goal.returns-clause-covered
+returns-clause-covered c = λ rustup call powerset all each.
+    covers (context_view c.args.cx.now) rustup c.args.latest c.in-Ok-of_input.plan _ (returns-clause-ok c rustup call) powerset all each
+
+pub returns-clause-never : goal.returns-clause-never
+returns-clause-never c =
+    let cx = context_view c.args.cx.now in
+    let ids = c.in_ok-list.list.ids.items in
+    let single = c.in_ok-list.list.is_single in
+    let input = c.in_ok-input.input in
+    let packages = c.in-Ok.answer.0.items in
+    let on_features = map note_of c.in-Ok.answer.1.items in
+    no-cause cx c.args.latest (record {
+      ids = map place_at ids;
+      single = single;
+      input = input;
+      packages = map package_view packages;
+      notes = map note_of c.in_ok-list.notices.items;
+      on_features = on_features;
+      chosen = c.in_ok-list.ensures.ok;
+      of_call = subst (λ l. IsInputOf cx (map place_at l) input) c.as_slice.ensures.value c.in_ok-input.ensures.ok;
+      planned = subst (λ l. ArePlanned cx single (map place_at l) (map package_view packages) on_features) c.as_slice-ids.ensures.value c.in-Ok.ensures.ok;
+      known = c.in_ok-list.ensures.never;
+      readable = subst (λ (l : List PackageId). (e : VersionFault) → ¬ HasBadOwn cx (map place_at l) e) c.as_slice.ensures.value c.in_ok-input.ensures.never;
+      in_range = c.in_ok-versions.ensures.never;
+      fits = λ many. c.in-Ok-of_input.ensures.never (subst (λ v. HasTooMany input (counts_in packages) v) (sym c.in_ok-versions.ensures.stable) (subst (λ ns. HasTooMany input ns c.args.latest) (counts-same packages) many));
+    })

@@ -1,0 +1,11 @@
+use Rattle.std.proofs.Common.{◌≡◌, ◌++◌, map, take, slice_get}
+use Rattle.std.specs.List.{flat_map}
+use Rattle.hack_load.specs.ContextView.{context_view}
+use Rattle.hack_load.specs.GivenFeatures.{left_out_for}
+use Rattle.hack_metadata.specs.View.{place_at}
+use Rattle.hack_base.specs.Notes.{note_of}
+use Rattle.hack_planner.proofs.plan_notes.add_slot.Given as goal
+
+abbrev pub invariant-loop-place : goal.invariant-loop-place
+invariant-loop-place l = map note_of l.notices.items ≡ map note_of l.fn.notices.items
+    ++ flat_map (λ p. left_out_for (context_view l.cx) (slice_get (map place_at l.ids) p)) (take l.place-index l.places)

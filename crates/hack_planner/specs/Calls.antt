@@ -1,0 +1,166 @@
+-- The input of a plan, from what was loaded.
+use Rattle.std.specs.Prelude.{ℕ, ◌≡◌, ◌++◌, ◌↔◌, ◌⊎◌, List, [], ◌∷◌, Bool, true, false, Option, Some, None, length, Contains, IsTrue, option_and_then, slice_get, string_bytes, if◌then◌else◌}
+use Rattle.std.specs.List.{flat_map, range_with_len}
+use Rattle.hack_base.specs.Names.{Name, names_of}
+use Rattle.hack_base.specs.PathTexts.{under_of}
+use Rattle.hack_metadata.specs.Records.{PackageRecord}
+use Rattle.hack_load.specs.Contexts.{ContextRecord, package_at, features_at, rust_version_at}
+use Rattle.hack_load.specs.GivenFeatures.{passed_for, left_out_for}
+use Rattle.hack_load.specs.declared.features.Features.{Features}
+use Rattle.hack_versions.specs.declared.version.Version.{Version}
+use Rattle.hack_versions.specs.declared.version.VersionFault.{VersionFault}
+use Rattle.hack_versions.specs.declared.version.VersionRange.{VersionRange}
+use Rattle.hack_versions.specs.declared.group.PackageVersion.{PackageVersion}
+use Rattle.hack_versions.specs.declared.group.VersionGroup.{VersionGroup}
+use Rattle.hack_base.specs.Notes.{Note}
+use Rattle.hack_versions.specs.VersionTexts.{IsVersionText, IsVersionFault}
+use Rattle.hack_uses.specs.declared.behavior.WorkspaceBehavior.TheVariants.{Cargo}
+use Rattle.hack_planner.specs.Candidates.{candidates, candidate_notes}
+use Rattle.hack_planner.specs.CandidatesView.{wishes}
+use Rattle.hack_planner.specs.ContextMembers.{known_as}
+use Rattle.hack_planner.specs.Kinds.{AreRuns, AreCovering, AreRunSettings, IsUnsampled, choice_of}
+use Rattle.hack_plan.specs.Runs.{Plain}
+use Rattle.hack_plan.specs.Inputs.{slots_of}
+use Rattle.hack_plan.specs.declared.versions.PlanInput.{PlanInput}
+use Rattle.hack_planner.specs.declared.fault.PlanFault.{PlanFault}
+use Rattle.hack_planner.specs.declared.fault.PlanFault.TheVariants as fault
+use Rattle.hack_plan.specs.View.{CallView, PackageView}
+
+-- the path of a package's manifest as a command is given it; none where commands get none
+abbrev pub given_path : Bool → Name → Option PackageRecord → Option Name
+given_path true dir p = None
+given_path false dir None = None
+given_path false dir (Some p) = Some (under_of p.manifest_path dir)
+
+-- the current package, as cargo locates it
+abbrev pub current_of : ContextRecord → Option PackageRecord
+current_of cx = option_and_then (package_at cx) cx.current_package
+
+-- what all commands of the call have in common
+abbrev pub call_of : ContextRecord → Name → CallView
+call_of cx rustup = record {
+  cargo = cx.cargo;
+  rustup = rustup;
+  passed = names_of cx.args.leading_args.items;
+  trailing = names_of cx.args.trailing_args.items;
+  features = names_of cx.args.features.items;
+  targets = names_of cx.args.target.items;
+  cargo_minor = cx.cargo_minor;
+  locked = cx.args.locked;
+  clean_per_run = cx.args.clean_per_run;
+  clean_per_version = cx.args.clean_per_version;
+  current_manifest = given_path cx.args.no_manifest_path cx.current_dir (current_of cx);
+  dir = cx.current_dir;
+}
+
+-- a text read as a version, where there is a text
+abbrev pub IsOwnText : Option Name → Option Version → Type 0
+IsOwnText None own = own ≡ None
+IsOwnText (Some text) None = ⊥
+IsOwnText (Some text) (Some v) = IsVersionText text v
+
+-- an own version is read exactly where a range of versions is given
+abbrev pub IsOwn : Option VersionRange → Option Name → Option Version → Type 0
+IsOwn None text own = own ≡ None
+IsOwn (Some range) text own = IsOwnText text own
+
+-- the text isn't a version, and a range is given, so that it is read
+abbrev pub IsBadOwn : Option VersionRange → Option Name → VersionFault → Type 0
+IsBadOwn None text e = ⊥
+IsBadOwn (Some range) None e = ⊥
+IsBadOwn (Some range) (Some text) e = IsVersionFault text e
+
+-- a chosen package, with its name and its own version
+pub record IsMember (cx : ContextRecord) (id : ℕ) (member : PackageVersion) : Type 0 where
+  pub pkg : PackageRecord
+  pub known : package_at cx id ≡ Some pkg
+  pub name : string_bytes member.name ≡ pkg.name
+  pub own : IsOwn cx.args.version_range (rust_version_at cx id) member.rust_version
+
+-- the chosen packages, in order
+pub data AreMembers (cx : ContextRecord) : List ℕ → List PackageVersion → Type 0 where
+  starts : AreMembers cx [] []
+  grows : {ids : List ℕ} {members : List PackageVersion} {id : ℕ} {member : PackageVersion} → AreMembers cx ids members → IsMember cx id member → AreMembers cx (ids ++ id ∷ []) (members ++ member ∷ [])
+
+-- what the versions and places of a plan depend on
+pub record IsInputOf (cx : ContextRecord) (ids : List ℕ) (s : PlanInput) : Type 0 where
+  pub range : s.range ≡ cx.args.version_range
+  pub step : s.step ≡ cx.args.version_step
+  pub as_cargo : IsTrue s.as_cargo ↔ (cx.args.workspace_behavior ≡ Cargo)
+  pub targets : s.targets ≡ length cx.args.target.items
+  pub cargo_minor : s.cargo_minor ≡ cx.cargo_minor
+  pub members : AreMembers cx ids s.packages.items
+
+-- the own version of a chosen package can't be read
+abbrev pub HasBadOwn : ContextRecord → List ℕ → VersionFault → Type 0
+HasBadOwn cx ids e = (id : ℕ) × Contains ids id × IsBadOwn cx.args.version_range (rust_version_at cx id) e
+
+-- the error says that
+abbrev pub IsOwnFault : ContextRecord → List ℕ → PlanFault → Type 0
+IsOwnFault cx ids fault.Memory = ⊥
+IsOwnFault cx ids (fault.Stable text) = ⊥
+IsOwnFault cx ids (fault.Packages e) = ⊥
+IsOwnFault cx ids (fault.Version e) = HasBadOwn cx ids e
+IsOwnFault cx ids (fault.Range e) = ⊥
+IsOwnFault cx ids (fault.TooManyQuestions name) = ⊥
+IsOwnFault cx ids fault.TooManyRuns = ⊥
+
+-- a package of this name and these features has no sample
+pub record HasNoSampleAt (cx : ContextRecord) (id : ℕ) (name : Name) : Type 0 where
+  pub pkg : PackageRecord
+  pub features : Features
+  pub known : package_at cx id ≡ Some pkg
+  pub loaded : features_at cx id ≡ Some features
+  pub called : name ≡ pkg.name
+  pub wide : IsUnsampled (wishes cx.args) (known_as pkg features)
+
+-- one of the packages, of this name, has no sample
+abbrev pub HasNoSample : ContextRecord → List ℕ → Name → Type 0
+HasNoSample cx ids name = (id : ℕ) × Contains ids id × HasNoSampleAt cx id name
+
+-- the error says that this package has no sample
+abbrev pub IsRunsFault : ContextRecord → ℕ → PlanFault → Type 0
+IsRunsFault cx id fault.Memory = ⊥
+IsRunsFault cx id (fault.Stable text) = ⊥
+IsRunsFault cx id (fault.Packages e) = ⊥
+IsRunsFault cx id (fault.Version e) = ⊥
+IsRunsFault cx id (fault.Range e) = ⊥
+IsRunsFault cx id (fault.TooManyQuestions name) = HasNoSampleAt cx id (string_bytes name)
+IsRunsFault cx id fault.TooManyRuns = ⊥
+
+-- the error says that one of these packages has no sample
+abbrev pub HasRunsFault : ContextRecord → List ℕ → PlanFault → Type 0
+HasRunsFault cx ids e = (id : ℕ) × Contains ids id × IsRunsFault cx id e
+
+-- a chosen package in the plan: its texts, the features of `--features` that it gets, and its runs
+pub record IsPlanned (cx : ContextRecord) (single : Bool) (id : ℕ) (k : PackageView) (notes : List Note) : Type 0 where
+  pub pkg : PackageRecord
+  pub features : Features
+  pub known : package_at cx id ≡ Some pkg
+  pub loaded : features_at cx id ≡ Some features
+  pub name : k.name ≡ pkg.name
+  pub path : k.manifest_path ≡ given_path cx.args.no_manifest_path cx.current_dir (Some pkg)
+  pub given : k.features ≡ passed_for cx (Some id)
+  pub candidates : (k.candidates ≡ candidates (wishes cx.args) (known_as pkg features)) ⊎ ((k.candidates ≡ []) × (k.runs ≡ Plain ∷ []))
+  pub runs : AreRuns (wishes cx.args) (known_as pkg features) k.runs
+  pub covered : cx.args.feature_powerset ≡ true → cx.args.strength ≡ None → AreCovering (wishes cx.args) (known_as pkg features) k.runs
+  pub settings : AreRunSettings cx.args.strength (choice_of (wishes cx.args) (known_as pkg features)) k.runs k.settings
+  pub told : notes ≡ candidate_notes single (wishes cx.args) (known_as pkg features)
+
+-- the chosen packages, in order, and the notices on their features
+pub data ArePlanned (cx : ContextRecord) (single : Bool) : List ℕ → List PackageView → List Note → Type 0 where
+  begins : ArePlanned cx single [] [] []
+  adds : {ids : List ℕ} {packages : List PackageView} {notes : List Note} {id : ℕ} {k : PackageView} {more : List Note} → ArePlanned cx single ids packages notes → IsPlanned cx single id k more → ArePlanned cx single (ids ++ id ∷ []) (packages ++ k ∷ []) (notes ++ more)
+
+-- the notices on features that a version's packages don't get, for each slot
+abbrev pub version_notes : ContextRecord → List ℕ → PlanInput → Option Version → List ℕ → List Note
+version_notes cx ids s version places = flat_map (λ slot. flat_map (λ p. left_out_for cx (slice_get ids p)) places) (range_with_len 0 (slots_of s version))
+
+-- the same for all versions of a range, or without one
+abbrev pub ranged_notes : ContextRecord → List ℕ → PlanInput → List VersionGroup → Option VersionRange → List Note
+ranged_notes cx ids s groups None = version_notes cx ids s None (range_with_len 0 (length ids))
+ranged_notes cx ids s groups (Some range) = flat_map (λ group. version_notes cx ids s (Some group.version) group.packages.items) groups
+
+-- these notices for each version, slot and package; none where one run is for all
+abbrev pub left_out_notes : ContextRecord → List ℕ → PlanInput → List VersionGroup → List Note
+left_out_notes cx ids s groups = if s.as_cargo then [] else ranged_notes cx ids s groups s.range

@@ -1,0 +1,42 @@
+-- What a loaded call says of packages, and of their features.
+use Rattle.std.specs.Prelude.{ℕ, List, Bool, Option, option_map, option_and_then}
+use Rattle.std.specs.List.{filter_map}
+use Rattle.hack_base.specs.Names.{Name}
+use Rattle.hack_features.specs.Feature.{groups_of}
+use Rattle.hack_load.specs.Contexts.{ContextRecord, package_at, is_private_at}
+use Rattle.hack_load.specs.declared.features.Features.{Features}
+use Rattle.hack_metadata.specs.Records.{PackageRecord}
+use Rattle.hack_base.specs.Notes.{Note}
+use Rattle.hack_planner.specs.declared.fault.PackagesFault.{PackagesFault}
+use Rattle.hack_planner.specs.Members.{Member, IsPackageList}
+use Rattle.hack_planner.specs.MembersView.{choosing_of}
+use Rattle.hack_planner.specs.PackagesView.{IsListFault}
+use Rattle.hack_planner.specs.Candidates.{Known}
+
+-- the package at a place, as a member
+abbrev pub member_at : ContextRecord → ℕ → Option Member
+member_at cx id = option_map (λ p. record { place = id; pkg = p; is_private = is_private_at cx id }) (package_at cx id)
+
+-- the members of the workspace, in their order
+abbrev pub members_in : ContextRecord → List Member
+members_in cx = filter_map (member_at cx) cx.metadata.workspace_members
+
+-- the name of the package at a place
+abbrev pub name_at : ContextRecord → ℕ → Option Name
+name_at cx id = option_map (λ p. p.name) (package_at cx id)
+
+-- the name of the current package
+abbrev pub current_name : ContextRecord → Option Name
+current_name cx = option_and_then (name_at cx) cx.current_package
+
+-- the packages that the call runs on, and the notices about them
+abbrev pub AreChosen : ContextRecord → List ℕ → Bool → List Note → Type 0
+AreChosen cx places is_single notes = IsPackageList (choosing_of cx.args (current_name cx)) cx.metadata.workspace_root (members_in cx) places is_single notes
+
+-- why these packages aren't known
+abbrev pub IsChoiceFault : ContextRecord → PackagesFault → Type 0
+IsChoiceFault cx e = IsListFault (choosing_of cx.args (current_name cx)) (members_in cx) e
+
+-- what is known of a package of the metadata that has these features
+abbrev pub known_as : PackageRecord → Features → Known
+known_as p features = record { name = p.name; map = p.features; normal = groups_of features.normal.items; optional = groups_of features.optional_deps.items; of_deps = groups_of features.deps_features.items }

@@ -1,0 +1,377 @@
+//! The candidates of a package, and the notices about names that it doesn't have.
+
+ghost use Rattle.std.specs.Prelude.{◌≡◌, ◌==◌, ◌++◌, ◌∷◌, [], ◌&&◌, ◌||◌, IfOk, OnOk, true, false};
+ghost use Rattle.std.specs.Prelude.{filter, map, not, option_map, length, if◌then◌else◌};
+ghost use Rattle.std.specs.List.{list_all, list_any};
+ghost use Rattle.hack_base.specs.Names.{names_of};
+ghost use Rattle.hack_features.specs.Feature.{group_of, groups_of};
+ghost use Rattle.hack_base.specs.Notes.{note_of};
+ghost use Rattle.hack_planner.specs.Texts.{feature_text as missing_feature};
+ghost use Rattle.hack_planner.specs.Texts.{dependency_text as missing_dependency};
+ghost use Rattle.hack_planner.specs.Texts.{group_text as skipped_group};
+ghost use Rattle.hack_planner.specs.Members.{warning_note, info_note};
+ghost use Rattle.hack_planner.specs.Candidates.{has_name as name_in, one_has as one_names};
+ghost use Rattle.hack_planner.specs.Candidates.{is_taken as taken_by, stays as stays_for};
+ghost use Rattle.hack_planner.specs.Candidates.{is_asked as asked_by, is_bare as has_none};
+ghost use Rattle.hack_planner.specs.Candidates.{is_known as known_to, applies as applied_to};
+ghost use Rattle.hack_planner.specs.Candidates.{is_found as found_in, names_asked as asked_names};
+ghost use Rattle.hack_planner.specs.Candidates.{candidates as candidates_of, candidate_notes};
+ghost use Rattle.hack_planner.specs.Candidates.{feature_notes as notes_on_features};
+ghost use Rattle.hack_planner.specs.Candidates.{dependency_notes as notes_on_dependencies};
+ghost use Rattle.hack_planner.specs.Candidates.{group_notes as notes_on_groups};
+ghost use Rattle.hack_planner.specs.CandidatesView.{wishes, known_of_package};
+
+use crate::notes::{dependency_text, feature_text, group_text};
+use hack_base::copies::copies;
+use hack_base::notice::{Notice, NoticeKind, tell};
+use hack_features::Feature;
+use hack_load::features::Features;
+use hack_metadata::metadata::Package;
+use hack_words::cli::Args;
+use std::alloc::{AllocError, Global};
+
+/// Whether one of `names` is `name`.
+pub(crate) fn has_name(names: &[String], name: &str) -> bool
+    ensures { result ≡ name_in (names_of names.now) name.now }
+{
+    for own in names {
+        if name == own.as_str() {
+            return true;
+        }
+    }
+    false
+}
+
+/// Whether one of the features, or groups, has the name.
+pub(crate) fn one_has(features: &[Feature], name: &str) -> bool
+    ensures { result ≡ one_names (groups_of features.now) name.now }
+{
+    for feature in features {
+        if has_name(feature.as_group(), name) {
+            return true;
+        }
+    }
+    false
+}
+
+/// Whether one of the names is one of the others.
+fn shares_name(others: &[String], names: &[String]) -> bool
+    ensures { result ≡ list_any (name_in (names_of others.now)) (names_of names.now) }
+{
+    for name in names {
+        if has_name(others, name.as_str()) {
+            return true;
+        }
+    }
+    false
+}
+
+/// Whether the name is excluded or in a group, so that it is no candidate by itself.
+fn is_taken(args: &Args, name: &str) -> bool
+    ensures { result ≡ taken_by (wishes args.now) name.now }
+{
+    has_name(&args.exclude_features, name) || one_has(&args.group_features, name)
+}
+
+/// Whether the feature stays a candidate by itself.
+fn stays(args: &Args, feature: &Feature) -> bool
+    ensures { result ≡ stays_for (wishes args.now) (group_of feature.now) }
+{
+    for name in feature.as_group() {
+        if is_taken(args, name.as_str()) {
+            return false;
+        }
+    }
+    true
+}
+
+/// Whether `--optional-deps` asks for the optional dependency: it has its name, or no names at all.
+fn is_asked(args: &Args, feature: &Feature) -> bool
+    ensures { result ≡ asked_by (wishes args.now).optional_deps (group_of feature.now) }
+{
+    match &args.optional_deps {
+        None => false,
+        Some(asked) => asked.is_empty() || shares_name(asked, feature.as_group()),
+    }
+}
+
+/// Whether a feature or an optional dependency of the package has the name.
+fn is_known(pkg: &Package, features: &Features, name: &str) -> bool
+    ensures { result ≡ known_to (known_of_package pkg.now features.now) name.now }
+{
+    // Only the contract speaks of it.
+    let _ = pkg;
+    one_has(features.normal(), name) || one_has(features.optional_deps(), name)
+}
+
+/// Whether a feature or an optional dependency of the package has each of the names.
+fn are_known(pkg: &Package, features: &Features, names: &[String]) -> bool
+    ensures { result ≡ list_all (known_to (known_of_package pkg.now features.now))
+        (names_of names.now) }
+{
+    for name in names {
+        if !is_known(pkg, features, name.as_str()) {
+            return false;
+        }
+    }
+    true
+}
+
+/// Whether the group is applied to the package. It isn't if it has an unknown name and
+/// `--ignore-unknown-features` is given.
+fn applies(args: &Args, pkg: &Package, features: &Features, group: &Feature) -> bool
+    ensures { result ≡ applied_to (wishes args.now) (known_of_package pkg.now features.now)
+        (group_of
+        group.now) }
+{
+    !args.ignore_unknown_features || are_known(pkg, features, group.as_group())
+}
+
+/// A copy of the feature.
+fn copy_feature(alloc: Global, feature: &Feature) -> Result<Feature, AllocError>
+    ensures { IfOk result (λ copy. group_of copy ≡ group_of feature.now) }
+{
+    match feature {
+        Feature::Normal { name } => Ok(Feature::Normal {
+            name: name.clone()?,
+        }),
+        Feature::Group { name, list } => Ok(Feature::Group {
+            name: name.clone()?,
+            list: copies(alloc, list)?,
+        }),
+        Feature::Path { name, _slash } => Ok(Feature::Path {
+            name: name.clone()?,
+            _slash: *_slash,
+        }),
+    }
+}
+
+/// Adds a copy of the feature to the others, if `taken` is true.
+fn add_if(
+    alloc: Global,
+    found: &mut Vec<Feature>,
+    feature: &Feature,
+    taken: bool,
+) -> Result<(), AllocError>
+    ensures { OnOk result (groups_of found.new.items
+        ≡ groups_of found.old.items ++ (if taken then group_of feature.now ∷ [] else [])) }
+{
+    if taken {
+        found.push(copy_feature(alloc, feature)?)?;
+    }
+    Ok(())
+}
+
+/// Whether the feature is wanted and stays a candidate by itself.
+fn stays_if(args: &Args, feature: &Feature, wanted: bool) -> bool
+    ensures { result ≡ (wanted && stays_for (wishes args.now) (group_of feature.now)) }
+{
+    wanted && stays(args, feature)
+}
+
+/// Whether the optional dependency is asked for, and stays a candidate by itself.
+fn is_offered(args: &Args, feature: &Feature) -> bool
+    ensures { result ≡ (asked_by (wishes args.now).optional_deps (group_of feature.now)
+        && stays_for (wishes args.now) (group_of feature.now)) }
+{
+    is_asked(args, feature) && stays(args, feature)
+}
+
+/// The features that stay candidates by themselves; none if `wanted` is false.
+fn staying_features(
+    alloc: Global,
+    args: &Args,
+    features: &[Feature],
+    wanted: bool,
+) -> Result<Vec<Feature>, AllocError>
+    ensures { IfOk result (λ found. groups_of found.items
+        ≡ filter (λ names. wanted && stays_for (wishes args.now) names) (groups_of features.now)) }
+{
+    let mut found = Vec::new(alloc);
+    for feature in features {
+        let taken = stays_if(args, feature, wanted);
+        add_if(alloc, &mut found, feature, taken)?;
+    }
+    Ok(found)
+}
+
+/// The optional dependencies that are asked for and stay candidates by themselves.
+fn asked_dependencies(
+    alloc: Global,
+    args: &Args,
+    features: &[Feature],
+) -> Result<Vec<Feature>, AllocError>
+    ensures { IfOk result (λ found. groups_of found.items
+        ≡ filter (λ names. asked_by (wishes args.now).optional_deps names
+        && stays_for (wishes args.now) names) (groups_of features.now)) }
+{
+    let mut found = Vec::new(alloc);
+    for feature in features {
+        let taken = is_offered(args, feature);
+        add_if(alloc, &mut found, feature, taken)?;
+    }
+    Ok(found)
+}
+
+/// The groups that are applied to the package.
+fn applied_groups(
+    alloc: Global,
+    args: &Args,
+    pkg: &Package,
+    features: &Features,
+) -> Result<Vec<Feature>, AllocError>
+    ensures { IfOk result (λ found. groups_of found.items
+        ≡ filter (applied_to (wishes args.now) (known_of_package pkg.now features.now))
+        (wishes args.now).groups) }
+{
+    let mut found = Vec::new(alloc);
+    for group in &args.group_features {
+        let taken = applies(args, pkg, features, group);
+        add_if(alloc, &mut found, group, taken)?;
+    }
+    Ok(found)
+}
+
+/// Whether there is no feature.
+pub(crate) fn is_bare(features: &[Feature]) -> bool
+    ensures { result ≡ has_none (groups_of features.now) }
+{
+    features.is_empty()
+}
+
+/// The candidates of a package: what its sets are made of.
+pub(crate) fn candidates(
+    alloc: Global,
+    args: &Args,
+    pkg: &Package,
+    features: &Features,
+) -> Result<Vec<Feature>, AllocError>
+    ensures { IfOk result (λ found. groups_of found.items
+        ≡ candidates_of (wishes args.now) (known_of_package pkg.now features.now)) }
+{
+    if !is_bare(&args.include_features) {
+        return staying_features(alloc, args, &args.include_features, true);
+    }
+    let mut found = staying_features(alloc, args, features.normal(), true)?;
+    let mut optional = asked_dependencies(alloc, args, features.optional_deps())?;
+    let wanted = args.include_deps_features;
+    let mut of_deps = staying_features(alloc, args, features.deps_features(), wanted)?;
+    let mut groups = applied_groups(alloc, args, pkg, features)?;
+    found.append(&mut optional)?;
+    found.append(&mut of_deps)?;
+    found.append(&mut groups)?;
+    Ok(found)
+}
+
+/// Whether the package has the name in one of its lists of features.
+fn is_found(pkg: &Package, features: &Features, name: &str) -> bool
+    ensures { result ≡ found_in (known_of_package pkg.now features.now) name.now }
+{
+    is_known(pkg, features, name) || one_has(features.deps_features(), name)
+}
+
+/// A warning for each excluded name that the package doesn't have.
+fn feature_notes(
+    alloc: Global,
+    args: &Args,
+    pkg: &Package,
+    features: &Features,
+) -> Result<Vec<Notice>, AllocError>
+    ensures { IfOk result (λ notices. map note_of notices.items
+        ≡ notes_on_features (wishes args.now) (known_of_package pkg.now features.now)) }
+{
+    let mut notices = Vec::new(alloc);
+    for name in &args.exclude_features {
+        let text = feature_text(alloc, name.as_str(), pkg.name.as_str())?;
+        let told = !is_found(pkg, features, name.as_str());
+        tell(&mut notices, told, NoticeKind::Warn, text)?;
+    }
+    Ok(notices)
+}
+
+/// The names of `--optional-deps`; none if its list is one empty name.
+fn names_asked(args: &Args) -> &[String]
+    ensures { names_of result.now ≡ asked_names (wishes args.now).optional_deps }
+{
+    match &args.optional_deps {
+        None => &[],
+        Some(names) => without_empty(names),
+    }
+}
+
+/// The names; none if there is only one and it is empty.
+fn without_empty(names: &[String]) -> &[String]
+    ensures { names_of result.now ≡ asked_names (Some (names_of names.now)) }
+{
+    match names {
+        [only] if only.as_str().is_empty() => &[],
+        _ => names,
+    }
+}
+
+/// A warning for each optional dependency that is asked for and that the package doesn't have.
+fn dependency_notes(
+    alloc: Global,
+    args: &Args,
+    pkg: &Package,
+    features: &Features,
+) -> Result<Vec<Notice>, AllocError>
+    ensures { IfOk result (λ notices. map note_of notices.items
+        ≡ notes_on_dependencies (wishes args.now) (known_of_package pkg.now features.now)) }
+{
+    let mut notices = Vec::new(alloc);
+    for name in names_asked(args) {
+        let text = dependency_text(alloc, name.as_str(), pkg.name.as_str())?;
+        let told = !one_has(features.optional_deps(), name.as_str());
+        tell(&mut notices, told, NoticeKind::Warn, text)?;
+    }
+    Ok(notices)
+}
+
+/// A notice for each group that isn't applied to the package.
+fn group_notes(
+    alloc: Global,
+    args: &Args,
+    pkg: &Package,
+    features: &Features,
+) -> Result<Vec<Notice>, AllocError>
+    ensures { IfOk result (λ notices. map note_of notices.items
+        ≡ notes_on_groups (wishes args.now) (known_of_package pkg.now features.now)) }
+{
+    let mut notices = Vec::new(alloc);
+    for group in &args.group_features {
+        let text = group_text(alloc, group.as_group(), pkg.name.as_str())?;
+        let told = !applies(args, pkg, features, group);
+        tell(&mut notices, told, NoticeKind::Info, text)?;
+    }
+    Ok(notices)
+}
+
+/// The notices about the features of a package. `single` says whether no other package is left:
+/// only then are names reported that the package doesn't have.
+pub(crate) fn notes_on(
+    alloc: Global,
+    args: &Args,
+    pkg: &Package,
+    features: &Features,
+    single: bool,
+) -> Result<Vec<Notice>, AllocError>
+    ensures { IfOk result (λ notices. map note_of notices.items
+        ≡ candidate_notes single (wishes args.now) (known_of_package pkg.now features.now)) }
+{
+    if !args.each_feature && !args.feature_powerset {
+        return Ok(Vec::new(alloc));
+    }
+    if !is_bare(&args.include_features) {
+        return Ok(Vec::new(alloc));
+    }
+    let mut groups = group_notes(alloc, args, pkg, features)?;
+    if !single {
+        return Ok(groups);
+    }
+    let mut notices = feature_notes(alloc, args, pkg, features)?;
+    let mut dependencies = dependency_notes(alloc, args, pkg, features)?;
+    notices.append(&mut dependencies)?;
+    notices.append(&mut groups)?;
+    Ok(notices)
+}

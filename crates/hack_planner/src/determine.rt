@@ -1,0 +1,183 @@
+//! Which packages a call runs on, after its context was loaded, and which runs each of them has.
+
+ghost use Rattle.std.specs.Prelude.{◌≡◌, ◌<◌, ◌⊎◌, Contains, IfOk, IfErr, None, Some, length};
+ghost use Rattle.std.specs.Prelude.{map, option_copied, true};
+ghost use Rattle.hack_load.specs.Contexts.{IsWhole, package_at, features_at};
+ghost use Rattle.hack_load.specs.ContextView.{context_view};
+ghost use Rattle.hack_load.specs.declared.features.Features.{Features as Loaded};
+ghost use Rattle.hack_metadata.specs.Records.{PackageRecord};
+ghost use Rattle.hack_base.specs.Notes.{note_of};
+ghost use Rattle.hack_planner.specs.MembersView.{member_view};
+ghost use Rattle.hack_planner.specs.Candidates.{candidate_notes};
+ghost use Rattle.hack_planner.specs.CandidatesView.{wishes};
+ghost use Rattle.hack_planner.specs.Kinds.{AreRuns, AreCovering, IsDepthOne, as_each};
+ghost use Rattle.hack_planner.specs.Kinds.{AreRunSettings, choice_of};
+ghost use Rattle.hack_features.specs.Sets.{rows_of};
+ghost use Rattle.hack_planner.specs.KindsView.{IsKind, IsRunsFault, runs_of};
+ghost use Rattle.hack_planner.specs.Least.{HasRunsAtLeast};
+ghost use Rattle.hack_planner.specs.ContextMembers.{member_at, members_in, name_at as named_at};
+ghost use Rattle.hack_planner.specs.ContextMembers.{current_name as current_called};
+ghost use Rattle.hack_planner.specs.ContextMembers.{AreChosen, IsChoiceFault, known_as};
+
+use crate::fault::PackagesFault;
+use crate::kind::{PackageRuns, determine_runs};
+use crate::least::least_runs;
+use crate::member::Member;
+use crate::packages::{PackageList, choose_packages};
+use hack_base::notice::Notice;
+use hack_features::SampleFault;
+use hack_load::context::Context;
+use hack_metadata::metadata::PackageId;
+use std::alloc::{AllocError, Global};
+
+/// The member of the workspace that has this id.
+fn member_of<'a>(context: &'a Context, id: &PackageId) -> Member<'a>
+    requires member { Contains (context_view context.now).metadata.workspace_members id.now.index }
+    requires whole { IsWhole (context_view context.now) }
+    ensures { member_at (context_view context.now) id.now.index ≡ Some (member_view result) }
+{
+    Member {
+        id: *id,
+        pkg: context.packages(*id),
+        is_private: context.is_private(*id),
+    }
+}
+
+/// The members of the workspace, in their order.
+fn members_of<'a>(alloc: Global, context: &'a Context) -> Result<Vec<Member<'a>>, AllocError>
+    ensures { IfOk result (λ members.
+        map member_view members.items ≡ members_in (context_view context.now)) }
+{
+    let mut members = Vec::new(alloc);
+    for id in context.workspace_members() {
+        members.push(member_of(context, id))?;
+    }
+    Ok(members)
+}
+
+/// The name of a package.
+fn name_at(context: &Context, id: PackageId) -> &str
+    requires { id.index < length (context_view context.now).metadata.packages }
+    ensures { named_at (context_view context.now) id.index ≡ Some result.now }
+{
+    context.packages(id).name.as_str()
+}
+
+/// The name of the current package, if there is one.
+fn current_name(context: &Context) -> Option<&str>
+    ensures { option_copied result ≡ current_called (context_view context.now) }
+{
+    // This call promises that what was loaded fits together.
+    let _ = context.workspace_members();
+    match context.current_package() {
+        Some(id) => Some(name_at(context, id)),
+        None => None,
+    }
+}
+
+/// Returns the packages that a call runs on, and the notices about them. Under `--workspace` they
+/// are all packages of the workspace; else those that the call names; if it names none, the current
+/// one; if there is none, all. Excluded packages are left out, and under `--ignore-private` private
+/// ones too.
+pub fn determine_package_list(
+    alloc: Global,
+    context: &Context,
+) -> Result<(PackageList, Vec<Notice>), PackagesFault>
+    ensures ok { IfOk result (λ answer. AreChosen (context_view context.now)
+        (map (λ id. id.index) answer.0.ids.items) answer.0.is_single (map note_of answer.1.items)) }
+    ensures never { IfOk result (λ _. (e : PackagesFault)
+        → ¬ IsChoiceFault (context_view context.now) e) }
+    ensures err { IfErr result (λ e. (e ≡ PackagesFault.Memory)
+        ⊎ IsChoiceFault (context_view context.now) e) }
+{
+    let members = members_of(alloc, context)?;
+    let current = current_name(context);
+    let root = context.workspace_root();
+    choose_packages(alloc, context.args(), members.as_slice(), current, root)
+}
+
+/// Returns the runs of a member of the workspace, and the notices about its features. `single` says
+/// whether it is the only package that is left after exclusions.
+pub fn determine_kind(
+    alloc: Global,
+    context: &Context,
+    id: PackageId,
+    single: bool,
+) -> Result<(PackageRuns, Vec<Notice>), SampleFault>
+    requires { Contains (context_view context.now).metadata.workspace_members id.index }
+    ensures id { IfOk result (λ answer. answer.0.id ≡ id) }
+    ensures kind { (p : PackageRecord) (features : Loaded)
+        → package_at (context_view context.now) id.index ≡ Some p
+        → features_at (context_view context.now) id.index ≡ Some features
+        → IfOk result (λ answer.
+        IsKind (wishes (context_view context.now).args) (known_as p features) answer.0.kind) }
+    ensures runs { (p : PackageRecord) (features : Loaded)
+        → package_at (context_view context.now) id.index ≡ Some p
+        → features_at (context_view context.now) id.index ≡ Some features
+        → IfOk result (λ answer. AreRuns (wishes (context_view context.now).args)
+        (known_as p features) (runs_of answer.0.kind)) }
+
+    // Under a powerset of all sets, each set of candidates that has to be covered has a run that
+    // covers it.
+    ensures covered { (p : PackageRecord) (features : Loaded)
+        → package_at (context_view context.now) id.index ≡ Some p
+        → features_at (context_view context.now) id.index ≡ Some features
+        → (context_view context.now).args.feature_powerset ≡ true
+        → (context_view context.now).args.strength ≡ None
+        → IfOk result (λ answer. AreCovering (wishes (context_view context.now).args)
+        (known_as p features) (runs_of answer.0.kind)) }
+
+    // For a package with optional dependencies, a powerset of depth 1 without strength, exclusion
+    // groups and at-least-one groups has the runs of `--each-feature`.
+    ensures depth_one { (p : PackageRecord) (features : Loaded)
+        → package_at (context_view context.now) id.index ≡ Some p
+        → features_at (context_view context.now) id.index ≡ Some features
+        → IfOk result (λ answer. IsDepthOne (wishes (context_view context.now).args)
+        → 0 < length (known_as p features).optional
+        → AreRuns (as_each (wishes (context_view context.now).args)) (known_as p features)
+        (runs_of answer.0.kind)) }
+    ensures notices { (p : PackageRecord) (features : Loaded)
+        → package_at (context_view context.now) id.index ≡ Some p
+        → features_at (context_view context.now) id.index ≡ Some features
+        → IfOk result (λ answer. map note_of answer.1.items
+        ≡ candidate_notes single (wishes (context_view context.now).args) (known_as p features)) }
+
+    ensures settings { (p : PackageRecord) (features : Loaded)
+        → package_at (context_view context.now) id.index ≡ Some p
+        → features_at (context_view context.now) id.index ≡ Some features
+        → IfOk result (λ answer. AreRunSettings (context_view context.now).args.strength
+        (choice_of (wishes (context_view context.now).args) (known_as p features))
+        (runs_of answer.0.kind) (rows_of answer.0.settings.items)) }
+
+    // The only error besides out of memory is a sample that needs too many questions.
+    ensures err { (p : PackageRecord) (features : Loaded)
+        → package_at (context_view context.now) id.index ≡ Some p
+        → features_at (context_view context.now) id.index ≡ Some features
+        → IfErr result (λ e. (e ≡ SampleFault.Memory)
+        ⊎ IsRunsFault (wishes (context_view context.now).args) (known_as p features) e) }
+{
+    // This call promises that what was loaded fits together.
+    let _ = context.workspace_members();
+    let pkg = context.packages(id);
+    let features = context.pkg_features(id);
+    determine_runs(alloc, context.args(), id, pkg, features, single)
+}
+
+/// Returns a number, of which a member of the workspace has at least as many runs under a powerset
+/// without a strength. It is found without a list of its sets.
+pub fn least_count(alloc: Global, context: &Context, id: PackageId) -> Result<usize, AllocError>
+    requires member { Contains (context_view context.now).metadata.workspace_members id.index }
+    requires powerset { (context_view context.now).args.feature_powerset ≡ true }
+    requires all { (context_view context.now).args.strength ≡ None }
+    ensures { (p : PackageRecord) (features : Loaded)
+        → package_at (context_view context.now) id.index ≡ Some p
+        → features_at (context_view context.now) id.index ≡ Some features
+        → IfOk result
+        (HasRunsAtLeast (wishes (context_view context.now).args) (known_as p features)) }
+{
+    // This call promises that what was loaded fits together.
+    let _ = context.workspace_members();
+    let pkg = context.packages(id);
+    let features = context.pkg_features(id);
+    least_runs(alloc, context.args(), pkg, features)
+}

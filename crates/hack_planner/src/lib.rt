@@ -1,0 +1,21 @@
+//! The plan of a loaded call: which packages of the workspace it is for, which runs each of them has,
+//! and the plan with its notices.
+#![tactic(auto)]
+
+mod candidates;
+mod chosen;
+pub mod determine;
+pub mod fault;
+mod input;
+pub mod kind;
+mod least;
+mod least_places;
+mod least_sets;
+mod lifts;
+mod listing;
+pub mod member;
+mod notes;
+pub mod packages;
+pub mod plan;
+mod plan_notes;
+mod words;

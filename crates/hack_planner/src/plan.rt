@@ -1,0 +1,182 @@
+//! The plan of a call: what is run, in order, given what was loaded.
+
+ghost use Rattle.std.specs.Prelude.{◌≡◌, ◌⊎◌, All, Contains, IfOk, IfErr, IfSome, IsSome, map};
+ghost use Rattle.std.specs.Prelude.{List, ℕ, None, Option, Ok, Some, true};
+ghost use Rattle.hack_metadata.specs.View.{place_at};
+ghost use Rattle.hack_load.specs.ContextView.{context_view};
+ghost use Rattle.hack_planner.specs.ContextMembers.{AreChosen, IsChoiceFault};
+ghost use Rattle.hack_base.specs.Notes.{note_of};
+ghost use Rattle.hack_versions.specs.RangeSteps.{NeedsStable};
+ghost use Rattle.hack_uses.specs.declared.behavior.WorkspaceBehavior.TheVariants.{Cargo};
+ghost use Rattle.hack_plan.specs.Inputs.{AreVersions, AreNotices, IsVersionsFault};
+ghost use Rattle.hack_plan.specs.View.{call_view};
+ghost use Rattle.hack_planner.specs.Calls.{IsInputOf, HasBadOwn, call_of};
+ghost use Rattle.hack_planner.specs.Covered.{AreCovered};
+ghost use Rattle.hack_planner.specs.Made.{IsPlan, IsCause, IsPlanOf, IsCauseOf, IsListFault};
+ghost use Rattle.hack_planner.specs.Made.{IsRangeFault, IsSureCause, IsSureCauseOf};
+ghost use Rattle.hack_planner.specs.Powersets.{HavePowersets};
+ghost use Rattle.hack_planner.specs.Samples.{HaveSamples, ArePatternsHeld};
+
+use crate::chosen::chosen_packages;
+use crate::fault::{PlanFault, of_packages, of_places, of_range};
+use crate::least_places::refuse_too_many;
+use crate::plan_notes::left_out;
+use crate::input::input;
+use crate::words::call_words;
+use hack_base::notice::Notice;
+use hack_load::context::Context;
+use crate::determine::determine_package_list;
+use crate::fault::PackagesFault;
+use crate::packages::PackageList;
+use hack_plan::versions::{PlanInput, Versions};
+use hack_plan::parts::CommandParts;
+pub use hack_plan::plan::Plan;
+use hack_versions::rustup::RangeFault;
+use hack_versions::version::Version;
+use std::alloc::Global;
+
+/// The plan of a call, and its notices. `rustup` is the program to run as rustup. `stable` is the
+/// version of the toolchain `stable` where the range needs it, or the text of the error of asking
+/// for it.
+pub fn plan_of(
+    alloc: Global,
+    cx: &Context,
+    rustup: &str,
+    stable: Result<Option<Version>, String>,
+) -> Result<(Plan, Vec<Notice>), PlanFault>
+    requires { IsSome (context_view cx.now).args.subcommand
+        → IfSome (context_view cx.now).args.version_range (λ range. NeedsStable range
+        → IfOk stable (λ latest. IsSome latest)) }
+    ensures ok { IfOk result (λ answer. IsPlanOf (context_view cx.now).args.subcommand stable
+        (context_view cx.now) rustup.now answer.0 (map note_of answer.1.items)) }
+
+    // Under a powerset each set of a package's candidates that has to be covered has a place.
+    ensures covered { (latest : Option Version) → stable ≡ Ok latest
+        → IsSome (context_view cx.now).args.subcommand
+        → (context_view cx.now).args.feature_powerset ≡ true
+        → (context_view cx.now).args.strength ≡ None
+        → ¬ ((context_view cx.now).args.workspace_behavior ≡ Cargo)
+        → IfOk result (λ answer. AreCovered (context_view cx.now) latest answer.0) }
+
+    // Under a powerset the sets of each chosen package's runs are exactly the listed ones, each
+    // once.
+    ensures powersets { IsSome (context_view cx.now).args.subcommand
+        → (context_view cx.now).args.feature_powerset ≡ true
+        → (context_view cx.now).args.strength ≡ None
+        → IfOk result (λ answer. HavePowersets (context_view cx.now) answer.0) }
+
+    // With a strength they are a sample of these: each of its sets is listed, and none is there
+    // twice; and each pattern of at most so many candidates that some listed set shows is shown.
+    ensures samples { (strength : ℕ) → IsSome (context_view cx.now).args.subcommand
+        → (context_view cx.now).args.feature_powerset ≡ true
+        → (context_view cx.now).args.strength ≡ Some strength
+        → IfOk result (λ answer. HaveSamples (context_view cx.now) strength answer.0) }
+
+    // Each such pattern has a place, for each package, each version that it uses and each slot.
+    ensures patterns { (strength : ℕ) (latest : Option Version) → stable ≡ Ok latest
+        → IsSome (context_view cx.now).args.subcommand
+        → (context_view cx.now).args.feature_powerset ≡ true
+        → (context_view cx.now).args.strength ≡ Some strength
+        → ¬ ((context_view cx.now).args.workspace_behavior ≡ Cargo)
+        → IfOk result (λ answer. ArePatternsHeld (context_view cx.now) strength latest answer.0) }
+
+    // Where a plan is returned no cause holds: the call is refused exactly where one does. (With a
+    // strength the number of runs is that of the sample that was found.)
+    ensures never { IfOk result (λ _. (e : PlanFault)
+        → ¬ IsSureCauseOf (context_view cx.now).args.subcommand stable (context_view cx.now) e) }
+    ensures err { IfErr result (λ e. (e ≡ PlanFault.Memory)
+        ⊎ IsCauseOf (context_view cx.now).args.subcommand stable (context_view cx.now) e) }
+{
+    let words = call_words(alloc, cx, rustup)?;
+    if cx.args().subcommand.is_none() {
+        return Ok((Plan::empty(alloc, words), Vec::new(alloc)));
+    }
+    match stable {
+        Ok(latest) => plan_by(alloc, cx, words, latest),
+        Err(text) => Err(PlanFault::Stable(text)),
+    }
+}
+
+/// The plan of a call with a subcommand.
+fn plan_by(
+    alloc: Global,
+    cx: &Context,
+    words: CommandParts,
+    latest: Option<Version>,
+) -> Result<(Plan, Vec<Notice>), PlanFault>
+    requires { IfSome (context_view cx.now).args.version_range (λ range. NeedsStable range
+        → IsSome latest) }
+    ensures ok { (rustup : List ℕ) → call_view words ≡ call_of (context_view cx.now) rustup
+        → IfOk result (λ answer. IsPlan (context_view cx.now) rustup latest answer.0
+        (map note_of answer.1.items)) }
+    ensures covered { (rustup : List ℕ) → call_view words ≡ call_of (context_view cx.now) rustup
+        → (context_view cx.now).args.feature_powerset ≡ true
+        → (context_view cx.now).args.strength ≡ None
+        → ¬ ((context_view cx.now).args.workspace_behavior ≡ Cargo)
+        → IfOk result (λ answer. AreCovered (context_view cx.now) latest answer.0) }
+    ensures never { IfOk result (λ _. (e : PlanFault)
+        → ¬ IsSureCause (context_view cx.now) latest e) }
+    ensures err { IfErr result (λ e. (e ≡ PlanFault.Memory)
+        ⊎ IsCause (context_view cx.now) latest e) }
+{
+    let (list, mut notices) = chosen_list(alloc, cx)?;
+    let input = input(alloc, cx, list.ids.as_slice())?;
+    let (versions, mut on_range) = versions_of(alloc, &input, latest)?;
+    let ids = list.ids.as_slice();
+    if let Err(fault) = refuse_too_many(alloc, cx, ids, &input, &versions) {
+        return Err(fault);
+    }
+    let (packages, mut on_features) = match chosen_packages(alloc, cx, ids, list.is_single) {
+        Ok(answer) => answer,
+        Err(fault) => return Err(fault),
+    };
+    let mut on_left_out = left_out(alloc, cx, ids, &input, &versions)?;
+    let plan = match Plan::of_input(alloc, words, packages, &input, &versions) {
+        Ok(plan) => plan,
+        Err(fault) => return Err(of_places(fault)),
+    };
+    notices.append(&mut on_features)?;
+    notices.append(&mut on_range)?;
+    notices.append(&mut on_left_out)?;
+    Ok((plan, notices))
+}
+
+/// The chosen packages.
+fn chosen_list(alloc: Global, cx: &Context) -> Result<(PackageList, Vec<Notice>), PlanFault>
+    ensures ok { IfOk result (λ answer. AreChosen (context_view cx.now)
+        (map place_at answer.0.ids.items) answer.0.is_single (map note_of answer.1.items)) }
+    ensures members { IfOk result (λ answer.
+        All (λ id. Contains (context_view cx.now).metadata.workspace_members id.index)
+        answer.0.ids.items) }
+    ensures never { IfOk result (λ _. (e : PackagesFault)
+        → ¬ IsChoiceFault (context_view cx.now) e) }
+    ensures err { IfErr result (λ e. (e ≡ PlanFault.Memory)
+        ⊎ IsListFault (context_view cx.now) e) }
+{
+    match determine_package_list(alloc, cx) {
+        Ok(answer) => Ok(answer),
+        Err(fault) => Err(of_packages(fault)),
+    }
+}
+
+/// The versions of an input.
+fn versions_of(
+    alloc: Global,
+    input: &PlanInput,
+    latest: Option<Version>,
+) -> Result<(Versions, Vec<Notice>), PlanFault>
+    requires { IfSome input.now.range (λ range. NeedsStable range → IsSome latest) }
+    ensures ok { IfOk result (λ answer. AreVersions input.now answer.0) }
+    ensures stable { IfOk result (λ answer. answer.0.stable ≡ latest) }
+    ensures notices { IfOk result (λ answer. AreNotices input.now.range input.now latest
+        (map note_of answer.1.items)) }
+    ensures never { IfOk result (λ _. (e : RangeFault)
+        → ¬ IsVersionsFault input.now.range input.now latest e) }
+    ensures err { IfErr result (λ e. (e ≡ PlanFault.Memory)
+        ⊎ IsRangeFault input.now latest e) }
+{
+    match Versions::new(alloc, input, latest) {
+        Ok(answer) => Ok(answer),
+        Err(fault) => Err(of_range(fault)),
+    }
+}

@@ -1,8 +1,0 @@
-use Rattle.std.proofs.Common.{◌≡◌, [], map, string_bytes, take}
-use Rattle.hack_process.specs.Commands.{command_of}
-use Rattle.hack_runs.specs.View.{call_view}
-use Rattle.hack_runs.specs.Commands.{plain_command, program_of}
-use Rattle.hack_runs.proofs.parts.CallWords.program.Given as goal
-
-abbrev pub invariant-loop-word : goal.invariant-loop-word
-invariant-loop-word l = command_of l.command ≡ plain_command (program_of (call_view l.fn.self) l.fn.version) (map string_bytes (take l.word-index l.word-items)) []

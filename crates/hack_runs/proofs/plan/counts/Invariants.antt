@@ -1,6 +1,0 @@
-use Rattle.std.proofs.Common.{◌≡◌, take}
-use Rattle.hack_runs.specs.Plans.{counts_in}
-use Rattle.hack_runs.proofs.plan.counts.Given as goal
-
-abbrev pub invariant-loop-member : goal.invariant-loop-member
-invariant-loop-member l = l.counts.items ≡ counts_in (take l.member-index l.packages)

@@ -1,5 +1,0 @@
-use Rattle.hack_suspects.proofs.FaultLemmas.{faults-found}
-use Rattle.hack_suspects.proofs.suspect.finds_faults.Goals as goal
-
-pub returns : goal.returns
-returns c = faults-found
