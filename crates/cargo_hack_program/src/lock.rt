@@ -1,6 +1,6 @@
 //! Locks on the folders of the operating system. No contract says who has them; tests check it.
 
-ghost use Rattle.hack_recovery.specs.Events.{LocksView};
+ghost use Rattle.hack_recovery.specs.LockEvents.{LocksView};
 ghost use Rattle.std.specs.Prelude.{[], false};
 
 use hack_recovery::locks::{Holder, Locks};

@@ -15,9 +15,9 @@ abbrev pub one_more : Option ℕ → Option ℕ
 one_more = option_map (λ n. n + min 1 (2 ^ 64 - 1 - n))
 
 -- a call that fails is counted, and a call that doesn't fail isn't
-abbrev pub Counts : {T E : Type 0} → Option ℕ → Option ℕ → Result T E → Type 0
-Counts old new (Ok done) = new ≡ old
-Counts old new (Err fault) = new ≡ one_more old
+abbrev pub CountsFailure : {T E : Type 0} → Option ℕ → Option ℕ → Result T E → Type 0
+CountsFailure old new (Ok done) = new ≡ old
+CountsFailure old new (Err fault) = new ≡ one_more old
 
 -- a write fails where it answers an error, and where it takes nothing
 abbrev pub CountsWrite : {E : Type 0} → Option ℕ → Option ℕ → Result ℕ E → Type 0

@@ -3,7 +3,7 @@
 ghost use Rattle.std.specs.Prelude.{◌≡◌, ℕ, List, Option, None, Some, OnOk, MatchResult};
 ghost use Rattle.std.specs.Io.{WritesAtMost};
 ghost use Rattle.std.specs.Io.KnownBytes.{Appends, Keeps, WriteAppends};
-ghost use Rattle.hack_base.specs.Writes.{AppendsFront, Counts, CountsErrors, CountsWrite};
+ghost use Rattle.hack_base.specs.Writes.{AppendsFront, CountsFailure, CountsErrors, CountsWrite};
 ghost use Rattle.hack_base.specs.Writes.{HasFailed, NoFewer, line};
 
 use std::io;
@@ -26,7 +26,7 @@ pub trait Sink {
     /// Flushes what was written.
     fn finish(&mut self) -> io::Result<()>
         ensures bytes { Keeps (contents self.old) (contents self.new) }
-        ensures counted { Counts (failed self.old) (failed self.new) result };
+        ensures counted { CountsFailure (failed self.old) (failed self.new) result };
 }
 
 impl<W: Write> Sink for W {

@@ -11,7 +11,8 @@ use Rattle.toml.specs.Data.{Data, string, integer, float, boolean, datetime, arr
 use Rattle.hack_base.specs.Names.{Name}
 use Rattle.hack_manifest.specs.Manifest.{table_at, features_key}
 use Rattle.hack_edits.specs.KeyPaths.{dev_key, target_key}
-use Rattle.hack_edits.specs.Lookup.{normal_key, build_key, has_key, passes, some_table, lists, depends, is_dev_only, is_slash, item_goes}
+use Rattle.hack_edits.specs.Lookup.{normal_key, build_key, has_key, passes, some_table, lists, depends, is_dev_only, item_goes}
+use Rattle.hack_base.specs.PathTexts.{is_slash}
 use Rattle.hack_edits.specs.DevTree.{items_left, array_left, arrays_left, features_left, with_features}
 use Rattle.hack_edits.specs.Tables.{remove_member, with_member}
 

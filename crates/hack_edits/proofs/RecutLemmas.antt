@@ -2,12 +2,12 @@
 use Rattle.std.proofs.Common.{◌≡◌, ◌⊎◌, ℕ, ◌+◌, ◌-◌, ◌<◌, ◌≤◌, List, [], ◌∷◌, ◌++◌, length, map, Bool, true, false, refl, sym, ap, subst, ◌∙◌, inl, inr, arith, length-append, String, string_bytes, string_eq}
 use Rattle.std.proofs.lemmas.List.{take-append-le, get_or_append_left, append-nil}
 use Rattle.hack_base.specs.Names.{Name, names_of}
-use Rattle.hack_manifest.specs.Paths.{View, is_header, IsPath, HavePaths, next_header, AreCut}
-use Rattle.hack_manifest.specs.Runs.{IsLines, IsRun, IsFirstRun, HasNoRun, IsCutInto, stands}
+use Rattle.hack_manifest.specs.Paths.{View, is_header, IsPathOfPiece, HavePaths, next_header, AreCut}
+use Rattle.hack_manifest.specs.LineRuns.{IsLines, IsRun, IsFirstRun, HasNoRun, IsCutInto, stands}
 use Rattle.hack_manifest.proofs.OnceLemmas.{own-once}
-use Rattle.hack_edits.specs.KeyPaths.{is_dev, name_at, dev_key, target_key}
+use Rattle.hack_edits.specs.KeyPaths.{is_dev, path_name_at, dev_key, target_key}
 use Rattle.hack_edits.specs.DevDeps.{some_dev, HasNoDevPiece}
-use Rattle.hack_edits.specs.Recut.{EndsInFeed, KeepsKey, AreRecut}
+use Rattle.hack_edits.specs.LeftPieces.{EndsInFeed, KeepsKey, AreRecut}
 use Rattle.std.specs.Prelude.{◌&&◌, ◌||◌, MatchBool}
 use Rattle.std.specs.Str.{bytes_eq}
 use Rattle.std.specs.Cmp.Lexicographic.{pointwise}
@@ -88,16 +88,16 @@ or_and false false d h = absurd (false≢true h)
 -- a path that begins with one of development dependencies is theirs too
 is_dev-append : (h k : List (List ℕ)) → is_dev h ≡ true → is_dev (h ++ k) ≡ true
 is_dev-append [] k e = absurd (false≢true e)
-is_dev-append (x ∷ []) k e = or_and (bytes_eq x dev_key) (bytes_eq x target_key) (bytes_eq (name_at (x ∷ k) 2) dev_key) e
-is_dev-append (x ∷ y ∷ []) k e = or_and (bytes_eq x dev_key) (bytes_eq x target_key) (bytes_eq (name_at (x ∷ y ∷ k) 2) dev_key) e
+is_dev-append (x ∷ []) k e = or_and (bytes_eq x dev_key) (bytes_eq x target_key) (bytes_eq (path_name_at (x ∷ k) 2) dev_key) e
+is_dev-append (x ∷ y ∷ []) k e = or_and (bytes_eq x dev_key) (bytes_eq x target_key) (bytes_eq (path_name_at (x ∷ y ∷ k) 2) dev_key) e
 is_dev-append (x ∷ y ∷ z ∷ h) k e = e
 
 -- the header in the text that stays: it is the header, unless that was removed
 abbrev Follows : List (List ℕ) → List (List ℕ) → Type 0
 Follows header now = (header ≡ now) ⊎ (is_dev header ≡ true)
 
-path-moved : (header now : List (List ℕ)) (text : List ℕ) (path : List (List ℕ)) → is_dev path ≡ false → Follows header now → IsPath header text path → IsPath now text path
-path-moved header now text path stays (inl same) h = let P : List (List ℕ) → Type 0 = λ t. IsPath t text path in subst P same h
+path-moved : (header now : List (List ℕ)) (text : List ℕ) (path : List (List ℕ)) → is_dev path ≡ false → Follows header now → IsPathOfPiece header text path → IsPathOfPiece now text path
+path-moved header now text path stays (inl same) h = let P : List (List ℕ) → Type 0 = λ t. IsPathOfPiece t text path in subst P same h
 path-moved header now text path stays (inr gone) h =
     record {
       own = h.own;
@@ -143,7 +143,7 @@ record IsCutAgain (header : List Name) (tail text : List ℕ) : Type 0 where
   none : some_dev pieces ≡ false
 
 -- a piece in front
-with-piece : (now : List Name) (p : View) (tail text : List ℕ) → is_dev p.path ≡ false → IsPath now p.text p.path → IsFirstRun (p.text ++ text) (length p.text)
+with-piece : (now : List Name) (p : View) (tail text : List ℕ) → is_dev p.path ≡ false → IsPathOfPiece now p.text p.path → IsFirstRun (p.text ++ text) (length p.text)
     → IsCutAgain (next_header now p) tail text → IsCutAgain now tail (p.text ++ text)
 with-piece now p tail text stays path first again =
     record {
@@ -154,20 +154,20 @@ with-piece now p tail text stays path first again =
     }
 
 -- a key with its names in front
-with-key : (header now : List Name) (p : View) (part tail text : List ℕ) → is_dev p.path ≡ false → Follows header now → IsPath header p.text p.path → KeepsKey p.text part
+with-key : (header now : List Name) (p : View) (part tail text : List ℕ) → is_dev p.path ≡ false → Follows header now → IsPathOfPiece header p.text p.path → KeepsKey p.text part
     → IsFirstRun (part ++ text) (length part) → IsCutAgain now tail text → IsCutAgain now tail (part ++ text)
 with-key header now p part tail text stays f path keeps first again =
     let left : View = record { text = part; path = p.path } in
-    let moved : IsPath now p.text p.path = path-moved header now p.text p.path stays f path in
+    let moved : IsPathOfPiece now p.text p.path = path-moved header now p.text p.path stays f path in
     let P : List Name → Type 0 = λ t. IsCutAgain t tail text in
-    let here : IsPath now part p.path = record {
+    let here : IsPathOfPiece now part p.path = record {
       own = λ is. absurd (false≢true (sym keeps.still_plain ∙ is));
       behind = λ plain. (let (key, own, is) = moved.behind keeps.plain in (keeps.key, keeps.kept, is ∙ ap (λ k. now ++ k) (own-once p.text key keeps.key own keeps.own)));
     } in
     with-piece now left tail text stays here first (subst P (sym (next-plain now left keeps.still_plain)) again)
 
 -- after a piece that is removed, that stays, or that keeps its key
-recut-step : (b : Bool) (p : View) (header now : List Name) (part tail rest new : List ℕ) → is_dev p.path ≡ b → Follows header now → IsPath header p.text p.path
+recut-step : (b : Bool) (p : View) (header now : List Name) (part tail rest new : List ℕ) → is_dev p.path ≡ b → Follows header now → IsPathOfPiece header p.text p.path
     → IsFirstRun (p.text ++ rest) (length p.text) → (length rest ≡ 0 → length new ≡ 0) → MatchBool b (part ≡ []) ((part ≡ p.text) ⊎ KeepsKey p.text part)
     → ((next : List Name) → Follows (next_header header p) next → IsCutAgain next tail new) → IsCutAgain now tail (part ++ new)
 recut-step true p header now part tail rest new gone f path first ends none again =
@@ -175,7 +175,7 @@ recut-step true p header now part tail rest new gone f path first ends none agai
     subst P (sym none) (again now (follows-gone header now p gone f))
 recut-step false p header now part tail rest new stays f path first ends (inl same) again =
     let P : List ℕ → Type 0 = λ t. IsCutAgain now tail (t ++ new) in
-    let moved : IsPath now p.text p.path = path-moved header now p.text p.path stays f path in
+    let moved : IsPathOfPiece now p.text p.path = path-moved header now p.text p.path stays f path in
     let end : (length new ≡ 0) ⊎ EndsInFeed p.text = elim (run-end p.text rest first) [
       | inl none ↦ inl (ends none)
       | inr feed ↦ inr feed

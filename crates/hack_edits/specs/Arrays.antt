@@ -1,6 +1,6 @@
 -- An array of a manifest's piece, and slices cut out between its brackets.
 use Rattle.std.specs.Prelude.{◌≡◌, ◌⊎◌, ℕ, ◌-◌, ◌<◌, List, [], ◌∷◌, ◌++◌, take, drop}
-use Rattle.hack_manifest.specs.Fronts.{IsFirstFrontTo}
+use Rattle.hack_manifest.specs.PieceFronts.{IsFirstFrontTo}
 
 -- new is old with slices cut out
 abbrev pub IsThinned : List ℕ → List ℕ → Type 0

@@ -9,7 +9,7 @@ use Rattle.hack_manifest.specs.Manifest.{features_key}
 use Rattle.hack_manifest.specs.Paths.{View, AreCut, is_header}
 use Rattle.hack_edits.specs.Arrays.{IsCutInside}
 use Rattle.hack_edits.specs.DevTree.{reads_as_left}
-use Rattle.hack_edits.specs.KeyPaths.{target_key, name_at, is_dev}
+use Rattle.hack_edits.specs.KeyPaths.{target_key, path_name_at, is_dev}
 use Rattle.hack_edits.specs.Parts.{AreParts}
 use Rattle.hack_edits.specs.Lookup.{has_dev, has_target_dev, has_dev_under, feature, loses_texts_at}
 
@@ -25,7 +25,7 @@ some_dev ps = list_any is_dev_piece ps
 
 -- the path is that of a feature from whose array texts are removed
 abbrev pub loses_texts : Members → List Name → Bool
-loses_texts old path = (length path == 2 && bytes_eq (name_at path 0) features_key) && loses_texts_at old (feature (name_at path 1) old)
+loses_texts old path = (length path == 2 && bytes_eq (path_name_at path 0) features_key) && loses_texts_at old (feature (path_name_at path 1) old)
 
 -- a piece that stays loses texts
 abbrev pub is_cut : Members → View → Bool
@@ -37,8 +37,8 @@ cuts_arrays old ps = list_any (is_cut old) ps
 
 -- a key with its value at `target` or `target.X`, which holds development dependencies
 abbrev pub holds_inline : Members → View → Bool
-holds_inline old p = (not (is_header p.text) && bytes_eq (name_at p.path 0) target_key)
-    && ((length p.path == 1 && has_target_dev old) || (length p.path == 2 && has_dev_under (name_at p.path 1) old))
+holds_inline old p = (not (is_header p.text) && bytes_eq (path_name_at p.path 0) target_key)
+    && ((length p.path == 1 && has_target_dev old) || (length p.path == 2 && has_dev_under (path_name_at p.path 1) old))
 
 -- some piece does
 abbrev pub some_inline : Members → List View → Bool

@@ -21,16 +21,16 @@ abbrev pub exclude_key : Name
 exclude_key = codes "exclude"
 
 -- a name of a path, empty where there is none
-abbrev pub name_at : List Name → ℕ → Name
-name_at path i = unwrap_or (slice_get path i) []
+abbrev pub path_name_at : List Name → ℕ → Name
+path_name_at path i = unwrap_or (slice_get path i) []
 
 -- the path begins with `dev-dependencies` or `target.X.dev-dependencies`
 abbrev pub is_dev : List Name → Bool
-is_dev path = bytes_eq (name_at path 0) dev_key || (bytes_eq (name_at path 0) target_key && bytes_eq (name_at path 2) dev_key)
+is_dev path = bytes_eq (path_name_at path 0) dev_key || (bytes_eq (path_name_at path 0) target_key && bytes_eq (path_name_at path 2) dev_key)
 
 -- the path is these two names
 abbrev pub is_pair : Name → Name → List Name → Bool
-is_pair a b path = length path == 2 && (bytes_eq (name_at path 0) a && bytes_eq (name_at path 1) b)
+is_pair a b path = length path == 2 && (bytes_eq (path_name_at path 0) a && bytes_eq (path_name_at path 1) b)
 
 -- the piece is a header of just this name
 abbrev pub is_header_of : Name → View → Bool

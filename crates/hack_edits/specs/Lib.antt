@@ -1,13 +1,13 @@
 pub mod KeyPaths
 pub mod Tables
-pub mod Same
+pub mod TreeEquality
 pub mod Arrays
 pub mod Lookup
 pub mod DevTree
 pub mod DevDeps
 pub mod Members
 pub mod Parts
-pub mod Recut
+pub mod LeftPieces
 pub mod Exclude
 pub mod WorkspaceTree
 pub mod PrivateCrates

@@ -5,6 +5,7 @@ use Rattle.toml.specs.Data.{Data, string, array, Items, no_items, item, Members,
 use Rattle.hack_base.specs.Names.{Name}
 use Rattle.hack_manifest.specs.Manifest.{table_at, features_key}
 use Rattle.hack_edits.specs.KeyPaths.{dev_key, target_key}
+use Rattle.hack_base.specs.PathTexts.{is_slash}
 
 abbrev pub normal_key : Name
 normal_key = codes "dependencies"
@@ -46,20 +47,17 @@ has_dev_under name ms = passes (λ targets. passes (has_key dev_key) (table_at n
 abbrev pub has_dev : Members → Bool
 has_dev ms = has_key dev_key ms || has_target_dev ms
 
-abbrev pub is_slash : ℕ → Bool
-is_slash b = b == 47
-
 -- the name is that of a dependency for development alone
 abbrev pub is_dev_only : Name → Members → Bool
 is_dev_only name ms = depends dev_key name ms && not (depends normal_key name ms || depends build_key name ms)
 
 -- a feature's text is removed: before its first `/` it names a dependency for development alone
-abbrev pub goes : Members → Name → Bool
-goes ms text = not (position_or_len is_slash text == length text) && is_dev_only (before_first is_slash text) ms
+abbrev pub is_dropped_text : Members → Name → Bool
+is_dropped_text ms text = not (position_or_len is_slash text == length text) && is_dev_only (before_first is_slash text) ms
 
 -- an array's item is a text that is removed
 abbrev pub item_goes : Members → Data → Bool
-item_goes old (string s) = goes old s
+item_goes old (string s) = is_dropped_text old s
 item_goes old _ = false
 
 -- some item of an array is a text that is removed

@@ -63,9 +63,9 @@ items_of_array (Some (array ds)) = ds
 items_of_array _ = no_items
 
 -- the items of the array at a key of a workspace
-abbrev pub items_at : Name → Members → Items
-items_at k ms = items_of_array (get_member k ms)
+abbrev pub array_items_at : Name → Members → Items
+array_items_at k ms = items_of_array (get_member k ms)
 
--- the folders that have to be excluded
-abbrev pub folders : Name → List Name → Members → List Name
-folders root ps ws = map parent_of (paths_left root ps (items_at members_key ws))
+-- the excluded_folders that have to be excluded
+abbrev pub excluded_folders : Name → List Name → Members → List Name
+excluded_folders root ps ws = map parent_of (paths_left root ps (array_items_at members_key ws))

@@ -10,7 +10,7 @@ use Rattle.hack_manifest.specs.Paths.{View, AreCut}
 use Rattle.hack_edits.specs.Arrays.{IsCutInside}
 use Rattle.hack_edits.specs.Exclude.{with_line, IsAddedInside, adds}
 use Rattle.hack_edits.specs.KeyPaths.{workspace_key, members_key, exclude_key, is_pair, is_header_of}
-use Rattle.hack_edits.specs.Members.{items_at, folders}
+use Rattle.hack_edits.specs.Members.{array_items_at, excluded_folders}
 use Rattle.hack_edits.specs.Parts.{AreParts}
 use Rattle.hack_edits.specs.WorkspaceTree.{takes, has_work, reads_without}
 
@@ -20,7 +20,7 @@ use Rattle.hack_edits.specs.WorkspaceTree.{takes, has_work, reads_without}
 abbrev pub IsMade : Bool → List Name → Members → View → List ℕ → Type 0
 IsMade takes ts ws p part =
     MatchBool (is_pair workspace_key members_key p.path && takes) (IsCutInside p.text part)
-    (MatchBool (is_pair workspace_key exclude_key p.path && adds ts) (IsAddedInside (has_items (items_at exclude_key ws)) ts p.text part)
+    (MatchBool (is_pair workspace_key exclude_key p.path && adds ts) (IsAddedInside (has_items (array_items_at exclude_key ws)) ts p.text part)
     (MatchBool ((is_header_of workspace_key p && not (is_some (get_member exclude_key ws))) && adds ts) (part ≡ with_line ts p.text) (part ≡ p.text)))
 
 -- what is made of the pieces, in order, and the tail
@@ -32,7 +32,7 @@ pub record IsWorkspaceEdit (root : Name) (ps : List Name) (text : List ℕ) (old
   pub pieces : List View
   pub tail : List ℕ
   pub cut : AreCut text pieces tail
-  pub made : AreMade (takes root ps ws) (folders root ps ws) ws pieces tail new
+  pub made : AreMade (takes root ps ws) (excluded_folders root ps ws) ws pieces tail new
   pub tree : reads_without root ps old (parse_document new) ≡ true
 
 -- what is made of a text, by its workspace
@@ -70,18 +70,18 @@ abbrev pub is_array_data : Data → Bool
 is_array_data (array ds) = true
 is_array_data d = false
 
--- folders can't be excluded: `exclude` isn't an array, or there is none and no header `[workspace]`
+-- excluded_folders can't be excluded: `exclude` isn't an array, or there is none and no header `[workspace]`
 abbrev pub no_place : Option Data → List View → Bool
 no_place (Some d) pieces = not (is_array_data d)
 no_place None pieces = not (some_header pieces)
 
--- there is no place for folders to exclude in this workspace
+-- there is no place for excluded_folders to exclude in this workspace
 abbrev pub has_no_place : Members → List View → Bool
 has_no_place ws pieces = no_place (get_member exclude_key ws) pieces
 
--- a form that isn't supported: an inline workspace, or no place for folders to exclude
+-- a form that isn't supported: an inline workspace, or no place for excluded_folders to exclude
 abbrev pub is_bad_form : Name → List Name → Members → List View → Bool
-is_bad_form root ps ws pieces = is_inline workspace_key pieces || (adds (folders root ps ws) && has_no_place ws pieces)
+is_bad_form root ps ws pieces = is_inline workspace_key pieces || (adds (excluded_folders root ps ws) && has_no_place ws pieces)
 
 -- an unsupported form where there is something to take out or add
 pub record HasBadForm (root : Name) (ps : List Name) (text : List ℕ) : Type 0 where

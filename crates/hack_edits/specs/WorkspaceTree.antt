@@ -4,17 +4,17 @@ use Rattle.toml.specs.Data.{Data, string, array, table, Items, Members, get_memb
 use Rattle.hack_base.specs.Names.{Name}
 use Rattle.hack_edits.specs.Exclude.{adds}
 use Rattle.hack_edits.specs.KeyPaths.{workspace_key, members_key, exclude_key}
-use Rattle.hack_edits.specs.Members.{members_left, some_led, items_at, folders}
-use Rattle.hack_edits.specs.Same.{same_members}
+use Rattle.hack_edits.specs.Members.{members_left, some_led, array_items_at, excluded_folders}
+use Rattle.hack_edits.specs.TreeEquality.{same_members}
 use Rattle.hack_edits.specs.Tables.{remove_member, with_member}
 
 -- members are removed
 abbrev pub takes : Name → List Name → Members → Bool
-takes root ps ws = some_led root ps (items_at members_key ws)
+takes root ps ws = some_led root ps (array_items_at members_key ws)
 
 -- there is a member to take out, or a folder to exclude
 abbrev pub has_work : Name → List Name → Members → Bool
-has_work root ps ws = takes root ps ws || adds (folders root ps ws)
+has_work root ps ws = takes root ps ws || adds (excluded_folders root ps ws)
 
 -- the value at `members` with the members that stay
 abbrev pub array_of_members : Name → List Name → Data → Data
@@ -27,21 +27,21 @@ members_put root ps None ms = ms
 members_put root ps (Some d) ms = with_member members_key (array_of_members root ps d) ms
 
 -- with the members that stay
-abbrev pub with_members : Name → List Name → Members → Members
-with_members root ps ws = members_put root ps (get_member members_key ws) (remove_member members_key ws)
+abbrev pub with_members_left : Name → List Name → Members → Members
+with_members_left root ps ws = members_put root ps (get_member members_key ws) (remove_member members_key ws)
 
 -- the items followed by texts
 abbrev pub with_texts : List Name → Items → Items
 with_texts [] ds = ds
 with_texts (t ∷ ts) ds = with_texts ts (push_item ds (string t))
 
--- with folders to exclude, where there are any
+-- with excluded_folders to exclude, where there are any
 abbrev pub with_exclude : List Name → Members → Members
-with_exclude ts ms = if adds ts then with_member exclude_key (array (with_texts ts (items_at exclude_key ms))) (remove_member exclude_key ms) else ms
+with_exclude ts ms = if adds ts then with_member exclude_key (array (with_texts ts (array_items_at exclude_key ms))) (remove_member exclude_key ms) else ms
 
 -- the workspace that is expected
 abbrev pub workspace_left : Name → List Name → Members → Members
-workspace_left root ps ws = with_exclude (folders root ps ws) (with_members root ps ws)
+workspace_left root ps ws = with_exclude (excluded_folders root ps ws) (with_members_left root ps ws)
 
 -- the value that is expected at `workspace`
 abbrev pub workspace_value : Name → List Name → Data → Data

@@ -3,7 +3,7 @@
 
 ghost use Rattle.std.specs.Prelude.{true, false, ◌≡◌, ◌≤◌, ◌<◌, length};
 ghost use Rattle.std.specs.Prelude.{IfOk, IfSome, string_bytes};
-ghost use Rattle.hack_manifest.specs.Fronts.{IsFrontTo, IsFirstFrontTo};
+ghost use Rattle.hack_manifest.specs.PieceFronts.{IsFrontTo, IsFirstFrontTo};
 ghost use Rattle.hack_edits.specs.Arrays.{IsThinned, IsCutInside};
 
 use hack_manifest::runs::stands_alone;

@@ -6,14 +6,14 @@ ghost use Rattle.toml.specs.Parse.{parse_document};
 ghost use Rattle.toml.specs.View.{table_view};
 ghost use Rattle.hack_base.specs.Names.{names_of};
 ghost use Rattle.hack_manifest.specs.Paths.{AreCut};
-ghost use Rattle.hack_manifest.specs.View.{piece_view, slice_view, pieces_view};
+ghost use Rattle.hack_manifest.specs.PieceView.{piece_view, slice_view, pieces_view};
 ghost use Rattle.hack_edits.specs.Arrays.{IsCutInside};
 ghost use Rattle.hack_edits.specs.DevDeps.{some_dev, loses_texts, cuts_arrays, is_cut, some_inline};
 ghost use Rattle.hack_edits.specs.DevDeps.{holds_inline, AreLeft, kept_text};
 ghost use Rattle.hack_edits.specs.DevDeps.{has_dev_work, HasNoDevPiece, IsEdit, IsWithoutDev};
 ghost use Rattle.hack_edits.specs.DevDeps.{HasNoDev, HasInlineTarget, IsMisread};
 ghost use Rattle.hack_edits.specs.DevTree.{reads_as_left};
-ghost use Rattle.hack_edits.specs.Recut.{AreRecut, Leaves};
+ghost use Rattle.hack_edits.specs.LeftPieces.{AreRecut, AppendsWhatIsLeft};
 
 use crate::arrays::without_elements;
 use crate::dev_tree::reads_as;
@@ -160,7 +160,7 @@ fn push_left(
     piece: &Piece<'_>,
     text: &mut String,
 ) -> Result<Option<bool>, AllocError>
-    ensures left { IfOk result (λ o. IfSome o (λ known. Leaves (table_view old.now)
+    ensures left { IfOk result (λ o. IfSome o (λ known. AppendsWhatIsLeft (table_view old.now)
         (piece_view piece.now) known (string_bytes text.old) (string_bytes text.new))) }
     ensures none { IfOk result (λ o. IfNone o
         (is_cut (table_view old.now) (piece_view piece.now) ≡ true)) }
@@ -183,7 +183,7 @@ fn push_thinned(
     text: &mut String,
 ) -> Result<Option<bool>, AllocError>
     requires { is_cut (table_view old.now) (piece_view piece.now) ≡ true }
-    ensures { IfOk result (λ o. IfSome o (λ known. Leaves (table_view old.now)
+    ensures { IfOk result (λ o. IfSome o (λ known. AppendsWhatIsLeft (table_view old.now)
         (piece_view piece.now) known (string_bytes text.old) (string_bytes text.new))) }
 {
     let Some(part) = thinned_feature(alloc, old, piece)? else {

@@ -2,8 +2,8 @@
 
 ghost use Rattle.std.specs.Prelude.{◌≡◌};
 ghost use Rattle.hack_base.specs.Names.{names_of};
-ghost use Rattle.hack_manifest.specs.View.{piece_view};
-ghost use Rattle.hack_edits.specs.KeyPaths.{name_at, is_dev, is_pair, is_header_of};
+ghost use Rattle.hack_manifest.specs.PieceView.{piece_view};
+ghost use Rattle.hack_edits.specs.KeyPaths.{path_name_at, is_dev, is_pair, is_header_of};
 
 use crate::lookup::{DEV, TARGET};
 use hack_manifest::manifest::Piece;
@@ -11,7 +11,7 @@ use hack_manifest::path::starts_table;
 
 /// A name of a path, empty where there is none.
 pub fn name(path: &[String], i: usize) -> &str
-    ensures { result.now ≡ name_at (names_of path.now) i }
+    ensures { result.now ≡ path_name_at (names_of path.now) i }
 {
     match path.get(i) {
         Some(name) => name.as_str(),

@@ -4,7 +4,7 @@ ghost use Rattle.std.specs.Prelude.{◌≡◌, option_map};
 ghost use Rattle.toml.specs.View.{view, table_view, array_view};
 ghost use Rattle.hack_edits.specs.KeyPaths.{dev_key};
 ghost use Rattle.hack_edits.specs.Lookup.{has_key, some_table, lists, depends, has_target_dev};
-ghost use Rattle.hack_edits.specs.Lookup.{has_dev_under, has_dev, is_dev_only, goes, item_goes};
+ghost use Rattle.hack_edits.specs.Lookup.{has_dev_under, has_dev, is_dev_only, is_dropped_text, item_goes};
 ghost use Rattle.hack_edits.specs.Lookup.{some_goes, loses_texts_at, feature};
 
 use hack_manifest::lookup::{find_table, value_at};
@@ -115,7 +115,7 @@ pub fn value_goes(old: &Table, value: &Value) -> bool
 
 /// Returns whether a feature's text is removed with the development dependencies.
 fn text_goes(old: &Table, text: &str) -> bool
-    ensures { result ≡ goes (table_view old.now) text.now }
+    ensures { result ≡ is_dropped_text (table_view old.now) text.now }
 {
     match text.split_once('/') {
         Some((name, _)) => is_dev_alone(old, name),

@@ -11,7 +11,7 @@ ghost use Rattle.hack_base.specs.Names.{names_behind};
 ghost use Rattle.hack_edits.specs.KeyPaths.{members_key};
 ghost use Rattle.hack_edits.specs.Members.{in_order, leads, led_manifest, is_led, paths_not_led_to};
 ghost use Rattle.hack_edits.specs.Members.{item_led};
-ghost use Rattle.hack_edits.specs.Members.{unled_by, some_led, paths_left, items_at};
+ghost use Rattle.hack_edits.specs.Members.{unled_by, some_led, paths_left, array_items_at};
 
 use hack_base::paths::{join, normal};
 use hack_manifest::lookup::value_at;
@@ -75,10 +75,10 @@ pub fn chosen<'a>(
 ) -> Result<Choice<'a>, AllocError>
     ensures some { IfOk result (λ c. c.some
         ≡ some_led root.now (names_behind paths.now)
-        (items_at members_key (table_view workspace.now))) }
+        (array_items_at members_key (table_view workspace.now))) }
     ensures paths { IfOk result (λ c. names_behind c.paths.items
         ≡ paths_left root.now (names_behind paths.now)
-        (items_at members_key (table_view workspace.now))) }
+        (array_items_at members_key (table_view workspace.now))) }
 {
     match value_at(workspace, MEMBERS) {
         Some(value) => match value {

@@ -8,9 +8,9 @@ ghost use Rattle.toml.specs.View.{view, table_view};
 ghost use Rattle.hack_base.specs.PathTexts.{parent_of};
 ghost use Rattle.hack_base.specs.Names.{names_behind};
 ghost use Rattle.hack_manifest.specs.Manifest.{table_at};
-ghost use Rattle.hack_manifest.specs.View.{piece_view, slice_view};
+ghost use Rattle.hack_manifest.specs.PieceView.{piece_view, slice_view};
 ghost use Rattle.hack_edits.specs.KeyPaths.{workspace_key, exclude_key};
-ghost use Rattle.hack_edits.specs.Members.{in_order, items_at, folders};
+ghost use Rattle.hack_edits.specs.Members.{in_order, array_items_at, excluded_folders};
 ghost use Rattle.hack_edits.specs.PrivateCrates.{IsMade, AreMade, IsWorkspaceEdit};
 ghost use Rattle.hack_edits.specs.PrivateCrates.{IsWithoutPrivate};
 ghost use Rattle.hack_edits.specs.PrivateCrates.{some_control, some_path_control, some_header};
@@ -113,7 +113,7 @@ fn without_private(
     requires takes { choice.now.some
         ≡ takes root.now (names_behind private.now) (table_view workspace.now) }
     requires adds { map parent_of (names_behind choice.now.paths.items)
-        ≡ folders root.now (names_behind private.now) (table_view workspace.now) }
+        ≡ excluded_folders root.now (names_behind private.now) (table_view workspace.now) }
     requires work { has_work root.now (names_behind private.now) (table_view workspace.now) ≡ true }
     ensures ok { IfOk result (λ s. IsWorkspaceEdit root.now (names_behind private.now) text.now
         (table_view old) (table_view workspace.now) (string_bytes s)) }
@@ -203,7 +203,7 @@ fn made_of(
 
 /// Whether the workspace excludes something.
 fn is_filled(workspace: &Table) -> bool
-    ensures { result ≡ has_items (items_at exclude_key (table_view workspace.now)) }
+    ensures { result ≡ has_items (array_items_at exclude_key (table_view workspace.now)) }
 {
     match value_at(workspace, EXCLUDE) {
         Some(value) => match value {

@@ -2,7 +2,7 @@
 
 ghost use Rattle.std.specs.Prelude.{◌≡◌, true, false, length, IfOk, IsTrue, IsFalse};
 ghost use Rattle.hack_base.specs.Names.{names_of};
-ghost use Rattle.hack_edits.specs.Recut.{EndsInFeed, KeepsKey};
+ghost use Rattle.hack_edits.specs.LeftPieces.{EndsInFeed, KeepsKey};
 
 use hack_manifest::path::{path_of, starts_table};
 use hack_manifest::runs::first_run;

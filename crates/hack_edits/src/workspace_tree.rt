@@ -7,7 +7,7 @@ ghost use Rattle.toml.specs.View.{view, table_view, array_view};
 ghost use Rattle.hack_base.specs.PathTexts.{parent_of};
 ghost use Rattle.hack_base.specs.Names.{names_behind};
 ghost use Rattle.hack_edits.specs.Members.{members_left, items_of_array};
-ghost use Rattle.hack_edits.specs.WorkspaceTree.{array_of_members, members_put, with_members};
+ghost use Rattle.hack_edits.specs.WorkspaceTree.{array_of_members, members_put, with_members_left};
 ghost use Rattle.hack_edits.specs.WorkspaceTree.{with_texts, with_exclude, workspace_left};
 ghost use Rattle.hack_edits.specs.WorkspaceTree.{workspace_value, with_workspace, tree_left};
 ghost use Rattle.hack_edits.specs.WorkspaceTree.{reads_without};
@@ -128,7 +128,7 @@ fn keep_members(
     workspace: Table,
 ) -> Result<Table, AllocError>
     ensures { IfOk result (λ t. table_view t
-        ≡ with_members root.now (names_behind paths.now) (table_view workspace)) }
+        ≡ with_members_left root.now (names_behind paths.now) (table_view workspace)) }
 {
     let mut all = workspace;
     let members = all.remove(MEMBERS);

@@ -5,7 +5,7 @@ use Rattle.std.specs.List.{list_all}
 use Rattle.std.proofs.lemmas.List.Folds.{list_all-append}
 use Rattle.std.proofs.lemmas.List.Sums.{sum_by-cons}
 use Rattle.hack_features.specs.declared.rules.Rules.{Rules}
-use Rattle.hack_features.specs.Sets.{rows_of}
+use Rattle.hack_samples.specs.Sets.{rows_of}
 use Rattle.hack_features.specs.Tables.{keeps_depth, is_lean, is_exclusive, cell, count_at}
 use Rattle.hack_features.specs.View.{may_of}
 

@@ -9,7 +9,7 @@ use Rattle.std.proofs.lemmas.Bool.Decides.{eqb_tells}
 use Rattle.hack_base.proofs.Members.{lt_or_same, Contains-nil}
 use Rattle.hack_features.proofs.ReachLemmas.{Chain-snoc, Chain-kept}
 use Rattle.hack_features.specs.FeatureMap.{Chain, here, step}
-use Rattle.hack_features.specs.Sets.{rows_of}
+use Rattle.hack_samples.specs.Sets.{rows_of}
 use Rattle.hack_features.specs.Tables.{bit}
 use Rattle.hack_features.specs.Places.{Leads, AddsPlaces, AreMarked, ones}
 

@@ -13,7 +13,7 @@ use Rattle.hack_samples.specs.Sets.{has, has_one_of}
 use Rattle.hack_base.proofs.Members.{Contains-nil, Contains-cons_cases, Contains-head, Contains-tail}
 use Rattle.hack_base.proofs.Passes.{some_passes, any_passes, all_pass, each_passes}
 use Rattle.hack_features.specs.declared.rules.Rules.{Rules}
-use Rattle.hack_features.specs.Sets.{rows_of}
+use Rattle.hack_samples.specs.Sets.{rows_of}
 use Rattle.hack_features.specs.Tables.{keeps_depth, is_lean, is_exclusive, cell, count_at, bit}
 use Rattle.hack_features.specs.View.{may_of}
 use Rattle.hack_features.specs.Samples.{positions_from, positions_of}

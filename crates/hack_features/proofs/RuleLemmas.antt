@@ -3,12 +3,13 @@ use Rattle.std.proofs.Common.{◌≡◌, ℕ, List, length, refl, sym, ◌∙◌
 use Rattle.std.specs.Prelude.{◌==◌, not}
 use Rattle.std.proofs.lemmas.Bool.{and_parts, and_from, leb-true, le-leb}
 use Rattle.hack_features.specs.declared.rules.Rules.{Rules}
-use Rattle.hack_features.specs.Sets.{IsSelection, IsWithin, IsListing, rows_of, items_at}
+use Rattle.hack_features.specs.Sets.{IsSelection, IsWithin, IsListing, items_at}
+use Rattle.hack_samples.specs.Sets.{rows_of}
 use Rattle.hack_features.specs.Rules.{Choice, IsRequired, IsPermitted, IsListed, IsWanted, Covers, AreSingle, EnableTheSame, AreCovers}
 use Rattle.hack_features.specs.Tables.{keeps_depth, is_lean, is_exclusive, is_required, AreTables, wanted_test}
 use Rattle.hack_features.specs.View.{choice_of, size_of, may_of, whole_of, AreTablesOf}
-use Rattle.hack_features.specs.Questions.{IsWhole, IsCheap}
-use Rattle.hack_features.specs.Routed.{names_in}
+use Rattle.hack_features.specs.Questions.{IsWholeSet, IsCheap}
+use Rattle.hack_features.specs.RoutesView.{routed_names}
 use Rattle.hack_features.specs.PlacedView.{IsPlaced}
 use Rattle.hack_features.specs.declared.reach.Edges.TheVariants.{Enabling}
 use Rattle.hack_features.proofs.Decided.{are_tables, are_placed}
@@ -25,7 +26,7 @@ tables_of r = are_tables (choice_of r) (rows_of r.tables.spares.items) (rows_of 
 
 pub placed_of : (r : Rules) → IsPlaced Enabling (choice_of r).map (choice_of r).candidates (choice_of r).at_least_one_of r.enabled
 placed_of r =
-    are_placed Enabling (choice_of r).map (choice_of r).candidates (choice_of r).at_least_one_of (names_in r.enabled.routes) r.enabled.routes.keys.items (rows_of r.enabled.routes.marks.items)
+    are_placed Enabling (choice_of r).map (choice_of r).candidates (choice_of r).at_least_one_of (routed_names r.enabled.routes) r.enabled.routes.keys.items (rows_of r.enabled.routes.marks.items)
     (rows_of r.enabled.candidates.items) (rows_of r.enabled.groups.items) r.placed_told
 
 pub depth_iff : (depth : Option ℕ) (s : List ℕ) → (keeps_depth depth s ≡ true) ↔ IsWithin depth s
@@ -57,14 +58,14 @@ module _ (r : Rules) (h : AreTablesOf (choice_of r) r) where
   pub required_iff_whole : (s : List ℕ) → IsSelection (size_of r) s → IsTrue (whole_of r s) ↔ IsRequired (choice_of r) s
   required_iff_whole s sel = h.required s (up s sel)
 
-  listed_iff : (s : List ℕ) → IsSelection (size_of r) s → IsWhole (may_of r) (whole_of r) s ↔ IsListed (choice_of r) s
+  listed_iff : (s : List ℕ) → IsSelection (size_of r) s → IsWholeSet (may_of r) (whole_of r) s ↔ IsListed (choice_of r) s
   listed_iff s sel = (
     λ w. record { nonempty = w.nonempty; permitted = (permitted_iff s sel).0 w.allowed; required = (required_iff_whole s sel).0 w.completed },
     λ l. record { nonempty = l.nonempty; allowed = (permitted_iff s sel).1 l.permitted; completed = (required_iff_whole s sel).1 l.required },
   )
 
   -- what the enumeration lists are the listed sets
-  pub listing_of : (sets : List (List ℕ)) → IsListing (size_of r) (IsWhole (may_of r) (whole_of r)) sets → IsListing (size_of r) (IsListed (choice_of r)) sets
+  pub listing_of : (sets : List (List ℕ)) → IsListing (size_of r) (IsWholeSet (may_of r) (whole_of r)) sets → IsListing (size_of r) (IsListed (choice_of r)) sets
   listing_of sets l = record {
     ordered = l.ordered;
     exact = λ s. (

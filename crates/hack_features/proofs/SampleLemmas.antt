@@ -17,14 +17,15 @@ use Rattle.hack_samples.specs.Order as orders
 use Rattle.hack_samples.specs.declared.sets.Setting.{Setting}
 use Rattle.hack_base.specs.Names.{Name}
 use Rattle.hack_features.specs.declared.rules.Rules.{Rules}
-use Rattle.hack_features.specs.Sets.{IsSelection, IsBefore, Pairwise, rows_of}
+use Rattle.hack_features.specs.Sets.{IsSelection, IsBefore, Pairwise}
+use Rattle.hack_samples.specs.Sets.{rows_of}
 use Rattle.hack_features.specs.Rules.{Choice, names_at, IsEnabledBy, IsListed}
 use Rattle.hack_features.specs.Cover.{set_enables_test}
 use Rattle.hack_features.specs.Tables.{bit}
 use Rattle.hack_features.specs.Places.{name_at, AreAt}
-use Rattle.hack_features.specs.Routed.{names_in}
+use Rattle.hack_features.specs.RoutesView.{routed_names}
 use Rattle.hack_features.specs.View.{choice_of, size_of, may_of, whole_of}
-use Rattle.hack_features.specs.Samples.{positions_of, one_leads, providers_of, all_providers, IsOn, Shows, CoversPatterns, IsSample}
+use Rattle.hack_features.specs.Samples.{positions_of, one_leads, providers_of, all_providers, IsOn, SetShows, CoversPatterns, IsSample}
 use Rattle.hack_features.proofs.FrontLemmas.{all-same}
 use Rattle.hack_features.proofs.CandidateLemmas.{length-candidates_of}
 use Rattle.hack_features.proofs.Listing.{selection_none, selection_push, selection_up}
@@ -46,7 +47,7 @@ pub selected : (n : ℕ) (s : List Bool) → length s ≡ n → IsSelection n (p
 selected n s e = subst (λ l. IsSelection n (positions_of l)) (take_all n s (omega (arith, e))) (selection-take s n (omega (arith, e)))
 
 -- the order of sets is the same
-pub before_of : (s t : List Bool) → orders.IsBefore s t → IsBefore (positions_of s) (positions_of t)
+pub before_of : (s t : List Bool) → orders.IsMaskBefore s t → IsBefore (positions_of s) (positions_of t)
 before_of s t h = record {
   greatest = h.greatest;
   absent = λ c. (let e : true ≡ false = sym ((member_iff s h.greatest).0 c) ∙ h.absent in cc);
@@ -133,7 +134,7 @@ module _ (r : Rules) where
   providers = all_providers marks cands
 
   abbrev pub names : List Name
-  names = names_in r.enabled.routes
+  names = routed_names r.enabled.routes
 
   all_of : length c.candidates ≡ n
   all_of = length-candidates_of r.given.features.now
@@ -173,7 +174,7 @@ module _ (r : Rules) where
             (All-contains E (names_at c p) (name_at names y) on (subst (λ l. Contains l (name_at names y)) (at p).same (Contains-map (name_at names) ys y cy)))),
       )
 
-  pub shown_iff : (s : List Bool) → length s ≡ n → (pattern : List Setting) → samples.Shows providers pattern s ↔ Shows c pattern (positions_of s)
+  pub shown_iff : (s : List Bool) → length s ≡ n → (pattern : List Setting) → samples.Shows providers pattern s ↔ SetShows c pattern (positions_of s)
   shown_iff s e pattern =
       let P : Setting → Type 0 = λ x. is_on providers s x.candidate ≡ x.on in
       let Q : Setting → Type 0 = λ x. IsOn c (positions_of s) x.candidate ↔ IsTrue x.on in (
@@ -186,7 +187,7 @@ module _ (r : Rules) where
       all-mapped (has_one_of s) positions_of serves
       ∙ all-same (λ row. has_one_of s (positions_of row)) (λ row. list_any (bit row) (positions_of s)) serves (λ row. meet-either s row)
 
-  pub listed_iff : (s : List Bool) → length s ≡ n → samples.IsListed may n required s ↔ IsListed c (positions_of s)
+  pub listed_iff : (s : List Bool) → length s ≡ n → samples.IsListedMask may n required s ↔ IsListed c (positions_of s)
   listed_iff s e =
       let sel = selected n s e in
       let groups = map positions_of serves in
@@ -207,10 +208,10 @@ module _ (r : Rules) where
         },
       )
 
-  all_before : (s : List Bool) (xs : List (List Bool)) → All (orders.IsBefore s) xs → All (IsBefore (positions_of s)) (map positions_of xs)
-  all_before s xs h = All-map (IsBefore (positions_of s)) positions_of xs (All-weaker (orders.IsBefore s) (λ t. IsBefore (positions_of s) (positions_of t)) (λ t. before_of s t) xs h)
+  all_before : (s : List Bool) (xs : List (List Bool)) → All (orders.IsMaskBefore s) xs → All (IsBefore (positions_of s)) (map positions_of xs)
+  all_before s xs h = All-map (IsBefore (positions_of s)) positions_of xs (All-weaker (orders.IsMaskBefore s) (λ t. IsBefore (positions_of s) (positions_of t)) (λ t. before_of s t) xs h)
 
-  in_order : (xs : List (List Bool)) → AllPairs orders.IsBefore xs → Pairwise IsBefore (map positions_of xs)
+  in_order : (xs : List (List Bool)) → AllPairs orders.IsMaskBefore xs → Pairwise IsBefore (map positions_of xs)
   in_order [] h = tt
   in_order (s ∷ xs) h = (
     all_before s xs (λ k d lt. h 0 (suc k) d (omega arith) (omega arith)),
@@ -218,21 +219,21 @@ module _ (r : Rules) where
   )
 
   -- a sample as the search gives it is one of sets of positions
-  pub sample_of : (sets : List (List Bool)) → samples.IsSample may n required sets → IsSample c n (map positions_of sets)
+  pub sample_of : (sets : List (List Bool)) → samples.IsMaskSample may n required sets → IsSample c n (map positions_of sets)
   sample_of sets h = record {
-    selections = All-map (IsSelection n) positions_of sets (All-weaker (samples.IsListed may n required) (λ s. IsSelection n (positions_of s)) (λ s l. selected n s l.size) sets h.listed);
-    listed = All-map (IsListed c) positions_of sets (All-weaker (samples.IsListed may n required) (λ s. IsListed c (positions_of s)) (λ s l. (listed_iff s l.size).0 l) sets h.listed);
+    selections = All-map (IsSelection n) positions_of sets (All-weaker (samples.IsListedMask may n required) (λ s. IsSelection n (positions_of s)) (λ s l. selected n s l.size) sets h.listed);
+    listed = All-map (IsListed c) positions_of sets (All-weaker (samples.IsListedMask may n required) (λ s. IsListed c (positions_of s)) (λ s l. (listed_iff s l.size).0 l) sets h.listed);
     ordered = in_order sets h.ordered;
   }
 
-  pub covers_of : (t : ℕ) (sets : List (List Bool)) → samples.IsSample may n required sets → samples.Covers may n required providers t sets → CoversPatterns c n t (map positions_of sets)
+  pub covers_of : (t : ℕ) (sets : List (List Bool)) → samples.IsMaskSample may n required sets → samples.ShowEachPattern may n required providers t sets → CoversPatterns c n t (map positions_of sets)
   covers_of t sets h covers = λ pattern few u sel listed shows.
       let s = flags n u in
       let e = length-flags n u in
       let back = sym (flags-back n u sel) in
-      let k = covers pattern few s ((listed_iff s e).1 (subst (IsListed c) back listed)) ((shown_iff s e pattern).1 (subst (Shows c pattern) back shows)) in
+      let k = covers pattern few s ((listed_iff s e).1 (subst (IsListed c) back listed)) ((shown_iff s e pattern).1 (subst (SetShows c pattern) back shows)) in
       record {
         by = positions_of k.by;
         chosen = Contains-map positions_of sets k.by k.chosen;
-        shows = (shown_iff k.by (All-contains (samples.IsListed may n required) sets k.by h.listed k.chosen).size pattern).0 k.shows;
+        shows = (shown_iff k.by (All-contains (samples.IsListedMask may n required) sets k.by h.listed k.chosen).size pattern).0 k.shows;
       }

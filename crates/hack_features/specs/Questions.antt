@@ -5,7 +5,7 @@ use Rattle.hack_features.specs.Sets.{IsListing, IsWithin}
 use Rattle.hack_features.specs.declared.questions.Limits.{Limits}
 
 -- a nonempty set that passes both tests
-pub record IsWhole (may complete : List ℕ → Bool) (s : List ℕ) : Type 0 where
+pub record IsWholeSet (may complete : List ℕ → Bool) (s : List ℕ) : Type 0 where
   pub nonempty : s ≢ []
   pub allowed : IsTrue (may s)
   pub completed : IsTrue (complete s)

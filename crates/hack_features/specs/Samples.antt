@@ -13,19 +13,19 @@ abbrev pub IsOn : Choice → List ℕ → ℕ → Type 0
 IsOn c s p = All (IsEnabledBy c s) (names_at c p)
 
 -- the set shows the pattern: each of its candidates is on exactly where the pattern says so
-abbrev pub Shows : Choice → List Setting → List ℕ → Type 0
-Shows c pattern s = All (λ setting. IsOn c s setting.candidate ↔ IsTrue setting.on) pattern
+abbrev pub SetShows : Choice → List Setting → List ℕ → Type 0
+SetShows c pattern s = All (λ setting. IsOn c s setting.candidate ↔ IsTrue setting.on) pattern
 
 -- one of the sets shows the pattern
-pub record SomeShows (c : Choice) (pattern : List Setting) (sets : List (List ℕ)) : Type 0 where
+pub record SomeSetShows (c : Choice) (pattern : List Setting) (sets : List (List ℕ)) : Type 0 where
   pub by : List ℕ
   pub chosen : Contains sets by
-  pub shows : Shows c pattern by
+  pub shows : SetShows c pattern by
 
 -- each pattern of at most t candidates that some listed set shows is shown by one of the sets
 abbrev pub CoversPatterns : Choice → ℕ → ℕ → List (List ℕ) → Type 0
 CoversPatterns c n t sets =
-    (pattern : List Setting) → length pattern ≤ t → (s : List ℕ) → IsSelection n s → IsListed c s → Shows c pattern s → SomeShows c pattern sets
+    (pattern : List Setting) → length pattern ≤ t → (s : List ℕ) → IsSelection n s → IsListed c s → SetShows c pattern s → SomeSetShows c pattern sets
 
 -- the sets are listed, and each is before all later ones
 pub record IsSample (c : Choice) (n : ℕ) (sets : List (List ℕ)) : Type 0 where

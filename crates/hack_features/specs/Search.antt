@@ -34,8 +34,8 @@ abbrev pub names_found : Found → List Name
 names_found found = names_behind found.order.items
 
 -- the set that a search keeps beside its list has exactly the names in the list
-abbrev pub IsInStep : Found → Type 0
-IsInStep found = HasJust found.seen (names_found found)
+abbrev pub IsSeenInStep : Found → Type 0
+IsSeenInStep found = HasJust found.seen (names_found found)
 
 -- new begins with old and has exactly its names and those for which P holds, with no new repeats
 pub record Adds (P : Name → Type 0) (old new : List Name) : Type 0 where

@@ -40,8 +40,8 @@ abbrev pub AllShow : Choice → List Setting → Type 0
 AllShow c pattern = All (λ setting. IsOnWithAll c setting.candidate ↔ IsTrue setting.on) pattern
 
 -- the row shows the pattern: at each of its candidates it has what the pattern says
-abbrev pub RowShows : List Bool → List Setting → Type 0
-RowShows row pattern = All (λ setting. slice_get row setting.candidate ≡ Some setting.on) pattern
+abbrev pub RowHasPattern : List Bool → List Setting → Type 0
+RowHasPattern row pattern = All (λ setting. slice_get row setting.candidate ≡ Some setting.on) pattern
 
 -- for each of the names, by place, one of these places leads to it
 abbrev pub leads_to_each : List (List Bool) → List ℕ → List ℕ → Bool

@@ -1,9 +1,9 @@
 -- What a `Rules` shows: the choice that it was made for, and what its tables answer.
 use Rattle.std.specs.Prelude.{ℕ, List, Bool, ◌&&◌, length}
 use Rattle.hack_features.specs.declared.rules.Rules.{Rules}
-use Rattle.hack_features.specs.Sets.{rows_of}
+use Rattle.hack_samples.specs.Sets.{rows_of}
 use Rattle.hack_features.specs.Rules.{Choice}
-pub use Rattle.hack_features.specs.Given.{choice, choice_in}
+pub use Rattle.hack_features.specs.ChoiceView.{choice, choice_in}
 use Rattle.hack_features.specs.Tables.{keeps_depth, is_lean, is_exclusive, is_required, AreTables}
 
 -- the choice that the rules were made for
@@ -15,8 +15,8 @@ abbrev pub size_of : Rules → ℕ
 size_of r = length r.given.features.now
 
 -- how many questions the rules were asked
-abbrev pub asked_of : Rules → ℕ
-asked_of r = r.asked
+abbrev pub questions_asked : Rules → ℕ
+questions_asked r = r.asked
 
 -- the tables of the rules say what the rules of the choice say
 abbrev pub AreTablesOf : Choice → Rules → Type 0

@@ -6,7 +6,7 @@ ghost use Rattle.hack_features.specs.Deps.{AreDepsOf, AreServers, IsDepsOf, IsSe
 ghost use Rattle.hack_features.specs.Deps.{ServeGroups};
 ghost use Rattle.hack_features.specs.Feature.{group_of, groups_of};
 ghost use Rattle.hack_features.specs.Places.{name_at};
-ghost use Rattle.hack_features.specs.Routed.{names_in, AreRoutesOf};
+ghost use Rattle.hack_features.specs.RoutesView.{routed_names, AreRoutesOf};
 ghost use Rattle.hack_features.specs.declared.reach.Edges.TheVariants.{Enabling};
 
 use crate::feature::Feature;
@@ -22,9 +22,9 @@ fn deps_at<'a>(
     routes: &Routes<'a>,
     from: usize,
 ) -> Result<BTreeSet<&'a str>, AllocError>
-    requires { from < length (names_in routes.now) }
+    requires { from < length (routed_names routes.now) }
     ensures { IfOk result (λ set. (m : FeatureMap) → AreRoutesOf Enabling m routes.now
-        → IsDepsOf m (name_at (names_in routes.now) from) set) }
+        → IsDepsOf m (name_at (routed_names routes.now) from) set) }
 {
     let mut set = BTreeSet::new(alloc);
     for (to, name) in routes.names().iter().enumerate() {

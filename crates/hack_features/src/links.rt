@@ -21,8 +21,8 @@ pub(crate) struct Links<'a> {
 }
 
 impl<'a> Links<'a> {
-    ghost use Rattle.hack_features.specs.Table.{table, IsInStep};
-    ghost use Rattle.hack_features.specs.Linked.{table_of, AreLinks, IsLinking};
+    ghost use Rattle.hack_features.specs.NamesView.{table, IsInStep};
+    ghost use Rattle.hack_features.specs.LinksView.{table_of, AreLinks, IsLinking};
     ghost use Rattle.hack_features.specs.Places.{IsGrown};
 
     /// Makes the row of the next name. Names that its values lead to are added to the table.

@@ -14,7 +14,7 @@ impl Rules<'_> {
     ghost use Rattle.hack_features.specs.Sets.{IsListing};
     ghost use Rattle.hack_features.specs.Questions.{IsCheap};
     ghost use Rattle.hack_features.specs.Rules.{IsListed, IsPermitted, AreCovers};
-    ghost use Rattle.hack_features.specs.View.{choice_of, size_of, asked_of};
+    ghost use Rattle.hack_features.specs.View.{choice_of, size_of, questions_asked};
 
     /// The sets that are listed, in the order of sets, and by how much the count of questions rose.
     pub fn listed(&mut self, alloc: Global) -> Result<Pruned, AllocError>
@@ -25,13 +25,13 @@ impl Rules<'_> {
         // names.
         ensures covered { IfOk result (λ pruned.
             AreCovers (choice_of self.old) (size_of self.old) (sets_in pruned.sets)) }
-        ensures asked { IfOk result (λ pruned. asked_of self.new
-            ≡ asked_of self.old + pruned.asked) }
+        ensures asked { IfOk result (λ pruned. questions_asked self.new
+            ≡ questions_asked self.old + pruned.asked) }
 
         // At most one question for each permitted set and each candidate.
         ensures few { IfOk result (λ pruned.
             IsCheap (IsPermitted (choice_of self.old)) (size_of self.old) pruned.asked) }
-        ensures risen { asked_of self.old ≤ asked_of self.new }
+        ensures risen { questions_asked self.old ≤ questions_asked self.new }
         ensures same_choice { choice_of self.new ≡ choice_of self.old }
         ensures same_size { size_of self.new ≡ size_of self.old }
     {

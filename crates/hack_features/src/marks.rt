@@ -4,7 +4,7 @@ ghost use Rattle.std.specs.Prelude.{◌≡◌, ◌<◌, ◌↔◌, ◌==◌, ◌
 ghost use Rattle.std.specs.Prelude.{IsTrue, Contains};
 ghost use Rattle.std.specs.List.{slice_index_or};
 ghost use Rattle.hack_features.specs.FeatureMap.{Chain};
-ghost use Rattle.hack_features.specs.Sets.{rows_of};
+ghost use Rattle.hack_samples.specs.Sets.{rows_of};
 ghost use Rattle.hack_features.specs.Tables.{bit};
 ghost use Rattle.hack_features.specs.Places.{Leads, leads, AddsPlaces, AreMarked};
 

@@ -4,7 +4,7 @@
 ghost use Rattle.std.specs.Prelude.{◌≡◌, ◌≤◌, ◌++◌, ◌∷◌, ◌&&◌, [], length, cond, not, nat_le};
 ghost use Rattle.std.specs.Prelude.{sum_by, IfOk};
 ghost use Rattle.std.specs.List.{list_all, slice_index_or};
-ghost use Rattle.hack_features.specs.Sets.{rows_of};
+ghost use Rattle.hack_samples.specs.Sets.{rows_of};
 ghost use Rattle.hack_features.specs.Tables.{bit, count_at, cell};
 ghost use Rattle.hack_features.specs.Samples.{positions_of};
 

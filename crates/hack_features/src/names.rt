@@ -20,7 +20,7 @@ pub(crate) struct Names<'a> {
 
 impl<'a> Names<'a> {
     ghost use Rattle.std.specs.Prelude.{[], ◌∷◌, ◌++◌};
-    ghost use Rattle.hack_features.specs.Table.{table, IsInStep};
+    ghost use Rattle.hack_features.specs.NamesView.{table, IsInStep};
 
     /// An empty table.
     pub(crate) fn new(alloc: Global) -> Names<'a>

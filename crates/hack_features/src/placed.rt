@@ -3,9 +3,9 @@
 ghost use Rattle.std.specs.Prelude.{IfOk, OnOk};
 ghost use Rattle.hack_features.specs.FeatureMap.{feature_map};
 ghost use Rattle.hack_features.specs.Feature.{groups_of, candidates_of};
-ghost use Rattle.hack_features.specs.Sets.{rows_of};
+ghost use Rattle.hack_samples.specs.Sets.{rows_of};
 ghost use Rattle.hack_features.specs.Places.{AreAllAt, IsMore};
-ghost use Rattle.hack_features.specs.Table.{table, IsInStep};
+ghost use Rattle.hack_features.specs.NamesView.{table, IsInStep};
 
 use crate::feature::Feature;
 use crate::names::Names;

@@ -44,12 +44,12 @@ struct Found<'a> {
 }
 
 impl<'a> Found<'a> {
-    ghost use Rattle.hack_features.specs.Search.{Adds, IsInStep, IsTarget, names_found};
+    ghost use Rattle.hack_features.specs.Search.{Adds, IsSeenInStep, IsTarget, names_found};
 
     /// Adds a name unless it was found before.
     fn add(&mut self, name: &'a str) -> Result<(), AllocError>
-        requires { IsInStep self.old }
-        ensures in_step { OnOk result (IsInStep self.new) }
+        requires { IsSeenInStep self.old }
+        ensures in_step { OnOk result (IsSeenInStep self.new) }
         ensures adds { OnOk result (Adds (λ y. name.now
             ≡ y) (names_found self.old) (names_found self.new)) }
     {
@@ -62,8 +62,8 @@ impl<'a> Found<'a> {
 
     /// Adds the names that the values lead to.
     fn add_targets(&mut self, values: &'a [String], edges: Edges) -> Result<(), AllocError>
-        requires { IsInStep self.old }
-        ensures in_step { OnOk result (IsInStep self.new) }
+        requires { IsSeenInStep self.old }
+        ensures in_step { OnOk result (IsSeenInStep self.new) }
         ensures adds { OnOk result (Adds (IsTarget edges (names_of values.now))
             (names_found self.old) (names_found self.new)) }
     {

@@ -6,7 +6,7 @@ ghost use Rattle.std.specs.Prelude.{Contains};
 ghost use Rattle.std.specs.List.{slice_index_or};
 ghost use Rattle.hack_base.specs.Names.{Name};
 ghost use Rattle.hack_features.specs.FeatureMap.{FeatureMap, feature_map};
-ghost use Rattle.hack_features.specs.Sets.{rows_of};
+ghost use Rattle.hack_samples.specs.Sets.{rows_of};
 ghost use Rattle.hack_features.specs.Tables.{bit, cell};
 ghost use Rattle.hack_features.specs.Places.{leads};
 
@@ -40,8 +40,8 @@ pub(crate) struct Routes<'a> {
 impl<'a> Routes<'a> {
     ghost use Rattle.std.specs.Prelude.{◌↔◌};
     ghost use Rattle.hack_features.specs.FeatureMap.{IsKey};
-    ghost use Rattle.hack_features.specs.Table.{table, IsInStep};
-    ghost use Rattle.hack_features.specs.Routed.{names_in, AreRoutesOf};
+    ghost use Rattle.hack_features.specs.NamesView.{table, IsInStep};
+    ghost use Rattle.hack_features.specs.RoutesView.{routed_names, AreRoutesOf};
 
     /// What names lead to: the names of the table, which has to have the keys of the map, and all
     /// names that chains of edges lead to from them.
@@ -55,7 +55,7 @@ impl<'a> Routes<'a> {
         requires known { (x : Name) → IsKey (feature_map map.now) x → Contains (table names) x }
         ensures routes { IfOk result (AreRoutesOf edges (feature_map map.now)) }
         ensures kept { IfOk result (λ routes. (more : List Name)
-            × (names_in routes ≡ table names.entry ++ more)) }
+            × (routed_names routes ≡ table names.entry ++ more)) }
     {
         let links = Links::new(alloc, map, edges, names)?;
         let marks = all_marks(alloc, links.rows.as_slice())?;

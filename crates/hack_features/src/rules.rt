@@ -2,12 +2,13 @@
 
 ghost use Rattle.std.specs.Prelude.{◌≡◌, ◌≤◌, ◌+◌, ◌-◌, ◌^◌, ℕ, List, [], length};
 ghost use Rattle.std.specs.Prelude.{IsTrue, IfOk, MatchOption, true};
-ghost use Rattle.hack_features.specs.Sets.{IsSelection, rows_of};
+ghost use Rattle.hack_features.specs.Sets.{IsSelection};
+ghost use Rattle.hack_samples.specs.Sets.{rows_of};
 ghost use Rattle.hack_features.specs.Rules.{Choice, IsPermitted, IsRequired};
 ghost use Rattle.hack_features.specs.Rules.{IsFirstCover, IsWanted};
 ghost use Rattle.hack_features.specs.Tables.{keeps_depth as depth_test, wanted_test};
 ghost use Rattle.hack_features.specs.Tables.{AreTables};
-ghost use Rattle.hack_features.specs.Given.{choice, choice_in};
+ghost use Rattle.hack_features.specs.ChoiceView.{choice, choice_in};
 ghost use Rattle.hack_features.specs.PlacedView.{IsPlaced};
 ghost use Rattle.hack_features.specs.declared.reach.Edges.TheVariants.{Enabling};
 
@@ -40,7 +41,7 @@ impl<'a> Rules<'a> {
     ghost use Rattle.std.specs.Prelude.{◌↔◌, ◌++◌, ◌∷◌, min};
     ghost use Rattle.hack_features.specs.Sets.{IsWithin};
     ghost use Rattle.hack_features.specs.Questions.{AreLimits, IsFree};
-    ghost use Rattle.hack_features.specs.View.{choice_of, size_of, asked_of, may_of, whole_of};
+    ghost use Rattle.hack_features.specs.View.{choice_of, size_of, questions_asked, may_of, whole_of};
     ghost use Rattle.hack_features.specs.Samples.{positions_of};
 
     /// Makes the rules for the candidates `features` of a package with the feature map `map`. A set
@@ -61,7 +62,7 @@ impl<'a> Rules<'a> {
             ≡ choice features.now depth at_least_one_of.now mutually_exclusive_features.now map.now
             lifted.now) }
         ensures size { IfOk result (λ rules. size_of rules ≡ length features.now) }
-        ensures fresh { IfOk result (λ rules. asked_of rules ≡ 0) }
+        ensures fresh { IfOk result (λ rules. questions_asked rules ≡ 0) }
 
         // `may_extend` returns whether a set is permitted, and `complete` whether it is required.
         ensures permitted { IfOk result (λ rules. (s : List ℕ) → IsSelection (size_of rules) s
@@ -84,7 +85,7 @@ impl<'a> Rules<'a> {
     /// The rules for what is given.
     fn from_given(alloc: Global, given: Given<'a>) -> Result<Rules<'a>, AllocError>
         ensures given { IfOk result (λ rules. rules.given ≡ given.entry) }
-        ensures fresh { IfOk result (λ rules. asked_of rules ≡ 0) }
+        ensures fresh { IfOk result (λ rules. questions_asked rules ≡ 0) }
     {
         let enabled = Placed::new(
             alloc,
@@ -137,7 +138,7 @@ impl<'a> Rules<'a> {
     /// redundant. It is counted as a question.
     fn permits(&mut self, positions: &[usize], next: usize) -> bool
         ensures answer { result ≡ may_of self.old (positions.now ++ next ∷ []) }
-        ensures counted { asked_of self.new ≡ min (asked_of self.old + 1) (2 ^ 128 - 1) }
+        ensures counted { questions_asked self.new ≡ min (questions_asked self.old + 1) (2 ^ 128 - 1) }
         ensures same_choice { choice_of self.new ≡ choice_of self.old }
         ensures same_size { size_of self.new ≡ size_of self.old }
         ensures same_may { may_of self.new ≡ may_of self.old }
@@ -158,7 +159,7 @@ impl<'a> Rules<'a> {
     pub(crate) fn permits_in(&mut self, set: &[bool], position: usize) -> bool
         requires { may_of self.old (positions_of set.now) ≡ true }
         ensures answer { result ≡ may_of self.old (positions_of set.now ++ position ∷ []) }
-        ensures counted { asked_of self.new ≡ min (asked_of self.old + 1) (2 ^ 128 - 1) }
+        ensures counted { questions_asked self.new ≡ min (questions_asked self.old + 1) (2 ^ 128 - 1) }
         ensures same_choice { choice_of self.new ≡ choice_of self.old }
         ensures same_size { size_of self.new ≡ size_of self.old }
         ensures same_may { may_of self.new ≡ may_of self.old }
@@ -176,7 +177,7 @@ impl<'a> Rules<'a> {
 
     /// How many questions were asked.
     pub(crate) fn questions(&self) -> u128
-        ensures { result ≡ asked_of self.now }
+        ensures { result ≡ questions_asked self.now }
     {
         self.asked
     }
@@ -202,7 +203,7 @@ impl<'a> Rules<'a> {
         ensures answer { result ≡ may_of self.old (least ∷ positions.now) }
         ensures permitted { IsTrue result
             ↔ IsPermitted (choice_of self.old) (least ∷ positions.now) }
-        ensures counted { asked_of self.new ≡ min (asked_of self.old + 1) (2 ^ 128 - 1) }
+        ensures counted { questions_asked self.new ≡ min (questions_asked self.old + 1) (2 ^ 128 - 1) }
         ensures same_choice { choice_of self.new ≡ choice_of self.old }
         ensures same_size { size_of self.new ≡ size_of self.old }
         ensures same_may { may_of self.new ≡ may_of self.old }
@@ -262,8 +263,8 @@ fn is_wanted(depth: Option<usize>, tables: &Tables, positions: &[usize]) -> bool
 impl Questions for Rules<'_> {
     ghost use Rattle.std.specs.Prelude.{◌≡◌, ◌<◌, ◌≤◌, ◌+◌, ◌-◌, ◌^◌, ◌++◌, ◌∷◌, ◌↔◌, min, ℕ};
     ghost use Rattle.std.specs.Prelude.{List};
-    ghost use Rattle.hack_features.specs.View.{choice_of, size_of, asked_of, may_of, whole_of};
-    ghost use Rattle.hack_features.specs.Closed.{may_of-empty, may_of-remove};
+    ghost use Rattle.hack_features.specs.View.{choice_of, size_of, questions_asked, may_of, whole_of};
+    ghost use Rattle.hack_features.specs.ClosureLaws.{may_of-empty, may_of-remove};
 
     ghost choice = { choice_of };
 
@@ -273,7 +274,7 @@ impl Questions for Rules<'_> {
 
     ghost whole = { whole_of };
 
-    ghost count = { asked_of };
+    ghost count = { questions_asked };
 
     fn may_extend(&mut self, positions: &[usize], next: usize) -> bool
         requires below { IsSelection next positions.now }
@@ -281,7 +282,7 @@ impl Questions for Rules<'_> {
         ensures answer { result ≡ may_of self.old (positions.now ++ next ∷ []) }
         ensures permitted { IsTrue result
             ↔ IsPermitted (choice_of self.old) (positions.now ++ next ∷ []) }
-        ensures counted { asked_of self.new ≡ min (asked_of self.old + 1) (2 ^ 128 - 1) }
+        ensures counted { questions_asked self.new ≡ min (questions_asked self.old + 1) (2 ^ 128 - 1) }
         ensures same_choice { choice_of self.new ≡ choice_of self.old }
         ensures same_size { size_of self.new ≡ size_of self.old }
         ensures same_may { may_of self.new ≡ may_of self.old }

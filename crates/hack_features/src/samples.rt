@@ -3,7 +3,7 @@
 
 ghost use Rattle.std.specs.Prelude.{◌≡◌, map, IfOk, replicate, ◌++◌, ◌∷◌, [], length, true};
 ghost use Rattle.hack_samples.specs.Sets.{rows_of as rows_in, tables_of};
-ghost use Rattle.hack_features.specs.Sets.{rows_of};
+ghost use Rattle.hack_samples.specs.Sets.{rows_of};
 ghost use Rattle.hack_features.specs.Forest.{sets_in};
 ghost use Rattle.hack_features.specs.Samples.{positions_of, one_leads, providers_of};
 ghost use Rattle.hack_features.specs.Samples.{all_providers};
@@ -102,15 +102,15 @@ impl Allowed for Rules<'_> {
     ghost use Rattle.std.specs.Prelude.{◌≡◌, ◌<◌, ◌+◌, ◌-◌, ◌^◌, min, ℕ, List, Bool, true, false};
     ghost use Rattle.std.specs.Prelude.{length, slice_set};
     ghost use Rattle.hack_samples.specs.Sets.{has};
-    ghost use Rattle.hack_features.specs.View.{size_of, asked_of, may_of};
+    ghost use Rattle.hack_features.specs.View.{size_of, questions_asked, may_of};
     ghost use Rattle.hack_features.specs.Samples.{positions_of, IsSame};
-    ghost use Rattle.hack_features.specs.Closed.{may-empty, may-inside, same_none, same_more};
+    ghost use Rattle.hack_features.specs.ClosureLaws.{may-empty, may-inside, same_none, same_more};
 
     ghost size = { size_of };
 
     ghost may = { λ r s. may_of r (positions_of s) };
 
-    ghost count = { asked_of };
+    ghost count = { questions_asked };
 
     ghost stays = { IsSame };
 
@@ -140,7 +140,7 @@ impl Rules<'_> {
     ghost use Rattle.hack_samples.specs.Questions.{IsTired};
     ghost use Rattle.hack_features.specs.Forest.{sets_in};
     ghost use Rattle.hack_features.specs.Samples.{IsSample, CoversPatterns};
-    ghost use Rattle.hack_features.specs.View.{choice_of, size_of, asked_of};
+    ghost use Rattle.hack_features.specs.View.{choice_of, size_of, questions_asked};
 
     /// Returns a sample: a few of the listed sets, in the order of sets, that show each pattern of
     /// at most `strength` candidates, each on or off, that some listed set shows. A candidate is on
@@ -155,9 +155,9 @@ impl Rules<'_> {
             IsSample (choice_of self.old) (size_of self.old) (sets_in sets)) }
         ensures covers { IfOk result (λ sets.
             CoversPatterns (choice_of self.old) (size_of self.old) strength (sets_in sets)) }
-        ensures tired { IfErr result (IsTired (min (asked_of self.old + most_questions)
-            (2 ^ 128 - 1)) (asked_of self.new)) }
-        ensures within { asked_of self.new ≤ asked_of self.old + most_questions }
+        ensures tired { IfErr result (IsTired (min (questions_asked self.old + most_questions)
+            (2 ^ 128 - 1)) (questions_asked self.new)) }
+        ensures within { questions_asked self.new ≤ questions_asked self.old + most_questions }
         ensures same_choice { choice_of self.new ≡ choice_of self.old }
         ensures same_size { size_of self.new ≡ size_of self.old }
     {

@@ -3,7 +3,7 @@
 
 ghost use Rattle.std.specs.Prelude.{◌≡◌, ◌∷◌, [], map, flat_map, length, IfOk};
 ghost use Rattle.std.specs.List.{slice_index_or};
-ghost use Rattle.hack_features.specs.Sets.{rows_of};
+ghost use Rattle.hack_samples.specs.Sets.{rows_of};
 ghost use Rattle.hack_features.specs.Settings.{leads_to_each, AreKeyPlaces};
 
 use crate::marks::row_at;
@@ -71,8 +71,8 @@ fn settings_from(alloc: Global, enabled: &Placed, from: &[usize]) -> Result<Vec<
 impl Rules<'_> {
     ghost use Rattle.std.specs.Prelude.{◌↔◌, List};
     ghost use Rattle.hack_samples.specs.declared.sets.Setting.{Setting};
-    ghost use Rattle.hack_features.specs.Samples.{Shows};
-    ghost use Rattle.hack_features.specs.Settings.{AreSettings, AreSettingsOfAll, RowShows};
+    ghost use Rattle.hack_features.specs.Samples.{SetShows};
+    ghost use Rattle.hack_features.specs.Settings.{AreSettings, AreSettingsOfAll, RowHasPattern};
     ghost use Rattle.hack_features.specs.Settings.{IsOfCandidates, AllShow};
     ghost use Rattle.hack_features.specs.View.{choice_of};
 
@@ -85,7 +85,7 @@ impl Rules<'_> {
         // So the set shows a pattern exactly where the row does.
         ensures shown { IfOk result (λ row. (pattern : List Setting)
             → IsOfCandidates (choice_of self.now) pattern
-            → RowShows row.items pattern ↔ Shows (choice_of self.now) pattern positions.now) }
+            → RowHasPattern row.items pattern ↔ SetShows (choice_of self.now) pattern positions.now) }
     {
         let enabled = self.enabled();
         let from = member_places(alloc, enabled.candidates.as_slice(), positions)?;
@@ -102,7 +102,7 @@ impl Rules<'_> {
         // So all features show a pattern exactly where the row does.
         ensures shown { IfOk result (λ row. (pattern : List Setting)
             → IsOfCandidates (choice_of self.now) pattern
-            → RowShows row.items pattern ↔ AllShow (choice_of self.now) pattern) }
+            → RowHasPattern row.items pattern ↔ AllShow (choice_of self.now) pattern) }
     {
         let enabled = self.enabled();
         let from = key_places(alloc, &enabled.routes)?;

@@ -7,7 +7,7 @@ ghost use Rattle.std.specs.List.{list_all, list_any, slice_index_or};
 ghost use Rattle.hack_base.specs.Names.{Name};
 ghost use Rattle.hack_features.specs.FeatureMap.{feature_map, FeatureMap};
 ghost use Rattle.hack_features.specs.Feature.{groups_of, candidates_of};
-ghost use Rattle.hack_features.specs.Sets.{rows_of};
+ghost use Rattle.hack_samples.specs.Sets.{rows_of};
 ghost use Rattle.hack_features.specs.Rules.{unlifted_groups};
 ghost use Rattle.hack_features.specs.Places.{leads};
 ghost use Rattle.hack_features.specs.PlacedView.{IsPlaced};
@@ -350,7 +350,7 @@ fn has_some(row: &[bool], positions: &[usize]) -> bool
 
 impl Tables {
     ghost use Rattle.hack_features.specs.Tables.{AreTables};
-    ghost use Rattle.hack_features.specs.Given.{choice_in};
+    ghost use Rattle.hack_features.specs.ChoiceView.{choice_in};
     ghost use Rattle.hack_features.specs.Samples.{positions_of};
     ghost use Rattle.std.specs.Prelude.{true};
 

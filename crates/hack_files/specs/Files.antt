@@ -43,9 +43,9 @@ abbrev pub GrowsBy : ℕ → ℕ → ℕ → Type 0
 GrowsBy k old new = old < 2 ^ 64 → new ≡ min (old + k) (2 ^ 64 - 1)
 
 -- a call that fails counts one more failure, and one that succeeds none
-abbrev pub Counts : {T E : Type 0} → ℕ → ℕ → Result T E → Type 0
-Counts old new (Ok _) = GrowsBy 0 old new
-Counts old new (Err _) = GrowsBy 1 old new
+abbrev pub CountsFailedCall : {T E : Type 0} → ℕ → ℕ → Result T E → Type 0
+CountsFailedCall old new (Ok _) = GrowsBy 0 old new
+CountsFailedCall old new (Err _) = GrowsBy 1 old new
 
 -- each path but this one holds what it held
 abbrev pub KeepsOthers : List ℕ → Contents → Contents → Type 0

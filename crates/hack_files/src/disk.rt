@@ -1,7 +1,7 @@
 //! The files of the operating system. No contract says what they hold; tests check it.
 
 ghost use Rattle.std.specs.Prelude.{◌≡◌, [], None};
-ghost use Rattle.hack_files.specs.Files.{Counts};
+ghost use Rattle.hack_files.specs.Files.{CountsFailedCall};
 
 use crate::fs::{FileFault, Files};
 use crate::memory::count_failure;
@@ -151,7 +151,7 @@ fn remove_file<R: rt::Files>(rt: &R, path: &str) -> io::Result<()> {
 
 // Counts a failed outcome, and says whether memory was refused or the device failed.
 fn count_outcome<T: Drop>(outcome: io::Result<T>, failures: &mut u64) -> Result<T, FileFault>
-    ensures { Counts failures.old failures.new result }
+    ensures { CountsFailedCall failures.old failures.new result }
 {
     match outcome {
         Ok(value) => Ok(value),

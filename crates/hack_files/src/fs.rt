@@ -3,7 +3,7 @@
 
 ghost use Rattle.std.specs.Prelude.{◌≡◌, ◌↔◌, [], ◌∷◌, List, ℕ, Some, None, string_bytes};
 ghost use Rattle.std.specs.Prelude.{IfOk, IfErr, OnOk, OnErr, IsTrue, IsSome};
-ghost use Rattle.hack_files.specs.Files.{Change, Contents, Counts, GrowsBy};
+ghost use Rattle.hack_files.specs.Files.{Change, Contents, CountsFailedCall, GrowsBy};
 ghost use Rattle.hack_files.specs.Files.{KeepsOthers, KeepsAll, Makes, MakesOrNot, puts, removes};
 ghost use Rattle.hack_files.specs.Faults.{IsOfRead, IsOfText, IsOfWrite};
 
@@ -47,7 +47,7 @@ pub trait Files {
     /// Returns the bytes at a path. A path that holds nothing is an error.
     fn read(&mut self, alloc: Global, path: &str) -> Result<Vec<u8>, FileFault>
         ensures stays { stays self.old self.new }
-        ensures counted { Counts (failed self.old) (failed self.new) result }
+        ensures counted { CountsFailedCall (failed self.old) (failed self.new) result }
         ensures bytes { IfOk result (λ bytes. tells →
             bytes_at self.old path.now ≡ Some bytes.items) }
         ensures same { tells → KeepsAll (bytes_at self.old) (bytes_at self.new) }
@@ -57,7 +57,7 @@ pub trait Files {
     /// Puts these bytes at a path, in place of what is there.
     fn write(&mut self, path: &str, bytes: &[u8]) -> Result<(), FileFault>
         ensures stays { stays self.old self.new }
-        ensures counted { Counts (failed self.old) (failed self.new) result }
+        ensures counted { CountsFailedCall (failed self.old) (failed self.new) result }
         ensures written { OnOk result (tells → bytes_at self.new path.now ≡ Some bytes.now) }
         ensures others { tells → KeepsOthers path.now (bytes_at self.old) (bytes_at self.new) }
         ensures traced { OnOk result (whole → Makes (puts path.now bytes.now ∷ [])
@@ -68,7 +68,7 @@ pub trait Files {
     /// Returns whether a file, or a folder, is at a path.
     fn exists(&mut self, path: &str) -> Result<bool, FileFault>
         ensures stays { stays self.old self.new }
-        ensures counted { Counts (failed self.old) (failed self.new) result }
+        ensures counted { CountsFailedCall (failed self.old) (failed self.new) result }
         ensures there { IfOk result (λ there. tells →
             IsTrue there ↔ IsSome (bytes_at self.old path.now)) }
         ensures same { tells → KeepsAll (bytes_at self.old) (bytes_at self.new) }
@@ -78,7 +78,7 @@ pub trait Files {
     /// Removes what is at a path. A path that holds nothing is no error.
     fn remove(&mut self, path: &str) -> Result<(), FileFault>
         ensures stays { stays self.old self.new }
-        ensures counted { Counts (failed self.old) (failed self.new) result }
+        ensures counted { CountsFailedCall (failed self.old) (failed self.new) result }
         ensures removed { OnOk result (tells → bytes_at self.new path.now ≡ None) }
         ensures others { tells → KeepsOthers path.now (bytes_at self.old) (bytes_at self.new) }
         ensures traced { OnOk result (whole → Makes (removes path.now ∷ [])
@@ -150,7 +150,7 @@ fn write_fault(alloc: Global, path: &str, fault: FileFault) -> FsFault
 /// Returns the bytes of a file. The error is `Memory` where memory is refused, here or by `files`.
 pub fn read<F: Files>(alloc: Global, files: &mut F, path: &str) -> Result<Vec<u8>, FsFault>
     ensures stays { F.stays files.old files.new }
-    ensures counted { Counts (F.failed files.old) (F.failed files.new) result }
+    ensures counted { CountsFailedCall (F.failed files.old) (F.failed files.new) result }
     ensures bytes { IfOk result (λ bytes. F.tells →
         F.bytes_at files.old path.now ≡ Some bytes.items) }
     ensures same { F.tells → KeepsAll (F.bytes_at files.old) (F.bytes_at files.new) }
@@ -187,7 +187,7 @@ pub fn read_to_string<F: Files>(alloc: Global, files: &mut F, path: &str) -> Res
 /// `Memory` where memory is refused.
 pub fn exists<F: Files>(alloc: Global, files: &mut F, path: &str) -> Result<bool, FsFault>
     ensures stays { F.stays files.old files.new }
-    ensures counted { Counts (F.failed files.old) (F.failed files.new) result }
+    ensures counted { CountsFailedCall (F.failed files.old) (F.failed files.new) result }
     ensures there { IfOk result (λ there. F.tells →
         IsTrue there ↔ IsSome (F.bytes_at files.old path.now)) }
     ensures same { F.tells → KeepsAll (F.bytes_at files.old) (F.bytes_at files.new) }
@@ -210,7 +210,7 @@ pub fn write<F: Files>(
     bytes: &[u8],
 ) -> Result<(), FsFault>
     ensures stays { F.stays files.old files.new }
-    ensures counted { Counts (F.failed files.old) (F.failed files.new) result }
+    ensures counted { CountsFailedCall (F.failed files.old) (F.failed files.new) result }
     ensures written { OnOk result (F.tells → F.bytes_at files.new path.now ≡ Some bytes.now) }
     ensures others { F.tells → KeepsOthers path.now (F.bytes_at files.old) (F.bytes_at files.new) }
     ensures traced { OnOk result (F.whole → Makes (puts path.now bytes.now ∷ [])

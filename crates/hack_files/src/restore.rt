@@ -4,7 +4,7 @@
 ghost use Rattle.std.specs.Prelude.{◌≡◌, ◌<◌, ◌↔◌, ◌⊎◌, [], ◌∷◌, ◌++◌, List, Some, cond, true};
 ghost use Rattle.std.specs.Prelude.{OnOk, OnErr, IfErr, IsTrue};
 ghost use Rattle.std.specs.Bool.{OnTrue, OnFalse};
-ghost use Rattle.hack_files.specs.Files.{GrowsBy, Counts, KeepsAll, KeepsOthers};
+ghost use Rattle.hack_files.specs.Files.{GrowsBy, CountsFailedCall, KeepsAll, KeepsOthers};
 ghost use Rattle.hack_files.specs.Files.{Makes, MakesOrNot, Change};
 ghost use Rattle.hack_files.specs.Faults.{IsOfWrite};
 ghost use Rattle.hack_files.specs.Restore.{Kept, kept_file, registered_files, is_kept, kept_too};
@@ -115,7 +115,7 @@ impl Manager {
     /// file any more, also where its write fails.
     pub fn restore_last<F: Files>(&mut self, files: &mut F) -> Result<(), FsFault>
         ensures stays { F.stays files.old files.new }
-        ensures counted { Counts (F.failed files.old) (F.failed files.new) result }
+        ensures counted { CountsFailedCall (F.failed files.old) (F.failed files.new) result }
         ensures none { registered_files self.old ≡ [] → (result ≡ Ok tt) ×
             (registered_files self.new ≡ [])
             × (F.tells → KeepsAll (F.bytes_at files.old) (F.bytes_at files.new)) }

@@ -4,7 +4,7 @@ use Rattle.std.specs.Prelude.{IsTrue, IsSome, ◌↔◌}
 use Rattle.std.proofs.Math.Path.{fun_ext}
 use Rattle.hack_files.specs.Files.{Change, Contents, Makes, MakesOrNot, removes, KeepsAll}
 use Rattle.hack_journal.specs.Journal.{Edit, journal_text}
-use Rattle.hack_journal.specs.Safe.{Tells, KeepFirst, IsJournalOf, HoldFirstOrTold, IsSafe, IsJournaled, StaysSafe, Stays, AreBack}
+use Rattle.hack_journal.specs.SafeFiles.{SomeEntryHasBytes, KeepFirst, IsJournalOf, HoldFirstOrTold, IsSafe, IsJournaled, StaysSafe, Stays, AreBack}
 use Rattle.hack_journal.specs.SafeLaws.{safe_of, stay_none, holds_left}
 use Rattle.hack_journal.proofs.ChangeLemmas.{makes_here, makes_others}
 use Rattle.hack_journal.proofs.SafeLemmas.{stay_one}
@@ -28,7 +28,7 @@ removed_safe j o t u m n makes s same = elim makes [
 ]
 
 -- where the paths of all entries are back, each path holds what it held at first
-told_first : (j : List ℕ) (o : Contents) (es more : List Edit) (m : Contents) (q : List ℕ) (x : Option (List ℕ)) → KeepFirst j o (es ++ more) → AreBack es m → Tells es q x → m q ≡ o q
+told_first : (j : List ℕ) (o : Contents) (es more : List Edit) (m : Contents) (q : List ℕ) (x : Option (List ℕ)) → KeepFirst j o (es ++ more) → AreBack es m → SomeEntryHasBytes es q x → m q ≡ o q
 told_first j o [] more m q x k all h = absurd h
 told_first j o (e ∷ es) more m q x k all h = elim h [
   | inl fit ↦ subst (λ (r : List ℕ). m r ≡ o r) fit.0 (all.0 ∙ sym k.0)
@@ -53,7 +53,7 @@ finish_stays j es t u m n all makes o k =
 pub absent_first : (j : List ℕ) (o : Contents) (es : List Edit) (m : Contents) → IsJournalOf j m es → HoldFirstOrTold j o es m → m j ≡ None → (q : List ℕ) → q ≢ j → m q ≡ o q
 absent_first j o es m is_in holds none q ne = elim is_in [
   | inl some ↦ let y : Some (journal_text es) ≡ None = sym some ∙ none in cc
-  | inr both ↦ elim (holds q ne) [ inl same ↦ same | inr told ↦ absurd (subst (λ (l : List Edit). Tells l q (m q)) both.1 told) ]
+  | inr both ↦ elim (holds q ne) [ inl same ↦ same | inr told ↦ absurd (subst (λ (l : List Edit). SomeEntryHasBytes l q (m q)) both.1 told) ]
 ]
 
 pub none_of : (b : Bool) (x : Option (List ℕ)) → (IsTrue b ↔ IsSome x) → b ≡ false → x ≡ None

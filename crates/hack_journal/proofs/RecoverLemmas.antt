@@ -10,9 +10,9 @@ use Rattle.hack_files.specs.Files.{Change, Contents, after_change, after, Makes,
 use Rattle.hack_files.specs.declared.fs.FsFault.{FsFault}
 use Rattle.hack_files.specs.declared.fs.FsFault.TheVariants as fs
 use Rattle.hack_journal.specs.Journal.{Edit, journal_text, HaveTextPaths}
-use Rattle.hack_journal.specs.Safe.{gives, Tells, KeepFirst, IsSafe, IsSafeBy, StaysSafe, AreBack, first_of, without}
-use Rattle.hack_journal.specs.Recover.{HasEntry, Agrees, AreOfCall, AreTold, backs, Differ, Restored, IsNoJournal, IsWhy, IsWhyUnread, IsWhyNotTold, NamesNoJournal, IsRefusal, Names, FailsAt, IsTouched}
-use Rattle.hack_journal.specs.Recover.Differ.{in_none, in_one}
+use Rattle.hack_journal.specs.SafeFiles.{gives, SomeEntryHasBytes, KeepFirst, IsSafe, IsSafeBy, StaysSafe, AreBack, first_entry_of, without}
+use Rattle.hack_journal.specs.Recovery.{HasEntry, AgreesOnHeld, AreOfCall, AreTold, backs, Differ, Restored, IsNoJournal, IsWhy, IsWhyUnread, IsWhyNotTold, NamesNoJournal, IsJournalRefusal, NamesPath, FailsAt, IsJournalOrItsEntry}
+use Rattle.hack_journal.specs.Recovery.Differ.{in_none, in_one}
 use Rattle.hack_journal.specs.declared.recover.RecoverFault.{RecoverFault}
 use Rattle.hack_journal.specs.declared.recover.RecoverFault.TheVariants.{Memory, NotJournal, Changed, Files}
 use Rattle.hack_journal.specs.SafeLaws.{stay_none, stay_append}
@@ -35,7 +35,7 @@ back_made j o es p x t u m n makes s held ne =
       holds = λ q other. elim (cases_Bool (bytes_eq p q)) [
         | inl t ↦ let is = (bytes_eq-Decides p q).0 t in inl (subst (λ (r : List ℕ). n r ≡ o r) is (here ∙ sym held))
         | inr f ↦ let same = others q (λ e. let y : true ≡ false = sym ((bytes_eq-Decides p q).1 (sym e)) ∙ f in cc) in
-            elim (s.holds q other) [ inl is ↦ inl (same ∙ is) | inr told ↦ inr (subst (Tells es q) (sym same) told) ]
+            elim (s.holds q other) [ inl is ↦ inl (same ∙ is) | inr told ↦ inr (subst (SomeEntryHasBytes es q) (sym same) told) ]
       ];
     }
 
@@ -52,7 +52,7 @@ join_safe j o es t u v m n w a f = let b = f a.1 in (stay_append j o t u v m n w
 pub after_along : (cs : List Change) (m n w : Contents) → KeepsAll m n → KeepsAll (after cs n) w → KeepsAll (after cs m) w
 after_along cs m n w h k = subst (λ (f : Contents). KeepsAll (after cs f) w) (all_same m n h) k
 
-has_of : (es : List Edit) (q : List ℕ) (x : Option (List ℕ)) → Tells es q x → HasEntry es q
+has_of : (es : List Edit) (q : List ℕ) (x : Option (List ℕ)) → SomeEntryHasBytes es q x → HasEntry es q
 has_of [] q x h = absurd h
 has_of (e ∷ es) q x h = elim h [ inl fit ↦ inl fit.0 | inr told ↦ inr (has_of es q x told) ]
 
@@ -93,19 +93,19 @@ origin_of None x = x
 origin_of (Some e) x = e.held
 
 abbrev pub origin : List Edit → Contents → Contents
-origin es m q = origin_of (first_of es q) (m q)
+origin es m q = origin_of (first_entry_of es q) (m q)
 
-not_none : (es : List Edit) (p : List ℕ) → first_of es p ≡ None → ¬ HasEntry es p
+not_none : (es : List Edit) (p : List ℕ) → first_entry_of es p ≡ None → ¬ HasEntry es p
 not_none [] p h = λ has. has
 not_none (e ∷ es) p h = elim (cases_Bool (bytes_eq e.path p)) [
-  | inl t ↦ let y : Some e ≡ None = sym (ap (λ b. cond b (Some e) (first_of es p)) t) ∙ h in cc
+  | inl t ↦ let y : Some e ≡ None = sym (ap (λ b. cond b (Some e) (first_entry_of es p)) t) ∙ h in cc
   | inr f ↦ λ has. elim has [
     | inl is ↦ let y : true ≡ false = sym ((bytes_eq-Decides e.path p).1 is) ∙ f in cc
-    | inr others ↦ not_none es p (sym (ap (λ b. cond b (Some e) (first_of es p)) f) ∙ h) others
+    | inr others ↦ not_none es p (sym (ap (λ b. cond b (Some e) (first_entry_of es p)) f) ∙ h) others
   ]
 ]
 
-origin_is : (f : Option Edit) (x held : Option (List ℕ)) → ¬ (f ≡ None) → Agrees f held → origin_of f x ≡ held
+origin_is : (f : Option Edit) (x held : Option (List ℕ)) → ¬ (f ≡ None) → AgreesOnHeld f held → origin_of f x ≡ held
 unfolding origin_of
 origin_is None x held some agrees = absurd (some refl)
 origin_is (Some e) x held some agrees = agrees
@@ -113,7 +113,7 @@ origin_is (Some e) x held some agrees = agrees
 origin_keeps_of : (j : List ℕ) (all : List Edit) (m : Contents) (es : List Edit) → AreOfCall j all es → ((q : List ℕ) → HasEntry es q → HasEntry all q) → KeepFirst j (origin all m) es
 origin_keeps_of j all m [] h sub = tt
 origin_keeps_of j all m (e ∷ es) h sub =
-    (origin_is (first_of all e.path) (m e.path) e.held (λ absent. not_none all e.path absent (sub e.path (inl refl))) h.0.2, h.0.0, h.0.1, origin_keeps_of j all m es h.1 (λ q has. sub q (inr has)))
+    (origin_is (first_entry_of all e.path) (m e.path) e.held (λ absent. not_none all e.path absent (sub e.path (inl refl))) h.0.2, h.0.0, h.0.1, origin_keeps_of j all m es h.1 (λ q has. sub q (inr has)))
 
 pub origin_keeps : (j : List ℕ) (es : List Edit) (m : Contents) → AreOfCall j es es → KeepFirst j (origin es m) es
 origin_keeps j es m h = origin_keeps_of j es m es h (λ q has. has)
@@ -128,16 +128,16 @@ all_are_back j es m n call back =
     let keeps = origin_keeps j es m call in
     are_back j (origin es m) n es keeps (λ q has ne. back q ne ∙ backs_at j (origin es m) es m q keeps (inr has))
 
-agrees_of : (o : Contents) (all : List Edit) (p : List ℕ) (f : Option Edit) (held : Option (List ℕ)) → First o all p f → o p ≡ held → Agrees f held
+agrees_of : (o : Contents) (all : List Edit) (p : List ℕ) (f : Option Edit) (held : Option (List ℕ)) → First o all p f → o p ≡ held → AgreesOnHeld f held
 agrees_of o all p None held first is = tt
 agrees_of o all p (Some e) held first is = sym first ∙ is
 
 call_of : (j : List ℕ) (o : Contents) (all : List Edit) → KeepFirst j o all → (es : List Edit) → KeepFirst j o es → AreOfCall j all es
 call_of j o all keeps [] k = tt
 call_of j o all keeps (e ∷ es) k =
-    ((k.1, k.2, agrees_of o all e.path (first_of all e.path) e.held (first_keeps j o all [] e.path (subst (λ (l : List Edit). KeepFirst j o l) (sym (append-nil all)) keeps)) k.0), call_of j o all keeps es k.3)
+    ((k.1, k.2, agrees_of o all e.path (first_entry_of all e.path) e.held (first_keeps j o all [] e.path (subst (λ (l : List Edit). KeepFirst j o l) (sym (append-nil all)) keeps)) k.0), call_of j o all keeps es k.3)
 
-tells_first : (j : List ℕ) (o : Contents) (es : List Edit) (q : List ℕ) → KeepFirst j o es → HasEntry es q → (q ≢ j) × Tells es q (o q)
+tells_first : (j : List ℕ) (o : Contents) (es : List Edit) (q : List ℕ) → KeepFirst j o es → HasEntry es q → (q ≢ j) × SomeEntryHasBytes es q (o q)
 tells_first j o [] q k has = absurd has
 tells_first j o (e ∷ es) q k has = elim has [
   | inl is ↦ (λ at. k.1 (is ∙ at), inl (is, inl (ap o (sym is) ∙ k.0)))
@@ -159,7 +159,7 @@ why_no_journal j tells m (Changed p q) names unread = absurd names
 why_no_journal j tells m (Files f) names unread = absurd names
 
 -- an error that names a path of which P holds names one of which the wider Q holds
-pub names_wider : (P Q : List ℕ → Type 0) → ((p : List ℕ) → P p → Q p) → (f : FsFault) → Names P f → Names Q f
+pub names_wider : (P Q : List ℕ → Type 0) → ((p : List ℕ) → P p → Q p) → (f : FsFault) → NamesPath P f → NamesPath Q f
 names_wider P Q to (fs.Read p) h = to (string_bytes p) h
 names_wider P Q to (fs.Write p) h = to (string_bytes p) h
 names_wider P Q to (fs.NotText p) h = absurd h
@@ -196,26 +196,26 @@ pub why_failed : (j : List ℕ) (tells : Type 0) (es : List Edit) (m : Contents)
 why_failed j tells es m Memory text h = tt
 why_failed j tells es m (NotJournal p) text h = absurd h
 why_failed j tells es m (Changed p q) text h = absurd h
-why_failed j tells es m (Files f) text h = names_wider (λ p. (p ≡ j) ⊎ HasEntry es p) (IsTouched j tells m) (λ p at. elim at [ inl is ↦ inl is | inr has ↦ inr (λ t. (es, text t, has)) ]) f h
+why_failed j tells es m (Files f) text h = names_wider (λ p. (p ≡ j) ⊎ HasEntry es p) (IsJournalOrItsEntry j tells m) (λ p at. elim at [ inl is ↦ inl is | inr has ↦ inr (λ t. (es, text t, has)) ]) f h
 
 pub why_unread : (j : List ℕ) (tells : Type 0) (m : Contents) (fault : RecoverFault) → IsWhyUnread j tells m fault → IsWhy j tells m fault
 why_unread j tells m Memory why = tt
 why_unread j tells m (NotJournal p) why = why
 why_unread j tells m (Changed p q) why = absurd why
-why_unread j tells m (Files f) why = names_wider (λ p. p ≡ j) (IsTouched j tells m) (λ p is. inl is) f why
+why_unread j tells m (Files f) why = names_wider (λ p. p ≡ j) (IsJournalOrItsEntry j tells m) (λ p is. inl is) f why
 
 -- a path that holds bytes that no entry of it has was changed
 pub why_not_told : (j : List ℕ) (tells : Type 0) (es : List Edit) (m n : Contents) (fault : RecoverFault) → (tells → m j ≡ Some (journal_text es)) → (tells → KeepsAll m n) → IsWhyNotTold j tells es es n fault → IsWhy j tells m fault
 why_not_told j tells es m n Memory text same why = tt
 why_not_told j tells es m n (NotJournal p) text same why = absurd why
-why_not_told j tells es m n (Changed p q) text same why = (why.0, λ t. (es, text t, why.1, subst (λ (x : Option (List ℕ)). ¬ Tells es (string_bytes p) x) (same t (string_bytes p)) (why.2 t)))
-why_not_told j tells es m n (Files f) text same why = names_wider (HasEntry es) (IsTouched j tells m) (λ p has. inr (λ t. (es, text t, has))) f why
+why_not_told j tells es m n (Changed p q) text same why = (why.0, λ t. (es, text t, why.1, subst (λ (x : Option (List ℕ)). ¬ SomeEntryHasBytes es (string_bytes p) x) (same t (string_bytes p)) (why.2 t)))
+why_not_told j tells es m n (Files f) text same why = names_wider (HasEntry es) (IsJournalOrItsEntry j tells m) (λ p has. inr (λ t. (es, text t, has))) f why
 
 -- where files are safe, nothing is refused
-pub never_not_told : (j : List ℕ) (tells : Type 0) (es : List Edit) (m n : Contents) (fault : RecoverFault) → tells → KeepsAll m n → AreTold es es m → IsWhyNotTold j tells es es n fault → IsRefusal fault → ⊥
+pub never_not_told : (j : List ℕ) (tells : Type 0) (es : List Edit) (m n : Contents) (fault : RecoverFault) → tells → KeepsAll m n → AreTold es es m → IsWhyNotTold j tells es es n fault → IsJournalRefusal fault → ⊥
 never_not_told j tells es m n Memory t same told why refusal = refusal
 never_not_told j tells es m n (NotJournal p) t same told why refusal = why
-never_not_told j tells es m n (Changed p q) t same told why refusal = why.2 t (subst (Tells es (string_bytes p)) (sym (same (string_bytes p))) (told (string_bytes p) why.1))
+never_not_told j tells es m n (Changed p q) t same told why refusal = why.2 t (subst (SomeEntryHasBytes es (string_bytes p)) (sym (same (string_bytes p))) (told (string_bytes p) why.1))
 never_not_told j tells es m n (Files f) t same told why refusal = refusal
 
 -- where files are safe, the journal's path holds a text that a call writes
@@ -225,7 +225,7 @@ safe_journal j o m s unread = elim s.by.is_in [
   | inr absent ↦ let y : Some unread.0 ≡ None = sym unread.1 ∙ absent.0 in cc
 ]
 
-pub never_no_journal : (j : List ℕ) (tells : Type 0) (o m : Contents) (fault : RecoverFault) → tells → IsWhyUnread j tells m fault → IsSafe j o m → IsRefusal fault → ⊥
+pub never_no_journal : (j : List ℕ) (tells : Type 0) (o m : Contents) (fault : RecoverFault) → tells → IsWhyUnread j tells m fault → IsSafe j o m → IsJournalRefusal fault → ⊥
 never_no_journal j tells o m Memory t why s refusal = refusal
 never_no_journal j tells o m (NotJournal p) t why s refusal = safe_journal j o m s (why.1 t)
 never_no_journal j tells o m (Changed p q) t why s refusal = why
@@ -235,7 +235,7 @@ never_no_journal j tells o m (Files f) t why s refusal = refusal
 pub safe_told : (j : List ℕ) (o : Contents) (es : List Edit) (m : Contents) → IsSafeBy j o es m → AreTold es es m
 safe_told j o es m s q has =
     let first = tells_first j o es q s.keeps has in
-    elim (s.holds q first.0) [ inl same ↦ subst (Tells es q) (sym same) first.1 | inr told ↦ told ]
+    elim (s.holds q first.0) [ inl same ↦ subst (SomeEntryHasBytes es q) (sym same) first.1 | inr told ↦ told ]
 
 -- nothing but the journal is changed
 pub without_same : (j : List ℕ) (m n : Contents) → KeepsOthers j m n → without j n ≡ without j m

@@ -7,7 +7,7 @@ use Rattle.std.proofs.lemmas.Bool.{cases_Bool}
 use Rattle.std.proofs.lemmas.Bool.Decides.{eqb_tells}
 use Rattle.std.proofs.lemmas.Str.{IsUtf8-string_bytes}
 use Rattle.hack_journal.specs.declared.journal.Entry.{Entry}
-use Rattle.hack_journal.specs.Journal.{edits_of, Edit, lines, content_text, edit_text, edits_text, IsNext, HaveTextPaths}
+use Rattle.hack_journal.specs.Journal.{edits_of, Edit, lines, content_text, edit_text, edits_text, BeginsWithoutSpace, HaveTextPaths}
 
 -- how a text that goes on with lines begins
 pub data Begins (byte : ℕ) (left more rest : List ℕ) : Type 0 where
@@ -32,7 +32,7 @@ pub record Left (bytes rest read left : List ℕ) : Type 0 where
   pub text : left ≡ lines more ++ rest
 
 abbrev pub SoFar : List ℕ → List ℕ → List ℕ → Type 0
-SoFar text read left = (bytes rest : List ℕ) → IsNext rest → text ≡ lines bytes ++ rest → Left bytes rest read left
+SoFar text read left = (bytes rest : List ℕ) → BeginsWithoutSpace rest → text ≡ lines bytes ++ rest → Left bytes rest read left
 
 pub sofar_goes : (text read left : List ℕ) (byte : ℕ) (rest : List ℕ) → left ≡ byte ∷ rest → byte ≢ 10 → SoFar text read left → SoFar text (read ++ byte ∷ []) rest
 sofar_goes text read left byte rest is differs before bytes after next h =
@@ -47,18 +47,18 @@ pub sofar_feeds : (text read left rest : List ℕ) → left ≡ 10 ∷ 32 ∷ re
 sofar_feeds text read left rest is before bytes after next h =
     let b = before bytes after next h in
     elim (begins b.more after (32 ∷ rest) 10 (sym is ∙ b.text)) [
-      | Ends e m l ↦ let n : IsNext (32 ∷ rest) = subst IsNext (sym l) next in absurd (n refl)
+      | Ends e m l ↦ let n : BeginsWithoutSpace (32 ∷ rest) = subst BeginsWithoutSpace (sym l) next in absurd (n refl)
       | Feeds m e w l ↦ record { more = m; whole = b.whole ∙ ap (λ x. read ++ x) w ∙ sym (append_assoc read (10 ∷ []) m); text = cc }
       | Goes m e w l ↦ absurd (e refl)
     ]
 
-pub sofar_ends : (text read left rest : List ℕ) → left ≡ 10 ∷ rest → IsNext rest → SoFar text read left
-    → (bytes after : List ℕ) → IsNext after → text ≡ lines bytes ++ after → (read ≡ bytes) × (rest ≡ after)
+pub sofar_ends : (text read left rest : List ℕ) → left ≡ 10 ∷ rest → BeginsWithoutSpace rest → SoFar text read left
+    → (bytes after : List ℕ) → BeginsWithoutSpace after → text ≡ lines bytes ++ after → (read ≡ bytes) × (rest ≡ after)
 sofar_ends text read left rest is begun before bytes after next h =
     let b = before bytes after next h in
     elim (begins b.more after rest 10 (sym is ∙ b.text)) [
       | Ends e m l ↦ (sym (b.whole ∙ ap (λ x. read ++ x) m ∙ append-nil read), l)
-      | Feeds m e w l ↦ let n : IsNext (32 ∷ (lines m ++ after)) = subst IsNext l begun in absurd (n refl)
+      | Feeds m e w l ↦ let n : BeginsWithoutSpace (32 ∷ (lines m ++ after)) = subst BeginsWithoutSpace l begun in absurd (n refl)
       | Goes m e w l ↦ absurd (e refl)
     ]
 
@@ -69,14 +69,14 @@ lines_some (b ∷ bs) rest h = elim (eqb_tells b 10) [
   | inr t ↦ let h2 : [] ≡ b ∷ (lines bs ++ rest) = h ∙ ap (λ v. cond v (10 ∷ 32 ∷ lines bs) (b ∷ lines bs) ++ rest) t.0 in cc
 ]
 
-pub sofar_never : (text read left : List ℕ) → left ≡ [] → SoFar text read left → (bytes after : List ℕ) → IsNext after → text ≡ lines bytes ++ after → ⊥
+pub sofar_never : (text read left : List ℕ) → left ≡ [] → SoFar text read left → (bytes after : List ℕ) → BeginsWithoutSpace after → text ≡ lines bytes ++ after → ⊥
 sofar_never text read left is before bytes after next h = let b = before bytes after next h in lines_some b.more after (sym is ∙ b.text)
 
 pub sofar_begun : (text : List ℕ) → SoFar text [] text
 sofar_begun text bytes rest next h = record { more = bytes; whole = refl; text = h }
 
 -- a text from which no space was stripped
-pub next_of : (rest : List ℕ) → ((r : List ℕ) → rest ≢ 32 ∷ r) → IsNext rest
+pub next_of : (rest : List ℕ) → ((r : List ℕ) → rest ≢ 32 ∷ r) → BeginsWithoutSpace rest
 next_of [] h = tt
 next_of (b ∷ bs) h = λ e. h bs (ap (λ x. x ∷ bs) e)
 
@@ -124,7 +124,7 @@ same_of r xs ys h f = elim (cases_Bool (bytes_eq xs ys)) [
   | inr t ↦ let x : false ≡ true = sym f ∙ h ∙ ap not t in cc
 ]
 
-pub next_entries : (es : List Edit) → IsNext (edits_text es)
+pub next_entries : (es : List Edit) → BeginsWithoutSpace (edits_text es)
 next_entries [] = omega arith
 next_entries (e ∷ es) = omega arith
 

@@ -50,9 +50,9 @@ abbrev pub journal_text : List Edit → List ℕ
 journal_text es = codes "edited files\n" ++ edits_text es
 
 -- the text does not begin with a space
-abbrev pub IsNext : List ℕ → Type 0
-IsNext [] = Unit {0}
-IsNext (b ∷ bs) = b ≢ 32
+abbrev pub BeginsWithoutSpace : List ℕ → Type 0
+BeginsWithoutSpace [] = Unit {0}
+BeginsWithoutSpace (b ∷ bs) = b ≢ 32
 
 -- memory was refused
 abbrev pub IsMemory : JournalFault → Type 0
@@ -60,6 +60,6 @@ IsMemory Memory = Unit {0}
 IsMemory NotJournal = ⊥
 
 -- what was read is this value, unless memory was refused
-abbrev pub Reads : {X Y : Type 0} → (X → Y) → Result X JournalFault → Y → Type 0
-Reads seen (Ok x) y = seen x ≡ y
-Reads seen (Err e) y = IsMemory e
+abbrev pub ReadsValue : {X Y : Type 0} → (X → Y) → Result X JournalFault → Y → Type 0
+ReadsValue seen (Ok x) y = seen x ≡ y
+ReadsValue seen (Err e) y = IsMemory e

@@ -1,5 +1,5 @@
 pub mod Journal
-pub mod Safe
+pub mod SafeFiles
 pub mod SafeLaws
-pub mod Recover
-pub mod Apart
+pub mod Recovery
+pub mod LockfilesApart

@@ -2,7 +2,7 @@
 use Rattle.std.proofs.Common.{◌≡◌, inl, inr, ℕ, suc, zero, List, [], ◌∷◌, ◌++◌, Option, refl, sym, ◌∙◌, subst, ap, append_assoc, append-nil, take}
 use Rattle.hack_files.specs.Files.{Change, Contents, after_change, after, Makes}
 use Rattle.hack_journal.specs.Journal.{Edit}
-use Rattle.hack_journal.specs.Safe.{Tells, HoldFirstOrTold, IsSafe, IsJournaled, StaysSafe, Stays}
+use Rattle.hack_journal.specs.SafeFiles.{SomeEntryHasBytes, HoldFirstOrTold, IsSafe, IsJournaled, StaysSafe, Stays}
 
 pub after_append : (xs ys : List Change) (m : Contents) → after (xs ++ ys) m ≡ after ys (after xs m)
 after_append [] ys m = refl
@@ -17,7 +17,7 @@ makes_append xs ys t u v m n w f g = record {
   holds = g.holds ∙ ap (after ys) f.holds ∙ sym (after_append xs ys m);
 }
 
-pub tells_left : (es fs : List Edit) (p : List ℕ) (x : Option (List ℕ)) → Tells es p x → Tells (es ++ fs) p x
+pub tells_left : (es fs : List Edit) (p : List ℕ) (x : Option (List ℕ)) → SomeEntryHasBytes es p x → SomeEntryHasBytes (es ++ fs) p x
 tells_left [] fs p x h = absurd h
 tells_left (e ∷ es) fs p x (inl h) = inl h
 tells_left (e ∷ es) fs p x (inr h) = inr (tells_left es fs p x h)

@@ -4,8 +4,8 @@
 //! other files have a journal, writes of lockfiles don't go through it.
 
 ghost use Rattle.std.specs.Prelude.{◌≡◌, ◌↔◌, [], None, Some, IfOk, OnOk, IsTrue, IsSome};
-ghost use Rattle.hack_files.specs.Files.{Counts, KeepsOthers, KeepsAll};
-ghost use Rattle.hack_journal.specs.Apart.{is_lockfile, apart, KeepsLockfiles};
+ghost use Rattle.hack_files.specs.Files.{CountsFailedCall, KeepsOthers, KeepsAll};
+ghost use Rattle.hack_journal.specs.LockfilesApart.{is_lockfile, apart, KeepsLockfiles};
 
 use crate::journaled::count_failure;
 use hack_files::fs::{FileFault, Files};
@@ -72,7 +72,7 @@ impl<A: Files, B: Files> Files for Apart<A, B> {
         ensures stays { A.stays self.old.files self.new.files ×
             B.stays self.old.lockfiles self.new.lockfiles ×
             (A.tells → KeepsLockfiles (A.bytes_at self.old.files) (A.bytes_at self.new.files)) }
-        ensures counted { Counts self.old.failures self.new.failures result }
+        ensures counted { CountsFailedCall self.old.failures self.new.failures result }
         ensures bytes { IfOk result (λ bytes. A.tells × B.tells →
             apart (A.bytes_at self.old.files) (B.bytes_at self.old.lockfiles) path.now ≡
             Some bytes.items) }
@@ -102,7 +102,7 @@ impl<A: Files, B: Files> Files for Apart<A, B> {
         ensures stays { A.stays self.old.files self.new.files ×
             B.stays self.old.lockfiles self.new.lockfiles ×
             (A.tells → KeepsLockfiles (A.bytes_at self.old.files) (A.bytes_at self.new.files)) }
-        ensures counted { Counts self.old.failures self.new.failures result }
+        ensures counted { CountsFailedCall self.old.failures self.new.failures result }
         ensures written { OnOk result (A.tells × B.tells →
             apart (A.bytes_at self.new.files) (B.bytes_at self.new.lockfiles) path.now ≡
             Some bytes.now) }
@@ -132,7 +132,7 @@ impl<A: Files, B: Files> Files for Apart<A, B> {
         ensures stays { A.stays self.old.files self.new.files ×
             B.stays self.old.lockfiles self.new.lockfiles ×
             (A.tells → KeepsLockfiles (A.bytes_at self.old.files) (A.bytes_at self.new.files)) }
-        ensures counted { Counts self.old.failures self.new.failures result }
+        ensures counted { CountsFailedCall self.old.failures self.new.failures result }
         ensures there { IfOk result (λ there. A.tells × B.tells → IsTrue there ↔
             IsSome (apart (A.bytes_at self.old.files) (B.bytes_at self.old.lockfiles) path.now)) }
         ensures same { A.tells × B.tells → KeepsAll
@@ -161,7 +161,7 @@ impl<A: Files, B: Files> Files for Apart<A, B> {
         ensures stays { A.stays self.old.files self.new.files ×
             B.stays self.old.lockfiles self.new.lockfiles ×
             (A.tells → KeepsLockfiles (A.bytes_at self.old.files) (A.bytes_at self.new.files)) }
-        ensures counted { Counts self.old.failures self.new.failures result }
+        ensures counted { CountsFailedCall self.old.failures self.new.failures result }
         ensures removed { OnOk result (A.tells × B.tells →
             apart (A.bytes_at self.new.files) (B.bytes_at self.new.lockfiles) path.now ≡
             None) }

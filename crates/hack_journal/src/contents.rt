@@ -2,9 +2,9 @@
 
 ghost use Rattle.std.specs.Prelude.{◌≡◌, ◌↔◌, [], ◌∷◌, IfOk, OnOk, OnErr, IsTrue};
 ghost use Rattle.std.specs.Option.{option_map};
-ghost use Rattle.hack_files.specs.Files.{Counts, KeepsOthers, KeepsAll, Makes, MakesOrNot};
+ghost use Rattle.hack_files.specs.Files.{CountsFailedCall, KeepsOthers, KeepsAll, Makes, MakesOrNot};
 ghost use Rattle.hack_journal.specs.Journal.{edit_of, edits_of};
-ghost use Rattle.hack_journal.specs.Safe.{AreBack, gives};
+ghost use Rattle.hack_journal.specs.SafeFiles.{AreBack, gives};
 
 use crate::entries::same;
 use crate::journal::Entry;
@@ -19,7 +19,7 @@ pub fn look<F: Files>(
     path: &str,
 ) -> Result<Option<Vec<u8>>, FileFault>
     ensures stays { F.stays files.old files.new }
-    ensures failures { Counts (F.failed files.old) (F.failed files.new) result }
+    ensures failures { CountsFailedCall (F.failed files.old) (F.failed files.new) result }
     ensures held { IfOk result (λ held. F.tells →
         F.bytes_at files.old path.now ≡ option_map (λ bytes. bytes.items) held) }
     ensures same { F.tells → KeepsAll (F.bytes_at files.old) (F.bytes_at files.new) }
@@ -36,7 +36,7 @@ pub fn look<F: Files>(
 /// Puts these bytes at a path, or removes what is there.
 pub fn put<F: Files>(files: &mut F, path: &str, bytes: Option<&[u8]>) -> Result<(), FileFault>
     ensures stays { F.stays files.old files.new }
-    ensures failures { Counts (F.failed files.old) (F.failed files.new) result }
+    ensures failures { CountsFailedCall (F.failed files.old) (F.failed files.new) result }
     ensures put { OnOk result (F.tells →
         F.bytes_at files.new path.now ≡ option_map (λ bytes. bytes.now) bytes.entry) }
     ensures others { F.tells → KeepsOthers path.now (F.bytes_at files.old) (F.bytes_at files.new) }
@@ -56,7 +56,7 @@ pub fn put<F: Files>(files: &mut F, path: &str, bytes: Option<&[u8]>) -> Result<
 // Whether the path of the entry holds what it held at first.
 fn is_back<F: Files>(alloc: Global, files: &mut F, entry: &Entry) -> Result<bool, FileFault>
     ensures stays { F.stays files.old files.new }
-    ensures failures { Counts (F.failed files.old) (F.failed files.new) result }
+    ensures failures { CountsFailedCall (F.failed files.old) (F.failed files.new) result }
     ensures back { IfOk result (λ back. F.tells → IsTrue back ↔
         (F.bytes_at files.old (edit_of entry.now).path ≡ (edit_of entry.now).held)) }
     ensures same { F.tells → KeepsAll (F.bytes_at files.old) (F.bytes_at files.new) }
@@ -75,7 +75,7 @@ pub fn are_back<F: Files>(
     entries: &[Entry],
 ) -> Result<bool, FileFault>
     ensures stays { F.stays files.old files.new }
-    ensures failures { Counts (F.failed files.old) (F.failed files.new) result }
+    ensures failures { CountsFailedCall (F.failed files.old) (F.failed files.new) result }
     ensures back { IfOk result (λ back. F.tells →
         IsTrue back ↔ AreBack (edits_of entries.now) (F.bytes_at files.old)) }
     ensures same { F.tells → KeepsAll (F.bytes_at files.old) (F.bytes_at files.new) }

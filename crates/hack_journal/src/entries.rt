@@ -3,8 +3,8 @@
 ghost use Rattle.std.specs.Prelude.{◌≡◌, ◌↔◌, IsTrue, IfOk};
 ghost use Rattle.std.specs.Option.{option_map};
 ghost use Rattle.hack_journal.specs.Journal.{edit_of, edits_of};
-ghost use Rattle.hack_journal.specs.Safe.{Fits, Tells, first_of};
-ghost use Rattle.hack_journal.specs.Recover.{Agrees, IsOfCall, AreOfCall};
+ghost use Rattle.hack_journal.specs.SafeFiles.{EntryHasBytes, SomeEntryHasBytes, first_entry_of};
+ghost use Rattle.hack_journal.specs.Recovery.{AgreesOnHeld, IsOfCall, AreOfCall};
 
 use crate::journal::Entry;
 use std::alloc::{AllocError, Global};
@@ -34,7 +34,7 @@ pub fn copy(alloc: Global, bytes: Option<&[u8]>) -> Result<Option<Vec<u8>>, Allo
 
 fn fits(entry: &Entry, path: &str, bytes: Option<&[u8]>) -> bool
     ensures { IsTrue result ↔
-        Fits (edit_of entry.now) path.now (option_map (λ bytes. bytes.now) bytes.entry) }
+        EntryHasBytes (edit_of entry.now) path.now (option_map (λ bytes. bytes.now) bytes.entry) }
 {
     entry.path.as_str() == path
         && (same(bytes, entry.held.as_deref()) || same(bytes, entry.wrote.as_deref()))
@@ -43,7 +43,7 @@ fn fits(entry: &Entry, path: &str, bytes: Option<&[u8]>) -> bool
 /// Returns whether an entry of the path has these bytes: the path held them, or they were written.
 pub fn tells(entries: &[Entry], path: &str, bytes: Option<&[u8]>) -> bool
     ensures { IsTrue result ↔
-        Tells (edits_of entries.now) path.now (option_map (λ bytes. bytes.now) bytes.entry) }
+        SomeEntryHasBytes (edits_of entries.now) path.now (option_map (λ bytes. bytes.now) bytes.entry) }
 {
     match entries {
         [] => false,
@@ -54,7 +54,7 @@ pub fn tells(entries: &[Entry], path: &str, bytes: Option<&[u8]>) -> bool
 /// Returns the first entry of the path, if there is one.
 pub fn first<'a>(entries: &'a [Entry], path: &str) -> Option<&'a Entry>
     ensures { option_map (λ entry. edit_of entry.now) result ≡
-        first_of (edits_of entries.now) path.now }
+        first_entry_of (edits_of entries.now) path.now }
 {
     match entries {
         [] => None,
@@ -72,7 +72,7 @@ pub fn first<'a>(entries: &'a [Entry], path: &str) -> Option<&'a Entry>
 // held at first.
 fn agrees(first: Option<&Entry>, entry: &Entry) -> bool
     ensures { IsTrue result ↔
-        Agrees (option_map (λ entry. edit_of entry.now) first.entry) (edit_of entry.now).held }
+        AgreesOnHeld (option_map (λ entry. edit_of entry.now) first.entry) (edit_of entry.now).held }
 {
     match first {
         Some(first) => same(first.held.as_deref(), entry.held.as_deref()),

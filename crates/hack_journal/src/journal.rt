@@ -10,7 +10,7 @@ ghost use Rattle.std.specs.Str.{IsUtf8};
 ghost use Rattle.hack_journal.specs.Journal.{Edit, edit_of, edits_of, HaveTextPaths};
 ghost use Rattle.hack_journal.specs.Journal.{lines, content_text, edit_text, edits_text};
 ghost use Rattle.hack_journal.specs.Journal.{journal_text};
-ghost use Rattle.hack_journal.specs.Journal.{IsNext, Reads};
+ghost use Rattle.hack_journal.specs.Journal.{BeginsWithoutSpace, ReadsValue};
 
 use std::alloc::{AllocError, AllocFailed, Global};
 use thiserror::Error;
@@ -115,8 +115,8 @@ pub fn spell(alloc: Global, entries: &[Entry]) -> Result<Vec<u8>, AllocError>
 // Returns the bytes of lines, and what follows the line feed that ends them.
 fn lines_of(alloc: Global, text: &[u8]) -> Result<(Vec<u8>, &[u8]), JournalFault>
     ensures shorter { IfOk result (λ x. length x.1.now < length text.now) }
-    ensures only { (bytes rest : List ℕ) → IsNext rest → text.now ≡ lines bytes ++ rest →
-        Reads {Y = List ℕ × List ℕ} (λ x. (x.0.items, x.1.now)) result (bytes, rest) }
+    ensures only { (bytes rest : List ℕ) → BeginsWithoutSpace rest → text.now ≡ lines bytes ++ rest →
+        ReadsValue {Y = List ℕ × List ℕ} (λ x. (x.0.items, x.1.now)) result (bytes, rest) }
 {
     let mut bytes = Vec::new(alloc);
     let mut left = text;
@@ -140,9 +140,9 @@ fn lines_of(alloc: Global, text: &[u8]) -> Result<(Vec<u8>, &[u8]), JournalFault
 // Returns the text of lines, and what follows them.
 fn text_of(alloc: Global, text: &[u8]) -> Result<(String, &[u8]), JournalFault>
     ensures shorter { IfOk result (λ x. length x.1.now < length text.now) }
-    ensures only { (bytes rest : List ℕ) → IsUtf8 bytes → IsNext rest →
+    ensures only { (bytes rest : List ℕ) → IsUtf8 bytes → BeginsWithoutSpace rest →
         text.now ≡ lines bytes ++ rest →
-        Reads {Y = List ℕ × List ℕ} (λ x. (string_bytes x.0, x.1.now)) result (bytes, rest) }
+        ReadsValue {Y = List ℕ × List ℕ} (λ x. (string_bytes x.0, x.1.now)) result (bytes, rest) }
 {
     let (bytes, rest) = lines_of(alloc, text)?;
     match String::from_utf8(bytes) {
@@ -155,7 +155,7 @@ fn text_of(alloc: Global, text: &[u8]) -> Result<(String, &[u8]), JournalFault>
 fn behind<'a>(text: &'a [u8], word: &[u8]) -> Result<&'a [u8], JournalFault>
     ensures shorter { IfOk result (λ rest. length rest.now ≤ length text.now) }
     ensures only { (rest : List ℕ) → text.now ≡ word.now ++ rest →
-        Reads (λ x. x.now) result rest }
+        ReadsValue (λ x. x.now) result rest }
 {
     match text.strip_prefix(word) {
         Some(rest) => Ok(rest),
@@ -166,8 +166,8 @@ fn behind<'a>(text: &'a [u8], word: &[u8]) -> Result<&'a [u8], JournalFault>
 // Returns what a file held or is to hold, and what follows that.
 fn content_of(alloc: Global, text: &[u8]) -> Result<(Option<Vec<u8>>, &[u8]), JournalFault>
     ensures shorter { IfOk result (λ x. length x.1.now ≤ length text.now) }
-    ensures only { (bytes : Option (List ℕ)) (rest : List ℕ) → IsNext rest →
-        text.now ≡ content_text bytes ++ rest → Reads {Y = Option (List ℕ) × List ℕ}
+    ensures only { (bytes : Option (List ℕ)) (rest : List ℕ) → BeginsWithoutSpace rest →
+        text.now ≡ content_text bytes ++ rest → ReadsValue {Y = Option (List ℕ) × List ℕ}
         (λ x. (option_map (λ bytes. bytes.items) x.0, x.1.now)) result (bytes, rest) }
 {
     if let Some(rest) = text.strip_prefix(b" nothing\n") {
@@ -181,9 +181,9 @@ fn content_of(alloc: Global, text: &[u8]) -> Result<(Option<Vec<u8>>, &[u8]), Jo
 // Returns the first entry of a text, and what follows it.
 fn entry_of(alloc: Global, text: &[u8]) -> Result<(Entry, &[u8]), JournalFault>
     ensures shorter { IfOk result (λ x. length x.1.now < length text.now) }
-    ensures only { (edit : Edit) (rest : List ℕ) → IsUtf8 edit.path → IsNext rest →
+    ensures only { (edit : Edit) (rest : List ℕ) → IsUtf8 edit.path → BeginsWithoutSpace rest →
         text.now ≡ edit_text edit ++ rest →
-        Reads {Y = Edit × List ℕ} (λ x. (edit_of x.0, x.1.now)) result (edit, rest) }
+        ReadsValue {Y = Edit × List ℕ} (λ x. (edit_of x.0, x.1.now)) result (edit, rest) }
 {
     let rest = behind(text, b"path ")?;
     let (path, rest) = text_of(alloc, rest)?;
@@ -196,7 +196,7 @@ fn entry_of(alloc: Global, text: &[u8]) -> Result<(Entry, &[u8]), JournalFault>
 
 fn entries_of(alloc: Global, text: &[u8]) -> Result<Vec<Entry>, JournalFault>
     ensures { (edits : List Edit) → HaveTextPaths edits → text.now ≡ edits_text edits →
-        Reads (λ x. edits_of x.items) result edits }
+        ReadsValue (λ x. edits_of x.items) result edits }
 {
     let mut entries = Vec::new(alloc);
     let mut left = text;
@@ -213,9 +213,9 @@ fn entries_of(alloc: Global, text: &[u8]) -> Result<Vec<Entry>, JournalFault>
 pub fn read_back(alloc: Global, text: &[u8]) -> Result<Vec<Entry>, JournalFault>
     ensures found { IfOk result (λ entries. text.now ≡ journal_text (edits_of entries.items)) }
     ensures back { (entries : List Entry) → text.now ≡ journal_text (edits_of entries) →
-        Reads (λ x. edits_of x.items) result (edits_of entries) }
+        ReadsValue (λ x. edits_of x.items) result (edits_of entries) }
     ensures only { (edits : List Edit) → HaveTextPaths edits → text.now ≡ journal_text edits →
-        Reads (λ x. edits_of x.items) result edits }
+        ReadsValue (λ x. edits_of x.items) result edits }
 {
     let rest = behind(text, b"edited files\n")?;
     let entries = entries_of(alloc, rest)?;

@@ -7,11 +7,11 @@
 ghost use Rattle.std.specs.Prelude.{◌≡◌, ◌≢◌, ◌++◌, ◌⊎◌, [], ◌∷◌, List, ℕ, None, Some, false};
 ghost use Rattle.std.specs.Prelude.{IfOk, OnOk, OnErr, IsTrue, IsSome, ◌↔◌, string_bytes};
 ghost use Rattle.std.specs.Option.{option_map};
-ghost use Rattle.hack_files.specs.Files.{Contents, Counts, GrowsBy, KeepsOthers, KeepsAll};
+ghost use Rattle.hack_files.specs.Files.{Contents, CountsFailedCall, GrowsBy, KeepsOthers, KeepsAll};
 ghost use Rattle.hack_files.specs.Files.{Makes, MakesOrNot, puts};
 ghost use Rattle.hack_journal.specs.Journal.{edit_of, edits_of, journal_text};
-ghost use Rattle.hack_journal.specs.Safe.{Tells, first_of, IsHeld, AreBack, gives};
-ghost use Rattle.hack_journal.specs.Safe.{IsJournaled, Stays, Hidden, but, without};
+ghost use Rattle.hack_journal.specs.SafeFiles.{SomeEntryHasBytes, first_entry_of, IsHeld, AreBack, gives};
+ghost use Rattle.hack_journal.specs.SafeFiles.{IsJournaled, Stays, Hidden, changes_besides, without};
 
 use crate::contents::{are_back, look, put};
 use crate::entries::{copy, first, tells};
@@ -70,7 +70,7 @@ impl<F: Files> Journaled<F> {
         ensures handed { F.stays self.old.files self.new.files }
         ensures rest { self.new ≡ record self.old { files = self.new.files } }
         ensures held { IfOk result (λ held. F.tells →
-            IsHeld (first_of (edits_of self.old.entries.items) path.now)
+            IsHeld (first_entry_of (edits_of self.old.entries.items) path.now)
             (F.bytes_at self.old.files path.now) (option_map (λ bytes. bytes.items) held)) }
         ensures same { F.tells →
             KeepsAll (F.bytes_at self.old.files) (F.bytes_at self.new.files) }
@@ -94,7 +94,7 @@ impl<F: Files> Journaled<F> {
         ensures wrote { IfOk result (λ entry.
             (edit_of entry).wrote ≡ option_map (λ bytes. bytes.now) bytes.entry) }
         ensures held { IfOk result (λ entry. F.tells →
-            IsHeld (first_of (edits_of self.old.entries.items) path.now)
+            IsHeld (first_entry_of (edits_of self.old.entries.items) path.now)
             (F.bytes_at self.old.files path.now) (edit_of entry).held) }
         ensures same { F.tells →
             KeepsAll (F.bytes_at self.old.files) (F.bytes_at self.new.files) }
@@ -170,7 +170,7 @@ impl<F: Files> Journaled<F> {
         ensures handed { F.stays self.old.files self.new.files }
         ensures rest { self.new ≡
             record self.old { files = self.new.files; entries = self.new.entries } }
-        ensures told { OnOk result (Tells (edits_of self.new.entries.items) path.now
+        ensures told { OnOk result (SomeEntryHasBytes (edits_of self.new.entries.items) path.now
             (option_map (λ bytes. bytes.now) bytes.entry)) }
         ensures others { F.tells → KeepsOthers (string_bytes self.old.journal)
             (F.bytes_at self.old.files) (F.bytes_at self.new.files) }
@@ -192,7 +192,7 @@ impl<F: Files> Journaled<F> {
         ensures handed { F.stays self.old.files self.new.files }
         ensures rest { self.new ≡
             record self.old { files = self.new.files; entries = self.new.entries } }
-        ensures told { OnOk result (Tells (edits_of self.new.entries.items) path.now
+        ensures told { OnOk result (SomeEntryHasBytes (edits_of self.new.entries.items) path.now
             (option_map (λ bytes. bytes.now) bytes.entry)) }
         ensures others { F.tells → KeepsOthers (string_bytes self.old.journal)
             (F.bytes_at self.old.files) (F.bytes_at self.new.files) }
@@ -224,14 +224,14 @@ impl<F: Files> Journaled<F> {
             (without (string_bytes self.old.journal) (F.bytes_at self.new.files)) }
         ensures traced { OnOk result (F.whole →
             Makes (gives path.now (option_map (λ bytes. bytes.now) bytes.entry) ∷ [])
-            (but (string_bytes self.old.journal) (F.trace self.old.files))
-            (but (string_bytes self.old.journal) (F.trace self.new.files))
+            (changes_besides (string_bytes self.old.journal) (F.trace self.old.files))
+            (changes_besides (string_bytes self.old.journal) (F.trace self.new.files))
             (without (string_bytes self.old.journal) (F.bytes_at self.old.files))
             (without (string_bytes self.old.journal) (F.bytes_at self.new.files))) }
         ensures refused { OnErr result (F.whole →
             MakesOrNot (gives path.now (option_map (λ bytes. bytes.now) bytes.entry))
-            (but (string_bytes self.old.journal) (F.trace self.old.files))
-            (but (string_bytes self.old.journal) (F.trace self.new.files))
+            (changes_besides (string_bytes self.old.journal) (F.trace self.old.files))
+            (changes_besides (string_bytes self.old.journal) (F.trace self.new.files))
             (without (string_bytes self.old.journal) (F.bytes_at self.old.files))
             (without (string_bytes self.old.journal) (F.bytes_at self.new.files))) }
         ensures stays { F.tells → F.whole → Stays (string_bytes self.old.journal)
@@ -252,7 +252,7 @@ impl<F: Files> Journaled<F> {
     fn close(&mut self) -> Result<bool, FileFault>
         ensures handed { F.stays self.old.files self.new.files }
         ensures journal { self.new.journal ≡ self.old.journal }
-        ensures below { Counts (F.failed self.old.files) (F.failed self.new.files) result }
+        ensures below { CountsFailedCall (F.failed self.old.files) (F.failed self.new.files) result }
         ensures failures { self.new.failures ≡ self.old.failures }
         ensures others { F.tells → KeepsOthers (string_bytes self.old.journal)
             (F.bytes_at self.old.files) (F.bytes_at self.new.files) }
@@ -286,10 +286,10 @@ impl<F: Files> Journaled<F> {
     pub fn finish(&mut self) -> Result<bool, FileFault>
         ensures handed { F.stays self.old.files self.new.files }
         ensures journal { self.new.journal ≡ self.old.journal }
-        ensures counted { Counts self.old.failures self.new.failures result }
+        ensures counted { CountsFailedCall self.old.failures self.new.failures result }
 
         // It fails only where a call of the files below failed.
-        ensures below { Counts (F.failed self.old.files) (F.failed self.new.files) result }
+        ensures below { CountsFailedCall (F.failed self.old.files) (F.failed self.new.files) result }
         ensures others { F.tells → KeepsOthers (string_bytes self.old.journal)
             (F.bytes_at self.old.files) (F.bytes_at self.new.files) }
         ensures stays { F.tells → F.whole → Stays (string_bytes self.old.journal)
@@ -346,7 +346,7 @@ impl<F: Files> Files for Journaled<F> {
 
     ghost bytes_at = { λ files. without (string_bytes files.journal) (F.bytes_at files.files) };
 
-    ghost trace = { λ files. but (string_bytes files.journal) (F.trace files.files) };
+    ghost trace = { λ files. changes_besides (string_bytes files.journal) (F.trace files.files) };
 
     ghost failed = { λ files. files.failures };
 
@@ -357,15 +357,15 @@ impl<F: Files> Files for Journaled<F> {
             (F.trace self.old.files) (F.trace self.new.files)
             (F.bytes_at self.old.files) (F.bytes_at self.new.files)) ×
             F.stays self.old.files self.new.files }
-        ensures counted { Counts self.old.failures self.new.failures result }
+        ensures counted { CountsFailedCall self.old.failures self.new.failures result }
         ensures bytes { IfOk result (λ bytes. F.tells → without (string_bytes self.old.journal)
             (F.bytes_at self.old.files) path.now ≡ Some bytes.items) }
         ensures same { F.tells → KeepsAll
             (without (string_bytes self.old.journal) (F.bytes_at self.old.files))
             (without (string_bytes self.new.journal) (F.bytes_at self.new.files)) }
         ensures untraced { F.tells × F.whole → Makes []
-            (but (string_bytes self.old.journal) (F.trace self.old.files))
-            (but (string_bytes self.new.journal) (F.trace self.new.files))
+            (changes_besides (string_bytes self.old.journal) (F.trace self.old.files))
+            (changes_besides (string_bytes self.new.journal) (F.trace self.new.files))
             (without (string_bytes self.old.journal) (F.bytes_at self.old.files))
             (without (string_bytes self.new.journal) (F.bytes_at self.new.files)) }
         // Not even a journal is written.
@@ -402,15 +402,15 @@ impl<F: Files> Files for Journaled<F> {
             (F.trace self.old.files) (F.trace self.new.files)
             (F.bytes_at self.old.files) (F.bytes_at self.new.files)) ×
             F.stays self.old.files self.new.files }
-        ensures counted { Counts self.old.failures self.new.failures result }
+        ensures counted { CountsFailedCall self.old.failures self.new.failures result }
         ensures there { IfOk result (λ there. F.tells → IsTrue there ↔ IsSome
             (without (string_bytes self.old.journal) (F.bytes_at self.old.files) path.now)) }
         ensures same { F.tells → KeepsAll
             (without (string_bytes self.old.journal) (F.bytes_at self.old.files))
             (without (string_bytes self.new.journal) (F.bytes_at self.new.files)) }
         ensures untraced { F.tells × F.whole → Makes []
-            (but (string_bytes self.old.journal) (F.trace self.old.files))
-            (but (string_bytes self.new.journal) (F.trace self.new.files))
+            (changes_besides (string_bytes self.old.journal) (F.trace self.old.files))
+            (changes_besides (string_bytes self.new.journal) (F.trace self.new.files))
             (without (string_bytes self.old.journal) (F.bytes_at self.old.files))
             (without (string_bytes self.new.journal) (F.bytes_at self.new.files)) }
         // Not even a journal is written.

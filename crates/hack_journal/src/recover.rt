@@ -5,12 +5,12 @@ ghost use Rattle.std.specs.Prelude.{IfOk, IfErr, OnOk, false, length};
 ghost use Rattle.hack_files.specs.Files.{Contents, KeepsOthers, KeepsAll, Makes, MakesOrNot};
 ghost use Rattle.hack_files.specs.Files.{GrowsBy, after, after_change};
 ghost use Rattle.hack_journal.specs.Journal.{Edit, edit_of, edits_of, journal_text, HaveTextPaths};
-ghost use Rattle.hack_journal.specs.Safe.{IsSafe, IsSafeBy, StaysSafe, KeepFirst, Tells};
-ghost use Rattle.hack_journal.specs.Safe.{gives, without};
-ghost use Rattle.hack_journal.specs.Recover.{AreOfCall, AreTold, backs, Differ, IsRestored};
-ghost use Rattle.hack_journal.specs.Recover.{IsWhy, IsWhyUnread, IsWhyNotTold};
-ghost use Rattle.hack_journal.specs.Recover.{IsRefusal, NamesNoJournal, CountsFault, IsCounted};
-ghost use Rattle.hack_journal.specs.Recover.{FailsAt, HasEntry};
+ghost use Rattle.hack_journal.specs.SafeFiles.{IsSafe, IsSafeBy, StaysSafe, KeepFirst, SomeEntryHasBytes};
+ghost use Rattle.hack_journal.specs.SafeFiles.{gives, without};
+ghost use Rattle.hack_journal.specs.Recovery.{AreOfCall, AreTold, backs, Differ, IsRestored};
+ghost use Rattle.hack_journal.specs.Recovery.{IsWhy, IsWhyUnread, IsWhyNotTold};
+ghost use Rattle.hack_journal.specs.Recovery.{IsJournalRefusal, NamesNoJournal, CountsRecoverFault, IsFailureCounted};
+ghost use Rattle.hack_journal.specs.Recovery.{FailsAt, HasEntry};
 
 use crate::contents::{look, put};
 use crate::entries::{are_of_call, same, tells};
@@ -51,8 +51,8 @@ impl From<AllocError> for RecoverFault {
 
 // The error of reading a path.
 fn read_fault(alloc: Global, path: &str, fault: FileFault) -> RecoverFault
-    ensures failures { (old new : ℕ) → GrowsBy 1 old new → CountsFault old new result }
-    ensures kind { ¬ IsRefusal result }
+    ensures failures { (old new : ℕ) → GrowsBy 1 old new → CountsRecoverFault old new result }
+    ensures kind { ¬ IsJournalRefusal result }
     ensures named { FailsAt (λ p. p ≡ path.now) result }
 {
     match fault {
@@ -66,8 +66,8 @@ fn read_fault(alloc: Global, path: &str, fault: FileFault) -> RecoverFault
 
 // The error of a write or a removal.
 fn write_fault(alloc: Global, path: &str, fault: FileFault) -> RecoverFault
-    ensures failures { (old new : ℕ) → GrowsBy 1 old new → CountsFault old new result }
-    ensures kind { ¬ IsRefusal result }
+    ensures failures { (old new : ℕ) → GrowsBy 1 old new → CountsRecoverFault old new result }
+    ensures kind { ¬ IsJournalRefusal result }
     ensures named { FailsAt (λ p. p ≡ path.now) result }
 {
     match fault {
@@ -81,7 +81,7 @@ fn write_fault(alloc: Global, path: &str, fault: FileFault) -> RecoverFault
 
 // The error of a text that is no journal.
 fn no_journal(alloc: Global, journal: &str) -> RecoverFault
-    ensures failures { (old new : ℕ) → GrowsBy 0 old new → CountsFault old new result }
+    ensures failures { (old new : ℕ) → GrowsBy 0 old new → CountsRecoverFault old new result }
     ensures kind { NamesNoJournal journal.now result }
 {
     match String::from_str(alloc, journal) {
@@ -97,7 +97,7 @@ fn entries_in<F: Files>(
     files: &mut F,
     journal: &str,
 ) -> Result<Option<Vec<Entry>>, RecoverFault>
-    ensures failures { IsCounted (F.failed files.old) (F.failed files.new) result }
+    ensures failures { IsFailureCounted (F.failed files.old) (F.failed files.new) result }
     ensures none { IfOk result (λ found. found ≡ None → F.tells →
         F.bytes_at files.old journal.now ≡ None) }
     ensures some { IfOk result (λ found. (entries : Vec Entry Global) → found ≡ Some entries →
@@ -138,8 +138,8 @@ fn check<F: Files>(
     all: &[Entry],
     entry: &Entry,
 ) -> Result<(), RecoverFault>
-    ensures failures { IsCounted (F.failed files.old) (F.failed files.new) result }
-    ensures told { OnOk result (F.tells → Tells (edits_of all.now) (edit_of entry.now).path
+    ensures failures { IsFailureCounted (F.failed files.old) (F.failed files.new) result }
+    ensures told { OnOk result (F.tells → SomeEntryHasBytes (edits_of all.now) (edit_of entry.now).path
         (F.bytes_at files.old (edit_of entry.now).path)) }
     ensures why { IfErr result (IsWhyNotTold journal.now F.tells (edits_of all.now)
         (edit_of entry.now ∷ []) (F.bytes_at files.old)) }
@@ -169,7 +169,7 @@ fn check_all<F: Files>(
     all: &[Entry],
     entries: &[Entry],
 ) -> Result<(), RecoverFault>
-    ensures failures { IsCounted (F.failed files.old) (F.failed files.new) result }
+    ensures failures { IsFailureCounted (F.failed files.old) (F.failed files.new) result }
     ensures told { OnOk result (F.tells →
         AreTold (edits_of all.now) (edits_of entries.now) (F.bytes_at files.old)) }
     ensures why { IfErr result (IsWhyNotTold journal.now F.tells (edits_of all.now)
@@ -190,7 +190,7 @@ fn check_all<F: Files>(
 // Puts back what this entry keeps, and returns whether the path held something else.
 #[tactic(auto, using(crate::proofs::CountLemmas::grows_then))]
 fn put_back<F: Files>(alloc: Global, files: &mut F, entry: &Entry) -> Result<bool, RecoverFault>
-    ensures failures { IsCounted (F.failed files.old) (F.failed files.new) result }
+    ensures failures { IsFailureCounted (F.failed files.old) (F.failed files.new) result }
     ensures back { OnOk result (F.tells → KeepsAll
         (after_change (gives (edit_of entry.now).path (edit_of entry.now).held)
         (F.bytes_at files.old))
@@ -200,7 +200,7 @@ fn put_back<F: Files>(alloc: Global, files: &mut F, entry: &Entry) -> Result<boo
     ensures made { F.whole → MakesOrNot
         (gives (edit_of entry.now).path (edit_of entry.now).held) (F.trace files.old)
         (F.trace files.new) (F.bytes_at files.old) (F.bytes_at files.new) }
-    ensures fault { IfErr result (λ fault. ¬ IsRefusal fault) }
+    ensures fault { IfErr result (λ fault. ¬ IsJournalRefusal fault) }
     ensures named { IfErr result (FailsAt (λ p. p ≡ (edit_of entry.now).path)) }
 {
     let now = match look(alloc, files, &entry.path) {
@@ -223,7 +223,7 @@ fn put_all_back<F: Files>(
     files: &mut F,
     entries: &[Entry],
 ) -> Result<u64, RecoverFault>
-    ensures failures { IsCounted (F.failed files.old) (F.failed files.new) result }
+    ensures failures { IsFailureCounted (F.failed files.old) (F.failed files.new) result }
     ensures back { OnOk result (F.tells →
         KeepsAll (after (backs (edits_of entries.now)) (F.bytes_at files.old))
         (F.bytes_at files.new)) }
@@ -238,7 +238,7 @@ fn put_all_back<F: Files>(
         StaysSafe journal first (F.trace files.old) (F.trace files.new)
         (F.bytes_at files.old) (F.bytes_at files.new) ×
         IsSafeBy journal first edits (F.bytes_at files.new) }
-    ensures fault { IfErr result (λ fault. ¬ IsRefusal fault) }
+    ensures fault { IfErr result (λ fault. ¬ IsJournalRefusal fault) }
     ensures named { IfErr result (FailsAt (HasEntry (edits_of entries.now))) }
 {
     match entries.split_first() {
@@ -259,7 +259,7 @@ fn take_back<F: Files>(
     journal: &str,
     entries: &[Entry],
 ) -> Result<u64, RecoverFault>
-    ensures failures { IsCounted (F.failed files.old) (F.failed files.new) result }
+    ensures failures { IsFailureCounted (F.failed files.old) (F.failed files.new) result }
     ensures back { OnOk result (F.tells → KeepsOthers journal.now
         (after (backs (edits_of entries.now)) (F.bytes_at files.old)) (F.bytes_at files.new)) }
     ensures gone { OnOk result (F.tells → F.bytes_at files.new journal.now ≡ None) }
@@ -271,7 +271,7 @@ fn take_back<F: Files>(
         IsSafeBy journal.now first (edits_of entries.now) (F.bytes_at files.old) →
         StaysSafe journal.now first (F.trace files.old) (F.trace files.new)
         (F.bytes_at files.old) (F.bytes_at files.new) }
-    ensures fault { IfErr result (λ fault. ¬ IsRefusal fault) }
+    ensures fault { IfErr result (λ fault. ¬ IsJournalRefusal fault) }
     ensures named { IfErr result (FailsAt (λ p.
         (p ≡ journal.now) ⊎ HasEntry (edits_of entries.now) p)) }
 {
@@ -291,7 +291,7 @@ fn take_back<F: Files>(
 #[tactic(auto, using(crate::proofs::CountLemmas::grows_then))]
 pub fn recover<F: Files>(alloc: Global, files: &mut F, journal: &str) -> Result<u64, RecoverFault>
     // It ends at the first failed call of the files, and returns an error for it.
-    ensures failures { IsCounted (F.failed files.old) (F.failed files.new) result }
+    ensures failures { IsFailureCounted (F.failed files.old) (F.failed files.new) result }
     // Each kept path holds what it held at first, and no other path was changed.
     ensures restored { IfOk result (λ count. F.tells →
         IsRestored journal.now count (F.bytes_at files.old) (F.bytes_at files.new)) }
@@ -302,10 +302,10 @@ pub fn recover<F: Files>(alloc: Global, files: &mut F, journal: &str) -> Result<
     // An error says why not, and names the paths.
     ensures why { IfErr result (IsWhy journal.now F.tells (F.bytes_at files.old)) }
     // A refusal changes nothing.
-    ensures refused { IfErr result (λ fault. IsRefusal fault → F.tells →
+    ensures refused { IfErr result (λ fault. IsJournalRefusal fault → F.tells →
         KeepsAll (F.bytes_at files.old) (F.bytes_at files.new)) }
     // What an interrupted call left is never refused.
-    ensures never { IfErr result (λ fault. IsRefusal fault → F.tells → (first : Contents) →
+    ensures never { IfErr result (λ fault. IsJournalRefusal fault → F.tells → (first : Contents) →
         ¬ IsSafe journal.now first (F.bytes_at files.old)) }
     // It may be interrupted too, at any moment.
     ensures safe { F.tells → F.whole → (first : Contents) →

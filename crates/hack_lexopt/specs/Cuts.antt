@@ -19,7 +19,7 @@ pub data Untaken : Type 0 where
   Chain : List ℕ → Untaken
 
 -- what a parser has left to read, and the last option that it has read
-pub record Left : Type 0 where
+pub record LeftArguments : Type 0 where
   pub option : Option Cut
   pub untaken : Untaken
   pub words : List (List ℕ)
@@ -74,8 +74,8 @@ abbrev pub is_chain : List ℕ → Bool
 is_chain word = starts_with nat_eq word (codes "-") && nat_lt 1 (length word)
 
 -- an argument that is no option
-abbrev pub is_plain : List ℕ → Bool
-is_plain word = not (is_long word) && not (is_chain word)
+abbrev pub is_plain_word : List ℕ → Bool
+is_plain_word word = not (is_long word) && not (is_chain word)
 
 -- the first item of an argument
 abbrev pub cut_of : List ℕ → Cut
@@ -87,7 +87,7 @@ untaken_of word = if is_long word then pending_of (drop 2 word) else (if is_chai
 
 -- the next item: a letter of the chain, or the first of the next argument; a value that nobody took
 -- is refused
-abbrev pub next_cut : Left → Result (Option Cut) LexFault
+abbrev pub next_cut : LeftArguments → Result (Option Cut) LexFault
 next_cut left = go left.untaken left.words
   where
     go : Untaken → List (List ℕ) → Result (Option Cut) LexFault
@@ -97,14 +97,14 @@ next_cut left = go left.untaken left.words
     go Nothing (word ∷ words) = Ok (Some (cut_of word))
 
 -- what remains once no more of the argument is read
-abbrev pub after_attached : Left → Left
+abbrev pub after_attached : LeftArguments → LeftArguments
 after_attached left = record { option = left.option; untaken = Nothing; words = left.words }
 
 -- what the next item leaves; after a refusal, the parser is at the next argument
-abbrev pub after_cut : Left → Left
+abbrev pub after_cut : LeftArguments → LeftArguments
 after_cut left = go left.option left.untaken left.words
   where
-    go : Option Cut → Untaken → List (List ℕ) → Left
+    go : Option Cut → Untaken → List (List ℕ) → LeftArguments
     go option (Pending value) words = record { option = option; untaken = Nothing; words = words }
     go option (Chain letters) words =
         if begins_with_equals letters then record { option = option; untaken = Nothing; words = words } else record { option = Some (ShortCut (first_letter letters)); untaken = after_letter letters; words = words }
@@ -119,7 +119,7 @@ attached_value (Chain letters) = Some (if begins_with_equals letters then drop 1
 attached_value Nothing = None
 
 -- the value of an option: the attached one, else the next argument whatever it is
-abbrev pub value_of : Left → Option (List ℕ)
+abbrev pub value_of : LeftArguments → Option (List ℕ)
 value_of left = go (attached_value left.untaken) left.words
   where
     go : Option (List ℕ) → List (List ℕ) → Option (List ℕ)
@@ -127,31 +127,31 @@ value_of left = go (attached_value left.untaken) left.words
     go None words = slice_get words 0
 
 -- what remains after the value of an option
-abbrev pub after_value : Left → Left
+abbrev pub after_value : LeftArguments → LeftArguments
 after_value left = go left.untaken left.words
   where
-    go : Untaken → List (List ℕ) → Left
+    go : Untaken → List (List ℕ) → LeftArguments
     go Nothing [] = record { option = left.option; untaken = Nothing; words = [] }
     go Nothing (word ∷ words) = record { option = left.option; untaken = Nothing; words = words }
     go (Pending value) words = record { option = left.option; untaken = Nothing; words = words }
     go (Chain letters) words = record { option = left.option; untaken = Nothing; words = words }
 
 -- a value that may be left out: the attached one, else the next argument unless that is an option
-abbrev pub optional_of : Left → Option (List ℕ)
+abbrev pub optional_of : LeftArguments → Option (List ℕ)
 optional_of left = go (attached_value left.untaken) left.words
   where
     go : Option (List ℕ) → List (List ℕ) → Option (List ℕ)
     go (Some value) words = Some value
     go None [] = None
-    go None (word ∷ words) = if is_plain word then Some word else None
+    go None (word ∷ words) = if is_plain_word word then Some word else None
 
 -- what remains after a value that may be left out
-abbrev pub after_optional : Left → Left
+abbrev pub after_optional : LeftArguments → LeftArguments
 after_optional left = go left.untaken left.words
   where
-    go : Untaken → List (List ℕ) → Left
+    go : Untaken → List (List ℕ) → LeftArguments
     go Nothing [] = record { option = left.option; untaken = Nothing; words = [] }
-    go Nothing (word ∷ words) = record { option = left.option; untaken = Nothing; words = if is_plain word then words else word ∷ words }
+    go Nothing (word ∷ words) = record { option = left.option; untaken = Nothing; words = if is_plain_word word then words else word ∷ words }
     go (Pending value) words = record { option = left.option; untaken = Nothing; words = words }
     go (Chain letters) words = record { option = left.option; untaken = Nothing; words = words }
 

@@ -15,7 +15,7 @@ use Rattle.hack_lexopt.specs.declared.parser.Next.TheVariants as next
 use Rattle.hack_lexopt.specs.declared.fault.LexFault.{LexFault}
 use Rattle.hack_lexopt.specs.declared.fault.LexFault.TheVariants.{UnexpectedValue}
 use Rattle.hack_lexopt.specs.contracts.parser.Parser.{the_row}
-use Rattle.hack_lexopt.specs.Cuts.{Untaken, Nothing, Pending, Chain, Left, Cut, LongCut, ShortCut, ValueCut, cut_of, option_in, next_cut, unexpected_of}
+use Rattle.hack_lexopt.specs.Cuts.{Untaken, Nothing, Pending, Chain, LeftArguments, Cut, LongCut, ShortCut, ValueCut, cut_of, option_in, next_cut, unexpected_of}
 
 -- what the rest of an argument leaves unread
 abbrev pub untaken_rest : Place → List ℕ → Untaken
@@ -33,11 +33,11 @@ option_at (Some letter) word = Some (ShortCut letter)
 option_at None word = option_in (cut_of word)
 
 -- what a parser has left to read
-abbrev pub left_in : Parser → Left
+abbrev pub left_in : Parser → LeftArguments
 left_in p = record { option = option_at p.spot.letter (string_bytes p.word); untaken = untaken_at p.spot (string_bytes p.word); words = map string_bytes p.words.items }
 
 -- a parser that has read nothing
-abbrev pub start : List (List ℕ) → Left
+abbrev pub start : List (List ℕ) → LeftArguments
 start words = record { option = None; untaken = Nothing; words = words }
 
 -- the item that an `Arg` represents
@@ -58,7 +58,7 @@ flag_cut (flag.Long name) = LongCut name.now
 flag_cut (flag.Short letter) = ShortCut letter
 
 -- what comes next: an item, the end, or a value of the option before that nobody took
-abbrev pub IsNext : Left → Next → Type 0
+abbrev pub IsNext : LeftArguments → Next → Type 0
 IsNext left_in (next.Cut arg) = next_cut left_in ≡ Ok (Some (cut_in arg))
 IsNext left_in next.End = next_cut left_in ≡ Ok None
 IsNext left_in (next.Refused option value) = (next_cut left_in ≡ Err UnexpectedValue) × (left_in.option ≡ Some (flag_cut option)) × (unexpected_of left_in.untaken ≡ Some value.now)
@@ -70,5 +70,5 @@ letter_in (ShortCut letter) = Some letter
 letter_in (ValueCut word) = None
 
 -- what remains once the returned reference is no longer used
-abbrev pub Leaves : MutBor Parser → Left → Fml
-Leaves p l = Rests the_row p (λ new. left_in new ≡ l)
+abbrev pub LeavesToRead : MutBor Parser → LeftArguments → Fml
+LeavesToRead p l = Rests the_row p (λ new. left_in new ≡ l)

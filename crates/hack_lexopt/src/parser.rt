@@ -39,7 +39,7 @@ pub enum Next<'a> {
 }
 
 impl Parser {
-    ghost use Rattle.hack_lexopt.specs.Parsers.{left_in, start, cut_seen, IsNext, Leaves};
+    ghost use Rattle.hack_lexopt.specs.Parsers.{left_in, start, cut_seen, IsNext, LeavesToRead};
 
     /// A parser at the first argument.
     pub fn from_args(alloc: Global, words: Vec<String>) -> Parser
@@ -59,7 +59,7 @@ impl Parser {
     /// What comes next: an item, the end, or a value that nobody took; after that the parser is at
     /// the next argument.
     pub fn cut(&mut self) -> Next<'_>
-        ensures* leaves { sem 𝓛 (Leaves self.entry (after_cut (left_in self.old))) }
+        ensures* leaves { sem 𝓛 (LeavesToRead self.entry (after_cut (left_in self.old))) }
         ensures next { IsNext (left_in self.old) result }
     {
         let Spot { letter, at, place } = self.spot;
@@ -89,7 +89,7 @@ impl Parser {
     /// The next item, or none after the last argument. A value that nobody took is refused here,
     /// and then the parser is at the next argument.
     pub fn next(&mut self) -> Result<Option<Arg<'_>>, LexFault>
-        ensures* leaves { sem 𝓛 (Leaves self.entry (after_cut (left_in self.old))) }
+        ensures* leaves { sem 𝓛 (LeavesToRead self.entry (after_cut (left_in self.old))) }
         ensures cut { cut_seen result ≡ next_cut (left_in self.old) }
         ensures refused { IfErr result (λ fault. fault ≡ LexFault.UnexpectedValue) }
     {

@@ -5,19 +5,19 @@ use Rattle.std.proofs.lemmas.List.{length-map}
 use Rattle.std.proofs.lemmas.Slice.Zip.{AllZip-long}
 use Rattle.hack_files.specs.Files.{Change, Contents}
 use Rattle.hack_process.specs.Calls.{Call}
-use Rattle.hack_metadata.specs.Asks.{Ends, EndsSo, Stage}
-use Rattle.hack_metadata.specs.Left.{Whole}
+use Rattle.hack_metadata.specs.QuestionCalls.{QuestionEndsWith, EndsSo, Stage}
+use Rattle.hack_metadata.specs.FilesAfterAsking.{Whole}
 use Rattle.hack_metadata.specs.Requests.{Question}
-use Rattle.hack_metadata.specs.View.{place_at}
-use Rattle.hack_metadata.specs.Whole.{metadata_view}
+use Rattle.hack_metadata.specs.RecordViews.{place_at}
+use Rattle.hack_metadata.specs.MetadataView.{metadata_view}
 use Rattle.hack_metadata.specs.declared.ask_fault.AskFault.{AskFault}
 use Rattle.hack_metadata.specs.declared.metadata.Metadata.{Metadata}
 use Rattle.hack_manifest.specs.declared.manifest.Manifest.{Manifest}
 use Rattle.hack_words.specs.declared.cli.args.Args.{Args}
 use Rattle.hack_words.specs.declared.cli.env.Env.{Env}
-use Rattle.hack_load.specs.Answers.{Follows, IsLoaded}
-use Rattle.hack_load.specs.LeavesFew.{ReadsOnly}
-use Rattle.hack_load.specs.Loads.{AreOfMembers, IsOfMember}
+use Rattle.hack_load.specs.Answers.{LoadsFromMetadata, IsLoaded}
+use Rattle.hack_load.specs.FilesAfterLoading.{ReadsOnly}
+use Rattle.hack_load.specs.CargoQuestions.{AreOfMembers, IsOfMember}
 use Rattle.hack_load.specs.declared.fault.ContextFault.{ContextFault}
 use Rattle.hack_load.specs.declared.loaded.Loaded.{Loaded}
 use Rattle.hack_load.proofs.MemberLemmas.{each-earlier, member-fault-earlier}
@@ -27,7 +27,7 @@ pub members-long : (tells : Type 0) (held : Contents) (m : Metadata) (xs : List 
 members-long tells held m xs are = AllZip-long (IsOfMember tells held (metadata_view m)) (map place_at m.workspace_members.items) xs are ∙ length-map m.workspace_members.items place_at
 
 -- a question that ended, whatever was written
-pub ends-known : (tells : Type 0) (q : Question) (held : Contents) (old new : List Call) (W : Stage → List Change → Type 0) (r : Result Metadata AskFault) → EndsSo tells q held old new W r → Ends tells q held old new r
+pub ends-known : (tells : Type 0) (q : Question) (held : Contents) (old new : List Call) (W : Stage → List Change → Type 0) (r : Result Metadata AskFault) → EndsSo tells q held old new W r → QuestionEndsWith tells q held old new r
 ends-known tells q held old new W (Ok m) h = (h.0, h.1, h.2, h.3, h.4, tt, h.6)
 ends-known tells q held old new W (Err e) h = (h.0, h.1, h.2, h.3, h.4, tt)
 
@@ -42,7 +42,7 @@ loaded-later tells b c y z env (Err e) whole h = tt
 
 -- what follows the metadata agrees with the files before them, where nothing was changed
 pub follows-earlier : (tells : Type 0) (args : Args) (env : Env) (a b : Contents) (x y z : ℕ) (m : Metadata) (mid new : List Call) (r : Result Loaded ContextFault) → Whole tells a b x y
-    → Follows tells args env b y z m mid new r → Follows tells args env a x z m mid new r
+    → LoadsFromMetadata tells args env b y z m mid new r → LoadsFromMetadata tells args env a x z m mid new r
 follows-earlier tells args env a b x y z m mid new (Ok l) whole h = (
   h.0,
   h.1,

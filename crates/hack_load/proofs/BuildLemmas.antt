@@ -6,14 +6,14 @@ use Rattle.std.proofs.lemmas.Bool.{cases_lt}
 use Rattle.std.proofs.lemmas.List.{drop_all, get_or-map, get_or_default}
 use Rattle.hack_features.specs.FeatureMap.{feature_map}
 use Rattle.hack_metadata.specs.Records.{MetadataRecord}
-use Rattle.hack_metadata.specs.View.{place_at}
+use Rattle.hack_metadata.specs.RecordViews.{place_at}
 use Rattle.hack_metadata.specs.declared.fault.MetadataFault.{MetadataFault}
 use Rattle.hack_metadata.specs.declared.fault.MetadataFault.TheVariants as faults
 use Rattle.hack_metadata.specs.declared.resolve.PackageId.{PackageId}
 use Rattle.hack_manifest.specs.declared.manifest.Manifest.{Manifest}
 use Rattle.hack_load.specs.Candidates.{MissesNode}
 use Rattle.hack_load.specs.ContextOf.{AreFeatures, IsNodeFault}
-use Rattle.hack_load.specs.Features.{AreCandidates, IsRefusal}
+use Rattle.hack_load.specs.Features.{AreCandidates, IsNodeRefusal}
 use Rattle.hack_load.specs.declared.features.Features.{Features}
 
 -- each member has candidates
@@ -66,7 +66,7 @@ misses-more m asked ids i id lt is here before k d l =
     ]
 
 -- an error of collecting candidates
-pub node-fault : (m : MetadataRecord) (asked : Bool) (id : ℕ) (e : MetadataFault) → Contains m.workspace_members id → IsRefusal m id asked e → (e ≡ faults.Memory) ⊎ IsNodeFault m asked e
+pub node-fault : (m : MetadataRecord) (asked : Bool) (id : ℕ) (e : MetadataFault) → Contains m.workspace_members id → IsNodeRefusal m id asked e → (e ≡ faults.Memory) ⊎ IsNodeFault m asked e
 node-fault m asked id faults.Memory c h = inl refl
 node-fault m asked id (faults.Field name) c h = inr (λ eq. cc, (id, c, h))
 node-fault m asked id faults.Json c h = absurd h

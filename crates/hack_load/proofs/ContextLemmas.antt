@@ -8,9 +8,9 @@ use Rattle.std.proofs.lemmas.List.Folds.{find_at}
 use Rattle.std.proofs.lemmas.List.Sums.{fails_before_first, passes_at_first, position_or_len_is, AllPass-from_list_all}
 use Rattle.std.proofs.lemmas.Option.{slice_get_within, get_or_from_slice_get}
 use Rattle.std.proofs.lemmas.List.{get_or-map, length-map}
-use Rattle.hack_metadata.specs.View.{package_view, place_at}
+use Rattle.hack_metadata.specs.RecordViews.{package_view, place_at}
 use Rattle.hack_metadata.specs.declared.resolve.PackageId.{PackageId}
-use Rattle.hack_load.specs.Contexts.{IsWhole, is_among, place_among}
+use Rattle.hack_load.specs.Contexts.{IsWholeContext, is_member_or_none, place_among}
 use Rattle.hack_load.specs.ContextView.{context_view}
 use Rattle.hack_load.specs.declared.context.Context.{Context}
 
@@ -41,19 +41,19 @@ found-contains p ms (Some id) is =
     (position_or_len p ms, slice_get_within ms (position_or_len p ms) id at, get_or_from_slice_get ms (position_or_len p ms) id id at)
 
 -- what has a place among the members is one
-pub place-contains : (ms : List ℕ) (o : Option ℕ) → is_among ms o ≡ true → IfSome o (Contains ms)
+pub place-contains : (ms : List ℕ) (o : Option ℕ) → is_member_or_none ms o ≡ true → IfSome o (Contains ms)
 place-contains ms None h = tt
 place-contains ms (Some id) h =
     let lt = ltb-true (place_among ms id) (length ms) h in
     (place_among ms id, lt, eqb-true (get_or ms (place_among ms id) id) id (passes_at_first (λ m. m == id) ms id lt))
 
 -- each member has a place among the members
-pub contains-place : (ms : List ℕ) (o : Option ℕ) → IfSome o (Contains ms) → is_among ms o ≡ true
+pub contains-place : (ms : List ℕ) (o : Option ℕ) → IfSome o (Contains ms) → is_member_or_none ms o ≡ true
 contains-place ms None h = refl
 contains-place ms (Some id) h = lt-ltb (place_among ms id) (length ms) (place-below ms id h)
 
 -- the facts that a context keeps
-pub context-whole : (c : Context) → IsWhole (context_view c)
+pub context-whole : (c : Context) → IsWholeContext (context_view c)
 context-whole c =
     let ms = map place_at c.metadata.workspace_members.items in
     let n = length c.metadata.packages.items in

@@ -20,7 +20,7 @@ use Rattle.hack_features.specs.declared.feature.Feature.{Feature}
 use Rattle.hack_features.specs.declared.feature.Feature.TheVariants.{Normal, Group, Path}
 use Rattle.hack_metadata.specs.Optional.{feature_of, optional_in}
 use Rattle.hack_metadata.specs.Records.{DependencyRecord}
-use Rattle.hack_metadata.specs.View.{dependency_view, kind_view, node_dep_view, package_view}
+use Rattle.hack_metadata.specs.RecordViews.{dependency_view, kind_view, node_dep_view, package_view}
 use Rattle.hack_metadata.specs.declared.package.Dependency.{Dependency}
 use Rattle.hack_metadata.specs.declared.package.Package.{Package}
 use Rattle.hack_metadata.specs.declared.resolve.NodeDep.{NodeDep}

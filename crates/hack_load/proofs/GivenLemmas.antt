@@ -10,7 +10,7 @@ use Rattle.std.proofs.lemmas.List.Elements.{filter-append}
 use Rattle.std.proofs.lemmas.Map.Views.{Contains-from_any, list_any-from_Contains}
 use Rattle.std.proofs.lemmas.Slice.Eq.{bytes_eq-Decides}
 use Rattle.hack_base.specs.Names.{Name, names_of}
-use Rattle.hack_load.specs.Features.{texts_in}
+use Rattle.hack_load.specs.Features.{candidate_names_in}
 use Rattle.hack_load.specs.declared.features.Features.{Features}
 
 -- a test whether a name is in a list is `list_any`
@@ -22,8 +22,8 @@ test-is false names x h =
       | inr e ↦ sym e
     ]
 
-pub knows-is : (b : Bool) (o : Option Features) (fs : Features) (x : Name) → o ≡ Some fs → (IsTrue b ↔ Contains (texts_in fs) x) → b ≡ unwrap_or (option_map (λ f. list_any (bytes_eq x) (texts_in f)) o) false
-knows-is b o fs x is h = subst (λ v. b ≡ unwrap_or (option_map (λ f. list_any (bytes_eq x) (texts_in f)) v) false) (sym is) (test-is b (texts_in fs) x h)
+pub knows-is : (b : Bool) (o : Option Features) (fs : Features) (x : Name) → o ≡ Some fs → (IsTrue b ↔ Contains (candidate_names_in fs) x) → b ≡ unwrap_or (option_map (λ f. list_any (bytes_eq x) (candidate_names_in f)) o) false
+knows-is b o fs x is h = subst (λ v. b ≡ unwrap_or (option_map (λ f. list_any (bytes_eq x) (candidate_names_in f)) v) false) (sym is) (test-is b (candidate_names_in fs) x h)
 
 names-more : (xs : List (String Global)) (i : ℕ) (d : String Global) → i < length xs → names_of (take (i + 1) xs) ≡ names_of (take i xs) ++ string_bytes (get_or xs i d) ∷ []
 names-more xs i d lt = ap names_of (take_more xs i d lt) ∙ map-append string_bytes (take i xs) (get_or xs i d ∷ [])

@@ -10,14 +10,14 @@ use Rattle.hack_files.specs.Faults.{IsOfText}
 use Rattle.hack_files.specs.declared.fs.FsFault.{FsFault}
 use Rattle.hack_files.specs.declared.fs.FsFault.TheVariants as fs
 use Rattle.hack_metadata.specs.Records.{PackageRecord, MetadataRecord}
-use Rattle.hack_metadata.specs.View.{package_view, place_at}
+use Rattle.hack_metadata.specs.RecordViews.{package_view, place_at}
 use Rattle.hack_metadata.specs.declared.package.Package.{Package}
 use Rattle.hack_metadata.specs.declared.resolve.PackageId.{PackageId}
-use Rattle.hack_manifest.specs.Reads.{IsManifest, IsRefusal}
+use Rattle.hack_manifest.specs.ManifestResults.{IsManifest, IsRefusal}
 use Rattle.hack_manifest.specs.declared.manifest.Manifest.{Manifest}
 use Rattle.hack_manifest.specs.declared.manifest.ManifestFault.{ManifestFault}
 use Rattle.hack_manifest.specs.declared.manifest.ManifestFault.TheVariants as manifest
-use Rattle.hack_load.specs.Loads.{IsMemberFault, IsOfFile, IsOfManifest, IsOfMember, IsPackageFault}
+use Rattle.hack_load.specs.CargoQuestions.{IsMemberFault, IsCallFaultOfFile, IsOfManifest, IsOfMember, IsPackageFault}
 use Rattle.hack_load.specs.declared.fault.ContextFault.{ContextFault}
 use Rattle.hack_load.specs.declared.fault.ContextFault.TheVariants as faults
 use Rattle.hack_load.proofs.FeatureLemmas.{each-join}
@@ -25,7 +25,7 @@ use Rattle.hack_load.proofs.LeaveLemmas.{count-more}
 
 -- the file of a package can't be read
 pub file-fault : (T : Type 0) (held : Contents) (m : MetadataRecord) (id before now : ℕ) (p : PackageRecord) → slice_get m.packages id ≡ Some p → (f : FsFault) (e : ContextFault)
-    → IsOfFile f e → IsOfText p.manifest_path T (held p.manifest_path) before now f → IsPackageFault T held m id before now e
+    → IsCallFaultOfFile f e → IsOfText p.manifest_path T (held p.manifest_path) before now f → IsPackageFault T held m id before now e
 file-fault T held m id before now p at fs.Memory e is h = subst (λ v. IsPackageFault T held m id before now v) (sym is) tt
 file-fault T held m id before now p at (fs.Read path) e is h = subst (λ v. IsPackageFault T held m id before now v) (sym is) (record { of = p; at = at; fault = h; memory = λ eq. cc })
 file-fault T held m id before now p at (fs.Write path) e is h = absurd h

@@ -4,16 +4,16 @@ use Rattle.hack_base.specs.Names.{Name}
 use Rattle.hack_files.specs.Files.{Contents}
 use Rattle.hack_process.specs.Calls.{Call, MayAdd}
 use Rattle.hack_process.specs.Commands.{asked_of}
-use Rattle.hack_metadata.specs.Asks.{Ends}
+use Rattle.hack_metadata.specs.QuestionCalls.{QuestionEndsWith}
 use Rattle.hack_metadata.specs.Requests.{question}
-use Rattle.hack_metadata.specs.Whole.{metadata_view}
+use Rattle.hack_metadata.specs.MetadataView.{metadata_view}
 use Rattle.hack_metadata.specs.declared.ask_fault.AskFault.{AskFault}
 use Rattle.hack_metadata.specs.declared.ask_fault.AskFault.TheVariants as ask
 use Rattle.hack_metadata.specs.declared.metadata.Metadata.{Metadata}
 use Rattle.hack_manifest.specs.declared.manifest.Manifest.{Manifest}
 use Rattle.hack_words.specs.declared.cli.args.Args.{Args}
 use Rattle.hack_words.specs.declared.cli.env.Env.{Env}
-use Rattle.hack_load.specs.Loads.{AreOfMembers, IsMemberFault, IsLocated, FailsLocate, IsSelf, locate, self_command, minor_told, told_version}
+use Rattle.hack_load.specs.CargoQuestions.{AreOfMembers, IsMemberFault, IsLocated, FailsLocate, IsSelf, locate, self_command, minor_told, told_version}
 use Rattle.hack_load.specs.declared.fault.ContextFault.{ContextFault}
 use Rattle.hack_load.specs.declared.fault.ContextFault.TheVariants as faults
 use Rattle.hack_load.specs.declared.loaded.Loaded.{Loaded}
@@ -37,9 +37,9 @@ IsAskFault (ask.Field name) e = e ≡ faults.Asked (ask.Field name)
 -- `held` is what the files held before, where they say it; `before` and `now` count failed calls
 module _ (tells : Type 0) (args : Args) (env : Env) (held : Contents) (before now : ℕ) where
   -- manifests were read, the current one asked for, and just that was loaded; or an error ended it
-  abbrev pub Follows : Metadata → List Call → List Call → Result Loaded ContextFault → Type 0
-  Follows m mid new (Ok l) = (l.metadata ≡ m) × IsLocated args env mid new l.located × IsLoaded tells held env l
-  Follows m mid new (Err e) = ((new ≡ mid) × IsMemberFault tells held (metadata_view m) before now e)
+  abbrev pub LoadsFromMetadata : Metadata → List Call → List Call → Result Loaded ContextFault → Type 0
+  LoadsFromMetadata m mid new (Ok l) = (l.metadata ≡ m) × IsLocated args env mid new l.located × IsLoaded tells held env l
+  LoadsFromMetadata m mid new (Err e) = ((new ≡ mid) × IsMemberFault tells held (metadata_view m) before now e)
       ⊎ ((xs : List Manifest) × AreOfMembers tells held (metadata_view m) xs
       × FailsLocate (Unit {0}) (locate args env) (string_bytes env.current_dir) mid new e)
 
@@ -47,7 +47,7 @@ module _ (tells : Type 0) (args : Args) (env : Env) (held : Contents) (before no
   pub record HasNone (minor : ℕ) (host : Option Name) (old new : List Call) (r : Result Loaded ContextFault) : Type 0 where
     pub asked : AskFault
     pub fault : ContextFault
-    pub ends : Ends tells (question args env minor host) held old new (Err asked)
+    pub ends : QuestionEndsWith tells (question args env minor host) held old new (Err asked)
     pub of : IsAskFault asked fault
     pub is : r ≡ Err fault
 
@@ -55,8 +55,8 @@ module _ (tells : Type 0) (args : Args) (env : Env) (held : Contents) (before no
   pub record HasSome (minor : ℕ) (host : Option Name) (old new : List Call) (r : Result Loaded ContextFault) : Type 0 where
     pub metadata : Metadata
     pub mid : List Call
-    pub ends : Ends tells (question args env minor host) held old mid (Ok metadata)
-    pub follows : Follows metadata mid new r
+    pub ends : QuestionEndsWith tells (question args env minor host) held old mid (Ok metadata)
+    pub follows : LoadsFromMetadata metadata mid new r
 
   -- the questions after the one for the version
   abbrev pub LoadsTo : ℕ → Option Name → List Call → List Call → Result Loaded ContextFault → Type 0

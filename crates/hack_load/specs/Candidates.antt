@@ -39,12 +39,12 @@ abbrev pub is_normal : KindRecord → Bool
 is_normal k = is_none k.kind && is_none k.target
 
 -- the name that the manifest gives a dependency
-abbrev pub name_in : DependencyRecord → Name
-name_in d = unwrap_or d.rename d.name
+abbrev pub dependency_name_in : DependencyRecord → Name
+dependency_name_in d = unwrap_or d.rename d.name
 
 -- the name that dependencies use for a package: that of the first one with the package's name
-abbrev pub known_as : List DependencyRecord → Name → Option Name
-known_as ds name = option_map name_in (find (λ d. bytes_eq d.name name) ds)
+abbrev pub name_among_dependencies : List DependencyRecord → Name → Option Name
+name_among_dependencies ds name = option_map dependency_name_in (find (λ d. bytes_eq d.name name) ds)
 
 -- a dependency, and a feature of it
 abbrev pub Path : Type 0
@@ -56,7 +56,7 @@ paths_to dep m = map (λ feature. (dep, feature)) (keys_of m)
 
 -- the features of a package, where one of the dependencies names it
 abbrev pub paths_in : List DependencyRecord → PackageRecord → List Path
-paths_in ds p = unwrap_or (option_map (λ dep. paths_to dep p.features) (known_as ds p.name)) []
+paths_in ds p = unwrap_or (option_map (λ dep. paths_to dep p.features) (name_among_dependencies ds p.name)) []
 
 -- the features of a dependency of a node, where it is a normal one
 abbrev pub node_paths : List PackageRecord → List DependencyRecord → NodeDepRecord → List Path

@@ -6,14 +6,14 @@ use Rattle.hack_base.specs.Notes.{Note}
 use Rattle.hack_base.specs.declared.notice.NoticeKind.TheVariants.{Warn}
 use Rattle.hack_metadata.specs.Fields.{object_in_text}
 use Rattle.hack_metadata.specs.Records.{MetadataRecord}
-use Rattle.hack_metadata.specs.Whole.{metadata_view}
+use Rattle.hack_metadata.specs.MetadataView.{metadata_view}
 use Rattle.hack_metadata.specs.declared.fault.MetadataFault.{MetadataFault}
 use Rattle.hack_metadata.specs.declared.fault.MetadataFault.TheVariants as metadata
 use Rattle.hack_manifest.specs.declared.manifest.Manifest.{Manifest}
 use Rattle.hack_words.specs.declared.cli.args.Args.{Args}
 use Rattle.hack_load.specs.Contexts.{ContextRecord}
-use Rattle.hack_load.specs.Features.{AreCandidates, IsRefusal}
-use Rattle.hack_load.specs.Loads.{minor_told, told_version}
+use Rattle.hack_load.specs.Features.{AreCandidates, IsNodeRefusal}
+use Rattle.hack_load.specs.CargoQuestions.{minor_told, told_version}
 use Rattle.hack_load.specs.Located.{root_in, current_of}
 use Rattle.hack_load.specs.RootFaults.{LacksRoot}
 use Rattle.hack_load.specs.declared.answers.Answers.{Answers}
@@ -51,7 +51,7 @@ IsContextFrom args a cx = (l : Loaded) × (a.loaded ≡ Ok l) × IsContextOf arg
 
 -- the node of some member is asked for and missing, and the error names that
 abbrev pub IsNodeFault : MetadataRecord → Bool → MetadataFault → Type 0
-IsNodeFault m asked e = (e ≢ metadata.Memory) × ((id : ℕ) × Contains m.workspace_members id × IsRefusal m id asked e)
+IsNodeFault m asked e = (e ≢ metadata.Memory) × ((id : ℕ) × Contains m.workspace_members id × IsNodeRefusal m id asked e)
 
 -- an error of the candidates as an error of the call
 abbrev pub IsOfNode : MetadataFault → ContextFault → Type 0
@@ -76,8 +76,8 @@ IsLoadCause args l (faults.Manifest e) = ⊥
 IsLoadCause args l (faults.Process e) = ⊥
 
 -- why no context is made of answers: an error ended the questions, or what was loaded makes none
-abbrev pub IsCause : Args → Answers → ContextFault → Type 0
-IsCause args a e = (a.loaded ≡ Err e) ⊎ ((l : Loaded) × (a.loaded ≡ Ok l) × IsLoadCause args l e)
+abbrev pub IsContextCause : Args → Answers → ContextFault → Type 0
+IsContextCause args a e = (a.loaded ≡ Err e) ⊎ ((l : Loaded) × (a.loaded ≡ Ok l) × IsLoadCause args l e)
 
 -- the warning that cargo's version can't be determined, where it can't
 abbrev pub warnings_of : Result ℕ Name → List Note

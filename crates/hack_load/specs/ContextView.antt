@@ -2,8 +2,8 @@
 use Rattle.std.specs.Prelude.{ℕ, List, Option, option_map, string_bytes}
 use Rattle.std.proofs.Common.{Global, String}
 use Rattle.hack_words.specs.declared.cli.args.Args.{Args}
-use Rattle.hack_metadata.specs.View.{place_at}
-use Rattle.hack_metadata.specs.Whole.{metadata_view}
+use Rattle.hack_metadata.specs.RecordViews.{place_at}
+use Rattle.hack_metadata.specs.MetadataView.{metadata_view}
 use Rattle.hack_metadata.specs.declared.metadata.Metadata.{Metadata}
 use Rattle.hack_metadata.specs.declared.resolve.PackageId.{PackageId}
 use Rattle.hack_manifest.specs.declared.manifest.Manifest.{Manifest}

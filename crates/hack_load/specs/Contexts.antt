@@ -28,9 +28,9 @@ abbrev pub place_among : List ℕ → ℕ → ℕ
 place_among members id = position_or_len (λ m. m == id) members
 
 -- a package is one of the members, where there is one
-abbrev pub is_among : List ℕ → Option ℕ → Bool
-is_among members None = true
-is_among members (Some id) = nat_lt (place_among members id) (length members)
+abbrev pub is_member_or_none : List ℕ → Option ℕ → Bool
+is_member_or_none members None = true
+is_member_or_none members (Some id) = nat_lt (place_among members id) (length members)
 
 -- the package with an id
 abbrev pub package_at : ContextRecord → ℕ → Option PackageRecord
@@ -45,19 +45,19 @@ abbrev pub features_at : ContextRecord → ℕ → Option Features
 features_at cx id = slice_get cx.features (place_among cx.metadata.workspace_members id)
 
 -- each member is a package, and has a manifest and candidates, and the current package is a member
-pub record IsWhole (cx : ContextRecord) : Type 0 where
+pub record IsWholeContext (cx : ContextRecord) : Type 0 where
   pub packages : (id : ℕ) → Contains cx.metadata.workspace_members id → id < length cx.metadata.packages
   pub manifests : length cx.manifests ≡ length cx.metadata.workspace_members
   pub features : length cx.features ≡ length cx.metadata.workspace_members
   pub current : IfSome cx.current_package (Contains cx.metadata.workspace_members)
 
 -- what a manifest says of publishing
-abbrev pub publish_in : Manifest → Option Bool
-publish_in m = m.package.publish
+abbrev pub manifest_publish : Manifest → Option Bool
+manifest_publish m = m.package.publish
 
 -- the `rust-version` in a manifest
-abbrev pub version_in : Manifest → Option Name
-version_in m = option_and_then (λ v. optional_text v) m.package.rust_version
+abbrev pub manifest_rust_version : Manifest → Option Name
+manifest_rust_version m = option_and_then (λ v. optional_text v) m.package.rust_version
 
 -- publishing is stated, and denied
 abbrev pub denies : Option Bool → Bool
@@ -66,7 +66,7 @@ denies (Some publish) = not publish
 
 -- what is known of publishing: cargo reports it from 1.39 on; for an older one the manifest says it
 abbrev pub publish_at : ContextRecord → ℕ → Option Bool
-publish_at cx id = if nat_lt cx.metadata.cargo_version 39 then option_and_then publish_in (manifest_at cx id) else option_map (λ p. p.publish) (package_at cx id)
+publish_at cx id = if nat_lt cx.metadata.cargo_version 39 then option_and_then manifest_publish (manifest_at cx id) else option_map (λ p. p.publish) (package_at cx id)
 
 -- a member may not be published
 abbrev pub is_private_at : ContextRecord → ℕ → Bool
@@ -74,7 +74,7 @@ is_private_at cx id = denies (publish_at cx id)
 
 -- a member's `rust-version`: cargo reports it from 1.58 on; for an older one the manifest says it
 abbrev pub rust_version_at : ContextRecord → ℕ → Option Name
-rust_version_at cx id = if nat_lt cx.metadata.cargo_version 58 then option_and_then version_in (manifest_at cx id) else option_and_then (λ p. p.rust_version) (package_at cx id)
+rust_version_at cx id = if nat_lt cx.metadata.cargo_version 58 then option_and_then manifest_rust_version (manifest_at cx id) else option_and_then (λ p. p.rust_version) (package_at cx id)
 
 -- a name, with a folder after it where one is shown
 abbrev pub shown_name : Name → Option Name → Name

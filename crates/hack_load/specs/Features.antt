@@ -36,8 +36,8 @@ abbrev pub IsRising : List Name → Type 0
 IsRising names = IsStrictlySortedBy (slice_cmp nat_cmp) names
 
 -- the names of all candidates
-abbrev pub texts_in : Features → List Name
-texts_in fs = texts_of fs.normal.items ++ (texts_of fs.optional_deps.items ++ texts_of fs.deps_features.items)
+abbrev pub candidate_names_in : Features → List Name
+candidate_names_in fs = texts_of fs.normal.items ++ (texts_of fs.optional_deps.items ++ texts_of fs.deps_features.items)
 
 -- the candidates of the package at a place, whose manifest has this feature map
 pub record AreCandidates (m : MetadataRecord) (features : FeatureMap) (at : ℕ) (asked : Bool) (fs : Features) : Type 0 where
@@ -46,7 +46,7 @@ pub record AreCandidates (m : MetadataRecord) (features : FeatureMap) (at : ℕ)
   pub of_deps : ArePaths (paths_at m at asked) fs.deps_features.items
 
 -- memory was refused, or the node that is asked for is missing, and the error names `nodes`
-abbrev pub IsRefusal : MetadataRecord → ℕ → Bool → MetadataFault → Type 0
-IsRefusal m at asked faults.Memory = Unit {0}
-IsRefusal m at asked (faults.Field name) = (name.now ≡ codes "nodes") × MissesNode m at asked
-IsRefusal m at asked faults.Json = ⊥
+abbrev pub IsNodeRefusal : MetadataRecord → ℕ → Bool → MetadataFault → Type 0
+IsNodeRefusal m at asked faults.Memory = Unit {0}
+IsNodeRefusal m at asked (faults.Field name) = (name.now ≡ codes "nodes") × MissesNode m at asked
+IsNodeRefusal m at asked faults.Json = ⊥

@@ -6,15 +6,15 @@ use Rattle.hack_base.specs.Names.{Name, names_of}
 use Rattle.hack_base.specs.Notes.{Note}
 use Rattle.hack_base.specs.declared.notice.NoticeKind.TheVariants.{Info}
 use Rattle.hack_load.specs.Contexts.{ContextRecord, package_at, features_at}
-use Rattle.hack_load.specs.Features.{texts_in}
+use Rattle.hack_load.specs.Features.{candidate_names_in}
 
 -- a member has a feature of this name
 abbrev pub knows : ContextRecord → ℕ → Name → Bool
-knows cx id name = unwrap_or (option_map (λ fs. list_any (bytes_eq name) (texts_in fs)) (features_at cx id)) false
+knows cx id name = unwrap_or (option_map (λ fs. list_any (bytes_eq name) (candidate_names_in fs)) (features_at cx id)) false
 
 -- the name of a package
-abbrev pub name_at : ContextRecord → ℕ → Name
-name_at cx id = unwrap_or (option_map (λ p. p.name) (package_at cx id)) (codes "")
+abbrev pub name_or_empty_at : ContextRecord → ℕ → Name
+name_or_empty_at cx id = unwrap_or (option_map (λ p. p.name) (package_at cx id)) (codes "")
 
 -- the features of `--features`
 abbrev pub given_features : ContextRecord → List Name
@@ -32,4 +32,4 @@ left_out of name = record { kind = Info; text = codes "skipped applying unknown 
 -- the notices on those that are left out
 abbrev pub left_out_for : ContextRecord → Option ℕ → List Note
 left_out_for cx None = []
-left_out_for cx (Some id) = if cx.args.ignore_unknown_features then map (left_out (name_at cx id)) (filter (λ f. not (knows cx id f)) (given_features cx)) else []
+left_out_for cx (Some id) = if cx.args.ignore_unknown_features then map (left_out (name_or_empty_at cx id)) (filter (λ f. not (knows cx id f)) (given_features cx)) else []

@@ -5,8 +5,8 @@ pub mod ContextView
 pub mod Contexts
 pub mod Features
 pub mod GivenFeatures
-pub mod LeavesFew
-pub mod Loads
+pub mod FilesAfterLoading
+pub mod CargoQuestions
 pub mod Located
 pub mod Names
 pub mod RootFaults

@@ -26,13 +26,13 @@ IsNotJson command (faults.Metadata e) = ⊥
 IsNotJson command faults.Root = ⊥
 
 -- the answer is no JSON object, and the error shows the command; or it has no `root`; or `Memory`
-abbrev pub IsRefusal : Name → List ℕ → ContextFault → Type 0
-IsRefusal command text faults.Memory = Unit {0}
-IsRefusal command text (faults.NotJson shown) = (string_bytes shown ≡ command) × (object_in_text text ≡ None)
-IsRefusal command text faults.Root = LacksRoot text
-IsRefusal command text (faults.Asked e) = ⊥
-IsRefusal command text (faults.Files e) = ⊥
-IsRefusal command text (faults.Manifest e) = ⊥
-IsRefusal command text (faults.Process e) = ⊥
-IsRefusal command text faults.OldCargo = ⊥
-IsRefusal command text (faults.Metadata e) = ⊥
+abbrev pub IsRootRefusal : Name → List ℕ → ContextFault → Type 0
+IsRootRefusal command text faults.Memory = Unit {0}
+IsRootRefusal command text (faults.NotJson shown) = (string_bytes shown ≡ command) × (object_in_text text ≡ None)
+IsRootRefusal command text faults.Root = LacksRoot text
+IsRootRefusal command text (faults.Asked e) = ⊥
+IsRootRefusal command text (faults.Files e) = ⊥
+IsRootRefusal command text (faults.Manifest e) = ⊥
+IsRootRefusal command text (faults.Process e) = ⊥
+IsRootRefusal command text faults.OldCargo = ⊥
+IsRootRefusal command text (faults.Metadata e) = ⊥

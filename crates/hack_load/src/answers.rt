@@ -3,9 +3,9 @@
 
 ghost use Rattle.std.specs.Prelude.{◌≡◌, Err, IfOk, OnOk, option_copied};
 ghost use Rattle.hack_files.specs.Restore.{registered_files};
-ghost use Rattle.hack_load.specs.Answers.{AreAnswers, Follows, IsAskFault, IsLoaded, LoadsTo};
-ghost use Rattle.hack_load.specs.LeavesFew.{LeavesFew, ReadsOnly};
-ghost use Rattle.hack_metadata.specs.Left.{Whole};
+ghost use Rattle.hack_load.specs.Answers.{AreAnswers, LoadsFromMetadata, IsAskFault, IsLoaded, LoadsTo};
+ghost use Rattle.hack_load.specs.FilesAfterLoading.{LeavesFew, ReadsOnly};
+ghost use Rattle.hack_metadata.specs.FilesAfterAsking.{Whole};
 
 use crate::fault::ContextFault;
 pub use crate::loaded::Loaded;
@@ -118,7 +118,7 @@ fn load_behind<C: Caller, F: Files>(
     ensures left { ReadsOnly F.tells (F.bytes_at files.old) (F.bytes_at files.new)
         (F.failed files.old) (F.failed files.new) result }
     ensures read { IfOk result (IsLoaded F.tells (F.bytes_at files.old) env.now) }
-    ensures asked { C.tells → Follows F.tells args.now env.now (F.bytes_at files.old)
+    ensures asked { C.tells → LoadsFromMetadata F.tells args.now env.now (F.bytes_at files.old)
         (F.failed files.old) (F.failed files.new) metadata
         (C.calls caller.old) (C.calls caller.new) result }
 {

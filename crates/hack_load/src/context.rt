@@ -7,17 +7,17 @@ ghost use Rattle.std.specs.Prelude.{length, map, option_copied, option_map};
 ghost use Rattle.hack_base.specs.Names.{optional_text};
 ghost use Rattle.hack_process.specs.Commands.{command_of};
 ghost use Rattle.hack_metadata.specs.Requests.{command_line};
-ghost use Rattle.hack_metadata.specs.View.{package_view, place_at};
-ghost use Rattle.hack_metadata.specs.Whole.{metadata_view};
-ghost use Rattle.hack_load.specs.Contexts.{IsWhole, is_among, place_among, package_at, manifest_at};
+ghost use Rattle.hack_metadata.specs.RecordViews.{package_view, place_at};
+ghost use Rattle.hack_metadata.specs.MetadataView.{metadata_view};
+ghost use Rattle.hack_load.specs.Contexts.{IsWholeContext, is_member_or_none, place_among, package_at, manifest_at};
 ghost use Rattle.hack_load.specs.Contexts.{features_at, is_private_at, rust_version_at};
-ghost use Rattle.hack_load.specs.Contexts.{denies, verbose_name, version_in};
-ghost use Rattle.hack_load.specs.ContextOf.{AreFeatures, IsCause, IsContextFrom, IsContextOf};
+ghost use Rattle.hack_load.specs.Contexts.{denies, verbose_name, manifest_rust_version};
+ghost use Rattle.hack_load.specs.ContextOf.{AreFeatures, IsContextCause, IsContextFrom, IsContextOf};
 ghost use Rattle.hack_load.specs.ContextOf.{IsLoadCause, IsNodeFault, IsOfNode, IsTooOld};
 ghost use Rattle.hack_load.specs.ContextOf.{warnings_of};
 ghost use Rattle.hack_load.specs.Candidates.{MissesNode};
-ghost use Rattle.hack_load.specs.Features.{IsRefusal};
-ghost use Rattle.hack_load.specs.Loads.{told_version};
+ghost use Rattle.hack_load.specs.Features.{IsNodeRefusal};
+ghost use Rattle.hack_load.specs.CargoQuestions.{told_version};
 ghost use Rattle.hack_load.specs.Names.{name_text};
 ghost use Rattle.hack_base.specs.Notes.{note_of};
 
@@ -49,7 +49,7 @@ pub struct Context {
     current_package: Option<PackageId>,
     ghost each_manifest: { length manifests.items ≡ length metadata.workspace_members.items },
     ghost each_features: { length features.items ≡ length metadata.workspace_members.items },
-    ghost current: { is_among (map place_at metadata.workspace_members.items)
+    ghost current: { is_member_or_none (map place_at metadata.workspace_members.items)
         (option_map place_at current_package) ≡ true },
 }
 
@@ -65,8 +65,8 @@ impl Context {
         ensures ok { IfOk result (λ r. IsContextFrom args answers (context_view r.0)) }
         ensures notices { IfOk result (λ r.
             map note_of r.1.items ≡ warnings_of (told_version answers.cargo_version)) }
-        ensures never { IfOk result (λ _. (e : ContextFault) → ¬ IsCause args answers e) }
-        ensures err { IfErr result (λ e. (e ≡ ContextFault.Memory) ⊎ IsCause args answers e) }
+        ensures never { IfOk result (λ _. (e : ContextFault) → ¬ IsContextCause args answers e) }
+        ensures err { IfErr result (λ e. (e ≡ ContextFault.Memory) ⊎ IsContextCause args answers e) }
     {
         let Answers {
             cargo_version,
@@ -140,7 +140,7 @@ impl Context {
     pub fn workspace_members(&self) -> &[PackageId]
         ensures members { map place_at result.now
             ≡ (context_view self.now).metadata.workspace_members }
-        ensures whole { IsWhole (context_view self.now) }
+        ensures whole { IsWholeContext (context_view self.now) }
     {
         self.metadata.workspace_members.as_slice()
     }
@@ -332,7 +332,7 @@ fn denies(publish: Option<bool>) -> bool
 
 /// The `rust-version` in a manifest.
 fn own_version(manifest: &Manifest) -> Option<&str>
-    ensures { option_copied result ≡ version_in manifest.now }
+    ensures { option_copied result ≡ manifest_rust_version manifest.now }
 {
     match &manifest.package.rust_version {
         Some(version) => text_of(version),

@@ -9,16 +9,16 @@ ghost use Rattle.std.specs.Str.{bytes_eq};
 ghost use Rattle.hack_features.specs.FeatureMap.{feature_map};
 ghost use Rattle.hack_base.specs.Names.{names_of};
 ghost use Rattle.hack_load.specs.Candidates.{MissesNode, names_dep, is_named, is_implicit};
-ghost use Rattle.hack_load.specs.Candidates.{optional_names, is_normal, name_in, known_as};
+ghost use Rattle.hack_load.specs.Candidates.{optional_names, is_normal, dependency_name_in, name_among_dependencies};
 ghost use Rattle.hack_load.specs.Candidates.{paths_to, paths_in};
 ghost use Rattle.hack_load.specs.Candidates.{node_paths, deps_paths, dependencies_at, paths_at};
 ghost use Rattle.hack_load.specs.Features.{AreNormals, ArePaths, AddsPaths};
-ghost use Rattle.hack_load.specs.Features.{AreCandidates, IsRefusal};
+ghost use Rattle.hack_load.specs.Features.{AreCandidates, IsNodeRefusal};
 ghost use Rattle.hack_load.specs.Features.{IsRising};
-ghost use Rattle.hack_load.specs.Features.{texts_of, texts_in};
-ghost use Rattle.hack_metadata.specs.View.{dependency_view, kind_view, node_dep_view, node_view};
-ghost use Rattle.hack_metadata.specs.View.{package_view};
-ghost use Rattle.hack_metadata.specs.Whole.{metadata_view};
+ghost use Rattle.hack_load.specs.Features.{texts_of, candidate_names_in};
+ghost use Rattle.hack_metadata.specs.RecordViews.{dependency_view, kind_view, node_dep_view, node_view};
+ghost use Rattle.hack_metadata.specs.RecordViews.{package_view};
+ghost use Rattle.hack_metadata.specs.MetadataView.{metadata_view};
 
 use hack_features::feature::Feature;
 use hack_manifest::manifest::Manifest;
@@ -50,7 +50,7 @@ impl Features {
         ensures ok { IfOk result (AreCandidates (metadata_view metadata.now)
             (feature_map manifest.now.features) id.index include_deps_features) }
         ensures err { IfErr result
-            (IsRefusal (metadata_view metadata.now) id.index include_deps_features) }
+            (IsNodeRefusal (metadata_view metadata.now) id.index include_deps_features) }
         ensures never { OnOk result
             (¬ MissesNode (metadata_view metadata.now) id.index include_deps_features) }
 
@@ -91,7 +91,7 @@ impl Features {
 
     /// Returns whether one of these features has the name.
     pub fn contains(&self, name: &str) -> bool
-        ensures { IsTrue result ↔ Contains (texts_in self.now) name.now }
+        ensures { IsTrue result ↔ Contains (candidate_names_in self.now) name.now }
     {
         if has_name(self.normal(), name) || has_name(self.optional_deps(), name) {
             return true;
@@ -210,7 +210,7 @@ fn paths(
 ) -> Result<Vec<Feature>, MetadataFault>
     ensures ok { IfOk result (λ found.
         ArePaths (paths_at (metadata_view metadata.now) id.index asked) found.items) }
-    ensures err { IfErr result (IsRefusal (metadata_view metadata.now) id.index asked) }
+    ensures err { IfErr result (IsNodeRefusal (metadata_view metadata.now) id.index asked) }
     ensures never { OnOk result (¬ MissesNode (metadata_view metadata.now) id.index asked) }
 {
     if !asked {
@@ -315,7 +315,7 @@ fn is_normal(kind: &DepKindInfo) -> bool
 /// Returns the name that the dependencies use for a package: the rename of the first one with the
 /// package's name, or else that name.
 fn known_as<'a>(dependencies: &'a [Dependency], name: &str) -> Option<&'a str>
-    ensures { option_copied result ≡ known_as (map dependency_view dependencies.now) name.now }
+    ensures { option_copied result ≡ name_among_dependencies (map dependency_view dependencies.now) name.now }
 {
     for dependency in dependencies {
         if dependency.name.as_str() == name {
@@ -327,7 +327,7 @@ fn known_as<'a>(dependencies: &'a [Dependency], name: &str) -> Option<&'a str>
 
 /// Returns the name that the manifest gives a dependency.
 fn name_in_manifest(dependency: &Dependency) -> &str
-    ensures { result.now ≡ name_in (dependency_view dependency.now) }
+    ensures { result.now ≡ dependency_name_in (dependency_view dependency.now) }
 {
     match &dependency.rename {
         Some(rename) => rename.as_str(),

@@ -3,11 +3,11 @@
 ghost use Rattle.std.specs.Prelude.{◌≡◌, IfErr, IfOk, Some, None, map, option_map, string_bytes};
 ghost use Rattle.serde_json.specs.View.{members_view};
 ghost use Rattle.hack_load.specs.Located.{root_at, root_in, current_of, has_manifest};
-ghost use Rattle.hack_load.specs.RootFaults.{IsNotJson, IsRefusal};
-ghost use Rattle.hack_load.specs.Loads.{FailsLocate, IsOfProcess, locate};
-ghost use Rattle.hack_metadata.specs.Asks.{Reads};
-ghost use Rattle.hack_metadata.specs.View.{package_view, place_at};
-ghost use Rattle.hack_metadata.specs.Whole.{metadata_view};
+ghost use Rattle.hack_load.specs.RootFaults.{IsNotJson, IsRootRefusal};
+ghost use Rattle.hack_load.specs.CargoQuestions.{FailsLocate, IsOfProcess, locate};
+ghost use Rattle.hack_metadata.specs.QuestionCalls.{ReadsOutput};
+ghost use Rattle.hack_metadata.specs.RecordViews.{package_view, place_at};
+ghost use Rattle.hack_metadata.specs.MetadataView.{metadata_view};
 ghost use Rattle.hack_process.specs.CommandTexts.{text_of};
 ghost use Rattle.hack_process.specs.Commands.{command_of};
 
@@ -36,7 +36,7 @@ impl Located {
     ) -> Result<Located, ContextFault>
         ensures shown { IfOk result (λ l. string_bytes l.command ≡ text_of args.now.verbose
             (string_bytes env.now.current_dir) (locate args.now env.now)) }
-        ensures ok { IfOk result (λ l. C.tells → Reads (locate args.now env.now)
+        ensures ok { IfOk result (λ l. C.tells → ReadsOutput (locate args.now env.now)
             (string_bytes l.text) (C.calls caller.old) (C.calls caller.new)) }
         ensures err { IfErr result (FailsLocate C.tells (locate args.now env.now)
             (string_bytes env.now.current_dir) (C.calls caller.old) (C.calls caller.new)) }
@@ -54,7 +54,7 @@ impl Located {
         ensures ok { IfOk result (λ root.
             root_in (string_bytes self.now.text) ≡ Some (string_bytes root)) }
         ensures err { IfErr result
-            (IsRefusal (string_bytes self.now.command) (string_bytes self.now.text)) }
+            (IsRootRefusal (string_bytes self.now.command) (string_bytes self.now.text)) }
     {
         match object_of(alloc, self.text.as_str()) {
             Ok(object) => remove_root(object),

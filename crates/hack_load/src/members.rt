@@ -3,11 +3,11 @@
 ghost use Rattle.std.specs.Prelude.{◌≡◌, ◌<◌, ◌⊎◌, IfOk, IfErr, Some, Contains, length, map};
 ghost use Rattle.std.specs.Prelude.{slice_get};
 ghost use Rattle.hack_files.specs.Files.{GrowsBy, KeepsAll};
-ghost use Rattle.hack_metadata.specs.View.{package_view, place_at};
-ghost use Rattle.hack_metadata.specs.Whole.{metadata_view};
-ghost use Rattle.hack_load.specs.LeavesFew.{ReadsOnly};
-ghost use Rattle.hack_load.specs.Loads.{AreOfMembers, IsMemberFault, IsOfMember, IsPackageFault};
-ghost use Rattle.hack_load.specs.Loads.{IsOfFile, IsOfManifest};
+ghost use Rattle.hack_metadata.specs.RecordViews.{package_view, place_at};
+ghost use Rattle.hack_metadata.specs.MetadataView.{metadata_view};
+ghost use Rattle.hack_load.specs.FilesAfterLoading.{ReadsOnly};
+ghost use Rattle.hack_load.specs.CargoQuestions.{AreOfMembers, IsMemberFault, IsOfMember, IsPackageFault};
+ghost use Rattle.hack_load.specs.CargoQuestions.{IsCallFaultOfFile, IsOfManifest};
 
 use crate::fault::ContextFault;
 use hack_files::fs::{Files, FsFault, read_to_string};
@@ -68,7 +68,7 @@ fn manifest_of<F: Files>(
 }
 
 fn of_file(fault: FsFault) -> ContextFault
-    ensures { IsOfFile fault result }
+    ensures { IsCallFaultOfFile fault result }
 {
     match fault {
         FsFault::Memory => ContextFault::Memory,

@@ -3,13 +3,13 @@
 ghost use Rattle.std.specs.Prelude.{◌≡◌, ◌++◌, ◌∷◌, [], Contains, IfOk, OnOk, OnErr, IfSome, Some};
 ghost use Rattle.std.specs.Prelude.{cond, filter, map, not, option_map, string_bytes};
 ghost use Rattle.hack_base.specs.Names.{names_of};
-ghost use Rattle.hack_metadata.specs.View.{place_at};
+ghost use Rattle.hack_metadata.specs.RecordViews.{place_at};
 ghost use Rattle.hack_process.specs.CommandTexts.{with_names};
 ghost use Rattle.hack_process.specs.Commands.{command_of};
 ghost use Rattle.hack_base.specs.Notes.{note_of, AddsNotes};
 ghost use Rattle.hack_load.specs.ContextView.{context_view};
 ghost use Rattle.hack_load.specs.GivenFeatures.{given_features, knows, left_out, left_out_for};
-ghost use Rattle.hack_load.specs.GivenFeatures.{name_at, passed_for};
+ghost use Rattle.hack_load.specs.GivenFeatures.{name_or_empty_at, passed_for};
 
 use crate::context::Context;
 use hack_base::notice::{Notice, NoticeKind};
@@ -121,7 +121,7 @@ fn known_features<'a>(
     ensures names { IfOk result (λ answer. map (λ word. word.now) answer.0.items
         ≡ filter (knows (context_view cx.now) id.index) (given_features (context_view cx.now))) }
     ensures notices { IfOk result (λ answer. map note_of answer.1.items
-        ≡ map (left_out (name_at (context_view cx.now) id.index))
+        ≡ map (left_out (name_or_empty_at (context_view cx.now) id.index))
         (filter (λ f. not (knows (context_view cx.now) id.index f))
         (given_features (context_view cx.now)))) }
 {
@@ -148,7 +148,7 @@ fn sort<'a>(
         ++ cond (knows (context_view cx.now) id.index name.now) (name.now ∷ []) []) }
     ensures unknown { OnOk result (AddsNotes notices.old notices.new
         (cond (knows (context_view cx.now) id.index name.now) []
-        (left_out (name_at (context_view cx.now) id.index) name.now ∷ []))) }
+        (left_out (name_or_empty_at (context_view cx.now) id.index) name.now ∷ []))) }
 {
     if knows(cx, id, name) {
         names.push(name)?;
@@ -170,7 +170,7 @@ fn knows(cx: &Context, id: PackageId, name: &str) -> bool
 fn left_out(alloc: Global, cx: &Context, id: PackageId, name: &str) -> Result<Notice, AllocError>
     requires { Contains (context_view cx.now).metadata.workspace_members id.index }
     ensures { IfOk result (λ notice. note_of notice
-        ≡ left_out (name_at (context_view cx.now) id.index) name.now) }
+        ≡ left_out (name_or_empty_at (context_view cx.now) id.index) name.now) }
 {
     let of = name_of(cx, id);
     Ok(Notice {
@@ -180,7 +180,7 @@ fn left_out(alloc: Global, cx: &Context, id: PackageId, name: &str) -> Result<No
 }
 
 fn name_of(cx: &Context, id: PackageId) -> &str
-    ensures { result.now ≡ name_at (context_view cx.now) id.index }
+    ensures { result.now ≡ name_or_empty_at (context_view cx.now) id.index }
 {
     match cx.metadata().find(id) {
         Some(package) => package.name.as_str(),

@@ -11,7 +11,7 @@ use Rattle.toml.specs.View.{view, members_view}
 use Rattle.toml.specs.declared.value.Value.{Value}
 use Rattle.hack_base.specs.Names.{Name, names_of}
 use Rattle.hack_features.specs.FeatureMap.{FeatureMap, feature_map}
-use Rattle.hack_manifest.specs.Manifest.{by_bytes, texts_in, members_in}
+use Rattle.hack_manifest.specs.Manifest.{by_bytes, texts_in, feature_map_in}
 
 abbrev pub Entry : Type 0
 Entry = String Global × Value
@@ -63,7 +63,7 @@ sorted-names (e ∷ es) h = (below_all e.0 es h.0, sorted-names es h.1)
 
 -- the map so far and the remaining entries are the whole, in the order of names
 pub record IsSoFar (whole : Option FeatureMap) (m : FeatureMap) (left : List Entry) : Type 0 where
-  pub read : whole ≡ option_map (λ more. m ++ more) (members_in (members_view left))
+  pub read : whole ≡ option_map (λ more. m ++ more) (feature_map_in (members_view left))
   pub sorted : IsStrictlySortedBy by_bytes (keys_of m ++ names left)
 
 more-first : (m : FeatureMap) (name : Name) (values : List Name) (o : Option FeatureMap) → option_map (λ more. m ++ more) (option_map (λ more. (name, values) ∷ more) o) ≡ option_map (λ more. (m ++ (name, values) ∷ []) ++ more) o
@@ -80,9 +80,9 @@ none-first (Some m) = refl
 
 -- no feature is inserted yet
 pub so_far-start : (m : BTreeMap (String Global) (Vec (String Global) Global)) (es left : List Entry) → m.entries ≡ [] → left ≡ es → IsStrictlySortedBy string_cmp (keys_of es)
-    → IsSoFar (members_in (members_view es)) (feature_map m) left
+    → IsSoFar (feature_map_in (members_view es)) (feature_map m) left
 so_far-start m es left empty same h =
-    let whole : Option FeatureMap = members_in (members_view es) in
+    let whole : Option FeatureMap = feature_map_in (members_view es) in
     let P : FeatureMap → Type 0 = λ t. IsSoFar whole t left in
     let Q : List Entry → Type 0 = λ t. IsSoFar whole [] t in
     subst P (sym (ap shown empty)) (subst Q (sym same) (record { read = none-first whole; sorted = sorted-names es h }))
@@ -96,7 +96,7 @@ so_far-turn whole m n left rest e ds first is put so_far =
     let last : n ≡ m ++ (string_bytes e.0, texts_in ds) ∷ [] = put ∙ insert-last m (string_bytes e.0) (texts_in ds) (names rest) here.sorted in
     let S : List Name → Type 0 = λ ks. IsStrictlySortedBy by_bytes ks in
     let Q : FeatureMap → Type 0 = λ t. IsSoFar whole t rest in
-    let more : Option FeatureMap = members_in (members_view rest) in
+    let more : Option FeatureMap = feature_map_in (members_view rest) in
     subst Q (sym last) (record {
       read = here.read
           ∙ ap (λ o. option_map (λ t. m ++ t) (option_and_then (λ ds. option_map (λ t. (string_bytes e.0, texts_in ds) ∷ t) more) o)) is
@@ -107,10 +107,10 @@ so_far-turn whole m n left rest e ds first is put so_far =
 -- a value that is no array
 pub so_far-none : (whole : Option FeatureMap) (m : FeatureMap) (left rest : List Entry) (e : Entry) → left ≡ e ∷ rest → as_array (view e.1) ≡ None → IsSoFar whole m left → whole ≡ None
 so_far-none whole m left rest e first is so_far =
-    so_far.read ∙ ap (λ es. option_map (λ t. m ++ t) (members_in (members_view es))) first
-    ∙ ap (λ o. option_map (λ t. m ++ t) (option_and_then (λ ds. option_map (λ t. (string_bytes e.0, texts_in ds) ∷ t) (members_in (members_view rest))) o)) is
+    so_far.read ∙ ap (λ es. option_map (λ t. m ++ t) (feature_map_in (members_view es))) first
+    ∙ ap (λ o. option_map (λ t. m ++ t) (option_and_then (λ ds. option_map (λ t. (string_bytes e.0, texts_in ds) ∷ t) (feature_map_in (members_view rest))) o)) is
 
 -- nothing is left
 pub so_far-end : (whole : Option FeatureMap) (m : FeatureMap) (left : List Entry) → left ≡ [] → IsSoFar whole m left → whole ≡ Some m
 so_far-end whole m left none so_far =
-    so_far.read ∙ ap (λ es. option_map (λ t. m ++ t) (members_in (members_view es))) none ∙ ap Some (append-nil m)
+    so_far.read ∙ ap (λ es. option_map (λ t. m ++ t) (feature_map_in (members_view es))) none ∙ ap Some (append-nil m)

@@ -8,7 +8,7 @@ use Rattle.std.specs.Prelude.{slice_index}
 use Rattle.toml_parser.specs.Lexical.{first, is_ws, is_bare, skip_ws, skip_blank, skip_turn, skip_from}
 use Rattle.toml_parser.specs.Strings.{key, key_after, simple_key, starts_string}
 use Rattle.toml.specs.Parse.{skip_bom}
-use Rattle.hack_manifest.specs.Fronts.{IsFrontTo}
+use Rattle.hack_manifest.specs.PieceFronts.{IsFrontTo}
 use Rattle.hack_manifest.specs.Paths.{chain_at}
 use Rattle.hack_manifest.specs.Keys.{IsBareName}
 use Rattle.hack_manifest.proofs.PairLemmas.{zero-document}

@@ -5,10 +5,10 @@ use Rattle.std.proofs.lemmas.Bool.{cases_Bool}
 use Rattle.std.proofs.lemmas.List.{take_at, drop_at}
 use Rattle.std.proofs.lemmas.Option.{same_Some}
 use Rattle.hack_base.specs.Names.{Name}
-use Rattle.hack_manifest.specs.Runs.{IsFirstRun, IsCutInto}
-use Rattle.hack_manifest.specs.Fronts.{IsFirstFrontTo}
-use Rattle.hack_manifest.specs.Paths.{View, AreCut, IsOwnKey, at_front, no_front, IsPath, HavePaths, next_header, is_header, chain_at, joined_pieces}
-use Rattle.hack_manifest.specs.Manifest.{Reading, Facts, IsReadAs, read_manifest}
+use Rattle.hack_manifest.specs.LineRuns.{IsFirstRun, IsCutInto}
+use Rattle.hack_manifest.specs.PieceFronts.{IsFirstFrontTo}
+use Rattle.hack_manifest.specs.Paths.{View, AreCut, IsOwnKey, at_front, no_front, IsPathOfPiece, HavePaths, next_header, is_header, chain_at, joined_pieces}
+use Rattle.hack_manifest.specs.Manifest.{FieldReading, Facts, IsReadAs, read_manifest}
 
 joined-text : (ps : List View) (tail text : List ℕ) → IsCutInto (map (λ p. p.text) ps) tail text → text ≡ joined_pieces ps ++ tail
 joined-text [] tail text h = sym h.0
@@ -60,7 +60,7 @@ own-once piece k l (at_front n f is) (no_front none also) = absurd (none n f.fro
 own-once piece k l (no_front none is) (at_front m g also) = absurd (none m g.front)
 own-once piece k l (no_front none is) (no_front other also) = is ∙ sym also
 
-path_once : (header : List Name) (piece : List ℕ) (p q : List Name) → IsPath header piece p → IsPath header piece q → p ≡ q
+path_once : (header : List Name) (piece : List ℕ) (p q : List Name) → IsPathOfPiece header piece p → IsPathOfPiece header piece q → p ≡ q
 path_once header piece p q a b =
     elim (cases_Bool (is_header piece)) [
       | inl own ↦ a.own own ∙ sym (b.own own)
@@ -81,7 +81,7 @@ paths_once header (p ∷ ps) [] same a b = cc
 paths_once header (p ∷ ps) (q ∷ qs) same a b =
     let text : p.text ≡ q.text = cc in
     let texts : map (λ p. p.text) ps ≡ map (λ p. p.text) qs = cc in
-    let P : List ℕ → Type 0 = λ t. IsPath header t q.path in
+    let P : List ℕ → Type 0 = λ t. IsPathOfPiece header t q.path in
     let path : p.path ≡ q.path = path_once header p.text p.path q.path a.0 (subst P (sym text) b.0) in
     let here : p ≡ q = view_same p q text path in
     let Q : View → Type 0 = λ v. HavePaths (next_header header v) qs in
@@ -94,7 +94,7 @@ cut-once text s t ps qs a b =
     (paths_once [] ps qs same.0 a.paths b.paths, same.1)
 
 -- a manifest is read in only one way
-pub read-once : (text : List ℕ) (minor : ℕ) (read other : Reading Facts) → IsReadAs text minor read → IsReadAs text minor other → read ≡ other
+pub read-once : (text : List ℕ) (minor : ℕ) (read other : FieldReading Facts) → IsReadAs text minor read → IsReadAs text minor other → read ≡ other
 read-once text minor read other a b =
     let trees : a.tree ≡ b.tree = same_Some _ _ (sym a.parsed ∙ b.parsed) in
     let pieces : a.pieces ≡ b.pieces = (cut-once text a.tail b.tail a.pieces b.pieces a.cut b.cut).0 in

@@ -15,13 +15,13 @@ use Rattle.toml.proofs.OnLiterals.{toml_on_literals}
 use Rattle.toml.proofs.Blanks.{skip_within}
 use Rattle.toml.proofs.Turns.{keyval_ok, lines_end, lines_more, document_some, items_end, items_more, val_atom, val_array}
 use Rattle.hack_base.specs.Names.{Name}
-use Rattle.hack_manifest.specs.Runs.{has_keys, stands}
-use Rattle.hack_manifest.specs.Paths.{chain, chain_of, chain_at}
-use Rattle.hack_manifest.specs.Keys.{rest_of, IsBehindItems, is_over}
+use Rattle.hack_manifest.specs.LineRuns.{has_keys, stands}
+use Rattle.hack_manifest.specs.Paths.{chain, chain_of_data, chain_at}
+use Rattle.hack_manifest.specs.Keys.{rest_of_read, IsBehindItems, is_over}
 
 -- nodes in which a path leads to data
 abbrev pub LeadsTo : Nodes → List Name → Name → Data → Type 0
-LeadsTo ns path last d = chain (close ns) ≡ path ++ last ∷ chain_of d
+LeadsTo ns path last d = chain (close ns) ≡ path ++ last ∷ chain_of_data d
 
 -- the result of putting a pair into an empty table
 pub put-fresh : (path : List Name) (last : Name) (d : Data) → (ns : Nodes) × (along_dots path (at_key last (key_value d)) no_nodes ≡ Some ns) × LeadsTo ns path last d
@@ -70,7 +70,7 @@ bom-within text =
 
 -- the tree of a document of one pair
 pub pair-document : (text at_value rest : List ℕ) (k : Key) (d : Data) → key_equals (skip_blank (skip_bom text)) ≡ Some (k, at_value) → val 80 at_value ≡ Some (d, rest) → is_over rest ≡ true
-    → (ms : Members) × (parse_document text ≡ Some ms) × (chain ms ≡ k.0 ++ k.1 ∷ chain_of d)
+    → (ms : Members) × (parse_document text ≡ Some ms) × (chain ms ≡ k.0 ++ k.1 ∷ chain_of_data d)
 unfolding define along_header skip_bom
 pair-document text at_value rest k d front back over =
     let (ends, none) = and_parts (ends_line (skip_ws rest)) (length (skip_blank rest) == 0) over in
@@ -92,52 +92,52 @@ has_keys-chain no_members k (p ∷ path) more h = cc
 has_keys-chain (member l d ms) k path more h = refl
 
 -- a reading that has a rest succeeded
-pub read-rest : {A : Type 0} (r : Read A) (rest : List ℕ) → rest_of r ≡ Some rest → (x : A) × (r ≡ Some (x, rest))
+pub read-rest : {A : Type 0} (r : Read A) (rest : List ℕ) → rest_of_read r ≡ Some rest → (x : A) × (r ≡ Some (x, rest))
 read-rest None rest h = absurd (none-some rest h)
 read-rest (Some p) rest h = (p.0, ap (λ t. Some (p.0, t)) (same_Some p.1 rest h))
 
-pub rest-map : {A B : Type 0} (f : A → B) (r : Read A) → rest_of (option_map (λ p. (f p.0, p.1)) r) ≡ rest_of r
+pub rest-map : {A B : Type 0} (f : A → B) (r : Read A) → rest_of_read (option_map (λ p. (f p.0, p.1)) r) ≡ rest_of_read r
 rest-map f None = refl
 rest-map f (Some p) = refl
 
 -- reading the items of a text continues at a rest of it
 abbrev pub HasPassed : (List ℕ → Read Data) → List ℕ → List ℕ → Type 0
 HasPassed val text rest =
-    (n : ℕ) → length text < n → (found : Items) → (m : ℕ) × (more : Items) × (length rest < m) × (rest_of (items val n found text) ≡ rest_of (items val m more rest))
+    (n : ℕ) → length text < n → (found : Items) → (m : ℕ) × (more : Items) × (length rest < m) × (rest_of_read (items val n found text) ≡ rest_of_read (items val m more rest))
 
 pub passed-start : (val : List ℕ → Read Data) (text : List ℕ) → HasPassed val text text
 passed-start val text n room found = (n, found, room, refl)
 
 pub passed-more : (val : List ℕ → Read Data) (text rest after next : List ℕ) → HasPassed val text rest → (first (skip_blank rest) == 93) ≡ false
-    → rest_of (val (skip_blank rest)) ≡ Some after → after_element 93 after ≡ Some next → length next < length rest → HasPassed val text next
+    → rest_of_read (val (skip_blank rest)) ≡ Some after → after_element 93 after ≡ Some next → length next < length rest → HasPassed val text next
 passed-more val text rest after next so_far other read element shorter n room found =
     let (m, more, fits, same) = so_far n room found in
     let (d, is) = read-rest (val (skip_blank rest)) after read in
-    (m - 1, push_item more d, omega arith, same ∙ ap rest_of (items_more val m more rest d after next (omega arith) other is element))
+    (m - 1, push_item more d, omega arith, same ∙ ap rest_of_read (items_more val m more rest d after next (omega arith) other is element))
 
 -- an atom as a value
-pub passed-atom : (depth : ℕ) (text rest : List ℕ) → (first text == 91) ≡ false → (first text == 123) ≡ false → rest_of (atom text) ≡ Some rest → rest_of (val depth text) ≡ Some rest
-passed-atom depth text rest a b h = ap rest_of (val_atom depth text a b) ∙ h
+pub passed-atom : (depth : ℕ) (text rest : List ℕ) → (first text == 91) ≡ false → (first text == 123) ≡ false → rest_of_read (atom text) ≡ Some rest → rest_of_read (val depth text) ≡ Some rest
+passed-atom depth text rest a b h = ap rest_of_read (val_atom depth text a b) ∙ h
 
 -- an array as a value
-pub passed-array : (depth : ℕ) (text rest : List ℕ) → (first text == 91) ≡ true → IsBehindItems (val depth) (drop 1 text) rest → 0 < length text → rest_of (val (suc depth) text) ≡ Some rest
+pub passed-array : (depth : ℕ) (text rest : List ℕ) → (first text == 91) ≡ true → IsBehindItems (val depth) (drop 1 text) rest → 0 < length text → rest_of_read (val (suc depth) text) ≡ Some rest
 passed-array depth text rest a h some =
-    ap rest_of (val_array depth text a) ∙ rest-map array (items (val depth) (length text) no_items (drop 1 text))
+    ap rest_of_read (val_array depth text a) ∙ rest-map array (items (val depth) (length text) no_items (drop 1 text))
     ∙ h (length text) (omega (arith, length-drop 1 text)) no_items
 
 -- a plain pair parses alone
-pub plain-stands : (text at_value rest : List ℕ) → rest_of (key_equals (skip_blank (skip_bom text))) ≡ Some at_value → rest_of (val 80 at_value) ≡ Some rest → is_over rest ≡ true → stands text ≡ true
+pub plain-stands : (text at_value rest : List ℕ) → rest_of_read (key_equals (skip_blank (skip_bom text))) ≡ Some at_value → rest_of_read (val 80 at_value) ≡ Some rest → is_over rest ≡ true → stands text ≡ true
 plain-stands text at_value rest front back over =
     let (k, named) = read-rest (key_equals (skip_blank (skip_bom text))) at_value front in
     let (d, read) = read-rest (val 80 at_value) rest back in
     let (ms, whole, leads) = pair-document text at_value rest k d named read over in
-    rw whole (has_keys-chain ms k.1 k.0 (chain_of d) leads)
+    rw whole (has_keys-chain ms k.1 k.0 (chain_of_data d) leads)
 
 pub passed-end : (val : List ℕ → Read Data) (text rest : List ℕ) → HasPassed val text rest → (first (skip_blank rest) == 93) ≡ true
-    → (n : ℕ) → length text < n → (found : Items) → rest_of (items val n found text) ≡ Some (drop 1 (skip_blank rest))
+    → (n : ℕ) → length text < n → (found : Items) → rest_of_read (items val n found text) ≡ Some (drop 1 (skip_blank rest))
 passed-end val text rest so_far closing n room found =
     let (m, more, fits, same) = so_far n room found in
-    same ∙ ap rest_of (items_end val m more rest (omega arith) closing)
+    same ∙ ap rest_of_read (items_end val m more rest (omega arith) closing)
 
 pub some-weaker : {X : Type 0} (o : Option X) (P Q : X → Type 0) → ((x : X) → P x → Q x) → IfSome o P → IfSome o Q
 some-weaker None P Q f h = tt
@@ -162,7 +162,7 @@ zero-document text k h =
     (rw whole (has_keys-chain ms k.1 k.0 [] leads), rw whole (sym leads))
 
 -- a key of one bare name
-pub bare-key : (text after rest : List ℕ) → is_bare (first text) ≡ true → after ≡ skip_ws (split_while is_bare text).1 → (first after == 61) ≡ true → rest ≡ skip_ws (drop 1 after) → rest_of (key_equals text) ≡ Some rest
+pub bare-key : (text after rest : List ℕ) → is_bare (first text) ≡ true → after ≡ skip_ws (split_while is_bare text).1 → (first after == 61) ≡ true → rest ≡ skip_ws (drop 1 after) → rest_of_read (key_equals text) ≡ Some rest
 unfolding key_equals key_after simple_key
 bare-key text after rest bare here equals is =
     let quote : starts_string text ≡ false = grind (arith, nat_tests) in
@@ -171,7 +171,7 @@ bare-key text after rest bare here equals is =
     rw (quote, bare, back, dot, equals, is)
 
 plain-one : (q : ℕ) (inside rest : List ℕ) → (q == 34 || q == 39) ≡ true → rest ≡ (split_while (is_plain q false) inside).1 → (first rest == q) ≡ true → (first inside == q) ≡ false
-    → rest_of (atom (q ∷ inside)) ≡ Some (drop 1 rest)
+    → rest_of_read (atom (q ∷ inside)) ≡ Some (drop 1 rest)
 unfolding atom quoted one_line special
 plain-one q inside rest quote is closing some =
     let (m, room, read) = body_run q false inside (suc (length inside)) (omega arith) in
@@ -180,6 +180,6 @@ plain-one q inside rest quote is closing some =
 
 -- a string on one line without escapes
 pub plain-text : (text rest : List ℕ) → starts_string text ≡ true → rest ≡ (split_while (is_plain (first text) false) (drop 1 text)).1 → (first rest == first text) ≡ true → (first (drop 1 text) == first text) ≡ false
-    → rest_of (atom text) ≡ Some (drop 1 rest)
+    → rest_of_read (atom text) ≡ Some (drop 1 rest)
 plain-text [] rest quote is closing some = absurd (false≢true quote)
 plain-text (q ∷ inside) rest quote is closing some = plain-one q inside rest quote is closing some

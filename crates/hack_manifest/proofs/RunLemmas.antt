@@ -8,8 +8,8 @@ use Rattle.toml.specs.Data.{Members, no_members, member}
 use Rattle.toml.specs.View.{members_view}
 use Rattle.toml.specs.declared.value.Value.{Value}
 use Rattle.hack_base.specs.Names.{Name}
-use Rattle.hack_manifest.specs.Runs.{IsLines, IsFirstRun, IsCutInto, has_keys}
-use Rattle.hack_manifest.specs.Paths.{chain_of_tree, IsPath, View, HavePaths, next_header}
+use Rattle.hack_manifest.specs.LineRuns.{IsLines, IsFirstRun, IsCutInto, has_keys}
+use Rattle.hack_manifest.specs.Paths.{chain_of_tree, IsPathOfPiece, View, HavePaths, next_header}
 
 abbrev pub Entry : Type 0
 Entry = String Global × Value
@@ -48,7 +48,7 @@ chain-no_keys (Some no_members) h = refl
 chain-no_keys (Some (member k d ms)) h = cc
 
 -- one more piece after pieces with their paths
-pub HavePaths-last : (header : List (List ℕ)) (ps : List View) (p : View) → HavePaths header ps → IsPath (last_header header ps) p.text p.path → HavePaths header (ps ++ p ∷ [])
+pub HavePaths-last : (header : List (List ℕ)) (ps : List View) (p : View) → HavePaths header ps → IsPathOfPiece (last_header header ps) p.text p.path → HavePaths header (ps ++ p ∷ [])
 HavePaths-last header [] p h here = (here, tt)
 HavePaths-last header (q ∷ ps) p h here = (h.0, HavePaths-last (next_header header q) ps p h.1 here)
 

@@ -15,7 +15,7 @@ use Rattle.toml_parser.specs.Numbers.{word_len, word_value, unquoted}
 use Rattle.toml_parser.specs.declared.scalar.Scalar.{Scalar}
 use Rattle.hack_manifest.specs.declared.places.Place.{Place}
 use Rattle.hack_manifest.specs.declared.places.Place.TheVariants.{Plain, Comment, Opened, Text, Escaped, Lost}
-use Rattle.hack_manifest.specs.Keys.{rest_of}
+use Rattle.hack_manifest.specs.Keys.{rest_of_read}
 use Rattle.hack_manifest.specs.Places.{plain_step, step, behind}
 
 -- scanning the text from p ends in the same state as scanning the rest from q, or in the state Lost
@@ -290,7 +290,7 @@ word-stays d text =
       | inr none ↦ rw none front
     ]
 
-pub unquoted-leads : (d : ℕ) (text rest : List ℕ) → rest_of (unquoted text) ≡ Some rest → behind (Plain d) text ≡ behind (Plain d) rest
+pub unquoted-leads : (d : ℕ) (text rest : List ℕ) → rest_of_read (unquoted text) ≡ Some rest → behind (Plain d) text ≡ behind (Plain d) rest
 unfolding unquoted
 unquoted-leads d text rest h =
     elim (cases_Bool (word_len text == 0)) [

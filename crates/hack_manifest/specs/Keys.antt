@@ -5,13 +5,13 @@ use Rattle.toml.specs.Data.{Data, Items}
 use Rattle.toml.specs.Parse.{items, ends_line}
 
 -- the text after that which was read
-abbrev pub rest_of : {A : Type 0} → Read A → Option (List ℕ)
-rest_of read = option_map (λ p. p.1) read
+abbrev pub rest_of_read : {A : Type 0} → Read A → Option (List ℕ)
+rest_of_read read = option_map (λ p. p.1) read
 
 -- the rest follows the items and the closing bracket, whatever was found before them
 abbrev pub IsBehindItems : (List ℕ → Read Data) → List ℕ → List ℕ → Type 0
 IsBehindItems val text rest =
-    (n : ℕ) → length text < n → (found : Items) → rest_of (items val n found text) ≡ Some rest
+    (n : ℕ) → length text < n → (found : Items) → rest_of_read (items val n found text) ≡ Some rest
 
 -- the line ends, and only blank lines and comments follow
 abbrev pub is_over : List ℕ → Bool

@@ -1,8 +1,8 @@
-pub mod Runs
-pub mod Fronts
+pub mod LineRuns
+pub mod PieceFronts
 pub mod Keys
 pub mod Places
 pub mod Paths
-pub mod View
+pub mod PieceView
 pub mod Manifest
-pub mod Reads
+pub mod ManifestResults

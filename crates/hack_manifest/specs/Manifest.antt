@@ -32,12 +32,12 @@ abbrev pub by_bytes : Name → Name → Ordering
 by_bytes = slice_cmp nat_cmp
 
 -- what is read, or the name of the field that can't be read
-abbrev pub Reading : Type 0 → Type 0
-Reading A = Result A Name
+abbrev pub FieldReading : Type 0 → Type 0
+FieldReading A = Result A Name
 
 infixl 10 ◌>>=◌
 -- the second part is read only where the first one could be: so the first error counts
-abbrev pub ◌>>=◌ : {A B : Type 0} → Reading A → (A → Reading B) → Reading B
+abbrev pub ◌>>=◌ : {A B : Type 0} → FieldReading A → (A → FieldReading B) → FieldReading B
 (Ok x) >>= f = f x
 (Err name) >>= f = Err name
 
@@ -61,29 +61,29 @@ abbrev pub table_at : Name → Members → Option Members
 table_at key ms = option_and_then as_table (get_member key ms)
 
 -- the table `package`, which must not be inline
-abbrev pub package_in : Bool → Members → Reading Members
+abbrev pub package_in : Bool → Members → FieldReading Members
 package_in inline tree = if inline then Err package_key else ok_or (table_at package_key tree) package_key
 
 -- whether a package may be published: it may without the field, and with an array that isn't empty
-abbrev pub publish_from : Option Data → Reading (Option Bool)
+abbrev pub publish_from : Option Data → FieldReading (Option Bool)
 publish_from None = Ok (Some true)
 publish_from (Some (boolean b)) = Ok (Some b)
 publish_from (Some (array ds)) = Ok (Some (has_items ds))
 publish_from (Some _) = Err publish_key
 
 -- read only below cargo 1.39, whose metadata don't contain it
-abbrev pub publish_at : ℕ → Members → Reading (Option Bool)
-publish_at minor ms = if nat_lt minor 39 then publish_from (get_member publish_key ms) else Ok None
+abbrev pub publish_field : ℕ → Members → FieldReading (Option Bool)
+publish_field minor ms = if nat_lt minor 39 then publish_from (get_member publish_key ms) else Ok None
 
 -- the package's own `rust-version`, a string or absent
-abbrev pub rust_version_from : Option Data → Reading (Option (Option Name))
+abbrev pub rust_version_from : Option Data → FieldReading (Option (Option Name))
 rust_version_from None = Ok (Some None)
 rust_version_from (Some (string text)) = Ok (Some (Some text))
 rust_version_from (Some _) = Err rust_version_key
 
 -- read only below cargo 1.58
-abbrev pub rust_version_at : ℕ → Members → Reading (Option (Option Name))
-rust_version_at minor ms = if nat_lt minor 58 then rust_version_from (get_member rust_version_key ms) else Ok None
+abbrev pub rust_version_field : ℕ → Members → FieldReading (Option (Option Name))
+rust_version_field minor ms = if nat_lt minor 58 then rust_version_from (get_member rust_version_key ms) else Ok None
 
 -- what the table `package` says
 pub record PackageFacts : Type 0 where
@@ -91,10 +91,10 @@ pub record PackageFacts : Type 0 where
   pub rust_version : Option (Option Name)
 
 -- both fields, or the first one that can't be read
-abbrev pub package_facts : ℕ → Members → Reading PackageFacts
+abbrev pub package_facts : ℕ → Members → FieldReading PackageFacts
 package_facts minor ms =
-    publish_at minor ms >>= λ publish.
-    rust_version_at minor ms >>= λ rust_version.
+    publish_field minor ms >>= λ publish.
+    rust_version_field minor ms >>= λ rust_version.
     Ok (record { publish = publish; rust_version = rust_version })
 
 -- the strings among items
@@ -105,19 +105,19 @@ texts_in (item _ ds) = texts_in ds
 
 -- the members as a feature map: each is a feature with the strings of its array; none where one is
 -- no array
-abbrev pub members_in : Members → Option FeatureMap
-members_in no_members = Some []
-members_in (member name d ms) =
-    option_and_then (λ ds. option_map (λ more. (name, texts_in ds) ∷ more) (members_in ms)) (as_array d)
+abbrev pub feature_map_in : Members → Option FeatureMap
+feature_map_in no_members = Some []
+feature_map_in (member name d ms) =
+    option_and_then (λ ds. option_map (λ more. (name, texts_in ds) ∷ more) (feature_map_in ms)) (as_array d)
 
 -- the feature map: empty without `features`, which must be a table that isn't inline
 abbrev pub features_from : Bool → Option Data → Option FeatureMap
 features_from inline None = Some []
-features_from inline (Some d) = if inline then None else option_and_then members_in (as_table d)
+features_from inline (Some d) = if inline then None else option_and_then feature_map_in (as_table d)
 
 -- the feature map, or the name of the field
-abbrev pub features_in : Bool → Members → Reading FeatureMap
-features_in inline tree = ok_or (features_from inline (get_member features_key tree)) features_key
+abbrev pub features_field : Bool → Members → FieldReading FeatureMap
+features_field inline tree = ok_or (features_from inline (get_member features_key tree)) features_key
 
 -- the content of a manifest
 pub record Facts : Type 0 where
@@ -125,15 +125,15 @@ pub record Facts : Type 0 where
   pub features : FeatureMap
 
 -- the content of a manifest with this tree and these pieces, or its first field that can't be read
-abbrev pub read_manifest : ℕ → List View → Members → Reading Facts
+abbrev pub read_manifest : ℕ → List View → Members → FieldReading Facts
 read_manifest minor ps tree =
     package_in (is_inline package_key ps) tree >>= λ ms.
     package_facts minor ms >>= λ of_package.
-    features_in (is_inline features_key ps) tree >>= λ features.
+    features_field (is_inline features_key ps) tree >>= λ features.
     Ok (record { of_package = of_package; features = features })
 
 -- what the text of a manifest is read as
-pub record IsReadAs (text : List ℕ) (minor : ℕ) (read : Reading Facts) : Type 0 where
+pub record IsReadAs (text : List ℕ) (minor : ℕ) (read : FieldReading Facts) : Type 0 where
   pub tree : Members
   pub pieces : List View
   pub tail : List ℕ

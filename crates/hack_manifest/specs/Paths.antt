@@ -4,18 +4,18 @@ use Rattle.toml.specs.Data.{Data, table, Members, no_members, member}
 use Rattle.toml.specs.Parse.{parse_document, skip_bom}
 use Rattle.toml_parser.specs.Lexical.{skip_blank}
 use Rattle.hack_base.specs.Names.{Name}
-use Rattle.hack_manifest.specs.Runs.{IsCutInto}
-use Rattle.hack_manifest.specs.Fronts.{IsFirstFrontTo, HasNoFrontTo}
+use Rattle.hack_manifest.specs.LineRuns.{IsCutInto}
+use Rattle.hack_manifest.specs.PieceFronts.{IsFirstFrontTo, HasNoFrontTo}
 
 -- the names along a tree, taking the first member of each table
 abbrev mutual
-  pub chain_of : Data → List Name
-  chain_of (table ms) = chain ms
-  chain_of _ = []
+  pub chain_of_data : Data → List Name
+  chain_of_data (table ms) = chain ms
+  chain_of_data _ = []
 
   pub chain : Members → List Name
   chain no_members = []
-  chain (member k d ms) = k ∷ chain_of d
+  chain (member k d ms) = k ∷ chain_of_data d
 
 -- the chain of names in the tree of a text, if there is a tree
 abbrev pub chain_of_tree : Option Members → List Name
@@ -38,7 +38,7 @@ pub data IsOwnKey (piece : List ℕ) (key : List Name) : Type 0 where
 
 -- a piece after the last header's path has this path: a header has its own, a key is appended to
 -- the header's
-pub record IsPath (header : List Name) (piece : List ℕ) (path : List Name) : Type 0 where
+pub record IsPathOfPiece (header : List Name) (piece : List ℕ) (path : List Name) : Type 0 where
   pub own : is_header piece ≡ true → path ≡ chain_at piece
   pub behind : is_header piece ≡ false → (key : List Name) × IsOwnKey piece key × (path ≡ header ++ key)
 
@@ -54,7 +54,7 @@ next_header header p = if is_header p.text then p.path else header
 -- each piece has its path, given the header's path before it
 abbrev pub HavePaths : List Name → List View → Type 0
 HavePaths header [] = Unit {0}
-HavePaths header (p ∷ ps) = IsPath header p.text p.path × HavePaths (next_header header p) ps
+HavePaths header (p ∷ ps) = IsPathOfPiece header p.text p.path × HavePaths (next_header header p) ps
 
 -- the pieces of a text with their paths, and the tail
 pub record AreCut (text : List ℕ) (pieces : List View) (tail : List ℕ) : Type 0 where

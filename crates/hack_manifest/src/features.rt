@@ -5,8 +5,8 @@ ghost use Rattle.std.specs.BTreeMap.{insert_entry};
 ghost use Rattle.toml.specs.View.{table_view, array_view};
 ghost use Rattle.hack_base.specs.Names.{names_of};
 ghost use Rattle.hack_features.specs.FeatureMap.{feature_map};
-ghost use Rattle.hack_manifest.specs.Manifest.{by_bytes, texts_in, members_in, features_in};
-ghost use Rattle.hack_manifest.specs.Reads.{Gives};
+ghost use Rattle.hack_manifest.specs.Manifest.{by_bytes, texts_in, feature_map_in, features_field};
+ghost use Rattle.hack_manifest.specs.ManifestResults.{ReturnsReading};
 
 use crate::fault::ReadFault;
 use crate::lookup::value_at;
@@ -45,7 +45,7 @@ fn put(
 
 /// The feature map that a table holds; none where a value is no array.
 fn map_of(alloc: Global, table: &Table) -> Result<Option<BTreeMap<String, Vec<String>>>, AllocError>
-    ensures { IfOk result (λ found. members_in (table_view table.now)
+    ensures { IfOk result (λ found. feature_map_in (table_view table.now)
         ≡ option_map feature_map found) }
 {
     let mut map = BTreeMap::new(alloc);
@@ -64,7 +64,7 @@ pub fn features_of(
     tree: &Table,
     inline: bool,
 ) -> Result<BTreeMap<String, Vec<String>>, ReadFault>
-    ensures { Gives feature_map result (features_in inline (table_view tree.now)) }
+    ensures { ReturnsReading feature_map result (features_field inline (table_view tree.now)) }
 {
     let Some(value) = value_at(tree, "features") else {
         return Ok(BTreeMap::new(alloc));

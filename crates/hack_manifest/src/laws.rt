@@ -1,12 +1,12 @@
 //! Laws: functions that do nothing, each of which has a law over definitions as its contract.
 
 ghost use Rattle.std.specs.Prelude.{◌≡◌, ◌++◌, List, ℕ};
-ghost use Rattle.hack_manifest.specs.Manifest.{Reading, Facts, IsReadAs};
+ghost use Rattle.hack_manifest.specs.Manifest.{FieldReading, Facts, IsReadAs};
 ghost use Rattle.hack_manifest.specs.Paths.{AreCut, View, joined_pieces};
 
 /// A manifest's text is read in only one way.
 pub fn manifest_is_one()
-    ensures { (text : List ℕ) (minor : ℕ) (read other : Reading Facts) → IsReadAs text minor read
+    ensures { (text : List ℕ) (minor : ℕ) (read other : FieldReading Facts) → IsReadAs text minor read
         → IsReadAs text minor other → read ≡ other }
 {}
 

@@ -5,9 +5,9 @@ ghost use Rattle.std.specs.Prelude.{◌≡◌, Some, IfOk, IfErr, string_bytes};
 ghost use Rattle.toml.specs.Parse.{parse_document};
 ghost use Rattle.toml.specs.View.{table_view};
 ghost use Rattle.hack_manifest.specs.Manifest.{read_manifest};
-ghost use Rattle.hack_manifest.specs.View.{slice_view};
-ghost use Rattle.hack_manifest.specs.Reads.{Gives, Tells, facts_view, IsManifest};
-ghost use Rattle.hack_manifest.specs.Reads.{IsRefusal, IsTomlFault, IsFieldFault};
+ghost use Rattle.hack_manifest.specs.PieceView.{slice_view};
+ghost use Rattle.hack_manifest.specs.ManifestResults.{ReturnsReading, ReturnsFacts, facts_view, IsManifest};
+ghost use Rattle.hack_manifest.specs.ManifestResults.{IsRefusal, IsTomlFault, IsFieldFault};
 
 use crate::fault::ReadFault;
 use crate::features::features_of;
@@ -112,7 +112,7 @@ fn facts(
     cargo_version: u32,
 ) -> Result<(Package, BTreeMap<String, Vec<String>>), ReadFault>
     requires { parse_document text.now ≡ Some (table_view tree.now) }
-    ensures { Tells text.now cargo_version result }
+    ensures { ReturnsFacts text.now cargo_version result }
 {
     let cut = cut(alloc, text)?;
     read(alloc, tree, &cut.pieces, cargo_version)
@@ -126,7 +126,7 @@ fn read(
     pieces: &[Piece<'_>],
     cargo_version: u32,
 ) -> Result<(Package, BTreeMap<String, Vec<String>>), ReadFault>
-    ensures { Gives facts_view result
+    ensures { ReturnsReading facts_view result
         (read_manifest cargo_version (slice_view pieces.now) (table_view tree.now)) }
 {
     let table = package_table(tree, is_inline(pieces, "package"))?;

@@ -1,9 +1,9 @@
 //! What a manifest says about its package.
 
 ghost use Rattle.toml.specs.View.{table_view};
-ghost use Rattle.hack_manifest.specs.Manifest.{package_in, publish_at, rust_version_at};
+ghost use Rattle.hack_manifest.specs.Manifest.{package_in, publish_field, rust_version_field};
 ghost use Rattle.hack_manifest.specs.Manifest.{package_facts};
-ghost use Rattle.hack_manifest.specs.Reads.{Gives, version_view, package_view};
+ghost use Rattle.hack_manifest.specs.ManifestResults.{ReturnsReading, rust_version_view, package_facts_view};
 
 use crate::fault::ReadFault;
 use crate::lookup::{find_table, has_values, value_at};
@@ -22,7 +22,7 @@ pub struct Package {
 
 /// The table `package`, which must not be inline.
 pub fn package_table(tree: &Table, inline: bool) -> Result<&Table, ReadFault>
-    ensures { Gives (λ t. table_view t.now) result (package_in inline (table_view tree.now)) }
+    ensures { ReturnsReading (λ t. table_view t.now) result (package_in inline (table_view tree.now)) }
 {
     if inline {
         return Err(ReadFault::Field("package"));
@@ -35,7 +35,7 @@ pub fn package_table(tree: &Table, inline: bool) -> Result<&Table, ReadFault>
 
 /// Whether the package may be published: without the field it may, with an empty list it may not.
 fn publish(table: &Table, cargo_version: u32) -> Result<Option<bool>, ReadFault>
-    ensures { Gives (λ o. o) result (publish_at cargo_version (table_view table.now)) }
+    ensures { ReturnsReading (λ o. o) result (publish_field cargo_version (table_view table.now)) }
 {
     if cargo_version >= 39 {
         return Ok(None);
@@ -54,7 +54,7 @@ fn rust_version(
     table: &Table,
     cargo_version: u32,
 ) -> Result<Option<Option<String>>, ReadFault>
-    ensures { Gives version_view result (rust_version_at cargo_version (table_view table.now)) }
+    ensures { ReturnsReading rust_version_view result (rust_version_field cargo_version (table_view table.now)) }
 {
     if cargo_version >= 58 {
         return Ok(None);
@@ -68,7 +68,7 @@ fn rust_version(
 
 /// The content of the table `package`.
 pub fn package_of(alloc: Global, table: &Table, cargo_version: u32) -> Result<Package, ReadFault>
-    ensures { Gives package_view result (package_facts cargo_version (table_view table.now)) }
+    ensures { ReturnsReading package_facts_view result (package_facts cargo_version (table_view table.now)) }
 {
     let publish = publish(table, cargo_version)?;
     let rust_version = rust_version(alloc, table, cargo_version)?;

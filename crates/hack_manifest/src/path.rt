@@ -5,10 +5,10 @@ ghost use Rattle.std.specs.Prelude.{true, IfOk, OnOk, IfSome, IfNone};
 ghost use Rattle.toml.specs.Parse.{skip_bom};
 ghost use Rattle.toml.specs.View.{view, table_view};
 ghost use Rattle.hack_base.specs.Names.{names_of};
-ghost use Rattle.hack_manifest.specs.Runs.{stands};
-ghost use Rattle.hack_manifest.specs.Fronts.{IsFrontTo};
-ghost use Rattle.hack_manifest.specs.Paths.{chain, chain_of, chain_at, is_header};
-ghost use Rattle.hack_manifest.specs.Paths.{IsOwnKey, IsPath};
+ghost use Rattle.hack_manifest.specs.LineRuns.{stands};
+ghost use Rattle.hack_manifest.specs.PieceFronts.{IsFrontTo};
+ghost use Rattle.hack_manifest.specs.Paths.{chain, chain_of_data, chain_at, is_header};
+ghost use Rattle.hack_manifest.specs.Paths.{IsOwnKey, IsPathOfPiece};
 
 use crate::plain::bare_name;
 use hack_base::copies::push_copies;
@@ -21,7 +21,7 @@ use toml_parser::{Key, dotted_key};
 #[cycle(chain)]
 fn push_chain_of(value: &Value, names: &mut Vec<String>) -> Result<(), AllocError>
     ensures { OnOk result
-        (names_of names.new.items ≡ names_of names.old.items ++ chain_of (view value.now)) }
+        (names_of names.new.items ≡ names_of names.old.items ++ chain_of_data (view value.now)) }
 {
     match value {
         Value::Table(table) => push_chain(table, names),
@@ -145,7 +145,7 @@ fn own_key(alloc: Global, piece: &str) -> Result<Vec<String>, AllocError>
 /// The path of a piece after a header.
 pub fn path_of(alloc: Global, header: &[String], piece: &str) -> Result<Vec<String>, AllocError>
     ensures { IfOk result (λ path.
-        IsPath (names_of header.now) piece.now (names_of path.items)) }
+        IsPathOfPiece (names_of header.now) piece.now (names_of path.items)) }
 {
     if starts_table(piece) {
         return match names_in(alloc, piece)? {

@@ -5,7 +5,7 @@ ghost use Rattle.std.specs.Prelude.{◌≡◌, None, IsSome, IfOk};
 ghost use Rattle.toml.specs.Parse.{parse_document};
 ghost use Rattle.hack_base.specs.Names.{names_of};
 ghost use Rattle.hack_manifest.specs.Paths.{AreCut, next_header};
-ghost use Rattle.hack_manifest.specs.View.{pieces_view, slice_view, piece_view};
+ghost use Rattle.hack_manifest.specs.PieceView.{pieces_view, slice_view, piece_view};
 ghost use Rattle.hack_manifest.specs.Manifest.{is_value_of, is_inline};
 ghost use Rattle.hack_manifest.specs.declared.pieces.PiecesFault.TheVariants.{Memory, Toml};
 

@@ -6,8 +6,8 @@ ghost use Rattle.std.specs.List.{prefix_len};
 ghost use Rattle.toml.specs.Parse.{key_equals, atom, val, after_element};
 ghost use Rattle.toml_parser.specs.Lexical.{is_bare, split_while};
 ghost use Rattle.toml_parser.specs.Strings.{is_plain, starts_string};
-ghost use Rattle.hack_manifest.specs.Runs.{stands};
-ghost use Rattle.hack_manifest.specs.Keys.{rest_of, IsBehindItems, IsBareName, is_over};
+ghost use Rattle.hack_manifest.specs.LineRuns.{stands};
+ghost use Rattle.hack_manifest.specs.Keys.{rest_of_read, IsBehindItems, IsBareName, is_over};
 
 use crate::path::skip_mark;
 use std::alloc::Global;
@@ -31,7 +31,7 @@ pub fn is_plain_pair(alloc: Global, text: &str) -> bool
 
 /// The text after a key and `=`.
 fn behind_key(alloc: Global, s: &str) -> Option<&str>
-    ensures { IfSome result (λ rest. rest_of (key_equals s.now) ≡ Some rest.now) }
+    ensures { IfSome result (λ rest. rest_of_read (key_equals s.now) ≡ Some rest.now) }
 {
     match behind_bare_key(s) {
         Some(rest) => Some(rest),
@@ -41,7 +41,7 @@ fn behind_key(alloc: Global, s: &str) -> Option<&str>
 
 /// The text after a key of one bare name and `=`.
 fn behind_bare_key(s: &str) -> Option<&str>
-    ensures { IfSome result (λ rest. rest_of (key_equals s.now) ≡ Some rest.now) }
+    ensures { IfSome result (λ rest. rest_of_read (key_equals s.now) ≡ Some rest.now) }
 {
     let after = skip_ws(behind_name(s));
     if is_bare(first(s)) && first(after) == b'=' {
@@ -53,7 +53,7 @@ fn behind_bare_key(s: &str) -> Option<&str>
 
 /// The text after any key and `=`.
 fn behind_dotted_key(alloc: Global, s: &str) -> Option<&str>
-    ensures { IfSome result (λ rest. rest_of (key_equals s.now) ≡ Some rest.now) }
+    ensures { IfSome result (λ rest. rest_of_read (key_equals s.now) ≡ Some rest.now) }
 {
     match dotted_key(alloc, s) {
         Ok((_, rest)) => {
@@ -69,7 +69,7 @@ fn behind_dotted_key(alloc: Global, s: &str) -> Option<&str>
 
 /// The text after a plain value.
 fn behind_value(alloc: Global, s: &str) -> Option<&str>
-    ensures { IfSome result (λ rest. rest_of (val 80 s.now) ≡ Some rest.now) }
+    ensures { IfSome result (λ rest. rest_of_read (val 80 s.now) ≡ Some rest.now) }
 {
     if first(s) == b'[' {
         behind_items(alloc, skip(s, 1))
@@ -82,7 +82,7 @@ fn behind_value(alloc: Global, s: &str) -> Option<&str>
 
 /// The text after a string, a boolean, a number or a date.
 fn behind_atom(alloc: Global, s: &str) -> Option<&str>
-    ensures value { IfSome result (λ rest. rest_of (atom s.now) ≡ Some rest.now) }
+    ensures value { IfSome result (λ rest. rest_of_read (atom s.now) ≡ Some rest.now) }
     ensures shorter { IfSome result (λ rest. length rest.now < length s.now) }
 {
     if starts_string(s) {
@@ -95,7 +95,7 @@ fn behind_atom(alloc: Global, s: &str) -> Option<&str>
 /// The text after a string.
 fn behind_text(alloc: Global, s: &str) -> Option<&str>
     requires { starts_string s.now ≡ true }
-    ensures value { IfSome result (λ rest. rest_of (atom s.now) ≡ Some rest.now) }
+    ensures value { IfSome result (λ rest. rest_of_read (atom s.now) ≡ Some rest.now) }
     ensures shorter { IfSome result (λ rest. length rest.now < length s.now) }
 {
     match behind_plain_text(s) {
@@ -107,7 +107,7 @@ fn behind_text(alloc: Global, s: &str) -> Option<&str>
 /// The text after a string on one line that has no escapes and isn't empty.
 fn behind_plain_text(s: &str) -> Option<&str>
     requires { starts_string s.now ≡ true }
-    ensures value { IfSome result (λ rest. rest_of (atom s.now) ≡ Some rest.now) }
+    ensures value { IfSome result (λ rest. rest_of_read (atom s.now) ≡ Some rest.now) }
     ensures shorter { IfSome result (λ rest. length rest.now < length s.now) }
 {
     let quote = first(s);
@@ -123,7 +123,7 @@ fn behind_plain_text(s: &str) -> Option<&str>
 /// The text after any string.
 fn behind_any_text(alloc: Global, s: &str) -> Option<&str>
     requires { starts_string s.now ≡ true }
-    ensures value { IfSome result (λ rest. rest_of (atom s.now) ≡ Some rest.now) }
+    ensures value { IfSome result (λ rest. rest_of_read (atom s.now) ≡ Some rest.now) }
     ensures shorter { IfSome result (λ rest. length rest.now < length s.now) }
 {
     match quoted(alloc, s) {
@@ -135,7 +135,7 @@ fn behind_any_text(alloc: Global, s: &str) -> Option<&str>
 /// The text after a boolean, a number or a date.
 fn behind_word(alloc: Global, s: &str) -> Option<&str>
     requires { starts_string s.now ≡ false }
-    ensures value { IfSome result (λ rest. rest_of (atom s.now) ≡ Some rest.now) }
+    ensures value { IfSome result (λ rest. rest_of_read (atom s.now) ≡ Some rest.now) }
     ensures shorter { IfSome result (λ rest. length rest.now < length s.now) }
 {
     match unquoted(alloc, s) {

@@ -10,7 +10,7 @@ use Rattle.hack_process.specs.declared.fault.ProcessFault.TheVariants as p
 use Rattle.std.specs.Prelude.{IfOk, MatchOption, OnErr, Option, Result}
 use Rattle.std.specs.declared.alloc.AllocError.{AllocError}
 use Rattle.std.proofs.Common.{Global, String}
-use Rattle.hack_metadata.specs.Asks.{Fails, Reads, MinorOf, TellsStable}
+use Rattle.hack_metadata.specs.QuestionCalls.{FailsToRead, ReadsOutput, MinorOf, TellsStableMinor}
 use Rattle.hack_metadata.specs.Requests.{version_command, platform_words}
 use Rattle.std.proofs.Common.{◌<◌, ◌+◌, length, get_or, take}
 use Rattle.std.proofs.lemmas.List.{take_more, map-append}
@@ -33,7 +33,7 @@ fault-read tells asked shown old new (p.Failed failure) h = h
 fault-read tells asked shown old new (p.NotText text) h = absurd h
 
 -- a command that wrote no text failed
-pub no-text : (tells : Type 0) (c : Command) (shown : Name) (old new : List Call) (e : ProcessFault) (text : String Global) → e ≡ p.NotText text → IsReadFault tells (asked_of true c) shown old new e → tells → Fails c old new
+pub no-text : (tells : Type 0) (c : Command) (shown : Name) (old new : List Call) (e : ProcessFault) (text : String Global) → e ≡ p.NotText text → IsReadFault tells (asked_of true c) shown old new e → tells → FailsToRead c old new
 no-text tells c shown old new e text is h t =
     let at : IsReadFault tells (asked_of true c) shown old new (p.NotText text) = subst (λ f. IsReadFault tells (asked_of true c) shown old new f) is h in
     let had = at.2 t in
@@ -42,21 +42,21 @@ no-text tells c shown old new e text is h t =
 -- what was read counts as stable's answer
 pub told-stable : (tells : Type 0) (rustup : Name) (c : Command) (o : Option (String Global)) (answer : String Global) (text : Name) (minor : ℕ) (old new : List Call)
     → c ≡ version_command rustup → o ≡ Some answer → text ≡ string_bytes answer
-    → (tells → MatchOption o (Fails c old new) (λ t. Reads c (string_bytes t) old new)) → MinorOf text minor → tells → TellsStable rustup minor old new
+    → (tells → MatchOption o (FailsToRead c old new) (λ t. ReadsOutput c (string_bytes t) old new)) → MinorOf text minor → tells → TellsStableMinor rustup minor old new
 told-stable tells rustup c o answer text minor old new asks is at h of told =
-    let read : Reads c (string_bytes answer) old new = subst (λ x. MatchOption x (Fails c old new) (λ t. Reads c (string_bytes t) old new)) is (h told) in
-    inl (string_bytes answer, subst (λ k. Reads k (string_bytes answer) old new) asks read, subst (λ t. MinorOf t minor) at of)
+    let read : ReadsOutput c (string_bytes answer) old new = subst (λ x. MatchOption x (FailsToRead c old new) (λ t. ReadsOutput c (string_bytes t) old new)) is (h told) in
+    inl (string_bytes answer, subst (λ k. ReadsOutput k (string_bytes answer) old new) asks read, subst (λ t. MinorOf t minor) at of)
 
 -- where stable's cargo fails, its minor version is taken as 0
 pub failed-stable : (tells : Type 0) (rustup : Name) (c : Command) (o : Option (String Global)) (old new : List Call)
     → c ≡ version_command rustup → o ≡ None
-    → (tells → MatchOption o (Fails c old new) (λ t. Reads c (string_bytes t) old new)) → tells → TellsStable rustup 0 old new
+    → (tells → MatchOption o (FailsToRead c old new) (λ t. ReadsOutput c (string_bytes t) old new)) → tells → TellsStableMinor rustup 0 old new
 failed-stable tells rustup c o old new asks is h told =
-    let failed : Fails c old new = subst (λ x. MatchOption x (Fails c old new) (λ t. Reads c (string_bytes t) old new)) is (h told) in
-    inr (subst (λ k. Fails k old new) asks failed, refl)
+    let failed : FailsToRead c old new = subst (λ x. MatchOption x (FailsToRead c old new) (λ t. ReadsOutput c (string_bytes t) old new)) is (h told) in
+    inr (subst (λ k. FailsToRead k old new) asks failed, refl)
 
 -- a command whose output was read, or not, may have been called
-pub tried-may : (tells : Type 0) (c : Command) (old new : List Call) (r : Result (Option (String Global)) AllocError) → IfOk r (λ told. tells → MatchOption told (Fails c old new) (λ t. Reads c (string_bytes t) old new))
+pub tried-may : (tells : Type 0) (c : Command) (old new : List Call) (r : Result (Option (String Global)) AllocError) → IfOk r (λ told. tells → MatchOption told (FailsToRead c old new) (λ t. ReadsOutput c (string_bytes t) old new))
     → OnErr r (tells → MayAdd (asked_of true c) old new) → tells → MayAdd (asked_of true c) old new
 tried-may tells c old new (Ok None) ok err t = elim (ok t) [ inl h ↦ inl h.1 | inr h ↦ inr (h.0, h.2) ]
 tried-may tells c old new (Ok (Some text)) ok err t = let h = ok t in inr (h.0, h.2)

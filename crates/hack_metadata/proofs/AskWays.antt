@@ -20,14 +20,14 @@ use Rattle.hack_process.specs.Commands.{asked_of}
 use Rattle.hack_process.specs.Faults.{IsFault, IsReadFault}
 use Rattle.hack_process.specs.declared.fault.ProcessFault.{ProcessFault}
 use Rattle.hack_process.specs.declared.fault.ProcessFault.TheVariants as p
-use Rattle.hack_metadata.specs.Asks.{Stage, first, locked, newer, taken, to_cargo, versioned, Way, answers, tells_older, first_counts, asks_again}
-use Rattle.hack_metadata.specs.Asks.{AsksCargo, Counts, EndsSo, Fails, FailsFirst, FallsBack, IsAnswer, IsLockfile, IsNeeded, IsNext, IsTextFault, Lacks, PutsBack, Stops, TellsAs, FailsAs, Writes}
+use Rattle.hack_metadata.specs.QuestionCalls.{Stage, first, locked, newer, taken, to_cargo, versioned, LeadsToStage, answers, tells_older, first_counts, asks_again}
+use Rattle.hack_metadata.specs.QuestionCalls.{AsksCargo, UsesAnswer, EndsSo, FailsToRead, FailsFirst, FallsBack, IsAnswer, IsLockfile, IsNeeded, IsNextCommand, IsTextFault, Lacks, PutsBack, StopsQuestion, TellsAs, FailsAs, WroteWhereKnown}
 use Rattle.hack_metadata.specs.Fields.{Field, object_in_text}
 use Rattle.hack_metadata.specs.FileFaults.{IsUnread, IsUnwritten}
-use Rattle.hack_metadata.specs.Read.{read_metadata}
+use Rattle.hack_metadata.specs.MetadataReading.{read_metadata}
 use Rattle.hack_metadata.specs.Requests.{Question, by_stable, command_line, first_command}
-use Rattle.hack_metadata.specs.Left.{FailsOver, IsFileFault, IsNoFileFault, IsOfFile, Keeps, LeftBy, Leaves, PutsHeld, Spoilt, Whole}
-use Rattle.hack_metadata.specs.Whole.{metadata_view}
+use Rattle.hack_metadata.specs.FilesAfterAsking.{FailsOver, IsFileFault, IsNoFileFault, IsAskFaultOfFile, KeepsOneMore, LeftBy, LeavesFiles, PutsHeld, Spoilt, Whole}
+use Rattle.hack_metadata.specs.MetadataView.{metadata_view}
 use Rattle.hack_metadata.specs.declared.metadata.Metadata.{Metadata}
 use Rattle.hack_metadata.specs.declared.ask_fault.AskFault.{AskFault}
 use Rattle.hack_metadata.specs.declared.ask_fault.AskFault.TheVariants as fault
@@ -38,7 +38,7 @@ use Rattle.hack_metadata.proofs.AskLemmas.{fault-read}
 -- a text that isn't read as it should be ends the question
 pub text-stops : {A : Type 0} (q : Question) (now : List Call) (stage : Stage) (c : Command) (text : Name) (f : Members → Field A) (e : AskFault)
     → IsAnswer q stage c text → ((name : Name) (ms : Members) → object_in_text text ≡ Some ms → f ms ≡ Err name → Lacks stage name)
-    → IsTextFault f text (text_of q.verbose q.dir c) e → Stops q stage now now e
+    → IsTextFault f text (text_of q.verbose q.dir c) e → StopsQuestion q stage now now e
 text-stops q now stage c text f fault.Memory is lacks h = inl refl
 text-stops q now stage c text f fault.NoHost is lacks h = absurd h
 text-stops q now stage c text f (fault.Process e) is lacks h = absurd h
@@ -48,14 +48,14 @@ text-stops q now stage c text f (fault.Field name) is lacks h = (refl, lacks nam
 
 -- an answer that is read, or an error of reading it, is the result
 metadata-counts : (q : Question) (now : List Call) (c : Command) (text : Name) (minor : ℕ) (r : Result Metadata AskFault)
-    → IfOk r (λ m. TellsAs (read_metadata minor) text (metadata_view m)) → IfErr r (IsTextFault (read_metadata minor) text (text_of q.verbose q.dir c)) → Counts q c text minor now r
+    → IfOk r (λ m. TellsAs (read_metadata minor) text (metadata_view m)) → IfErr r (IsTextFault (read_metadata minor) text (text_of q.verbose q.dir c)) → UsesAnswer q c text minor now r
 metadata-counts q now c text minor (Ok m) ok err = ok
 metadata-counts q now c text minor (Err e) ok err = text-stops q now (taken c text minor) c text (read_metadata minor) e (refl, refl) (λ name ms o f. (ms, o, f)) err
 
 -- the same, where the command and the text are given by equations
 pub asked-counts : (q : Question) (now : List Call) (c asked : Command) (text shown : Name) (minor : ℕ) (r : Result Metadata AskFault)
     → asked ≡ c → shown ≡ text → IfOk r (λ m. TellsAs (read_metadata minor) shown (metadata_view m))
-    → IfErr r (IsTextFault (read_metadata minor) shown (text_of q.verbose q.dir asked)) → Counts q c text minor now r
+    → IfErr r (IsTextFault (read_metadata minor) shown (text_of q.verbose q.dir asked)) → UsesAnswer q c text minor now r
 asked-counts q now c asked text shown minor r is same ok err =
     metadata-counts q now c text minor r (subst (λ t. IfOk r (λ m. TellsAs (read_metadata minor) t (metadata_view m))) same ok)
     (subst (λ k. IfErr r (IsTextFault (read_metadata minor) text (text_of q.verbose q.dir k))) is (subst (λ t. IfErr r (IsTextFault (read_metadata minor) t (text_of q.verbose q.dir asked))) same err))
@@ -70,8 +70,8 @@ told-fault tells asked shown old new (p.NotText text) t h = (h.0, h.1, λ _. h.2
 
 -- the next command fails, and ends the question
 pub command-stops : (tells : Type 0) (q : Question) (mid new : List Call) (stage : Stage) (c : Command) (e : AskFault)
-    → tells → IsNeeded stage → IsNext q stage c
-    → FailsAs (tells → MayAdd (asked_of true c) mid new) (IsReadFault tells (asked_of true c) (text_of true q.dir c) mid new) e → Stops q stage mid new e
+    → tells → IsNeeded stage → IsNextCommand q stage c
+    → FailsAs (tells → MayAdd (asked_of true c) mid new) (IsReadFault tells (asked_of true c) (text_of true q.dir c) mid new) e → StopsQuestion q stage mid new e
 command-stops tells q mid new stage c fault.Memory t needed next h = inr (c, next, h t)
 command-stops tells q mid new stage c fault.NoHost t needed next h = absurd h
 command-stops tells q mid new stage c (fault.Process e) t needed next h = (needed, (c, next, told-fault tells (asked_of true c) (text_of true q.dir c) mid new e t h))
@@ -89,21 +89,21 @@ run-fails M tells asked shown old new (fault.Output text) h = h
 run-fails M tells asked shown old new (fault.Field name) h = h
 
 -- a question that can't be made
-pub question-stops : (q : Question) (now : List Call) (minor : ℕ) (e : AskFault) → (e ≡ fault.Memory) ⊎ ((e ≡ fault.NoHost) × (q.full ≡ None)) → Stops q (versioned minor) now now e
-question-stops q now minor e (inl is) = subst (λ x. Stops q (versioned minor) now now x) (sym is) (inl refl)
-question-stops q now minor e (inr h) = subst (λ x. Stops q (versioned minor) now now x) (sym h.0) (minor, refl, refl, h.1)
+pub question-stops : (q : Question) (now : List Call) (minor : ℕ) (e : AskFault) → (e ≡ fault.Memory) ⊎ ((e ≡ fault.NoHost) × (q.full ≡ None)) → StopsQuestion q (versioned minor) now now e
+question-stops q now minor e (inl is) = subst (λ x. StopsQuestion q (versioned minor) now now x) (sym is) (inl refl)
+question-stops q now minor e (inr h) = subst (λ x. StopsQuestion q (versioned minor) now now x) (sym h.0) (minor, refl, refl, h.1)
 
 -- ---- errors of the lockfile
 
 -- a read that failed
-pub of-read : (path : Name) (f : FsFault) (e : AskFault) → IsOfFile f e → IsOfRead path f → IsFileFault (IsUnread path) e
+pub of-read : (path : Name) (f : FsFault) (e : AskFault) → IsAskFaultOfFile f e → IsOfRead path f → IsFileFault (IsUnread path) e
 of-read path fs.Memory e is h = subst (IsFileFault (IsUnread path)) (sym is) tt
 of-read path (fs.Read p) e is h = subst (IsFileFault (IsUnread path)) (sym is) h
 of-read path (fs.Write p) e is h = absurd h
 of-read path (fs.NotText p) e is h = absurd h
 
 -- a write that failed
-pub of-write : (path : Name) (f : FsFault) (e : AskFault) → IsOfFile f e → IsOfWrite path f → IsFileFault (IsUnwritten path) e
+pub of-write : (path : Name) (f : FsFault) (e : AskFault) → IsAskFaultOfFile f e → IsOfWrite path f → IsFileFault (IsUnwritten path) e
 of-write path fs.Memory e is h = subst (IsFileFault (IsUnwritten path)) (sym is) tt
 of-write path (fs.Read p) e is h = absurd h
 of-write path (fs.Write p) e is h = subst (IsFileFault (IsUnwritten path)) (sym is) h
@@ -126,7 +126,7 @@ unwritten-over path still done (fault.Output text) d h = absurd h
 unwritten-over path still done (fault.Field name) d h = absurd h
 
 -- the lockfile can't be looked for
-pub there-stops : (q : Question) (now : List Call) (minor : ℕ) (text path : Name) (e : AskFault) → IsLockfile text path → IsFileFault (IsUnread path) e → Stops q (first minor text) now now e
+pub there-stops : (q : Question) (now : List Call) (minor : ℕ) (text path : Name) (e : AskFault) → IsLockfile text path → IsFileFault (IsUnread path) e → StopsQuestion q (first minor text) now now e
 there-stops q now minor text path fault.Memory lock h = inl refl
 there-stops q now minor text path (fault.Files f) lock h = (minor, text, path, lock, inl (refl, h, inl refl))
 there-stops q now minor text path fault.NoHost lock h = absurd h
@@ -135,8 +135,8 @@ there-stops q now minor text path (fault.Output shown) lock h = absurd h
 there-stops q now minor text path (fault.Field name) lock h = absurd h
 
 -- it can't be kept, or not be put back
-pub over-stops : (tells : Type 0) (q : Question) (mid new : List Call) (minor : ℕ) (text path : Name) (c : Command) (e : AskFault) → tells → IsLockfile text path → IsNext q (locked minor text) c
-    → FailsOver path (tells → new ≡ mid) (tells → MayAdd (asked_of true c) mid new) e → Stops q (locked minor text) mid new e
+pub over-stops : (tells : Type 0) (q : Question) (mid new : List Call) (minor : ℕ) (text path : Name) (c : Command) (e : AskFault) → tells → IsLockfile text path → IsNextCommand q (locked minor text) c
+    → FailsOver path (tells → new ≡ mid) (tells → MayAdd (asked_of true c) mid new) e → StopsQuestion q (locked minor text) mid new e
 over-stops tells q mid new minor text path c fault.Memory t lock next h = inr (c, next, h t)
 over-stops tells q mid new minor text path c (fault.Files f) t lock next (inl h) = (minor, text, path, lock, inl (h.0 t, h.1, inr refl))
 over-stops tells q mid new minor text path c (fault.Files f) t lock next (inr h) = (minor, text, path, lock, inr (inr (c, next, h.0 t), h.1, refl))
@@ -160,7 +160,7 @@ spoilt-more : (path : Name) (tells : Type 0) (a b c : Contents) (x y z : ℕ) �
 spoilt-more path tells a b c x y z f g = ((λ low. let first = f.0 low in let second = g.0 (omega (arith, first)) in omega (arith, first, second)), λ t q ne. g.1 t q ne ∙ f.1 t q)
 
 -- what was kept is written back
-pub restored : (path : Name) (tells : Type 0) (a b c : Contents) (x y z : ℕ) (old mid : List Kept) → Whole tells a b x y → Keeps path tells a old mid
+pub restored : (path : Name) (tells : Type 0) (a b c : Contents) (x y z : ℕ) (old mid : List Kept) → Whole tells a b x y → KeepsOneMore path tells a old mid
     → ((file : Kept) (earlier : List Kept) → mid ≡ earlier ++ file ∷ [] → GrowsBy 0 y z × (tells → KeepsOthers file.path b c × (c file.path ≡ Some file.bytes)))
     → Whole tells a c x z
 restored path tells a b c x y z old mid whole keeps back =
@@ -187,7 +187,7 @@ whole-left path tells a b x y (fault.Output text) spares h = h
 whole-left path tells a b x y (fault.Field name) spares h = h
 
 -- a result without an error of the files leaves each path as it was
-pub whole-leaves : {X : Type 0} (path : Name) (tells : Type 0) (a b : Contents) (x y : ℕ) (r : Result X AskFault) → IfErr r IsNoFileFault → Whole tells a b x y → Leaves path tells a b x y r
+pub whole-leaves : {X : Type 0} (path : Name) (tells : Type 0) (a b : Contents) (x y : ℕ) (r : Result X AskFault) → IfErr r IsNoFileFault → Whole tells a b x y → LeavesFiles path tells a b x y r
 whole-leaves path tells a b x y (Ok v) spares h = h
 whole-leaves path tells a b x y (Err e) spares h = whole-left path tells a b x y e spares h
 
@@ -225,14 +225,14 @@ module _ (tells whole : Type 0) (a b c : Contents) (s t u : List Change) (x y : 
   back-wrote h = (puts path h.0, puts-back h.0 h.1, λ w. makes_more [] (puts path h.0 ∷ []) s t u a b c (none w) (h.2 w))
 
   -- an error ended it: nothing was written, or the lockfile was put back
-  pub over-wrote : (minor : ℕ) → (whole → Makes [] t u b c ⊎ PutsHeld tells b path (λ put. Makes (put ∷ []) t u b c)) → Writes whole tells s u a c (locked minor text) []
+  pub over-wrote : (minor : ℕ) → (whole → Makes [] t u b c ⊎ PutsHeld tells b path (λ put. Makes (put ∷ []) t u b c)) → WroteWhereKnown whole tells s u a c (locked minor text) []
   over-wrote minor h = λ w. elim (h w) [
     | inl m ↦ inl (makes_more [] [] s t u a b c (none w) m)
     | inr p ↦ inr (puts path p.0, puts-back p.0 p.1, makes_more [] (puts path p.0 ∷ []) s t u a b c (none w) p.2)
   ]
 
 -- the lockfile is kept, a command is asked, and it is put back
-module _ (tells whole : Type 0) (path : Name) (a b c : Contents) (s t u : List Change) (old mid : List Kept) (keeps : Keeps path tells a old mid) (none : whole → Makes [] s t a b) where
+module _ (tells whole : Type 0) (path : Name) (a b c : Contents) (s t u : List Change) (old mid : List Kept) (keeps : KeepsOneMore path tells a old mid) (none : whole → Makes [] s t a b) where
   pub held-back : ((file : Kept) (earlier : List Kept) → mid ≡ earlier ++ file ∷ [] → whole → Makes (write_of file ∷ []) t u b c) → PutsHeld tells a path (λ put. whole → Makes (put ∷ []) s u a c)
   held-back back = (keeps.0, keeps.2, λ w. makes_more [] (puts path keeps.0 ∷ []) s t u a b c (none w) (back (record { path = path; bytes = keeps.0 }) old keeps.1 w))
 
@@ -246,25 +246,25 @@ module _ (tells whole : Type 0) (path : Name) (a b c : Contents) (s t u : List C
 
 module _ (tells whole : Type 0) (q : Question) (held later : Contents) (before now : List Change) (start new : List Call) where
   -- an answer is used
-  pub counts-ends : (c : Command) (text : Name) (minor : ℕ) (made : List Change) (r : Result Metadata AskFault) → Way tells q held start (taken c text minor) new made → (whole → Makes made before now held later)
-      → Counts q c text minor new r → EndsSo tells q held start new (Writes whole tells before now held later) r
+  pub counts-ends : (c : Command) (text : Name) (minor : ℕ) (made : List Change) (r : Result Metadata AskFault) → LeadsToStage tells q held start (taken c text minor) new made → (whole → Makes made before now held later)
+      → UsesAnswer q c text minor new r → EndsSo tells q held start new (WroteWhereKnown whole tells before now held later) r
   counts-ends c text minor made (Ok m) way wrote h = (c, text, minor, made, way, wrote, h)
   counts-ends c text minor made (Err e) way wrote h = (taken c text minor, new, made, way, h, wrote)
 
   -- the first request to cargo failed
-  pub first-ends : (mid : List Call) (minor : ℕ) (e : AskFault) → Way tells q held start (newer minor) mid [] → (whole → Makes [] before now held later) → FailsFirst q minor mid new e → EndsSo tells q held start new (Writes whole tells before now held later) (Err e)
+  pub first-ends : (mid : List Call) (minor : ℕ) (e : AskFault) → LeadsToStage tells q held start (newer minor) mid [] → (whole → Makes [] before now held later) → FailsFirst q minor mid new e → EndsSo tells q held start new (WroteWhereKnown whole tells before now held later) (Err e)
   first-ends mid minor e way wrote (inl h) = (newer minor, mid, [], way, h, wrote)
   first-ends mid minor e way wrote (inr h) = (first minor h.0, new, [], answers h.0 way h.1, h.2, wrote)
 
   -- the full request was made to cargo
-  pub cargo-ends : (mid : List Call) (made : List Change) (r : Result Metadata AskFault) → Way tells q held start to_cargo mid made → (whole → Makes made before now held later)
-      → AsksCargo q mid new r → EndsSo tells q held start new (Writes whole tells before now held later) r
-  cargo-ends mid made r way wrote (inl h) = subst (EndsSo tells q held start new (Writes whole tells before now held later)) (sym h.1) (to_cargo, mid, made, way, h.2, wrote)
+  pub cargo-ends : (mid : List Call) (made : List Change) (r : Result Metadata AskFault) → LeadsToStage tells q held start to_cargo mid made → (whole → Makes made before now held later)
+      → AsksCargo q mid new r → EndsSo tells q held start new (WroteWhereKnown whole tells before now held later) r
+  cargo-ends mid made r way wrote (inl h) = subst (EndsSo tells q held start new (WroteWhereKnown whole tells before now held later)) (sym h.1) (to_cargo, mid, made, way, h.2, wrote)
   cargo-ends mid made r way wrote (inr h) = counts-ends (command_line q.cargo h.0) h.1 q.cargo_version made r (tells_older h.0 h.1 h.2 way h.3) wrote h.4
 
   -- stable's cargo failed
-  pub fallen-ends : (mid old : List Call) (minor : ℕ) (text : Name) (words : List Name) (r : Result Metadata AskFault) → q.full ≡ Some words → Way tells q held start (locked minor text) mid [] → Fails (by_stable q words) mid old
-      → (put : Change) × PutsBack tells held text put × (whole → Makes (put ∷ []) before now held later) → FallsBack q text old new r → EndsSo tells q held start new (Writes whole tells before now held later) r
+  pub fallen-ends : (mid old : List Call) (minor : ℕ) (text : Name) (words : List Name) (r : Result Metadata AskFault) → q.full ≡ Some words → LeadsToStage tells q held start (locked minor text) mid [] → FailsToRead (by_stable q words) mid old
+      → (put : Change) × PutsBack tells held text put × (whole → Makes (put ∷ []) before now held later) → FallsBack q text old new r → EndsSo tells q held start new (WroteWhereKnown whole tells before now held later) r
   fallen-ends mid old minor text words r full way fails put (inl h) =
-      counts-ends (first_command q) text q.cargo_version (put.0 ∷ []) r (subst (λ n. Way tells q held start (taken (first_command q) text q.cargo_version) n (put.0 ∷ [])) (sym h.1) (first_counts words full way fails put.1 h.0)) put.2 h.2
+      counts-ends (first_command q) text q.cargo_version (put.0 ∷ []) r (subst (λ n. LeadsToStage tells q held start (taken (first_command q) text q.cargo_version) n (put.0 ∷ [])) (sym h.1) (first_counts words full way fails put.1 h.0)) put.2 h.2
   fallen-ends mid old minor text words r full way fails put (inr h) = cargo-ends old (put.0 ∷ []) r (asks_again words full way fails put.1 h.0) put.2 h.1

@@ -13,7 +13,7 @@ use Rattle.serde_json.specs.View.{view, items_view, members_view}
 use Rattle.serde_json.specs.declared.value.Value.{Value}
 use Rattle.hack_base.specs.Names.{names_of}
 use Rattle.hack_features.specs.FeatureMap.{FeatureMap, feature_map}
-use Rattle.hack_metadata.specs.Read.{has_items, texts_of, features_of}
+use Rattle.hack_metadata.specs.MetadataReading.{has_items, texts_of_items, features_of}
 
 -- an array has items where its list isn't empty
 pub has_items-view : (vs : List Value) → has_items (items_view vs) ≡ not (length vs == 0)
@@ -52,7 +52,7 @@ pub record Turns (m : BTreeMap (String Global) (Vec (String Global) Global)) (le
 
 module _ (m n : BTreeMap (String Global) (Vec (String Global) Global)) (left rest : List (String Global × Value)) (k : String Global) (value : Value) (v : Vec (String Global) Global) (keys : List (String Global)) (whole : Option FeatureMap) where
   -- one pass of the loop over the members
-  pub features-turn : left ≡ (k, value) ∷ rest → n.entries ≡ insert_entry string_cmp m.entries k v → Some (names_of v.items) ≡ option_and_then texts_of (as_array (view value))
+  pub features-turn : left ≡ (k, value) ∷ rest → n.entries ≡ insert_entry string_cmp m.entries k v → Some (names_of v.items) ≡ option_and_then texts_of_items (as_array (view value))
       → IsStrictlySortedBy string_cmp keys → Turns m left keys whole → Turns n rest keys whole
   features-turn first inserted texts sorted before =
       let ordered : keys_of m.entries ++ k ∷ keys_of rest ≡ keys = ap (λ l. keys_of m.entries ++ keys_of l) (sym first) ∙ before.keys in
@@ -67,7 +67,7 @@ module _ (m n : BTreeMap (String Global) (Vec (String Global) Global)) (left res
       }
 
   -- a member that is no array of texts: there are no features
-  pub features-none : left ≡ (k, value) ∷ rest → None ≡ option_and_then texts_of (as_array (view value)) → Turns m left keys whole → None ≡ whole
+  pub features-none : left ≡ (k, value) ∷ rest → None ≡ option_and_then texts_of_items (as_array (view value)) → Turns m left keys whole → None ≡ whole
   features-none first texts before =
       ap (λ found. option_map (λ more. feature_map m ++ more) (option_and_then (λ values. option_map (λ features. (string_bytes k, values) ∷ features) (features_of (members_view rest))) found)) texts
       ∙ ap (λ l. option_map (λ more. feature_map m ++ more) (features_of (members_view l))) (sym first)

@@ -14,8 +14,8 @@ use Rattle.std.proofs.Math.Path.{fun_ext}
 use Rattle.std.proofs.Math.Seq.{drop-cons}
 use Rattle.hack_base.specs.Names.{Name}
 use Rattle.hack_base.proofs.Steps.{seen-next}
-use Rattle.hack_metadata.specs.Read.{later, place_from, place_of, ids_of, distinct}
-use Rattle.hack_metadata.specs.View.{package_view, place_at, place_in}
+use Rattle.hack_metadata.specs.MetadataReading.{later, place_from, place_of, ids_of, distinct}
+use Rattle.hack_metadata.specs.RecordViews.{package_view, place_at, place_in}
 use Rattle.hack_metadata.specs.declared.package.Package.{Package}
 use Rattle.hack_metadata.specs.declared.resolve.PackageId.{PackageId}
 

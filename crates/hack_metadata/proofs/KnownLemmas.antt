@@ -11,11 +11,11 @@ use Rattle.serde_json.specs.Data.{Data, Items, no_items, item, Members}
 use Rattle.serde_json.specs.Find.{as_str}
 use Rattle.hack_base.specs.Names.{Name}
 use Rattle.hack_metadata.specs.Fields.{Field, ◌>>=◌, or_name, string_in, array_in, nullable_in, element_of, read_all}
-use Rattle.hack_metadata.specs.Known.{Bounds, is_known_node, are_known}
-use Rattle.hack_metadata.specs.Read.{later, place_from, place_of, distinct, read_member, members_in, kinds_in, read_node_dep, deps_in, read_node, with_nodes, read_resolve, resolve_in}
-use Rattle.hack_metadata.specs.Read.{ids_of}
+use Rattle.hack_metadata.specs.KnownIds.{Bounds, is_known_node, are_known}
+use Rattle.hack_metadata.specs.MetadataReading.{later, place_from, place_of, distinct, read_member, workspace_members_in, kinds_in, read_node_dep, deps_in, read_node, with_nodes, read_resolve, resolve_in}
+use Rattle.hack_metadata.specs.MetadataReading.{ids_of}
 use Rattle.hack_metadata.specs.Records.{PackageRecord, NodeDepRecord, NodeRecord, Nodes}
-use Rattle.hack_metadata.specs.View.{package_view, place_at}
+use Rattle.hack_metadata.specs.RecordViews.{package_view, place_at}
 use Rattle.hack_metadata.specs.declared.package.Package.{Package}
 use Rattle.hack_metadata.specs.declared.resolve.PackageId.{PackageId}
 
@@ -86,7 +86,7 @@ module _ (place : Name → Option ℕ) (n : ℕ) (bounds : Bounds place n) where
   member-known : (d : Data) (k : ℕ) → read_member place d ≡ Ok k → nat_lt k n ≡ true
   member-known d k e = text-place (as_str d) k (named-some (codes "workspace_members") _ k e)
 
-  pub members-known : (ms : Members) (xs : List ℕ) → members_in place ms ≡ Ok xs → list_all (λ m. nat_lt m n) xs ≡ true
+  pub members-known : (ms : Members) (xs : List ℕ) → workspace_members_in place ms ≡ Ok xs → list_all (λ m. nat_lt m n) xs ≡ true
   members-known ms xs e =
       let all = behind (array_in (codes "workspace_members") ms >>= read_all (read_member place)) _ xs e in
       let list = behind (array_in (codes "workspace_members") ms) _ all.value all.read in
@@ -150,7 +150,7 @@ module _ (place : Name → Option ℕ) (n : ℕ) (bounds : Bounds place n) where
     pub nodes-known : (ms : Members) (nodes : Nodes) → resolve_in place minor ms ≡ Ok nodes → list_all known_entry nodes ≡ true
     nodes-known ms nodes e = let o = behind (nullable_in (codes "resolve") ms) _ nodes e in resolve-go o.value nodes o.then
 
-    pub all-known : (ms ms' : Members) (members : List ℕ) (nodes : Nodes) → members_in place ms ≡ Ok members → resolve_in place minor ms' ≡ Ok nodes → are_known n members nodes ≡ true
+    pub all-known : (ms ms' : Members) (members : List ℕ) (nodes : Nodes) → workspace_members_in place ms ≡ Ok members → resolve_in place minor ms' ≡ Ok nodes → are_known n members nodes ≡ true
     all-known ms ms' members nodes e h = and-intro _ _ (members-known ms members e) (nodes-known ms' nodes h)
 
 -- the place that an id means is below the number of packages

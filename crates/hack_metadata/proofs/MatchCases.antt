@@ -6,8 +6,8 @@ use Rattle.std.specs.Cmp.Lexicographic.{bytes_decides}
 use Rattle.std.proofs.lemmas.Bool.{cases_Bool}
 use Rattle.std.proofs.lemmas.List.{append_cancel_left}
 use Rattle.hack_base.specs.Names.{Name}
-use Rattle.hack_metadata.specs.PackageSpecs.{BeginsWith, is_byte, unless_empty, Url, IsUrl, Identity, AreUrls, IsPlace, AsksVersion, of_name, of_fragment, alone, Matches, named, placed, name_at, versioned, HasBadId, HasBadVersion, has_byte, behind, separates, begins_with_digit, trimmed_end}
-use Rattle.hack_metadata.specs.SpecAnswers.{Answer, fits, parts_at_separator, behind_name, with_version, alone_in, in_fragment, of_fragments, is_place, of_urls, IsReadAs, IsBehind}
+use Rattle.hack_metadata.specs.PackageSpecs.{BeginsWith, is_byte, unless_empty, Url, IsUrl, Identity, AreUrls, IsPlace, AsksVersion, of_name, of_fragment, alone, Matches, named, placed, name_at, versioned, HasBadId, HasBadVersion, has_byte, behind_first_byte, separates, begins_with_digit, trimmed_end}
+use Rattle.hack_metadata.specs.SpecAnswers.{MatchAnswer, fits, parts_at_separator, behind_name, with_version, alone_in, in_fragment, of_fragments, is_same_place, of_urls, IsUrlOrNone, IsBehind}
 use Rattle.hack_metadata.specs.declared.cargo.SpecFault.TheVariants.{BadId, BadVersion}
 use Rattle.hack_metadata.proofs.TextLemmas.{scheme-same}
 use Rattle.hack_metadata.proofs.MatchLemmas.{Comes, by_version, yes, no, no_id, comes-true, comes-bad_id, comes-bad_version, fits-tested, short-tested, place-holds, place-tested}
@@ -41,13 +41,13 @@ module _ (p : Identity) (spec : Name) where
 url-same : (text : Name) (a b : Url) → IsUrl text a → IsUrl text b → a ≡ b
 url-same text a b h k =
     let same = scheme-same text h.scheme h.rest k.scheme k.rest (record { whole = h.whole; first = h.first }) (record { whole = k.whole; first = k.first }) in
-    let protocols : a.protocol ≡ b.protocol = h.protocol ∙ ap (λ s. unwrap_or (behind (is_byte 43) s) s) same.0 ∙ sym k.protocol in
+    let protocols : a.protocol ≡ b.protocol = h.protocol ∙ ap (λ s. unwrap_or (behind_first_byte (is_byte 43) s) s) same.0 ∙ sym k.protocol in
     let paths : a.path ≡ b.path = h.path ∙ ap (λ r. before_first (is_byte 63) (before_first (is_byte 35) r)) same.1 ∙ sym k.path in
     let queries : a.query ≡ b.query = h.query ∙ ap (λ r. unless_empty (after_first (is_byte 63) (before_first (is_byte 35) r))) same.1 ∙ sym k.query in
     let fragments : a.fragment ≡ b.fragment = h.fragment ∙ ap (λ r. unless_empty (after_first (is_byte 35) r)) same.1 ∙ sym k.fragment in
     λ i. record { protocol = protocols i; path = paths i; query = queries i; fragment = fragments i }
 
-read-same : (text : Name) (o : Option Url) (u : Url) → IsReadAs text o → IsUrl text u → o ≡ Some u
+read-same : (text : Name) (o : Option Url) (u : Url) → IsUrlOrNone text o → IsUrl text u → o ≡ Some u
 read-same text None u h k = absurd (h u k)
 read-same text (Some v) u h k = ap Some (url-same text v u h k)
 
@@ -56,7 +56,7 @@ cut-at : (text given : Name) (b : Bool) → has_byte separates text ≡ b → co
 cut-at text given true e h = ap (λ c. cond c (Some (before_first separates text, after_first separates text)) None) e ∙ ap (λ g. Some (before_first separates text, g)) (let q : after_first separates text ≡ given = cc in q)
 cut-at text given false e h = absurd (cc)
 
-cut-behind : (text given : Name) → behind separates text ≡ Some given → parts_at_separator text ≡ Some (before_first separates text, given)
+cut-behind : (text given : Name) → behind_first_byte separates text ≡ Some given → parts_at_separator text ≡ Some (before_first separates text, given)
 cut-behind text given h = cut-at text given (has_byte separates text) refl h
 
 cut-none : (text : Name) → has_byte separates text ≡ false → parts_at_separator text ≡ None
@@ -104,19 +104,19 @@ module _ (p : Identity) (spec : Name) where
   fragments-go g o place (Some text) None eg eo = no refl
   fragments-go g o place (Some text) (Some own) eg eo = fragment-go g o place text own eg eo (has_byte separates text) refl
 
-  place-go : (g o : Url) → AreUrls p spec g o → (b : Bool) → is_place g o ≡ b → Comes p spec (cond b (of_fragments p g.fragment o.fragment) (Ok false))
+  place-go : (g o : Url) → AreUrls p spec g o → (b : Bool) → is_same_place g o ≡ b → Comes p spec (cond b (of_fragments p g.fragment o.fragment) (Ok false))
   place-go g o urls true e =
       let same = place-holds g o e in
       fragments-go g o (record { urls = urls; protocol = same.0; path = same.1; query = same.2 }) g.fragment o.fragment refl refl
   place-go g o urls false e = no refl
 
   module _ (unnamed : ¬ BeginsWith spec p.name) where
-    url-comes : (g o : Option Url) → IsReadAs (trimmed_end spec) g → IsReadAs p.id o → Comes p spec (of_urls p g o)
+    url-comes : (g o : Option Url) → IsUrlOrNone (trimmed_end spec) g → IsUrlOrNone p.id o → Comes p spec (of_urls p g o)
     url-comes None o hg ho = no refl
     url-comes (Some g) None hg ho = no_id (record { unnamed = unnamed; url = g; spec_is = hg; id_is = ho }) refl
-    url-comes (Some g) (Some o) hg ho = place-go g o (record { unnamed = unnamed; spec_is = hg; id_is = ho }) (is_place g o) refl
+    url-comes (Some g) (Some o) hg ho = place-go g o (record { unnamed = unnamed; spec_is = hg; id_is = ho }) (is_same_place g o) refl
 
-    module _ (g o : Option Url) (hg : IsReadAs (trimmed_end spec) g) (ho : IsReadAs p.id o) where
+    module _ (g o : Option Url) (hg : IsUrlOrNone (trimmed_end spec) g) (ho : IsUrlOrNone p.id o) where
       place-answer : (url own : Url) → IsPlace p spec url own → of_urls p g o ≡ of_fragments p url.fragment own.fragment
       place-answer url own place =
           ap (λ x. of_urls p x o) (read-same (trimmed_end spec) g url hg place.urls.spec_is)
@@ -154,7 +154,7 @@ module _ (p : Identity) (spec : Name) where
           ∙ ap (λ b. cond b (Ok true) (cond (begins_with_digit p.name) (fits p.name p.version) (Ok false))) ((bytes_decides p.name p.name).1 refl)
       url-matches (versioned given full asks h) = url-asks given full asks ∙ fits-tested given full h
 
-      no_url : (own : Option Url) → IsReadAs p.id own → ((u : Url) → ¬ IsUrl p.id u) → own ≡ None
+      no_url : (own : Option Url) → IsUrlOrNone p.id own → ((u : Url) → ¬ IsUrl p.id u) → own ≡ None
       no_url None h none = refl
       no_url (Some u) h none = absurd (none u h)
 
@@ -164,12 +164,12 @@ module _ (p : Identity) (spec : Name) where
 -- ---- both
 
 -- the answer is true, or an error, exactly where the definitions say so
-pub record Settles (p : Identity) (spec : Name) (answer : Answer) : Type 0 where
+pub record Settles (p : Identity) (spec : Name) (answer : MatchAnswer) : Type 0 where
   pub matches : (answer ≡ Ok true) ↔ Matches p spec
   pub bad_id : (answer ≡ Err BadId) ↔ HasBadId p spec
   pub bad_version : (answer ≡ Err BadVersion) ↔ HasBadVersion p spec
 
-pub name-settles : (p : Identity) (spec name version rest : Name) (answer : Answer) → name ≡ p.name → version ≡ p.version → IsBehind name spec (Some rest) → answer ≡ behind_name version rest → Settles p spec answer
+pub name-settles : (p : Identity) (spec name version rest : Name) (answer : MatchAnswer) → name ≡ p.name → version ≡ p.version → IsBehind name spec (Some rest) → answer ≡ behind_name version rest → Settles p spec answer
 name-settles p spec name version rest answer ns vs begins is =
     let e : spec ≡ p.name ++ rest = begins ∙ ap (λ n. n ++ rest) ns in
     let same : answer ≡ behind_name p.version rest = is ∙ ap (λ v. behind_name v rest) vs in
@@ -180,11 +180,11 @@ name-settles p spec name version rest answer ns vs begins is =
       bad_version = (comes-bad_version p spec answer comes, λ h. same ∙ name-asks p spec rest h.given h.full e h.asks ∙ short-tested h.given h.full h.short);
     }
 
-pub url-settles : (p : Identity) (spec name text id : Name) (g o : Option Url) (answer : Answer) → name ≡ p.name → IsBehind name spec None → text ≡ trimmed_end spec → id ≡ p.id → IsReadAs text g → IsReadAs id o → answer ≡ of_urls p g o → Settles p spec answer
+pub url-settles : (p : Identity) (spec name text id : Name) (g o : Option Url) (answer : MatchAnswer) → name ≡ p.name → IsBehind name spec None → text ≡ trimmed_end spec → id ≡ p.id → IsUrlOrNone text g → IsUrlOrNone id o → answer ≡ of_urls p g o → Settles p spec answer
 url-settles p spec name text id g o answer ns begins ts ids hg ho is =
     let unnamed : ¬ BeginsWith spec p.name = subst (λ n. ¬ BeginsWith spec n) ns begins in
-    let hg' : IsReadAs (trimmed_end spec) g = subst (λ t. IsReadAs t g) ts hg in
-    let ho' : IsReadAs p.id o = subst (λ t. IsReadAs t o) ids ho in
+    let hg' : IsUrlOrNone (trimmed_end spec) g = subst (λ t. IsUrlOrNone t g) ts hg in
+    let ho' : IsUrlOrNone p.id o = subst (λ t. IsUrlOrNone t o) ids ho in
     let comes : Comes p spec answer = subst (λ a. Comes p spec a) (sym is) (url-comes p spec unnamed g o hg' ho') in
     record {
       matches = (comes-true p spec answer comes, λ m. is ∙ url-matches p spec unnamed g o hg' ho' m);

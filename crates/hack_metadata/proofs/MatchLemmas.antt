@@ -3,8 +3,8 @@ use Rattle.std.proofs.Common.{◌≡◌, ◌&&◌, Bool, true, false, cond, Opti
 use Rattle.std.specs.Str.{bytes_eq}
 use Rattle.std.specs.Cmp.Lexicographic.{bytes_decides}
 use Rattle.hack_base.specs.Names.{Name}
-use Rattle.hack_metadata.specs.PackageSpecs.{AgreesIfGiven, VersionText, version_of, IsFull, Agrees, Fits, Url, Identity, AsksVersion, Matches, versioned, HasBadId, HasBadVersion}
-use Rattle.hack_metadata.specs.SpecAnswers.{Answer, agrees_if_given, agrees, fits, is_place}
+use Rattle.hack_metadata.specs.PackageSpecs.{AgreesIfGiven, VersionText, version_parts_of, IsFull, Agrees, Fits, Url, Identity, AsksVersion, Matches, versioned, HasBadId, HasBadVersion}
+use Rattle.hack_metadata.specs.SpecAnswers.{MatchAnswer, agrees_if_given, agrees, fits, is_same_place}
 use Rattle.hack_metadata.specs.declared.cargo.SpecFault.TheVariants.{BadId, BadVersion}
 
 -- ---- tests and what they mean
@@ -52,7 +52,7 @@ agrees-tested g f h =
     (and-both (agrees_if_given g.patch f.patch) _ (given-tested g.patch f.patch h.patch)
     (and-both (agrees_if_given g.pre f.pre) (agrees_if_given g.build f.build) (given-tested g.pre f.pre h.pre) (given-tested g.build f.build h.build))))
 
-pub place-holds : (g o : Url) → is_place g o ≡ true → (g.protocol ≡ o.protocol) × (g.path ≡ o.path) × AgreesIfGiven g.query o.query
+pub place-holds : (g o : Url) → is_same_place g o ≡ true → (g.protocol ≡ o.protocol) × (g.path ≡ o.path) × AgreesIfGiven g.query o.query
 place-holds g o e =
     let a = and-left (bytes_eq g.protocol o.protocol) _ e in
     let e1 = and-right (bytes_eq g.protocol o.protocol) _ e in (
@@ -61,7 +61,7 @@ place-holds g o e =
       given-holds g.query o.query (and-right (bytes_eq g.path o.path) (agrees_if_given g.query o.query) e1),
     )
 
-pub place-tested : (g o : Url) → g.protocol ≡ o.protocol → g.path ≡ o.path → AgreesIfGiven g.query o.query → is_place g o ≡ true
+pub place-tested : (g o : Url) → g.protocol ≡ o.protocol → g.path ≡ o.path → AgreesIfGiven g.query o.query → is_same_place g o ≡ true
 place-tested g o a b c =
     and-both (bytes_eq g.protocol o.protocol) _ ((bytes_decides g.protocol o.protocol).1 a)
     (and-both (bytes_eq g.path o.path) (agrees_if_given g.query o.query) ((bytes_decides g.path o.path).1 b) (given-tested g.query o.query c))
@@ -69,11 +69,11 @@ place-tested g o a b c =
 -- ---- versions
 
 module _ (g f : Name) where
-  fits-at : (b a : Bool) → is_some (version_of f).patch ≡ b → agrees (version_of g) (version_of f) ≡ a → fits g f ≡ cond b (Ok a) (Err BadVersion)
-  fits-at b a e h = ap (λ x. cond x (Ok (agrees (version_of g) (version_of f))) (Err BadVersion)) e ∙ ap (λ x. cond b (Ok x) (Err BadVersion)) h
+  fits-at : (b a : Bool) → is_some (version_parts_of f).patch ≡ b → agrees (version_parts_of g) (version_parts_of f) ≡ a → fits g f ≡ cond b (Ok a) (Err BadVersion)
+  fits-at b a e h = ap (λ x. cond x (Ok (agrees (version_parts_of g) (version_parts_of f))) (Err BadVersion)) e ∙ ap (λ x. cond b (Ok x) (Err BadVersion)) h
 
-  fits-go : (b a : Bool) → is_some (version_of f).patch ≡ b → agrees (version_of g) (version_of f) ≡ a → let answer : Answer = cond b (Ok a) (Err BadVersion) in answer ≡ Ok true → Fits g f
-  fits-go true true e h q = record { whole = e; agrees = agrees-holds (version_of g) (version_of f) h }
+  fits-go : (b a : Bool) → is_some (version_parts_of f).patch ≡ b → agrees (version_parts_of g) (version_parts_of f) ≡ a → let answer : MatchAnswer = cond b (Ok a) (Err BadVersion) in answer ≡ Ok true → Fits g f
+  fits-go true true e h q = record { whole = e; agrees = agrees-holds (version_parts_of g) (version_parts_of f) h }
   fits-go true false e h q = absurd (cc)
   fits-go false a e h q = absurd (cc)
 
@@ -81,51 +81,51 @@ module _ (g f : Name) where
   fits-true q = fits-go _ _ refl refl (sym (fits-at _ _ refl refl) ∙ q)
 
   pub fits-tested : Fits g f → fits g f ≡ Ok true
-  fits-tested h = fits-at true true h.whole (agrees-tested (version_of g) (version_of f) h.agrees)
+  fits-tested h = fits-at true true h.whole (agrees-tested (version_parts_of g) (version_parts_of f) h.agrees)
 
-  short-go : (b : Bool) (a : Bool) → is_some (version_of f).patch ≡ b → let answer : Answer = cond b (Ok a) (Err BadVersion) in answer ≡ Err BadVersion → ¬ IsFull f
+  short-go : (b : Bool) (a : Bool) → is_some (version_parts_of f).patch ≡ b → let answer : MatchAnswer = cond b (Ok a) (Err BadVersion) in answer ≡ Err BadVersion → ¬ IsFull f
   short-go true a e q full = absurd (cc)
   short-go false a e q full = let clash : true ≡ false = sym full ∙ e in cc
 
   pub fits-short : fits g f ≡ Err BadVersion → ¬ IsFull f
-  fits-short q = short-go _ (agrees (version_of g) (version_of f)) refl q
+  fits-short q = short-go _ (agrees (version_parts_of g) (version_parts_of f)) refl q
 
-  tested-go : (b : Bool) → is_some (version_of f).patch ≡ b → ¬ IsFull f → fits g f ≡ Err BadVersion
+  tested-go : (b : Bool) → is_some (version_parts_of f).patch ≡ b → ¬ IsFull f → fits g f ≡ Err BadVersion
   tested-go true e short = absurd (short e)
   tested-go false e short = fits-at false _ e refl
 
   pub short-tested : ¬ IsFull f → fits g f ≡ Err BadVersion
   short-tested short = tested-go _ refl short
 
-  no_id-go : (b a : Bool) → let answer : Answer = cond b (Ok a) (Err BadVersion) in answer ≡ Err BadId → ⊥
+  no_id-go : (b a : Bool) → let answer : MatchAnswer = cond b (Ok a) (Err BadVersion) in answer ≡ Err BadId → ⊥
   no_id-go true a q = cc
   no_id-go false a q = cc
 
   pub fits-no_id : fits g f ≡ Err BadId → ⊥
-  fits-no_id q = no_id-go (is_some (version_of f).patch) (agrees (version_of g) (version_of f)) q
+  fits-no_id q = no_id-go (is_some (version_parts_of f).patch) (agrees (version_parts_of g) (version_parts_of f)) q
 
 -- ---- where an answer comes from
 
 module _ (p : Identity) (spec : Name) where
-  pub data Comes (answer : Answer) : Type 0 where
+  pub data Comes (answer : MatchAnswer) : Type 0 where
     by_version : (given full : Name) → AsksVersion p spec given full → answer ≡ fits given full → Comes answer
     yes : Matches p spec → answer ≡ Ok true → Comes answer
     no : answer ≡ Ok false → Comes answer
     no_id : HasBadId p spec → answer ≡ Err BadId → Comes answer
 
-  pub comes-true : (answer : Answer) → Comes answer → answer ≡ Ok true → Matches p spec
+  pub comes-true : (answer : MatchAnswer) → Comes answer → answer ≡ Ok true → Matches p spec
   comes-true answer (by_version g f asks is) e = versioned g f asks (fits-true g f (sym is ∙ e))
   comes-true answer (yes m is) e = m
   comes-true answer (no is) e = absurd (cc)
   comes-true answer (no_id h is) e = absurd (cc)
 
-  pub comes-bad_id : (answer : Answer) → Comes answer → answer ≡ Err BadId → HasBadId p spec
+  pub comes-bad_id : (answer : MatchAnswer) → Comes answer → answer ≡ Err BadId → HasBadId p spec
   comes-bad_id answer (by_version g f asks is) e = absurd (fits-no_id g f (sym is ∙ e))
   comes-bad_id answer (yes m is) e = absurd (cc)
   comes-bad_id answer (no is) e = absurd (cc)
   comes-bad_id answer (no_id h is) e = h
 
-  pub comes-bad_version : (answer : Answer) → Comes answer → answer ≡ Err BadVersion → HasBadVersion p spec
+  pub comes-bad_version : (answer : MatchAnswer) → Comes answer → answer ≡ Err BadVersion → HasBadVersion p spec
   comes-bad_version answer (by_version g f asks is) e = record { given = g; full = f; asks = asks; short = fits-short g f (sym is ∙ e) }
   comes-bad_version answer (yes m is) e = absurd (cc)
   comes-bad_version answer (no is) e = absurd (cc)

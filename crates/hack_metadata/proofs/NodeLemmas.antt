@@ -8,9 +8,9 @@ use Rattle.std.specs.BTreeMap.{insert_entry}
 use Rattle.std.specs.Ordering.{match_ordering}
 use Rattle.serde_json.specs.Data.{Data, Items, item}
 use Rattle.hack_metadata.specs.Fields.{Field, ◌>>=◌, read_all}
-use Rattle.hack_metadata.specs.Read.{with_nodes}
+use Rattle.hack_metadata.specs.MetadataReading.{with_nodes}
 use Rattle.hack_metadata.specs.Records.{NodeRecord, Nodes, node_at}
-use Rattle.hack_metadata.specs.View.{node_view, nodes_view}
+use Rattle.hack_metadata.specs.RecordViews.{node_view, nodes_view}
 use Rattle.hack_metadata.proofs.IdLemmas.{cmp-eq}
 use Rattle.hack_metadata.specs.contracts.resolve.PackageIdOrd.TheImpl as ord
 use Rattle.hack_metadata.specs.declared.resolve.Node.{Node}

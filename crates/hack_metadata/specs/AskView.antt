@@ -5,8 +5,8 @@ use Rattle.hack_metadata.specs.Requests.{Question}
 use Rattle.hack_metadata.specs.declared.ask.Question.{Question as Asking}
 
 -- a question as plain data, which knows the arguments of its full request
-abbrev pub asks : Asking → Question
-asks q = record {
+abbrev pub question_of : Asking → Question
+question_of q = record {
   cargo = string_bytes q.env.now.cargo;
   rustup = string_bytes q.env.now.rustup;
   cargo_version = q.cargo_version;

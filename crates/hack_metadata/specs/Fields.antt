@@ -56,8 +56,8 @@ text_or_none key None = Ok None
 text_or_none key (Some d) = or_name key (option_map Some (as_str d))
 
 -- a field that is a text or null
-abbrev pub text_in : Name → Members → Field (Option Name)
-text_in key ms = nullable_in key ms >>= text_or_none key
+abbrev pub optional_text_in : Name → Members → Field (Option Name)
+optional_text_in key ms = nullable_in key ms >>= text_or_none key
 
 -- data that have to be an object, such as an element of a list; else the name of that field
 abbrev pub element_of : Name → Data → Field Members
@@ -69,7 +69,7 @@ read_all f no_items = Ok []
 read_all f (item d ds) = f d >>= λ x. read_all f ds >>= λ xs. Ok (x ∷ xs)
 
 -- every other field is as it was
-pub record KeepsOthers (key : Name) (old new : Members) : Type 0 where
+pub record KeepsOtherFields (key : Name) (old new : Members) : Type 0 where
   pub others : (q : Name) → bytes_eq key q ≡ false → get_member q new ≡ get_member q old
 
 -- the JSON object that a text is

@@ -4,7 +4,7 @@ use Rattle.std.specs.List.{filter_map}
 use Rattle.std.specs.Borrow.{Bor}
 use Rattle.hack_base.specs.Names.{Name}
 use Rattle.hack_metadata.specs.Records.{DependencyRecord}
-use Rattle.hack_metadata.specs.View.{dependency_view}
+use Rattle.hack_metadata.specs.RecordViews.{dependency_view}
 use Rattle.hack_metadata.specs.declared.package.Dependency.{Dependency}
 
 -- the feature that a dependency is, where it is optional: its rename, else its name

@@ -2,7 +2,7 @@
 use Rattle.std.specs.Prelude.{List, map}
 use Rattle.hack_base.specs.Names.{Name}
 use Rattle.hack_metadata.specs.Optional.{optional_in}
-use Rattle.hack_metadata.specs.View.{dependency_view}
+use Rattle.hack_metadata.specs.RecordViews.{dependency_view}
 use Rattle.hack_metadata.specs.declared.package.OptionalDeps.{OptionalDeps}
 
 -- the names that are still to come

@@ -13,8 +13,8 @@ abbrev pub has_byte : (ℕ → Bool) → Name → Bool
 has_byte p text = nat_lt (position_or_len p text) (length text)
 
 -- what follows the first byte that passes, where there is one
-abbrev pub behind : (ℕ → Bool) → Name → Option Name
-behind p text = if has_byte p text then Some (after_first p text) else None
+abbrev pub behind_first_byte : (ℕ → Bool) → Name → Option Name
+behind_first_byte p text = if has_byte p text then Some (after_first p text) else None
 
 -- a part, where it isn't empty
 abbrev pub unless_empty : Name → Option Name
@@ -52,13 +52,13 @@ pub record VersionText : Type 0 where
 
 -- what follows the second dot
 abbrev pub third : Name → Option Name
-third text = option_and_then (behind (is_byte 46)) (behind (is_byte 46) text)
+third text = option_and_then (behind_first_byte (is_byte 46)) (behind_first_byte (is_byte 46) text)
 
 -- the parts of a version: the third one is cut at its first `+`, and then at its first `-`
-abbrev pub version_of : Name → VersionText
-version_of text = record {
+abbrev pub version_parts_of : Name → VersionText
+version_parts_of text = record {
   major = before_first (is_byte 46) text;
-  minor = option_map (before_first (is_byte 46)) (behind (is_byte 46) text);
+  minor = option_map (before_first (is_byte 46)) (behind_first_byte (is_byte 46) text);
   patch = option_map (λ last. before_first (is_byte 45) (before_first (is_byte 43) last)) (third text);
   pre = option_and_then (λ last. unless_empty (after_first (is_byte 45) (before_first (is_byte 43) last))) (third text);
   build = option_and_then (λ last. unless_empty (after_first (is_byte 43) last)) (third text);
@@ -66,7 +66,7 @@ version_of text = record {
 
 -- the version has three parts
 abbrev pub IsFull : Name → Type 0
-IsFull text = IsSome (version_of text).patch
+IsFull text = IsSome (version_parts_of text).patch
 
 -- each part that is given equals that of the full version
 pub record Agrees (given full : VersionText) : Type 0 where
@@ -79,7 +79,7 @@ pub record Agrees (given full : VersionText) : Type 0 where
 -- the version fits a full one
 pub record Fits (given full : Name) : Type 0 where
   pub whole : IsFull full
-  pub agrees : Agrees (version_of given) (version_of full)
+  pub agrees : Agrees (version_parts_of given) (version_parts_of full)
 
 -- ---- URLs, `[kind+]protocol://path[?query][#fragment]`
 
@@ -96,7 +96,7 @@ pub record IsUrl (text : Name) (url : Url) : Type 0 where
   pub rest : Name
   pub whole : text ≡ scheme ++ (codes "://" ++ rest)
   pub first : (x y : Name) → text ≡ x ++ (codes "://" ++ y) → length scheme ≤ length x
-  pub protocol : url.protocol ≡ unwrap_or (behind (is_byte 43) scheme) scheme
+  pub protocol : url.protocol ≡ unwrap_or (behind_first_byte (is_byte 43) scheme) scheme
   pub path : url.path ≡ before_first (is_byte 63) (before_first (is_byte 35) rest)
   pub query : url.query ≡ unless_empty (after_first (is_byte 63) (before_first (is_byte 35) rest))
   pub fragment : url.fragment ≡ unless_empty (after_first (is_byte 35) rest)
@@ -134,7 +134,7 @@ module _ (p : Identity) (spec : Name) where
     of_name : (by : ℕ) → separates by ≡ true → spec ≡ p.name ++ by ∷ given → p.version ≡ full → AsksVersion given full
     of_fragment : (url own : Url) (text id_text : Name) → IsPlace url own → url.fragment ≡ Some text → own.fragment ≡ Some id_text
         → before_first separates text ≡ before_first separates id_text
-        → behind separates text ≡ Some given → behind separates id_text ≡ Some full → AsksVersion given full
+        → behind_first_byte separates text ≡ Some given → behind_first_byte separates id_text ≡ Some full → AsksVersion given full
     alone : (url own : Url) → IsPlace url own → url.fragment ≡ Some given → IsSome own.fragment → has_byte separates given ≡ false
         → given ≢ p.name → begins_with_digit given ≡ true → p.version ≡ full → AsksVersion given full
 

@@ -20,15 +20,15 @@ abbrev pub platform_words : List Name → List Name
 platform_words ps = flat_map (λ p. codes "--filter-platform" ∷ p ∷ []) ps
 
 -- the arguments for dependencies on these targets, or else on the host; none where it isn't known
-abbrev pub target_words : List Name → Option Name → Option (List Name)
-target_words [] None = None
-target_words [] (Some host) = Some (platform_words (host ∷ []))
-target_words (t ∷ ts) host = Some (platform_words (t ∷ ts))
+abbrev pub platform_target_words : List Name → Option Name → Option (List Name)
+platform_target_words [] None = None
+platform_target_words [] (Some host) = Some (platform_words (host ∷ []))
+platform_target_words (t ∷ ts) host = Some (platform_words (t ∷ ts))
 
 -- the arguments that say which dependencies are wanted: none, or those for targets
 abbrev pub scope_words : Bool → List Name → Option Name → Option (List Name)
 scope_words false targets host = Some (codes "--no-deps" ∷ [])
-scope_words true targets host = target_words targets host
+scope_words true targets host = platform_target_words targets host
 
 -- the arguments of the full request, with these for the dependencies
 abbrev pub full_with : Option Name → List Name → List Name

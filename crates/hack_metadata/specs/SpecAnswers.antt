@@ -2,13 +2,13 @@
 use Rattle.std.specs.Prelude.{◌≡◌, ◌≢◌, ℕ, ◌≤◌, ◌++◌, length, codes, nat_lt, ◌==◌, ◌&&◌, Bool, true, false, if◌then◌else◌, [], ◌∷◌, Option, Some, None, Result, Ok, Err, is_some, bytes_eq}
 use Rattle.std.specs.List.{before_first, after_first}
 use Rattle.hack_base.specs.Names.{Name}
-use Rattle.hack_metadata.specs.PackageSpecs.{BeginsWith, has_byte, separates, VersionText, version_of, Url, IsUrl, Identity, begins_with_digit}
+use Rattle.hack_metadata.specs.PackageSpecs.{BeginsWith, has_byte, separates, VersionText, version_parts_of, Url, IsUrl, Identity, begins_with_digit}
 use Rattle.hack_metadata.specs.declared.cargo.SpecFault.{SpecFault}
 use Rattle.hack_metadata.specs.declared.cargo.SpecFault.TheVariants.{BadId, BadVersion}
 
 -- the result of matching
-abbrev pub Answer : Type 0
-Answer = Result Bool SpecFault
+abbrev pub MatchAnswer : Type 0
+MatchAnswer = Result Bool SpecFault
 
 -- a part is not given, or equals the other one
 abbrev pub agrees_if_given : Option Name → Option Name → Bool
@@ -21,8 +21,8 @@ abbrev pub agrees : VersionText → VersionText → Bool
 agrees given full = bytes_eq given.major full.major && (agrees_if_given given.minor full.minor && (agrees_if_given given.patch full.patch && (agrees_if_given given.pre full.pre && agrees_if_given given.build full.build)))
 
 -- whether a version fits a full one
-abbrev pub fits : Name → Name → Answer
-fits given full = if is_some (version_of full).patch then Ok (agrees (version_of given) (version_of full)) else Err BadVersion
+abbrev pub fits : Name → Name → MatchAnswer
+fits given full = if is_some (version_parts_of full).patch then Ok (agrees (version_parts_of given) (version_parts_of full)) else Err BadVersion
 
 -- what comes before and after the first byte that passes, where there is one
 abbrev pub cut_by : (ℕ → Bool) → Name → Option (Name × Name)
@@ -49,44 +49,44 @@ behind_separator [] = None
 behind_separator (x ∷ rest) = if separates x then Some rest else None
 
 -- whether what follows the name matches: nothing, or a separator and a version
-abbrev pub behind_name : Name → Name → Answer
+abbrev pub behind_name : Name → Name → MatchAnswer
 behind_name version [] = Ok true
 behind_name version (x ∷ given) = if separates x then fits given version else Ok false
 
 -- whether a fragment that is a name and a version matches the parts of the id's fragment
-abbrev pub with_version : Name × Name → Option (Name × Name) → Answer
+abbrev pub with_version : Name × Name → Option (Name × Name) → MatchAnswer
 with_version given None = Ok false
 with_version given (Some own) = if bytes_eq given.0 own.0 then fits given.1 own.1 else Ok false
 
 -- whether a fragment that is a name or a version alone matches
-abbrev pub alone_in : Identity → Name → Answer
+abbrev pub alone_in : Identity → Name → MatchAnswer
 alone_in p text = if bytes_eq text p.name then Ok true else (if begins_with_digit text then fits text p.version else Ok false)
 
 -- whether a fragment with these parts matches the id's fragment with those
-abbrev pub in_fragment : Identity → Name → Option (Name × Name) → Option (Name × Name) → Answer
+abbrev pub in_fragment : Identity → Name → Option (Name × Name) → Option (Name × Name) → MatchAnswer
 in_fragment p text None own = alone_in p text
 in_fragment p text (Some given) own = with_version given own
 
 -- whether the fragment of a specification matches that of the id
-abbrev pub of_fragments : Identity → Option Name → Option Name → Answer
+abbrev pub of_fragments : Identity → Option Name → Option Name → MatchAnswer
 of_fragments p None own = Ok true
 of_fragments p (Some text) None = Ok false
 of_fragments p (Some text) (Some own) = in_fragment p text (parts_at_separator text) (parts_at_separator own)
 
 -- two URLs are the same place
-abbrev pub is_place : Url → Url → Bool
-is_place given own = bytes_eq given.protocol own.protocol && (bytes_eq given.path own.path && agrees_if_given given.query own.query)
+abbrev pub is_same_place : Url → Url → Bool
+is_same_place given own = bytes_eq given.protocol own.protocol && (bytes_eq given.path own.path && agrees_if_given given.query own.query)
 
 -- whether a specification matches an id, each read as a URL, or none where it is no URL
-abbrev pub of_urls : Identity → Option Url → Option Url → Answer
+abbrev pub of_urls : Identity → Option Url → Option Url → MatchAnswer
 of_urls p None own = Ok false
 of_urls p (Some given) None = Err BadId
-of_urls p (Some given) (Some own) = if is_place given own then of_fragments p given.fragment own.fragment else Ok false
+of_urls p (Some given) (Some own) = if is_same_place given own then of_fragments p given.fragment own.fragment else Ok false
 
 -- the URL that a text is; none where it is no URL
-abbrev pub IsReadAs : Name → Option Url → Type 0
-IsReadAs text None = (url : Url) → ¬ IsUrl text url
-IsReadAs text (Some url) = IsUrl text url
+abbrev pub IsUrlOrNone : Name → Option Url → Type 0
+IsUrlOrNone text None = (url : Url) → ¬ IsUrl text url
+IsUrlOrNone text (Some url) = IsUrl text url
 
 -- the text has no `://`
 abbrev pub IsNoUrl : Name → Type 0

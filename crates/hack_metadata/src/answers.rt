@@ -7,11 +7,11 @@ ghost use Rattle.hack_process.specs.Calls.{MayAdd};
 ghost use Rattle.hack_process.specs.CommandTexts.{text_of};
 ghost use Rattle.hack_process.specs.Commands.{asked_of, command_of};
 ghost use Rattle.hack_process.specs.Faults.{IsFault, IsReadFault};
-ghost use Rattle.hack_metadata.specs.Asks.{Fails, FailsAs, IsObjectFault, IsTextFault, Reads, Runs};
-ghost use Rattle.hack_metadata.specs.Asks.{TellsAs, root_of};
+ghost use Rattle.hack_metadata.specs.QuestionCalls.{FailsToRead, FailsAs, IsObjectFault, IsTextFault, ReadsOutput, Runs};
+ghost use Rattle.hack_metadata.specs.QuestionCalls.{TellsAs, root_of};
 ghost use Rattle.hack_metadata.specs.Fields.{object_in_text};
-ghost use Rattle.hack_metadata.specs.Read.{read_metadata};
-ghost use Rattle.hack_metadata.specs.Whole.{metadata_view};
+ghost use Rattle.hack_metadata.specs.MetadataReading.{read_metadata};
+ghost use Rattle.hack_metadata.specs.MetadataView.{metadata_view};
 
 use crate::ask_fault::AskFault;
 use crate::fault::MetadataFault;
@@ -49,7 +49,7 @@ pub(crate) fn read<C: Caller>(
     env: &Env,
     caller: &mut C,
 ) -> Result<String, AskFault>
-    ensures ok { IfOk result (λ text. C.tells → Reads (command_of asked.now)
+    ensures ok { IfOk result (λ text. C.tells → ReadsOutput (command_of asked.now)
         (string_bytes text) (C.calls caller.old) (C.calls caller.new)) }
     ensures err { IfErr result (FailsAs (C.tells → MayAdd (asked_of true (command_of asked.now))
         (C.calls caller.old) (C.calls caller.new)) (IsReadFault C.tells
@@ -73,8 +73,8 @@ pub(crate) fn try_read<C: Caller>(
     caller: &mut C,
 ) -> Result<Option<String>, AllocError>
     ensures ok { IfOk result (λ told. C.tells → MatchOption told
-        (Fails (command_of asked.now) (C.calls caller.old) (C.calls caller.new))
-        (λ text. Reads (command_of asked.now) (string_bytes text)
+        (FailsToRead (command_of asked.now) (C.calls caller.old) (C.calls caller.new))
+        (λ text. ReadsOutput (command_of asked.now) (string_bytes text)
         (C.calls caller.old) (C.calls caller.new))) }
     ensures err { OnErr result (C.tells → MayAdd (asked_of true (command_of asked.now))
         (C.calls caller.old) (C.calls caller.new)) }

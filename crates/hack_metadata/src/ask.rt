@@ -7,11 +7,11 @@ ghost use Rattle.hack_files.specs.Files.{Makes};
 ghost use Rattle.hack_files.specs.Restore.{registered_files};
 ghost use Rattle.hack_process.specs.Calls.{Call, MayAdd};
 ghost use Rattle.hack_process.specs.Commands.{asked_of, command_of};
-ghost use Rattle.hack_metadata.specs.AskView.{asks};
-ghost use Rattle.hack_metadata.specs.Asks.{AsksCargo, EndsSo, Fails, FailsFirst, FallsBack};
-ghost use Rattle.hack_metadata.specs.Asks.{IsLockfile, Reads, Stops, Way, Writes};
-ghost use Rattle.hack_metadata.specs.Asks.{first, locked, newer};
-ghost use Rattle.hack_metadata.specs.Left.{FailsOver, IsNoFileFault, Leaves, PutsHeld};
+ghost use Rattle.hack_metadata.specs.AskView.{question_of};
+ghost use Rattle.hack_metadata.specs.QuestionCalls.{AsksCargo, EndsSo, FailsToRead, FailsFirst, FallsBack};
+ghost use Rattle.hack_metadata.specs.QuestionCalls.{IsLockfile, ReadsOutput, StopsQuestion, LeadsToStage, WroteWhereKnown};
+ghost use Rattle.hack_metadata.specs.QuestionCalls.{first, locked, newer};
+ghost use Rattle.hack_metadata.specs.FilesAfterAsking.{FailsOver, IsNoFileFault, LeavesFiles, PutsHeld};
 ghost use Rattle.hack_metadata.specs.Requests.{first_command, full_of, question};
 
 use crate::answers::{metadata_in, read, root_in, run, try_read};
@@ -42,14 +42,14 @@ impl Metadata {
         manager: &mut Manager,
     ) -> Result<Metadata, AskFault>
         ensures stays { F.stays files.old files.new }
-        ensures left { (path : List ℕ) × Leaves path F.tells (F.bytes_at files.old)
+        ensures left { (path : List ℕ) × LeavesFiles path F.tells (F.bytes_at files.old)
             (F.bytes_at files.new) (F.failed files.old) (F.failed files.new) result }
         ensures kept { registered_files manager.new ≡ registered_files manager.old }
         ensures needs { manager.new.needs_restore ≡ manager.old.needs_restore }
         ensures ends { C.tells → EndsSo F.tells
             (question args.now env.now cargo_version (option_copied host.entry))
             (F.bytes_at files.old) (C.calls caller.old) (C.calls caller.new)
-            (Writes F.whole F.tells (F.trace files.old) (F.trace files.new)
+            (WroteWhereKnown F.whole F.tells (F.trace files.old) (F.trace files.new)
             (F.bytes_at files.old) (F.bytes_at files.new)) result }
     {
         let stable = stable_minor(alloc, env, caller)?;
@@ -88,7 +88,7 @@ impl<'a> Question<'a> {
         cargo_version: u32,
         host: Option<&str>,
     ) -> Result<Question<'a>, AskFault>
-        ensures ok { IfOk result (λ q. asks q
+        ensures ok { IfOk result (λ q. question_of q
             ≡ question args.now env.now cargo_version (option_copied host.entry)) }
         ensures err { IfErr result (λ e. (e ≡ AskFault.Memory) ⊎ ((e ≡ AskFault.NoHost)
             × (full_of args.now (option_copied host.entry) ≡ None))) }
@@ -104,7 +104,7 @@ impl<'a> Question<'a> {
 
     /// Makes the full request to cargo.
     fn ask_cargo<C: Caller>(&self, alloc: Global, caller: &mut C) -> Result<Metadata, AskFault>
-        ensures asked { C.tells → AsksCargo (asks self.now) (C.calls caller.old)
+        ensures asked { C.tells → AsksCargo (question_of self.now) (C.calls caller.old)
             (C.calls caller.new) result }
         ensures spares { IfErr result IsNoFileFault }
     {
@@ -131,14 +131,14 @@ impl<'a> Question<'a> {
         manager: &mut Manager,
     ) -> Result<Metadata, AskFault>
         ensures stays { F.stays files.old files.new }
-        ensures left { (path : List ℕ) × Leaves path F.tells (F.bytes_at files.old)
+        ensures left { (path : List ℕ) × LeavesFiles path F.tells (F.bytes_at files.old)
             (F.bytes_at files.new) (F.failed files.old) (F.failed files.new) result }
         ensures kept { registered_files manager.new ≡ registered_files manager.old }
         ensures needs { manager.new.needs_restore ≡ manager.old.needs_restore }
-        ensures ends { C.tells → (start : List Call) → Way F.tells (asks self.now)
+        ensures ends { C.tells → (start : List Call) → LeadsToStage F.tells (question_of self.now)
             (F.bytes_at files.old) start (newer minor) (C.calls caller.old) []
-            → EndsSo F.tells (asks self.now) (F.bytes_at files.old) start (C.calls caller.new)
-            (Writes F.whole F.tells (F.trace files.old) (F.trace files.new)
+            → EndsSo F.tells (question_of self.now) (F.bytes_at files.old) start (C.calls caller.new)
+            (WroteWhereKnown F.whole F.tells (F.trace files.old) (F.trace files.new)
             (F.bytes_at files.old) (F.bytes_at files.new)) result }
     {
         let first = self.first(alloc, caller)?;
@@ -156,12 +156,12 @@ impl<'a> Question<'a> {
     /// Asks cargo for the metadata without dependencies.
     fn first<C: Caller>(&self, alloc: Global, caller: &mut C) -> Result<First<'a>, AskFault>
         ensures command { IfOk result (λ f.
-            command_of f.command ≡ first_command (asks self.now)) }
+            command_of f.command ≡ first_command (question_of self.now)) }
         ensures lockfile { IfOk result (λ f.
             IsLockfile (string_bytes f.text) (string_bytes f.lockfile)) }
-        ensures ok { IfOk result (λ f. C.tells → Reads (first_command (asks self.now))
+        ensures ok { IfOk result (λ f. C.tells → ReadsOutput (first_command (question_of self.now))
             (string_bytes f.text) (C.calls caller.old) (C.calls caller.new)) }
-        ensures err { IfErr result (λ e. C.tells → (minor : ℕ) → FailsFirst (asks self.now) minor
+        ensures err { IfErr result (λ e. C.tells → (minor : ℕ) → FailsFirst (question_of self.now) minor
             (C.calls caller.old) (C.calls caller.new) e) }
         ensures spares { IfErr result IsNoFileFault }
     {
@@ -187,16 +187,16 @@ impl<'a> Question<'a> {
         files: &mut F,
     ) -> Result<(), AskFault>
         ensures stays { F.stays files.old files.new }
-        ensures left { Leaves lockfile.now F.tells (F.bytes_at files.old) (F.bytes_at files.new)
+        ensures left { LeavesFiles lockfile.now F.tells (F.bytes_at files.old) (F.bytes_at files.new)
             (F.failed files.old) (F.failed files.new) result }
         ensures untraced { F.whole → Makes [] (F.trace files.old) (F.trace files.new)
             (F.bytes_at files.old) (F.bytes_at files.new) }
         ensures ok { OnOk result (C.tells → (start : List Call) (minor : ℕ) (text : List ℕ)
-            → IsLockfile text lockfile.now → Way F.tells (asks self.now) (F.bytes_at files.old)
-            start (first minor text) (C.calls caller.old) [] → Way F.tells (asks self.now)
+            → IsLockfile text lockfile.now → LeadsToStage F.tells (question_of self.now) (F.bytes_at files.old)
+            start (first minor text) (C.calls caller.old) [] → LeadsToStage F.tells (question_of self.now)
             (F.bytes_at files.old) start (locked minor text) (C.calls caller.new) []) }
         ensures err { IfErr result (λ e. C.tells → (minor : ℕ) (text : List ℕ)
-            → IsLockfile text lockfile.now → Stops (asks self.now) (first minor text)
+            → IsLockfile text lockfile.now → StopsQuestion (question_of self.now) (first minor text)
             (C.calls caller.old) (C.calls caller.new) e) }
     {
         if is_there(alloc, lockfile, files)? {
@@ -220,13 +220,13 @@ impl<'a> Question<'a> {
         manager: &mut Manager,
     ) -> Result<Option<String>, AskFault>
         ensures stays { F.stays files.old files.new }
-        ensures left { Leaves lockfile.now F.tells (F.bytes_at files.old) (F.bytes_at files.new)
+        ensures left { LeavesFiles lockfile.now F.tells (F.bytes_at files.old) (F.bytes_at files.new)
             (F.failed files.old) (F.failed files.new) result }
         ensures kept { registered_files manager.new ≡ registered_files manager.old }
         ensures needs { manager.new.needs_restore ≡ manager.old.needs_restore }
         ensures ok { IfOk result (λ told. C.tells → MatchOption told
-            (Fails (command_of asked.now) (C.calls caller.old) (C.calls caller.new))
-            (λ text. Reads (command_of asked.now) (string_bytes text)
+            (FailsToRead (command_of asked.now) (C.calls caller.old) (C.calls caller.new))
+            (λ text. ReadsOutput (command_of asked.now) (string_bytes text)
             (C.calls caller.old) (C.calls caller.new))) }
         ensures err { IfErr result (FailsOver lockfile.now
             (C.tells → C.calls caller.new ≡ C.calls caller.old)
@@ -258,8 +258,8 @@ impl<'a> Question<'a> {
         first: &First<'_>,
         caller: &mut C,
     ) -> Result<Metadata, AskFault>
-        ensures fell { C.tells → command_of first.now.command ≡ first_command (asks self.now)
-            → FallsBack (asks self.now) (string_bytes first.now.text)
+        ensures fell { C.tells → command_of first.now.command ≡ first_command (question_of self.now)
+            → FallsBack (question_of self.now) (string_bytes first.now.text)
             (C.calls caller.old) (C.calls caller.new) result }
         ensures spares { IfErr result IsNoFileFault }
     {

@@ -4,14 +4,14 @@
 ghost use Rattle.std.specs.Prelude.{◌≡◌, ◌↔◌, ◌<◌, ◌==◌, true, false, Ok, Err, option_map};
 ghost use Rattle.std.specs.Prelude.{MatchOption, option_copied};
 ghost use Rattle.std.specs.List.{before_first, after_first};
-ghost use Rattle.hack_metadata.specs.PackageSpecs.{behind, is_byte, unless_empty};
-ghost use Rattle.hack_metadata.specs.PackageSpecs.{version_of, begins_with_digit};
+ghost use Rattle.hack_metadata.specs.PackageSpecs.{behind_first_byte, is_byte, unless_empty};
+ghost use Rattle.hack_metadata.specs.PackageSpecs.{version_parts_of, begins_with_digit};
 ghost use Rattle.hack_metadata.specs.PackageSpecs.{Matches, HasBadId, HasBadVersion};
 ghost use Rattle.hack_metadata.specs.SpecAnswers.{agrees_if_given, agrees, fits};
 ghost use Rattle.hack_metadata.specs.SpecAnswers.{parts_at_separator};
 ghost use Rattle.hack_metadata.specs.SpecAnswers.{behind_name, in_fragment, of_fragments};
-ghost use Rattle.hack_metadata.specs.SpecAnswers.{is_place, alone_in};
-ghost use Rattle.hack_metadata.specs.SpecAnswers.{IsReadAs, IsNoUrl, IsSchemeCut, IsBehind};
+ghost use Rattle.hack_metadata.specs.SpecAnswers.{is_same_place, alone_in};
+ghost use Rattle.hack_metadata.specs.SpecAnswers.{IsUrlOrNone, IsNoUrl, IsSchemeCut, IsBehind};
 ghost use Rattle.hack_metadata.specs.SpecAnswers.{behind_separator, behind_byte, of_urls};
 ghost use Rattle.hack_metadata.specs.SpecAnswers.{cut_by, earlier};
 ghost use Rattle.hack_metadata.specs.SpecViews.{pair_view, version_view, url_view, identity_of};
@@ -169,7 +169,7 @@ struct UrlParts<'a> {
 
 impl<'a> UrlParts<'a> {
     fn of(text: &'a str) -> Option<UrlParts<'a>>
-        ensures { IsReadAs text.now (option_map url_view result) }
+        ensures { IsUrlOrNone text.now (option_map url_view result) }
     {
         let (scheme, rest) = cut_at_scheme(text)?;
         let (front, kindless) = cut(scheme, '+');
@@ -186,7 +186,7 @@ impl<'a> UrlParts<'a> {
     /// Returns whether both are the same place: the same protocol, path, and query where it is
     /// given.
     fn is_place(&self, own: &UrlParts<'_>) -> bool
-        ensures { result ≡ is_place (url_view self.now) (url_view own.now) }
+        ensures { result ≡ is_same_place (url_view self.now) (url_view own.now) }
     {
         self.protocol == own.protocol
             && self.path == own.path
@@ -215,7 +215,7 @@ struct VersionParts<'a> {
 
 impl<'a> VersionParts<'a> {
     fn of(text: &'a str) -> VersionParts<'a>
-        ensures { version_view result ≡ version_of text.now }
+        ensures { version_view result ≡ version_parts_of text.now }
     {
         let (major, rest) = cut(text, '.');
         let Some(rest) = rest else {
@@ -288,7 +288,7 @@ fn agrees_if_given(given: Option<&str>, full: Option<&str>) -> bool
 fn cut(text: &str, at: char) -> (&str, Option<&str>)
     requires { at < 128 }
     ensures front { result.0.now ≡ before_first (is_byte at) text.now }
-    ensures rest { option_copied result.1 ≡ behind (is_byte at) text.now }
+    ensures rest { option_copied result.1 ≡ behind_first_byte (is_byte at) text.now }
 {
     match text.split_once(at) {
         Some((front, rest)) => (front, Some(rest)),

@@ -6,7 +6,7 @@ ghost use Rattle.std.specs.Prelude.{codes, map, option_copied, string_bytes, tru
 ghost use Rattle.hack_base.specs.Names.{optional_text};
 ghost use Rattle.hack_process.specs.Calls.{MayAdd};
 ghost use Rattle.hack_process.specs.Commands.{asked_of, command_of};
-ghost use Rattle.hack_metadata.specs.Asks.{MinorOf, TellsStable};
+ghost use Rattle.hack_metadata.specs.QuestionCalls.{MinorOf, TellsStableMinor};
 ghost use Rattle.hack_metadata.specs.Requests.{command_line, full_of, path_words};
 ghost use Rattle.hack_metadata.specs.Requests.{platform_words, scope_words, version_command};
 
@@ -136,7 +136,7 @@ pub(crate) fn stable_minor<C: Caller>(
     env: &Env,
     caller: &mut C,
 ) -> Result<u32, AllocError>
-    ensures ok { IfOk result (λ minor. C.tells → TellsStable (string_bytes env.now.rustup) minor
+    ensures ok { IfOk result (λ minor. C.tells → TellsStableMinor (string_bytes env.now.rustup) minor
         (C.calls caller.old) (C.calls caller.new)) }
     ensures err { OnErr result (C.tells → MayAdd
         (asked_of true (version_command (string_bytes env.now.rustup)))

@@ -5,7 +5,7 @@ ghost use Rattle.std.specs.Prelude.{OnErr, IsOk, IsTrue, IsSome};
 ghost use Rattle.hack_files.specs.Files.{KeepsAll, Makes, MakesOrNot};
 ghost use Rattle.hack_files.specs.Restore.{Kept, registered_files, write_of};
 ghost use Rattle.hack_metadata.specs.FileFaults.{IsUnread};
-ghost use Rattle.hack_metadata.specs.Left.{IsFileFault, Keeps, Leaves, Restores, IsOfFile};
+ghost use Rattle.hack_metadata.specs.FilesAfterAsking.{IsFileFault, KeepsOneMore, LeavesFiles, RestoresFile, IsAskFaultOfFile};
 
 use crate::ask_fault::AskFault;
 use hack_files::fs;
@@ -16,7 +16,7 @@ use std::alloc::Global;
 /// Returns whether something is at the path.
 pub(crate) fn is_there<F: Files>(alloc: Global, path: &str, files: &mut F) -> Result<bool, AskFault>
     ensures stays { F.stays files.old files.new }
-    ensures left { Leaves path.now F.tells (F.bytes_at files.old) (F.bytes_at files.new)
+    ensures left { LeavesFiles path.now F.tells (F.bytes_at files.old) (F.bytes_at files.new)
         (F.failed files.old) (F.failed files.new) result }
     ensures there { IfOk result (λ there. F.tells →
         IsTrue there ↔ IsSome (F.bytes_at files.old path.now)) }
@@ -42,9 +42,9 @@ pub(crate) fn keep<F: Files>(
     manager: &mut Manager,
 ) -> Result<(), AskFault>
     ensures stays { F.stays files.old files.new }
-    ensures left { Leaves path.now F.tells (F.bytes_at files.old) (F.bytes_at files.new)
+    ensures left { LeavesFiles path.now F.tells (F.bytes_at files.old) (F.bytes_at files.new)
         (F.failed files.old) (F.failed files.new) result }
-    ensures ok { OnOk result (Keeps path.now F.tells (F.bytes_at files.old)
+    ensures ok { OnOk result (KeepsOneMore path.now F.tells (F.bytes_at files.old)
         (registered_files manager.old) (registered_files manager.new)) }
     ensures err { OnErr result (registered_files manager.new ≡ registered_files manager.old) }
     ensures untraced { F.whole → Makes [] (F.trace files.old) (F.trace files.new)
@@ -64,7 +64,7 @@ pub(crate) fn keep<F: Files>(
 pub(crate) fn put_back<F: Files>(files: &mut F, manager: &mut Manager) -> Result<(), AskFault>
     ensures stays { F.stays files.old files.new }
     ensures back { (file : Kept) (earlier : List Kept)
-        → registered_files manager.old ≡ earlier ++ file ∷ [] → Restores file F.tells
+        → registered_files manager.old ≡ earlier ++ file ∷ [] → RestoresFile file F.tells
         (F.bytes_at files.old) (F.bytes_at files.new)
         (F.failed files.old) (F.failed files.new) result }
     ensures traced { OnOk result ((file : Kept) (earlier : List Kept)
@@ -88,7 +88,7 @@ pub(crate) fn put_back<F: Files>(files: &mut F, manager: &mut Manager) -> Result
 }
 
 fn file_fault(fault: FsFault) -> AskFault
-    ensures { IsOfFile fault result }
+    ensures { IsAskFaultOfFile fault result }
 {
     match fault {
         FsFault::Memory => AskFault::Memory,

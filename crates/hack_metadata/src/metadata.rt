@@ -6,13 +6,13 @@ ghost use Rattle.std.specs.Prelude.{option_copied, option_map};
 ghost use Rattle.std.specs.BTreeSet.{contains};
 ghost use Rattle.std.specs.Ordering.{nat_cmp};
 ghost use Rattle.serde_json.specs.View.{view, items_view, members_view};
-ghost use Rattle.hack_metadata.specs.Fields.{read_all, KeepsOthers};
-ghost use Rattle.hack_metadata.specs.Gives.{Gives};
-ghost use Rattle.hack_metadata.specs.Read.{read_metadata, read_behind, read_member};
-ghost use Rattle.hack_metadata.specs.Read.{members_in, resolve_in, ids_of, place_of, distinct};
-ghost use Rattle.hack_metadata.specs.Known.{Bounds, are_known};
+ghost use Rattle.hack_metadata.specs.Fields.{read_all, KeepsOtherFields};
+ghost use Rattle.hack_metadata.specs.FieldResults.{ReturnsField};
+ghost use Rattle.hack_metadata.specs.MetadataReading.{read_metadata, read_behind, read_member};
+ghost use Rattle.hack_metadata.specs.MetadataReading.{workspace_members_in, resolve_in, ids_of, place_of, distinct};
+ghost use Rattle.hack_metadata.specs.KnownIds.{Bounds, are_known};
 ghost use Rattle.hack_metadata.specs.Records.{node_at};
-ghost use Rattle.hack_metadata.specs.View.{package_view, node_view, nodes_view, place_at, place_in};
+ghost use Rattle.hack_metadata.specs.RecordViews.{package_view, node_view, nodes_view, place_at, place_in};
 
 pub use crate::ask_fault::AskFault;
 pub use crate::fault::MetadataFault;
@@ -43,7 +43,7 @@ pub struct Metadata {
 }
 
 impl Metadata {
-    ghost use Rattle.hack_metadata.specs.Whole.{metadata_view};
+    ghost use Rattle.hack_metadata.specs.MetadataView.{metadata_view};
 
     /// Reads the object that `cargo metadata` prints; `cargo_version` is the minor version of that
     /// cargo, since some fields came with a later one. A member that is named again counts once, at
@@ -53,7 +53,7 @@ impl Metadata {
         mut object: Object,
         cargo_version: u32,
     ) -> Result<Metadata, MetadataFault>
-        ensures { Gives metadata_view result
+        ensures { ReturnsField metadata_view result
             (read_metadata cargo_version (members_view object.entries)) }
     {
         let list = object.remove_array("packages")?;
@@ -71,7 +71,7 @@ impl Metadata {
         cargo_version: u32,
     ) -> Result<Metadata, MetadataFault>
         requires { Bounds (place_in ids.now) (length packages.items) }
-        ensures { Gives metadata_view result (read_behind cargo_version
+        ensures { ReturnsField metadata_view result (read_behind cargo_version
             (map package_view packages.items) (place_in ids.now) (members_view object.entries)) }
     {
         let workspace_members = remove_members(alloc, &mut object, ids)?;
@@ -129,9 +129,9 @@ fn remove_resolve(
     ids: &BTreeMap<String, PackageId>,
     cargo_version: u32,
 ) -> Result<Resolve, MetadataFault>
-    ensures value { Gives (λ r. nodes_view r.nodes) result (resolve_in (place_in ids.now)
+    ensures value { ReturnsField (λ r. nodes_view r.nodes) result (resolve_in (place_in ids.now)
         cargo_version (members_view object.old.entries)) }
-    ensures others { KeepsOthers (codes "resolve") (members_view object.old.entries)
+    ensures others { KeepsOtherFields (codes "resolve") (members_view object.old.entries)
         (members_view object.new.entries) }
 {
     let value = object.remove_nullable("resolve")?;
@@ -144,9 +144,9 @@ fn remove_members(
     object: &mut Object,
     ids: &BTreeMap<String, PackageId>,
 ) -> Result<Vec<PackageId>, MetadataFault>
-    ensures value { Gives (λ members. map place_at members.items) result
-        (members_in (place_in ids.now) (members_view object.old.entries)) }
-    ensures others { KeepsOthers (codes "workspace_members") (members_view object.old.entries)
+    ensures value { ReturnsField (λ members. map place_at members.items) result
+        (workspace_members_in (place_in ids.now) (members_view object.old.entries)) }
+    ensures others { KeepsOtherFields (codes "workspace_members") (members_view object.old.entries)
         (members_view object.new.entries) }
 {
     let list = object.remove_array("workspace_members")?;
@@ -160,7 +160,7 @@ fn members_from(
     list: Vec<Value>,
     ids: &BTreeMap<String, PackageId>,
 ) -> Result<Vec<PackageId>, MetadataFault>
-    ensures { Gives (λ members. map place_at members.items) result
+    ensures { ReturnsField (λ members. map place_at members.items) result
         (read_all (read_member (place_in ids.now)) (items_view list.items)) }
 {
     let mut members = Vec::new(alloc);
@@ -172,7 +172,7 @@ fn members_from(
 
 /// Reads the member that an element names.
 fn member_of(value: Value, ids: &BTreeMap<String, PackageId>) -> Result<PackageId, MetadataFault>
-    ensures { Gives place_at result (read_member (place_in ids.now) (view value)) }
+    ensures { ReturnsField place_at result (read_member (place_in ids.now) (view value)) }
 {
     match value {
         Value::String(id) => known_package(ids, id.as_str(), "workspace_members"),

@@ -8,9 +8,9 @@ ghost use Rattle.serde_json.specs.Find.{get_member, as_object};
 ghost use Rattle.serde_json.specs.View.{view, items_view, members_view};
 ghost use Rattle.hack_base.specs.Names.{optional_text};
 ghost use Rattle.hack_metadata.specs.Fields.{string_in, bool_in, array_in, object_in};
-ghost use Rattle.hack_metadata.specs.Fields.{nullable_in, text_in, element_of};
-ghost use Rattle.hack_metadata.specs.Fields.{object_in_text, KeepsOthers};
-ghost use Rattle.hack_metadata.specs.Gives.{Gives};
+ghost use Rattle.hack_metadata.specs.Fields.{nullable_in, optional_text_in, element_of};
+ghost use Rattle.hack_metadata.specs.Fields.{object_in_text, KeepsOtherFields};
+ghost use Rattle.hack_metadata.specs.FieldResults.{ReturnsField};
 
 use crate::fault::MetadataFault;
 use serde_json::{Map, Value};
@@ -41,29 +41,29 @@ pub trait ObjectExt {
 
     /// Takes out a text.
     fn remove_string(&mut self, key: &'static str) -> Result<String, MetadataFault>
-        ensures value { Gives string_bytes result (string_in key.now (members self.old)) }
+        ensures value { ReturnsField string_bytes result (string_in key.now (members self.old)) }
         ensures no_memory { result ≢ Err MetadataFault.Memory }
-        ensures others { KeepsOthers key.now (members self.old) (members self.new) };
+        ensures others { KeepsOtherFields key.now (members self.old) (members self.new) };
 
     /// Takes out an array.
     fn remove_array(&mut self, key: &'static str) -> Result<Vec<Value>, MetadataFault>
-        ensures value { Gives (λ v. items_view v.items) result
+        ensures value { ReturnsField (λ v. items_view v.items) result
             (array_in key.now (members self.old)) }
         ensures no_memory { result ≢ Err MetadataFault.Memory }
-        ensures others { KeepsOthers key.now (members self.old) (members self.new) };
+        ensures others { KeepsOtherFields key.now (members self.old) (members self.new) };
 
     /// Takes out an object.
     fn remove_object(&mut self, key: &'static str) -> Result<Object, MetadataFault>
-        ensures value { Gives (λ m. members_view m.entries) result
+        ensures value { ReturnsField (λ m. members_view m.entries) result
             (object_in key.now (members self.old)) }
         ensures no_memory { result ≢ Err MetadataFault.Memory }
-        ensures others { KeepsOthers key.now (members self.old) (members self.new) };
+        ensures others { KeepsOtherFields key.now (members self.old) (members self.new) };
 
     /// Takes out a value that may be null. None where it is null.
     fn remove_nullable(&mut self, key: &'static str) -> Result<Option<Value>, MetadataFault>
-        ensures value { Gives (option_map view) result (nullable_in key.now (members self.old)) }
+        ensures value { ReturnsField (option_map view) result (nullable_in key.now (members self.old)) }
         ensures no_memory { result ≢ Err MetadataFault.Memory }
-        ensures others { KeepsOthers key.now (members self.old) (members self.new) };
+        ensures others { KeepsOtherFields key.now (members self.old) (members self.new) };
 }
 
 impl ObjectExt for Object {
@@ -102,7 +102,7 @@ impl ObjectExt for Object {
 /// Returns what a field holds, or an element of it, as an object. Where it is none, the error names
 /// the field.
 pub(crate) fn element(value: Value, list: &'static str) -> Result<Object, MetadataFault>
-    ensures value { Gives (λ m. members_view m.entries) result (element_of list.now (view value)) }
+    ensures value { ReturnsField (λ m. members_view m.entries) result (element_of list.now (view value)) }
     ensures no_memory { result ≢ Err MetadataFault.Memory }
 {
     into_object(value).ok_or(MetadataFault::Field(list))
@@ -110,8 +110,8 @@ pub(crate) fn element(value: Value, list: &'static str) -> Result<Object, Metada
 
 /// Takes out a boolean.
 pub(crate) fn remove_bool(object: &mut Object, key: &'static str) -> Result<bool, MetadataFault>
-    ensures value { Gives (λ b. b) result (bool_in key.now (members_view object.old.entries)) }
-    ensures others { KeepsOthers key.now (members_view object.old.entries)
+    ensures value { ReturnsField (λ b. b) result (bool_in key.now (members_view object.old.entries)) }
+    ensures others { KeepsOtherFields key.now (members_view object.old.entries)
         (members_view object.new.entries) }
 {
     match take(object, key) {
@@ -125,9 +125,9 @@ pub(crate) fn remove_text(
     object: &mut Object,
     key: &'static str,
 ) -> Result<Option<String>, MetadataFault>
-    ensures value { Gives optional_text result
-        (text_in key.now (members_view object.old.entries)) }
-    ensures others { KeepsOthers key.now (members_view object.old.entries)
+    ensures value { ReturnsField optional_text result
+        (optional_text_in key.now (members_view object.old.entries)) }
+    ensures others { KeepsOtherFields key.now (members_view object.old.entries)
         (members_view object.new.entries) }
 {
     match object.remove_nullable(key)? {
@@ -140,7 +140,7 @@ pub(crate) fn remove_text(
 /// Takes out what a field holds.
 fn take(object: &mut Object, key: &str) -> Option<Value>
     ensures value { option_map view result ≡ get_member key.now (members_view object.old.entries) }
-    ensures others { KeepsOthers key.now (members_view object.old.entries)
+    ensures others { KeepsOtherFields key.now (members_view object.old.entries)
         (members_view object.new.entries) }
 {
     object.remove(key)

@@ -6,12 +6,12 @@ ghost use Rattle.serde_json.specs.Find.{as_array};
 ghost use Rattle.serde_json.specs.View.{view, items_view, members_view};
 ghost use Rattle.hack_base.specs.Names.{names_of, optional_text};
 ghost use Rattle.hack_features.specs.FeatureMap.{feature_map};
-ghost use Rattle.hack_metadata.specs.Fields.{read_all, KeepsOthers};
-ghost use Rattle.hack_metadata.specs.Gives.{Gives};
-ghost use Rattle.hack_metadata.specs.Read.{read_dependency, read_package, features_in};
-ghost use Rattle.hack_metadata.specs.Read.{texts_of, features_of};
-ghost use Rattle.hack_metadata.specs.Read.{has_items, publish_in, rust_version_in};
-ghost use Rattle.hack_metadata.specs.View.{dependency_view, package_view};
+ghost use Rattle.hack_metadata.specs.Fields.{read_all, KeepsOtherFields};
+ghost use Rattle.hack_metadata.specs.FieldResults.{ReturnsField};
+ghost use Rattle.hack_metadata.specs.MetadataReading.{read_dependency, read_package, features_in};
+ghost use Rattle.hack_metadata.specs.MetadataReading.{texts_of_items, features_of};
+ghost use Rattle.hack_metadata.specs.MetadataReading.{has_items, publish_in, rust_version_in};
+ghost use Rattle.hack_metadata.specs.RecordViews.{dependency_view, package_view};
 ghost use Rattle.hack_metadata.specs.Optional.{feature_of, optional_in, TakesOptional};
 ghost use Rattle.hack_metadata.specs.OptionalLeft.{names_left};
 ghost use Rattle.std.specs.Iterator.{YieldsFirstRef, item_count};
@@ -35,7 +35,7 @@ pub struct Dependency {
 
 impl Dependency {
     fn from_value(value: Value) -> Result<Dependency, MetadataFault>
-        ensures { Gives dependency_view result (read_dependency (view value)) }
+        ensures { ReturnsField dependency_view result (read_dependency (view value)) }
     {
         let mut map = element(value, "dependencies")?;
         let name = map.remove_string("name")?;
@@ -62,7 +62,7 @@ impl Dependency {
     }
 
     fn all_from(alloc: Global, list: Vec<Value>) -> Result<Vec<Dependency>, MetadataFault>
-        ensures { Gives (λ found. map dependency_view found.items) result
+        ensures { ReturnsField (λ found. map dependency_view found.items) result
             (read_all read_dependency (items_view list.items)) }
     {
         let mut found = Vec::new(alloc);
@@ -94,7 +94,7 @@ pub struct Package {
 
 impl Package {
     fn from_value(alloc: Global, value: Value, cargo_version: u32) -> Result<Package, MetadataFault>
-        ensures { Gives package_view result (read_package cargo_version (view value)) }
+        ensures { ReturnsField package_view result (read_package cargo_version (view value)) }
     {
         let mut map = element(value, "packages")?;
         let id = map.remove_string("id")?;
@@ -132,7 +132,7 @@ impl Package {
         list: Vec<Value>,
         cargo_version: u32,
     ) -> Result<Vec<Package>, MetadataFault>
-        ensures { Gives (λ found. map package_view found.items) result
+        ensures { ReturnsField (λ found. map package_view found.items) result
             (read_all (read_package cargo_version) (items_view list.items)) }
     {
         let mut found = Vec::new(alloc);
@@ -182,8 +182,8 @@ fn remove_features(
     alloc: Global,
     object: &mut Object,
 ) -> Result<BTreeMap<String, Vec<String>>, MetadataFault>
-    ensures value { Gives feature_map result (features_in (members_view object.old.entries)) }
-    ensures others { KeepsOthers (codes "features") (members_view object.old.entries)
+    ensures value { ReturnsField feature_map result (features_in (members_view object.old.entries)) }
+    ensures others { KeepsOtherFields (codes "features") (members_view object.old.entries)
         (members_view object.new.entries) }
 {
     let features = object.remove_object("features")?;
@@ -211,7 +211,7 @@ fn features_from(
 /// Returns the texts of an array. None where the value is anything else, or an element is no text.
 fn texts_in(alloc: Global, value: Value) -> Result<Option<Vec<String>>, AllocError>
     ensures { IfOk result (λ found. option_map (λ texts. names_of texts.items) found
-        ≡ option_and_then texts_of (as_array (view value))) }
+        ≡ option_and_then texts_of_items (as_array (view value))) }
 {
     match value {
         Value::Array(list) => texts_from(alloc, list),
@@ -222,7 +222,7 @@ fn texts_in(alloc: Global, value: Value) -> Result<Option<Vec<String>>, AllocErr
 /// Returns the texts of a list. None where an element is no text.
 fn texts_from(alloc: Global, list: Vec<Value>) -> Result<Option<Vec<String>>, AllocError>
     ensures { IfOk result (λ found. option_map (λ texts. names_of texts.items) found
-        ≡ texts_of (items_view list.items)) }
+        ≡ texts_of_items (items_view list.items)) }
 {
     let mut texts = Vec::new(alloc);
     for value in list {
@@ -237,9 +237,9 @@ fn texts_from(alloc: Global, list: Vec<Value>) -> Result<Option<Vec<String>>, Al
 /// Takes out whether the package may be published. Cargo reports it from 1.39 on: null where no
 /// registry is named, and an empty list where the package may not be published at all.
 fn remove_publish(object: &mut Object, cargo_version: u32) -> Result<bool, MetadataFault>
-    ensures value { Gives (λ b. b) result
+    ensures value { ReturnsField (λ b. b) result
         (publish_in cargo_version (members_view object.old.entries)) }
-    ensures others { KeepsOthers (codes "publish") (members_view object.old.entries)
+    ensures others { KeepsOtherFields (codes "publish") (members_view object.old.entries)
         (members_view object.new.entries) }
 {
     if cargo_version < 39 {
@@ -273,9 +273,9 @@ fn remove_rust_version(
     object: &mut Object,
     cargo_version: u32,
 ) -> Result<Option<String>, MetadataFault>
-    ensures value { Gives optional_text result
+    ensures value { ReturnsField optional_text result
         (rust_version_in cargo_version (members_view object.old.entries)) }
-    ensures others { KeepsOthers (codes "rust_version") (members_view object.old.entries)
+    ensures others { KeepsOtherFields (codes "rust_version") (members_view object.old.entries)
         (members_view object.new.entries) }
 {
     if cargo_version < 58 {

@@ -3,14 +3,14 @@
 ghost use Rattle.std.specs.Prelude.{◌≡◌, ◌<◌, ◌↔◌, map, fold, option_map};
 ghost use Rattle.std.specs.declared.cmp.Ordering.{Ordering};
 ghost use Rattle.std.specs.declared.cmp.Ordering.TheVariants.{Less, Equal, Greater};
-ghost use Rattle.hack_metadata.specs.View.{place_bytes};
+ghost use Rattle.hack_metadata.specs.RecordViews.{place_bytes};
 ghost use Rattle.serde_json.specs.View.{view, items_view, members_view};
 ghost use Rattle.hack_metadata.specs.Fields.{or_name, read_all};
-ghost use Rattle.hack_metadata.specs.Gives.{Gives};
-ghost use Rattle.hack_metadata.specs.Read.{kinds_in, read_kind, read_node_dep, deps_in};
-ghost use Rattle.hack_metadata.specs.Read.{read_node, read_nodes, read_resolve};
-ghost use Rattle.hack_metadata.specs.View.{place_at, place_in, kind_view, node_dep_view};
-ghost use Rattle.hack_metadata.specs.View.{node_view, nodes_view};
+ghost use Rattle.hack_metadata.specs.FieldResults.{ReturnsField};
+ghost use Rattle.hack_metadata.specs.MetadataReading.{kinds_in, read_kind, read_node_dep, deps_in};
+ghost use Rattle.hack_metadata.specs.MetadataReading.{read_node, read_nodes, read_resolve};
+ghost use Rattle.hack_metadata.specs.RecordViews.{place_at, place_in, kind_view, node_dep_view};
+ghost use Rattle.hack_metadata.specs.RecordViews.{node_view, nodes_view};
 
 use crate::fault::MetadataFault;
 use crate::object::{Object, ObjectExt, element, remove_text};
@@ -51,7 +51,7 @@ pub(crate) fn known_package(
     id: &str,
     field: &'static str,
 ) -> Result<PackageId, MetadataFault>
-    ensures { Gives place_at result (or_name field.now (place_in ids.now id.now)) }
+    ensures { ReturnsField place_at result (or_name field.now (place_in ids.now id.now)) }
 {
     match ids.get(id) {
         Some(id) => Ok(*id),
@@ -70,7 +70,7 @@ pub struct DepKindInfo {
 
 impl DepKindInfo {
     fn from_value(value: Value) -> Result<DepKindInfo, MetadataFault>
-        ensures { Gives kind_view result (read_kind (view value)) }
+        ensures { ReturnsField kind_view result (read_kind (view value)) }
     {
         let mut map = element(value, "dep_kinds")?;
         let kind = remove_text(&mut map, "kind")?;
@@ -79,7 +79,7 @@ impl DepKindInfo {
     }
 
     fn all_from(alloc: Global, list: Vec<Value>) -> Result<Vec<DepKindInfo>, MetadataFault>
-        ensures { Gives (λ found. map kind_view found.items) result
+        ensures { ReturnsField (λ found. map kind_view found.items) result
             (read_all read_kind (items_view list.items)) }
     {
         let mut found = Vec::new(alloc);
@@ -96,7 +96,7 @@ fn remove_kinds(
     object: &mut Object,
     cargo_version: u32,
 ) -> Result<Vec<DepKindInfo>, MetadataFault>
-    ensures { Gives (λ found. map kind_view found.items) result
+    ensures { ReturnsField (λ found. map kind_view found.items) result
         (kinds_in cargo_version (members_view object.old.entries)) }
 {
     if cargo_version < 41 {
@@ -121,7 +121,7 @@ impl NodeDep {
         ids: &BTreeMap<String, PackageId>,
         cargo_version: u32,
     ) -> Result<NodeDep, MetadataFault>
-        ensures { Gives node_dep_view result
+        ensures { ReturnsField node_dep_view result
             (read_node_dep (place_in ids.now) cargo_version (view value)) }
     {
         let mut map = element(value, "deps")?;
@@ -137,7 +137,7 @@ impl NodeDep {
         ids: &BTreeMap<String, PackageId>,
         cargo_version: u32,
     ) -> Result<Vec<NodeDep>, MetadataFault>
-        ensures { Gives (λ found. map node_dep_view found.items) result
+        ensures { ReturnsField (λ found. map node_dep_view found.items) result
             (read_all (read_node_dep (place_in ids.now) cargo_version) (items_view list.items)) }
     {
         let mut found = Vec::new(alloc);
@@ -155,7 +155,7 @@ fn remove_deps(
     ids: &BTreeMap<String, PackageId>,
     cargo_version: u32,
 ) -> Result<Vec<NodeDep>, MetadataFault>
-    ensures { Gives (λ found. map node_dep_view found.items) result
+    ensures { ReturnsField (λ found. map node_dep_view found.items) result
         (deps_in (place_in ids.now) cargo_version (members_view object.old.entries)) }
 {
     if cargo_version < 30 {
@@ -179,7 +179,7 @@ impl Node {
         ids: &BTreeMap<String, PackageId>,
         cargo_version: u32,
     ) -> Result<(PackageId, Node), MetadataFault>
-        ensures { Gives (λ n. (n.0.index, node_view n.1)) result
+        ensures { ReturnsField (λ n. (n.0.index, node_view n.1)) result
             (read_node (place_in ids.now) cargo_version (view value)) }
     {
         let mut map = element(value, "nodes")?;
@@ -205,7 +205,7 @@ impl Resolve {
         ids: &BTreeMap<String, PackageId>,
         cargo_version: u32,
     ) -> Result<Resolve, MetadataFault>
-        ensures { Gives (λ r. nodes_view r.nodes) result
+        ensures { ReturnsField (λ r. nodes_view r.nodes) result
             (read_resolve (place_in ids.now) cargo_version (option_map view value)) }
     {
         let Some(value) = value else {
@@ -227,7 +227,7 @@ fn nodes_from(
     ids: &BTreeMap<String, PackageId>,
     cargo_version: u32,
 ) -> Result<BTreeMap<PackageId, Node>, MetadataFault>
-    ensures { Gives nodes_view result
+    ensures { ReturnsField nodes_view result
         (read_nodes (place_in ids.now) cargo_version (items_view list.items)) }
 {
     let mut nodes = BTreeMap::new(alloc);

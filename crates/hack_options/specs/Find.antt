@@ -13,5 +13,5 @@ abbrev pub short_option : ℕ → Option Opt
 short_option letter = option_lettered letter ALL
 
 -- the answer is the only option for which P holds, or none where P holds for none
-abbrev pub Finds : Option Opt → (Opt → Type 0) → Type 0
-Finds found P = (option : Opt) → (found ≡ Some option) ↔ P option
+abbrev pub FindsOption : Option Opt → (Opt → Type 0) → Type 0
+FindsOption found P = (option : Opt) → (found ≡ Some option) ↔ P option

@@ -36,15 +36,15 @@ flag name = once name Flag []
 abbrev pub many : List ℕ → Kind → List ℕ → Entry
 many name kind value = record (once name kind value) { once = false }
 
--- the same option, with the one letter of the text as its letter
+-- the is_same_option option, with the one letter of the text as its letter
 abbrev pub or_letter : List ℕ → Entry → Entry
 or_letter text e = record e { letter = slice_get text 0 }
 
--- the same, where the help doesn't show the letter
+-- the is_same_option, where the help doesn't show the letter
 abbrev pub or_hidden_letter : List ℕ → Entry → Entry
 or_hidden_letter text e = record e { letter = slice_get text 0; letter_shown = false }
 
--- the same option, left out of the help
+-- the is_same_option option, left out of the help
 abbrev pub out_of_help : Entry → Entry
 out_of_help e = record e { in_help = false }
 
@@ -104,8 +104,8 @@ meaning_of opt.Skip = opt.ExcludeFeatures
 meaning_of o = o
 
 -- `==` on options
-abbrev pub same : Opt → Opt → Bool
-same = sameb the_type
+abbrev pub is_same_option : Opt → Opt → Bool
+is_same_option = sameb the_type
 
 -- the first option with this name
 abbrev pub option_named : List ℕ → List Opt → Option Opt

@@ -9,13 +9,13 @@ use Rattle.hack_options.specs.Table.{entry_of}
 use Rattle.hack_options.specs.Find.{long_option, short_option}
 
 -- the name that messages show for an option
-abbrev pub shown_name : Opt → List ℕ
-shown_name opt.WorkspaceBehavior = codes "workspace-behavior=cargo"
-shown_name o = (entry_of o).name
+abbrev pub shown_option_name : Opt → List ℕ
+shown_option_name opt.WorkspaceBehavior = codes "workspace-behavior=cargo"
+shown_option_name o = (entry_of o).name
 
 -- an option as messages name it
 abbrev pub shown_option : Opt → List ℕ
-shown_option o = codes "--" ++ shown_name o
+shown_option o = codes "--" ++ shown_option_name o
 
 -- the same, with its alias in messages that name it
 abbrev pub shown_with_alias : Opt → List ℕ
@@ -24,8 +24,8 @@ shown_with_alias o = shown_option o
 
 -- the value that the help shows after the name; empty where the option takes none, or has it in its
 -- name
-abbrev pub value_of : Opt → List ℕ
-value_of o = (entry_of o).value
+abbrev pub help_value_of : Opt → List ℕ
+help_value_of o = (entry_of o).value
 
 -- whether a row of the help has exactly this option's name
 abbrev pub has_usage : Opt → Bool
@@ -38,7 +38,7 @@ shows_letter o = (entry_of o).letter_shown
 
 -- the name and the value of the option's row
 abbrev pub row_usage : Opt → List ℕ
-row_usage o = codes "--" ++ (entry_of o).name ++ codes " " ++ value_of o
+row_usage o = codes "--" ++ (entry_of o).name ++ codes " " ++ help_value_of o
 
 -- the usage of the option where the help has it in the written form, else that form
 abbrev pub usage_or : List ℕ → (Opt → Bool) → Option Opt → List ℕ

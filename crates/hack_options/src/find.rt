@@ -1,7 +1,7 @@
 //! Finds an option by its name or letter.
 
 ghost use Rattle.std.specs.Prelude.{◌≡◌, Some};
-ghost use Rattle.hack_options.specs.Find.{Finds, long_option, short_option};
+ghost use Rattle.hack_options.specs.Find.{FindsOption, long_option, short_option};
 ghost use Rattle.hack_options.specs.Table.{entry_of, option_named, option_lettered};
 
 use crate::opt::Opt;
@@ -34,7 +34,7 @@ fn find_letter(options: &[Opt], letter: char) -> Option<Opt>
 /// The option with this long name, which is given without its two dashes.
 pub fn long(name: &str) -> Option<Opt>
     ensures value { result ≡ long_option name.now }
-    ensures each { Finds result (λ option. (entry_of option).name ≡ name.now) }
+    ensures each { FindsOption result (λ option. (entry_of option).name ≡ name.now) }
 {
     find_name(&ALL, name)
 }
@@ -42,7 +42,7 @@ pub fn long(name: &str) -> Option<Opt>
 /// The option with this letter.
 pub fn short(letter: char) -> Option<Opt>
     ensures value { result ≡ short_option letter }
-    ensures each { Finds result (λ option. (entry_of option).letter ≡ Some letter) }
+    ensures each { FindsOption result (λ option. (entry_of option).letter ≡ Some letter) }
 {
     find_letter(&ALL, letter)
 }

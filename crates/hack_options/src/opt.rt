@@ -1,8 +1,8 @@
 //! An option, its meaning if it is an alias, and its names.
 
 ghost use Rattle.std.specs.Prelude.{◌≡◌, ◌↔◌, ◌&&◌, IsTrue, Some};
-ghost use Rattle.hack_options.specs.Table.{entry, entry_of, meaning_of, same};
-ghost use Rattle.hack_options.specs.Texts.{shown_option, shown_name as name_of, aliased_option};
+ghost use Rattle.hack_options.specs.Table.{entry, entry_of, meaning_of, is_same_option};
+ghost use Rattle.hack_options.specs.Texts.{shown_option, shown_option_name as name_of, aliased_option};
 ghost use Rattle.hack_options.specs.Texts.{has_usage as named_in_help};
 ghost use Rattle.hack_options.specs.Texts.{shows_letter as letter_in_help};
 
@@ -96,7 +96,7 @@ impl Opt {
 
     /// Whether both are the same option.
     pub fn is(self, other: Opt) -> bool
-        ensures value { result ≡ same self other }
+        ensures value { result ≡ is_same_option self other }
         ensures equal { IsTrue result ↔ (self ≡ other) }
     {
         self == other

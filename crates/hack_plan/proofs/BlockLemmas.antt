@@ -12,14 +12,14 @@ use Rattle.hack_plan.specs.declared.places.PlanEntry.{PlanEntry}
 use Rattle.hack_plan.specs.declared.blocks.Block.{Block}
 use Rattle.hack_plan.specs.Entries.{Lists, Overfills}
 use Rattle.hack_plan.specs.Parts.{InBlock}
-use Rattle.hack_plan.specs.Blocks.{entry_at, entries_in, entries_of, runs_in, AreSums}
+use Rattle.hack_plan.specs.Blocks.{entry_at, entries_in, entries_of, block_run_count, AreSums}
 
 pub length-entries_in : (b : Block) → length (entries_in b) ≡ b.runs
 length-entries_in b = length-map-range_with_len (entry_at b) 0 b.runs
 
-pub length-entries_of : (blocks : List Block) → length (entries_of blocks) ≡ sum_by runs_in blocks
+pub length-entries_of : (blocks : List Block) → length (entries_of blocks) ≡ sum_by block_run_count blocks
 length-entries_of [] = refl
-length-entries_of (b ∷ bs) = omega (arith, length-append (entries_in b) (entries_of bs), length-entries_in b, length-entries_of bs, sum_by-cons runs_in b bs)
+length-entries_of (b ∷ bs) = omega (arith, length-append (entries_in b) (entries_of bs), length-entries_in b, length-entries_of bs, sum_by-cons block_run_count b bs)
 
 pub at-entries_in : (b : Block) (k : ℕ) (d : PlanEntry) → k < b.runs → get_or (entries_in b) k d ≡ entry_at b k
 at-entries_in b k d h = get_or-map-range_with_len (entry_at b) 0 b.runs k k d h (omega arith)
@@ -49,23 +49,23 @@ Lists-entries_in b = record {
 -- place is in that one
 pub record IsFound (blocks : List Block) (place at : ℕ) (b : Block) : Type 0 where
   pub bound : at < length blocks
-  pub start : (get_or blocks at b).end ≡ sum_by runs_in (take at blocks) + (get_or blocks at b).runs
-  pub low : sum_by runs_in (take at blocks) ≤ place
+  pub start : (get_or blocks at b).end ≡ sum_by block_run_count (take at blocks) + (get_or blocks at b).runs
+  pub low : sum_by block_run_count (take at blocks) ≤ place
   pub high : place < (get_or blocks at b).end
 
-ends_below : (blocks : List Block) (total place at : ℕ) (b : Block) → AreSums blocks total → at ≤ length blocks → ((k : ℕ) → k < at → (get_or blocks k b).end ≤ place) → sum_by runs_in (take at blocks) ≤ place
+ends_below : (blocks : List Block) (total place at : ℕ) (b : Block) → AreSums blocks total → at ≤ length blocks → ((k : ℕ) → k < at → (get_or blocks k b).end ≤ place) → sum_by block_run_count (take at blocks) ≤ place
 ends_below blocks total place zero b sums bound before = omega arith
 ends_below blocks total place (suc k) b sums bound before =
-    omega (arith, before k (omega arith), sums.ends k b (omega arith), ap (λ (n : ℕ). sum_by runs_in (take n blocks)) (one k))
+    omega (arith, before k (omega arith), sums.ends k b (omega arith), ap (λ (n : ℕ). sum_by block_run_count (take n blocks)) (one k))
   where
     one : (k : ℕ) → suc k ≡ k + 1
     one k = omega arith
 
 pub found : (blocks : List Block) (total place at : ℕ) (b : Block) → AreSums blocks total → place < total → at ≤ length blocks → ((k : ℕ) → k < at → (get_or blocks k b).end ≤ place) → (at < length blocks → place < (get_or blocks at b).end) → IsFound blocks place at b
 found blocks total place at b sums l bound before after =
-    let low : sum_by runs_in (take at blocks) ≤ place = ends_below blocks total place at b sums bound before in
-    let inside : at < length blocks = lt-from_le_ne bound (λ e. absurd (omega (arith, low, sums.all, ap (sum_by runs_in) (take_all at blocks (le-from_eq (sym e)))))) in
-    record { bound = inside; start = sums.ends at b inside ∙ sum_by_more runs_in blocks at b inside; low = low; high = after inside }
+    let low : sum_by block_run_count (take at blocks) ≤ place = ends_below blocks total place at b sums bound before in
+    let inside : at < length blocks = lt-from_le_ne bound (λ e. absurd (omega (arith, low, sums.all, ap (sum_by block_run_count) (take_all at blocks (le-from_eq (sym e)))))) in
+    record { bound = inside; start = sums.ends at b inside ∙ sum_by_more block_run_count blocks at b inside; low = low; high = after inside }
   where
     le-from_eq : {m n : ℕ} → m ≡ n → m ≤ n
     le-from_eq e = omega arith
@@ -75,13 +75,13 @@ found blocks total place at b sums l bound before after =
 
 pub run_at : (blocks : List Block) (place at : ℕ) (b : Block) → IsFound blocks place at b → slice_get (entries_of blocks) place ≡ Some (entry_at (get_or blocks at b) (place - ((get_or blocks at b).end - (get_or blocks at b).runs)))
 run_at blocks place at b f =
-    let rank : ℕ = place - sum_by runs_in (take at blocks) in
+    let rank : ℕ = place - sum_by block_run_count (take at blocks) in
     let d : PlanEntry = entry_at b 0 in
     let inside : rank < (get_or blocks at b).runs = omega (arith, f.start, f.low, f.high) in
     let fits : rank < length (entries_in (get_or blocks at b)) = omega (arith, length-entries_in (get_or blocks at b)) in
     let where' : length (entries_of (take at blocks)) + rank ≡ place = omega (arith, length-entries_of (take at blocks), f.low) in
     let same : rank ≡ place - ((get_or blocks at b).end - (get_or blocks at b).runs) = omega (arith, f.start) in
-    let all : place < length (entries_of blocks) = omega (arith, length-entries_of blocks, sum_by_more runs_in blocks at b f.bound, sum_by-take-le runs_in blocks (at + 1), f.start, f.high) in
+    let all : place < length (entries_of blocks) = omega (arith, length-entries_of blocks, sum_by_more block_run_count blocks at b f.bound, sum_by-take-le block_run_count blocks (at + 1), f.start, f.high) in
     slice_get-get_or (entries_of blocks) place d all
     ∙ ap Some (ap (λ (n : ℕ). get_or (entries_of blocks) n d) (sym where') ∙ get_or-flat_map entries_in blocks at rank b d f.bound fits ∙ at-entries_in (get_or blocks at b) rank d inside ∙ ap (entry_at (get_or blocks at b)) same)
 
@@ -93,8 +93,8 @@ ends_rise blocks total sums place i j d low inside t =
       leb-true _ _ t,
       sums.ends i d (omega arith),
       sums.ends j d inside,
-      ap (sum_by runs_in) (take-take (i + 1) (j + 1) blocks (omega arith)),
-      sum_by-take-le runs_in (take (j + 1) blocks) (i + 1),
+      ap (sum_by block_run_count) (take-take (i + 1) (j + 1) blocks (omega arith)),
+      sum_by-take-le block_run_count (take (j + 1) blocks) (i + 1),
     ))
 
 -- the first block that ends after the place

@@ -5,7 +5,7 @@ use Rattle.std.specs.Option.{unwrap_or}
 use Rattle.std.proofs.lemmas.List.{take_more, flat_map_more}
 use Rattle.std.proofs.lemmas.List.Elements.{filter_map-append}
 use Rattle.hack_process.specs.CommandTexts.{with_names}
-use Rattle.hack_plan.specs.Commands.{names_at}
+use Rattle.hack_plan.specs.Commands.{candidate_names_at}
 
 -- one text of several
 pub one-at : {X Y : Type 0} (f : X → Y) (xs : List X) (i : ℕ) (x : X) → slice_get xs i ≡ Some x → take 1 (drop i (map f xs)) ≡ f x ∷ []

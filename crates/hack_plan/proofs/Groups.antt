@@ -6,17 +6,17 @@ use Rattle.std.proofs.lemmas.List.Elements.{All-weaker}
 use Rattle.hack_versions.specs.declared.version.Version.{Version}
 use Rattle.hack_versions.specs.declared.version.VersionRange.{VersionRange}
 use Rattle.hack_versions.specs.declared.group.VersionGroup.{VersionGroup}
-use Rattle.hack_versions.specs.VersionOrder.{IsBefore}
-use Rattle.hack_versions.specs.Uses.{UsesAt, IsGroup, AreGroups}
+use Rattle.hack_versions.specs.VersionOrder.{IsEarlierVersion}
+use Rattle.hack_versions.specs.VersionUses.{UsesAt, IsVersionGroup, AreVersionGroups}
 use Rattle.hack_plan.specs.declared.places.PlanEntry.{PlanEntry}
 use Rattle.hack_plan.specs.declared.versions.PlanInput.{PlanInput}
 use Rattle.hack_plan.specs.Inputs.{UsesVersion, IsVersion, slots_of}
-use Rattle.hack_plan.specs.Entries.{Lists, Adds, Overfills, AreTooMany, Before, IsOlder, IsAdmissible, HasRun}
+use Rattle.hack_plan.specs.Entries.{Lists, AddsEntries, Overfills, AreTooMany, Before, IsOlder, IsAdmissible, HasRun}
 use Rattle.hack_plan.specs.Parts.{InVersion, InWhole}
 use Rattle.hack_plan.proofs.Joins.{Adds-then, Adds-nil, Overfills-then}
 use Rattle.hack_plan.proofs.Growth.{Contains-take_more, Contains-take_up, Contains-take_last}
 
-older-some : (x y : Option Version) (m n : Version) → x ≡ Some m → y ≡ Some n → IsBefore m n → IsOlder x y
+older-some : (x y : Option Version) (m n : Version) → x ≡ Some m → y ≡ Some n → IsEarlierVersion m n → IsOlder x y
 older-some x y m n e f l = rw (e, f) l
 
 some-below : {X : Type 0} (xs : List X) (p : ℕ) (o : Option X) (x : X) → slice_get xs p ≡ o → o ≡ Some x → p < length xs
@@ -28,16 +28,16 @@ some-below (y ∷ ys) (suc p) o x e f = omega (arith, some-below ys p o x e f)
 abbrev pub InGroups : PlanInput → List ℕ → List Version → List VersionGroup → PlanEntry → Type 0
 InGroups s counts steps groups q = IsAdmissible s counts steps q × ((g : VersionGroup) × Contains groups g × (q.version ≡ Some g.version))
 
-pub groups-none : (s : PlanInput) (counts : List ℕ) (steps : List Version) (old : List PlanEntry) → Adds (InGroups s counts steps []) old old
+pub groups-none : (s : PlanInput) (counts : List ℕ) (steps : List Version) (old : List PlanEntry) → AddsEntries (InGroups s counts steps []) old old
 groups-none s counts steps old = Adds-nil _ old (λ q h. absurd (omega (arith, h.1.1.1)))
 
 has-first : (xs : List ℕ) → (xs ≡ [] → ⊥) → (x : ℕ) × Contains xs x
 has-first [] n = absurd (n refl)
 has-first (x ∷ xs) n = (x, (0, omega arith, refl))
 
-module _ (s : PlanInput) (counts : List ℕ) (range : VersionRange) (some : s.range ≡ Some range) (steps : List Version) (groups : List VersionGroup) (are : AreGroups (UsesAt range steps s.packages.items) groups) (i : ℕ) (g : VersionGroup) (at : i < length groups) (is : get_or groups i g ≡ g) where
-  it : IsGroup (UsesAt range steps s.packages.items) g
-  it = subst (IsGroup (UsesAt range steps s.packages.items)) is (are.each i g at)
+module _ (s : PlanInput) (counts : List ℕ) (range : VersionRange) (some : s.range ≡ Some range) (steps : List Version) (groups : List VersionGroup) (are : AreVersionGroups (UsesAt range steps s.packages.items) groups) (i : ℕ) (g : VersionGroup) (at : i < length groups) (is : get_or groups i g ≡ g) where
+  it : IsVersionGroup (UsesAt range steps s.packages.items) g
+  it = subst (IsVersionGroup (UsesAt range steps s.packages.items)) is (are.each i g at)
 
   to_uses : (v : Option Version) (p : ℕ) → v ≡ Some g.version → Contains g.packages.items p → UsesVersion (Some range) s steps v p
   to_uses v p e m = subst (λ w. UsesVersion (Some range) s steps w p) (sym e) ((it.exact p).0 m)
@@ -56,12 +56,12 @@ module _ (s : PlanInput) (counts : List ℕ) (range : VersionRange) (some : s.ra
   from_run false q v w = (w.0, w.1, from_uses q.version w.0 v w.2, w.3)
   from_run true q v w = (w.0, w.1)
 
-  pub earlier : (h : VersionGroup) → Contains (take i groups) h → IsBefore h.version g.version
+  pub earlier : (h : VersionGroup) → Contains (take i groups) h → IsEarlierVersion h.version g.version
   earlier h m =
       let k : m.0 < i = omega (arith, m.1, length-take-le i groups (omega arith)) in
       let e : get_or groups m.0 h ≡ h = sym (get_or-take i groups m.0 h k) ∙ m.2 in
-      let p : IsBefore (get_or groups m.0 h).version (get_or groups i h).version = are.rising m.0 i h k at in
-      subst (λ (x : VersionGroup). IsBefore x.version g.version) e (subst (λ (x : VersionGroup). IsBefore (get_or groups m.0 h).version x.version) (get_or_default groups i h g at ∙ is) p)
+      let p : IsEarlierVersion (get_or groups m.0 h).version (get_or groups i h).version = are.rising m.0 i h k at in
+      subst (λ (x : VersionGroup). IsEarlierVersion x.version g.version) e (subst (λ (x : VersionGroup). IsEarlierVersion (get_or groups m.0 h).version x.version) (get_or_default groups i h g at ∙ is) p)
 
   ahead : (a b : PlanEntry) → InGroups s counts steps (take i groups) a → InVersion s.as_cargo (Some g.version) (slots_of s (Some g.version)) g.packages.items counts b → Before a b
   ahead a b p q = inl (older-some a.version b.version p.1.0.version g.version p.1.2 q.0 (earlier p.1.0 p.1.1))
@@ -69,7 +69,7 @@ module _ (s : PlanInput) (counts : List ℕ) (range : VersionRange) (some : s.ra
   right : (q : PlanEntry) → InVersion s.as_cargo (Some g.version) (slots_of s (Some g.version)) g.packages.items counts q → IsAdmissible s counts steps q
   right q p = record { run = to_run s.as_cargo q p.0 p.2; slot = subst (λ v. q.slot < slots_of s v) (sym p.0) p.1 }
 
-  pub groups-more : (old mid new : List PlanEntry) → Adds (InGroups s counts steps (take i groups)) old mid → Adds (InVersion s.as_cargo (Some g.version) (slots_of s (Some g.version)) g.packages.items counts) mid new → Adds (InGroups s counts steps (take (i + 1) groups)) old new
+  pub groups-more : (old mid new : List PlanEntry) → AddsEntries (InGroups s counts steps (take i groups)) old mid → AddsEntries (InVersion s.as_cargo (Some g.version) (slots_of s (Some g.version)) g.packages.items counts) mid new → AddsEntries (InGroups s counts steps (take (i + 1) groups)) old new
   groups-more old mid new f k =
       Adds-then (InGroups s counts steps (take i groups)) (InVersion s.as_cargo (Some g.version) (slots_of s (Some g.version)) g.packages.items counts) (InGroups s counts steps (take (i + 1) groups)) old mid new f k ahead
       (λ q r. elim (Contains-take_more groups i g r.1.0 at r.1.1) [
@@ -80,13 +80,13 @@ module _ (s : PlanInput) (counts : List ℕ) (range : VersionRange) (some : s.ra
       (λ q p. (p.0, (p.1.0, Contains-take_up groups i g p.1.0 at p.1.1, p.1.2)))
       (λ q p. (right q p, (g, subst (Contains (take (i + 1) groups)) is (Contains-take_last groups i g at), p.0)))
 
-  pub groups-over : (mid : List PlanEntry) → Adds (InGroups s counts steps (take i groups)) [] mid → Overfills (InVersion s.as_cargo (Some g.version) (slots_of s (Some g.version)) g.packages.items counts) mid → AreTooMany (IsAdmissible s counts steps)
+  pub groups-over : (mid : List PlanEntry) → AddsEntries (InGroups s counts steps (take i groups)) [] mid → Overfills (InVersion s.as_cargo (Some g.version) (slots_of s (Some g.version)) g.packages.items counts) mid → AreTooMany (IsAdmissible s counts steps)
   groups-over mid f k = too-many _ (Overfills-then (InGroups s counts steps (take i groups)) (InVersion s.as_cargo (Some g.version) (slots_of s (Some g.version)) g.packages.items counts) (IsAdmissible s counts steps) [] mid f k ahead (λ q p. p.0) right)
     where
       too-many : (P : PlanEntry → Type 0) → Overfills P [] → AreTooMany P
       too-many P o = record { entries = o.added; increasing = o.increasing; sound = o.sound; many = omega (arith, o.many) }
 
-pub groups-all : (s : PlanInput) (counts : List ℕ) (range : VersionRange) (steps : List Version) (groups : List VersionGroup) (new : List PlanEntry) → s.range ≡ Some range → AreGroups (UsesAt range steps s.packages.items) groups → Adds (InGroups s counts steps groups) [] new → Lists (IsAdmissible s counts steps) new
+pub groups-all : (s : PlanInput) (counts : List ℕ) (range : VersionRange) (steps : List Version) (groups : List VersionGroup) (new : List PlanEntry) → s.range ≡ Some range → AreVersionGroups (UsesAt range steps s.packages.items) groups → AddsEntries (InGroups s counts steps groups) [] new → Lists (IsAdmissible s counts steps) new
 groups-all s counts range steps groups new some are f = subst (Lists (IsAdmissible s counts steps)) (sym f.grown) (record {
   increasing = f.lists.increasing;
   sound = All-weaker (InGroups s counts steps groups) (IsAdmissible s counts steps) (λ q p. p.0) f.added f.lists.sound;
@@ -120,7 +120,7 @@ module _ (s : PlanInput) (counts : List ℕ) (none : s.range ≡ None) (places :
   alone-back : (q : PlanEntry) → IsAdmissible s counts [] q → InVersion s.as_cargo None (slots_of s None) places counts q
   alone-back q h = let u = alone-from s.as_cargo q h.run in (u.0, subst (λ v. q.slot < slots_of s v) u.0 h.slot, u.1)
 
-  pub alone-all : (new : List PlanEntry) → Adds (InVersion s.as_cargo None (slots_of s None) places counts) [] new → Lists (IsAdmissible s counts []) new
+  pub alone-all : (new : List PlanEntry) → AddsEntries (InVersion s.as_cargo None (slots_of s None) places counts) [] new → Lists (IsAdmissible s counts []) new
   alone-all new f = subst (Lists (IsAdmissible s counts [])) (sym f.grown) (record {
     increasing = f.lists.increasing;
     sound = All-weaker (InVersion s.as_cargo None (slots_of s None) places counts) (IsAdmissible s counts []) alone-right f.added f.lists.sound;

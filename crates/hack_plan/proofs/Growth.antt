@@ -5,7 +5,7 @@ use Rattle.std.proofs.lemmas.List.{take_more, length-take-le, get_or-take, get_o
 use Rattle.std.proofs.lemmas.List.Elements.{Contains-append_left, Contains-push, Contains-push_cases, Contains-get_or}
 use Rattle.hack_versions.specs.declared.version.Version.{Version}
 use Rattle.hack_plan.specs.declared.places.PlanEntry.{PlanEntry}
-use Rattle.hack_plan.specs.Entries.{Adds, Overfills, Before, IsLower}
+use Rattle.hack_plan.specs.Entries.{AddsEntries, Overfills, Before, IsLower}
 use Rattle.hack_plan.specs.Parts.{InBlock, InSlot, InVersion}
 use Rattle.hack_plan.proofs.Joins.{Adds-then, Overfills-then}
 
@@ -38,7 +38,7 @@ slot-right : (version : Option Version) (slot i n : ℕ) (members runs : List �
 slot-right version slot i n members runs h e q p = (p.0, p.1, (get_or members i 0, p.2, Contains-take_last members i 0 h, rw (← e) p.3))
 
 pub slot-more : (version : Option Version) (slot i n : ℕ) (members runs : List ℕ) (old mid new : List PlanEntry) → AllPairs (λ a b. a < b) members → i < length members → n ≡ slice_index runs (get_or members i 0)
-    → Adds (InSlot version slot (take i members) runs) old mid → Adds (InBlock version slot (Some (get_or members i 0)) n) mid new → Adds (InSlot version slot (take (i + 1) members) runs) old new
+    → AddsEntries (InSlot version slot (take i members) runs) old mid → AddsEntries (InBlock version slot (Some (get_or members i 0)) n) mid new → AddsEntries (InSlot version slot (take (i + 1) members) runs) old new
 slot-more version slot i n members runs old mid new pairs h e f g =
     Adds-then (InSlot version slot (take i members) runs) (InBlock version slot (Some (get_or members i 0)) n) (InSlot version slot (take (i + 1) members) runs) old mid new f g (slot-before version slot i n members runs pairs h)
     (λ q r. elim (Contains-take_more members i 0 r.2.0 h r.2.2) [ inl m ↦ inl (r.0, r.1, (r.2.0, r.2.1, m, r.2.3)) | inr m ↦ inr (r.0, r.1, r.2.1 ∙ ap Some (sym m), rw e (rw m r.2.3)) ])
@@ -49,13 +49,13 @@ from-take : (members : List ℕ) (i x : ℕ) → Contains (take i members) x →
 from-take members i x c h = let k : c.0 < i = omega (arith, c.1, length-take-le i members h) in (c.0, omega arith, sym (get_or-take i members c.0 x k) ∙ c.2)
 
 pub slot-over : (version : Option Version) (slot i n : ℕ) (members runs : List ℕ) (old mid : List PlanEntry) → AllPairs (λ a b. a < b) members → i < length members → n ≡ slice_index runs (get_or members i 0)
-    → Adds (InSlot version slot (take i members) runs) old mid → Overfills (InBlock version slot (Some (get_or members i 0)) n) mid → Overfills (InSlot version slot members runs) old
+    → AddsEntries (InSlot version slot (take i members) runs) old mid → Overfills (InBlock version slot (Some (get_or members i 0)) n) mid → Overfills (InSlot version slot members runs) old
 slot-over version slot i n members runs old mid pairs h e f g =
     Overfills-then (InSlot version slot (take i members) runs) (InBlock version slot (Some (get_or members i 0)) n) (InSlot version slot members runs) old mid f g (slot-before version slot i n members runs pairs h)
     (λ q p. (p.0, p.1, (p.2.0, p.2.1, from-take members i p.2.0 p.2.2 (omega arith), p.2.3)))
     (λ q p. (p.0, p.1, (get_or members i 0, p.2, Contains-get_or members i 0 h, rw (← e) p.3)))
 
-pub version-more : (version : Option Version) (slot : ℕ) (members runs : List ℕ) (old mid new : List PlanEntry) → Adds (InVersion false version slot members runs) old mid → Adds (InSlot version slot members runs) mid new → Adds (InVersion false version (slot + 1) members runs) old new
+pub version-more : (version : Option Version) (slot : ℕ) (members runs : List ℕ) (old mid new : List PlanEntry) → AddsEntries (InVersion false version slot members runs) old mid → AddsEntries (InSlot version slot members runs) mid new → AddsEntries (InVersion false version (slot + 1) members runs) old new
 version-more version slot members runs old mid new f g =
     Adds-then (InVersion false version slot members runs) (InSlot version slot members runs) (InVersion false version (slot + 1) members runs) old mid new f g
     (λ a b p q. inr (p.0 ∙ sym q.0, inl (omega (arith, p.1, q.1))))
@@ -63,14 +63,14 @@ version-more version slot members runs old mid new f g =
     (λ q p. (p.0, omega (arith, p.1), p.2))
     (λ q p. (p.0, omega (arith, p.1), p.2))
 
-pub version-over : (version : Option Version) (slot slots : ℕ) (members runs : List ℕ) (old mid : List PlanEntry) → slot < slots → Adds (InVersion false version slot members runs) old mid → Overfills (InSlot version slot members runs) mid → Overfills (InVersion false version slots members runs) old
+pub version-over : (version : Option Version) (slot slots : ℕ) (members runs : List ℕ) (old mid : List PlanEntry) → slot < slots → AddsEntries (InVersion false version slot members runs) old mid → Overfills (InSlot version slot members runs) mid → Overfills (InVersion false version slots members runs) old
 version-over version slot slots members runs old mid h f g =
     Overfills-then (InVersion false version slot members runs) (InSlot version slot members runs) (InVersion false version slots members runs) old mid f g
     (λ a b p q. inr (p.0 ∙ sym q.0, inl (omega (arith, p.1, q.1))))
     (λ q p. (p.0, omega (arith, p.1), p.2))
     (λ q p. (p.0, omega (arith, p.1), p.2))
 
-pub single-more : (version : Option Version) (slot : ℕ) (old mid new : List PlanEntry) → Adds (InVersion true version slot [] []) old mid → Adds (InBlock version slot None 1) mid new → Adds (InVersion true version (slot + 1) [] []) old new
+pub single-more : (version : Option Version) (slot : ℕ) (old mid new : List PlanEntry) → AddsEntries (InVersion true version slot [] []) old mid → AddsEntries (InBlock version slot None 1) mid new → AddsEntries (InVersion true version (slot + 1) [] []) old new
 single-more version slot old mid new f g =
     Adds-then (InVersion true version slot [] []) (InBlock version slot None 1) (InVersion true version (slot + 1) [] []) old mid new f g
     (λ a b p q. inr (p.0 ∙ sym q.0, inl (omega (arith, p.1, q.1))))
@@ -78,7 +78,7 @@ single-more version slot old mid new f g =
     (λ q p. (p.0, omega (arith, p.1), p.2))
     (λ q p. (p.0, omega (arith, p.1), (p.2, omega (arith, p.3))))
 
-pub single-over : (version : Option Version) (slot slots : ℕ) (old mid : List PlanEntry) → slot < slots → Adds (InVersion true version slot [] []) old mid → Overfills (InBlock version slot None 1) mid → Overfills (InVersion true version slots [] []) old
+pub single-over : (version : Option Version) (slot slots : ℕ) (old mid : List PlanEntry) → slot < slots → AddsEntries (InVersion true version slot [] []) old mid → Overfills (InBlock version slot None 1) mid → Overfills (InVersion true version slots [] []) old
 single-over version slot slots old mid h f g =
     Overfills-then (InVersion true version slot [] []) (InBlock version slot None 1) (InVersion true version slots [] []) old mid f g
     (λ a b p q. inr (p.0 ∙ sym q.0, inl (omega (arith, p.1, q.1))))

@@ -4,7 +4,7 @@ use Rattle.std.specs.List.{AllPairs, Contains}
 use Rattle.std.proofs.lemmas.List.{get_or_append_left, get_or-append_right}
 use Rattle.std.proofs.lemmas.List.Elements.{Contains-get_or, All-append, All-contains, All-weaker, Contains-append_left, Contains-append_right}
 use Rattle.hack_plan.specs.declared.places.PlanEntry.{PlanEntry}
-use Rattle.hack_plan.specs.Entries.{Lists, Adds, Before, Overfills}
+use Rattle.hack_plan.specs.Entries.{Lists, AddsEntries, Before, Overfills}
 
 lt_or_le : (a b : ℕ) → (a < b) ⊎ (b ≤ a)
 lt_or_le a b = grind arith
@@ -29,7 +29,7 @@ Lists-append P Q R xs ys f g before split left right = record {
   complete = λ q r. elim (split q r) [ inl p ↦ Contains-append_left xs ys q (f.complete q p) | inr p ↦ Contains-append_right xs ys q (g.complete q p) ];
 }
 
-pub Adds-then : (P Q R : PlanEntry → Type 0) (old mid new : List PlanEntry) → Adds P old mid → Adds Q mid new → ((a b : PlanEntry) → P a → Q b → Before a b) → ((q : PlanEntry) → R q → P q ⊎ Q q) → ((q : PlanEntry) → P q → R q) → ((q : PlanEntry) → Q q → R q) → Adds R old new
+pub Adds-then : (P Q R : PlanEntry → Type 0) (old mid new : List PlanEntry) → AddsEntries P old mid → AddsEntries Q mid new → ((a b : PlanEntry) → P a → Q b → Before a b) → ((q : PlanEntry) → R q → P q ⊎ Q q) → ((q : PlanEntry) → P q → R q) → ((q : PlanEntry) → Q q → R q) → AddsEntries R old new
 Adds-then P Q R old mid new f g before split left right = record {
   added = f.added ++ g.added;
   grown = g.grown ∙ ap (λ t. t ++ g.added) f.grown ∙ append_assoc old f.added g.added;
@@ -43,10 +43,10 @@ Lists-nil P none = record {
   complete = λ q p. absurd (none q p);
 }
 
-pub Adds-nil : (P : PlanEntry → Type 0) (old : List PlanEntry) → ((q : PlanEntry) → P q → ⊥) → Adds P old old
+pub Adds-nil : (P : PlanEntry → Type 0) (old : List PlanEntry) → ((q : PlanEntry) → P q → ⊥) → AddsEntries P old old
 Adds-nil P old none = record { added = []; grown = sym (append-nil old); lists = Lists-nil P none }
 
-pub Overfills-then : (P Q R : PlanEntry → Type 0) (old mid : List PlanEntry) → Adds P old mid → Overfills Q mid → ((a b : PlanEntry) → P a → Q b → Before a b) → ((q : PlanEntry) → P q → R q) → ((q : PlanEntry) → Q q → R q) → Overfills R old
+pub Overfills-then : (P Q R : PlanEntry → Type 0) (old mid : List PlanEntry) → AddsEntries P old mid → Overfills Q mid → ((a b : PlanEntry) → P a → Q b → Before a b) → ((q : PlanEntry) → P q → R q) → ((q : PlanEntry) → Q q → R q) → Overfills R old
 Overfills-then P Q R old mid f g before left right = record {
   added = f.added ++ g.added;
   increasing = AllPairs-append Before f.added g.added f.lists.increasing g.increasing (λ a b x y. before a b (All-contains P f.added a f.lists.sound x) (All-contains Q g.added b g.sound y));

@@ -8,7 +8,7 @@ use Rattle.hack_versions.specs.declared.version.MaybeVersion.TheVariants.{Versio
 use Rattle.hack_versions.specs.declared.version.VersionRange.{VersionRange}
 use Rattle.hack_versions.specs.VersionOrder.{IsAtMost, one, strip_patch}
 use Rattle.hack_versions.specs.RangeSteps.{IsLowest, IsBound, AreSteps, AreStepsOf}
-use Rattle.hack_versions.specs.Uses.{UsesBy, IsStepFor, HasStepFrom, own_of}
+use Rattle.hack_versions.specs.VersionUses.{UsesBy, IsStepFor, HasStepFrom, own_of}
 use Rattle.hack_versions.proofs.OrderLemmas.{at_most-both}
 use Rattle.hack_plan.specs.declared.places.PlanEntry.{PlanEntry}
 use Rattle.hack_plan.specs.declared.versions.PlanInput.{PlanInput}

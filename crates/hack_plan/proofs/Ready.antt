@@ -7,11 +7,11 @@ use Rattle.hack_versions.specs.declared.version.Version.{Version}
 use Rattle.hack_plan.specs.declared.places.Span.{Span}
 use Rattle.hack_plan.specs.Spans.{version_at}
 use Rattle.hack_plan.specs.declared.parts.PlanVersion.{PlanVersion}
-use Rattle.hack_plan.specs.Prepared.{span_of, number_of, preparations_of, IsPrepared, Remakes, AreFlags, ArePrepared}
+use Rattle.hack_plan.specs.Prepared.{span_of, version_number_of, preparations_of, HasPreparations, Remakes, AreFlags, ArePrepared}
 
 -- each version so far has its preparations
 abbrev pub AreReady : Bool → Bool → List Version → List PlanVersion → Type 0
-AreReady locked cleans numbers versions = (place : ℕ) (v : PlanVersion) → slice_get versions place ≡ Some v → IsPrepared locked cleans numbers place v
+AreReady locked cleans numbers versions = (place : ℕ) (v : PlanVersion) → slice_get versions place ≡ Some v → HasPreparations locked cleans numbers place v
 
 -- an element of a list to which one was appended is one of the list's, or that one
 pub cases-push : {X : Type 0} (P : ℕ → X → Type 0) (xs : List X) (x : X) → ((k : ℕ) (y : X) → slice_get xs k ≡ Some y → P k y) → P (length xs) x → (k : ℕ) (y : X) → slice_get (xs ++ x ∷ []) k ≡ Some y → P k y
@@ -27,8 +27,8 @@ cases-push P (z ∷ xs) x all last (suc k) y e = cases-push (λ n. P (suc n)) xs
 pub ready-more : (locked cleans : Bool) (numbers : List Version) (flags : List Bool) (versions : List PlanVersion) (v : PlanVersion) (place : ℕ) (remakes : Bool) → AreFlags locked numbers flags → IsTrue remakes ↔ (slice_get flags place ≡ Some true) → length versions ≡ place
     → v.preparations.items ≡ preparations_of v.version place remakes cleans → AreReady locked cleans numbers versions → AreReady locked cleans numbers (versions ++ v ∷ [])
 ready-more locked cleans numbers flags versions v place remakes are set here made before =
-    cases-push (IsPrepared locked cleans numbers) versions v before
-    (subst (λ k. IsPrepared locked cleans numbers k v) (sym here) (record { remakes = remakes; exact = ((λ t. (are place).0 (set.0 t)), (λ r. set.1 ((are place).1 r))); made = made }))
+    cases-push (HasPreparations locked cleans numbers) versions v before
+    (subst (λ k. HasPreparations locked cleans numbers k v) (sym here) (record { remakes = remakes; exact = ((λ t. (are place).0 (set.0 t)), (λ r. set.1 ((are place).1 r))); made = made }))
 
 -- there are as many versions as spans so far
 pub as-many : (spans : List Span) (versions : List PlanVersion) (i : ℕ) → i < length spans → map span_of versions ≡ take i spans → length versions ≡ i
@@ -40,7 +40,7 @@ spans-more spans versions v i d lt is are =
     map-append span_of versions (v ∷ []) ∙ ap (λ l. l ++ span_of v ∷ []) are ∙ ap (λ s. take i spans ++ s ∷ []) is ∙ sym (take_more spans i d lt)
 
 -- the versions' own numbers are those of the spans
-pub numbers-same : (versions : List PlanVersion) → filter_map version_at (map span_of versions) ≡ filter_map number_of versions
+pub numbers-same : (versions : List PlanVersion) → filter_map version_at (map span_of versions) ≡ filter_map version_number_of versions
 numbers-same [] = refl
 numbers-same (v ∷ versions) = ap (cons_option v.version) (numbers-same versions)
 

@@ -6,14 +6,14 @@ use Rattle.std.proofs.lemmas.List.Elements.{All-append, All-push, All-map, All-w
 use Rattle.hack_versions.specs.declared.version.Version.{Version}
 use Rattle.hack_versions.specs.declared.version.VersionRange.{VersionRange}
 use Rattle.hack_versions.specs.declared.group.VersionGroup.{VersionGroup}
-use Rattle.hack_versions.specs.VersionOrder.{IsBefore}
-use Rattle.hack_versions.specs.Uses.{UsesAt, AreGroups}
+use Rattle.hack_versions.specs.VersionOrder.{IsEarlierVersion}
+use Rattle.hack_versions.specs.VersionUses.{UsesAt, AreVersionGroups}
 use Rattle.hack_plan.specs.declared.places.PlanEntry.{PlanEntry}
 use Rattle.hack_plan.specs.declared.places.Span.{Span}
 use Rattle.hack_plan.specs.declared.versions.PlanInput.{PlanInput}
-use Rattle.hack_plan.specs.Entries.{Adds, IsOlder}
+use Rattle.hack_plan.specs.Entries.{AddsEntries, IsOlder}
 use Rattle.hack_plan.specs.Parts.{InVersion}
-use Rattle.hack_plan.specs.Spans.{Laid, IsSpan, AreSpans, AreTiled, IsNext, version_in, version_at}
+use Rattle.hack_plan.specs.Spans.{Laid, IsSpan, AreSpans, AreTiled, AppendsPlaces, version_in, version_at}
 use Rattle.hack_plan.proofs.Groups.{InGroups, earlier}
 
 abbrev IsOlderEntry : Option Version → PlanEntry → Type 0
@@ -65,7 +65,7 @@ tiled-more : (from : ℕ) (ss : List Span) (s : Span) (mid to : ℕ) → AreTile
 tiled-more from [] s mid to t first le end = (first ∙ sym t, omega (arith, t), end)
 tiled-more from (x ∷ ss) s mid to t first le end = (t.0, t.1, tiled-more x.end ss s mid to t.2 first le end)
 
-pub spans-next : (names : List (Option Version)) (v : Option Version) (old new : Laid) (added : List PlanEntry) → new.entries ≡ old.entries ++ added → IsNext v old new → AreSpans names old
+pub spans-next : (names : List (Option Version)) (v : Option Version) (old new : Laid) (added : List PlanEntry) → new.entries ≡ old.entries ++ added → AppendsPlaces v old new → AreSpans names old
     → All (IsOlderEntry v) old.entries → All (IsHere v) added → All (λ w. IsOlder w v) names → AreSpans (names ++ v ∷ []) new
 spans-next names v old new added grown next f before here older = record {
   names = ap (map version_at) next ∙ map-append version_at old.spans (span_of v old.entries new.entries ∷ []) ∙ ap (λ t. t ++ v ∷ []) f.names;
@@ -94,20 +94,20 @@ spans-none p no_entries e = record {
 }
 
 -- a plan of a single version
-pub spans-alone : (whole : Bool) (v : Option Version) (slots : ℕ) (places counts : List ℕ) (old new : Laid) → old.entries ≡ [] → old.spans ≡ [] → Adds (InVersion whole v slots places counts) old.entries new.entries → IsNext v old new → AreSpans (v ∷ []) new
+pub spans-alone : (whole : Bool) (v : Option Version) (slots : ℕ) (places counts : List ℕ) (old new : Laid) → old.entries ≡ [] → old.spans ≡ [] → AddsEntries (InVersion whole v slots places counts) old.entries new.entries → AppendsPlaces v old new → AreSpans (v ∷ []) new
 spans-alone whole v slots places counts old new e f g next =
     spans-next [] v old new g.added g.grown next (spans-none old e f)
     (subst (All (IsOlderEntry v)) (sym e) (λ k d h. absurd (omega arith)))
     (All-weaker (InVersion whole v slots places counts) (IsHere v) (λ q p. p.0) g.added g.lists.sound)
     (λ k d h. absurd (omega arith))
 
-older-here : (v w : Option Version) (a b : Version) → v ≡ Some a → w ≡ Some b → IsBefore a b → IsOlder v w
+older-here : (v w : Option Version) (a b : Version) → v ≡ Some a → w ≡ Some b → IsEarlierVersion a b → IsOlder v w
 older-here v w a b e f l = rw (e, f) l
 
 -- the next group's version, added after those before it
-pub spans-group : (s : PlanInput) (counts : List ℕ) (range : VersionRange) (some : s.range ≡ Some range) (steps : List Version) (groups : List VersionGroup) (are : AreGroups (UsesAt range steps s.packages.items) groups) (i : ℕ) (g : VersionGroup) (at : i < length groups) (is : get_or groups i g ≡ g)
-    (whole : Bool) (slots : ℕ) (old new : Laid) → Adds (InGroups s counts steps (take i groups)) [] old.entries → AreSpans (map version_in (take i groups)) old
-    → Adds (InVersion whole (Some g.version) slots g.packages.items counts) old.entries new.entries → IsNext (Some g.version) old new → AreSpans (map version_in (take (i + 1) groups)) new
+pub spans-group : (s : PlanInput) (counts : List ℕ) (range : VersionRange) (some : s.range ≡ Some range) (steps : List Version) (groups : List VersionGroup) (are : AreVersionGroups (UsesAt range steps s.packages.items) groups) (i : ℕ) (g : VersionGroup) (at : i < length groups) (is : get_or groups i g ≡ g)
+    (whole : Bool) (slots : ℕ) (old new : Laid) → AddsEntries (InGroups s counts steps (take i groups)) [] old.entries → AreSpans (map version_in (take i groups)) old
+    → AddsEntries (InVersion whole (Some g.version) slots g.packages.items counts) old.entries new.entries → AppendsPlaces (Some g.version) old new → AreSpans (map version_in (take (i + 1) groups)) new
 spans-group s counts range some steps groups are i g at is whole slots old new f spans k next =
     subst (λ names. AreSpans names new) (sym names-more)
     (spans-next (map version_in (take i groups)) (Some g.version) old new k.added k.grown next spans before
@@ -116,7 +116,7 @@ spans-group s counts range some steps groups are i g at is whole slots old new f
     names-more : map version_in (take (i + 1) groups) ≡ map version_in (take i groups) ++ Some g.version ∷ []
     names-more = ap (map version_in) (take_more groups i g at) ∙ map-append version_in (take i groups) (get_or groups i g ∷ []) ∙ ap (λ (x : VersionGroup). map version_in (take i groups) ++ Some x.version ∷ []) is
 
-    low : (h : VersionGroup) → Contains (take i groups) h → IsBefore h.version g.version
+    low : (h : VersionGroup) → Contains (take i groups) h → IsEarlierVersion h.version g.version
     low h m = earlier s counts range some steps groups are i g at is h m
 
     before : All (IsOlderEntry (Some g.version)) old.entries

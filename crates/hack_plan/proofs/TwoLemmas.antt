@@ -2,7 +2,7 @@
 use Rattle.std.proofs.Common.{◌≡◌, ◌≢◌, ◌↔◌, List, [], ◌∷◌, arith, refl, sym, ◌∙◌, Bool, true, false, IsTrue, Some, slice_get}
 use Rattle.std.specs.List.{Contains}
 use Rattle.hack_versions.specs.declared.group.PackageVersion.{PackageVersion}
-use Rattle.hack_versions.specs.Uses.{own_of}
+use Rattle.hack_versions.specs.VersionUses.{own_of}
 use Rattle.hack_plan.specs.Inputs.{HaveTwo}
 
 -- some package's own version differs from this one's

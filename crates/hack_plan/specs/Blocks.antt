@@ -17,12 +17,12 @@ abbrev pub entries_of : List Block → List PlanEntry
 entries_of blocks = flat_map entries_in blocks
 
 -- the number of runs of a block
-abbrev pub runs_in : Block → ℕ
-runs_in b = b.runs
+abbrev pub block_run_count : Block → ℕ
+block_run_count b = b.runs
 
 -- each block's end is the sum of the runs up to and including it, and the total is the sum of all,
 -- at most 4294967295
 pub record AreSums (blocks : List Block) (total : ℕ) : Type 0 where
-  pub ends : (k : ℕ) (d : Block) → k < length blocks → (slice_index_or blocks k d).end ≡ sum_by runs_in (take (k + 1) blocks)
-  pub all : total ≡ sum_by runs_in blocks
+  pub ends : (k : ℕ) (d : Block) → k < length blocks → (slice_index_or blocks k d).end ≡ sum_by block_run_count (take (k + 1) blocks)
+  pub all : total ≡ sum_by block_run_count blocks
   pub short : total < 2 ^ 32

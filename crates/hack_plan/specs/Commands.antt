@@ -19,9 +19,9 @@ program_of c None = c.cargo
 program_of c (Some v) = c.rustup
 
 -- the arguments that make rustup run the cargo of a version
-abbrev pub leading_of : Option Version → List (List ℕ)
-leading_of None = []
-leading_of (Some v) = codes "run" ∷ toolchain_of v ∷ codes "cargo" ∷ []
+abbrev pub rustup_run_words : Option Version → List (List ℕ)
+rustup_run_words None = []
+rustup_run_words (Some v) = codes "run" ∷ toolchain_of v ∷ codes "cargo" ∷ []
 
 -- each target is a separate slot: there are some, and cargo takes one at a time
 abbrev pub is_split : CallView → Option Version → Bool
@@ -52,19 +52,19 @@ run_words NoDefaultFeatures = codes "--no-default-features" ∷ []
 run_words (Set s) = codes "--no-default-features" ∷ []
 
 -- the names of the candidates at the positions, one after another
-abbrev pub names_at : List (List Name) → List ℕ → List Name
-names_at candidates positions = flat_map (λ p. slice_index_or candidates p []) positions
+abbrev pub candidate_names_at : List (List Name) → List ℕ → List Name
+candidate_names_at candidates positions = flat_map (λ p. slice_index_or candidates p []) positions
 
 -- the names of a run's set
 abbrev pub run_names : List (List Name) → PackageRun → List Name
 run_names candidates Plain = []
 run_names candidates AllFeatures = []
 run_names candidates NoDefaultFeatures = []
-run_names candidates (Set s) = names_at candidates s
+run_names candidates (Set s) = candidate_names_at candidates s
 
 -- a command with the arguments that the call passes on
 abbrev pub call_command : CallView → Option Version → List (List ℕ) → List (List ℕ) → Command
-call_command c version own names = record { program = program_of c version; strip_program_path = false; leading = leading_of version; passed = c.passed; own = own; features = with_names None names; trailing = c.trailing }
+call_command c version own names = record { program = program_of c version; strip_program_path = false; leading = rustup_run_words version; passed = c.passed; own = own; features = with_names None names; trailing = c.trailing }
 
 -- the command of a run for all packages
 abbrev pub whole_command : CallView → Option Version → ℕ → Command
@@ -80,9 +80,9 @@ ranked_command c version slot None rank = whole_command c version slot
 ranked_command c version slot (Some k) rank = run_command c version slot k (slice_index_or k.runs rank Plain)
 
 -- the package of a place, as an index into the chosen ones
-abbrev pub package_at : List PackageView → Option ℕ → Option PackageView
-package_at packages None = None
-package_at packages (Some p) = slice_get packages p
+abbrev pub chosen_package_at : List PackageView → Option ℕ → Option PackageView
+chosen_package_at packages None = None
+chosen_package_at packages (Some p) = slice_get packages p
 
 -- a package's name
 abbrev pub name_in : Option PackageView → Option (List ℕ)
@@ -91,7 +91,7 @@ name_in (Some k) = Some k.name
 
 -- the command of a place
 abbrev pub command_of_entry : PlanView → PlanEntry → Command
-command_of_entry plan q = ranked_command plan.call q.version q.slot (package_at plan.packages q.package) q.rank
+command_of_entry plan q = ranked_command plan.call q.version q.slot (chosen_package_at plan.packages q.package) q.rank
 
 -- a command of cargo itself, without arguments that are passed on
 abbrev pub plain_command : List ℕ → List (List ℕ) → List (List ℕ) → Command
@@ -112,4 +112,4 @@ clean_command c cleaned = plain_command c.cargo [] (codes "clean" ∷ locked_wor
 
 -- the command that regenerates the lockfile
 abbrev pub lockfile_command : CallView → Version → Command
-lockfile_command c v = plain_command c.rustup (leading_of (Some v)) (codes "generate-lockfile" ∷ manifest_words c.current_manifest)
+lockfile_command c v = plain_command c.rustup (rustup_run_words (Some v)) (codes "generate-lockfile" ∷ manifest_words c.current_manifest)

@@ -1,7 +1,7 @@
 -- The plan as a set of entries with an order.
 use Rattle.std.specs.Prelude.{ℕ, ◌≡◌, ◌+◌, ◌<◌, ◌≤◌, ◌^◌, ◌⊎◌, ◌++◌, List, length, slice_index, AllPairs, All, Contains, Option, Some, None, Bool, true, false}
 use Rattle.hack_versions.specs.declared.version.Version.{Version}
-use Rattle.hack_versions.specs.VersionOrder.{IsBefore}
+use Rattle.hack_versions.specs.VersionOrder.{IsEarlierVersion}
 use Rattle.hack_plan.specs.declared.versions.PlanInput.{PlanInput}
 use Rattle.hack_plan.specs.declared.places.PlanEntry.{PlanEntry}
 use Rattle.hack_plan.specs.Inputs.{IsStepList, UsesVersion, IsVersion, slots_of}
@@ -25,7 +25,7 @@ IsLower (Some a) None = ⊥
 
 -- of two versions, the first is the lower
 abbrev pub IsOlder : Option Version → Option Version → Type 0
-IsOlder (Some a) (Some b) = IsBefore a b
+IsOlder (Some a) (Some b) = IsEarlierVersion a b
 IsOlder None b = ⊥
 IsOlder (Some a) None = ⊥
 
@@ -63,7 +63,7 @@ abbrev pub HasTooMany : PlanInput → List ℕ → Option Version → Type 0
 HasTooMany s counts stable = (steps : List Version) × IsStepList s.range s stable steps × AreTooMany (IsAdmissible s counts steps)
 
 -- new is old followed by exactly the entries that pass, in order
-pub record Adds (Passes : PlanEntry → Type 0) (old new : List PlanEntry) : Type 0 where
+pub record AddsEntries (Passes : PlanEntry → Type 0) (old new : List PlanEntry) : Type 0 where
   pub added : List PlanEntry
   pub grown : new ≡ old ++ added
   pub lists : Lists Passes added

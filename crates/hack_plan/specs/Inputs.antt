@@ -6,7 +6,7 @@ use Rattle.hack_versions.specs.declared.group.PackageVersion.{PackageVersion}
 use Rattle.hack_versions.specs.declared.rustup.RangeFault.{RangeFault}
 use Rattle.hack_versions.specs.declared.rustup.RangeFault.TheVariants.{SingleMsrv}
 use Rattle.hack_versions.specs.RangeSteps.{AreStepsOf, IsRangeFault, range_notes}
-use Rattle.hack_versions.specs.Uses.{own_of, UsesAt, AreGroups, IsGroupFault, AreSkipNotes}
+use Rattle.hack_versions.specs.VersionUses.{own_of, UsesAt, AreVersionGroups, IsGroupFault, AreSkipNotes}
 use Rattle.hack_base.specs.Notes.{Note}
 use Rattle.hack_plan.specs.declared.versions.PlanInput.{PlanInput}
 use Rattle.hack_plan.specs.declared.versions.Versions.{Versions}
@@ -48,7 +48,7 @@ slots_of s version = if nat_lt 0 s.targets && nat_lt (minor_of s.cargo_minor ver
 -- the groups of a range: each version that a package uses, with its packages
 abbrev pub GroupsBy : Option VersionRange → PlanInput → Versions → Type 0
 GroupsBy None s versions = versions.groups.items ≡ []
-GroupsBy (Some range) s versions = (steps : List Version) × AreStepsOf range s.step (owns_of s) versions.stable steps × AreGroups (UsesAt range steps s.packages.items) versions.groups.items
+GroupsBy (Some range) s versions = (steps : List Version) × AreStepsOf range s.step (owns_of s) versions.stable steps × AreVersionGroups (UsesAt range steps s.packages.items) versions.groups.items
 
 -- the versions of an input
 abbrev pub AreVersions : PlanInput → Versions → Type 0

@@ -5,7 +5,7 @@ pub mod Parts
 pub mod Spans
 pub mod Runs
 pub mod RunsView
-pub mod Fronts
+pub mod FrontRuns
 pub mod View
 pub mod Commands
 pub mod Plans

@@ -4,7 +4,7 @@ use Rattle.hack_versions.specs.declared.version.Version.{Version}
 use Rattle.hack_plan.specs.Spans.{AreSpans}
 use Rattle.hack_plan.specs.declared.places.PlanEntry.{PlanEntry}
 use Rattle.hack_plan.specs.declared.parts.PlanPackage.{PlanPackage}
-use Rattle.hack_plan.specs.View.{PackageView, PlanView, package_view}
+use Rattle.hack_plan.specs.View.{PackageView, PlanView, plan_package_view}
 use Rattle.hack_plan.specs.Prepared.{span_of}
 
 -- a run of a package is one of that package's runs
@@ -13,12 +13,12 @@ IsRunOf packages None rank = Unit {0}
 IsRunOf packages (Some p) rank = IsSomeAnd (slice_get packages p) (λ k. rank < length k.runs)
 
 -- each place's run is one of its package's
-abbrev pub AreRuns : List PackageView → List PlanEntry → Type 0
-AreRuns packages entries = All (λ q. IsRunOf packages q.package q.rank) entries
+abbrev pub AreRunsOfPackages : List PackageView → List PlanEntry → Type 0
+AreRunsOfPackages packages entries = All (λ q. IsRunOf packages q.package q.rank) entries
 
 -- the number of runs of a package
 abbrev pub count_in : PlanPackage → ℕ
-count_in k = length (package_view k).runs
+count_in k = length (plan_package_view k).runs
 
 -- the number of runs of each package
 abbrev pub counts_in : List PlanPackage → List ℕ

@@ -12,8 +12,8 @@ abbrev pub span_of : PlanVersion → Span
 span_of v = record { version = v.version; first = v.first; end = v.end }
 
 -- the version, if there is one
-abbrev pub number_of : PlanVersion → Option Version
-number_of v = v.version
+abbrev pub version_number_of : PlanVersion → Option Version
+version_number_of v = v.version
 
 -- the preparation, where it is asked for
 abbrev pub where_asked : Bool → Preparation → List Preparation
@@ -35,11 +35,11 @@ abbrev pub AreFlags : Bool → List Version → List Bool → Type 0
 AreFlags locked versions flags = (place : ℕ) → (slice_get flags place ≡ Some true) ↔ Remakes locked versions place
 
 -- the version at an index has its preparations
-pub record IsPrepared (locked cleans : Bool) (versions : List Version) (place : ℕ) (v : PlanVersion) : Type 0 where
+pub record HasPreparations (locked cleans : Bool) (versions : List Version) (place : ℕ) (v : PlanVersion) : Type 0 where
   pub remakes : Bool
   pub exact : IsTrue remakes ↔ Remakes locked versions place
   pub made : v.preparations.items ≡ preparations_of v.version place remakes cleans
 
 -- each version has its preparations
 abbrev pub ArePrepared : Bool → Bool → List PlanVersion → Type 0
-ArePrepared locked cleans versions = (place : ℕ) (v : PlanVersion) → slice_get versions place ≡ Some v → IsPrepared locked cleans (filter_map number_of versions) place v
+ArePrepared locked cleans versions = (place : ℕ) (v : PlanVersion) → slice_get versions place ≡ Some v → HasPreparations locked cleans (filter_map version_number_of versions) place v

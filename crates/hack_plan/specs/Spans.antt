@@ -35,8 +35,8 @@ versions_of None groups = None ∷ []
 versions_of (Some range) groups = map version_in groups
 
 -- the version's places are appended to the plan so far
-abbrev pub IsNext : Option Version → Laid → Laid → Type 0
-IsNext version old new = new.spans ≡ old.spans ++ record { version = version; first = length old.entries; end = length new.entries } ∷ []
+abbrev pub AppendsPlaces : Option Version → Laid → Laid → Type 0
+AppendsPlaces version old new = new.spans ≡ old.spans ++ record { version = version; first = length old.entries; end = length new.entries } ∷ []
 
 -- the version of a span
 abbrev pub version_at : Span → Option Version

@@ -2,7 +2,7 @@
 use Rattle.std.specs.Prelude.{ℕ, Bool, List, Option, string_bytes, map}
 use Rattle.hack_base.specs.Names.{optional_text}
 use Rattle.hack_features.specs.Feature.{groups_of}
-use Rattle.hack_features.specs.Sets.{rows_of}
+use Rattle.hack_samples.specs.Sets.{rows_of}
 use Rattle.hack_plan.specs.Runs.{PackageRun}
 use Rattle.hack_plan.specs.RunsView.{runs_in}
 use Rattle.hack_plan.specs.declared.places.PlanEntry.{PlanEntry}
@@ -47,5 +47,5 @@ abbrev pub call_view : CommandParts → CallView
 call_view w = record { cargo = string_bytes w.cargo; rustup = string_bytes w.rustup; passed = map string_bytes w.passed.items; trailing = map string_bytes w.trailing.items; features = map string_bytes w.features.items; targets = map string_bytes w.targets.items; cargo_minor = w.cargo_minor; locked = w.locked; clean_per_run = w.clean_per_run; clean_per_version = w.clean_per_version; current_manifest = optional_text w.current_manifest; dir = string_bytes w.dir }
 
 -- a package with its texts as bytes, and its runs
-abbrev pub package_view : PlanPackage → PackageView
-package_view p = record { name = string_bytes p.name; manifest_path = optional_text p.manifest_path; features = map string_bytes p.features.items; candidates = groups_of p.candidates.items; runs = runs_in p.runs; settings = rows_of p.settings.items }
+abbrev pub plan_package_view : PlanPackage → PackageView
+plan_package_view p = record { name = string_bytes p.name; manifest_path = optional_text p.manifest_path; features = map string_bytes p.features.items; candidates = groups_of p.candidates.items; runs = runs_in p.runs; settings = rows_of p.settings.items }

@@ -3,7 +3,7 @@
 
 ghost use Rattle.std.specs.Prelude.{ℕ, true, false, ◌≡◌, ◌<◌, ◌≤◌, ◌+◌, ◌^◌, ◌⊎◌, [], length, All};
 ghost use Rattle.std.specs.Prelude.{AllPairs, OnOk, OnErr, IfOk, IfErr, slice_get, slice_index};
-ghost use Rattle.hack_plan.specs.Entries.{Adds, Overfills};
+ghost use Rattle.hack_plan.specs.Entries.{AddsEntries, Overfills};
 ghost use Rattle.hack_plan.specs.Parts.{InBlock, InSlot, InVersion};
 
 use crate::places::{PlacesFault, PlanEntry};
@@ -84,7 +84,7 @@ impl Blocks {
         member: Option<usize>,
         runs: usize,
     ) -> Result<(), PlacesFault>
-        ensures ok { OnOk result (Adds (InBlock version slot member runs) self.old self.new) }
+        ensures ok { OnOk result (AddsEntries (InBlock version slot member runs) self.old self.new) }
         ensures err { IfErr result (λ e. (e ≡ PlacesFault.Memory)
             ⊎ ((e ≡ PlacesFault.TooManyRuns) × Overfills (InBlock version slot member runs)
             self.old)) }
@@ -117,7 +117,7 @@ impl Blocks {
     ) -> Result<(), PlacesFault>
         requires increasing { AllPairs (λ a b. a < b) members.now }
         requires within { All (λ p. p < length runs.now) members.now }
-        ensures ok { OnOk result (Adds (InSlot version slot members.now runs.now) self.old
+        ensures ok { OnOk result (AddsEntries (InSlot version slot members.now runs.now) self.old
             self.new) }
         ensures err { IfErr result (λ e. (e ≡ PlacesFault.Memory)
             ⊎ ((e ≡ PlacesFault.TooManyRuns) × Overfills (InSlot version slot members.now runs.now)
@@ -142,7 +142,7 @@ impl Blocks {
     ) -> Result<(), PlacesFault>
         requires increasing { AllPairs (λ a b. a < b) members.now }
         requires within { whole ≡ false → All (λ p. p < length runs.now) members.now }
-        ensures ok { OnOk result (Adds (InVersion whole version slots members.now runs.now)
+        ensures ok { OnOk result (AddsEntries (InVersion whole version slots members.now runs.now)
             self.old self.new) }
         ensures err { IfErr result (λ e. (e ≡ PlacesFault.Memory)
             ⊎ ((e ≡ PlacesFault.TooManyRuns) × Overfills (InVersion whole version slots members.now
@@ -157,7 +157,7 @@ impl Blocks {
 
     /// One place in each slot.
     fn add_single(&mut self, version: Option<Version>, slots: usize) -> Result<(), PlacesFault>
-        ensures ok { OnOk result (Adds (InVersion true version slots [] []) self.old self.new) }
+        ensures ok { OnOk result (AddsEntries (InVersion true version slots [] []) self.old self.new) }
         ensures err { IfErr result (λ e. (e ≡ PlacesFault.Memory)
             ⊎ ((e ≡ PlacesFault.TooManyRuns) × Overfills (InVersion true version slots [] [])
             self.old)) }
@@ -180,7 +180,7 @@ impl Blocks {
     ) -> Result<(), PlacesFault>
         requires increasing { AllPairs (λ a b. a < b) members.now }
         requires within { All (λ p. p < length runs.now) members.now }
-        ensures ok { OnOk result (Adds (InVersion false version slots members.now runs.now)
+        ensures ok { OnOk result (AddsEntries (InVersion false version slots members.now runs.now)
             self.old self.new) }
         ensures err { IfErr result (λ e. (e ≡ PlacesFault.Memory)
             ⊎ ((e ≡ PlacesFault.TooManyRuns) × Overfills (InVersion false version slots members.now

@@ -8,10 +8,10 @@ ghost use Rattle.hack_features.specs.Feature.{groups_of};
 ghost use Rattle.hack_plan.specs.Runs.{run_of};
 ghost use Rattle.hack_process.specs.Commands.{command_of, listed_text};
 ghost use Rattle.hack_process.specs.CommandTexts.{listed_of};
-ghost use Rattle.hack_plan.specs.View.{call_view, package_view};
-ghost use Rattle.hack_plan.specs.Commands.{toolchain_of, program_of, leading_of, is_split};
+ghost use Rattle.hack_plan.specs.View.{call_view, plan_package_view};
+ghost use Rattle.hack_plan.specs.Commands.{toolchain_of, program_of, rustup_run_words, is_split};
 ghost use Rattle.hack_plan.specs.Commands.{targets_in, target_pair, manifest_words, run_words};
-ghost use Rattle.hack_plan.specs.Commands.{names_at, run_names, call_command, whole_command};
+ghost use Rattle.hack_plan.specs.Commands.{candidate_names_at, run_names, call_command, whole_command};
 ghost use Rattle.hack_plan.specs.Commands.{run_command, plain_command, locked_words, cleaned_words};
 ghost use Rattle.hack_plan.specs.Commands.{clean_command, lockfile_command, slot_target};
 ghost use Rattle.hack_plan.specs.RunWords.{words_command};
@@ -34,7 +34,7 @@ pub fn toolchain(alloc: Global, version: Version) -> Result<String, AllocError>
 
 /// The arguments that make rustup run the cargo of a version.
 fn leading(alloc: Global, version: Option<Version>) -> Result<Vec<String>, AllocError>
-    ensures { IfOk result (λ words. map string_bytes words.items ≡ leading_of version) }
+    ensures { IfOk result (λ words. map string_bytes words.items ≡ rustup_run_words version) }
 {
     let Some(version) = version else {
         return Ok(Vec::new(alloc));
@@ -72,7 +72,7 @@ impl CommandParts {
         version: Option<Version>,
     ) -> Result<ProcessBuilder<'a>, AllocError>
         ensures { IfOk result (λ command. command_of command
-            ≡ plain_command (program_of (call_view self.now) version) (leading_of version) []) }
+            ≡ plain_command (program_of (call_view self.now) version) (rustup_run_words version) []) }
     {
         let words = leading(alloc, version)?;
         let mut command = ProcessBuilder::new(alloc, self.program_of(version))?;
@@ -210,7 +210,7 @@ impl CommandParts {
         positions: &[usize],
     ) -> Result<ProcessBuilder<'_>, AllocError>
         ensures { IfOk result (λ command. command_of command
-            ≡ run_command (call_view self.now) version slot (package_view member.now)
+            ≡ run_command (call_view self.now) version slot (plan_package_view member.now)
             (run_of run positions.now)) }
     {
         let words = self.run_words(alloc, version, slot, member, run, positions)?;
@@ -228,7 +228,7 @@ impl CommandParts {
         positions: &[usize],
     ) -> Result<ListedLine<'a>, AllocError>
         ensures { IfOk result (λ line. listed_text line ≡ listed_of (call_view self.now).dir
-            (run_command (call_view self.now) version slot (package_view member.now)
+            (run_command (call_view self.now) version slot (plan_package_view member.now)
             (run_of run positions.now))) }
     {
         let words = self.run_words(alloc, version, slot, member, run, positions)?;
@@ -246,7 +246,7 @@ impl CommandParts {
         positions: &[usize],
     ) -> Result<RunWords<'a>, AllocError>
         ensures { IfOk result (λ words. words_command (call_view self.now) version words
-            ≡ run_command (call_view self.now) version slot (package_view member.now)
+            ≡ run_command (call_view self.now) version slot (plan_package_view member.now)
             (run_of run positions.now)) }
     {
         let targets = self.targets_in(version, slot);
@@ -266,7 +266,7 @@ impl CommandParts {
     ) -> Result<ProcessBuilder<'_>, AllocError>
         ensures { IfOk result (λ command. command_of command
             ≡ clean_command (call_view self.now)
-            (option_map (λ k. package_view k.now) member.entry)) }
+            (option_map (λ k. plan_package_view k.now) member.entry)) }
     {
         let mut command = self.program(alloc, None)?;
         command.arg("clean")?;
@@ -401,7 +401,7 @@ fn push_names<'a>(
     positions: &[usize],
 ) -> Result<(), AllocError>
     ensures { OnOk result (names_behind names.new.items ≡ names_behind names.old.items
-        ++ names_at (groups_of candidates.now) positions.now) }
+        ++ candidate_names_at (groups_of candidates.now) positions.now) }
 {
     for position in positions {
         push_all(names, names_of(candidates, *position))?;
@@ -417,8 +417,8 @@ fn run_names<'a>(
     positions: &[usize],
 ) -> Result<Vec<&'a str>, AllocError>
     ensures { IfOk result (λ names. names_behind names.items
-        ≡ (package_view member.now).features
-        ++ run_names (package_view member.now).candidates (run_of run positions.now)) }
+        ≡ (plan_package_view member.now).features
+        ++ run_names (plan_package_view member.now).candidates (run_of run positions.now)) }
 {
     let mut names = Vec::with_capacity(alloc, member.features.len() + positions.len())?;
     push_all(&mut names, member.features.as_slice())?;
@@ -436,7 +436,7 @@ fn add_cleaned(
 ) -> Result<(), AllocError>
     ensures { OnOk result (command_of command.new ≡ record (command_of command.old) {
       own = (command_of command.old).own
-          ++ cleaned_words (option_map (λ k. package_view k.now) member.entry);
+          ++ cleaned_words (option_map (λ k. plan_package_view k.now) member.entry);
     }) }
 {
     match member {

@@ -7,7 +7,7 @@ ghost use Rattle.std.specs.Prelude.{IfOk, IfErr, slice_get};
 ghost use Rattle.hack_versions.specs.declared.group.VersionGroup.{VersionGroup as Group};
 ghost use Rattle.hack_plan.specs.Inputs.{AreVersions, AreCounted, GroupsBy, slots_of};
 ghost use Rattle.hack_plan.specs.Entries.{ArePlaces, HasTooMany, Lists, IsAdmissible, AreTooMany};
-ghost use Rattle.hack_plan.specs.Entries.{Adds, Overfills};
+ghost use Rattle.hack_plan.specs.Entries.{AddsEntries, Overfills};
 ghost use Rattle.hack_plan.specs.Parts.{InVersion};
 ghost use Rattle.hack_plan.specs.declared.places.PlacesFault.TheVariants.{Memory as OutOfMemory};
 
@@ -132,7 +132,7 @@ impl Places {
 }
 
 impl Places {
-    ghost use Rattle.hack_plan.specs.Spans.{AreSpans, IsNext, versions_of};
+    ghost use Rattle.hack_plan.specs.Spans.{AreSpans, AppendsPlaces, versions_of};
 
     /// No place.
     pub fn empty(alloc: Global) -> Places
@@ -156,9 +156,9 @@ impl Places {
         requires increasing { AllPairs (λ a b. a < b) packages.now }
         requires within { input.now.as_cargo ≡ false
             → All (λ p. p < length counts.now) packages.now }
-        ensures ok { OnOk result (Adds (InVersion input.now.as_cargo version
+        ensures ok { OnOk result (AddsEntries (InVersion input.now.as_cargo version
             (slots_of input.now version) packages.now counts.now) self.old.entries self.new.entries) }
-        ensures next { OnOk result (IsNext version self.old self.new) }
+        ensures next { OnOk result (AppendsPlaces version self.old self.new) }
         ensures err { IfErr result (λ e. (e ≡ PlacesFault.Memory)
             ⊎ ((e ≡ PlacesFault.TooManyRuns) × Overfills (InVersion input.now.as_cargo version
             (slots_of input.now version) packages.now counts.now) self.old.entries)) }

@@ -7,9 +7,9 @@ ghost use Rattle.hack_plan.specs.Spans.{AreTiled};
 ghost use Rattle.hack_process.specs.Commands.{command_of, listed_text};
 ghost use Rattle.hack_process.specs.CommandTexts.{listed_of};
 ghost use Rattle.hack_plan.specs.Prepared.{span_of};
-ghost use Rattle.hack_plan.specs.View.{package_view};
+ghost use Rattle.hack_plan.specs.View.{plan_package_view};
 ghost use Rattle.hack_plan.specs.Commands.{command_of_entry, clean_command, lockfile_command};
-ghost use Rattle.hack_plan.specs.Commands.{package_at};
+ghost use Rattle.hack_plan.specs.Commands.{chosen_package_at};
 ghost use Rattle.hack_plan.specs.Commands.{name_in, ranked_command, slot_target};
 ghost use Rattle.hack_plan.specs.Plans.{counts_in};
 
@@ -36,20 +36,20 @@ impl Model for Plan {
     ghost use Rattle.std.specs.Prelude.{map};
     ghost use Rattle.std.specs.Prelude.{length};
     ghost use Rattle.hack_plan.specs.Spans.{AreTiled};
-    ghost use Rattle.hack_plan.specs.View.{PlanView, call_view, package_view};
-    ghost use Rattle.hack_plan.specs.Plans.{AreRuns};
+    ghost use Rattle.hack_plan.specs.View.{PlanView, call_view, plan_package_view};
+    ghost use Rattle.hack_plan.specs.Plans.{AreRunsOfPackages};
     ghost use Rattle.hack_plan.specs.Prepared.{span_of};
 
     ghost Value = { PlanView };
 
     ghost view = { λ p. record {
       call = call_view p.words;
-      packages = map package_view p.packages.items;
+      packages = map plan_package_view p.packages.items;
       versions = p.versions.items;
       entries = p.places.entries;
     } };
 
-    ghost invariant = { λ p. AreRuns (map package_view p.packages.items) p.places.entries
+    ghost invariant = { λ p. AreRunsOfPackages (map plan_package_view p.packages.items) p.places.entries
         × AreTiled 0 (map span_of p.versions.items) (length p.places.entries) };
 }
 
@@ -85,7 +85,7 @@ impl Plan {
 
     /// The chosen packages.
     pub fn packages(&self) -> &[PlanPackage]
-        ensures { map package_view result.now ≡ self.now.packages }
+        ensures { map plan_package_view result.now ≡ self.now.packages }
     {
         self.packages.as_slice()
     }
@@ -103,7 +103,7 @@ impl Plan {
         requires { place < length self.now.entries }
         ensures entry { IfOk result (λ run. slice_get self.now.entries place ≡ Some run.entry) }
         ensures name { IfOk result (λ run. option_map (λ name. name.now) run.name
-            ≡ name_in (package_at self.now.packages run.entry.package)) }
+            ≡ name_in (chosen_package_at self.now.packages run.entry.package)) }
         ensures command { IfOk result (λ run. command_of run.command
             ≡ command_of_entry self.now run.entry) }
     {
@@ -138,8 +138,8 @@ impl Plan {
 
     /// The package of a run.
     fn package_of(&self, entry: PlanEntry) -> Option<&PlanPackage>
-        ensures { option_map (λ k. package_view k.now) result
-            ≡ package_at self.now.packages entry.package }
+        ensures { option_map (λ k. plan_package_view k.now) result
+            ≡ chosen_package_at self.now.packages entry.package }
     {
         match entry.package {
             None => None,
@@ -154,9 +154,9 @@ impl Plan {
         entry: PlanEntry,
         member: &'a PlanPackage,
     ) -> Result<ProcessBuilder<'a>, AllocError>
-        requires { entry.rank < length (package_view member.now).runs }
+        requires { entry.rank < length (plan_package_view member.now).runs }
         ensures { IfOk result (λ command. command_of command
-            ≡ ranked_command self.now.call entry.version entry.slot (Some (package_view member.now))
+            ≡ ranked_command self.now.call entry.version entry.slot (Some (plan_package_view member.now))
             entry.rank) }
     {
         let mut positions = Vec::new(alloc);
@@ -178,9 +178,9 @@ impl Plan {
         entry: PlanEntry,
         member: &'a PlanPackage,
     ) -> Result<ListedLine<'a>, AllocError>
-        requires { entry.rank < length (package_view member.now).runs }
+        requires { entry.rank < length (plan_package_view member.now).runs }
         ensures { IfOk result (λ line. listed_text line ≡ listed_of self.now.call.dir
-            (ranked_command self.now.call entry.version entry.slot (Some (package_view member.now))
+            (ranked_command self.now.call entry.version entry.slot (Some (plan_package_view member.now))
             entry.rank)) }
     {
         let mut positions = Vec::with_capacity(alloc, member.candidates.len())?;
@@ -212,7 +212,7 @@ impl Plan {
         requires { place < length self.now.entries }
         ensures { IfOk result (λ command. IfSome (slice_get self.now.entries place)
             (λ q. command_of command
-            ≡ clean_command self.now.call (package_at self.now.packages q.package))) }
+            ≡ clean_command self.now.call (chosen_package_at self.now.packages q.package))) }
     {
         let entry = self.places.run(place);
         self.words.cleaning(alloc, self.package_of(entry))
@@ -302,7 +302,7 @@ impl Plan {
         requires versions { AreVersions input.now versions.now }
         requires packages { length packages.items ≡ length input.now.packages.items }
         ensures call { IfOk result (λ plan. plan.call ≡ call_view words) }
-        ensures packages { IfOk result (λ plan. plan.packages ≡ map package_view packages.items) }
+        ensures packages { IfOk result (λ plan. plan.packages ≡ map plan_package_view packages.items) }
         ensures entries { IfOk result (λ plan. ArePlaces input.now (counts_in packages.items)
             versions.now.stable plan.entries) }
         ensures spans { IfOk result (AreLaid (versions_of input.now.range

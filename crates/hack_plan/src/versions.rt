@@ -4,7 +4,7 @@
 ghost use Rattle.std.specs.Prelude.{◌≡◌, ◌≢◌, ◌⊎◌, ◌↔◌, IfOk, IfErr, IsTrue, IsSome, IfSome};
 ghost use Rattle.std.specs.Prelude.{Contains, map};
 ghost use Rattle.hack_versions.specs.RangeSteps.{NeedsStable};
-ghost use Rattle.hack_versions.specs.Uses.{own_of};
+ghost use Rattle.hack_versions.specs.VersionUses.{own_of};
 ghost use Rattle.hack_base.specs.Notes.{note_of};
 ghost use Rattle.hack_plan.specs.Inputs.{given_of, HaveTwo, AreVersions, AreNotices};
 ghost use Rattle.hack_plan.specs.Inputs.{IsVersionsFault};

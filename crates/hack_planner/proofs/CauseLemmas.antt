@@ -8,20 +8,20 @@ use Rattle.hack_plan.specs.declared.places.PlacesFault.{PlacesFault}
 use Rattle.hack_plan.specs.declared.places.PlacesFault.TheVariants as places
 use Rattle.hack_plan.specs.declared.versions.PlanInput.{PlanInput}
 use Rattle.hack_plan.specs.Plans.{counts_in, count_in}
-use Rattle.hack_plan.specs.View.{package_view}
+use Rattle.hack_plan.specs.View.{plan_package_view}
 use Rattle.hack_plan.specs.declared.parts.PlanPackage.{PlanPackage}
 use Rattle.hack_base.specs.Notes.{Note, note_of}
 use Rattle.hack_base.specs.declared.notice.Notice.{Notice}
 use Rattle.hack_versions.specs.declared.version.Version.{Version}
 use Rattle.hack_planner.specs.Calls.{ArePlanned, IsInputOf}
-use Rattle.hack_planner.specs.Made.{IsCause, IsRangeFault, run_counts}
-use Rattle.hack_planner.specs.Turned.{of_places}
+use Rattle.hack_planner.specs.CallPlan.{IsCause, SaysRangeRefused, run_counts}
+use Rattle.hack_planner.specs.FaultConversions.{of_places}
 use Rattle.hack_planner.specs.declared.fault.PlanFault.{PlanFault}
 use Rattle.hack_planner.specs.declared.fault.PlanFault.TheVariants as fault
 
 -- the error of the range is a cause
 pub range-cause : (cx : ContextRecord) (ids : List ℕ) (single : Bool) (notes : List Note) (s : PlanInput) (latest : Option Version) (e : PlanFault) → AreChosen cx ids single notes → IsInputOf cx ids s
-    → (e ≡ fault.Memory) ⊎ IsRangeFault s latest e → (e ≡ fault.Memory) ⊎ IsCause cx latest e
+    → (e ≡ fault.Memory) ⊎ SaysRangeRefused s latest e → (e ≡ fault.Memory) ⊎ IsCause cx latest e
 range-cause cx ids single notes s latest fault.Memory chosen of_call h = inl refl
 range-cause cx ids single notes s latest (fault.Stable text) chosen of_call (inl e) = absurd (cc)
 range-cause cx ids single notes s latest (fault.Stable text) chosen of_call (inr bad) = absurd bad
@@ -37,13 +37,13 @@ range-cause cx ids single notes s latest fault.TooManyRuns chosen of_call (inl e
 range-cause cx ids single notes s latest fault.TooManyRuns chosen of_call (inr bad) = absurd bad
 
 -- the numbers of runs of packages and of their views
-pub counts-same : (packages : List PlanPackage) → run_counts (map package_view packages) ≡ counts_in packages
+pub counts-same : (packages : List PlanPackage) → run_counts (map plan_package_view packages) ≡ counts_in packages
 counts-same [] = refl
 counts-same (k ∷ ks) = ap (λ l. count_in k ∷ l) (counts-same ks)
 
 -- too many runs are a cause to refuse the plan
 pub places-cause : (cx : ContextRecord) (ids : List ℕ) (single : Bool) (notes : List Note) (s : PlanInput) (stable latest : Option Version) (packages : List PlanPackage) (on_features : List Note) (e : PlacesFault) → AreChosen cx ids single notes → IsInputOf cx ids s
-    → ArePlanned cx single ids (map package_view packages) on_features → stable ≡ latest → (e ≡ places.Memory) ⊎ ((e ≡ places.TooManyRuns) × HasTooMany s (counts_in packages) stable) → (of_places e ≡ fault.Memory) ⊎ IsCause cx latest (of_places e)
+    → ArePlanned cx single ids (map plan_package_view packages) on_features → stable ≡ latest → (e ≡ places.Memory) ⊎ ((e ≡ places.TooManyRuns) × HasTooMany s (counts_in packages) stable) → (of_places e ≡ fault.Memory) ⊎ IsCause cx latest (of_places e)
 places-cause cx ids single notes s stable latest packages on_features places.Memory chosen of_call planned newest h = inl refl
 places-cause cx ids single notes s stable latest packages on_features places.TooManyRuns chosen of_call planned newest (inl e) = absurd (cc)
 places-cause cx ids single notes s stable latest packages on_features places.TooManyRuns chosen of_call planned newest (inr h) = inr (record {
@@ -51,7 +51,7 @@ places-cause cx ids single notes s stable latest packages on_features places.Too
   single = single;
   notes = notes;
   input = s;
-  packages = map package_view packages;
+  packages = map plan_package_view packages;
   on_features = on_features;
   chosen = chosen;
   of_call = of_call;

@@ -9,10 +9,10 @@ use Rattle.hack_base.specs.Names.{Name}
 use Rattle.hack_base.proofs.Members.{Contains-cons_cases, Contains-head, Contains-tail, Contains-nil, Contains-map, Contains-map_from, Contains-filter_from}
 use Rattle.hack_load.specs.Contexts.{ContextRecord, package_at, is_private_at, rust_version_at}
 use Rattle.hack_metadata.specs.Records.{PackageRecord}
-use Rattle.hack_metadata.specs.View.{place_at}
+use Rattle.hack_metadata.specs.RecordViews.{place_at}
 use Rattle.hack_metadata.specs.declared.resolve.PackageId.{PackageId}
 use Rattle.hack_planner.specs.ContextMembers.{member_at, AreChosen}
-use Rattle.hack_planner.specs.Members.{Member, Choosing, taken, left, ends, Keeps, IsMatched, IsAbout, members_without_names, first_called}
+use Rattle.hack_planner.specs.Members.{Member, Choosing, taken, left, ends, SelectsMembers, IsMatched, IsAbout, members_without_names, first_called}
 use Rattle.hack_base.specs.Notes.{Note}
 use Rattle.hack_versions.specs.declared.version.VersionFault.{VersionFault}
 use Rattle.hack_versions.specs.declared.group.PackageVersion.{PackageVersion}
@@ -48,7 +48,7 @@ none-bad-more cx ids i d lt here before e bad =
     ]
 
 -- a member that is kept was in the list
-kept-in : (P : Member → Type 0) (xs ys : List Member) (m : Member) → Keeps P xs ys → Contains ys m → Contains xs m
+kept-in : (P : Member → Type 0) (xs ys : List Member) (m : Member) → SelectsMembers P xs ys → Contains ys m → Contains xs m
 kept-in P xs ys m ends c = c
 kept-in P (x ∷ xs) (y ∷ ys) m (taken holds rest) c =
     elim (Contains-cons_cases x ys m c) [

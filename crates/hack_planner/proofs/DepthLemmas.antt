@@ -13,7 +13,7 @@ use Rattle.hack_features.proofs.Listing.{selection_none, selection_push, selecti
 use Rattle.hack_features.proofs.CoverLemmas.{before_trans}
 use Rattle.hack_plan.specs.Runs.{PackageRun, Plain, AllFeatures, NoDefaultFeatures, Set, is_plain, keeps_all, run_if, with_last_first, in_turn, allows_two, is_unlimited}
 use Rattle.hack_planner.specs.Candidates.{Wishes, Known, candidates, lifted_for}
-use Rattle.hack_planner.specs.Kinds.{ArePowersets, AreSetRuns, AreRuns, AreSets, RunsBy, IsDepthOne, as_each, asks, choice_of, options_of}
+use Rattle.hack_planner.specs.Kinds.{ArePowersets, AreSetRuns, AreRuns, AreSets, RunsBy, IsDepthOne, as_each, asks, package_choice, options_of}
 
 in-none : {X : Type 0} (x : X) → Contains [] x → ⊥
 in-none x c = absurd (omega (arith, c.1))
@@ -158,9 +158,9 @@ depth-one w p runs h some are =
     let r : AreSetRuns w p runs = subst (λ b. RunsBy b w p runs) asked are in
     let n = length (candidates w p) in
     let picked : AreSets true w p r.sets = subst (λ b. AreSets b w p r.sets) h.powerset r.are_sets in
-    let listing : ArePowersets None (choice_of w p) n r.sets = subst (λ o. ArePowersets o (choice_of w p) n r.sets) h.all picked in
+    let listing : ArePowersets None (package_choice w p) n r.sets = subst (λ o. ArePowersets o (package_choice w p) n r.sets) h.all picked in
     let none : unlifted_groups w.exclusive (lifted_for w p.name) ≡ [] = ap (λ l. unlifted_groups l (lifted_for w p.name)) h.exclusive in
-    let same : r.sets ≡ singles n = all-single n (choice_of w p) r.sets h.depth none h.at_least_one_of listing in
+    let same : r.sets ≡ singles n = all-single n (package_choice w p) r.sets h.depth none h.at_least_one_of listing in
     let o = options_of w p in
     let e = options_of (as_each w) p in
     let keeps : keeps_all o ≡ keeps_all e = same-keeps w.exclude_all_features o.all_optional_deps w.powerset (length p.optional) (length p.normal) w.depth h.powerset h.depth (lt-ltb 0 (length p.optional) some) in

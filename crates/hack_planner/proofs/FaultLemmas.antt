@@ -12,8 +12,8 @@ use Rattle.hack_versions.specs.declared.version.Version.{Version}
 use Rattle.hack_versions.specs.declared.version.VersionFault.{VersionFault}
 use Rattle.hack_versions.specs.declared.version.VersionFault.TheVariants as version
 use Rattle.hack_planner.specs.Calls.{HasBadOwn, IsOwnFault}
-use Rattle.hack_planner.specs.Made.{IsListFault, IsRangeFault}
-use Rattle.hack_planner.specs.Turned.{of_packages, of_version, of_range}
+use Rattle.hack_planner.specs.CallPlan.{SaysPackagesUnknown, SaysRangeRefused}
+use Rattle.hack_planner.specs.FaultConversions.{of_packages, of_version, of_range}
 use Rattle.hack_planner.specs.declared.fault.PlanFault.TheVariants as fault
 
 pub version-turned : (cx : ContextRecord) (ids : List ℕ) (e : VersionFault) → (e ≡ version.Memory) ⊎ HasBadOwn cx ids e → (of_version e ≡ fault.Memory) ⊎ IsOwnFault cx ids (of_version e)
@@ -25,12 +25,12 @@ version-turned cx ids (version.BadNumber part) (inr bad) = inr bad
 version-turned cx ids (version.OpenInclusive start) (inl e) = absurd (cc)
 version-turned cx ids (version.OpenInclusive start) (inr bad) = inr bad
 
-pub packages-turned : (cx : ContextRecord) (e : PackagesFault) → (e ≡ packages.Memory) ⊎ IsChoiceFault cx e → (of_packages e ≡ fault.Memory) ⊎ IsListFault cx (of_packages e)
+pub packages-turned : (cx : ContextRecord) (e : PackagesFault) → (e ≡ packages.Memory) ⊎ IsChoiceFault cx e → (of_packages e ≡ fault.Memory) ⊎ SaysPackagesUnknown cx (of_packages e)
 packages-turned cx packages.Memory h = inl refl
 packages-turned cx (packages.Unmatched spec) (inl e) = absurd (cc)
 packages-turned cx (packages.Unmatched spec) (inr bad) = inr bad
 
-pub range-turned : (s : PlanInput) (latest : Option Version) (e : RangeFault) → (e ≡ range.Memory) ⊎ IsVersionsFault s.range s latest e → (of_range e ≡ fault.Memory) ⊎ IsRangeFault s latest (of_range e)
+pub range-turned : (s : PlanInput) (latest : Option Version) (e : RangeFault) → (e ≡ range.Memory) ⊎ IsVersionsFault s.range s latest e → (of_range e ≡ fault.Memory) ⊎ SaysRangeRefused s latest (of_range e)
 range-turned s latest range.Memory h = inl refl
 range-turned s latest range.Major (inl e) = absurd (cc)
 range-turned s latest range.Major (inr bad) = inr bad

@@ -10,7 +10,7 @@ use Rattle.hack_versions.specs.declared.rustup.RangeFault.TheVariants as range
 use Rattle.hack_versions.specs.declared.version.Version.{Version}
 use Rattle.hack_versions.specs.declared.version.VersionRange.{VersionRange}
 use Rattle.hack_versions.specs.RangeSteps.{AreStepsOf, IsRangeFault}
-use Rattle.hack_versions.specs.Uses.{UsesBy, HasOwn, IsGroupFault, IsPackageFault, own_of}
+use Rattle.hack_versions.specs.VersionUses.{UsesBy, HasOwn, IsGroupFault, IsOwnVersionFault, own_of}
 use Rattle.hack_versions.specs.VersionOrder.{strip_patch}
 use Rattle.hack_plan.specs.Entries.{HasRun, HasTooMany, IsAdmissible}
 use Rattle.hack_plan.specs.Inputs.{HaveTwo, IsStepList, IsVersion, IsVersionsFault, UsesVersion, given_of, minor_of, owns_of, slots_of}
@@ -80,7 +80,7 @@ all-alike xs ys same all k d lt =
     let inside : k < length xs = omega (arith, lt, length_all_zip AreAlike xs ys same) in
     subst (λ (o : Option Version). IsSomeAnd o (λ v. v.major ≡ 1)) (AllZip-get_or AreAlike xs ys k d d same inside).own (all k d inside)
 
-package-alike : (m n : PackageVersion) (e : RangeFault) → AreAlike m n → IsPackageFault m e → IsPackageFault n e
+package-alike : (m n : PackageVersion) (e : RangeFault) → AreAlike m n → IsOwnVersionFault m e → IsOwnVersionFault n e
 package-alike m n range.Major same h = subst (λ (o : Option Version). IsSomeAnd o (λ v. v.major ≢ 1)) same.own h
 package-alike m n range.NoRustVersion same h = h
 package-alike m n (range.Empty r) same h = h

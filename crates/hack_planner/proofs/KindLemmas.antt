@@ -13,7 +13,7 @@ use Rattle.hack_plan.specs.Runs.{PackageRun, Plain, AllFeatures, NoDefaultFeatur
 use Rattle.hack_planner.specs.declared.kind.Kind.{Kind}
 use Rattle.hack_planner.specs.declared.kind.Kind.TheVariants.{Normal, Each, Powerset}
 use Rattle.hack_planner.specs.Candidates.{Wishes, Known, candidates}
-use Rattle.hack_planner.specs.Kinds.{AreSetRuns, RunsBy, AreRuns, HasPlainRun, HasSetRuns, AreCovering, asks, choice_of, options_of}
+use Rattle.hack_planner.specs.Kinds.{AreSetRuns, RunsBy, AreRuns, HasPlainRun, HasSetRuns, AreCovering, asks, package_choice, options_of}
 use Rattle.hack_planner.specs.KindsView.{IsKind, runs_of}
 
 -- references to features, after one more
@@ -56,14 +56,14 @@ plain-none : (o : RunOptions) (sets : List (List ℕ)) (t : List ℕ) → is_pla
 plain-none o sets t plain c = nothing-in 0 sets t (first-true (length sets == 0) ((o.normal == 0) && (o.optional == 0) || o.included) plain) c
 
 -- if sets cover, their runs cover too
-pub covering-runs : (w : Wishes) (p : Known) (sets : List (List ℕ)) (runs : List PackageRun) → is_plain (options_of w p) sets ≡ false → AreCovers (choice_of w p) (length (candidates w p)) sets
+pub covering-runs : (w : Wishes) (p : Known) (sets : List (List ℕ)) (runs : List PackageRun) → is_plain (options_of w p) sets ≡ false → AreCovers (package_choice w p) (length (candidates w p)) sets
     → runs ≡ runs_from (options_of w p) sets → AreCovering w p runs
 covering-runs w p sets runs some covers made s sel wanted =
     let t = covers s sel wanted in
     (t.0, t.1, subst (λ l. Contains l (Set t.0)) (sym made) (runs-has (options_of w p) sets t.0 some t.2))
 
 -- so does a single plain run, since then no set has to be covered
-pub covering-plain : (w : Wishes) (p : Known) (sets : List (List ℕ)) (runs : List PackageRun) → is_plain (options_of w p) sets ≡ true → AreCovers (choice_of w p) (length (candidates w p)) sets → AreCovering w p runs
+pub covering-plain : (w : Wishes) (p : Known) (sets : List (List ℕ)) (runs : List PackageRun) → is_plain (options_of w p) sets ≡ true → AreCovers (package_choice w p) (length (candidates w p)) sets → AreCovering w p runs
 covering-plain w p sets runs plain covers s sel wanted =
     let t = covers s sel wanted in
     absurd (plain-none (options_of w p) sets t.0 plain t.2)

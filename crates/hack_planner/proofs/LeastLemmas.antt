@@ -7,8 +7,8 @@ use Rattle.hack_features.specs.Rules.{Choice}
 use Rattle.hack_plan.specs.declared.runs.RunOptions.{RunOptions}
 use Rattle.hack_plan.specs.Runs.{PackageRun, Plain, AllFeatures, NoDefaultFeatures, Set, allows_two, in_turn, is_plain, keeps_all, run_if, runs_from, with_last_first}
 use Rattle.hack_planner.specs.Candidates.{Wishes, Known, candidates}
-use Rattle.hack_planner.specs.Kinds.{ArePowersets, AreSets, RunsBy, AreSetRuns, asks, choice_of, options_of}
-use Rattle.hack_planner.specs.Least.{ListsAtLeast, HasRunsAtLeast}
+use Rattle.hack_planner.specs.Kinds.{ArePowersets, AreSets, RunsBy, AreSetRuns, asks, package_choice, options_of}
+use Rattle.hack_planner.specs.LeastRuns.{ListsAtLeast, HasRunsAtLeast}
 use Rattle.hack_planner.proofs.KindLemmas.{covering-plain, covering-runs, first-true, or-true}
 
 pub length-turned : (b : Bool) (sets : List (List ℕ)) → length (with_last_first b sets) ≡ length sets
@@ -44,12 +44,12 @@ many-by o sets n least false is enough most none =
     )
 
 -- under a powerset of all sets, a package of so many listed sets
-pub runs-at_least : (w : Wishes) (p : Known) (n least : ℕ) → w.powerset ≡ true → w.strength ≡ None → ListsAtLeast (choice_of w p) (length (candidates w p)) n → least ≤ n + cond w.exclude_no_default_features 0 1 → (n ≡ 0 → least ≡ 0)
+pub runs-at_least : (w : Wishes) (p : Known) (n least : ℕ) → w.powerset ≡ true → w.strength ≡ None → ListsAtLeast (package_choice w p) (length (candidates w p)) n → least ≤ n + cond w.exclude_no_default_features 0 1 → (n ≡ 0 → least ≡ 0)
     → HasRunsAtLeast w p least
 runs-at_least w p n least powerset strength h most none =
     let o = options_of w p in
     let asked : asks w ≡ true = ap (λ b. w.each || b) powerset ∙ or-true w.each in
-    let listed : ArePowersets w.strength (choice_of w p) (length (candidates w p)) h.sets = subst (λ s. ArePowersets s (choice_of w p) (length (candidates w p)) h.sets) (sym strength) h.listing in
+    let listed : ArePowersets w.strength (package_choice w p) (length (candidates w p)) h.sets = subst (λ s. ArePowersets s (package_choice w p) (length (candidates w p)) h.sets) (sym strength) h.listing in
     let are : AreSets w.powerset w p h.sets = subst (λ b. AreSets b w p h.sets) (sym powerset) listed in
     let made : AreSetRuns w p (runs_from o h.sets) = record { sets = h.sets; are_sets = are; made = refl } in
     record {

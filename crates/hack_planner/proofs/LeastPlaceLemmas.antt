@@ -9,13 +9,13 @@ use Rattle.hack_load.specs.Contexts.{ContextRecord, package_at, features_at}
 use Rattle.hack_load.specs.GivenFeatures.{passed_for}
 use Rattle.hack_load.specs.declared.features.Features.{Features}
 use Rattle.hack_metadata.specs.Records.{PackageRecord}
-use Rattle.hack_metadata.specs.View.{place_at}
+use Rattle.hack_metadata.specs.RecordViews.{place_at}
 use Rattle.hack_metadata.specs.declared.resolve.PackageId.{PackageId}
 use Rattle.hack_planner.specs.Candidates.{candidates, candidate_notes}
 use Rattle.hack_planner.specs.CandidatesView.{wishes}
 use Rattle.hack_planner.specs.ContextMembers.{AreChosen, known_as}
-use Rattle.hack_planner.specs.Kinds.{AreRunSettings, choice_of}
-use Rattle.hack_planner.specs.Least.{HasRunsAtLeast}
+use Rattle.hack_planner.specs.Kinds.{AreRunSettings, package_choice}
+use Rattle.hack_planner.specs.LeastRuns.{HasRunsAtLeast}
 use Rattle.hack_plan.specs.Entries.{HasRun, HasTooMany, IsAdmissible}
 use Rattle.hack_plan.specs.Runs.{PackageRun}
 use Rattle.hack_plan.specs.declared.places.PlacesFault.{PlacesFault}
@@ -26,8 +26,8 @@ use Rattle.hack_plan.specs.View.{PackageView}
 use Rattle.hack_versions.specs.declared.version.Version.{Version}
 use Rattle.hack_planner.specs.Calls.{IsInputOf, begins, given_path}
 use Rattle.hack_planner.specs.LeastPlaces.{HasAtLeast, HaveAtLeast}
-use Rattle.hack_planner.specs.Made.{IsCause, run_counts}
-use Rattle.hack_planner.specs.Turned.{of_places}
+use Rattle.hack_planner.specs.CallPlan.{IsCause, run_counts}
+use Rattle.hack_planner.specs.FaultConversions.{of_places}
 use Rattle.hack_planner.specs.declared.fault.PlanFault.TheVariants as fault
 use Rattle.hack_planner.proofs.ChosenLemmas.{planned-more}
 
@@ -58,7 +58,7 @@ planned-at_least cx single id least pkg features all known loaded h =
         candidates = inl refl;
         runs = h.are_runs;
         covered = λ powerset strength. h.covering;
-        settings = subst (λ o. AreRunSettings o (choice_of w p) h.runs []) (sym all) refl;
+        settings = subst (λ o. AreRunSettings o (package_choice w p) h.runs []) (sym all) refl;
         told = refl;
       };
       enough = h.enough;

@@ -4,7 +4,7 @@ use Rattle.hack_load.specs.Contexts.{ContextRecord}
 use Rattle.hack_plan.specs.View.{PlanView}
 use Rattle.hack_base.specs.Notes.{Note}
 use Rattle.hack_versions.specs.declared.version.Version.{Version}
-use Rattle.hack_planner.specs.Made.{IsPlan, IsPlanBy, IsPlanOf}
+use Rattle.hack_planner.specs.CallPlan.{IsPlan, IsPlanBy, IsPlanOf}
 
 -- the plan by the subcommand, where stable is this version
 pub by-subcommand : (subcommand : Option (String Global)) (stable : Result (Option Version) (String Global)) (latest : Option Version) (cx : ContextRecord) (rustup : List ℕ) (plan : PlanView) (notes : List Note)

@@ -13,7 +13,7 @@ use Rattle.hack_versions.specs.declared.rustup.RangeFault.{RangeFault}
 use Rattle.hack_versions.specs.declared.version.Version.{Version}
 use Rattle.hack_versions.specs.declared.version.VersionFault.{VersionFault}
 use Rattle.hack_planner.specs.Calls.{ArePlanned, HasBadOwn, IsInputOf}
-use Rattle.hack_planner.specs.Made.{IsSureCause, IsSureCauseBy, IsSureCauseOf, run_counts}
+use Rattle.hack_planner.specs.CallPlan.{IsSureCause, IsSureCauseBy, IsSureCauseOf, run_counts}
 use Rattle.hack_planner.specs.declared.fault.PlanFault.{PlanFault}
 use Rattle.hack_planner.specs.declared.fault.PlanFault.TheVariants as fault
 use Rattle.hack_planner.proofs.OnceLemmas.{chosen-once, counts-once, inputs-agree}

@@ -15,8 +15,8 @@ use Rattle.hack_metadata.specs.Records.{PackageRecord}
 use Rattle.hack_planner.specs.Candidates.{Known, Wishes, candidates}
 use Rattle.hack_planner.specs.CandidatesView.{wishes}
 use Rattle.hack_planner.specs.ContextMembers.{AreChosen, current_name, known_as, members_in}
-use Rattle.hack_planner.specs.Kinds.{ArePowersets, AreRuns, AreSets, RunsBy, asks, choice_of, options_of}
-use Rattle.hack_planner.specs.Members.{Choosing, Collects, ends, taken, left, IsAbout, IsMatched, IsPackageList, Keeps, Member, is_skipped, names_some}
+use Rattle.hack_planner.specs.Kinds.{ArePowersets, AreRuns, AreSets, RunsBy, asks, package_choice, options_of}
+use Rattle.hack_planner.specs.Members.{Choosing, Collects, ends, taken, left, IsAbout, IsMatched, IsPackageList, SelectsMembers, Member, is_skipped, names_some}
 use Rattle.hack_planner.specs.MembersView.{choosing_of}
 use Rattle.hack_plan.specs.Runs.{PackageRun, runs_from}
 use Rattle.hack_plan.specs.declared.versions.PlanInput.{PlanInput}
@@ -27,7 +27,7 @@ use Rattle.hack_versions.specs.declared.version.Version.{Version}
 use Rattle.hack_versions.specs.declared.version.VersionRange.{VersionRange}
 use Rattle.hack_versions.proofs.RangeLemmas.{version-same}
 use Rattle.hack_planner.specs.Calls.{AreMembers, starts, grows, ArePlanned, begins, adds, IsMember, IsOwn, IsPlanned, IsInputOf}
-use Rattle.hack_planner.specs.Made.{run_counts}
+use Rattle.hack_planner.specs.CallPlan.{run_counts}
 use Rattle.hack_planner.proofs.InputLemmas.{AgreeInputs, AreAlike, map-alike, zip-alike}
 
 -- ---- the chosen packages
@@ -47,7 +47,7 @@ about-once false c members xs ys h k = h ∙ sym k
 listed-once : (c : Choosing) (root : Name) (members : List Member) (places others : List ℕ) (single one : Bool) (notes more : List Note) → IsPackageList c root members places single notes → IsPackageList c root members others one more → places ≡ others
 listed-once c root members places others single one notes more h k =
     let about : h.about ≡ k.about = about-once (names_some c) c members h.about k.about h.is_about k.is_about in
-    let remain = subst (λ l. Keeps (λ m. ¬ IsMatched c.excluded m) l h.remaining) about h.remain in
+    let remain = subst (λ l. SelectsMembers (λ m. ¬ IsMatched c.excluded m) l h.remaining) about h.remain in
     let remaining : h.remaining ≡ k.remaining = collects-once (λ m. ¬ IsMatched c.excluded m) (λ m. m) k.about h.remaining k.remaining remain k.remain in
     h.chosen ∙ ap (λ l. map (λ (m : Member). m.place) (filter (λ m. not (is_skipped c m)) l)) remaining ∙ sym k.chosen
 
@@ -126,7 +126,7 @@ listing-once n P xs ys h k = ordered-once xs ys h.ordered k.ordered (λ s c. (k.
 
 sets-once : (b : Bool) (w : Wishes) (p : Known) (xs ys : List (List ℕ)) → w.strength ≡ None → AreSets b w p xs → AreSets b w p ys → xs ≡ ys
 sets-once true w p xs ys all h k =
-    let c = choice_of w p in
+    let c = package_choice w p in
     let n = length (candidates w p) in
     listing-once n (IsListed c) xs ys (subst (λ o. ArePowersets o c n xs) all h) (subst (λ o. ArePowersets o c n ys) all k)
 sets-once false w p xs ys all h k = h ∙ sym k

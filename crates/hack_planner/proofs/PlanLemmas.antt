@@ -25,8 +25,8 @@ use Rattle.hack_versions.specs.declared.version.Version.{Version}
 use Rattle.hack_base.specs.Notes.{Note}
 use Rattle.hack_uses.specs.declared.behavior.WorkspaceBehavior.TheVariants.{Cargo}
 use Rattle.hack_planner.specs.Calls.{AreMembers, starts, grows, ArePlanned, begins, adds, IsPlanned}
-use Rattle.hack_planner.specs.Made.{IsPlan, run_counts}
-use Rattle.hack_planner.specs.Covered.{AreCovered, HoldsCover, choice_at}
+use Rattle.hack_planner.specs.CallPlan.{IsPlan, run_counts}
+use Rattle.hack_planner.specs.CoveredSets.{AreCovered, HoldsCover, choice_at}
 
 -- the candidates of a kind are those of its package, or none where the package has a plain run alone
 pub of-kind : (w : Wishes) (p : Known) (kind : Kind) (groups : List Names) (runs : List PackageRun) → groups ≡ candidates_in kind → runs ≡ runs_of kind → IsKind w p kind → (groups ≡ candidates w p) ⊎ ((groups ≡ []) × (runs ≡ Plain ∷ []))

@@ -6,18 +6,18 @@ use Rattle.std.proofs.lemmas.List.Elements.{All-contains}
 use Rattle.std.proofs.lemmas.Option.{slice_get_read}
 use Rattle.hack_base.proofs.Members.{Contains-cons_cases, Contains-head, Contains-tail, Contains-nil, Contains-map}
 use Rattle.hack_features.specs.Rules.{IsListed}
-use Rattle.hack_features.specs.Samples.{IsSample, CoversPatterns, Shows}
+use Rattle.hack_features.specs.Samples.{IsSample, CoversPatterns, SetShows}
 use Rattle.hack_features.specs.Sets.{IsSelection, Pairwise}
 use Rattle.hack_samples.specs.declared.sets.Setting.{Setting}
 use Rattle.hack_load.specs.Contexts.{ContextRecord}
 use Rattle.hack_load.specs.declared.features.Features.{Features}
 use Rattle.hack_metadata.specs.Records.{PackageRecord}
-use Rattle.hack_metadata.specs.View.{place_at}
+use Rattle.hack_metadata.specs.RecordViews.{place_at}
 use Rattle.hack_metadata.specs.declared.resolve.PackageId.{PackageId}
 use Rattle.hack_planner.specs.Candidates.{Wishes, Known, candidates}
 use Rattle.hack_planner.specs.CandidatesView.{wishes}
 use Rattle.hack_planner.specs.ContextMembers.{AreChosen, known_as}
-use Rattle.hack_planner.specs.Kinds.{ArePowersets, AreSets, AreSetRuns, AreRuns, IsUnsampled, RunsBy, choice_of, options_of}
+use Rattle.hack_planner.specs.Kinds.{ArePowersets, AreSets, AreSetRuns, AreRuns, IsUnsampled, RunsBy, package_choice, options_of}
 use Rattle.hack_planner.specs.KindsView.{IsRunsFault as IsNotSampled}
 use Rattle.hack_samples.specs.declared.fault.SampleFault.{SampleFault}
 use Rattle.hack_samples.specs.declared.fault.SampleFault.TheVariants as questions
@@ -29,10 +29,10 @@ use Rattle.hack_plan.specs.View.{PackageView, PlanView}
 use Rattle.hack_base.specs.Notes.{Note}
 use Rattle.hack_versions.specs.declared.version.Version.{Version}
 use Rattle.hack_uses.specs.declared.behavior.WorkspaceBehavior.TheVariants.{Cargo}
-use Rattle.hack_planner.specs.Calls.{IsRunsFault, HasRunsFault}
-use Rattle.hack_planner.specs.Covered.{choice_at}
-use Rattle.hack_planner.specs.Made.{IsCause, IsPlan, run_counts}
-use Rattle.hack_planner.specs.Powersets.{sets_of}
+use Rattle.hack_planner.specs.Calls.{SaysNoSample, HasRunsFault}
+use Rattle.hack_planner.specs.CoveredSets.{choice_at}
+use Rattle.hack_planner.specs.CallPlan.{IsCause, IsPlan, run_counts}
+use Rattle.hack_planner.specs.Powersets.{run_sets_of}
 use Rattle.hack_planner.specs.Samples.{IsSampleOf, HaveSamples, HoldsPattern, ArePatternsHeld}
 use Rattle.hack_planner.specs.declared.fault.PlanFault.{PlanFault}
 use Rattle.hack_planner.specs.declared.fault.PlanFault.TheVariants as fault
@@ -46,7 +46,7 @@ no-sample w p questions.TooManyQuestions is (inl e) = absurd (cc)
 no-sample w p questions.TooManyQuestions is (inr h) = h
 
 -- a package without a sample is one of them
-pub runs-at : (cx : ContextRecord) (ids : List PackageId) (i : ℕ) (d : PackageId) → i < length ids → (e : PlanFault) → IsRunsFault cx (get_or ids i d).index e → HasRunsFault cx (map place_at ids) e
+pub runs-at : (cx : ContextRecord) (ids : List PackageId) (i : ℕ) (d : PackageId) → i < length ids → (e : PlanFault) → SaysNoSample cx (get_or ids i d).index e → HasRunsFault cx (map place_at ids) e
 runs-at cx ids i d lt e bad =
     ((get_or ids i d).index, Contains-map place_at ids (get_or ids i d) (i, lt, get_or_default ids i (get_or ids i d) d lt), bad)
 
@@ -68,16 +68,16 @@ sample-cause cx ids single notes latest fault.TooManyRuns chosen (inl e) = absur
 sample-cause cx ids single notes latest fault.TooManyRuns chosen (inr bad) = absurd bad.2
 
 -- the sets of a package's runs under a strength
-sample : (w : Wishes) (p : Known) (strength : ℕ) (runs : List PackageRun) → w.powerset ≡ true → w.strength ≡ Some strength → AreRuns w p runs → IsSampleOf (choice_of w p) strength runs
+sample : (w : Wishes) (p : Known) (strength : ℕ) (runs : List PackageRun) → w.powerset ≡ true → w.strength ≡ Some strength → AreRuns w p runs → IsSampleOf (package_choice w p) strength runs
 sample w p strength runs is given made =
-    let c = choice_of w p in
+    let c = package_choice w p in
     let n = length (candidates w p) in
     let asked = ap (λ b. w.each || b) is ∙ or-true w.each in
     let h : AreSetRuns w p runs = subst (λ b. RunsBy b w p runs) asked made in
     let picked : AreSets true w p h.sets = subst (λ b. AreSets b w p h.sets) is h.are_sets in
     let both : ArePowersets (Some strength) c n h.sets = subst (λ o. ArePowersets o c n h.sets) given picked in
     let sets = sets_of-runs (options_of w p) h.sets (is_plain (options_of w p) h.sets) refl in
-    let same = ap sets_of h.made ∙ sets.1 in
+    let same = ap run_sets_of h.made ∙ sets.1 in
     record {
       listed = λ s there.
           let in_sets = from-turned sets.0 h.sets s (subst (λ (l : List (List ℕ)). Contains l s) same there) in
@@ -106,13 +106,13 @@ samples cx rustup latest plan notes strength h is given = record {
 }
 
 -- a set of runs has its run
-in-runs : (runs : List PackageRun) (s : List ℕ) → Contains (sets_of runs) s → Contains runs (Set s)
+in-runs : (runs : List PackageRun) (s : List ℕ) → Contains (run_sets_of runs) s → Contains runs (Set s)
 in-runs [] s c = absurd (Contains-nil s c)
 in-runs (Plain ∷ runs) s c = Contains-tail Plain runs (Set s) (in-runs runs s c)
 in-runs (AllFeatures ∷ runs) s c = Contains-tail AllFeatures runs (Set s) (in-runs runs s c)
 in-runs (NoDefaultFeatures ∷ runs) s c = Contains-tail NoDefaultFeatures runs (Set s) (in-runs runs s c)
 in-runs (Set t ∷ runs) s c =
-    elim (Contains-cons_cases t (sets_of runs) s c) [
+    elim (Contains-cons_cases t (run_sets_of runs) s c) [
       | inl e ↦ subst (λ u. Contains (Set t ∷ runs) (Set u)) e (Contains-head (Set t) runs)
       | inr w ↦ Contains-tail (Set t) runs (Set s) (in-runs runs s w)
     ]
@@ -120,7 +120,7 @@ in-runs (Set t ∷ runs) s c =
 -- where a package's sample shows a pattern, the plan does
 pattern-at : (cx : ContextRecord) (rustup : List ℕ) (latest : Option Version) (plan : PlanView) (notes : List Note) (h : IsPlan cx rustup latest plan notes) → h.input.as_cargo ≡ false
     → (place : ℕ) (p : PackageRecord) (features : Features) (version : Option Version) (slot : ℕ) (pattern : List Setting) → UsesVersion h.input.range h.input h.places.0 version place → slot < slots_of h.input version
-    → (k : PackageView) → slice_get plan.packages place ≡ Some k → (s : List ℕ) → Contains (sets_of k.runs) s → Shows (choice_at cx p features) pattern s
+    → (k : PackageView) → slice_get plan.packages place ≡ Some k → (s : List ℕ) → Contains (run_sets_of k.runs) s → SetShows (choice_at cx p features) pattern s
     → HoldsPattern plan version slot place (choice_at cx p features) pattern
 pattern-at cx rustup latest plan notes h each place p features version slot pattern uses within k at s there shows =
     let run = in-runs k.runs s there in

@@ -12,15 +12,15 @@ use Rattle.hack_metadata.specs.Records.{PackageRecord}
 use Rattle.hack_planner.specs.Candidates.{Wishes, Known, candidates}
 use Rattle.hack_planner.specs.CandidatesView.{wishes}
 use Rattle.hack_planner.specs.ContextMembers.{known_as}
-use Rattle.hack_planner.specs.Kinds.{ArePowersets, AreSets, AreSetRuns, AreRuns, RunsBy, choice_of, options_of}
+use Rattle.hack_planner.specs.Kinds.{ArePowersets, AreSets, AreSetRuns, AreRuns, RunsBy, package_choice, options_of}
 use Rattle.hack_plan.specs.Runs.{PackageRun, Plain, AllFeatures, NoDefaultFeatures, Set, allows_two, is_plain, in_turn, keeps_all, run_if, last_first, runs_from, with_last_first}
 use Rattle.hack_plan.specs.declared.runs.RunOptions.{RunOptions}
 use Rattle.hack_plan.specs.View.{PackageView, PlanView}
 use Rattle.hack_base.specs.Notes.{Note}
 use Rattle.hack_versions.specs.declared.version.Version.{Version}
-use Rattle.hack_planner.specs.Covered.{choice_at}
-use Rattle.hack_planner.specs.Made.{IsPlan}
-use Rattle.hack_planner.specs.Powersets.{HavePowersets, IsPowerset, set_of, sets_of}
+use Rattle.hack_planner.specs.CoveredSets.{choice_at}
+use Rattle.hack_planner.specs.CallPlan.{IsPlan}
+use Rattle.hack_planner.specs.Powersets.{HavePowersets, IsPowerset, set_of, run_sets_of}
 use Rattle.hack_planner.proofs.PlanLemmas.{planned-at, planned-length, same_some}
 
 all-front : {X : Type 0} (P : X → Type 0) (xs ys : List X) → All P (xs ++ ys) → All P xs
@@ -80,11 +80,11 @@ apart-turned true sets p =
     (subst (Pairwise (λ s t. s ≢ t)) (sym (take-append-drop (length sets - 1) sets)) p)
 
 -- the sets of the runs that were made from sets
-sets_of-map : (sets : List (List ℕ)) → sets_of (map Set sets) ≡ sets
+sets_of-map : (sets : List (List ℕ)) → run_sets_of (map Set sets) ≡ sets
 sets_of-map [] = refl
 sets_of-map (s ∷ sets) = ap (λ (l : List (List ℕ)). s ∷ l) (sets_of-map sets)
 
-sets_of-fronts : (a b : Bool) → sets_of (run_if a AllFeatures ++ run_if b NoDefaultFeatures) ≡ []
+sets_of-fronts : (a b : Bool) → run_sets_of (run_if a AllFeatures ++ run_if b NoDefaultFeatures) ≡ []
 sets_of-fronts true true = refl
 sets_of-fronts true false = refl
 sets_of-fronts false true = refl
@@ -98,18 +98,18 @@ no-sets : (sets : List (List ℕ)) → (length sets == 0) ≡ true → sets ≡ 
 no-sets [] e = refl
 no-sets (s ∷ ss) e = absurd (omega (arith, eqb-true (length (s ∷ ss)) 0 e))
 
-pub sets_of-runs : (o : RunOptions) (sets : List (List ℕ)) (plain : Bool) → is_plain o sets ≡ plain → (b : Bool) × (sets_of (runs_from o sets) ≡ with_last_first b sets)
+pub sets_of-runs : (o : RunOptions) (sets : List (List ℕ)) (plain : Bool) → is_plain o sets ≡ plain → (b : Bool) × (run_sets_of (runs_from o sets) ≡ with_last_first b sets)
 sets_of-runs o sets true is = (
   false,
-  subst (λ p. sets_of (if p then Plain ∷ [] else (run_if (keeps_all o) AllFeatures ++ run_if (not o.exclude_no_default_features) NoDefaultFeatures) ++ map Set (in_turn o sets)) ≡ sets) (sym is)
+  subst (λ p. run_sets_of (if p then Plain ∷ [] else (run_if (keeps_all o) AllFeatures ++ run_if (not o.exclude_no_default_features) NoDefaultFeatures) ++ map Set (in_turn o sets)) ≡ sets) (sym is)
       (sym (no-sets sets (first-true (length sets == 0) ((o.normal == 0) && (o.optional == 0) || o.included) is))),
 )
 sets_of-runs o sets false is =
     let fronts = run_if (keeps_all o) AllFeatures ++ run_if (not o.exclude_no_default_features) NoDefaultFeatures in (
       o.powerset && not (keeps_all o) && nat_lt 1 (length sets) && allows_two o.depth,
-      subst (λ p. sets_of (if p then Plain ∷ [] else fronts ++ map Set (in_turn o sets)) ≡ in_turn o sets) (sym is)
+      subst (λ p. run_sets_of (if p then Plain ∷ [] else fronts ++ map Set (in_turn o sets)) ≡ in_turn o sets) (sym is)
           (filter_map-append set_of fronts (map Set (in_turn o sets))
-          ∙ ap (λ (l : List (List ℕ)). l ++ sets_of (map Set (in_turn o sets))) (sets_of-fronts (keeps_all o) (not o.exclude_no_default_features))
+          ∙ ap (λ (l : List (List ℕ)). l ++ run_sets_of (map Set (in_turn o sets))) (sets_of-fronts (keeps_all o) (not o.exclude_no_default_features))
           ∙ sets_of-map (in_turn o sets)),
     )
 
@@ -118,14 +118,14 @@ or-true true = refl
 or-true false = refl
 
 -- the runs of a package under a powerset
-powerset : (w : Wishes) (p : Known) (runs : List PackageRun) → w.powerset ≡ true → w.strength ≡ None → AreRuns w p runs → IsPowerset (choice_of w p) runs
+powerset : (w : Wishes) (p : Known) (runs : List PackageRun) → w.powerset ≡ true → w.strength ≡ None → AreRuns w p runs → IsPowerset (package_choice w p) runs
 powerset w p runs is all made =
     let asked = ap (λ b. w.each || b) is ∙ or-true w.each in
     let h : AreSetRuns w p runs = subst (λ b. RunsBy b w p runs) asked made in
     let picked : AreSets true w p h.sets = subst (λ b. AreSets b w p h.sets) is h.are_sets in
-    let listing : ArePowersets None (choice_of w p) (length (candidates w p)) h.sets = subst (λ o. ArePowersets o (choice_of w p) (length (candidates w p)) h.sets) all picked in
+    let listing : ArePowersets None (package_choice w p) (length (candidates w p)) h.sets = subst (λ o. ArePowersets o (package_choice w p) (length (candidates w p)) h.sets) all picked in
     let sets = sets_of-runs (options_of w p) h.sets (is_plain (options_of w p) h.sets) refl in
-    let same = ap sets_of h.made ∙ sets.1 in
+    let same = ap run_sets_of h.made ∙ sets.1 in
     record {
       exact = λ s. (
         (λ c. (listing.exact s).0 (from-turned sets.0 h.sets s (subst (λ (l : List (List ℕ)). Contains l s) same c))),

@@ -4,7 +4,7 @@ use Rattle.std.specs.Prelude.{Vec, slice_get}
 use Rattle.std.specs.List.{AllZip}
 use Rattle.std.proofs.lemmas.List.{map-append, take_more}
 use Rattle.std.proofs.lemmas.Option.{get_or_from_slice_get}
-use Rattle.hack_features.specs.Sets.{rows_of}
+use Rattle.hack_samples.specs.Sets.{rows_of}
 use Rattle.hack_load.proofs.FeatureLemmas.{each-join}
 
 pub rows-more : {A X Z : Type 0} (P : A → List X → Type 0) (runs : List A) (k : ℕ) (run : A) (rows new : List (Vec X Z)) (row : Vec X Z) → k < length runs → slice_get runs k ≡ Some run → P run row.items → new ≡ rows ++ row ∷ []

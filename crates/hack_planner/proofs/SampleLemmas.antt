@@ -7,14 +7,14 @@ use Rattle.hack_samples.specs.Questions.{IsTired}
 use Rattle.hack_samples.specs.declared.fault.SampleFault.{SampleFault}
 use Rattle.hack_samples.specs.declared.fault.SampleFault.TheVariants as fault
 use Rattle.hack_features.specs.declared.rules.Rules.{Rules}
-use Rattle.hack_features.specs.View.{choice_of, asked_of}
+use Rattle.hack_features.specs.View.{choice_of, questions_asked}
 use Rattle.hack_planner.specs.Candidates.{Wishes, Known}
 use Rattle.hack_planner.specs.Kinds as kinds
 use Rattle.hack_planner.specs.KindsView.{IsRunsFault}
 
 -- an error of rules that were asked as many questions as they may is one of the package
-pub tired : (w : Wishes) (p : Known) (strength : ℕ) (asked : Rules) (end : ℕ) (e : SampleFault) → w.powerset ≡ true → w.strength ≡ Some strength → choice_of asked ≡ kinds.choice_of w p
-    → kinds.most_questions ≤ end → IsTired end (asked_of asked) e → (e ≡ fault.Memory) ⊎ IsRunsFault w p e
+pub tired : (w : Wishes) (p : Known) (strength : ℕ) (asked : Rules) (end : ℕ) (e : SampleFault) → w.powerset ≡ true → w.strength ≡ Some strength → choice_of asked ≡ kinds.package_choice w p
+    → kinds.most_questions ≤ end → IsTired end (questions_asked asked) e → (e ≡ fault.Memory) ⊎ IsRunsFault w p e
 tired w p strength asked end fault.Memory powerset given made_for most at_end = inl refl
 tired w p strength asked end fault.TooManyQuestions powerset given made_for most at_end = inr (record {
   strength = strength;

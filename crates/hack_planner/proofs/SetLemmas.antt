@@ -9,18 +9,19 @@ use Rattle.hack_base.proofs.Members.{Contains-cons_cases, Contains-head, Contain
 use Rattle.hack_base.proofs.Passes.{all_pass, any_passes, each_passes, some_passes}
 use Rattle.hack_samples.specs.Sets.{has, IsInside}
 use Rattle.hack_features.specs.declared.rules.Rules.{Rules}
-use Rattle.hack_features.specs.Closed.{may-inside, may_of-empty, may_of-remove}
-use Rattle.hack_features.specs.Questions.{IsWhole, is_whole}
+use Rattle.hack_features.specs.ClosureLaws.{may-inside, may_of-empty, may_of-remove}
+use Rattle.hack_features.specs.Questions.{IsWholeSet, is_whole}
 use Rattle.hack_features.specs.Rules.{IsListed}
 use Rattle.hack_features.specs.Samples.{positions_from, positions_of, IsSame}
-use Rattle.hack_features.specs.Sets.{IsListing, IsSelection, Pairwise, rows_of}
+use Rattle.hack_features.specs.Sets.{IsListing, IsSelection, Pairwise}
+use Rattle.hack_samples.specs.Sets.{rows_of}
 use Rattle.hack_features.specs.Tables.{bit, is_required}
 use Rattle.hack_features.specs.View.{choice_of, may_of, size_of, whole_of}
 use Rattle.hack_features.proofs.MemberLemmas.{member_iff}
 use Rattle.hack_features.proofs.Permitted.{Passes, listing_filter, listing_same, permitted_below, permitted_listing, whole_iff}
 use Rattle.hack_features.proofs.RuleLemmas.{covers_of, listing_of, tables_of}
 use Rattle.hack_features.proofs.SampleLemmas.{selected}
-use Rattle.hack_planner.specs.Least.{ListsAtLeast}
+use Rattle.hack_planner.specs.LeastRuns.{ListsAtLeast}
 
 -- ---- lists of different sets
 
@@ -206,10 +207,10 @@ module _ (r : Rules) where
   all_listed : List (List ℕ)
   all_listed = filter (is_whole (whole_of r)) (permitted_below (may_of r) (size_of r))
 
-  whole_listing : IsListing (size_of r) (IsWhole (may_of r) (whole_of r)) all_listed
+  whole_listing : IsListing (size_of r) (IsWholeSet (may_of r) (whole_of r)) all_listed
   unfolding all_listed
   whole_listing =
-      listing_same (size_of r) (λ s. Passes (may_of r) s × (is_whole (whole_of r) s ≡ true)) (IsWhole (may_of r) (whole_of r)) (filter (is_whole (whole_of r)) (permitted_below (may_of r) (size_of r)))
+      listing_same (size_of r) (λ s. Passes (may_of r) s × (is_whole (whole_of r) s ≡ true)) (IsWholeSet (may_of r) (whole_of r)) (filter (is_whole (whole_of r)) (permitted_below (may_of r) (size_of r)))
       (whole_iff (may_of r) (whole_of r))
       (listing_filter (size_of r) (Passes (may_of r)) (is_whole (whole_of r)) (permitted_below (may_of r) (size_of r))
       (permitted_listing (may_of r) (may_of-empty r) (may_of-remove r) (size_of r)))

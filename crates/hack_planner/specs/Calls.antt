@@ -18,7 +18,7 @@ use Rattle.hack_uses.specs.declared.behavior.WorkspaceBehavior.TheVariants.{Carg
 use Rattle.hack_planner.specs.Candidates.{candidates, candidate_notes}
 use Rattle.hack_planner.specs.CandidatesView.{wishes}
 use Rattle.hack_planner.specs.ContextMembers.{known_as}
-use Rattle.hack_planner.specs.Kinds.{AreRuns, AreCovering, AreRunSettings, IsUnsampled, choice_of}
+use Rattle.hack_planner.specs.Kinds.{AreRuns, AreCovering, AreRunSettings, IsUnsampled, package_choice}
 use Rattle.hack_plan.specs.Runs.{Plain}
 use Rattle.hack_plan.specs.Inputs.{slots_of}
 use Rattle.hack_plan.specs.declared.versions.PlanInput.{PlanInput}
@@ -33,8 +33,8 @@ given_path false dir None = None
 given_path false dir (Some p) = Some (under_of p.manifest_path dir)
 
 -- the current package, as cargo locates it
-abbrev pub current_of : ContextRecord → Option PackageRecord
-current_of cx = option_and_then (package_at cx) cx.current_package
+abbrev pub current_package_of : ContextRecord → Option PackageRecord
+current_package_of cx = option_and_then (package_at cx) cx.current_package
 
 -- what all commands of the call have in common
 abbrev pub call_of : ContextRecord → Name → CallView
@@ -49,7 +49,7 @@ call_of cx rustup = record {
   locked = cx.args.locked;
   clean_per_run = cx.args.clean_per_run;
   clean_per_version = cx.args.clean_per_version;
-  current_manifest = given_path cx.args.no_manifest_path cx.current_dir (current_of cx);
+  current_manifest = given_path cx.args.no_manifest_path cx.current_dir (current_package_of cx);
   dir = cx.current_dir;
 }
 
@@ -119,18 +119,18 @@ abbrev pub HasNoSample : ContextRecord → List ℕ → Name → Type 0
 HasNoSample cx ids name = (id : ℕ) × Contains ids id × HasNoSampleAt cx id name
 
 -- the error says that this package has no sample
-abbrev pub IsRunsFault : ContextRecord → ℕ → PlanFault → Type 0
-IsRunsFault cx id fault.Memory = ⊥
-IsRunsFault cx id (fault.Stable text) = ⊥
-IsRunsFault cx id (fault.Packages e) = ⊥
-IsRunsFault cx id (fault.Version e) = ⊥
-IsRunsFault cx id (fault.Range e) = ⊥
-IsRunsFault cx id (fault.TooManyQuestions name) = HasNoSampleAt cx id (string_bytes name)
-IsRunsFault cx id fault.TooManyRuns = ⊥
+abbrev pub SaysNoSample : ContextRecord → ℕ → PlanFault → Type 0
+SaysNoSample cx id fault.Memory = ⊥
+SaysNoSample cx id (fault.Stable text) = ⊥
+SaysNoSample cx id (fault.Packages e) = ⊥
+SaysNoSample cx id (fault.Version e) = ⊥
+SaysNoSample cx id (fault.Range e) = ⊥
+SaysNoSample cx id (fault.TooManyQuestions name) = HasNoSampleAt cx id (string_bytes name)
+SaysNoSample cx id fault.TooManyRuns = ⊥
 
 -- the error says that one of these packages has no sample
 abbrev pub HasRunsFault : ContextRecord → List ℕ → PlanFault → Type 0
-HasRunsFault cx ids e = (id : ℕ) × Contains ids id × IsRunsFault cx id e
+HasRunsFault cx ids e = (id : ℕ) × Contains ids id × SaysNoSample cx id e
 
 -- a chosen package in the plan: its texts, the features of `--features` that it gets, and its runs
 pub record IsPlanned (cx : ContextRecord) (single : Bool) (id : ℕ) (k : PackageView) (notes : List Note) : Type 0 where
@@ -144,7 +144,7 @@ pub record IsPlanned (cx : ContextRecord) (single : Bool) (id : ℕ) (k : Packag
   pub candidates : (k.candidates ≡ candidates (wishes cx.args) (known_as pkg features)) ⊎ ((k.candidates ≡ []) × (k.runs ≡ Plain ∷ []))
   pub runs : AreRuns (wishes cx.args) (known_as pkg features) k.runs
   pub covered : cx.args.feature_powerset ≡ true → cx.args.strength ≡ None → AreCovering (wishes cx.args) (known_as pkg features) k.runs
-  pub settings : AreRunSettings cx.args.strength (choice_of (wishes cx.args) (known_as pkg features)) k.runs k.settings
+  pub settings : AreRunSettings cx.args.strength (package_choice (wishes cx.args) (known_as pkg features)) k.runs k.settings
   pub told : notes ≡ candidate_notes single (wishes cx.args) (known_as pkg features)
 
 -- the chosen packages, in order, and the notices on their features

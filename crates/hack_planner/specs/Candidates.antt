@@ -49,16 +49,16 @@ abbrev pub is_bare : {X : Type 0} → List X → Bool
 is_bare xs = length xs == 0
 
 -- one of the names is x
-abbrev pub has_name : Names → Name → Bool
-has_name names x = list_any (bytes_eq x) names
+abbrev pub contains_name : Names → Name → Bool
+contains_name names x = list_any (bytes_eq x) names
 
 -- one of the features, or groups, has the name
 abbrev pub one_has : List Names → Name → Bool
-one_has features x = list_any (λ names. has_name names x) features
+one_has features x = list_any (λ names. contains_name names x) features
 
 -- the name is no candidate by itself: it is excluded, or in a group
 abbrev pub is_taken : Wishes → Name → Bool
-is_taken w x = has_name w.excluded x || one_has w.groups x
+is_taken w x = contains_name w.excluded x || one_has w.groups x
 
 -- a feature stays a candidate by itself
 abbrev pub stays : Wishes → Names → Bool
@@ -67,7 +67,7 @@ stays w names = list_all (λ x. not (is_taken w x)) names
 -- the optional dependency is asked for: the option has its name, or no names at all
 abbrev pub is_asked : Option (List Name) → Names → Bool
 is_asked None names = false
-is_asked (Some asked) names = is_bare asked || list_any (has_name asked) names
+is_asked (Some asked) names = is_bare asked || list_any (contains_name asked) names
 
 -- a feature or an optional dependency of the package has the name
 abbrev pub is_known : Known → Name → Bool

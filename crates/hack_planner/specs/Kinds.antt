@@ -13,8 +13,8 @@ use Rattle.hack_plan.specs.Runs.{PackageRun, Plain, AllFeatures, NoDefaultFeatur
 use Rattle.hack_planner.specs.Candidates.{Names, Wishes, Known, candidates, is_bare, lifted_for}
 
 -- what the sets of a package are chosen from
-abbrev pub choice_of : Wishes → Known → Choice
-choice_of w p = record { map = p.map; candidates = candidates w p; depth = w.depth; at_least_one_of = w.at_least_one_of; exclusive = unlifted_groups w.exclusive (lifted_for w p.name) }
+abbrev pub package_choice : Wishes → Known → Choice
+package_choice w p = record { map = p.map; candidates = candidates w p; depth = w.depth; at_least_one_of = w.at_least_one_of; exclusive = unlifted_groups w.exclusive (lifted_for w p.name) }
 
 -- `--optional-deps` is given without names
 abbrev pub takes_all : Option (List Name) → Bool
@@ -42,7 +42,7 @@ ArePowersets (Some strength) c n sets = IsSample c n sets × CoversPatterns c n 
 
 -- the sets of a package: under a powerset those that are listed or a sample of them, else each candidate alone
 abbrev pub AreSets : Bool → Wishes → Known → List (List ℕ) → Type 0
-AreSets true w p sets = ArePowersets w.strength (choice_of w p) (length (candidates w p)) sets
+AreSets true w p sets = ArePowersets w.strength (package_choice w p) (length (candidates w p)) sets
 AreSets false w p sets = sets ≡ singles (length (candidates w p))
 
 -- the runs are those of the package's sets
@@ -79,8 +79,8 @@ pub record HasPlainRun (w : Wishes) (p : Known) : Type 0 where
 
 -- each set that has to be covered has a run whose set lies in it and enables the same names
 abbrev pub AreCovering : Wishes → Known → List PackageRun → Type 0
-AreCovering w p runs = (s : List ℕ) → IsSelection (length (candidates w p)) s → IsWanted (choice_of w p) s
-    → (t : List ℕ) × Covers (choice_of w p) s t × Contains runs (Set t)
+AreCovering w p runs = (s : List ℕ) → IsSelection (length (candidates w p)) s → IsWanted (package_choice w p) s
+    → (t : List ℕ) × Covers (package_choice w p) s t × Contains runs (Set t)
 
 -- the row says which candidates are on in a run; a plain run counts as one with the empty set
 abbrev pub IsRowOf : Choice → PackageRun → List Bool → Type 0
@@ -104,12 +104,8 @@ pub record IsUnsampled (w : Wishes) (p : Known) : Type 0 where
   pub powerset : w.powerset ≡ true
   pub given : w.strength ≡ Some strength
   pub asked : Rules
-  pub made_for : rules.choice_of asked ≡ choice_of w p
-  pub spent : most_questions ≤ rules.asked_of asked
-
--- the names of the candidates at the positions, one after another
-abbrev pub names_at : List Names → List ℕ → List Name
-names_at list positions = flat_map (λ p. slice_index_or list p []) positions
+  pub made_for : rules.choice_of asked ≡ package_choice w p
+  pub spent : most_questions ≤ rules.questions_asked asked
 
 -- the call asks for all sets of one candidate, and has no exclusion or at-least-one groups
 pub record IsDepthOne (w : Wishes) : Type 0 where

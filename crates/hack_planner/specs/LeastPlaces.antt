@@ -5,7 +5,7 @@ use Rattle.hack_base.specs.Notes.{Note}
 use Rattle.hack_load.specs.Contexts.{ContextRecord}
 use Rattle.hack_plan.specs.View.{PackageView}
 use Rattle.hack_planner.specs.Calls.{IsPlanned, ArePlanned}
-use Rattle.hack_planner.specs.Made.{run_counts}
+use Rattle.hack_planner.specs.CallPlan.{run_counts}
 
 -- the chosen package has at least so many runs in a plan
 pub record HasAtLeast (cx : ContextRecord) (single : Bool) (id least : ℕ) : Type 0 where

@@ -7,12 +7,12 @@ pub mod Candidates
 pub mod CandidatesView
 pub mod Kinds
 pub mod KindsView
-pub mod Least
+pub mod LeastRuns
 pub mod ContextMembers
 pub mod Calls
-pub mod Covered
+pub mod CoveredSets
 pub mod LeastPlaces
-pub mod Made
+pub mod CallPlan
 pub mod Powersets
 pub mod Samples
-pub mod Turned
+pub mod FaultConversions

@@ -52,8 +52,8 @@ pub data Collects {X Y : Type 0} (P : X → Type 0) (f : X → Y) : List X → L
   left : {x : X} {xs : List X} {ys : List Y} → ¬ P x → Collects P f xs ys → Collects P f (x ∷ xs) ys
 
 -- those of the members for which P holds, in their order
-abbrev pub Keeps : (Member → Type 0) → List Member → List Member → Type 0
-Keeps P members kept = Collects P (λ m. m) members kept
+abbrev pub SelectsMembers : (Member → Type 0) → List Member → List Member → Type 0
+SelectsMembers P members kept = Collects P (λ m. m) members kept
 
 -- each of the specifications matches one of the members
 abbrev pub AllMatch : List Member → List Name → Type 0
@@ -91,7 +91,7 @@ members_without_names false (Some name) members = first_called members name
 
 -- the members that a call is about, before some are left out: those that it names, if any
 abbrev pub IsAbout : Bool → Choosing → List Member → List Member → Type 0
-IsAbout true c members asked = Keeps (IsMatched c.named) members asked
+IsAbout true c members asked = SelectsMembers (IsMatched c.named) members asked
 IsAbout false c members asked = asked ≡ members_without_names c.everyone c.current members
 
 -- the member is private, and private ones are ignored
@@ -114,7 +114,7 @@ pub record IsPackageList (c : Choosing) (root : Name) (members : List Member) (p
   pub remaining : List Member
   pub on_exclusions : List Note
   pub is_about : IsAbout (names_some c) c members about
-  pub remain : Keeps (λ m. ¬ IsMatched c.excluded m) about remaining
+  pub remain : SelectsMembers (λ m. ¬ IsMatched c.excluded m) about remaining
   pub single : is_single ≡ (length remaining == 1)
   pub chosen : places ≡ map (λ m. m.place) (filter (λ m. not (is_skipped c m)) remaining)
   pub unmatched : Collects (λ spec. ¬ MatchesSome members spec) (λ spec. warning_note (exclusion_text root spec)) c.excluded on_exclusions

@@ -1,7 +1,7 @@
 -- Members and arguments as plain data.
 use Rattle.std.specs.Prelude.{Option, map, string_bytes}
 use Rattle.hack_base.specs.Names.{Name, names_of}
-use Rattle.hack_metadata.specs.View.{package_view}
+use Rattle.hack_metadata.specs.RecordViews.{package_view}
 use Rattle.hack_words.specs.declared.cli.args.Args.{Args}
 use Rattle.hack_planner.specs.declared.member.Member.{Member}
 use Rattle.hack_planner.specs.Members.{Choosing}

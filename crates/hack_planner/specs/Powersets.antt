@@ -10,7 +10,7 @@ use Rattle.hack_planner.specs.ContextMembers.{AreChosen}
 use Rattle.hack_plan.specs.Runs.{PackageRun, Plain, AllFeatures, NoDefaultFeatures, Set}
 use Rattle.hack_plan.specs.View.{PlanView}
 use Rattle.hack_base.specs.Notes.{Note}
-use Rattle.hack_planner.specs.Covered.{choice_at}
+use Rattle.hack_planner.specs.CoveredSets.{choice_at}
 
 -- the set of a run, if the run has one
 abbrev pub set_of : PackageRun → Option (List ℕ)
@@ -20,13 +20,13 @@ set_of NoDefaultFeatures = None
 set_of (Set s) = Some s
 
 -- the sets of runs, in order
-abbrev pub sets_of : List PackageRun → List (List ℕ)
-sets_of runs = filter_map set_of runs
+abbrev pub run_sets_of : List PackageRun → List (List ℕ)
+run_sets_of runs = filter_map set_of runs
 
 -- the sets of the runs are exactly the listed ones, each once
 pub record IsPowerset (choice : Choice) (runs : List PackageRun) : Type 0 where
-  pub exact : (s : List ℕ) → Contains (sets_of runs) s ↔ (IsSelection (length choice.candidates) s × IsListed choice s)
-  pub once : Pairwise (λ s t. s ≢ t) (sets_of runs)
+  pub exact : (s : List ℕ) → Contains (run_sets_of runs) s ↔ (IsSelection (length choice.candidates) s × IsListed choice s)
+  pub once : Pairwise (λ s t. s ≢ t) (run_sets_of runs)
 
 -- the plan has exactly the chosen packages, and the runs of each have its powerset
 pub record HavePowersets (cx : ContextRecord) (plan : PlanView) : Type 0 where

@@ -1,7 +1,7 @@
 -- The samples of a plan's packages, and the patterns that a plan shows.
 use Rattle.std.specs.Prelude.{ℕ, ◌≡◌, ◌≢◌, ◌<◌, ◌≤◌, List, Bool, Option, Some, length, Contains, IsSomeAnd, slice_get}
 use Rattle.hack_features.specs.Rules.{Choice, IsListed}
-use Rattle.hack_features.specs.Samples.{CoversPatterns, Shows}
+use Rattle.hack_features.specs.Samples.{CoversPatterns, SetShows}
 use Rattle.hack_features.specs.Sets.{IsSelection, Pairwise}
 use Rattle.hack_samples.specs.declared.sets.Setting.{Setting}
 use Rattle.hack_load.specs.Contexts.{ContextRecord, package_at, features_at}
@@ -15,15 +15,15 @@ use Rattle.hack_plan.specs.View.{PlanView}
 use Rattle.hack_versions.specs.declared.version.Version.{Version}
 use Rattle.hack_base.specs.Notes.{Note}
 use Rattle.hack_planner.specs.Calls.{IsInputOf}
-use Rattle.hack_planner.specs.Covered.{choice_at}
-use Rattle.hack_planner.specs.Powersets.{sets_of}
+use Rattle.hack_planner.specs.CoveredSets.{choice_at}
+use Rattle.hack_planner.specs.Powersets.{run_sets_of}
 
 -- the sets of the runs are listed ones, each once, and show each pattern of at most so many candidates that some listed set
 -- shows
 pub record IsSampleOf (choice : Choice) (strength : ℕ) (runs : List PackageRun) : Type 0 where
-  pub listed : (s : List ℕ) → Contains (sets_of runs) s → IsSelection (length choice.candidates) s × IsListed choice s
-  pub once : Pairwise (λ s t. s ≢ t) (sets_of runs)
-  pub covers : CoversPatterns choice (length choice.candidates) strength (sets_of runs)
+  pub listed : (s : List ℕ) → Contains (run_sets_of runs) s → IsSelection (length choice.candidates) s × IsListed choice s
+  pub once : Pairwise (λ s t. s ≢ t) (run_sets_of runs)
+  pub covers : CoversPatterns choice (length choice.candidates) strength (run_sets_of runs)
 
 -- the plan has exactly the chosen packages, and the sets of each package's runs are a sample
 pub record HaveSamples (cx : ContextRecord) (strength : ℕ) (plan : PlanView) : Type 0 where
@@ -41,7 +41,7 @@ pub record HoldsPattern (plan : PlanView) (version : Option Version) (slot place
   pub set : List ℕ
   pub held : Contains plan.entries (record { version = version; slot = slot; «package» = Some place; rank = rank })
   pub run : IsSomeAnd (slice_get plan.packages place) (λ k. slice_get k.runs rank ≡ Some (Set set))
-  pub shows : Shows choice pattern set
+  pub shows : SetShows choice pattern set
 
 -- the plan holds such a place for each chosen package, each version that it uses, each slot of the version and each pattern of
 -- at most so many candidates that some listed set shows
@@ -57,5 +57,5 @@ pub record ArePatternsHeld (cx : ContextRecord) (strength : ℕ) (latest : Optio
   pub held : (place id : ℕ) (p : PackageRecord) (features : Features) (version : Option Version) (slot : ℕ) (pattern : List Setting) (s : List ℕ)
       → slice_get ids place ≡ Some id → package_at cx id ≡ Some p → features_at cx id ≡ Some features
       → UsesVersion input.range input steps version place → slot < slots_of input version
-      → length pattern ≤ strength → IsSelection (length (choice_at cx p features).candidates) s → IsListed (choice_at cx p features) s → Shows (choice_at cx p features) pattern s
+      → length pattern ≤ strength → IsSelection (length (choice_at cx p features).candidates) s → IsListed (choice_at cx p features) s → SetShows (choice_at cx p features) pattern s
       → HoldsPattern plan version slot place (choice_at cx p features) pattern

@@ -5,11 +5,11 @@ ghost use Rattle.hack_features.specs.Feature.{groups_of};
 ghost use Rattle.hack_base.specs.Names.{names_of, names_behind};
 ghost use Rattle.hack_planner.specs.KindsView.{candidates_in, runs_of};
 ghost use Rattle.hack_plan.specs.RunsView.{runs_in};
-ghost use Rattle.hack_metadata.specs.View.{place_at};
+ghost use Rattle.hack_metadata.specs.RecordViews.{place_at};
 ghost use Rattle.hack_load.specs.ContextView.{context_view};
 ghost use Rattle.hack_base.specs.Notes.{note_of};
-ghost use Rattle.hack_plan.specs.View.{package_view};
-ghost use Rattle.hack_planner.specs.Calls.{IsPlanned, ArePlanned, IsRunsFault, HasRunsFault};
+ghost use Rattle.hack_plan.specs.View.{plan_package_view};
+ghost use Rattle.hack_planner.specs.Calls.{IsPlanned, ArePlanned, SaysNoSample, HasRunsFault};
 
 use crate::fault::PlanFault;
 use crate::words::given_path;
@@ -46,9 +46,9 @@ fn chosen_package(
 ) -> Result<(PlanPackage, Vec<Notice>), PlanFault>
     requires { Contains (context_view cx.now).metadata.workspace_members id.index }
     ensures ok { IfOk result (λ answer. IsPlanned (context_view cx.now) single id.index
-        (package_view answer.0) (map note_of answer.1.items)) }
+        (plan_package_view answer.0) (map note_of answer.1.items)) }
     ensures err { IfErr result (λ e. (e ≡ PlanFault.Memory)
-        ⊎ IsRunsFault (context_view cx.now) id.index e) }
+        ⊎ SaysNoSample (context_view cx.now) id.index e) }
 {
     // This call promises that what was loaded fits together.
     let _ = cx.workspace_members();
@@ -88,7 +88,7 @@ pub(crate) fn chosen_packages(
     requires { All (λ id. Contains (context_view cx.now).metadata.workspace_members id.index)
         ids.now }
     ensures ok { IfOk result (λ answer. ArePlanned (context_view cx.now) single
-        (map place_at ids.now) (map package_view answer.0.items) (map note_of answer.1.items)) }
+        (map place_at ids.now) (map plan_package_view answer.0.items) (map note_of answer.1.items)) }
     ensures err { IfErr result (λ e. (e ≡ PlanFault.Memory)
         ⊎ HasRunsFault (context_view cx.now) (map place_at ids.now) e) }
 {

@@ -2,7 +2,7 @@
 
 ghost use Rattle.std.specs.Prelude.{◌≡◌, ◌<◌, ◌⊎◌, Contains, IfOk, IfErr, None, Some, length};
 ghost use Rattle.std.specs.Prelude.{map, option_copied, true};
-ghost use Rattle.hack_load.specs.Contexts.{IsWhole, package_at, features_at};
+ghost use Rattle.hack_load.specs.Contexts.{IsWholeContext, package_at, features_at};
 ghost use Rattle.hack_load.specs.ContextView.{context_view};
 ghost use Rattle.hack_load.specs.declared.features.Features.{Features as Loaded};
 ghost use Rattle.hack_metadata.specs.Records.{PackageRecord};
@@ -11,11 +11,11 @@ ghost use Rattle.hack_planner.specs.MembersView.{member_view};
 ghost use Rattle.hack_planner.specs.Candidates.{candidate_notes};
 ghost use Rattle.hack_planner.specs.CandidatesView.{wishes};
 ghost use Rattle.hack_planner.specs.Kinds.{AreRuns, AreCovering, IsDepthOne, as_each};
-ghost use Rattle.hack_planner.specs.Kinds.{AreRunSettings, choice_of};
-ghost use Rattle.hack_features.specs.Sets.{rows_of};
+ghost use Rattle.hack_planner.specs.Kinds.{AreRunSettings, package_choice};
+ghost use Rattle.hack_samples.specs.Sets.{rows_of};
 ghost use Rattle.hack_planner.specs.KindsView.{IsKind, IsRunsFault, runs_of};
-ghost use Rattle.hack_planner.specs.Least.{HasRunsAtLeast};
-ghost use Rattle.hack_planner.specs.ContextMembers.{member_at, members_in, name_at as named_at};
+ghost use Rattle.hack_planner.specs.LeastRuns.{HasRunsAtLeast};
+ghost use Rattle.hack_planner.specs.ContextMembers.{member_at, members_in, package_name_at as named_at};
 ghost use Rattle.hack_planner.specs.ContextMembers.{current_name as current_called};
 ghost use Rattle.hack_planner.specs.ContextMembers.{AreChosen, IsChoiceFault, known_as};
 
@@ -33,7 +33,7 @@ use std::alloc::{AllocError, Global};
 /// The member of the workspace that has this id.
 fn member_of<'a>(context: &'a Context, id: &PackageId) -> Member<'a>
     requires member { Contains (context_view context.now).metadata.workspace_members id.now.index }
-    requires whole { IsWhole (context_view context.now) }
+    requires whole { IsWholeContext (context_view context.now) }
     ensures { member_at (context_view context.now) id.now.index ≡ Some (member_view result) }
 {
     Member {
@@ -146,7 +146,7 @@ pub fn determine_kind(
         → package_at (context_view context.now) id.index ≡ Some p
         → features_at (context_view context.now) id.index ≡ Some features
         → IfOk result (λ answer. AreRunSettings (context_view context.now).args.strength
-        (choice_of (wishes (context_view context.now).args) (known_as p features))
+        (package_choice (wishes (context_view context.now).args) (known_as p features))
         (runs_of answer.0.kind) (rows_of answer.0.settings.items)) }
 
     // The only error besides out of memory is a sample that needs too many questions.

@@ -1,7 +1,7 @@
 //! The input of a plan's versions and places, from what was loaded.
 
 ghost use Rattle.std.specs.Prelude.{◌≡◌, ◌⊎◌, ◌↔◌, All, Contains, IfOk, IfErr, IsTrue, map};
-ghost use Rattle.hack_metadata.specs.View.{place_at};
+ghost use Rattle.hack_metadata.specs.RecordViews.{place_at};
 ghost use Rattle.hack_load.specs.ContextView.{context_view};
 ghost use Rattle.hack_load.specs.Contexts.{rust_version_at};
 ghost use Rattle.hack_uses.specs.declared.behavior.WorkspaceBehavior.TheVariants.{Cargo};

@@ -13,12 +13,13 @@ ghost use Rattle.hack_base.specs.Notes.{note_of};
 ghost use Rattle.hack_planner.specs.Candidates.{candidates as are_candidates, candidate_notes};
 ghost use Rattle.hack_planner.specs.CandidatesView.{wishes, known_of_package};
 ghost use Rattle.hack_planner.specs.Kinds.{AreSets, AreRuns, options_of};
-ghost use Rattle.hack_planner.specs.Kinds.{takes_all as all_taken, names_at};
-ghost use Rattle.hack_planner.specs.Kinds.{AreCovering, choice_of, IsDepthOne, as_each};
+ghost use Rattle.hack_planner.specs.Kinds.{takes_all as all_taken};
+ghost use Rattle.hack_plan.specs.Commands.{candidate_names_at};
+ghost use Rattle.hack_planner.specs.Kinds.{AreCovering, package_choice, IsDepthOne, as_each};
 ghost use Rattle.hack_planner.specs.Kinds.{IsRowOf, AreRunSettings};
 ghost use Rattle.hack_planner.specs.Candidates.{lifted_for};
-ghost use Rattle.hack_features.specs.Sets.{rows_of};
-ghost use Rattle.hack_features.specs.View.{choice_of as rules_choice, size_of, asked_of};
+ghost use Rattle.hack_samples.specs.Sets.{rows_of};
+ghost use Rattle.hack_features.specs.View.{choice_of as rules_choice, size_of, questions_asked};
 ghost use Rattle.std.specs.List.{AllZip};
 ghost use Rattle.hack_planner.specs.KindsView.{IsKind, IsRunsFault, runs_of, candidates_in};
 
@@ -95,7 +96,7 @@ impl Kind {
         positions: &[usize],
     ) -> Result<Vec<&'a str>, AllocError>
         ensures { IfOk result (λ names. names_behind names.items
-            ≡ names_at (candidates_in self.now) positions.now) }
+            ≡ candidate_names_at (candidates_in self.now) positions.now) }
     {
         let candidates = self.candidates();
         let mut names = Vec::new(alloc);
@@ -180,9 +181,9 @@ pub(crate) fn rules_of<'a>(
         (known_of_package pkg.now features)
         → lifted.now ≡ lifted_for (wishes args.now) (string_bytes pkg.now.name)
         → IfOk result (λ rules. rules_choice rules
-        ≡ choice_of (wishes args.now) (known_of_package pkg.now features)) }
+        ≡ package_choice (wishes args.now) (known_of_package pkg.now features)) }
     ensures size { IfOk result (λ rules. size_of rules ≡ length all.now) }
-    ensures fresh { IfOk result (λ rules. asked_of rules ≡ 0) }
+    ensures fresh { IfOk result (λ rules. questions_asked rules ≡ 0) }
 {
     Rules::new(
         alloc,
@@ -215,7 +216,7 @@ fn powerset_sets(
         → groups_of candidates.now ≡ are_candidates (wishes args.now)
         (known_of_package pkg.now features)
         → args.now.strength ≡ None
-        → IfOk result (λ sets. AreCovers (choice_of (wishes args.now)
+        → IfOk result (λ sets. AreCovers (package_choice (wishes args.now)
         (known_of_package pkg.now features))
         (length (are_candidates (wishes args.now) (known_of_package pkg.now features)))
         (sets_in sets)) }
@@ -255,7 +256,7 @@ fn sets_of(
         (known_of_package pkg.now features)
         → args.now.feature_powerset ≡ true
         → args.now.strength ≡ None
-        → IfOk result (λ sets. AreCovers (choice_of (wishes args.now)
+        → IfOk result (λ sets. AreCovers (package_choice (wishes args.now)
         (known_of_package pkg.now features))
         (length (are_candidates (wishes args.now) (known_of_package pkg.now features)))
         (sets_in sets)) }
@@ -375,7 +376,7 @@ fn run_settings(
     kind: &Kind,
 ) -> Result<Vec<Vec<bool>>, AllocError>
     ensures { IfOk result (λ rows. AreRunSettings args.now.strength
-        (choice_of (wishes args.now) (known_of_package pkg.now features.now))
+        (package_choice (wishes args.now) (known_of_package pkg.now features.now))
         (runs_of kind.now) (rows_of rows.items)) }
 {
     if args.strength.is_none() {
@@ -421,7 +422,7 @@ pub fn determine_runs(
         ≡ candidate_notes single (wishes args.now) (known_of_package pkg.now features.now)) }
 
     ensures settings { IfOk result (λ answer. AreRunSettings args.now.strength
-        (choice_of (wishes args.now) (known_of_package pkg.now features.now))
+        (package_choice (wishes args.now) (known_of_package pkg.now features.now))
         (runs_of answer.0.kind) (rows_of answer.0.settings.items)) }
 
     // The only error besides out of memory is a sample that needs too many questions.

@@ -2,7 +2,7 @@
 
 ghost use Rattle.std.specs.Prelude.{◌≡◌, ◌<◌, ◌≤◌, ◌+◌, ◌^◌, IfOk, None, cond, true};
 ghost use Rattle.hack_planner.specs.CandidatesView.{wishes, known_of_package};
-ghost use Rattle.hack_planner.specs.Least.{HasRunsAtLeast};
+ghost use Rattle.hack_planner.specs.LeastRuns.{HasRunsAtLeast};
 
 use crate::candidates::candidates;
 use crate::kind::{all_of, rules_of};

@@ -5,12 +5,12 @@
 ghost use Rattle.std.specs.Prelude.{◌≡◌, ◌⊎◌, All, Bool, Contains, IfErr, IfOk, List, None, map, true};
 ghost use Rattle.hack_base.specs.Notes.{Note};
 ghost use Rattle.hack_load.specs.ContextView.{context_view};
-ghost use Rattle.hack_metadata.specs.View.{place_at};
+ghost use Rattle.hack_metadata.specs.RecordViews.{place_at};
 ghost use Rattle.hack_planner.specs.ContextMembers.{AreChosen};
 ghost use Rattle.hack_plan.specs.Inputs.{AreVersions};
 ghost use Rattle.hack_planner.specs.Calls.{IsInputOf};
 ghost use Rattle.hack_planner.specs.LeastPlaces.{HasAtLeast, HaveAtLeast};
-ghost use Rattle.hack_planner.specs.Made.{IsCause};
+ghost use Rattle.hack_planner.specs.CallPlan.{IsCause};
 
 use crate::fault::{PlanFault, of_places};
 use hack_load::context::Context;

@@ -5,7 +5,7 @@ ghost use Rattle.std.specs.Prelude.{IfErr, OnOk, IsTrue, map, filter, not, strin
 ghost use Rattle.hack_base.specs.Names.{names_of};
 ghost use Rattle.hack_base.specs.Notes.{note_of};
 ghost use Rattle.hack_planner.specs.Texts.{exclusion_text, lift_text as lift_words, private_text};
-ghost use Rattle.hack_planner.specs.Members.{MatchesSome, AllMatch, Keeps, Collects};
+ghost use Rattle.hack_planner.specs.Members.{MatchesSome, AllMatch, SelectsMembers, Collects};
 ghost use Rattle.hack_planner.specs.Members.{is_called as has_called, warning_note, info_note};
 ghost use Rattle.hack_planner.specs.Members.{first_called as first_of};
 ghost use Rattle.hack_planner.specs.MembersView.{member_view};
@@ -53,7 +53,7 @@ pub(crate) fn matched_members<'a>(
     specs: &[String],
     matched: bool,
 ) -> Result<Vec<Member<'a>>, AllocError>
-    ensures { IfOk result (λ kept. Keeps (IsMatchedAs matched (names_of specs.now))
+    ensures { IfOk result (λ kept. SelectsMembers (IsMatchedAs matched (names_of specs.now))
         (map member_view members.now) (map member_view kept.items)) }
 {
     let mut kept = Vec::new(alloc);

@@ -6,7 +6,7 @@ ghost use Rattle.hack_base.specs.Names.{names_of};
 ghost use Rattle.hack_planner.specs.Texts.{exclusion_text, lift_text};
 ghost use Rattle.hack_planner.specs.Texts.{feature_text, dependency_text};
 ghost use Rattle.hack_planner.specs.Texts.{group_text, private_text, verbose_text, name_verbose};
-ghost use Rattle.hack_metadata.specs.View.{package_view};
+ghost use Rattle.hack_metadata.specs.RecordViews.{package_view};
 
 use hack_base::paths::parent;
 use hack_metadata::metadata::Package;

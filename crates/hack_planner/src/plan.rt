@@ -2,7 +2,7 @@
 
 ghost use Rattle.std.specs.Prelude.{◌≡◌, ◌⊎◌, All, Contains, IfOk, IfErr, IfSome, IsSome, map};
 ghost use Rattle.std.specs.Prelude.{List, ℕ, None, Option, Ok, Some, true};
-ghost use Rattle.hack_metadata.specs.View.{place_at};
+ghost use Rattle.hack_metadata.specs.RecordViews.{place_at};
 ghost use Rattle.hack_load.specs.ContextView.{context_view};
 ghost use Rattle.hack_planner.specs.ContextMembers.{AreChosen, IsChoiceFault};
 ghost use Rattle.hack_base.specs.Notes.{note_of};
@@ -11,9 +11,9 @@ ghost use Rattle.hack_uses.specs.declared.behavior.WorkspaceBehavior.TheVariants
 ghost use Rattle.hack_plan.specs.Inputs.{AreVersions, AreNotices, IsVersionsFault};
 ghost use Rattle.hack_plan.specs.View.{call_view};
 ghost use Rattle.hack_planner.specs.Calls.{IsInputOf, HasBadOwn, call_of};
-ghost use Rattle.hack_planner.specs.Covered.{AreCovered};
-ghost use Rattle.hack_planner.specs.Made.{IsPlan, IsCause, IsPlanOf, IsCauseOf, IsListFault};
-ghost use Rattle.hack_planner.specs.Made.{IsRangeFault, IsSureCause, IsSureCauseOf};
+ghost use Rattle.hack_planner.specs.CoveredSets.{AreCovered};
+ghost use Rattle.hack_planner.specs.CallPlan.{IsPlan, IsCause, IsPlanOf, IsCauseOf, SaysPackagesUnknown};
+ghost use Rattle.hack_planner.specs.CallPlan.{SaysRangeRefused, IsSureCause, IsSureCauseOf};
 ghost use Rattle.hack_planner.specs.Powersets.{HavePowersets};
 ghost use Rattle.hack_planner.specs.Samples.{HaveSamples, ArePatternsHeld};
 
@@ -151,7 +151,7 @@ fn chosen_list(alloc: Global, cx: &Context) -> Result<(PackageList, Vec<Notice>)
     ensures never { IfOk result (λ _. (e : PackagesFault)
         → ¬ IsChoiceFault (context_view cx.now) e) }
     ensures err { IfErr result (λ e. (e ≡ PlanFault.Memory)
-        ⊎ IsListFault (context_view cx.now) e) }
+        ⊎ SaysPackagesUnknown (context_view cx.now) e) }
 {
     match determine_package_list(alloc, cx) {
         Ok(answer) => Ok(answer),
@@ -173,7 +173,7 @@ fn versions_of(
     ensures never { IfOk result (λ _. (e : RangeFault)
         → ¬ IsVersionsFault input.now.range input.now latest e) }
     ensures err { IfErr result (λ e. (e ≡ PlanFault.Memory)
-        ⊎ IsRangeFault input.now latest e) }
+        ⊎ SaysRangeRefused input.now latest e) }
 {
     match Versions::new(alloc, input, latest) {
         Ok(answer) => Ok(answer),

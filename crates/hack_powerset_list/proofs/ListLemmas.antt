@@ -12,7 +12,7 @@ use Rattle.hack_plan.specs.declared.runs.RunOptions.{RunOptions}
 use Rattle.hack_powerset_list.specs.declared.wishes.Wishes.{Wishes}
 use Rattle.hack_plan.specs.Runs.{PackageRun, runs_from}
 use Rattle.hack_powerset_list.specs.declared.fault.ListFault.TheVariants.{Write, Memory}
-use Rattle.hack_powerset_list.specs.Faults.{is_memory, told_as}
+use Rattle.hack_powerset_list.specs.Faults.{is_memory_kind, told_as}
 use Rattle.hack_powerset_list.specs.Words.{Asks}
 use Rattle.hack_powerset_list.specs.Input.{IsMapText, keys_of}
 use Rattle.hack_powerset_list.specs.Lines.{run_lines}
@@ -73,4 +73,4 @@ list_for words left w bytes fs m runs asks input read l names groups = record {
 
 -- a front is written, whatever the kind of the error
 pub refused-writing : (words : List Name) (left old new : Option (List ℕ)) (kind : ErrorKind) → WritesFront words left old new → RefusesList words left old new (told_as kind Write)
-refused-writing words left old new kind front = elim (is_memory kind) as (λ b. RefusesList words left old new (if b then Memory else Write)) [ true ↦ inr front | false ↦ front ]
+refused-writing words left old new kind front = elim (is_memory_kind kind) as (λ b. RefusesList words left old new (if b then Memory else Write)) [ true ↦ inr front | false ↦ front ]

@@ -7,14 +7,14 @@ use Rattle.std.proofs.lemmas.Grind.{flat_map-append}
 use Rattle.std.proofs.lemmas.List.{take_more, flat_map_more}
 use Rattle.hack_base.specs.Writes.{AppendsFront}
 use Rattle.hack_base.proofs.WriteLemmas.{AppendsFront-then, AppendsFront-append}
-use Rattle.hack_powerset_list.specs.LineWords.{Prints}
+use Rattle.hack_powerset_list.specs.LineWords.{PrintsText}
 
 -- nothing is printed
-pub prints-none : (a : Option (List ℕ)) (page : List ℕ) → Prints a a page page []
+pub prints-none : (a : Option (List ℕ)) (page : List ℕ) → PrintsText a a page page []
 prints-none a page = record { written = []; whole = append-nil page; appended = Appends-nil a }
 
 -- one text is printed after another
-pub prints-then : (a b c : Option (List ℕ)) (p q r t u : List ℕ) → Prints a b p q t → Prints b c q r u → Prints a c p r (t ++ u)
+pub prints-then : (a b c : Option (List ℕ)) (p q r t u : List ℕ) → PrintsText a b p q t → PrintsText b c q r u → PrintsText a c p r (t ++ u)
 prints-then a b c p q r t u h k = record {
   written = h.written ++ k.written;
   whole = sym (append_assoc p t u)
@@ -26,7 +26,7 @@ prints-then a b c p q r t u h k = record {
 }
 
 -- what was written while a text was printed is a front of the page with all that was to be printed
-pub prints-front : (a b : Option (List ℕ)) (p q t rest all : List ℕ) → Prints a b p q t → all ≡ t ++ rest → AppendsFront a b (p ++ all)
+pub prints-front : (a b : Option (List ℕ)) (p q t rest all : List ℕ) → PrintsText a b p q t → all ≡ t ++ rest → AppendsFront a b (p ++ all)
 prints-front a b p q t rest all h is = (
   h.written,
   q ++ rest,
@@ -35,7 +35,7 @@ prints-front a b p q t rest all h is = (
 )
 
 -- the same after printing another text failed
-pub prints-stopped : (a b c : Option (List ℕ)) (p q t u rest all : List ℕ) → Prints a b p q t → AppendsFront b c (q ++ u) → all ≡ t ++ (u ++ rest) → AppendsFront a c (p ++ all)
+pub prints-stopped : (a b c : Option (List ℕ)) (p q t u rest all : List ℕ) → PrintsText a b p q t → AppendsFront b c (q ++ u) → all ≡ t ++ (u ++ rest) → AppendsFront a c (p ++ all)
 prints-stopped a b c p q t u rest all h k is =
     subst (AppendsFront a c)
     (append_assoc h.written (q ++ u) rest
@@ -47,7 +47,7 @@ prints-stopped a b c p q t u rest all h k is =
     (AppendsFront-append a c (h.written ++ (q ++ u)) rest (AppendsFront-then a b c h.written (q ++ u) h.appended k))
 
 -- the same after writing the page failed
-pub prints-written : (a b c : Option (List ℕ)) (p q t : List ℕ) → Prints a b p q t → AppendsFront b c q → AppendsFront a c (p ++ t)
+pub prints-written : (a b c : Option (List ℕ)) (p q t : List ℕ) → PrintsText a b p q t → AppendsFront b c q → AppendsFront a c (p ++ t)
 prints-written a b c p q t h k = subst (AppendsFront a c) (sym h.whole) (AppendsFront-then a b c h.written q h.appended k)
 
 -- what holds of a text holds of one that is the same

@@ -9,9 +9,9 @@ use Rattle.hack_base.proofs.WriteLemmas.{NoFewer-trans, failed-later}
 use Rattle.hack_powerset_list.specs.declared.fault.ListFault.TheVariants.{NotText, Read, Write, Memory}
 use Rattle.hack_powerset_list.specs.declared.wishes.WordsFault.{WordsFault}
 use Rattle.hack_powerset_list.specs.declared.wishes.WordsFault.TheVariants as said
-use Rattle.hack_powerset_list.specs.Faults.{is_memory, told_as}
+use Rattle.hack_powerset_list.specs.Faults.{is_memory_kind, told_as}
 use Rattle.hack_powerset_list.specs.Words.{list_fault}
-use Rattle.hack_powerset_list.specs.Streams.{IsCounted, Stops}
+use Rattle.hack_powerset_list.specs.Streams.{IsCounted, CountsUnlessMemory}
 
 -- a read after tries that gave nothing
 pub Consumes-after : (a b c : Option (List ℕ)) (bs : List ℕ) → Keeps a b → Consumes b c bs → Consumes a c bs
@@ -21,14 +21,14 @@ Consumes-after (Some x) (Some y) None bs p q = absurd q
 Consumes-after (Some x) (Some y) (Some z) bs p q = sym p ∙ q
 
 -- what a later call counted
-pub stops-later : (T : Type 0) (a b c : Option ℕ) (r : Result T Error) → NoFewer a b → Stops b c r → Stops a c r
+pub stops-later : (T : Type 0) (a b c : Option ℕ) (r : Result T Error) → NoFewer a b → CountsUnlessMemory b c r → CountsUnlessMemory a c r
 stops-later T a b c (Ok done) p q = NoFewer-trans a b c p q
 stops-later T a b c (Err e) p q = (λ real. failed-later a b c p (q.0 real), NoFewer-trans a b c p q.1)
 
 -- an error that a later call returned
-pub stops-refused : (T : Type 0) (a b c : Option ℕ) (e : Error) (r : Result T Error) → IsErrAnd r (λ f. f ≡ e) → NoFewer a b → Stops {T = T} b c (Err e) → Stops a c r
+pub stops-refused : (T : Type 0) (a b c : Option ℕ) (e : Error) (r : Result T Error) → IsErrAnd r (λ f. f ≡ e) → NoFewer a b → CountsUnlessMemory {T = T} b c (Err e) → CountsUnlessMemory a c r
 stops-refused T a b c e (Ok done) refused p q = absurd refused
-stops-refused T a b c e (Err f) refused p q = (λ real. failed-later a b c p (q.0 (ap (λ x. is_memory (error_kind x)) (sym refused) ∙ real)), NoFewer-trans a b c p q.1)
+stops-refused T a b c e (Err f) refused p q = (λ real. failed-later a b c p (q.0 (ap (λ x. is_memory_kind (error_kind x)) (sym refused) ∙ real)), NoFewer-trans a b c p q.1)
 
 module _ (read_old read_new write_old write_new : Option ℕ) where
   -- an error in the arguments is no error of streams
@@ -40,20 +40,20 @@ module _ (read_old read_new write_old write_new : Option ℕ) where
 
   -- nor is an error of getting the arguments
   pub counted-arguments : (kind : ErrorKind) → IsCounted read_old read_new write_old write_new (told_as kind NotText)
-  counted-arguments kind = elim (is_memory kind) as (λ b. IsCounted read_old read_new write_old write_new (if b then Memory else NotText)) [ true ↦ tt | false ↦ tt ]
+  counted-arguments kind = elim (is_memory_kind kind) as (λ b. IsCounted read_old read_new write_old write_new (if b then Memory else NotText)) [ true ↦ tt | false ↦ tt ]
 
   -- an error of reading, which counts a failure unless its kind is out of memory
-  pub counted-reading : (kind : ErrorKind) → (is_memory kind ≡ false → HasFailed read_old read_new) → IsCounted read_old read_new write_old write_new (told_as kind Read)
-  counted-reading kind failed = told (is_memory kind) refl
+  pub counted-reading : (kind : ErrorKind) → (is_memory_kind kind ≡ false → HasFailed read_old read_new) → IsCounted read_old read_new write_old write_new (told_as kind Read)
+  counted-reading kind failed = told (is_memory_kind kind) refl
     where
-      told : (b : Bool) → is_memory kind ≡ b → IsCounted read_old read_new write_old write_new (if b then Memory else Read)
+      told : (b : Bool) → is_memory_kind kind ≡ b → IsCounted read_old read_new write_old write_new (if b then Memory else Read)
       told true is = tt
       told false is = failed is
 
   -- an error of writing, which counts a failure unless its kind is out of memory
-  pub counted-writing : (kind : ErrorKind) → (is_memory kind ≡ false → HasFailed write_old write_new) → IsCounted read_old read_new write_old write_new (told_as kind Write)
-  counted-writing kind failed = told (is_memory kind) refl
+  pub counted-writing : (kind : ErrorKind) → (is_memory_kind kind ≡ false → HasFailed write_old write_new) → IsCounted read_old read_new write_old write_new (told_as kind Write)
+  counted-writing kind failed = told (is_memory_kind kind) refl
     where
-      told : (b : Bool) → is_memory kind ≡ b → IsCounted read_old read_new write_old write_new (if b then Memory else Write)
+      told : (b : Bool) → is_memory_kind kind ≡ b → IsCounted read_old read_new write_old write_new (if b then Memory else Write)
       told true is = tt
       told false is = failed is

@@ -1,14 +1,14 @@
 -- The sets that a walk lists are the listed ones.
 use Rattle.std.proofs.Common.{◌≡◌, true, [], ◌∷◌, List, length, refl, subst}
 use Rattle.hack_features.specs.declared.rules.Rules.{Rules}
-use Rattle.hack_features.specs.Questions.{is_whole, IsWhole}
+use Rattle.hack_features.specs.Questions.{is_whole, IsWholeSet}
 use Rattle.hack_features.specs.declared.feature.Feature.{Feature}
 use Rattle.hack_features.specs.FeatureMap.{FeatureMap}
 use Rattle.hack_features.specs.Rules.{Choice, IsListed}
 use Rattle.hack_features.specs.Sets.{IsListing}
 use Rattle.hack_features.specs.View.{may_of, size_of, whole_of, choice_of}
 use Rattle.hack_features.specs.Walk.{below}
-use Rattle.hack_features.specs.Closed.{may_of-empty, may_of-remove}
+use Rattle.hack_features.specs.ClosureLaws.{may_of-empty, may_of-remove}
 use Rattle.hack_features.proofs.Permitted.{Passes, listing_filter, listing_same, whole_iff}
 use Rattle.hack_features.proofs.RuleLemmas.{tables_of, listing_of}
 use Rattle.hack_features.proofs.Walked.{walk_listing}
@@ -25,7 +25,7 @@ walk_sets r =
 pub walk_listed : (r : Rules) → IsListing (size_of r) (IsListed (choice_of r)) (listed_in r)
 walk_listed r =
     listing_of r (tables_of r) (listed_in r)
-    (listing_same (size_of r) (λ s. (may_of r s ≡ true) × (is_whole (whole_of r) s ≡ true)) (IsWhole (may_of r) (whole_of r)) (listed_in r) (whole_iff (may_of r) (whole_of r)) (walk_sets r))
+    (listing_same (size_of r) (λ s. (may_of r s ≡ true) × (is_whole (whole_of r) s ≡ true)) (IsWholeSet (may_of r) (whole_of r)) (listed_in r) (whole_iff (may_of r) (whole_of r)) (walk_sets r))
 
 -- the runs of the sets that a walk lists
 pub walk_runs : (w : Wishes) (fs : List Feature) (m : FeatureMap) (r : Rules) → choice_of r ≡ chosen_from w fs m → size_of r ≡ length fs → AreListRuns w fs m (runs_from (options_from w fs) (listed_in r))

@@ -32,13 +32,13 @@ abbrev pub RefusesCall : Arguments → Option (List ℕ) → Option (List ℕ) �
 RefusesCall arguments left old new fault = MatchResult arguments (λ all. RefusesList (words_in all) left old new fault) (λ e. (fault ≡ told_as (error_kind e) NotText) × (new ≡ old))
 
 -- the list is written, and nothing is reported
-pub record IsDone (arguments : Arguments) (left old new err_old err_new : Option (List ℕ)) (ending : Ending) : Type 0 where
+pub record EndsWithList (arguments : Arguments) (left old new err_old err_new : Option (List ℕ)) (ending : Ending) : Type 0 where
   pub status : ending.status ≡ 0
   pub list : WritesForCall arguments left old new
   pub untold : err_new ≡ err_old
 
 -- there is an error of which this holds, and its line was written, or a front if a write failed
-pub record IsRefused (arguments : Arguments) (left old new : Option (List ℕ)) (IsTold : ListFault → Type 0) (err_old err_new : Option (List ℕ)) (ending : Ending) : Type 0 where
+pub record EndsWithError (arguments : Arguments) (left old new : Option (List ℕ)) (IsTold : ListFault → Type 0) (err_old err_new : Option (List ℕ)) (ending : Ending) : Type 0 where
   pub status : ending.status ≡ 1
   pub fault : ListFault
   pub why : RefusesCall arguments left old new fault

@@ -6,25 +6,25 @@ use Rattle.hack_powerset_list.specs.declared.fault.ListFault.{ListFault}
 use Rattle.hack_powerset_list.specs.declared.fault.ListFault.TheVariants.{Usage, Number, Group, NotText, Input, Read, Write, Memory}
 
 -- the text of an error
-abbrev pub fault_text : ListFault → List ℕ
-fault_text Usage = codes "usage: powerset-list [--depth N] [--at-least-one-of LIST]... [--mutually-exclusive-features LIST]..."
-fault_text (Number text) = codes "invalid number `" ++ string_bytes text ++ codes "`"
-fault_text (Group option) = option.now ++ codes " requires a list of two or more features separated by space or comma"
-fault_text NotText = codes "the words must be UTF-8"
-fault_text Input = codes "features must be an object of arrays of texts"
-fault_text Read = codes "failed to read the features"
-fault_text Write = codes "failed to write the command list"
-fault_text Memory = codes "out of memory"
+abbrev pub list_fault_text : ListFault → List ℕ
+list_fault_text Usage = codes "usage: powerset-list [--depth N] [--at-least-one-of LIST]... [--mutually-exclusive-features LIST]..."
+list_fault_text (Number text) = codes "invalid number `" ++ string_bytes text ++ codes "`"
+list_fault_text (Group option) = option.now ++ codes " requires a list of two or more features separated by space or comma"
+list_fault_text NotText = codes "the words must be UTF-8"
+list_fault_text Input = codes "features must be an object of arrays of texts"
+list_fault_text Read = codes "failed to read the features"
+list_fault_text Write = codes "failed to write the command list"
+list_fault_text Memory = codes "out of memory"
 
 -- the line that reports an error
 abbrev pub fault_line : ListFault → List ℕ
-fault_line fault = codes "error: " ++ fault_text fault ++ codes "\n"
+fault_line fault = codes "error: " ++ list_fault_text fault ++ codes "\n"
 
 -- the kind says that memory was refused
-abbrev pub is_memory : ErrorKind → Bool
-is_memory OutOfMemory = true
-is_memory _ = false
+abbrev pub is_memory_kind : ErrorKind → Bool
+is_memory_kind OutOfMemory = true
+is_memory_kind _ = false
 
 -- an error of this kind as an error of the list: out of memory, or else the other one
 abbrev pub told_as : ErrorKind → ListFault → ListFault
-told_as kind other = if is_memory kind then Memory else other
+told_as kind other = if is_memory_kind kind then Memory else other

@@ -18,13 +18,13 @@ text_in (array items) = None
 text_in (object ms) = None
 
 -- the texts of the items; None if one of them is no text
-abbrev pub texts_in : Items → Option (List Name)
-texts_in no_items = Some []
-texts_in (item d items) = option_and_then (λ text. option_map (λ texts. text ∷ texts) (texts_in items)) (text_in d)
+abbrev pub all_texts_in : Items → Option (List Name)
+all_texts_in no_items = Some []
+all_texts_in (item d items) = option_and_then (λ text. option_map (λ texts. text ∷ texts) (all_texts_in items)) (text_in d)
 
 -- the texts, if the data are an array of texts
 abbrev pub values_in : Data → Option (List Name)
-values_in (array items) = texts_in items
+values_in (array items) = all_texts_in items
 values_in (null) = None
 values_in (boolean b) = None
 values_in (number n) = None

@@ -35,5 +35,5 @@ run_features names NoDefaultFeatures = None
 run_features names (Set s) = with_names None (items_at names s)
 
 -- the command of a run, with the user's arguments for cargo and the names of the candidates
-abbrev pub run_command : List (List ℕ) → List Name → PackageRun → Command
-run_command passed names run = record { program = codes "cargo"; strip_program_path = false; leading = []; passed = passed; own = own_words run; features = run_features names run; trailing = [] }
+abbrev pub listed_run_command : List (List ℕ) → List Name → PackageRun → Command
+listed_run_command passed names run = record { program = codes "cargo"; strip_program_path = false; leading = []; passed = passed; own = own_words run; features = run_features names run; trailing = [] }

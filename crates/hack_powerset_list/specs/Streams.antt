@@ -3,14 +3,14 @@ use Rattle.std.specs.Prelude.{◌≡◌, ℕ, Option, Result, Ok, Err, ⊤, fals
 use Rattle.std.specs.declared.io.Error.{Error}
 use Rattle.std.specs.IoError.{error_kind}
 use Rattle.hack_base.specs.Writes.{HasFailed, NoFewer}
-use Rattle.hack_powerset_list.specs.Faults.{is_memory}
+use Rattle.hack_powerset_list.specs.Faults.{is_memory_kind}
 use Rattle.hack_powerset_list.specs.declared.fault.ListFault.{ListFault}
 use Rattle.hack_powerset_list.specs.declared.fault.ListFault.TheVariants.{Usage, Number, Group, NotText, Input, Read, Write, Memory}
 
 -- an error counts a failure, unless its kind is out of memory; no failure is forgotten
-abbrev pub Stops : {T : Type 0} → Option ℕ → Option ℕ → Result T Error → Type 0
-Stops old new (Ok done) = NoFewer old new
-Stops old new (Err error) = (is_memory (error_kind error) ≡ false → HasFailed old new) × NoFewer old new
+abbrev pub CountsUnlessMemory : {T : Type 0} → Option ℕ → Option ℕ → Result T Error → Type 0
+CountsUnlessMemory old new (Ok done) = NoFewer old new
+CountsUnlessMemory old new (Err error) = (is_memory_kind (error_kind error) ≡ false → HasFailed old new) × NoFewer old new
 
 -- an error of reading comes only if the reader failed, one of writing only if the writer did
 abbrev pub IsCounted : Option ℕ → Option ℕ → Option ℕ → Option ℕ → ListFault → Type 0

@@ -76,8 +76,8 @@ pub record IsAsking (words : List Name) : Type 0 where
   pub asks : Asks words depth at_least_one_of exclusive
 
 -- a list of exclusive features lacks a separator, or if none does, an at-least-one list does
-abbrev pub IsGroupFault : Written → Name → Type 0
-IsGroupFault w option = ((option ≡ codes "--mutually-exclusive-features") × LacksSeparator w.exclusive)
+abbrev pub IsSeparatorFault : Written → Name → Type 0
+IsSeparatorFault w option = ((option ≡ codes "--mutually-exclusive-features") × LacksSeparator w.exclusive)
     ⊎ ((option ≡ codes "--at-least-one-of") × All HasSeparator w.exclusive × LacksSeparator w.at_least_one_of)
 
 -- the arguments keep the usage, and a depth in them is no number
@@ -87,18 +87,18 @@ pub record IsNumberFault (words : List Name) (text : Name) : Type 0 where
   pub depth_of : IsNoDepth written.depth text
 
 -- the arguments keep the usage, a depth is a number, and a list of this option is the first error
-pub record IsListFault (words : List Name) (option : Name) : Type 0 where
+pub record IsOptionListFault (words : List Name) (option : Name) : Type 0 where
   pub written : Written
   pub said : with_words none_written words ≡ Some written
   pub depth : Option ℕ
   pub depth_of : IsDepth written.depth depth
-  pub fault : IsGroupFault written option
+  pub fault : IsSeparatorFault written option
 
 -- why arguments are refused: the first of these errors that applies
 abbrev pub RefusesWords : List Name → WordsFault → Type 0
 RefusesWords words Usage = with_words none_written words ≡ None
 RefusesWords words (Number text) = IsNumberFault words (string_bytes text)
-RefusesWords words (Group option) = IsListFault words option.now
+RefusesWords words (Group option) = IsOptionListFault words option.now
 RefusesWords words Memory = Unit {0}
 
 -- an error in the arguments as an error of the list

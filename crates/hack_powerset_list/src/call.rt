@@ -3,7 +3,7 @@
 ghost use Rattle.std.specs.Prelude.{◌≡◌, ◌⊎◌, drop, OnOk, IfOk, IfErr};
 ghost use Rattle.std.specs.Vec.Iter.{into_iter_items};
 ghost use Rattle.hack_base.specs.Writes.{NoFewer};
-ghost use Rattle.hack_powerset_list.specs.Endings.{IsDone, IsRefused, RefusesCall, WritesForCall};
+ghost use Rattle.hack_powerset_list.specs.Endings.{EndsWithList, EndsWithError, RefusesCall, WritesForCall};
 ghost use Rattle.hack_powerset_list.specs.Streams.{IsCounted};
 
 use crate::fault::ListFault;
@@ -67,10 +67,10 @@ pub fn call_powerset_list<R: Source, W: Sink, E: Write>(
     out: &mut W,
     err: &mut E,
 ) -> Ending
-    ensures ended { IsDone arguments
+    ensures ended { EndsWithList arguments
         (R.remaining input.old) (W.contents out.old) (W.contents out.new)
         (E.contents err.old) (E.contents err.new) result
-        ⊎ IsRefused arguments (R.remaining input.old) (W.contents out.old) (W.contents out.new)
+        ⊎ EndsWithError arguments (R.remaining input.old) (W.contents out.old) (W.contents out.new)
         (IsCounted (R.failed input.old) (R.failed input.new) (W.failed out.old) (W.failed out.new))
         (E.contents err.old) (E.contents err.new) result }
     ensures kept { NoFewer (R.failed input.old) (R.failed input.new)

@@ -7,7 +7,7 @@ ghost use Rattle.hack_features.specs.Sets.{items_at};
 ghost use Rattle.hack_process.specs.CommandTexts.{listed_of};
 ghost use Rattle.hack_process.specs.Commands.{command_of};
 ghost use Rattle.hack_plan.specs.Runs.{run_of};
-ghost use Rattle.hack_powerset_list.specs.Lines.{run_text, run_command};
+ghost use Rattle.hack_powerset_list.specs.Lines.{run_text, listed_run_command};
 
 use hack_features::Feature;
 use hack_plan::runs::Run;
@@ -24,7 +24,7 @@ pub fn command<'a>(
     run: Run,
     positions: &[usize],
 ) -> Result<ProcessBuilder<'a>, AllocError>
-    ensures command { IfOk result (λ builder. command_of builder ≡ run_command
+    ensures command { IfOk result (λ builder. command_of builder ≡ listed_run_command
         (map string_bytes passed.now) (map name_of features.now) (run_of run positions.now)) }
     ensures line { map string_bytes passed.now ≡ codes "check" ∷ []
         → IfOk result (λ builder. listed_of [] (command_of builder)

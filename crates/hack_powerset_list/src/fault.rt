@@ -4,7 +4,7 @@ ghost use Rattle.std.specs.Prelude.{◌≡◌, ◌++◌, OnOk, Some};
 ghost use Rattle.std.specs.IoError.{error_kind};
 ghost use Rattle.std.specs.Io.KnownBytes.{Appends};
 ghost use Rattle.hack_base.specs.Writes.{AppendsFront};
-ghost use Rattle.hack_powerset_list.specs.Faults.{fault_text, fault_line, told_as};
+ghost use Rattle.hack_powerset_list.specs.Faults.{list_fault_text, fault_line, told_as};
 
 use crate::writes::write_texts;
 use std::alloc::{AllocError, AllocFailed};
@@ -83,7 +83,7 @@ impl ListFault {
 
     fn parts(&self) -> Parts<'_>
         ensures { result.before.now ++ result.written.now ++ result.behind.now
-            ≡ fault_text self.now }
+            ≡ list_fault_text self.now }
     {
         match self {
             ListFault::Usage => Parts::fixed(USAGE),
@@ -107,7 +107,7 @@ impl ListFault {
 }
 
 impl fmt::Display for ListFault {
-    ghost output = { λ fault. Some (fault_text fault) };
+    ghost output = { λ fault. Some (list_fault_text fault) };
 
     fn fmt<W: fmt::Write>(&self, f: &mut fmt::Formatter<W>) -> fmt::Result {
         let parts = self.parts();

@@ -8,8 +8,8 @@ ghost use Rattle.hack_features.specs.Feature.{name_of};
 ghost use Rattle.hack_process.specs.CommandTexts.{listed_of};
 ghost use Rattle.hack_process.specs.Commands.{command_of};
 ghost use Rattle.hack_base.specs.Writes.{AppendsFront};
-ghost use Rattle.hack_powerset_list.specs.LineWords.{bare_command, Prints, TurnsPage};
-ghost use Rattle.hack_powerset_list.specs.Streams.{Stops};
+ghost use Rattle.hack_powerset_list.specs.LineWords.{bare_command, PrintsText, TurnsPage};
+ghost use Rattle.hack_powerset_list.specs.Streams.{CountsUnlessMemory};
 
 use hack_base::writes::{Sink, write_front};
 use hack_features::Feature;
@@ -94,7 +94,7 @@ fn turn_full_page<W: Sink>(page: &mut String, out: &mut W) -> io::Result<()>
         (string_bytes page.old) (string_bytes page.new)) }
     ensures err { OnErr result (AppendsFront (W.contents out.old) (W.contents out.new)
         (string_bytes page.old)) }
-    ensures counted { Stops (W.failed out.old) (W.failed out.new) result }
+    ensures counted { CountsUnlessMemory (W.failed out.old) (W.failed out.new) result }
 {
     if page.len() < FULL {
         return Ok(());
@@ -126,12 +126,12 @@ pub fn print_line<W: Sink>(
     page: &mut String,
     out: &mut W,
 ) -> io::Result<()>
-    ensures ok { OnOk result (Prints (W.contents out.old) (W.contents out.new)
+    ensures ok { OnOk result (PrintsText (W.contents out.old) (W.contents out.new)
         (string_bytes page.old) (string_bytes page.new)
         (command.now ++ first.now ++ others.now ++ codes "\n")) }
     ensures err { OnErr result (AppendsFront (W.contents out.old) (W.contents out.new)
         (string_bytes page.old ++ (command.now ++ first.now ++ others.now ++ codes "\n"))) }
-    ensures counted { Stops (W.failed out.old) (W.failed out.new) result }
+    ensures counted { CountsUnlessMemory (W.failed out.old) (W.failed out.new) result }
 {
     push_line(command, first, others, page)?;
     turn_full_page(page, out)

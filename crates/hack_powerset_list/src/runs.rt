@@ -9,12 +9,12 @@ ghost use Rattle.hack_base.specs.Writes.{AppendsFront};
 ghost use Rattle.hack_plan.specs.Runs.{Plain, NoDefaultFeatures, run_if, runs_from};
 ghost use Rattle.hack_plan.specs.Runs.{with_last_first};
 ghost use Rattle.hack_powerset_list.specs.Lines.{run_lines};
-ghost use Rattle.hack_powerset_list.specs.LineWords.{Prints};
+ghost use Rattle.hack_powerset_list.specs.LineWords.{PrintsText};
 ghost use Rattle.hack_powerset_list.specs.LinesView.{AreTexts};
 ghost use Rattle.hack_powerset_list.specs.ListRuns.{options_from};
 ghost use Rattle.hack_powerset_list.specs.Room.{set_in, most_in};
 ghost use Rattle.hack_powerset_list.specs.Walks.{EndsIn, listed_in, set_lines};
-ghost use Rattle.hack_powerset_list.specs.Streams.{Stops};
+ghost use Rattle.hack_powerset_list.specs.Streams.{CountsUnlessMemory};
 
 use crate::lines::{Texts, empty_page, print_line};
 use crate::room::SetRoom;
@@ -37,13 +37,13 @@ fn print_front<W: Sink>(
     out: &mut W,
 ) -> io::Result<()>
     requires texts { AreTexts (map name_of features.now) texts.now }
-    ensures ok { OnOk result (Prints (W.contents out.old) (W.contents out.new)
+    ensures ok { OnOk result (PrintsText (W.contents out.old) (W.contents out.new)
         (string_bytes page.old) (string_bytes page.new) (run_lines (map name_of features.now)
         (if plain then Plain ∷ [] else run_if bare NoDefaultFeatures))) }
     ensures err { OnErr result (AppendsFront (W.contents out.old) (W.contents out.new)
         (string_bytes page.old ++ run_lines (map name_of features.now)
         (if plain then Plain ∷ [] else run_if bare NoDefaultFeatures))) }
-    ensures counted { Stops (W.failed out.old) (W.failed out.new) result }
+    ensures counted { CountsUnlessMemory (W.failed out.old) (W.failed out.new) result }
 {
     if plain {
         print_line(texts.plain.as_str(), "", "", page, out)
@@ -70,14 +70,14 @@ fn print_sets<W: Sink>(
     requires room { most_in room.old ≡ size_of rules.old }
     requires none { set_in room.old ≡ [] }
     requires last { EndsIn (listed_in rules.old) lines.now.last.now }
-    ensures ok { OnOk result (Prints (W.contents out.old) (W.contents out.new)
+    ensures ok { OnOk result (PrintsText (W.contents out.old) (W.contents out.new)
         (string_bytes page.old) (string_bytes page.new)
         (set_lines (map name_of lines.now.features.now)
         (with_last_first last_first (listed_in rules.old)))) }
     ensures err { OnErr result (AppendsFront (W.contents out.old) (W.contents out.new)
         (string_bytes page.old ++ set_lines (map name_of lines.now.features.now)
         (with_last_first last_first (listed_in rules.old)))) }
-    ensures counted { Stops (W.failed out.old) (W.failed out.new) result }
+    ensures counted { CountsUnlessMemory (W.failed out.old) (W.failed out.new) result }
 {
     let n = lines.features.len();
     if last_first {
@@ -99,13 +99,13 @@ fn print_runs<W: Sink>(
     out: &mut W,
 ) -> io::Result<()>
     requires { size_of rules.old ≡ length features.now }
-    ensures ok { OnOk result (Prints (W.contents out.old) (W.contents out.new)
+    ensures ok { OnOk result (PrintsText (W.contents out.old) (W.contents out.new)
         (string_bytes page.old) (string_bytes page.new) (run_lines (map name_of features.now)
         (runs_from (options_from wishes.now features.now) (listed_in rules.old)))) }
     ensures err { OnErr result (AppendsFront (W.contents out.old) (W.contents out.new)
         (string_bytes page.old ++ run_lines (map name_of features.now)
         (runs_from (options_from wishes.now features.now) (listed_in rules.old)))) }
-    ensures counted { Stops (W.failed out.old) (W.failed out.new) result }
+    ensures counted { CountsUnlessMemory (W.failed out.old) (W.failed out.new) result }
 {
     let texts = Texts::of_check(alloc, features)?;
     let mut room = SetRoom::new(alloc, features.len())?;
@@ -140,7 +140,7 @@ pub fn write_lines<W: Sink>(
     ensures front { AppendsFront (W.contents out.old) (W.contents out.new)
         (run_lines (map name_of features.now)
         (runs_from (options_from wishes.now features.now) (listed_in rules.old))) }
-    ensures counted { Stops (W.failed out.old) (W.failed out.new) result }
+    ensures counted { CountsUnlessMemory (W.failed out.old) (W.failed out.new) result }
 {
     let mut page = empty_page(alloc)?;
     print_runs(alloc, wishes, features, rules, &mut page, out)?;

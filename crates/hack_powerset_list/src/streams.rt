@@ -5,9 +5,9 @@ ghost use Rattle.std.specs.Io.{ReadsAtMost};
 ghost use Rattle.std.specs.Io.KnownBytes.{ReadConsumes};
 ghost use Rattle.std.specs.IoError.{error_kind};
 ghost use Rattle.std.specs.declared.io.ErrorKind.TheVariants.{Interrupted};
-ghost use Rattle.hack_base.specs.Writes.{Counts, CountsErrors};
+ghost use Rattle.hack_base.specs.Writes.{CountsFailure, CountsErrors};
 ghost use Rattle.hack_powerset_list.specs.CommandList.{IsInput};
-ghost use Rattle.hack_powerset_list.specs.Streams.{Stops};
+ghost use Rattle.hack_powerset_list.specs.Streams.{CountsUnlessMemory};
 
 use std::alloc::{AllocError, Global};
 use std::io;
@@ -26,7 +26,7 @@ pub trait Source {
     fn read_some(&mut self, bytes: &mut [u8]) -> io::Result<usize>
         ensures bound { ReadsAtMost result bytes.new }
         ensures bytes { ReadConsumes (remaining self.old) (remaining self.new) result bytes.new }
-        ensures counted { Counts (failed self.old) (failed self.new) result };
+        ensures counted { CountsFailure (failed self.old) (failed self.new) result };
 }
 
 impl<R: Read> Source for R {
@@ -99,7 +99,7 @@ fn read_again<R: Source>(bytes: &mut [u8], source: &mut R) -> io::Result<usize>
 pub fn read_whole<R: Source>(alloc: Global, source: &mut R) -> io::Result<Vec<u8>>
     ensures bytes { IfOk result (λ bytes. IsInput (R.remaining source.old) bytes.items) }
     ensures retried { IfErr result (λ error. error_kind error ≢ Interrupted) }
-    ensures counted { Stops (R.failed source.old) (R.failed source.new) result }
+    ensures counted { CountsUnlessMemory (R.failed source.old) (R.failed source.new) result }
 {
     let mut room = room_for(alloc, ROOM)?;
     let mut whole = Vec::new(alloc);

@@ -9,12 +9,12 @@ ghost use Rattle.hack_features.specs.View.{may_of, size_of, whole_of};
 ghost use Rattle.hack_base.specs.Writes.{AppendsFront};
 ghost use Rattle.hack_plan.specs.Runs.{Set};
 ghost use Rattle.hack_powerset_list.specs.Lines.{run_line};
-ghost use Rattle.hack_powerset_list.specs.LineWords.{Prints, others_text};
+ghost use Rattle.hack_powerset_list.specs.LineWords.{PrintsText, others_text};
 ghost use Rattle.hack_powerset_list.specs.LinesView.{AreTexts};
 ghost use Rattle.hack_powerset_list.specs.Room.{set_in, most_in};
 ghost use Rattle.hack_features.specs.Walk.{below};
 ghost use Rattle.hack_powerset_list.specs.Walks.{EndsIn, is_other, listed_below, set_lines};
-ghost use Rattle.hack_powerset_list.specs.Streams.{Stops};
+ghost use Rattle.hack_powerset_list.specs.Streams.{CountsUnlessMemory};
 
 use crate::lines::{Texts, print_line};
 use crate::room::SetRoom;
@@ -99,13 +99,13 @@ fn print_set<W: Sink>(
     requires texts { AreTexts (map name_of features.now) texts.now }
     requires least { least < length features.now }
     ensures ok { (s : List ℕ) → others.now ≡ others_text (items_at (map name_of features.now) s)
-        → OnOk result (Prints (W.contents out.old) (W.contents out.new)
+        → OnOk result (PrintsText (W.contents out.old) (W.contents out.new)
         (string_bytes page.old) (string_bytes page.new)
         (run_line (map name_of features.now) (Set (least ∷ s)))) }
     ensures err { (s : List ℕ) → others.now ≡ others_text (items_at (map name_of features.now) s)
         → OnErr result (AppendsFront (W.contents out.old) (W.contents out.new)
         (string_bytes page.old ++ run_line (map name_of features.now) (Set (least ∷ s)))) }
-    ensures counted { Stops (W.failed out.old) (W.failed out.new) result }
+    ensures counted { CountsUnlessMemory (W.failed out.old) (W.failed out.new) result }
 {
     print_line(
         texts.bare.as_str(),
@@ -132,7 +132,7 @@ fn print_other<W: Sink>(
     requires set { IsSelection (size_of rules.now) set.now }
     ensures ok { (s : List ℕ) → set.now ≡ least ∷ s
         → others.now ≡ others_text (items_at (map name_of lines.now.features.now) s)
-        → OnOk result (Prints (W.contents out.old) (W.contents out.new)
+        → OnOk result (PrintsText (W.contents out.old) (W.contents out.new)
         (string_bytes page.old) (string_bytes page.new)
         (set_lines (map name_of lines.now.features.now)
         (filter (is_other rules.now lines.now.last.now) (set.now ∷ [])))) }
@@ -141,7 +141,7 @@ fn print_other<W: Sink>(
         → OnErr result (AppendsFront (W.contents out.old) (W.contents out.new)
         (string_bytes page.old ++ set_lines (map name_of lines.now.features.now)
         (filter (is_other rules.now lines.now.last.now) (set.now ∷ [])))) }
-    ensures counted { Stops (W.failed out.old) (W.failed out.new) result }
+    ensures counted { CountsUnlessMemory (W.failed out.old) (W.failed out.new) result }
 {
     if rules.complete(set) && set != lines.last {
         print_set(lines.features, lines.texts, least, others, page, out)
@@ -191,7 +191,7 @@ pub fn print_below<W: Sink>(
     requires limit { limit ≤ size_of rules.old }
     requires others { others.now
         ≡ others_text (items_at (map name_of lines.now.features.now) (set_in room.old)) }
-    ensures ok { OnOk result (Prints (W.contents out.old) (W.contents out.new)
+    ensures ok { OnOk result (PrintsText (W.contents out.old) (W.contents out.new)
         (string_bytes page.old) (string_bytes page.new)
         (set_lines (map name_of lines.now.features.now)
         (filter (is_other rules.old lines.now.last.now)
@@ -205,7 +205,7 @@ pub fn print_below<W: Sink>(
     ensures same_size { size_of rules.new ≡ size_of rules.old }
     ensures same_may { may_of rules.new ≡ may_of rules.old }
     ensures same_whole { whole_of rules.new ≡ whole_of rules.old }
-    ensures counted { Stops (W.failed out.old) (W.failed out.new) result }
+    ensures counted { CountsUnlessMemory (W.failed out.old) (W.failed out.new) result }
 {
     for p in 0..limit {
         if !rules.may_begin(p, room.set()) {
@@ -253,12 +253,12 @@ pub fn print_whole<W: Sink>(
     requires texts { AreTexts (map name_of features.now) texts.now }
     requires below { All (λ p. p < length features.now) set.now }
     requires some { 0 < length set.now }
-    ensures ok { OnOk result (Prints (W.contents out.old) (W.contents out.new)
+    ensures ok { OnOk result (PrintsText (W.contents out.old) (W.contents out.new)
         (string_bytes page.old) (string_bytes page.new)
         (run_line (map name_of features.now) (Set set.now))) }
     ensures err { OnErr result (AppendsFront (W.contents out.old) (W.contents out.new)
         (string_bytes page.old ++ run_line (map name_of features.now) (Set set.now))) }
-    ensures counted { Stops (W.failed out.old) (W.failed out.new) result }
+    ensures counted { CountsUnlessMemory (W.failed out.old) (W.failed out.new) result }
 {
     let Some((least, rest)) = set.split_first() else {
         return Ok(());

@@ -11,7 +11,7 @@ use Rattle.hack_files.specs.Restore.{AreSafe, Kept, is_kept, kept_too, registere
 use Rattle.hack_files.specs.declared.restore.Manager.{Manager}
 use Rattle.hack_files.proofs.SafeLemmas.{kept_now, safe_kept, safe_same, safe_written}
 use Rattle.hack_prepare.specs.Paths.{Only}
-use Rattle.hack_prepare.specs.Steps.{Adds, AnyStart, HeldUnkept, IsStep, KeepsHeld, none, one}
+use Rattle.hack_prepare.specs.EditSteps.{AddsKeptFiles, AnyStart, HeldUnkept, IsStep, KeepsHeld, none, one}
 
 -- no more is kept, and each path that isn't holds what it held at the start
 pub keeps_none : (old new : List Kept) (start now : Contents) → new ≡ old → ((q : Name) → is_kept old q ≡ false → now q ≡ start q) → KeepsHeld old new start now
@@ -32,7 +32,7 @@ step_given tells P Q K L old new mid held f m h = record {
   keeps = λ t needs start q free. h.keeps t needs start (f start q) free;
 }
 
-adds_then : (start : Contents) (a b c : List Kept) → Adds start a b → Adds start b c → Adds start a c
+adds_then : (start : Contents) (a b c : List Kept) → AddsKeptFiles start a b → AddsKeptFiles start b c → AddsKeptFiles start a c
 adds_then start a b _ f none = f
 adds_then start a b _ f (one file g free held) = one file (adds_then start a b _ f g) free held
 
@@ -107,9 +107,9 @@ free_before files file q =
     (λ _ no. or_first (is_kept files q) (is_kept (file ∷ []) q) (sym (list_any-append (λ (f : Kept). bytes_eq f.path q) files (file ∷ [])) ∙ no))
 
 -- one file more is added, with what its path held
-adds_too : (files : List Kept) (file : Kept) (start : Contents) → (is_kept files file.path ≡ false → start file.path ≡ Some file.bytes) → Adds start files (kept_too files file)
+adds_too : (files : List Kept) (file : Kept) (start : Contents) → (is_kept files file.path ≡ false → start file.path ≡ Some file.bytes) → AddsKeptFiles start files (kept_too files file)
 adds_too files file start held =
-    cond_both (is_kept files file.path) files (files ++ file ∷ []) (Adds start files) (λ _. none) (λ free. one file none free (held free))
+    cond_both (is_kept files file.path) files (files ++ file ∷ []) (AddsKeptFiles start files) (λ _. none) (λ free. one file none free (held free))
 
 -- a path that is kept isn't one that isn't
 kept_apart : (files : List Kept) (p q : Name) → is_kept files p ≡ true → is_kept files q ≡ false → q ≢ p

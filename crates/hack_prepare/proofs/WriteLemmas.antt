@@ -10,8 +10,8 @@ use Rattle.hack_files.proofs.FilesLemmas.{makes_more}
 use Rattle.hack_edits.specs.DevDeps.{IsWithoutDev}
 use Rattle.hack_edits.specs.Members.{in_order}
 use Rattle.hack_edits.specs.PrivateCrates.{IsWithoutPrivate}
-use Rattle.hack_prepare.specs.Prepared.{IsRootEdit, Member, Wanted, drops_at_root, edits_root, gone_manifests, has_some, is_alone, is_left, is_root}
-use Rattle.hack_prepare.specs.Steps.{KeepsApart}
+use Rattle.hack_prepare.specs.Prepared.{IsRootEdit, MemberManifest, Wanted, drops_at_root, edits_root, gone_manifests, has_some, is_alone, is_left, is_root}
+use Rattle.hack_prepare.specs.EditSteps.{KeepsApart}
 use Rattle.hack_prepare.specs.Writes.{AreDevWrites, AreRootWrites, AreWrites, BeginDevWrites, BeginWrites, IsAtMostOne, IsDevWrite, IsOne, IsOneIf, IsRootWrite, MakesSome, MayWriteRoot, ReadsRoot, WritesRoot}
 use Rattle.hack_prepare.proofs.RootLemmas.{alone-free, drops-found, drops-missed, edits-is, root-found, root-missed, text_in}
 
@@ -70,7 +70,7 @@ on-err A B (Err e) f h = f h
 
 -- ---- the members' writes
 
-module _ {T E : Type 0} (whole : Type 0) (r : Result T E) (m : Member) (turned text : Name) (t u : List Change) (a b : Contents) (same : text ≡ turned) (edit : IsWithoutDev m.text turned) where
+module _ {T E : Type 0} (whole : Type 0) (r : Result T E) (m : MemberManifest) (turned text : Name) (t u : List Change) (a b : Contents) (same : text ≡ turned) (edit : IsWithoutDev m.text turned) where
   is-dev : IsDevWrite m (puts m.path text)
   is-dev = record { turned = turned; edit = edit; is = ap (puts m.path) same }
 
@@ -81,19 +81,19 @@ module _ {T E : Type 0} (whole : Type 0) (r : Result T E) (m : Member) (turned t
   dev-or-not h = on-err (whole → MakesOrNot (puts m.path text) t u a b) (whole → MakesSome (IsAtMostOne (IsDevWrite m)) t u a b) r (λ f y. one-or-not (IsDevWrite m) (puts m.path text) t u a b is-dev (f y)) h
 
 -- a member that is left as it is has none
-pub dev-same : (w : Wanted) (ms : List Member) (m : Member) (made : List Change) → is_alone w m ≡ false → AreDevWrites w ms made → AreDevWrites w (ms ++ m ∷ []) made
+pub dev-same : (w : Wanted) (ms : List MemberManifest) (m : MemberManifest) (made : List Change) → is_alone w m ≡ false → AreDevWrites w ms made → AreDevWrites w (ms ++ m ∷ []) made
 dev-same w ms m made e h =
     subst (λ l. AllZip IsDevWrite l made)
     (sym (filter-append (is_alone w) ms (m ∷ []) ∙ ap (λ b. filter (is_alone w) ms ++ cond b (m ∷ []) []) e ∙ append-nil (filter (is_alone w) ms))) h
 
 -- one that is edited by itself has one
-pub dev-more : (w : Wanted) (ms : List Member) (m : Member) (made : List Change) (c : Change) → is_alone w m ≡ true → IsDevWrite m c → AreDevWrites w ms made → AreDevWrites w (ms ++ m ∷ []) (made ++ c ∷ [])
+pub dev-more : (w : Wanted) (ms : List MemberManifest) (m : MemberManifest) (made : List Change) (c : Change) → is_alone w m ≡ true → IsDevWrite m c → AreDevWrites w ms made → AreDevWrites w (ms ++ m ∷ []) (made ++ c ∷ [])
 dev-more w ms m made c e is h =
     subst (λ l. AllZip IsDevWrite l (made ++ c ∷ []))
     (sym (filter-append (is_alone w) ms (m ∷ []) ∙ ap (λ b. filter (is_alone w) ms ++ cond b (m ∷ []) []) e))
     (each-join IsDevWrite (filter (is_alone w) ms) (m ∷ []) made (c ∷ []) h (is, tt))
 
-module _ (w : Wanted) (ms : List Member) (k : ℕ) (m : Member) (one : take (k + 1) ms ≡ take k ms ++ m ∷ []) (t u v : List Change) (a b z : Contents) where
+module _ (w : Wanted) (ms : List MemberManifest) (k : ℕ) (m : MemberManifest) (one : take (k + 1) ms ≡ take k ms ++ m ∷ []) (t u v : List Change) (a b z : Contents) where
   pub left-made : is_alone w m ≡ false → MakesSome (AreDevWrites w (take k ms)) t u a b → MakesSome (AreDevWrites w (take (k + 1) ms)) t u a b
   left-made e h = (h.0, subst (λ l. AreDevWrites w l h.0) (sym one) (dev-same w (take k ms) m h.0 e h.1), h.2)
 
@@ -120,15 +120,15 @@ pub dev_none : (whole : Type 0) (w : Wanted) (t : List Change) (m : Contents) �
 dev_none whole w t m y = ([], tt, makes_none t m)
 
 -- nothing is begun
-pub begun_none : (whole tells : Type 0) (w : Wanted) (ms : List Member) (held : Contents) (t : List Change) (m : Contents) → whole → MakesSome (BeginWrites tells w ms held) t t m m
+pub begun_none : (whole tells : Type 0) (w : Wanted) (ms : List MemberManifest) (held : Contents) (t : List Change) (m : Contents) → whole → MakesSome (BeginWrites tells w ms held) t t m m
 begun_none whole tells w ms held t m y = ([], inl (0, tt), makes_none t m)
 
 -- all members'
-pub dev_all : (whole : Type 0) (w : Wanted) (ms : List Member) (k : ℕ) (t u : List Change) (m n : Contents) → length ms ≤ k → (whole → MakesSome (AreDevWrites w (take k ms)) t u m n) → whole → MakesSome (AreDevWrites w ms) t u m n
+pub dev_all : (whole : Type 0) (w : Wanted) (ms : List MemberManifest) (k : ℕ) (t u : List Change) (m n : Contents) → length ms ≤ k → (whole → MakesSome (AreDevWrites w (take k ms)) t u m n) → whole → MakesSome (AreDevWrites w ms) t u m n
 dev_all whole w ms k t u m n end h y = let r = h y in (r.0, subst (λ l. AreDevWrites w l r.0) (take_all k ms end) r.1, r.2)
 
 -- the members so far
-pub so-far-begun : (w : Wanted) (ms : List Member) (k : ℕ) (t u : List Change) (m n : Contents) → MakesSome (AreDevWrites w (take k ms)) t u m n → MakesSome (BeginDevWrites w ms) t u m n
+pub so-far-begun : (w : Wanted) (ms : List MemberManifest) (k : ℕ) (t u : List Change) (m n : Contents) → MakesSome (AreDevWrites w (take k ms)) t u m n → MakesSome (BeginDevWrites w ms) t u m n
 so-far-begun w ms k t u m n h = (h.0, (k, h.1), h.2)
 
 -- ---- the root's write
@@ -166,18 +166,18 @@ held-or-not a P c t u m n on p (inl h) = ([], inl refl, h)
 held-or-not a P c t u m n on p (inr h) = (c ∷ [], inr (if-asked a P on (c ∷ []) (c, p, refl)), h)
 
 -- the one that is found by a member's text, and the one that is read, are the root's
-module _ (tells : Type 0) (w : Wanted) (ms : List Member) (private : List Name) (held : Contents) (wanted : w.no_private ≡ true) (same : private ≡ gone_manifests w ms) where
+module _ (tells : Type 0) (w : Wanted) (ms : List MemberManifest) (private : List Name) (held : Contents) (wanted : w.no_private ≡ true) (same : private ≡ gone_manifests w ms) where
   reads-found : (text : Name) → Some text ≡ option_map text_in (find (is_root w) ms) → (x : Name) → x ≡ text → ReadsRoot tells w ms held x
   reads-found text found x is = by (find (is_root w) ms) found
     where
-      by : (o : Option Member) → Some text ≡ option_map text_in o → MatchOption o (tells → held w.root ≡ Some x) (λ m. x ≡ m.text)
+      by : (o : Option MemberManifest) → Some text ≡ option_map text_in o → MatchOption o (tells → held w.root ≡ Some x) (λ m. x ≡ m.text)
       by None e = absurd (cc)
       by (Some m) e = cc
 
   reads-missed : None ≡ option_map text_in (find (is_root w) ms) → (x : Name) → (tells → held w.root ≡ Some x) → ReadsRoot tells w ms held x
   reads-missed missed x is = by (find (is_root w) ms) missed
     where
-      by : (o : Option Member) → None ≡ option_map text_in o → MatchOption o (tells → held w.root ≡ Some x) (λ m. x ≡ m.text)
+      by : (o : Option MemberManifest) → None ≡ option_map text_in o → MatchOption o (tells → held w.root ≡ Some x) (λ m. x ≡ m.text)
       by None e = is
       by (Some m) e = absurd (cc)
 
@@ -263,11 +263,11 @@ module _ {T E : Type 0} (whole : Type 0) (r : Result T E) (tells : Type 0) (w : 
 -- ---- all together
 
 -- where the members' manifests were written before
-module _ (tells : Type 0) (w : Wanted) (ms : List Member) (old mid new : Contents) (t u v : List Change) (apart : tells → KeepsApart w ms old mid) where
+module _ (tells : Type 0) (w : Wanted) (ms : List MemberManifest) (old mid new : Contents) (t u v : List Change) (apart : tells → KeepsApart w ms old mid) where
   reads-earlier : (x : Name) → ReadsRoot tells w ms mid x → ReadsRoot tells w ms old x
   reads-earlier x h = by (find (is_root w) ms) refl h
     where
-      by : (o : Option Member) → o ≡ find (is_root w) ms → MatchOption o (tells → mid w.root ≡ Some x) (λ m. x ≡ m.text) → MatchOption o (tells → old w.root ≡ Some x) (λ m. x ≡ m.text)
+      by : (o : Option MemberManifest) → o ≡ find (is_root w) ms → MatchOption o (tells → mid w.root ≡ Some x) (λ m. x ≡ m.text) → MatchOption o (tells → old w.root ≡ Some x) (λ m. x ≡ m.text)
       by None e k = λ s. sym (apart s w.root (alone-free w ms (root-missed w ms (ap (option_map text_in) e)))) ∙ k s
       by (Some m) e k = k
 
@@ -288,15 +288,15 @@ module _ (tells : Type 0) (w : Wanted) (ms : List Member) (old mid new : Content
   ]
 
 -- where private members stay the root's manifest isn't written
-pub unwanted : (tells : Type 0) (w : Wanted) (ms : List Member) (held : Contents) (t : List Change) (m : Contents) → w.no_private ≡ false → MakesSome (AreRootWrites tells w ms held) t t m m
+pub unwanted : (tells : Type 0) (w : Wanted) (ms : List MemberManifest) (held : Contents) (t : List Change) (m : Contents) → w.no_private ≡ false → MakesSome (AreRootWrites tells w ms held) t t m m
 unwanted tells w ms held t m n = ([], if-unasked (edits_root w ms) (WritesRoot tells w ms held) (ap (λ b. b && (drops_at_root w ms || has_some (gone_manifests w ms))) n), makes_none t m)
 
 -- where nothing is asked nothing is written
-none-alone : (w : Wanted) (ms : List Member) → w.drops_dev ≡ false → filter (is_alone w) ms ≡ []
+none-alone : (w : Wanted) (ms : List MemberManifest) → w.drops_dev ≡ false → filter (is_alone w) ms ≡ []
 none-alone w [] d = refl
 none-alone w (m ∷ ms) d = ap (λ b. cond (b && not (is_left w m)) (m ∷ filter (is_alone w) ms) (filter (is_alone w) ms)) d ∙ none-alone w ms d
 
-pub none-asked : (tells : Type 0) (w : Wanted) (ms : List Member) (held : Contents) (t : List Change) → w.drops_dev ≡ false → w.no_private ≡ false → MakesSome (AreWrites tells w ms held) t t held held
+pub none-asked : (tells : Type 0) (w : Wanted) (ms : List MemberManifest) (held : Contents) (t : List Change) → w.drops_dev ≡ false → w.no_private ≡ false → MakesSome (AreWrites tells w ms held) t t held held
 none-asked tells w ms held t d n = (
   [],
   record {

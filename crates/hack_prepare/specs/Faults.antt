@@ -11,8 +11,8 @@ use Rattle.hack_edits.specs.PrivateCrates.{HasBadForm, HasWork, some_path_contro
 use Rattle.hack_edits.specs.declared.fault.ManifestFault.{ManifestFault}
 use Rattle.hack_edits.specs.declared.fault.ManifestFault.TheVariants as edit
 use Rattle.hack_prepare.specs.Paths.{IsEdited, IsLookedAt, IsReadRoot, IsTextless}
-use Rattle.hack_prepare.specs.Prepared.{HasPrivateRoot, Member, Wanted, drops_at_root, edits_root, gone_manifests, has_some, is_alone}
-use Rattle.hack_prepare.specs.Steps.{IsRootText}
+use Rattle.hack_prepare.specs.Prepared.{HasPrivateRoot, MemberManifest, Wanted, drops_at_root, edits_root, gone_manifests, has_some, is_alone}
+use Rattle.hack_prepare.specs.EditSteps.{IsRootText}
 use Rattle.hack_prepare.specs.declared.fault.PrepareFault.{PrepareFault}
 use Rattle.hack_prepare.specs.declared.fault.PrepareFault.TheVariants.{Memory, PrivateRoot, Files, Toml, InlineTarget, WorkspaceForm, PathText, ReadBack}
 
@@ -59,11 +59,11 @@ IsOfFile (fs.NotText path) e = e ≡ Files (fs.NotText path)
 -- ---- why nothing more is edited
 
 -- one of `reads` can't be read, one of `writes` can't be written, or one of `textless` has no text
-abbrev pub IsFileFault : (Name → Type 0) → (Name → Type 0) → (Name → Type 0) → FsFault → Type 0
-IsFileFault reads writes textless (fs.Read p) = reads (string_bytes p)
-IsFileFault reads writes textless (fs.Write p) = writes (string_bytes p)
-IsFileFault reads writes textless (fs.NotText p) = textless (string_bytes p)
-IsFileFault reads writes textless fs.Memory = ⊥
+abbrev pub IsPathFault : (Name → Type 0) → (Name → Type 0) → (Name → Type 0) → FsFault → Type 0
+IsPathFault reads writes textless (fs.Read p) = reads (string_bytes p)
+IsPathFault reads writes textless (fs.Write p) = writes (string_bytes p)
+IsPathFault reads writes textless (fs.NotText p) = textless (string_bytes p)
+IsPathFault reads writes textless fs.Memory = ⊥
 
 -- where a path can't be written, this holds of it
 abbrev pub AtFileWrite : (Name → Type 0) → FsFault → Type 0
@@ -83,45 +83,45 @@ AtWrite P (PathText p) = Unit {0}
 AtWrite P (ReadBack p) = Unit {0}
 
 -- memory ran out, or it is an error of a file at such paths, or an error of this kind
-abbrev pub IsFault : (Name → Type 0) → (Name → Type 0) → (Name → Type 0) → (PrepareFault → Type 0) → PrepareFault → Type 0
-IsFault reads writes textless P e = (e ≡ Memory) ⊎ (((f : FsFault) × (e ≡ Files f) × IsFileFault reads writes textless f) ⊎ P e)
+abbrev pub IsPathFaultOr : (Name → Type 0) → (Name → Type 0) → (Name → Type 0) → (PrepareFault → Type 0) → PrepareFault → Type 0
+IsPathFaultOr reads writes textless P e = (e ≡ Memory) ⊎ (((f : FsFault) × (e ≡ Files f) × IsPathFault reads writes textless f) ⊎ P e)
 
 -- no error
 abbrev pub NoFault : PrepareFault → Type 0
 NoFault e = ⊥
 
 -- a member's manifest that is to be edited by itself can't be
-pub record IsMemberFault (w : Wanted) (ms : List Member) (e : PrepareFault) : Type 0 where
-  pub member : Member
+pub record IsMemberEditFault (w : Wanted) (ms : List MemberManifest) (e : PrepareFault) : Type 0 where
+  pub member : MemberManifest
   pub among : Contains ms member
   pub alone : is_alone w member ≡ true
   pub fault : IsDevFault member.path member.text e
 
 -- why the manifests of members aren't edited: a private member at the root, or an error of one
-abbrev pub IsMembersFault : Wanted → List Member → PrepareFault → Type 0
-IsMembersFault w ms e = ((e ≡ PrivateRoot) × HasPrivateRoot w ms) ⊎ IsMemberFault w ms e
+abbrev pub IsMembersFault : Wanted → List MemberManifest → PrepareFault → Type 0
+IsMembersFault w ms e = ((e ≡ PrivateRoot) × HasPrivateRoot w ms) ⊎ IsMemberEditFault w ms e
 
 -- why a workspace's text isn't edited: removing development dependencies fails, or then members
-abbrev pub IsTextFault : Wanted → Bool → List Name → Name → PrepareFault → Type 0
-IsTextFault w drops_dev private text e =
+abbrev pub IsRootTextFault : Wanted → Bool → List Name → Name → PrepareFault → Type 0
+IsRootTextFault w drops_dev private text e =
     ((drops_dev ≡ true) × IsDevFault w.root text e)
     ⊎ ((between : Name) × MatchBool drops_dev (IsWithoutDev text between) (between ≡ text) × IsPrivateFault w.root w.folder (in_order private) between e)
 
 -- members can't be removed from the text that is held
 abbrev pub IsHeldFault : Wanted → List Name → Type 0 → Contents → PrepareFault → Type 0
-IsHeldFault w private tells held e = (has_some private ≡ true) × (text : Name) × (tells → held w.root ≡ Some text) × IsTextFault w false private text e
+IsHeldFault w private tells held e = (has_some private ≡ true) × (text : Name) × (tells → held w.root ≡ Some text) × IsRootTextFault w false private text e
 
 -- the same for the text that a member has read, or that is held
-pub record IsRootFault (w : Wanted) (ms : List Member) (tells : Type 0) (held : Contents) (e : PrepareFault) : Type 0 where
+pub record IsRootFault (w : Wanted) (ms : List MemberManifest) (tells : Type 0) (held : Contents) (e : PrepareFault) : Type 0 where
   pub text : Name
   pub asked : edits_root w ms ≡ true
   pub read : tells → IsRootText w ms held text
-  pub fault : IsTextFault w (drops_at_root w ms) (gone_manifests w ms) text e
+  pub fault : IsRootTextFault w (drops_at_root w ms) (gone_manifests w ms) text e
 
 -- why an edit isn't made
-abbrev pub IsUnmade : Wanted → List Member → Type 0 → Contents → PrepareFault → Type 0
+abbrev pub IsUnmade : Wanted → List MemberManifest → Type 0 → Contents → PrepareFault → Type 0
 IsUnmade w ms tells held e = IsMembersFault w ms e ⊎ IsRootFault w ms tells held e
 
 -- why edits aren't made, or memory ran out
-abbrev pub IsEditsFault : Wanted → List Member → Type 0 → Contents → PrepareFault → Type 0
-IsEditsFault w ms tells held = IsFault (IsLookedAt w ms) (IsEdited w ms) (IsTextless tells held (IsReadRoot w ms)) (IsUnmade w ms tells held)
+abbrev pub IsEditsFault : Wanted → List MemberManifest → Type 0 → Contents → PrepareFault → Type 0
+IsEditsFault w ms tells held = IsPathFaultOr (IsLookedAt w ms) (IsEdited w ms) (IsTextless tells held (IsReadRoot w ms)) (IsUnmade w ms tells held)

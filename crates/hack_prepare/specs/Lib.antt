@@ -1,8 +1,8 @@
-pub mod Counts
+pub mod FailureCounts
 pub mod Faults
 pub mod Paths
 pub mod Prepared
 pub mod PreparedView
-pub mod Steps
-pub mod Told
+pub mod EditSteps
+pub mod EditNotes
 pub mod Writes

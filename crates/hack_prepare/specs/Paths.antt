@@ -4,7 +4,7 @@ use Rattle.std.specs.List.{list_any}
 use Rattle.hack_base.specs.Names.{Name}
 use Rattle.hack_files.specs.Faults.{HoldsNoText}
 use Rattle.hack_files.specs.Files.{Contents}
-use Rattle.hack_prepare.specs.Prepared.{Member, Wanted, edits_root, has_root, is_alone_at, is_edited}
+use Rattle.hack_prepare.specs.Prepared.{MemberManifest, Wanted, edits_root, has_root, is_alone_at, is_edited}
 
 -- no path
 abbrev pub Nowhere : Name → Type 0
@@ -19,23 +19,23 @@ abbrev pub OnlyIf : Bool → Name → Name → Type 0
 OnlyIf asked path p = (asked ≡ true) × (p ≡ path)
 
 -- some member's manifest that is edited by itself is at this path
-abbrev pub IsAlonePath : Wanted → List Member → Name → Type 0
+abbrev pub IsAlonePath : Wanted → List MemberManifest → Name → Type 0
 IsAlonePath w ms p = list_any (is_alone_at w p) ms ≡ true
 
 -- a path that is edited
-abbrev pub IsEdited : Wanted → List Member → Name → Type 0
+abbrev pub IsEdited : Wanted → List MemberManifest → Name → Type 0
 IsEdited w ms p = is_edited w ms p ≡ true
 
 -- a path that is edited, or the lockfile
-abbrev pub IsTouched : Wanted → List Member → Name → Type 0
+abbrev pub IsTouched : Wanted → List MemberManifest → Name → Type 0
 IsTouched w ms p = IsEdited w ms p ⊎ (p ≡ w.lockfile)
 
 -- the manifest in the folder of the workspace, which is edited, and which no member has read
-abbrev pub IsReadRoot : Wanted → List Member → Name → Type 0
+abbrev pub IsReadRoot : Wanted → List MemberManifest → Name → Type 0
 IsReadRoot w ms p = (edits_root w ms ≡ true) × (has_root w ms ≡ false) × (p ≡ w.root)
 
 -- a path that is looked at: such a manifest, or the lockfile
-abbrev pub IsLookedAt : Wanted → List Member → Name → Type 0
+abbrev pub IsLookedAt : Wanted → List MemberManifest → Name → Type 0
 IsLookedAt w ms p = IsReadRoot w ms p ⊎ (p ≡ w.lockfile)
 
 -- one of these paths, which are read, and what it holds is no text

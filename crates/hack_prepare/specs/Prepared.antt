@@ -22,13 +22,13 @@ pub record Wanted : Type 0 where
   pub lockfile : Name
 
 -- what is known of a workspace member's manifest
-pub record Member : Type 0 where
+pub record MemberManifest : Type 0 where
   pub path : Name
   pub text : Name
   pub is_private : Bool
 
 -- each member's manifest holds what was read there
-abbrev pub HoldTexts : Contents → List Member → Type 0
+abbrev pub HoldTexts : Contents → List MemberManifest → Type 0
 HoldTexts held ms = All (λ m. held m.path ≡ Some m.text) ms
 
 -- ---- what is edited
@@ -38,28 +38,28 @@ abbrev pub edits : Wanted → Bool
 edits w = w.drops_dev || w.no_private
 
 -- the member's manifest is in the folder of the workspace
-abbrev pub is_root : Wanted → Member → Bool
+abbrev pub is_root : Wanted → MemberManifest → Bool
 is_root w m = bytes_eq m.path w.root
 
 -- the member is removed from the workspace
-abbrev pub goes : Wanted → Member → Bool
-goes w m = w.no_private && m.is_private
+abbrev pub is_removed : Wanted → MemberManifest → Bool
+is_removed w m = w.no_private && m.is_private
 
 -- the member is removed, or its manifest is edited with the workspace's
-abbrev pub is_left : Wanted → Member → Bool
+abbrev pub is_left : Wanted → MemberManifest → Bool
 is_left w m = w.no_private && (m.is_private || is_root w m)
 
 -- the member's manifest is edited by itself
-abbrev pub is_alone : Wanted → Member → Bool
+abbrev pub is_alone : Wanted → MemberManifest → Bool
 is_alone w m = w.drops_dev && not (is_left w m)
 
 -- the same, and it is at this path
-abbrev pub is_alone_at : Wanted → Name → Member → Bool
+abbrev pub is_alone_at : Wanted → Name → MemberManifest → Bool
 is_alone_at w q m = is_alone w m && bytes_eq m.path q
 
 -- the manifests of the members that are removed
-abbrev pub gone_manifests : Wanted → List Member → List Name
-gone_manifests w ms = map (λ m. m.path) (filter (goes w) ms)
+abbrev pub gone_manifests : Wanted → List MemberManifest → List Name
+gone_manifests w ms = map (λ m. m.path) (filter (is_removed w) ms)
 
 -- the list isn't empty
 abbrev pub has_some : List Name → Bool
@@ -67,19 +67,19 @@ has_some [] = false
 has_some (p ∷ ps) = true
 
 -- a member's manifest is in the folder of the workspace
-abbrev pub has_root : Wanted → List Member → Bool
+abbrev pub has_root : Wanted → List MemberManifest → Bool
 has_root w ms = list_any (is_root w) ms
 
 -- a member there loses its development dependencies
-abbrev pub drops_at_root : Wanted → List Member → Bool
+abbrev pub drops_at_root : Wanted → List MemberManifest → Bool
 drops_at_root w ms = w.drops_dev && has_root w ms
 
 -- the manifest in the folder of the workspace gets its edits at the end
-abbrev pub edits_root : Wanted → List Member → Bool
+abbrev pub edits_root : Wanted → List MemberManifest → Bool
 edits_root w ms = w.no_private && (drops_at_root w ms || has_some (gone_manifests w ms))
 
 -- a path is edited
-abbrev pub is_edited : Wanted → List Member → Name → Bool
+abbrev pub is_edited : Wanted → List MemberManifest → Name → Bool
 is_edited w ms q = list_any (is_alone_at w q) ms || (edits_root w ms && bytes_eq q w.root)
 
 -- ---- what becomes of it
@@ -95,11 +95,11 @@ pub record IsRootEdit (folder : Name) (drops_dev : Bool) (private : List Name) (
   pub members : MatchBool (has_some private) (IsWithoutPrivate folder (in_order private) between turned) (turned ≡ between)
 
 -- every path that isn't edited holds what it held
-abbrev pub KeepsUnedited : Wanted → List Member → Contents → Contents → Type 0
+abbrev pub KeepsUnedited : Wanted → List MemberManifest → Contents → Contents → Type 0
 KeepsUnedited w ms old new = (q : Name) → is_edited w ms q ≡ false → new q ≡ old q
 
 -- each manifest that is edited holds its edit, and every other path what it held
-pub record IsPrepared (w : Wanted) (ms : List Member) (old new : Contents) : Type 0 where
+pub record IsPrepared (w : Wanted) (ms : List MemberManifest) (old new : Contents) : Type 0 where
   pub alone : All (λ m. is_alone w m ≡ true → Turns IsWithoutDev m.path old new) ms
   pub root : edits_root w ms ≡ true → Turns (IsRootEdit w.folder (drops_at_root w ms) (gone_manifests w ms)) w.root old new
   pub others : KeepsUnedited w ms old new
@@ -109,13 +109,13 @@ abbrev pub TurnsOrStays : Type 0 → (Name → Name → Type 0) → Name → Con
 TurnsOrStays failed P path old new = (new path ≡ old path) ⊎ (Turns P path old new ⊎ failed)
 
 -- each manifest that is edited holds what it held, or its edit, or this has failed for its path
-pub record IsPartlyPrepared (w : Wanted) (ms : List Member) (failed : Name → Type 0) (old new : Contents) : Type 0 where
+pub record IsPartlyPrepared (w : Wanted) (ms : List MemberManifest) (failed : Name → Type 0) (old new : Contents) : Type 0 where
   pub alone : All (λ m. is_alone w m ≡ true → TurnsOrStays (failed m.path) IsWithoutDev m.path old new) ms
   pub root : edits_root w ms ≡ true → TurnsOrStays (failed w.root) (IsRootEdit w.folder (drops_at_root w ms) (gone_manifests w ms)) w.root old new
 
 -- a private member is in the folder of the workspace, and private members are to be removed
-pub record HasPrivateRoot (w : Wanted) (ms : List Member) : Type 0 where
-  pub member : Member
+pub record HasPrivateRoot (w : Wanted) (ms : List MemberManifest) : Type 0 where
+  pub member : MemberManifest
   pub among : Contains ms member
-  pub goes : goes w member ≡ true
+  pub is_removed : is_removed w member ≡ true
   pub at_root : is_root w member ≡ true

@@ -8,8 +8,8 @@ use Rattle.hack_files.specs.Files.{Change, Contents}
 use Rattle.hack_base.specs.Notes.{Note}
 use Rattle.hack_prepare.specs.Faults.{IsEditsFault}
 use Rattle.hack_prepare.specs.Paths.{IsTouched}
-use Rattle.hack_prepare.specs.Prepared.{HasPrivateRoot, HoldTexts, IsPartlyPrepared, IsPrepared, KeepsUnedited, Member, Wanted, edits}
-use Rattle.hack_prepare.specs.Told.{notes}
+use Rattle.hack_prepare.specs.Prepared.{HasPrivateRoot, HoldTexts, IsPartlyPrepared, IsPrepared, KeepsUnedited, MemberManifest, Wanted, edits}
+use Rattle.hack_prepare.specs.EditNotes.{notes}
 use Rattle.hack_prepare.specs.Writes.{AreWrites, BeginWrites}
 use Rattle.hack_prepare.specs.declared.fault.PrepareFault.{PrepareFault}
 use Rattle.hack_prepare.specs.declared.fault.PrepareFault.TheVariants.{Memory}
@@ -17,24 +17,24 @@ use Rattle.hack_prepare.specs.declared.wanted.Member.{Member as TheMember}
 use Rattle.hack_prepare.specs.declared.wanted.Wanted.{Wanted as TheWanted}
 
 -- a member as clauses see it
-abbrev pub member_view : TheMember → Member
-member_view m = record { path = m.path.now; text = m.text.now; is_private = m.is_private }
+abbrev pub member_manifest_view : TheMember → MemberManifest
+member_manifest_view m = record { path = m.path.now; text = m.text.now; is_private = m.is_private }
 
 -- members in their order
-abbrev pub members_view : List TheMember → List Member
-members_view ms = map member_view ms
+abbrev pub members_view : List TheMember → List MemberManifest
+members_view ms = map member_manifest_view ms
 
 -- the edits that are asked for, as clauses see them
 abbrev pub wanted_view : TheWanted → Wanted
 wanted_view w = record { drops_dev = w.drops_dev; no_private = w.no_private; verbose = w.verbose; folder = w.folder.now; root = w.root.now; lockfile = w.lockfile.now }
 
 -- a member of what is loaded
-abbrev pub member_at : ContextRecord → ℕ → Option Member
-member_at cx id = option_and_then (λ p. option_map (λ m. record { path = p.manifest_path; text = string_bytes m.text; is_private = is_private_at cx id }) (manifest_at cx id)) (package_at cx id)
+abbrev pub member_manifest_at : ContextRecord → ℕ → Option MemberManifest
+member_manifest_at cx id = option_and_then (λ p. option_map (λ m. record { path = p.manifest_path; text = string_bytes m.text; is_private = is_private_at cx id }) (manifest_at cx id)) (package_at cx id)
 
 -- the members of what is loaded, in their order
-abbrev pub members_in : ContextRecord → List Member
-members_in cx = filter_map (member_at cx) cx.metadata.workspace_members
+abbrev pub member_manifests_in : ContextRecord → List MemberManifest
+member_manifests_in cx = filter_map (member_manifest_at cx) cx.metadata.workspace_members
 
 -- the edits that are asked for in their manifests
 abbrev pub wanted_in : ContextRecord → Wanted
@@ -51,7 +51,7 @@ wanted_in cx = record {
 
 -- each member's manifest holds what was loaded of it
 abbrev pub HoldTextsIn : ContextRecord → Contents → Type 0
-HoldTextsIn cx held = HoldTexts held (members_in cx)
+HoldTextsIn cx held = HoldTexts held (member_manifests_in cx)
 
 -- manifests are edited at all
 abbrev pub edits_in : ContextRecord → Bool
@@ -59,36 +59,36 @@ edits_in cx = edits (wanted_in cx)
 
 -- a private member is in the folder of the workspace, and private members are to be removed
 abbrev pub HasPrivateRootIn : ContextRecord → Type 0
-HasPrivateRootIn cx = HasPrivateRoot (wanted_in cx) (members_in cx)
+HasPrivateRootIn cx = HasPrivateRoot (wanted_in cx) (member_manifests_in cx)
 
 -- each manifest that is edited holds its edit, and every other path what it held
 abbrev pub IsPreparedIn : ContextRecord → Contents → Contents → Type 0
-IsPreparedIn cx = IsPrepared (wanted_in cx) (members_in cx)
+IsPreparedIn cx = IsPrepared (wanted_in cx) (member_manifests_in cx)
 
 -- each manifest that is edited holds what it held, or its edit, or this has failed for its path
 abbrev pub IsPartlyPreparedIn : ContextRecord → (Name → Type 0) → Contents → Contents → Type 0
-IsPartlyPreparedIn cx = IsPartlyPrepared (wanted_in cx) (members_in cx)
+IsPartlyPreparedIn cx = IsPartlyPrepared (wanted_in cx) (member_manifests_in cx)
 
 -- every path that isn't edited holds what it held
 abbrev pub KeepsUneditedIn : ContextRecord → Contents → Contents → Type 0
-KeepsUneditedIn cx = KeepsUnedited (wanted_in cx) (members_in cx)
+KeepsUneditedIn cx = KeepsUnedited (wanted_in cx) (member_manifests_in cx)
 
 -- just one write for each manifest that is edited
 abbrev pub AreWritesIn : ContextRecord → Type 0 → Contents → List Change → Type 0
-AreWritesIn cx tells = AreWrites tells (wanted_in cx) (members_in cx)
+AreWritesIn cx tells = AreWrites tells (wanted_in cx) (member_manifests_in cx)
 
 -- the first of these
 abbrev pub BeginWritesIn : ContextRecord → Type 0 → Contents → List Change → Type 0
-BeginWritesIn cx tells = BeginWrites tells (wanted_in cx) (members_in cx)
+BeginWritesIn cx tells = BeginWrites tells (wanted_in cx) (member_manifests_in cx)
 
 -- a path that is edited, or the lockfile, where manifests are edited at all
 abbrev pub IsTouchedIn : ContextRecord → Name → Type 0
-IsTouchedIn cx p = (edits_in cx ≡ true) × IsTouched (wanted_in cx) (members_in cx) p
+IsTouchedIn cx p = (edits_in cx ≡ true) × IsTouched (wanted_in cx) (member_manifests_in cx) p
 
 -- the notices on the edits
 abbrev pub notes_in : ContextRecord → List Note
-notes_in cx = notes (wanted_in cx) (members_in cx)
+notes_in cx = notes (wanted_in cx) (member_manifests_in cx)
 
 -- why manifests aren't edited: memory ran out, or edits are asked for, and there is a cause
 abbrev pub IsPrepareFault : ContextRecord → Type 0 → Contents → PrepareFault → Type 0
-IsPrepareFault cx tells held e = (e ≡ Memory) ⊎ ((edits_in cx ≡ true) × IsEditsFault (wanted_in cx) (members_in cx) tells held e)
+IsPrepareFault cx tells held e = (e ≡ Memory) ⊎ ((edits_in cx ≡ true) × IsEditsFault (wanted_in cx) (member_manifests_in cx) tells held e)

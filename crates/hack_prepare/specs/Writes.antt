@@ -4,7 +4,7 @@ use Rattle.std.specs.List.{AllZip, filter, find}
 use Rattle.hack_base.specs.Names.{Name}
 use Rattle.hack_files.specs.Files.{Change, Contents, Makes, puts}
 use Rattle.hack_edits.specs.DevDeps.{IsWithoutDev}
-use Rattle.hack_prepare.specs.Prepared.{IsRootEdit, Member, Wanted, drops_at_root, edits_root, gone_manifests, is_alone, is_root}
+use Rattle.hack_prepare.specs.Prepared.{IsRootEdit, MemberManifest, Wanted, drops_at_root, edits_root, gone_manifests, is_alone, is_root}
 
 -- such changes were made, and no others
 abbrev pub MakesSome : (List Change → Type 0) → List Change → List Change → Contents → Contents → Type 0
@@ -23,17 +23,17 @@ abbrev pub IsAtMostOne : (Change → Type 0) → List Change → Type 0
 IsAtMostOne P made = (made ≡ []) ⊎ IsOne P made
 
 -- the write of a member's text without development dependencies
-pub record IsDevWrite (m : Member) (c : Change) : Type 0 where
+pub record IsDevWrite (m : MemberManifest) (c : Change) : Type 0 where
   pub turned : Name
   pub edit : IsWithoutDev m.text turned
   pub is : c ≡ puts m.path turned
 
 -- one for each of these members whose manifest is edited by itself, in order
-abbrev pub AreDevWrites : Wanted → List Member → List Change → Type 0
+abbrev pub AreDevWrites : Wanted → List MemberManifest → List Change → Type 0
 AreDevWrites w ms made = AllZip IsDevWrite (filter (is_alone w) ms) made
 
 -- the same of the first of these members
-abbrev pub BeginDevWrites : Wanted → List Member → List Change → Type 0
+abbrev pub BeginDevWrites : Wanted → List MemberManifest → List Change → Type 0
 BeginDevWrites w ms made = (k : ℕ) × AreDevWrites w (take k ms) made
 
 -- the write of an edit of such a text to the manifest in the folder of the workspace
@@ -45,24 +45,24 @@ pub record IsRootWrite (w : Wanted) (drops_dev : Bool) (private : List Name) (re
   pub is : c ≡ puts w.root turned
 
 -- what a member has read there; or else what it holds, where the files show that
-abbrev pub ReadsRoot : Type 0 → Wanted → List Member → Contents → Name → Type 0
+abbrev pub ReadsRoot : Type 0 → Wanted → List MemberManifest → Contents → Name → Type 0
 ReadsRoot tells w ms held text = MatchOption (find (is_root w) ms) (tells → held w.root ≡ Some text) (λ m. text ≡ m.text)
 
 -- the write of its edit
-abbrev pub WritesRoot : Type 0 → Wanted → List Member → Contents → Change → Type 0
+abbrev pub WritesRoot : Type 0 → Wanted → List MemberManifest → Contents → Change → Type 0
 WritesRoot tells w ms held = IsRootWrite w (drops_at_root w ms) (gone_manifests w ms) (ReadsRoot tells w ms held)
 
 -- its one write where it is edited, and none where not
-abbrev pub AreRootWrites : Type 0 → Wanted → List Member → Contents → List Change → Type 0
+abbrev pub AreRootWrites : Type 0 → Wanted → List MemberManifest → Contents → List Change → Type 0
 AreRootWrites tells w ms held = IsOneIf (edits_root w ms) (WritesRoot tells w ms held)
 
 -- the same, or none
-abbrev pub MayWriteRoot : Type 0 → Wanted → List Member → Contents → List Change → Type 0
+abbrev pub MayWriteRoot : Type 0 → Wanted → List MemberManifest → Contents → List Change → Type 0
 MayWriteRoot tells w ms held made = (made ≡ []) ⊎ AreRootWrites tells w ms held made
 
 -- just one write for each manifest that is edited: those of members by themselves, in order, and then that in the folder of
 -- the workspace
-pub record AreWrites (tells : Type 0) (w : Wanted) (ms : List Member) (held : Contents) (made : List Change) : Type 0 where
+pub record AreWrites (tells : Type 0) (w : Wanted) (ms : List MemberManifest) (held : Contents) (made : List Change) : Type 0 where
   pub alone : List Change
   pub root : List Change
   pub members : AreDevWrites w ms alone
@@ -70,5 +70,5 @@ pub record AreWrites (tells : Type 0) (w : Wanted) (ms : List Member) (held : Co
   pub is : made ≡ alone ++ root
 
 -- the first of these
-abbrev pub BeginWrites : Type 0 → Wanted → List Member → Contents → List Change → Type 0
+abbrev pub BeginWrites : Type 0 → Wanted → List MemberManifest → Contents → List Change → Type 0
 BeginWrites tells w ms held made = BeginDevWrites w ms made ⊎ AreWrites tells w ms held made

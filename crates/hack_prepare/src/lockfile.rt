@@ -3,10 +3,10 @@
 ghost use Rattle.std.specs.Prelude.{◌≡◌, [], OnOk, IfErr, IfSome, true};
 ghost use Rattle.hack_files.specs.Files.{KeepsAll, Makes};
 ghost use Rattle.hack_files.specs.Restore.{is_kept, registered_files};
-ghost use Rattle.hack_prepare.specs.Counts.{CountsCalls};
-ghost use Rattle.hack_prepare.specs.Faults.{IsFault, NoFault};
+ghost use Rattle.hack_prepare.specs.FailureCounts.{CountsCalls};
+ghost use Rattle.hack_prepare.specs.Faults.{IsPathFaultOr, NoFault};
 ghost use Rattle.hack_prepare.specs.Paths.{Nowhere, Only};
-ghost use Rattle.hack_prepare.specs.Steps.{AnyStart, IsStep};
+ghost use Rattle.hack_prepare.specs.EditSteps.{AnyStart, IsStep};
 
 use crate::fault::{PrepareFault, of_file};
 use hack_files::fs::{Files, exists, read};
@@ -31,7 +31,7 @@ pub(crate) fn keep_lockfile<F: Files>(
     ensures same { F.tells → KeepsAll (F.bytes_at files.old) (F.bytes_at files.new) }
     ensures untraced { F.whole → Makes [] (F.trace files.old) (F.trace files.new)
         (F.bytes_at files.old) (F.bytes_at files.new) }
-    ensures err { IfErr result (IsFault (Only path.now) Nowhere Nowhere NoFault) }
+    ensures err { IfErr result (IsPathFaultOr (Only path.now) Nowhere Nowhere NoFault) }
 {
     match exists(alloc, files, path) {
         Ok(true) => {}

@@ -5,14 +5,14 @@ ghost use Rattle.std.specs.List.{flat_map};
 ghost use Rattle.hack_files.specs.Files.{GrowsBy, KeepsOthers};
 ghost use Rattle.hack_base.specs.Names.{names_behind};
 ghost use Rattle.hack_base.specs.Notes.{AddsNotes};
-ghost use Rattle.hack_prepare.specs.Counts.{CountsCalls};
-ghost use Rattle.hack_prepare.specs.Faults.{AtWrite, IsDevFault, IsFault, IsMembersFault};
+ghost use Rattle.hack_prepare.specs.FailureCounts.{CountsCalls};
+ghost use Rattle.hack_prepare.specs.Faults.{AtWrite, IsDevFault, IsPathFaultOr, IsMembersFault};
 ghost use Rattle.hack_prepare.specs.Paths.{IsAlonePath, Nowhere, Only};
 ghost use Rattle.hack_prepare.specs.Prepared.{HasPrivateRoot, HoldTexts, gone_manifests};
-ghost use Rattle.hack_prepare.specs.PreparedView.{member_view, members_view, wanted_view};
-ghost use Rattle.hack_prepare.specs.Steps.{ArePartlyTurned, AreTurned, HoldsText, IsStep};
-ghost use Rattle.hack_prepare.specs.Steps.{IsTurned, IsTurnedOrNot, KeepsApart};
-ghost use Rattle.hack_prepare.specs.Told.{dev_note, member_notes};
+ghost use Rattle.hack_prepare.specs.PreparedView.{member_manifest_view, members_view, wanted_view};
+ghost use Rattle.hack_prepare.specs.EditSteps.{ArePartlyTurned, AreTurned, HoldsText, IsStep};
+ghost use Rattle.hack_prepare.specs.EditSteps.{IsTurned, IsTurnedOrNot, KeepsApart};
+ghost use Rattle.hack_prepare.specs.EditNotes.{dev_note, member_notes};
 ghost use Rattle.hack_prepare.specs.Writes.{AreDevWrites, BeginDevWrites, IsAtMostOne, IsDevWrite};
 ghost use Rattle.hack_prepare.specs.Writes.{IsOne, MakesSome};
 
@@ -68,7 +68,7 @@ pub(crate) fn edit_members<'a, F: Files>(
         (¬ HasPrivateRoot (wanted_view wanted.now) (members_view members.now)) }
     ensures told { OnOk result (AddsNotes notices.old notices.new
         (flat_map (member_notes (wanted_view wanted.now)) (members_view members.now))) }
-    ensures err { IfErr result (IsFault Nowhere
+    ensures err { IfErr result (IsPathFaultOr Nowhere
         (IsAlonePath (wanted_view wanted.now) (members_view members.now)) Nowhere
         (IsMembersFault (wanted_view wanted.now) (members_view members.now))) }
 {
@@ -98,25 +98,25 @@ fn edit_member<F: Files>(
 ) -> Result<(), PrepareFault>
     ensures stays { F.stays files.old files.new }
     ensures counted { CountsCalls (F.failed files.old) (F.failed files.new) result }
-    ensures step { IsStep F.tells (HoldsText (member_view member.now))
-        (Only (member_view member.now).path) manager.old manager.new
+    ensures step { IsStep F.tells (HoldsText (member_manifest_view member.now))
+        (Only (member_manifest_view member.now).path) manager.old manager.new
         (F.bytes_at files.old) (F.bytes_at files.new) }
     ensures turned { OnOk result (F.tells
-        → IsTurned (F.bytes_at files.new) (member_view member.now)) }
+        → IsTurned (F.bytes_at files.new) (member_manifest_view member.now)) }
     ensures partly { F.tells → IsTurnedOrNot (GrowsBy 1 (F.failed files.old) (F.failed files.new))
-        (F.bytes_at files.old) (F.bytes_at files.new) (member_view member.now) }
-    ensures others { F.tells → KeepsOthers (member_view member.now).path
+        (F.bytes_at files.old) (F.bytes_at files.new) (member_manifest_view member.now) }
+    ensures others { F.tells → KeepsOthers (member_manifest_view member.now).path
         (F.bytes_at files.old) (F.bytes_at files.new) }
     ensures traced { OnOk result (F.whole → MakesSome
-        (IsOne (IsDevWrite (member_view member.now)))
+        (IsOne (IsDevWrite (member_manifest_view member.now)))
         (F.trace files.old) (F.trace files.new) (F.bytes_at files.old) (F.bytes_at files.new)) }
     ensures refused { OnErr result (F.whole → MakesSome
-        (IsAtMostOne (IsDevWrite (member_view member.now)))
+        (IsAtMostOne (IsDevWrite (member_manifest_view member.now)))
         (F.trace files.old) (F.trace files.new) (F.bytes_at files.old) (F.bytes_at files.new)) }
     ensures told { OnOk result (AddsNotes notices.old notices.new
-        (dev_note verbose (member_view member.now).path)) }
-    ensures err { IfErr result (IsFault Nowhere (Only (member_view member.now).path) Nowhere
-        (IsDevFault (member_view member.now).path (member_view member.now).text)) }
+        (dev_note verbose (member_manifest_view member.now).path)) }
+    ensures err { IfErr result (IsPathFaultOr Nowhere (Only (member_manifest_view member.now).path) Nowhere
+        (IsDevFault (member_manifest_view member.now).path (member_manifest_view member.now).text)) }
 {
     tell_dev(alloc, verbose, member.path, notices)?;
     let text = without_dev(alloc, member.path, member.text)?;

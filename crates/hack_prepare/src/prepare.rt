@@ -8,7 +8,7 @@ ghost use Rattle.hack_files.specs.Restore.{AreSafe, Brings, Tried, is_kept, regi
 ghost use Rattle.hack_load.specs.ContextView.{context_view};
 ghost use Rattle.hack_base.specs.Names.{Name};
 ghost use Rattle.hack_base.specs.Notes.{note_of};
-ghost use Rattle.hack_prepare.specs.Counts.{CountsCalls};
+ghost use Rattle.hack_prepare.specs.FailureCounts.{CountsCalls};
 ghost use Rattle.hack_prepare.specs.Faults.{AtWrite, IsEditsFault};
 ghost use Rattle.hack_prepare.specs.Paths.{IsTouched};
 ghost use Rattle.hack_prepare.specs.Prepared.{HasPrivateRoot, HoldTexts, IsPartlyPrepared};
@@ -19,8 +19,8 @@ ghost use Rattle.hack_prepare.specs.PreparedView.{IsPreparedIn, IsTouchedIn, Kee
 ghost use Rattle.hack_prepare.specs.PreparedView.{AreWritesIn, BeginWritesIn};
 ghost use Rattle.hack_prepare.specs.PreparedView.{edits_in, members_view, notes_in};
 ghost use Rattle.hack_prepare.specs.PreparedView.{wanted_in, wanted_view};
-ghost use Rattle.hack_prepare.specs.Steps.{Grows, IsStep, KeepsHeld, KeepsOnly};
-ghost use Rattle.hack_prepare.specs.Told.{notes};
+ghost use Rattle.hack_prepare.specs.EditSteps.{Grows, IsStep, KeepsHeld, KeepsOnly};
+ghost use Rattle.hack_prepare.specs.EditNotes.{notes};
 ghost use Rattle.hack_prepare.specs.Writes.{AreWrites, BeginWrites, MakesSome};
 
 use crate::fault::PrepareFault;

@@ -2,10 +2,10 @@
 
 ghost use Rattle.std.specs.Prelude.{◌≡◌, ◌⊎◌, ◌∷◌, [], IfErr, OnOk, OnErr, Some};
 ghost use Rattle.hack_files.specs.Files.{GrowsBy, KeepsOthers, Makes, MakesOrNot, puts};
-ghost use Rattle.hack_prepare.specs.Counts.{CountsCalls};
-ghost use Rattle.hack_prepare.specs.Faults.{IsFault, NoFault};
+ghost use Rattle.hack_prepare.specs.FailureCounts.{CountsCalls};
+ghost use Rattle.hack_prepare.specs.Faults.{IsPathFaultOr, NoFault};
 ghost use Rattle.hack_prepare.specs.Paths.{Nowhere, Only};
-ghost use Rattle.hack_prepare.specs.Steps.{HeldUnkept, IsStep};
+ghost use Rattle.hack_prepare.specs.EditSteps.{HeldUnkept, IsStep};
 
 use crate::fault::{PrepareFault, of_file};
 use hack_files::fs::{Files, write};
@@ -35,7 +35,7 @@ pub(crate) fn replace<F: Files>(
         (F.trace files.old) (F.trace files.new) (F.bytes_at files.old) (F.bytes_at files.new)) }
     ensures refused { OnErr result (F.whole → MakesOrNot (puts path.now text.now)
         (F.trace files.old) (F.trace files.new) (F.bytes_at files.old) (F.bytes_at files.new)) }
-    ensures err { IfErr result (IsFault Nowhere (Only path.now) Nowhere NoFault) }
+    ensures err { IfErr result (IsPathFaultOr Nowhere (Only path.now) Nowhere NoFault) }
 {
     manager.register_once(alloc, path, held.as_bytes())?;
     match write(alloc, files, path, text.as_bytes()) {

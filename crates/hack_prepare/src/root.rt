@@ -11,16 +11,16 @@ ghost use Rattle.hack_base.specs.Notes.{AddsNotes};
 ghost use Rattle.hack_edits.specs.DevDeps.{IsWithoutDev};
 ghost use Rattle.hack_edits.specs.Members.{in_order};
 ghost use Rattle.hack_edits.specs.PrivateCrates.{IsWithoutPrivate};
-ghost use Rattle.hack_prepare.specs.Counts.{CountsCalls};
-ghost use Rattle.hack_prepare.specs.Faults.{IsDevFault, IsFault, IsHeldFault, IsPrivateFault};
-ghost use Rattle.hack_prepare.specs.Faults.{IsRootFault, IsTextFault};
+ghost use Rattle.hack_prepare.specs.FailureCounts.{CountsCalls};
+ghost use Rattle.hack_prepare.specs.Faults.{IsDevFault, IsPathFaultOr, IsHeldFault, IsPrivateFault};
+ghost use Rattle.hack_prepare.specs.Faults.{IsRootFault, IsRootTextFault};
 ghost use Rattle.hack_prepare.specs.Paths.{IsReadRoot, IsTextless, Nowhere, Only, OnlyIf};
 ghost use Rattle.hack_prepare.specs.Prepared.{HoldTexts, drops_at_root, edits_root, gone_manifests};
 ghost use Rattle.hack_prepare.specs.Prepared.{has_some, is_root};
 ghost use Rattle.hack_prepare.specs.PreparedView.{members_view, wanted_view};
-ghost use Rattle.hack_prepare.specs.Steps.{AnyStart, HeldUnkept, IsRootText, IsStep, KeepsBut};
-ghost use Rattle.hack_prepare.specs.Steps.{MakesRoot, MakesRootOrNot};
-ghost use Rattle.hack_prepare.specs.Told.{dev_note, edit_notes, private_note, root_notes};
+ghost use Rattle.hack_prepare.specs.EditSteps.{AnyStart, HeldUnkept, IsRootText, IsStep, KeepsBut};
+ghost use Rattle.hack_prepare.specs.EditSteps.{MakesRoot, MakesRootOrNot};
+ghost use Rattle.hack_prepare.specs.EditNotes.{dev_note, edit_notes, private_note, root_notes};
 ghost use Rattle.hack_prepare.specs.Writes.{AreRootWrites, IsOneIf, IsRootWrite, MakesSome};
 ghost use Rattle.hack_prepare.specs.Writes.{MayWriteRoot};
 
@@ -78,7 +78,7 @@ pub(crate) fn edit_root<F: Files>(
         (F.trace files.old) (F.trace files.new) (F.bytes_at files.old) (F.bytes_at files.new)) }
     ensures told { OnOk result (AddsNotes notices.old notices.new
         (root_notes (wanted_view wanted.now) (members_view members.now))) }
-    ensures err { IfErr result (IsFault
+    ensures err { IfErr result (IsPathFaultOr
         (IsReadRoot (wanted_view wanted.now) (members_view members.now))
         (OnlyIf (edits_root (wanted_view wanted.now) (members_view members.now))
         wanted.now.root.now)
@@ -157,7 +157,7 @@ fn edit_virtual<F: Files>(
         (F.trace files.old) (F.trace files.new) (F.bytes_at files.old) (F.bytes_at files.new)) }
     ensures told { OnOk result (AddsNotes notices.old notices.new
         (edit_notes (wanted_view wanted.now) false (names_behind private.now))) }
-    ensures err { IfErr result (IsFault (OnlyIf
+    ensures err { IfErr result (IsPathFaultOr (OnlyIf
         (has_some (names_behind private.now)) wanted.now.root.now)
         (OnlyIf (has_some (names_behind private.now)) wanted.now.root.now)
         (IsTextless F.tells (F.bytes_at files.old)
@@ -221,10 +221,10 @@ fn edit_held<F: Files>(
         (F.trace files.old) (F.trace files.new) (F.bytes_at files.old) (F.bytes_at files.new)) }
     ensures told { OnOk result (AddsNotes notices.old notices.new
         (edit_notes (wanted_view wanted.now) drops_dev (names_behind private.now))) }
-    ensures err { IfErr result (IsFault Nowhere
+    ensures err { IfErr result (IsPathFaultOr Nowhere
         (OnlyIf (drops_dev || has_some (names_behind private.now)) wanted.now.root.now) Nowhere
         (λ e. ((drops_dev || has_some (names_behind private.now)) ≡ true)
-        × IsTextFault (wanted_view wanted.now) drops_dev (names_behind private.now) held.now e)) }
+        × IsRootTextFault (wanted_view wanted.now) drops_dev (names_behind private.now) held.now e)) }
 {
     if !is_asked(drops_dev, private) {
         return Ok(());

@@ -2,7 +2,7 @@
 
 ghost use Rattle.std.specs.Prelude.{OnOk};
 ghost use Rattle.hack_base.specs.Notes.{AddsNotes};
-ghost use Rattle.hack_prepare.specs.Told.{dev_note, private_note};
+ghost use Rattle.hack_prepare.specs.EditNotes.{dev_note, private_note};
 
 use hack_base::notice::{Notice, NoticeKind, tell};
 use std::alloc::{AllocError, Global};

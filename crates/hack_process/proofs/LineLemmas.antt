@@ -4,7 +4,7 @@ use Rattle.std.specs.List.{starts_with}
 use Rattle.std.specs.Str.Pattern.{FindsTextPrefix, StripsPrefix}
 use Rattle.std.proofs.lemmas.List.{at_drop_more, at_drop_all}
 use Rattle.std.proofs.lemmas.Str.Pattern.{starts_text}
-use Rattle.hack_process.specs.CargoTexts.{behind, first_behind}
+use Rattle.hack_process.specs.CargoTexts.{behind_prefix, first_behind}
 
 chosen : (b : Bool) (x : List ℕ) → b ≡ true → cond b (Some x) None ≡ Some x
 chosen b x e = rw e refl
@@ -12,7 +12,7 @@ chosen b x e = rw e refl
 skipped : (b : Bool) (x : List ℕ) → b ≡ false → cond b (Some x) None ≡ None
 skipped b x e = rw e refl
 
-pub behind-is : (name line : List ℕ) (r : Option (Bor (List ℕ))) → MatchOption r (FindsTextPrefix name line None) (λ x. StripsPrefix (FindsTextPrefix name) line x.now) → option_copied r ≡ behind name line
+pub behind-is : (name line : List ℕ) (r : Option (Bor (List ℕ))) → MatchOption r (FindsTextPrefix name line None) (λ x. StripsPrefix (FindsTextPrefix name) line x.now) → option_copied r ≡ behind_prefix name line
 behind-is name line None h = sym (skipped (starts_with eqb line name) (drop (length name) line) (sym (starts_text false name line h)))
 behind-is name line (Some x) h =
     let t : true ≡ starts_with eqb line name = starts_text true name line (h.0, h.1, subst (λ k. IsCharBoundary line k) (sym h.1.0) h.1.2) in
@@ -30,11 +30,11 @@ pub is_some-copied : (r : Option (Bor (List ℕ))) (b : Bool) → is_some r ≡ 
 is_some-copied None b e = e
 is_some-copied (Some x) b e = e
 
-pub first-here : (name : List ℕ) (ls : List (List ℕ)) (n : ℕ) (line : List ℕ) (v : Option (List ℕ)) → n < length ls → line ≡ get_or ls n line → v ≡ behind name line → is_some v ≡ true → first_behind name (drop n ls) ≡ v
+pub first-here : (name : List ℕ) (ls : List (List ℕ)) (n : ℕ) (line : List ℕ) (v : Option (List ℕ)) → n < length ls → line ≡ get_or ls n line → v ≡ behind_prefix name line → is_some v ≡ true → first_behind name (drop n ls) ≡ v
 first-here name ls n line v l e f s =
     at_drop_more (first_behind name) ls n line l ∙ subst (λ x. first_behind name (x ∷ drop (n + 1) ls) ≡ v) e (found (starts_with eqb line name) (drop (length name) line) (first_behind name (drop (n + 1) ls)) v (sym f) s)
 
-pub first-later : (name : List ℕ) (ls : List (List ℕ)) (n : ℕ) (line : List ℕ) (v : Option (List ℕ)) → n < length ls → line ≡ get_or ls n line → v ≡ behind name line → is_some v ≡ false → first_behind name (drop n ls) ≡ first_behind name (drop (n + 1) ls)
+pub first-later : (name : List ℕ) (ls : List (List ℕ)) (n : ℕ) (line : List ℕ) (v : Option (List ℕ)) → n < length ls → line ≡ get_or ls n line → v ≡ behind_prefix name line → is_some v ≡ false → first_behind name (drop n ls) ≡ first_behind name (drop (n + 1) ls)
 first-later name ls n line v l e f s =
     at_drop_more (first_behind name) ls n line l ∙ subst (λ x. first_behind name (x ∷ drop (n + 1) ls) ≡ first_behind name (drop (n + 1) ls)) e (passed (starts_with eqb line name) (drop (length name) line) (first_behind name (drop (n + 1) ls)) v (sym f) s)
 

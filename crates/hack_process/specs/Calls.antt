@@ -4,6 +4,7 @@ use Rattle.std.proofs.Common.{Global, String}
 use Rattle.hack_process.specs.declared.caller.End.{End}
 use Rattle.hack_process.specs.declared.caller.End.TheVariants.{Status, NeverStarted}
 use Rattle.hack_process.specs.declared.caller.Called.{Called}
+use Rattle.hack_base.specs.Names.{names_of}
 
 -- a program with its arguments, and whether its output is captured
 pub record Asked : Type 0 where
@@ -30,15 +31,11 @@ answer_of called = record {
   stderr = called.stderr.items;
 }
 
--- the bytes of each text
-abbrev pub texts_of : List (String Global) → List (List ℕ)
-texts_of texts = map string_bytes texts
-
 -- the call of a program with these arguments
 abbrev pub asked_call : List ℕ → List (String Global) → Bool → Asked
 asked_call program words capture = record {
   program = program;
-  words = texts_of words;
+  words = names_of words;
   capture = capture;
 }
 
@@ -47,12 +44,12 @@ abbrev pub WroteNothing : Answer → Type 0
 WroteNothing answer = (answer.stdout ≡ []) × (answer.stderr ≡ [])
 
 -- just this call was made, and had this answer
-abbrev pub Adds : Asked → Answer → List Call → List Call → Type 0
-Adds asked answer old new = new ≡ old ++ record { asked = asked; answer = answer } ∷ []
+abbrev pub AddsCall : Asked → Answer → List Call → List Call → Type 0
+AddsCall asked answer old new = new ≡ old ++ record { asked = asked; answer = answer } ∷ []
 
 -- this call was made, with some answer, or none was
 abbrev pub MayAdd : Asked → List Call → List Call → Type 0
-MayAdd asked old new = (new ≡ old) ⊎ ((answer : Answer) × Adds asked answer old new)
+MayAdd asked old new = (new ≡ old) ⊎ ((answer : Answer) × AddsCall asked answer old new)
 
 -- a program ended with status 0
 abbrev pub IsSuccess : End → Type 0

@@ -79,13 +79,13 @@ abbrev pub words_of : List ℕ → Bool → List ℕ → Command → List ℕ
 words_of program full dir c = program ++ each_spaced c.leading ++ each_spaced c.passed ++ each_spaced (shown_words full dir c.own) ++ shown_features c.features ++ shown_trailing c.trailing
 
 -- what a text shows between its backquotes; a full one is long or verbose
-abbrev pub line_of : Bool → List ℕ → Command → List ℕ
-line_of full dir c = words_of (shown_program full c) full dir c
+abbrev pub quoted_line_of : Bool → List ℕ → Command → List ℕ
+quoted_line_of full dir c = words_of (shown_program full c) full dir c
 
 -- the text of a command
 abbrev pub text_of : Bool → List ℕ → Command → List ℕ
-text_of full dir c = codes "`" ++ line_of full dir c ++ codes "`"
+text_of full dir c = codes "`" ++ quoted_line_of full dir c ++ codes "`"
 
 -- a command in a list of commands: its full line with the program's stem
 abbrev pub listed_of : List ℕ → Command → List ℕ
-listed_of dir c = line_of true dir (record c { strip_program_path = true })
+listed_of dir c = quoted_line_of true dir (record c { strip_program_path = true })

@@ -30,19 +30,19 @@ abbrev pub otherwise_of : FakeCaller → End
 otherwise_of caller = caller.otherwise
 
 -- a call as plain data
-abbrev pub call_of : Made → Call
-call_of m = record {
+abbrev pub made_call : Made → Call
+made_call m = record {
   asked = asked_call (string_bytes m.program) m.words.items m.capture;
   answer = record { end = m.end; stdout = m.stdout.items; stderr = m.stderr.items };
 }
 
 -- the calls that were made, in order
 abbrev pub made_by : FakeCaller → List Call
-made_by caller = map call_of caller.made.items
+made_by caller = map made_call caller.made.items
 
 -- a program and its arguments, each after a space
-abbrev pub line_of : List ℕ → List (List ℕ) → List ℕ
-line_of program words = program ++ each_spaced words
+abbrev pub spaced_line_of : List ℕ → List (List ℕ) → List ℕ
+spaced_line_of program words = program ++ each_spaced words
 
 -- an end without output
 abbrev pub nothing_but : End → Answer

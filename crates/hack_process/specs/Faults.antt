@@ -10,21 +10,21 @@ use Rattle.hack_process.specs.declared.fault.Failure.{Failure}
 use Rattle.hack_process.specs.declared.fault.ProcessFault.{ProcessFault}
 use Rattle.hack_process.specs.declared.fault.ProcessFault.TheVariants.{Memory, EmptyProgram, Failed}
 use Rattle.hack_process.specs.declared.fault.ProcessFault.TheVariants.{NeverExecuted, NotText}
-use Rattle.hack_process.specs.Calls.{Asked, Answer, Call, Adds, MayAdd, IsSuccess, IsFailure}
+use Rattle.hack_process.specs.Calls.{Asked, Answer, Call, AddsCall, MayAdd, IsSuccess, IsFailure}
 
 -- these bytes are UTF-8, and more than white space
 abbrev pub SaysMore : List ℕ → Type 0
 SaysMore bytes = IsUtf8 bytes × (trim_start bytes ≢ [])
 
 -- the text is these bytes where they are UTF-8 and more than white space, and else empty
-abbrev pub IsShown : List ℕ → List ℕ → Type 0
-IsShown bytes text = (SaysMore bytes × (text ≡ bytes)) ⊎ ((¬ SaysMore bytes) × (text ≡ []))
+abbrev pub IsCapturedText : List ℕ → List ℕ → Type 0
+IsCapturedText bytes text = (SaysMore bytes × (text ≡ bytes)) ⊎ ((¬ SaysMore bytes) × (text ≡ []))
 
 -- a failure reports this answer
-pub record Tells (failure : Failure) (answer : Answer) : Type 0 where
+pub record ReportsAnswer (failure : Failure) (answer : Answer) : Type 0 where
   pub ended : failure.end ≡ answer.end
-  pub stdout : IsShown answer.stdout (string_bytes failure.stdout)
-  pub stderr : IsShown answer.stderr (string_bytes failure.stderr)
+  pub stdout : IsCapturedText answer.stdout (string_bytes failure.stdout)
+  pub stderr : IsCapturedText answer.stderr (string_bytes failure.stderr)
 
 -- an error shows no output
 abbrev pub ShowsNothing : ProcessFault → Type 0
@@ -36,8 +36,8 @@ ShowsNothing (NeverExecuted text) = Unit {0}
 ShowsNothing (NotText text) = Unit {0}
 
 -- just this call was made, and P holds of its answer
-abbrev pub Had : (Answer → Type 0) → Asked → List Call → List Call → Type 0
-Had P asked old new = (answer : Answer) × P answer × Adds asked answer old new
+abbrev pub GotAnswer : (Answer → Type 0) → Asked → List Call → List Call → Type 0
+GotAnswer P asked old new = (answer : Answer) × P answer × AddsCall asked answer old new
 
 -- why a command failed, which is called as `asked` and shown as `shown`: its program has no name,
 -- and it was not called; or just it was called, and could not be started, or ended by a signal or
@@ -47,17 +47,17 @@ IsFault tells asked shown old new Memory = (asked.program ≢ []) × (tells → 
 IsFault tells asked shown old new EmptyProgram = (asked.program ≡ []) × (tells → new ≡ old)
 IsFault tells asked shown old new (NeverExecuted text) =
     (asked.program ≢ []) × (string_bytes text ≡ shown)
-    × (tells → Had (λ answer. answer.end ≡ NeverStarted) asked old new)
+    × (tells → GotAnswer (λ answer. answer.end ≡ NeverStarted) asked old new)
 IsFault tells asked shown old new (Failed failure) =
     (asked.program ≢ []) × (string_bytes failure.command ≡ shown) × IsFailure failure.end
-    × (tells → Had (Tells failure) asked old new)
+    × (tells → GotAnswer (ReportsAnswer failure) asked old new)
 IsFault tells asked shown old new (NotText text) = ⊥
 
 -- the same where the output is read: it may also be that it ended with status 0, but wrote no UTF-8
 abbrev pub IsReadFault : Type 0 → Asked → List ℕ → List Call → List Call → ProcessFault → Type 0
 IsReadFault tells asked shown old new (NotText text) =
     (asked.program ≢ []) × (string_bytes text ≡ shown)
-    × (tells → Had (λ answer. IsSuccess answer.end × (¬ IsUtf8 answer.stdout)) asked old new)
+    × (tells → GotAnswer (λ answer. IsSuccess answer.end × (¬ IsUtf8 answer.stdout)) asked old new)
 IsReadFault tells asked shown old new Memory = IsFault tells asked shown old new Memory
 IsReadFault tells asked shown old new EmptyProgram = IsFault tells asked shown old new EmptyProgram
 IsReadFault tells asked shown old new (NeverExecuted text) =

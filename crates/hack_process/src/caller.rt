@@ -2,7 +2,7 @@
 //! answers that a test gave it.
 
 ghost use Rattle.std.specs.Prelude.{◌≡◌, ◌↔◌, [], List, IfOk, IsTrue, OnErr, Some, false};
-ghost use Rattle.hack_process.specs.Calls.{Call, Adds, MayAdd, WroteNothing, answer_of, asked_call};
+ghost use Rattle.hack_process.specs.Calls.{Call, AddsCall, MayAdd, WroteNothing, answer_of, asked_call};
 ghost use Rattle.hack_process.specs.Calls.{IsSuccess};
 ghost use Rattle.hack_process.specs.Faults.{end_text};
 
@@ -83,7 +83,7 @@ pub trait Caller {
         words: &[String],
         capture: bool,
     ) -> Result<Called, AllocError>
-        ensures told { IfOk result (λ called. tells → Adds
+        ensures told { IfOk result (λ called. tells → AddsCall
             (asked_call program.now words.now capture)
             (answer_of called) (calls self.old) (calls self.new)) }
         ensures refused { OnErr result (tells → MayAdd (asked_call program.now words.now capture)

@@ -4,7 +4,7 @@ ghost use Rattle.std.specs.Prelude.{◌≡◌, ◌⊎◌, IfOk, IfErr, option_co
 ghost use Rattle.std.specs.Str.Lines.{lines};
 ghost use Rattle.hack_base.specs.Cuts.{front_of};
 ghost use Rattle.hack_versions.specs.ToolTexts.{TellsRelease, IsAnswerFault};
-ghost use Rattle.hack_process.specs.CargoTexts.{behind, first_behind, host_of, release_part};
+ghost use Rattle.hack_process.specs.CargoTexts.{behind_prefix, first_behind, host_of, release_part};
 
 use hack_versions::rustup::{VersionTextFault, told_release};
 use hack_versions::version::Version;
@@ -62,7 +62,7 @@ fn first_value<'a>(text: &'a str, name: &str) -> Option<&'a str>
 
 /// Returns what follows a name at the beginning of a line.
 fn value_in<'a>(line: &'a str, name: &str) -> Option<&'a str>
-    ensures { option_copied result ≡ behind name.now line.now }
+    ensures { option_copied result ≡ behind_prefix name.now line.now }
 {
     line.strip_prefix(name)
 }

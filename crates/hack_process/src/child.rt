@@ -2,7 +2,8 @@
 
 ghost use Rattle.std.specs.Prelude.{◌≡◌, [], IfOk, false};
 ghost use Rattle.std.specs.Process.{exit_code, exit_signal};
-ghost use Rattle.hack_process.specs.Calls.{WroteNothing, answer_of, texts_of};
+ghost use Rattle.hack_process.specs.Calls.{WroteNothing, answer_of};
+ghost use Rattle.hack_base.specs.Names.{names_of};
 ghost use Rattle.hack_process.specs.Ends.{IsEndOf, Orders};
 
 use crate::caller::{Called, Caller, End};
@@ -68,7 +69,7 @@ impl<R: Processes + Drop> Caller for Child<R> {
 
 // The program with just these arguments, in the environment and the folder of this process.
 fn command(alloc: Global, program: &str, words: &[String]) -> Result<Command, AllocError>
-    ensures { IfOk result (Orders program.now (texts_of words.now)) }
+    ensures { IfOk result (Orders program.now (names_of words.now)) }
 {
     let mut command = Command::new(alloc, program)?;
     for word in words {

@@ -2,8 +2,8 @@
 
 ghost use Rattle.std.specs.Prelude.{◌≡◌, ◌++◌, ◌∷◌, [], IfOk, OnOk, OnErr, Some, false, map};
 ghost use Rattle.std.specs.Prelude.{string_bytes};
-ghost use Rattle.hack_process.specs.Calls.{Adds, MayAdd, WroteNothing, answer_of, asked_call};
-ghost use Rattle.hack_process.specs.Fake.{answer_to, call_of, heard, line_of, made_by};
+ghost use Rattle.hack_process.specs.Calls.{AddsCall, MayAdd, WroteNothing, answer_of, asked_call};
+ghost use Rattle.hack_process.specs.Fake.{answer_to, made_call, heard, spaced_line_of, made_by};
 ghost use Rattle.hack_process.specs.Fake.{otherwise_of, replies_of, seen_answer};
 
 use crate::caller::{Called, Caller, End};
@@ -85,7 +85,7 @@ impl FakeCaller {
 
     /// The calls so far, in order.
     pub fn made(&self) -> &[Made]
-        ensures { map call_of result.now ≡ made_by self.now }
+        ensures { map made_call result.now ≡ made_by self.now }
     {
         &self.made
     }
@@ -127,7 +127,7 @@ impl Made {
         capture: bool,
         called: &Called,
     ) -> Result<Made, AllocError>
-        ensures { IfOk result (λ made. call_of made ≡ record {
+        ensures { IfOk result (λ made. made_call made ≡ record {
           asked = asked_call program.now words.now capture;
           answer = answer_of called.now;
         }) }
@@ -145,7 +145,7 @@ impl Made {
 
 impl fmt::Display for Made {
     ghost output = { λ made.
-        Some (line_of (string_bytes made.program) (map string_bytes made.words.items)) };
+        Some (spaced_line_of (string_bytes made.program) (map string_bytes made.words.items)) };
 
     fn fmt<W: fmt::Write>(&self, f: &mut fmt::Formatter<W>) -> fmt::Result {
         let line = Words {
@@ -164,7 +164,7 @@ struct Words<'a> {
 }
 
 impl fmt::Display for Words<'_> {
-    ghost output = { λ line. Some (line_of line.program.now (map string_bytes line.words.now)) };
+    ghost output = { λ line. Some (spaced_line_of line.program.now (map string_bytes line.words.now)) };
 
     fn fmt<W: fmt::Write>(&self, f: &mut fmt::Formatter<W>) -> fmt::Result {
         let program = self.program;
@@ -185,13 +185,13 @@ impl Caller for FakeCaller {
         words: &[String],
         capture: bool,
     ) -> Result<Called, AllocError>
-        ensures told { IfOk result (λ called. Adds (asked_call program.now words.now capture)
+        ensures told { IfOk result (λ called. AddsCall (asked_call program.now words.now capture)
             (answer_of called) (made_by self.old) (made_by self.new)) }
         ensures refused { OnErr result (MayAdd (asked_call program.now words.now capture)
             (made_by self.old) (made_by self.new)) }
         ensures silent { capture ≡ false → IfOk result (λ called. WroteNothing (answer_of called)) }
         ensures answered { IfOk result (λ called. answer_of called ≡ seen_answer capture
-            (answer_to (line_of program.now (map string_bytes words.now)) self.old)) }
+            (answer_to (spaced_line_of program.now (map string_bytes words.now)) self.old)) }
         ensures same { otherwise_of self.new ≡ otherwise_of self.old }
         ensures replies { replies_of self.new ≡ replies_of self.old }
     {

@@ -1,7 +1,7 @@
 //! Why a command failed.
 
 ghost use Rattle.std.specs.Prelude.{◌≡◌, [], Some, string_bytes};
-ghost use Rattle.hack_process.specs.Faults.{IsShown, ShowsNothing, Tells, failure_text, fault_text};
+ghost use Rattle.hack_process.specs.Faults.{IsCapturedText, ShowsNothing, ReportsAnswer, failure_text, fault_text};
 ghost use Rattle.hack_process.specs.Faults.{output_text};
 ghost use Rattle.hack_process.specs.Calls.{WroteNothing, answer_of};
 
@@ -39,7 +39,7 @@ pub struct Failure {
 impl Failure {
     pub(crate) fn new(alloc: Global, command: String, called: Called) -> Failure
         ensures command { result.command ≡ command }
-        ensures tells { Tells result (answer_of called) }
+        ensures tells { ReportsAnswer result (answer_of called) }
         ensures bare { WroteNothing (answer_of called) → ShowsNothing (ProcessFault.Failed result) }
     {
         Failure {
@@ -53,7 +53,7 @@ impl Failure {
 
 /// Returns the bytes as a text, or an empty one where they are not UTF-8, or white space alone.
 fn shown_text(alloc: Global, bytes: Vec<u8>) -> String
-    ensures shown { IsShown bytes.items (string_bytes result) }
+    ensures shown { IsCapturedText bytes.items (string_bytes result) }
     ensures none { bytes.items ≡ [] → string_bytes result ≡ [] }
 {
     match String::from_utf8(bytes) {

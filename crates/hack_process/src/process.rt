@@ -4,13 +4,13 @@ ghost use Rattle.std.specs.Prelude.{◌≡◌, ◌≢◌, ◌++◌, ◌∷◌, [
 ghost use Rattle.std.specs.Prelude.{None, map, true, false, string_bytes};
 ghost use Rattle.std.specs.Str.{IsUtf8};
 ghost use Rattle.hack_base.specs.Names.{optional_text};
-ghost use Rattle.hack_process.specs.Calls.{Adds, IsSuccess, answer_of};
-ghost use Rattle.hack_process.specs.CommandTexts.{text_of, listed_of, line_of, each_spaced};
+ghost use Rattle.hack_process.specs.Calls.{AddsCall, IsSuccess, answer_of};
+ghost use Rattle.hack_process.specs.CommandTexts.{text_of, listed_of, quoted_line_of, each_spaced};
 ghost use Rattle.hack_process.specs.CommandTexts.{shown_words, shown_features, shown_trailing};
 ghost use Rattle.hack_process.specs.CommandTexts.{shown_program, with_names, words_behind};
 ghost use Rattle.hack_process.specs.OwnWords.{awaits_path, shown_own};
 ghost use Rattle.hack_process.specs.Commands.{asked_of, command_of, line_text};
-ghost use Rattle.hack_process.specs.Faults.{Had, IsFault, IsReadFault, ShowsNothing};
+ghost use Rattle.hack_process.specs.Faults.{GotAnswer, IsFault, IsReadFault, ShowsNothing};
 ghost use Rattle.hack_process.specs.Faults.{without_line_ends};
 
 pub use crate::caller::{Called, Caller, End};
@@ -191,7 +191,7 @@ impl<'a> ProcessBuilder<'a> {
         caller: &mut C,
         dir: &str,
     ) -> Result<(), ProcessFault>
-        ensures ok { OnOk result (C.tells → Had (λ answer. IsSuccess answer.end)
+        ensures ok { OnOk result (C.tells → GotAnswer (λ answer. IsSuccess answer.end)
             (asked_of false (command_of self.now)) (C.calls caller.old) (C.calls caller.new)) }
         ensures named { OnOk result ((command_of self.now).program ≢ []) }
         ensures err { IfErr result (IsFault C.tells (asked_of false (command_of self.now))
@@ -211,7 +211,7 @@ impl<'a> ProcessBuilder<'a> {
         dir: &str,
     ) -> Result<Called, ProcessFault>
         ensures success { IfOk result (λ called. IsSuccess called.end) }
-        ensures ok { IfOk result (λ called. C.tells → Adds (asked_of true (command_of self.now))
+        ensures ok { IfOk result (λ called. C.tells → AddsCall (asked_of true (command_of self.now))
             (answer_of called) (C.calls caller.old) (C.calls caller.new)) }
         ensures named { OnOk result ((command_of self.now).program ≢ []) }
         ensures err { IfErr result (IsFault C.tells (asked_of true (command_of self.now))
@@ -229,7 +229,7 @@ impl<'a> ProcessBuilder<'a> {
         caller: &mut C,
         dir: &str,
     ) -> Result<String, ProcessFault>
-        ensures ok { IfOk result (λ text. C.tells → Had (λ answer. IsSuccess answer.end
+        ensures ok { IfOk result (λ text. C.tells → GotAnswer (λ answer. IsSuccess answer.end
             × IsUtf8 answer.stdout × (string_bytes text ≡ without_line_ends answer.stdout))
             (asked_of true (command_of self.now)) (C.calls caller.old) (C.calls caller.new)) }
         ensures named { OnOk result ((command_of self.now).program ≢ []) }
@@ -253,7 +253,7 @@ impl<'a> ProcessBuilder<'a> {
         dir: &str,
     ) -> Result<Called, ProcessFault>
         ensures success { IfOk result (λ called. IsSuccess called.end) }
-        ensures ok { IfOk result (λ called. C.tells → Adds (asked_of capture (command_of self.now))
+        ensures ok { IfOk result (λ called. C.tells → AddsCall (asked_of capture (command_of self.now))
             (answer_of called) (C.calls caller.old) (C.calls caller.new)) }
         ensures named { OnOk result ((command_of self.now).program ≢ []) }
         ensures err { IfErr result (IsFault C.tells (asked_of capture (command_of self.now))
@@ -279,7 +279,7 @@ impl<'a> ProcessBuilder<'a> {
 
     /// Returns what a text shows between its backquotes. `full` says whether it is long or verbose.
     fn line<'b>(&'b self, full: bool, dir: &'b str) -> Line<'b>
-        ensures { line_text result ≡ line_of full dir.now (command_of self.now) }
+        ensures { line_text result ≡ quoted_line_of full dir.now (command_of self.now) }
     {
         Line {
             program: self.shown_program(full),

@@ -4,25 +4,25 @@ use Rattle.std.specs.Prelude.{Option, if◌then◌else◌}
 use Rattle.hack_base.specs.Names.{Name}
 use Rattle.hack_rules.specs.Rules.{Verdict, Accepted, Lists, Refused}
 use Rattle.hack_rules.specs.Verdicts.{verdict_of}
-use Rattle.hack_run.specs.Restores.{RestoresEdits}
+use Rattle.hack_run.specs.TemporaryEdits.{RestoresEdits}
 use Rattle.hack_uses.proofs.One.{ends-one}
-use Rattle.hack_uses.specs.Reads.{End, Fails, IsLast, Met, Prints, Reading}
+use Rattle.hack_uses.specs.UseReading.{End, Fails, IsLast, Met, Prints, Reading}
 use Rattle.hack_options.specs.declared.opt.Opt.TheVariants as opt
 use Rattle.hack_uses.specs.Uses.{Use, is_given}
 use Rattle.hack_uses.specs.declared.behavior.WorkspaceBehavior.{WorkspaceBehavior}
-use Rattle.hack_words.specs.Answers.{around_of}
-use Rattle.hack_words.specs.Call.{Around, ComesFrom, ComesTo, Faulty, IsEnd, Listing, Outcome, Parsed}
+use Rattle.hack_words.specs.ParseAnswers.{around_of}
+use Rattle.hack_words.specs.CommandLine.{Around, ComesFrom, ComesTo, Faulty, IsEnd, Listing, CommandLineOutcome, Parsed}
 use Rattle.hack_words.specs.Start.{Cuts, Refuses, Start, start_of}
 use Rattle.hack_words.specs.declared.cli.env.Env.{Env}
 use Rattle.hack_words.specs.declared.cli.parse.Parsed.TheVariants as answer
 use Rattle.hack_recovery.specs.declared.asked.Edits.{Edits}
 use Rattle.hack_recovery.specs.declared.asked.Edits.TheVariants as edits
-use Rattle.hack_recovery.specs.Asks.{AsksFor}
+use Rattle.hack_recovery.specs.AskedEdits.{AsksFor}
 use Rattle.hack_versions.specs.declared.rustup.Rustup.TheVariants.{Unasked}
-use Rattle.hack_recovery.specs.Asks.AsksFor.{parsed, faulty}
+use Rattle.hack_recovery.specs.AskedEdits.AsksFor.{parsed, faulty}
 
 -- the outcome of uses by their verdict
-abbrev outcome_by : WorkspaceBehavior → List Name → List Use → Verdict → Outcome
+abbrev outcome_by : WorkspaceBehavior → List Name → List Use → Verdict → CommandLineOutcome
 outcome_by behavior trailing us Accepted = Parsed behavior trailing us
 outcome_by behavior trailing us Lists = Listing us
 outcome_by behavior trailing us (Refused fault) = Faulty fault

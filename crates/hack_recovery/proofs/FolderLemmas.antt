@@ -8,9 +8,9 @@ use Rattle.std.specs.Option.{option_or}
 use Rattle.hack_base.specs.Names.{Name}
 use Rattle.hack_base.specs.PathTexts.{join_of, normal_of, parent_of}
 use Rattle.hack_files.specs.Files.{Contents, KeepsAll}
-use Rattle.hack_recovery.specs.Looks.{Finds}
+use Rattle.hack_recovery.specs.FileLooks.{Finds}
 use Rattle.hack_recovery.proofs.LookLemmas.{all_same, finds_both}
-use Rattle.hack_recovery.specs.Folders.{Saying, Here, At, Nothing, above, first_some, folder_said, manifest_in, said_in, text_in, text_says, with_manifest}
+use Rattle.hack_recovery.specs.Folders.{Saying, Here, At, Nothing, above, first_some, folder_said, manifest_in, said_in, text_in_bytes, text_says, with_manifest}
 
 -- the workspace's folder, given the nearest folder with a manifest so far, and how many folders are
 -- left, from this one up
@@ -71,24 +71,24 @@ rest_none held start nearest folder = end nearest start
 -- ---- texts
 
 -- bytes that are text
-pub text_yes : (bytes : List ℕ) → IsUtf8 bytes → text_in (Some bytes) ≡ Some bytes
+pub text_yes : (bytes : List ℕ) → IsUtf8 bytes → text_in_bytes (Some bytes) ≡ Some bytes
 text_yes bytes h = rw (is_utf8-from_IsUtf8 bytes h) refl
 
 -- bytes that are no text
-pub text_no : (bytes : List ℕ) → (IsUtf8 bytes → ⊥) → text_in (Some bytes) ≡ None
+pub text_no : (bytes : List ℕ) → (IsUtf8 bytes → ⊥) → text_in_bytes (Some bytes) ≡ None
 text_no bytes h = go (is_utf8 bytes) refl
   where
-    go : (b : Bool) → is_utf8 bytes ≡ b → text_in (Some bytes) ≡ None
+    go : (b : Bool) → is_utf8 bytes ≡ b → text_in_bytes (Some bytes) ≡ None
     go true e = absurd (h (IsUtf8-from_is_utf8 bytes e))
     go false e = rw e refl
 
 -- bytes that were read as this text
-pub text_kept : (m : Option (List ℕ)) (bytes text : List ℕ) → m ≡ Some bytes → text ≡ bytes → IsUtf8 text → Some text ≡ text_in m
-text_kept m bytes text is same utf8 = sym (text_yes text utf8) ∙ ap text_in (ap Some same ∙ sym is)
+pub text_kept : (m : Option (List ℕ)) (bytes text : List ℕ) → m ≡ Some bytes → text ≡ bytes → IsUtf8 text → Some text ≡ text_in_bytes m
+text_kept m bytes text is same utf8 = sym (text_yes text utf8) ∙ ap text_in_bytes (ap Some same ∙ sym is)
 
 -- bytes that could not be
-pub text_lost : (m : Option (List ℕ)) (bytes : List ℕ) → m ≡ Some bytes → (IsUtf8 bytes → ⊥) → None ≡ text_in m
-text_lost m bytes is unlike = sym (text_no bytes unlike) ∙ ap text_in (sym is)
+pub text_lost : (m : Option (List ℕ)) (bytes : List ℕ) → m ≡ Some bytes → (IsUtf8 bytes → ⊥) → None ≡ text_in_bytes m
+text_lost m bytes is unlike = sym (text_no bytes unlike) ∙ ap text_in_bytes (sym is)
 
 -- ---- one folder looked at
 

@@ -5,15 +5,15 @@ use Rattle.hack_base.specs.Names.{Name}
 use Rattle.hack_journal.specs.declared.recover.RecoverFault.{RecoverFault}
 use Rattle.hack_term.specs.declared.term.Term.{Term}
 use Rattle.hack_recovery.specs.declared.fault.CallFault.{CallFault}
-use Rattle.hack_recovery.specs.Looks.{FilesView, Unchanged}
-use Rattle.hack_recovery.specs.Strangers.{Names}
-use Rattle.hack_recovery.specs.Ways.{IsBroughtBack, Recovers, Restores, Stops, noted}
-use Rattle.hack_recovery.specs.Ways.IsBroughtBack.{brought, stopped, back_unreported, stopped_unreported}
-use Rattle.hack_recovery.specs.Ways.Restores.{strange, trusted, unread}
+use Rattle.hack_recovery.specs.FileLooks.{FilesView, Unchanged}
+use Rattle.hack_recovery.specs.Strangers.{NamesStranger}
+use Rattle.hack_recovery.specs.CallCourses.{IsBroughtBack, Recovers, Restores, FailsToRestore, noted}
+use Rattle.hack_recovery.specs.CallCourses.IsBroughtBack.{brought, stopped, back_unreported, stopped_unreported}
+use Rattle.hack_recovery.specs.CallCourses.Restores.{strange, trusted, unread}
 
 -- a stranger was reported
 pub strange_told : (T W : Type 0) (folder journal path : Name) (old new : FilesView) (was now : Term) (r : Result Bool CallFault)
-    → Names T folder journal old.held path → Unchanged T W old new → IfOk r (λ b. (b ≡ false) × (now.error ≡ true)) → Restores T W folder journal old new was now r
+    → NamesStranger T folder journal old.held path → Unchanged T W old new → IfOk r (λ b. (b ≡ false) × (now.error ≡ true)) → Restores T W folder journal old new was now r
 strange_told T W folder journal path old new was now (Ok b) names same told = strange path names same told.1 (ap Ok told.0)
 strange_told T W folder journal path old new was now (Err e) names same told = unread e same refl
 
@@ -25,7 +25,7 @@ brought_told T W journal count old new was now (Err e) recovers told = back_unre
 
 -- why it can't be brought back was reported
 pub stopped_told : (T W : Type 0) (journal : Name) (fault : RecoverFault) (old new : FilesView) (was now : Term) (r : Result Bool CallFault)
-    → Stops T W journal fault old new → IfOk r (λ b. (b ≡ false) × (now.error ≡ true)) → IsBroughtBack T W journal old new was now r
+    → FailsToRestore T W journal fault old new → IfOk r (λ b. (b ≡ false) × (now.error ≡ true)) → IsBroughtBack T W journal old new was now r
 stopped_told T W journal fault old new was now (Ok b) stops told = stopped fault stops told.1 (ap Ok told.0)
 stopped_told T W journal fault old new was now (Err e) stops told = stopped_unreported fault e stops refl
 

@@ -47,13 +47,13 @@ text_says text = document_says (parse_document text)
 -- ---- the folders at or above one
 
 -- bytes that are text
-abbrev pub text_in : Option (List ℕ) → Option (List ℕ)
-text_in None = None
-text_in (Some bytes) = if is_utf8 bytes then Some bytes else None
+abbrev pub text_in_bytes : Option (List ℕ) → Option (List ℕ)
+text_in_bytes None = None
+text_in_bytes (Some bytes) = if is_utf8 bytes then Some bytes else None
 
 -- the text of a folder's manifest, if it has one
 abbrev pub manifest_in : Contents → Name → Option (List ℕ)
-manifest_in held folder = text_in (held (join_of folder (codes "Cargo.toml")))
+manifest_in held folder = text_in_bytes (held (join_of folder (codes "Cargo.toml")))
 
 -- the workspace's folder, where this is said in a folder
 abbrev pub folder_said : Name → Option Saying → Option Name

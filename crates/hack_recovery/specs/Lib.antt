@@ -1,8 +1,8 @@
-pub mod Asks
-pub mod Looks
+pub mod AskedEdits
+pub mod FileLooks
 pub mod Folders
 pub mod Strangers
-pub mod Events
-pub mod Takings
-pub mod Locking
-pub mod Ways
+pub mod LockEvents
+pub mod MemoryLocks
+pub mod Admission
+pub mod CallCourses

@@ -31,7 +31,7 @@ abbrev pub NamesNone : Name → Name → Contents → Type 0
 NamesNone folder journal held = (bytes : List ℕ) → held journal ≡ Some bytes → IsStranger folder bytes None
 
 -- it names this one
-pub record Names (tells : Type 0) (folder journal : Name) (held : Contents) (path : Name) : Type 0 where
+pub record NamesStranger (tells : Type 0) (folder journal : Name) (held : Contents) (path : Name) : Type 0 where
   pub bytes : List ℕ
   pub text : tells → held journal ≡ Some bytes
   pub strange : IsStranger folder bytes (Some path)

@@ -1,7 +1,7 @@
 //! Whether a call may go on, by who has the lock of its workspace's folder.
 
 ghost use Rattle.std.specs.Prelude.{◌≡◌};
-ghost use Rattle.hack_recovery.specs.Locking.{IsAdmitted, needs_lock, way_of};
+ghost use Rattle.hack_recovery.specs.Admission.{IsAdmitted, needs_lock, way_of};
 
 use crate::asked::Edits;
 use crate::fault::CallFault;

@@ -3,8 +3,8 @@
 ghost use Rattle.std.specs.Prelude.{◌≡◌, [], IfOk, option_map, string_bytes};
 ghost use Rattle.hack_base.specs.Names.{names_of, optional_text};
 ghost use Rattle.hack_files.specs.Files.{KeepsAll, Makes};
-ghost use Rattle.hack_recovery.specs.Looks.{files_of};
-ghost use Rattle.hack_recovery.specs.Ways.{Begins};
+ghost use Rattle.hack_recovery.specs.FileLooks.{files_of};
+ghost use Rattle.hack_recovery.specs.CallCourses.{FindsJournal};
 
 use crate::asked::{Asked, Edits};
 use crate::journal::journal_in;
@@ -33,7 +33,7 @@ pub(crate) fn begin<F: Files>(
     env: &Env,
     files: &mut F,
 ) -> Result<Begun, AllocError>
-    ensures begun { IfOk result (λ begun. Begins F.tells (names_of words.now) env.now begun.edits
+    ensures begun { IfOk result (λ begun. FindsJournal F.tells (names_of words.now) env.now begun.edits
         (string_bytes begun.folder) (string_bytes begun.journal) begun.is_there
         (files_of (F.bytes_at files.old) (F.trace files.old) (F.failed files.old))
         (files_of (F.bytes_at files.new) (F.trace files.new) (F.failed files.new))) }

@@ -1,8 +1,8 @@
 //! Locks on folders: who may use a workspace's journal.
 
 ghost use Rattle.std.specs.Prelude.{◌≡◌, [], IfOk, OnErr, false, map};
-ghost use Rattle.hack_recovery.specs.Events.{LocksView, after_asking, after_release, held_after};
-ghost use Rattle.hack_recovery.specs.Takings.{taking_of};
+ghost use Rattle.hack_recovery.specs.LockEvents.{LocksView, after_asking, after_release, has_lock_after};
+ghost use Rattle.hack_recovery.specs.MemoryLocks.{taking_of};
 
 use std::alloc::{AllocError, Global};
 
@@ -104,7 +104,7 @@ impl Locks for FakeLocks {
 
 /// Whether this call has a lock after this answer.
 fn is_held_after(holder: Holder, before: bool) -> bool
-    ensures { result ≡ held_after holder before }
+    ensures { result ≡ has_lock_after holder before }
 {
     match holder {
         Holder::Ours => true,

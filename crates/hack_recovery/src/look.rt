@@ -2,7 +2,7 @@
 
 ghost use Rattle.std.specs.Prelude.{◌≡◌, ◌↔◌, [], IfOk, IfSome, IsSome, IsTrue, Some, option_map};
 ghost use Rattle.hack_files.specs.Files.{KeepsAll, Makes};
-ghost use Rattle.hack_recovery.specs.Looks.{Finds};
+ghost use Rattle.hack_recovery.specs.FileLooks.{Finds};
 
 use hack_files::fs::{FileFault, Files};
 use std::alloc::{AllocError, Global};

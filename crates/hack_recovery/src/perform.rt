@@ -4,10 +4,10 @@
 ghost use Rattle.std.specs.Prelude.{◌≡◌, ◌↔◌, ◌⊎◌, ◌≤◌, [], IsTrue, OnOk, string_bytes, true};
 ghost use Rattle.hack_base.specs.Names.{names_of};
 ghost use Rattle.hack_files.specs.Files.{KeepsAll, Makes};
-ghost use Rattle.hack_recovery.specs.Events.{LocksView};
-ghost use Rattle.hack_recovery.specs.Looks.{files_of};
-ghost use Rattle.hack_recovery.specs.Ways.{Continues, Goes, GoesOn, IsClosed, IsJournaledCall};
-ghost use Rattle.hack_recovery.specs.Ways.{world_of};
+ghost use Rattle.hack_recovery.specs.LockEvents.{LocksView};
+ghost use Rattle.hack_recovery.specs.FileLooks.{files_of};
+ghost use Rattle.hack_recovery.specs.CallCourses.{Continues, CallLeadsTo, LockedCallLeadsTo, IsJournalClosed, IsJournaledCall};
+ghost use Rattle.hack_recovery.specs.CallCourses.{world_of};
 
 use crate::admit::{Way, admit};
 use crate::asked::Edits;
@@ -44,7 +44,7 @@ pub fn perform<F: Files, L: Files, K: Locks, C: Caller, O: Write, E: Write>(
     ensures one { (result.0 ≡ 1)
         ↔ (IsTrue term.new.error ⊎ (IsTrue term.new.warn × IsTrue env.now.deny_warnings)) }
     ensures at_most_one { result.0 ≤ 1 }
-    ensures goes { Goes F.tells F.whole L.tells C.tells K.tells (names_of words.now) env.now
+    ensures goes { CallLeadsTo F.tells F.whole L.tells C.tells K.tells (names_of words.now) env.now
         (world_of (files_of (F.bytes_at files) (F.trace files) (F.failed files))
         (L.bytes_at lockfiles) (K.shown locks.old) (C.calls caller.old) (O.contents out.old)
         term.old)
@@ -101,7 +101,7 @@ fn guarded<F: Files, L: Files, K: Locks, C: Caller, O: Write, E: Write>(
     ensures one { (result.0 ≡ 1)
         ↔ (IsTrue term.new.error ⊎ (IsTrue term.new.warn × IsTrue env.now.deny_warnings)) }
     ensures at_most_one { result.0 ≤ 1 }
-    ensures goes { GoesOn F.tells F.whole L.tells C.tells K.tells (names_of words.now) env.now
+    ensures goes { LockedCallLeadsTo F.tells F.whole L.tells C.tells K.tells (names_of words.now) env.now
         begun.edits (string_bytes begun.folder) (string_bytes begun.journal)
         (world_of (files_of (F.bytes_at files) (F.trace files) (F.failed files))
         (L.bytes_at lockfiles) (K.shown locks.old) (C.calls caller.old) (O.contents out.old)
@@ -226,7 +226,7 @@ fn close<F: Files, E: Write>(
     term: &mut Term,
     err: &mut E,
 ) -> Result<(), AllocError>
-    ensures told { OnOk result (IsClosed F.tells journal.now
+    ensures told { OnOk result (IsJournalClosed F.tells journal.now
         (files_of (F.bytes_at files.old) (F.trace files.old) (F.failed files.old))
         (files_of (F.bytes_at files.new) (F.trace files.new) (F.failed files.new))
         term.old term.new) }

@@ -3,9 +3,9 @@
 ghost use Rattle.std.specs.Prelude.{◌≡◌, [], IfOk, MatchOption, OnErr, OnOk, false, true};
 ghost use Rattle.std.specs.Prelude.{string_bytes};
 ghost use Rattle.hack_files.specs.Files.{KeepsAll, Makes};
-ghost use Rattle.hack_recovery.specs.Looks.{Finds, files_of};
-ghost use Rattle.hack_recovery.specs.Strangers.{Names, NamesNone};
-ghost use Rattle.hack_recovery.specs.Ways.{IsBroughtBack, Restores, noted};
+ghost use Rattle.hack_recovery.specs.FileLooks.{Finds, files_of};
+ghost use Rattle.hack_recovery.specs.Strangers.{NamesStranger, NamesNone};
+ghost use Rattle.hack_recovery.specs.CallCourses.{IsBroughtBack, Restores, noted};
 
 use crate::fault::CallFault;
 use crate::journal::stranger;
@@ -47,7 +47,7 @@ fn stranger_in<F: Files>(
     ensures found { IfOk result (λ found. MatchOption found
         (Finds F.tells (F.failed files.old) (F.failed files.new)
         (NamesNone folder.now journal.now (F.bytes_at files.old)))
-        (λ path. Names F.tells folder.now journal.now (F.bytes_at files.old)
+        (λ path. NamesStranger F.tells folder.now journal.now (F.bytes_at files.old)
         (string_bytes path))) }
     ensures same { F.tells → KeepsAll (F.bytes_at files.old) (F.bytes_at files.new) }
     ensures untraced { F.whole → Makes [] (F.trace files.old) (F.trace files.new)

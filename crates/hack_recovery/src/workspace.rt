@@ -7,8 +7,8 @@ ghost use Rattle.hack_files.specs.Files.{KeepsAll, Makes};
 ghost use Rattle.toml.specs.Data.{get_member};
 ghost use Rattle.toml.specs.View.{table_view};
 ghost use Rattle.hack_recovery.specs.Folders.{field_says, manifest_in, saying_in, start_at};
-ghost use Rattle.hack_recovery.specs.Folders.{text_in, text_says, tree_says, workspace_from};
-ghost use Rattle.hack_recovery.specs.Looks.{Finds};
+ghost use Rattle.hack_recovery.specs.Folders.{text_in_bytes, text_says, tree_says, workspace_from};
+ghost use Rattle.hack_recovery.specs.FileLooks.{Finds};
 
 use crate::look::held;
 use hack_base::paths::{join, normal, parent};
@@ -165,7 +165,7 @@ fn manifest<F: Files>(
 
 /// The bytes of a file as text, where they are text.
 fn text_of(bytes: Option<Vec<u8>>) -> Option<String>
-    ensures { optional_text result ≡ text_in (option_map (λ bytes. bytes.items) bytes) }
+    ensures { optional_text result ≡ text_in_bytes (option_map (λ bytes. bytes.items) bytes) }
 {
     match bytes {
         Some(bytes) => match String::from_utf8(bytes) {

@@ -11,7 +11,7 @@ use Rattle.std.specs.declared.cmp.Ordering.TheVariants.{Less, Equal, Greater}
 use Rattle.std.proofs.lemmas.Map.Text.{is_eq-slice_cmp}
 use Rattle.std.proofs.lemmas.Map.Views.{Contains-from_any, list_any-from_Contains}
 use Rattle.std.proofs.lemmas.Slice.Eq.{bytes_eq-Decides}
-use Rattle.hack_rules.specs.CliTargets.{AreRising, AreSame, put_all}
+use Rattle.hack_rules.specs.CliTargets.{AreRising, HaveSameTexts, put_all}
 
 abbrev has : List ℕ → List (List ℕ) → Bool
 has text texts = list_any (bytes_eq text) texts
@@ -52,7 +52,7 @@ put_all-has text keys [] = sym (or-none (has text (map string_bytes keys)))
 put_all-has text keys (x ∷ xs) = put_all-has text (insert_key string_cmp keys x) xs ∙ ap (λ b. b || has text (map string_bytes xs)) (put-has text keys x) ∙ or-move (bytes_eq text (string_bytes x)) (has text (map string_bytes keys)) (has text (map string_bytes xs))
 
 -- a set made of texts has the same texts
-pub put_all-same : {Y : Type 0} (texts : List (String Y)) → AreSame (map string_bytes (put_all [] texts)) (map string_bytes texts)
+pub put_all-same : {Y : Type 0} (texts : List (String Y)) → HaveSameTexts (map string_bytes (put_all [] texts)) (map string_bytes texts)
 put_all-same texts text = (there, back)
   where
     listed : (ts : List (List ℕ)) → Contains ts text → has text ts ≡ true

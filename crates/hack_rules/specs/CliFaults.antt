@@ -2,7 +2,7 @@
 use Rattle.std.specs.Prelude.{ℕ, ◌≡◌, List, Option, Some, None, Result, Ok, Err, MatchOption}
 use Rattle.std.specs.Prelude.{string_bytes, option_map}
 use Rattle.hack_options.specs.declared.opt.Opt.{Opt}
-use Rattle.hack_uses.specs.Faults.{fault_of as cut_fault_of, Fault as WrongCut}
+use Rattle.hack_uses.specs.Faults.{argument_fault_of as cut_fault_of, ArgumentFault as WrongCut}
 use Rattle.hack_uses.specs.declared.fault.CutFault.{CutFault}
 use Rattle.hack_uses.specs.declared.fault.CutFault.TheVariants as cut
 use Rattle.hack_versions.specs.Readings.{BadRange, bad_range_of}

@@ -11,8 +11,8 @@ abbrev pub AreRising : List (List ℕ) → Type 0
 AreRising texts = IsStrictlySortedBy (slice_cmp nat_cmp) texts
 
 -- the same texts, in any number and order
-abbrev pub AreSame : List (List ℕ) → List (List ℕ) → Type 0
-AreSame texts others = (text : List ℕ) → Contains texts text ↔ Contains others text
+abbrev pub HaveSameTexts : List (List ℕ) → List (List ℕ) → Type 0
+HaveSameTexts texts others = (text : List ℕ) → Contains texts text ↔ Contains others text
 
 -- the keys of a set with these texts inserted one after another
 abbrev pub put_all : {Y : Type 0} → List (String Y) → List (String Y) → List (String Y)

@@ -2,12 +2,12 @@
 use Rattle.std.specs.Prelude.{option_map}
 use Rattle.hack_features.specs.Feature.{groups_of}
 use Rattle.hack_base.specs.Names.{names_of}
-use Rattle.hack_rules.specs.Listed.{Listed}
+use Rattle.hack_rules.specs.ListedFeatures.{Listed}
 use Rattle.hack_rules.specs.declared.listed.Lists.{Lists}
 
 -- the contents of the lists
-abbrev pub listed_in : Lists → Listed
-listed_in lists = record {
+abbrev pub listed_view : Lists → Listed
+listed_view lists = record {
   features = names_of lists.features.items;
   includes = names_of lists.include_features.items;
   excludes = names_of lists.exclude_features.items;

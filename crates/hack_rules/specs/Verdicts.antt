@@ -2,11 +2,11 @@
 use Rattle.std.specs.Prelude.{ℕ, List, Option}
 use Rattle.hack_uses.specs.declared.behavior.WorkspaceBehavior.{WorkspaceBehavior}
 use Rattle.hack_uses.specs.Uses.{Use, subcommand_of}
-use Rattle.hack_rules.specs.Listed.{listed_by}
+use Rattle.hack_rules.specs.ListedFeatures.{listed_by}
 use Rattle.hack_rules.specs.Rules.{Verdict, Accepted, first_of, refused_by, verdict_or}
-use Rattle.hack_rules.specs.Early.{rules_before}
-use Rattle.hack_rules.specs.Bare.{bare_verdict}
-use Rattle.hack_rules.specs.Late.{rules_after}
+use Rattle.hack_rules.specs.EarlyRules.{rules_before}
+use Rattle.hack_rules.specs.MissingSubcommand.{bare_verdict}
+use Rattle.hack_rules.specs.LateRules.{rules_after}
 
 -- the verdict on uses: the first rule that gives an error refuses them
 abbrev pub verdict_of : WorkspaceBehavior → Option (List ℕ) → Option ℕ → List Use → Verdict

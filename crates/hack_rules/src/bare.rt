@@ -3,9 +3,9 @@
 ghost use Rattle.std.specs.Prelude.{◌≡◌};
 ghost use Rattle.hack_base.specs.Names.{names_of};
 ghost use Rattle.hack_uses.specs.declared.behavior.WorkspaceBehavior.{WorkspaceBehavior};
-ghost use Rattle.hack_uses.specs.Passed.{leading_of};
+ghost use Rattle.hack_uses.specs.PassedWords.{leading_of};
 ghost use Rattle.hack_uses.specs.Uses.{views, subcommand_of};
-ghost use Rattle.hack_rules.specs.Bare.{GoesOn, bare_verdict};
+ghost use Rattle.hack_rules.specs.MissingSubcommand.{ReturnsBareVerdict, bare_verdict};
 
 use crate::checks::has;
 use crate::fault::CliFault;
@@ -16,7 +16,7 @@ use hack_uses::{Use, given, subcommand};
 pub fn lists_commands(passed: &[String], uses: &[Use]) -> Result<bool, CliFault>
     ensures { (behavior : WorkspaceBehavior)
         → names_of passed.now ≡ leading_of behavior (views uses.now)
-        → GoesOn result (bare_verdict behavior (subcommand_of (views uses.now)) (views uses.now)) }
+        → ReturnsBareVerdict result (bare_verdict behavior (subcommand_of (views uses.now)) (views uses.now)) }
 {
     if subcommand(uses).is_some() {
         return Ok(false);

@@ -4,23 +4,23 @@
 ghost use Rattle.std.specs.Prelude.{◌≡◌, IfOk, option_map};
 ghost use Rattle.hack_features.specs.Feature.{groups_of};
 ghost use Rattle.hack_base.specs.Names.{names_of, optional_text_ref};
-ghost use Rattle.hack_uses.specs.Passed.{leading_of};
+ghost use Rattle.hack_uses.specs.PassedWords.{leading_of};
 ghost use Rattle.hack_uses.specs.Uses.{views, is_given, subcommand_of};
 ghost use Rattle.hack_uses.specs.Values.{value_given};
-ghost use Rattle.hack_rules.specs.Asked.{coloring_asked, depth_asked};
+ghost use Rattle.hack_rules.specs.AskedFields.{coloring_asked, depth_asked};
 ghost use Rattle.hack_rules.specs.CliFaults.{Checks};
 ghost use Rattle.hack_rules.specs.CliValues.{depth_fault};
-ghost use Rattle.hack_rules.specs.ListsView.{listed_in};
+ghost use Rattle.hack_rules.specs.ListsView.{listed_view};
 ghost use Rattle.hack_rules.specs.Rules.{needs as needs_rule, first_of, of_value};
-ghost use Rattle.hack_rules.specs.Early.{is_in_group, is_optional};
-ghost use Rattle.hack_rules.specs.Early.{color_rule, unknown_rule, each_rules, powerset_rules};
-ghost use Rattle.hack_rules.specs.Early.{single_rule, single_rules, subcommand_rule, cargo_rule};
-ghost use Rattle.hack_rules.specs.Early.{is_target_flag as target_flag};
-ghost use Rattle.hack_rules.specs.Early.{is_target_name as target_name, first_target_word};
-ghost use Rattle.hack_rules.specs.Early.{target_rule, include_rules, pair_rules};
-ghost use Rattle.hack_rules.specs.Early.{option_naming as naming_option, excluded_rule};
-ghost use Rattle.hack_rules.specs.Early.{early_rules};
-ghost use Rattle.hack_rules.specs.Early.{together_rules, rules_before, is_each as each};
+ghost use Rattle.hack_rules.specs.EarlyRules.{is_in_group, is_optional};
+ghost use Rattle.hack_rules.specs.EarlyRules.{color_rule, unknown_rule, each_rules, powerset_rules};
+ghost use Rattle.hack_rules.specs.EarlyRules.{single_rule, single_rules, subcommand_rule, cargo_rule};
+ghost use Rattle.hack_rules.specs.EarlyRules.{is_target_flag as target_flag};
+ghost use Rattle.hack_rules.specs.EarlyRules.{is_target_name as target_name, first_target_word};
+ghost use Rattle.hack_rules.specs.EarlyRules.{target_rule, include_rules, pair_rules};
+ghost use Rattle.hack_rules.specs.EarlyRules.{option_naming as naming_option, excluded_rule};
+ghost use Rattle.hack_rules.specs.EarlyRules.{early_rules};
+ghost use Rattle.hack_rules.specs.EarlyRules.{together_rules, rules_before, is_each as each};
 
 use crate::checks::{clash, has, has_some, needs};
 use crate::fault::{Beside, CliFault};
@@ -73,7 +73,7 @@ fn coloring(term_color: Option<&String>, uses: &[Use]) -> Result<Coloring, CliFa
 
 /// `--ignore-unknown-features` needs a list of features.
 fn beside_lists(lists: &Lists, uses: &[Use]) -> Result<(), CliFault>
-    ensures { Checks result (unknown_rule (listed_in lists.now) (views uses.now)) }
+    ensures { Checks result (unknown_rule (listed_view lists.now) (views uses.now)) }
 {
     let there = has_some(lists.features.as_slice())
         || has_some(lists.include_features.as_slice())
@@ -98,7 +98,7 @@ fn needs_each(there: bool, option: Opt, uses: &[Use]) -> Result<(), CliFault>
 
 /// Options that need `--each-feature` or `--feature-powerset`.
 fn beside_each(lists: &Lists, uses: &[Use]) -> Result<(), CliFault>
-    ensures { Checks result (first_of (each_rules (listed_in lists.now) (views uses.now))) }
+    ensures { Checks result (first_of (each_rules (listed_view lists.now) (views uses.now))) }
 {
     needs_each(given(Opt::OptionalDeps, uses), Opt::OptionalDeps, uses)?;
     let excludes = has_some(lists.exclude_features.as_slice());
@@ -265,7 +265,7 @@ fn beside_targets(leading: &[String], uses: &[Use]) -> Result<(), CliFault>
 
 /// A list of features to include excludes some options.
 fn beside_includes(lists: &Lists, uses: &[Use]) -> Result<(), CliFault>
-    ensures { Checks result (first_of (include_rules (listed_in lists.now) (views uses.now))) }
+    ensures { Checks result (first_of (include_rules (listed_view lists.now) (views uses.now))) }
 {
     let option = Opt::IncludeFeatures;
     if !has_some(lists.include_features.as_slice()) {
@@ -311,7 +311,7 @@ fn optional_has(names: Option<&Vec<String>>, name: &str) -> bool
 
 /// The first option that names the feature.
 fn naming(lists: &Lists, name: &str) -> Option<Opt>
-    ensures { result ≡ naming_option (listed_in lists.now) name.now }
+    ensures { result ≡ naming_option (listed_view lists.now) name.now }
 {
     if has(lists.features.as_slice(), name) {
         Some(Opt::Features)
@@ -330,7 +330,7 @@ fn naming(lists: &Lists, name: &str) -> Option<Opt>
 
 /// Refuses an option that names a feature which is excluded.
 fn check_excluded(lists: &Lists) -> Result<(), CliFault>
-    ensures { Checks result (excluded_rule (listed_in lists.now) (listed_in lists.now).excludes) }
+    ensures { Checks result (excluded_rule (listed_view lists.now) (listed_view lists.now).excludes) }
 {
     for name in lists.exclude_features.as_slice() {
         if let Some(option) = naming(lists, name.as_str()) {
@@ -353,7 +353,7 @@ fn check_together(
 ) -> Result<(), CliFault>
     requires { names_of leading.now ≡ leading_of behavior (views uses.now) }
     ensures { Checks result (first_of
-        (together_rules behavior (listed_in lists.now) (views uses.now))) }
+        (together_rules behavior (listed_view lists.now) (views uses.now))) }
 {
     groups_list_two(uses)?;
     beside_subcommand(uses)?;
@@ -381,7 +381,7 @@ fn check_lists(
 ) -> Result<Early, CliFault>
     ensures rules { Checks result (first_of
         (early_rules (optional_text_ref term_color.entry)
-        (listed_in lists.now) (views uses.now))) }
+        (listed_view lists.now) (views uses.now))) }
     ensures coloring { IfOk result (λ early. early.coloring
         ≡ coloring_asked (optional_text_ref term_color.entry)
         (views uses.now)) }
@@ -407,7 +407,7 @@ pub fn check(
     requires { names_of leading.now ≡ leading_of behavior (views uses.now) }
     ensures rules { Checks result (first_of
         (rules_before behavior (optional_text_ref term_color.entry)
-        (listed_in lists.now) (views uses.now))) }
+        (listed_view lists.now) (views uses.now))) }
     ensures coloring { IfOk result (λ early. early.coloring
         ≡ coloring_asked (optional_text_ref term_color.entry)
         (views uses.now)) }

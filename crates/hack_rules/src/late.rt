@@ -5,19 +5,19 @@ ghost use Rattle.std.specs.Prelude.{◌≡◌, IfOk, IfSome, option_map, option_
 ghost use Rattle.std.specs.List.{list_any};
 ghost use Rattle.hack_uses.specs.Uses.{view, views};
 ghost use Rattle.hack_uses.specs.Values.{value_given};
-ghost use Rattle.hack_rules.specs.Asked.{read_range, range_asked, is_old_asked, step_asked};
-ghost use Rattle.hack_rules.specs.Asked.{is_message_format as message_format, log_group_asked};
-ghost use Rattle.hack_rules.specs.Asked.{piece_asked, kind_asked, strength_asked};
+ghost use Rattle.hack_rules.specs.AskedFields.{read_range, range_asked, is_old_asked, step_asked};
+ghost use Rattle.hack_rules.specs.AskedFields.{is_message_format as message_format, log_group_asked};
+ghost use Rattle.hack_rules.specs.AskedFields.{piece_asked, kind_asked, strength_asked};
 ghost use Rattle.hack_rules.specs.CliFaults.{Checks};
 ghost use Rattle.hack_rules.specs.CliGroups.{AreLifts};
 ghost use Rattle.hack_rules.specs.CliLists.{lifts_given};
 ghost use Rattle.hack_rules.specs.CliValues.{range_fault, step_fault, log_group_fault};
 ghost use Rattle.hack_rules.specs.CliValues.{strength_fault};
 ghost use Rattle.hack_rules.specs.LateView.{IsLate};
-ghost use Rattle.hack_rules.specs.ListsView.{listed_in};
+ghost use Rattle.hack_rules.specs.ListsView.{listed_view};
 ghost use Rattle.hack_rules.specs.Rules.{first_of, of_value};
-ghost use Rattle.hack_rules.specs.Late.{rustup_rule, is_ranged as ranged, range_rules, piece_rules};
-ghost use Rattle.hack_rules.specs.Late.{lift_rules, strength_rules, rules_after};
+ghost use Rattle.hack_rules.specs.LateRules.{rustup_rule, is_ranged as ranged, range_rules, piece_rules};
+ghost use Rattle.hack_rules.specs.LateRules.{lift_rules, strength_rules, rules_after};
 
 use crate::checks::{clash, needs};
 use crate::fault::{Beside, CliFault};
@@ -190,7 +190,7 @@ fn partition(alloc: Global, uses: &[Use]) -> Result<Option<Partition>, CliFault>
 
 /// The exclusion groups that are lifted for a package.
 fn lifts(alloc: Global, lists: &Lists, uses: &[Use]) -> Result<Vec<(String, Feature)>, CliFault>
-    ensures rules { Checks result (first_of (lift_rules (listed_in lists.now) (views uses.now))) }
+    ensures rules { Checks result (first_of (lift_rules (listed_view lists.now) (views uses.now))) }
     ensures lifts { IfOk result (λ lifts. AreLifts (lifts_given (views uses.now)) lifts.items) }
 {
     let option = Opt::AllowTogether;
@@ -248,7 +248,7 @@ pub fn check(
     uses: &[Use],
 ) -> Result<Late, CliFault>
     ensures rules { Checks result (first_of
-        (rules_after rustup (listed_in lists.now) (views uses.now))) }
+        (rules_after rustup (listed_view lists.now) (views uses.now))) }
     ensures late { IfOk result (IsLate github_actions (views uses.now)) }
 {
     let versions = check_versions(alloc, rustup, uses)?;

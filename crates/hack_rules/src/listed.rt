@@ -24,12 +24,12 @@ pub struct Lists {
 
 impl Lists {
     ghost use Rattle.hack_rules.specs.CliGroups.{AreGroupsOf};
-    ghost use Rattle.hack_rules.specs.Listed.{listed_by};
-    ghost use Rattle.hack_rules.specs.ListsView.{listed_in};
+    ghost use Rattle.hack_rules.specs.ListedFeatures.{listed_by};
+    ghost use Rattle.hack_rules.specs.ListsView.{listed_view};
 
     /// The lists that uses of options give.
     pub fn of(alloc: Global, uses: &[Use]) -> Result<Lists, AllocError>
-        ensures listed { IfOk result (λ lists. listed_in lists ≡ listed_by (views uses.now)) }
+        ensures listed { IfOk result (λ lists. listed_view lists ≡ listed_by (views uses.now)) }
         ensures groups { IfOk result (λ lists.
             AreGroupsOf (values_given Opt.GroupFeatures (views uses.now))
             lists.group_features.items) }

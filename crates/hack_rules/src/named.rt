@@ -10,7 +10,7 @@ ghost use Rattle.hack_rules.specs.CliFaults.{Checks, LiftForm, LiftGroup};
 ghost use Rattle.hack_rules.specs.CliLists.{names_given, names_or_none, optional_given, lift_of};
 ghost use Rattle.hack_rules.specs.CliLists.{lifts_given, is_lift, lifts_one_of, same_names};
 ghost use Rattle.hack_rules.specs.CliLists.{first_failing, first_fault_of, lift_form, lift_group};
-ghost use Rattle.hack_rules.specs.CliTargets.{AreRising, AreSame, put_all};
+ghost use Rattle.hack_rules.specs.CliTargets.{AreRising, HaveSameTexts, put_all};
 ghost use Rattle.hack_features.specs.Feature.{IsGroup, group_of};
 ghost use Rattle.hack_base.specs.Lists.{group_names};
 ghost use Rattle.hack_rules.specs.CliGroups.{AreGroupsOf, AreNormalsOf, AreLifts, AreReadAs};
@@ -118,7 +118,7 @@ fn in_order(alloc: Global, set: BTreeSet<String>) -> Result<Vec<String>, AllocEr
 /// The values of `--target`, sorted by their bytes, each once.
 pub fn targets(alloc: Global, uses: &[Use]) -> Result<Vec<String>, AllocError>
     ensures rising { IfOk result (λ targets. AreRising (map string_bytes targets.items)) }
-    ensures same { IfOk result (λ targets. AreSame (map string_bytes targets.items)
+    ensures same { IfOk result (λ targets. HaveSameTexts (map string_bytes targets.items)
         (values_given Opt.Target (views uses.now))) }
 {
     let texts = values(alloc, Opt::Target, uses)?;

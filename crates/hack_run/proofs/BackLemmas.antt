@@ -8,9 +8,9 @@ use Rattle.hack_files.specs.Restore.{AreSafe, Brings, Kept, registered_files}
 use Rattle.hack_files.specs.declared.restore.Manager.{Manager}
 use Rattle.hack_files.proofs.RestoreLemmas.{grows_more}
 use Rattle.hack_files.proofs.SafeLemmas.{safe_back, safe_none}
-use Rattle.hack_load.specs.LeavesFew.{LeavesFew}
-use Rattle.hack_prepare.specs.Steps.{Grows}
-use Rattle.hack_run.specs.Restores.{IsClean}
+use Rattle.hack_load.specs.FilesAfterLoading.{LeavesFew}
+use Rattle.hack_prepare.specs.EditSteps.{Grows}
+use Rattle.hack_run.specs.TemporaryEdits.{IsClean}
 
 -- nothing is done to files
 pub leaves_none : (held : Contents) (n : ℕ) → LeavesFew (Unit {0}) held held n n

@@ -6,14 +6,14 @@ use Rattle.hack_process.specs.Calls.{Answer, Asked, Call, IsSuccess, MayAdd}
 use Rattle.hack_process.specs.CargoTexts.{release_part}
 use Rattle.hack_process.specs.Commands.{asked_of}
 use Rattle.hack_process.specs.CommandTexts.{Command}
-use Rattle.hack_process.specs.Faults.{Had, IsReadFault, without_line_ends}
+use Rattle.hack_process.specs.Faults.{GotAnswer, IsReadFault, without_line_ends}
 use Rattle.hack_process.specs.declared.caller.End.{End}
 use Rattle.hack_process.specs.declared.caller.End.TheVariants.{NeverStarted}
 use Rattle.hack_process.specs.declared.fault.ProcessFault.{ProcessFault}
 use Rattle.hack_process.specs.declared.fault.ProcessFault.TheVariants as process
 use Rattle.hack_versions.specs.ToolTexts.{TellsRelease}
 use Rattle.hack_versions.specs.declared.version.Version.{Version}
-use Rattle.hack_session.specs.Performs.{Comes, Makes}
+use Rattle.hack_session.specs.StepCalls.{EndsOrIsCut, MakesCalls}
 use Rattle.hack_session.specs.declared.step.Outcome.{Outcome}
 use Rattle.hack_session.specs.declared.step.Outcome.TheVariants.{Passed}
 use Rattle.hack_versions.specs.declared.rustup.Rustup.{Rustup}
@@ -30,7 +30,7 @@ fault_may tells asked shown old new (process.NotText text) h t = let had = h.2 t
 
 -- a command whose output was read may have been called
 pub read_may : (tells : Type 0) (P : String Global → Answer → Type 0) (asked : Asked) (shown : Name) (old new : List Call) (r : Result (String Global) ProcessFault)
-    → IfOk r (λ text. tells → Had (P text) asked old new) → IfErr r (IsReadFault tells asked shown old new) → tells → MayAdd asked old new
+    → IfOk r (λ text. tells → GotAnswer (P text) asked old new) → IfErr r (IsReadFault tells asked shown old new) → tells → MayAdd asked old new
 read_may tells P asked shown old new (Ok text) ok err t = let had = ok t in inr (had.0, had.2)
 read_may tells P asked shown old new (Err e) ok err t = fault_may tells asked shown old new e err t
 
@@ -59,17 +59,17 @@ asked_stable tells rustup old new (Err e) p = tt
 
 -- calls that end without an error passed
 pub installed : {T : Type 0} (tells : Type 0) (Ended : List Call → Outcome → Type 0) (Cut : List Call → Type 0) (old new : List Call) (r : Result T ProcessFault)
-    → (tells → Makes (λ calls. Comes (Ended calls) (Cut calls) r) old new) → OnOk r (tells → Makes (λ calls. Ended calls Passed) old new)
+    → (tells → MakesCalls (λ calls. EndsOrIsCut (Ended calls) (Cut calls) r) old new) → OnOk r (tells → MakesCalls (λ calls. Ended calls Passed) old new)
 installed tells Ended Cut old new (Ok done) h = λ t. let m = h t in record { made = m.made; grown = m.grown; such = m.such }
 installed tells Ended Cut old new (Err e) h = tt
 
 -- the answer that was read has the version
 pub reads : (tells : Type 0) (rustup answer : Name) (c : Command) (old new : List Call) → c ≡ stable_command rustup
-    → (tells → Had (λ told. IsSuccess told.end × IsUtf8 told.stdout × (answer ≡ without_line_ends told.stdout)) (asked_of true c) old new)
+    → (tells → GotAnswer (λ told. IsSuccess told.end × IsUtf8 told.stdout × (answer ≡ without_line_ends told.stdout)) (asked_of true c) old new)
     → (v : Version) → TellsRelease (release_part answer) v → tells → ReadsStable rustup v old new
 reads tells rustup answer c old new is had v told t = record {
   answer = answer;
-  read = subst (λ k. Had (λ told. IsSuccess told.end × IsUtf8 told.stdout × (answer ≡ without_line_ends told.stdout)) (asked_of true k) old new) is (had t);
+  read = subst (λ k. GotAnswer (λ told. IsSuccess told.end × IsUtf8 told.stdout × (answer ≡ without_line_ends told.stdout)) (asked_of true k) old new) is (had t);
   told = told;
 }
 
@@ -87,11 +87,11 @@ is_known P (Err e) p = tt
 
 -- rustup was asked, and its answer read
 pub asks_rustup : {E : Type 0} (tells : Type 0) (wants : Bool) (rustup answer : Name) (c : Command) (old new : List Call) (r : Result Rustup E) → wants ≡ true → c ≡ rustup_command rustup
-    → (tells → Had (λ told. IsSuccess told.end × IsUtf8 told.stdout × (answer ≡ without_line_ends told.stdout)) (asked_of true c) old new) → IfOk r (TellsMinor answer) → IfOk r (λ known. tells → AsksRustup wants rustup known old new)
+    → (tells → GotAnswer (λ told. IsSuccess told.end × IsUtf8 told.stdout × (answer ≡ without_line_ends told.stdout)) (asked_of true c) old new) → IfOk r (TellsMinor answer) → IfOk r (λ known. tells → AsksRustup wants rustup known old new)
 asks_rustup tells wants rustup answer c old new (Ok known) is same had told = λ t.
     subst (λ b. AsksRustup b rustup known old new) (sym is) (inl (record {
       answer = answer;
-      read = subst (λ k. Had (λ told. IsSuccess told.end × IsUtf8 told.stdout × (answer ≡ without_line_ends told.stdout)) (asked_of true k) old new) same (had t);
+      read = subst (λ k. GotAnswer (λ told. IsSuccess told.end × IsUtf8 told.stdout × (answer ≡ without_line_ends told.stdout)) (asked_of true k) old new) same (had t);
       told = told;
     }))
 asks_rustup tells wants rustup answer c old new (Err e) is same had told = tt

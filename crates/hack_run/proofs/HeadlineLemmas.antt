@@ -1,6 +1,6 @@
 -- The headline, put together from the plan and its session.
 use Rattle.std.proofs.Common.{◌≡◌, sym, subst, List, ℕ, Option, None, Some, Result, Ok, true, IsSome, Global, String, length}
-use Rattle.hack_planner.specs.Made.{IsPlanOf}
+use Rattle.hack_planner.specs.CallPlan.{IsPlanOf}
 use Rattle.hack_planner.specs.Powersets.{HavePowersets}
 use Rattle.hack_planner.specs.Samples.{HaveSamples, ArePatternsHeld}
 use Rattle.hack_uses.specs.declared.behavior.WorkspaceBehavior.TheVariants.{Cargo}

@@ -3,11 +3,11 @@ use Rattle.std.proofs.Common.{◌≡◌, ◌≢◌, ◌⊎◌, ◌∙◌, ◌+�
 use Rattle.std.proofs.lemmas.List.{length-append}
 use Rattle.std.proofs.lemmas.List.Elements.{Contains-append_left}
 use Rattle.hack_files.specs.Files.{Contents, KeepsAll, KeepsOthers}
-use Rattle.hack_journal.specs.Apart.{KeepsLockfiles, apart, is_lockfile}
+use Rattle.hack_journal.specs.LockfilesApart.{KeepsLockfiles, apart, is_lockfile}
 use Rattle.hack_journal.specs.Journal.{Edit}
-use Rattle.hack_journal.specs.Safe.{AreBack, KeepFirst, without}
+use Rattle.hack_journal.specs.SafeFiles.{AreBack, KeepFirst, without}
 use Rattle.hack_journal.proofs.RecoverLemmas.{without_at, without_same}
-use Rattle.hack_load.specs.LeavesFew.{LeavesFew}
+use Rattle.hack_load.specs.FilesAfterLoading.{LeavesFew}
 use Rattle.hack_run.specs.Journals.{contents_seen}
 
 -- where the journal alone was changed the call sees the same, by the journal's first path too

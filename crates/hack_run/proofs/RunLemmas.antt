@@ -12,8 +12,8 @@ use Rattle.hack_term.specs.declared.term.Term.{Term}
 use Rattle.hack_term.specs.declared.partition.Partition.{Partition}
 use Rattle.hack_plan.specs.View.{PlanView}
 use Rattle.hack_session.specs.Histories.{HasPassed, passed_step}
-use Rattle.hack_session.specs.Lists.{IsListed, Lists, ListsAll, Page, has_failed, is_sent, is_sent_step, lines_listed, lines_written, step_lines}
-use Rattle.hack_session.specs.Performs.{Exactly, HasPerformed, HasTold, Makes, Performs, PerformsAll}
+use Rattle.hack_session.specs.ListLines.{IsListedStep, ListsStep, ListsAll, Page, has_failed, is_sent, is_sent_step, lines_listed, lines_written, step_lines}
+use Rattle.hack_session.specs.StepCalls.{Exactly, HasPerformed, HasTold, MakesCalls, Performs, PerformsAll}
 use Rattle.hack_session.specs.Schedules.{IsSchedule}
 use Rattle.hack_session.specs.declared.step.Handed.{Handed}
 use Rattle.hack_plan.specs.declared.parts.Preparation.TheVariants.{Toolchain, Lockfile, Clean}
@@ -25,9 +25,9 @@ use Rattle.hack_base.specs.Names.{Name}
 use Rattle.hack_load.specs.Contexts.{ContextRecord}
 use Rattle.hack_versions.specs.declared.version.Version.{Version}
 use Rattle.hack_base.specs.Notes.{Note}
-use Rattle.hack_run.specs.Made.{HandsOverAtMostOne, PerformsAtMostOne}
-use Rattle.hack_run.specs.Runs.{DoesPlan, PassesAll, RunsAll, SendsAll}
-use Rattle.hack_run.specs.Told.{GrowsWithin}
+use Rattle.hack_run.specs.CallTrace.{HandsOverAtMostOne, PerformsAtMostOne}
+use Rattle.hack_run.specs.ScheduleCalls.{DoesPlan, PassesAll, RunsAll, SendsAll}
+use Rattle.hack_run.specs.Warnings.{GrowsWithin}
 use Rattle.hack_run.proofs.GatherLemmas.{known-none}
 
 -- a step that passed wasn't cut short
@@ -79,7 +79,7 @@ record Rises (old new : Page) : Type 0 where
   failed : old.failed ≤ new.failed
   refused : old.refused ≤ new.refused
 
-rises_one : (whole : Type 0) (b : Bool) (plan : PlanView) (h : Handed) (old new : Page) → Small old → Lists whole b plan h old new → Rises old new
+rises_one : (whole : Type 0) (b : Bool) (plan : PlanView) (h : Handed) (old new : Page) → Small old → ListsStep whole b plan h old new → Rises old new
 rises_one whole true plan h old new low same = subst (λ (p : Page). Rises old p) (sym same) (record { small = low; failed = omega arith; refused = omega arith })
 rises_one whole false plan h old new low (inl w) = let f = w.counted low.0 in record { small = (omega (arith, f), omega (arith, w.kept, low.1)); failed = omega (arith, f, low.0); refused = omega (arith, w.kept) }
 rises_one whole false plan h old new low (inr (inl m)) = let f = m.counted low.0 in record { small = (omega (arith, f), omega (arith, m.kept, low.1)); failed = omega (arith, f, low.0); refused = omega (arith, m.kept) }
@@ -102,11 +102,11 @@ sent_lines plan (Run place) e = absurd (cc)
 
 -- steps of a list of which none failed: all are listed, and their lines are written
 pub record IsWritten (plan : PlanView) (steps : List Handed) (old new : Page) : Type 0 where
-  pub listed : All IsListed steps
+  pub listed : All IsListedStep steps
   pub written : Appends old.contents new.contents (flat_map (lines_listed plan) steps)
 
-one_written : (whole : Type 0) (b : Bool) (plan : PlanView) (h : Handed) (old new : Page) → is_sent_step h.step ≡ b → old.failed ≡ 0 → old.refused ≡ 0 → new.failed ≡ 0 → new.refused ≡ 0 → Lists whole b plan h old new
-    → IsListed h × Appends old.contents new.contents (lines_listed plan h)
+one_written : (whole : Type 0) (b : Bool) (plan : PlanView) (h : Handed) (old new : Page) → is_sent_step h.step ≡ b → old.failed ≡ 0 → old.refused ≡ 0 → new.failed ≡ 0 → new.refused ≡ 0 → ListsStep whole b plan h old new
+    → IsListedStep h × Appends old.contents new.contents (lines_listed plan h)
 one_written whole true plan h old new is f r g s same = (rw is refl, subst (λ (p : Page). Appends old.contents p.contents (lines_listed plan h)) (sym same) (subst (Appends old.contents old.contents) (sym (sent_lines plan h.step is)) (Appends-nil old.contents)))
 one_written whole false plan h old new is f r g s (inl w) = (rw is (ap has_failed w.passes), w.written)
 one_written whole false plan h old new is f r g s (inr (inl m)) = let e = m.counted (omega (arith, f)) in absurd (omega (arith, e, f, g))
@@ -124,7 +124,7 @@ all_written whole plan (h ∷ steps) old new f r g s l =
     let here = one_written whole (is_sent h) plan h old l.0 refl f r mf mr l.1 in
     let rest = all_written whole plan steps l.0 new mf mr g s l.2 in
     record {
-      listed = All-cons IsListed h steps here.0 rest.listed;
+      listed = All-cons IsListedStep h steps here.0 rest.listed;
       written = Appends-trans old.contents l.0.contents new.contents (lines_listed plan h) (flat_map (lines_listed plan) steps) here.1 rest.written;
     }
 
@@ -138,7 +138,7 @@ kept_nothing (Some x) (Some y) k = k ∙ sym (append-nil x)
 lines_by : (plan : PlanView) (h : Handed) (b : Bool) → has_failed h.outcome ≡ b → (if b then [] else step_lines plan h.step) ≡ lines_written plan h
 lines_by plan h b is = rw is refl
 
-one_passed : (whole : Type 0) (b : Bool) (plan : PlanView) (h : Handed) (old new : Page) → is_sent_step h.step ≡ b → whole → Lists whole b plan h old new → Appends old.contents new.contents (lines_written plan h)
+one_passed : (whole : Type 0) (b : Bool) (plan : PlanView) (h : Handed) (old new : Page) → is_sent_step h.step ≡ b → whole → ListsStep whole b plan h old new → Appends old.contents new.contents (lines_written plan h)
 one_passed whole true plan h old new is w same = subst (λ (p : Page). Appends old.contents p.contents (lines_written plan h)) (sym same) (subst (Appends old.contents old.contents) (none (has_failed h.outcome)) (Appends-nil old.contents))
   where
     none : (b : Bool) → [] ≡ (if b then [] else step_lines plan h.step)
@@ -155,7 +155,7 @@ passed_written whole plan (h ∷ steps) old new w l =
     Appends-trans old.contents l.0.contents new.contents (lines_written plan h) (flat_map (lines_written plan) steps) (one_passed whole (is_sent h) plan h old l.0 refl w l.1) (passed_written whole plan steps l.0 new w l.2)
 
 -- a listed step passed, unless it is one that isn't listed
-passed_by : (h : Handed) → is_sent_step h.step ≡ false → IsListed h → HasPassed h
+passed_by : (h : Handed) → is_sent_step h.step ≡ false → IsListedStep h → HasPassed h
 passed_by h off listed = go h.outcome (rw off at listed)
   where
     go : (o : Outcome) → has_failed o ≡ false → o ≡ Passed
@@ -163,13 +163,13 @@ passed_by h off listed = go h.outcome (rw off at listed)
     go Failed e = absurd (cc)
 
 -- where those that aren't listed passed, and the others are listed, all passed
-all_handed : (steps : List Handed) → All HasPassed (filter is_sent steps) → All IsListed steps → All HasPassed steps
+all_handed : (steps : List Handed) → All HasPassed (filter is_sent steps) → All IsListedStep steps → All HasPassed steps
 all_handed [] sent listed = λ k d lt. absurd (omega arith)
-all_handed (h ∷ steps) sent listed = go (is_sent h) refl sent (λ l. all_handed steps l (All-tail IsListed h steps listed))
+all_handed (h ∷ steps) sent listed = go (is_sent h) refl sent (λ l. all_handed steps l (All-tail IsListedStep h steps listed))
   where
     go : (b : Bool) → is_sent h ≡ b → All HasPassed (filter is_sent (h ∷ steps)) → (All HasPassed (filter is_sent steps) → All HasPassed steps) → All HasPassed (h ∷ steps)
     go true is all rest = let l = rw is at all in All-cons HasPassed h steps (All-head HasPassed h (filter is_sent steps) l) (rest (All-tail HasPassed h (filter is_sent steps) l))
-    go false is all rest = let l = rw is at all in All-cons HasPassed h steps (passed_by h is (All-head IsListed h steps listed)) (rest l)
+    go false is all rest = let l = rw is at all in All-cons HasPassed h steps (passed_by h is (All-head IsListedStep h steps listed)) (rest l)
 
 sent_passed : (steps : List Step) → filter is_sent (map passed_step steps) ≡ map passed_step (filter is_sent_step steps)
 sent_passed [] = refl
@@ -186,7 +186,7 @@ lines_passed plan (step ∷ steps) = ap (λ (bytes : List ℕ). step_lines plan 
 -- then just the toolchains and lockfiles of the whole schedule were made, and its lines written
 pub sends_all : (plan : PlanView) (piece : Option Partition) (schedule : List Step) (handed : List Handed) (old new : List Call) (before now : ℕ) (term : Term) (fault : Option ProcessFault) (out grown : Option (List ℕ))
     → IsSchedule piece plan schedule → (All HasPassed handed → handed ≡ map passed_step schedule) → HasPerformed plan (filter is_sent handed) old new before now
-    → (All HasPassed (filter is_sent handed) ⊎ HasTold term fault) → All IsListed handed → Appends out grown (flat_map (lines_listed plan) handed) → fault ≡ None → term.error ≡ false → SendsAll out grown plan piece old new
+    → (All HasPassed (filter is_sent handed) ⊎ HasTold term fault) → All IsListedStep handed → Appends out grown (flat_map (lines_listed plan) handed) → fault ≡ None → term.error ≡ false → SendsAll out grown plan piece old new
 sends_all plan piece schedule handed old new before now term fault out grown scheduled whole performed told listed written none quiet = record {
   schedule = schedule;
   scheduled = scheduled;
@@ -268,6 +268,6 @@ handed_makes whole had has Told Ran cx stable rustup a b (inr l) w calls refused
       course = l.course;
       cut = did.cut;
       handed = l.handed;
-      calls = subst (λ (cs : List Call). Makes (λ made. PerformsAll l.course.plan steps made did.cut) cs (calls b)) (told l.notes a l.mid l.told) (record { made = did.made; grown = did.grown; such = did.performed });
+      calls = subst (λ (cs : List Call). MakesCalls (λ made. PerformsAll l.course.plan steps made did.cut) cs (calls b)) (told l.notes a l.mid l.told) (record { made = did.made; grown = did.grown; such = did.performed });
       wrote = all_shown had has (flat_map (lines_written l.course.plan) l.course.handed) (l.wrote w);
     })

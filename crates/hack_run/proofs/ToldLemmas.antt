@@ -6,12 +6,12 @@ use Rattle.hack_base.specs.Notes.{Note, note_if}
 use Rattle.hack_base.specs.declared.notice.NoticeKind.{NoticeKind}
 use Rattle.hack_base.specs.declared.notice.NoticeKind.TheVariants.{Info, Warn, QuietWarn}
 use Rattle.hack_load.specs.Contexts.{ContextRecord}
-use Rattle.hack_prepare.specs.Prepared.{Member, Wanted, drops_at_root, gone_manifests, has_some, is_alone}
-use Rattle.hack_prepare.specs.PreparedView.{members_in, notes_in, wanted_in}
-use Rattle.hack_prepare.specs.Told.{dev_note, edit_notes, member_notes, private_note, root_notes}
+use Rattle.hack_prepare.specs.Prepared.{MemberManifest, Wanted, drops_at_root, gone_manifests, has_some, is_alone}
+use Rattle.hack_prepare.specs.PreparedView.{member_manifests_in, notes_in, wanted_in}
+use Rattle.hack_prepare.specs.EditNotes.{dev_note, edit_notes, member_notes, private_note, root_notes}
 use Rattle.hack_term.specs.Lines.{after_notice}
 use Rattle.hack_term.specs.declared.term.Term.{Term}
-use Rattle.hack_run.specs.Told.{Warned, after_notes, have_warning}
+use Rattle.hack_run.specs.Warnings.{Warned, after_notes, have_warning}
 
 -- one notice more
 pub told_one : (term : Term) (note : Note) (notes : List Note) → after_notes (after_notice term note.kind) notes ≡ after_notes term (note ∷ notes)
@@ -28,14 +28,14 @@ none_if : (b : Bool) (text : List ℕ) (rest : List Note) → have_warning (note
 none_if true text rest = refl
 none_if false text rest = refl
 
-none_of : (w : Wanted) (m : Member) (rest : List Note) → have_warning (member_notes w m ++ rest) ≡ have_warning rest
+none_of : (w : Wanted) (m : MemberManifest) (rest : List Note) → have_warning (member_notes w m ++ rest) ≡ have_warning rest
 none_of w m rest = go (is_alone w m)
   where
     go : (b : Bool) → have_warning ((if b then dev_note w.verbose m.path else []) ++ rest) ≡ have_warning rest
     go true = none_if w.verbose (codes "removing dev-dependencies from " ++ m.path) rest
     go false = refl
 
-none_of_root : (w : Wanted) (ms : List Member) → have_warning (root_notes w ms) ≡ false
+none_of_root : (w : Wanted) (ms : List MemberManifest) → have_warning (root_notes w ms) ≡ false
 none_of_root w ms = go w.no_private
   where
     go : (b : Bool) → have_warning (if b then edit_notes w (drops_at_root w ms) (gone_manifests w ms) else []) ≡ false
@@ -47,13 +47,13 @@ none_of_root w ms = go w.no_private
         none_last false = refl
     go false = refl
 
-none_of_all : (w : Wanted) (ms : List Member) (rest : List Note) → have_warning rest ≡ false → have_warning (flat_map (member_notes w) ms ++ rest) ≡ false
+none_of_all : (w : Wanted) (ms : List MemberManifest) (rest : List Note) → have_warning rest ≡ false → have_warning (flat_map (member_notes w) ms ++ rest) ≡ false
 none_of_all w [] rest none = none
 none_of_all w (m ∷ ms) rest none =
     ap have_warning (append_assoc (member_notes w m) (flat_map (member_notes w) ms) rest) ∙ none_of w m (flat_map (member_notes w) ms ++ rest) ∙ none_of_all w ms rest none
 
 pub edits_warn_of_nothing : (cx : ContextRecord) → have_warning (notes_in cx) ≡ false
-edits_warn_of_nothing cx = none_of_all (wanted_in cx) (members_in cx) (root_notes (wanted_in cx) (members_in cx)) (none_of_root (wanted_in cx) (members_in cx))
+edits_warn_of_nothing cx = none_of_all (wanted_in cx) (member_manifests_in cx) (root_notes (wanted_in cx) (member_manifests_in cx)) (none_of_root (wanted_in cx) (member_manifests_in cx))
 
 -- after the notices on what is loaded and on its edits
 pub warned_first : (a b c : Term) (first : List Note) (cx : ContextRecord) → b ≡ after_notes a first → c ≡ after_notes b (notes_in cx) → c.warn ≡ (have_warning first || a.warn)

@@ -6,18 +6,18 @@ use Rattle.hack_files.specs.Files.{Contents, KeepsAll}
 use Rattle.hack_load.specs.declared.fault.ContextFault.{ContextFault}
 use Rattle.hack_load.specs.declared.loaded.Loaded.{Loaded}
 use Rattle.hack_prepare.specs.Prepared.{IsPrepared}
-use Rattle.hack_prepare.specs.PreparedView.{members_in, wanted_in}
+use Rattle.hack_prepare.specs.PreparedView.{member_manifests_in, wanted_in}
 use Rattle.hack_prepare.proofs.RootLemmas.{prepared-moved}
 use Rattle.hack_process.specs.Calls.{Call}
 use Rattle.hack_load.specs.Answers.{AreAnswers}
 use Rattle.hack_load.specs.ContextOf.{IsContextFrom, warnings_of}
 use Rattle.hack_load.specs.Contexts.{ContextRecord}
-use Rattle.hack_load.specs.Loads.{told_version}
+use Rattle.hack_load.specs.CargoQuestions.{told_version}
 use Rattle.hack_load.specs.declared.answers.Answers.{Answers}
 use Rattle.hack_base.specs.Notes.{Note}
 use Rattle.hack_versions.specs.declared.rustup.Rustup.{Rustup}
-use Rattle.hack_words.specs.Answers.{Answers as IsAnswer, around_of}
-use Rattle.hack_words.specs.Call.{ComesTo}
+use Rattle.hack_words.specs.ParseAnswers.{AnswersCommandLine as IsAnswer, around_of}
+use Rattle.hack_words.specs.CommandLine.{ComesTo}
 use Rattle.hack_words.specs.Start.{wants_rustup}
 use Rattle.hack_words.specs.declared.cli.parse.Parsed.{Parsed}
 use Rattle.hack_words.specs.declared.cli.parse.Parsed.TheVariants as parsed
@@ -25,10 +25,10 @@ use Rattle.hack_words.specs.declared.cli.args.Args.{Args}
 use Rattle.hack_words.specs.declared.cli.env.Env.{Env}
 use Rattle.hack_term.specs.declared.term.Term.{Term}
 use Rattle.hack_versions.specs.declared.version.Version.{Version}
-use Rattle.hack_run.specs.Runs.{Does, DoesPlan}
+use Rattle.hack_run.specs.ScheduleCalls.{RunsOrLists, DoesPlan}
 use Rattle.hack_run.specs.Questions.{AsksRustup, AsksStable, NeedsAnswer}
-use Rattle.hack_run.specs.Told.{Seen, Warned, after_notes, have_warning}
-use Rattle.hack_run.specs.Whole.{Follows, IsDone, ListsCommands, Obeys, Performs, warned_by}
+use Rattle.hack_run.specs.Warnings.{Seen, Warned, after_notes, have_warning}
+use Rattle.hack_run.specs.Success.{PerformsSchedule, IsDone, ListsCommands, Obeys, AsksThenPerforms, warned_by}
 
 on_ok : {T E : Type 0} (P Q : Type 0) (r : Result T E) → (P → Q) → OnOk r P → OnOk r Q
 on_ok P Q (Ok v) f p = f p
@@ -36,12 +36,12 @@ on_ok P Q (Err e) f p = tt
 
 -- the runs of a context's plan, after stable's version was asked for
 pub follows : {T E : Type 0} (tells told quiet : Type 0) (r : Result T E) (args : Args) (answers : Answers) (rustup : Name) (held last : Contents) (seen : Seen) (old mid new : List Call) (cx : ContextRecord) (stable : Result (Option Version) (String Global))
-    → (flag : Bool) → flag ≡ (have_warning (warnings_of (told_version answers.cargo_version)) || seen.warned) → (told → IsPrepared (wanted_in cx) (members_in cx) held last) → IsContextFrom args answers cx → (tells → AsksStable rustup stable old mid) → (¬ NeedsAnswer cx.args → stable ≡ Ok None)
-    → OnOk r (quiet → tells → DoesPlan (Does cx.args.print_command_list seen.before seen.now) cx stable rustup mid new flag seen.warn)
-    → OnOk r (quiet → tells → Follows told args answers rustup held last seen old new)
+    → (flag : Bool) → flag ≡ (have_warning (warnings_of (told_version answers.cargo_version)) || seen.warned) → (told → IsPrepared (wanted_in cx) (member_manifests_in cx) held last) → IsContextFrom args answers cx → (tells → AsksStable rustup stable old mid) → (¬ NeedsAnswer cx.args → stable ≡ Ok None)
+    → OnOk r (quiet → tells → DoesPlan (RunsOrLists cx.args.print_command_list seen.before seen.now) cx stable rustup mid new flag seen.warn)
+    → OnOk r (quiet → tells → PerformsSchedule told args answers rustup held last seen old new)
 follows tells told quiet r args answers rustup held last seen old mid new cx stable flag warned prepared context asked needed ran =
-    on_ok (quiet → tells → DoesPlan (Does cx.args.print_command_list seen.before seen.now) cx stable rustup mid new flag seen.warn)
-    (quiet → tells → Follows told args answers rustup held last seen old new) r
+    on_ok (quiet → tells → DoesPlan (RunsOrLists cx.args.print_command_list seen.before seen.now) cx stable rustup mid new flag seen.warn)
+    (quiet → tells → PerformsSchedule told args answers rustup held last seen old new) r
     (λ runs q t.
     let h = runs q t in
     record {
@@ -50,7 +50,7 @@ follows tells told quiet r args answers rustup held last seen old mid new cx sta
       mid = mid;
       context = context;
       planned = record { stable = stable; notes = h.notes; asked = asked t; needed = needed; planned = h.planned };
-      runs = subst (λ (a : Args). Does a.print_command_list seen.before seen.now h.plan a.partition mid new) context.2.args h.done;
+      runs = subst (λ (a : Args). RunsOrLists a.print_command_list seen.before seen.now h.plan a.partition mid new) context.2.args h.done;
       warned = subst (λ (b : Bool). Warned h.notes b seen.warn) warned h.warned;
       edited = λ u _. prepared u;
     }) ran
@@ -62,7 +62,7 @@ quiet_before X false now f quiet = refl
 
 -- what is held is the same before, and in the end where edits stay
 moved : (T U : Type 0) (args : Args) (answers : Answers) (rustup : Name) (first asked prepared last : Contents) (seen : Seen) (old new : List Call) → (U → T) → (U → KeepsAll first asked) → (U → args.remove_dev_deps ≡ true → KeepsAll prepared last)
-    → Follows T args answers rustup asked prepared seen old new → Follows U args answers rustup first last seen old new
+    → PerformsSchedule T args answers rustup asked prepared seen old new → PerformsSchedule U args answers rustup first last seen old new
 moved T U args answers rustup first asked prepared last seen old new held same stay f = record {
   cx = f.cx;
   plan = f.plan;
@@ -71,7 +71,7 @@ moved T U args answers rustup first asked prepared last seen old new held same s
   planned = f.planned;
   runs = f.runs;
   warned = f.warned;
-  edited = λ u e. prepared-moved (wanted_in f.cx) (members_in f.cx) first asked prepared last (same u) (stay u e) (f.edited (held u) e);
+  edited = λ u e. prepared-moved (wanted_in f.cx) (member_manifests_in f.cx) first asked prepared last (same u) (stay u e) (f.edited (held u) e);
 }
 
 -- a call continued after its questions were answered
@@ -80,11 +80,11 @@ pub performs : {T E : Type 0} (tells told holds X : Type 0) (r : Result T E) (ar
     → (tells → AreAnswers told args env first before later old mid answers)
     → (IsTrue mute ⊎ X → IsTrue now)
     → (told → holds) → OnOk answers.loaded (told → KeepsAll first asked) → (told → args.remove_dev_deps ≡ true → KeepsAll prepared last)
-    → OnOk r (mute ≡ false → tells → Follows holds args answers (string_bytes env.rustup) asked prepared seen mid new)
-    → OnOk r (now ≡ false → tells → Performs told args env first last before (record seen { warn = warn }) old new)
+    → OnOk r (mute ≡ false → tells → PerformsSchedule holds args answers (string_bytes env.rustup) asked prepared seen mid new)
+    → OnOk r (now ≡ false → tells → AsksThenPerforms told args env first last before (record seen { warn = warn }) old new)
 performs tells told holds X r args env first asked prepared last before later seen old mid new answers mute now warn same_warn answered noted held whole stay follows =
-    on_ok (mute ≡ false → tells → Follows holds args answers (string_bytes env.rustup) asked prepared seen mid new)
-    (now ≡ false → tells → Performs told args env first last before (record seen { warn = warn }) old new) r
+    on_ok (mute ≡ false → tells → PerformsSchedule holds args answers (string_bytes env.rustup) asked prepared seen mid new)
+    (now ≡ false → tells → AsksThenPerforms told args env first last before (record seen { warn = warn }) old new) r
     (λ f quiet t.
     let g = f (quiet_before X mute now noted quiet) t in
     let same : told → KeepsAll first asked = subst (λ (a : Result Loaded ContextFault). OnOk a (told → KeepsAll first asked)) g.context.1 whole in
@@ -93,7 +93,7 @@ performs tells told holds X r args env first asked prepared last before later se
       now = later;
       mid = mid;
       asked = answered t;
-      follows = subst (λ (w : Bool). Follows told args answers (string_bytes env.rustup) first last (record seen { warn = w }) mid new) (sym same_warn) (moved holds told args answers (string_bytes env.rustup) first asked prepared last seen mid new held same stay g);
+      follows = subst (λ (w : Bool). PerformsSchedule told args answers (string_bytes env.rustup) first last (record seen { warn = w }) mid new) (sym same_warn) (moved holds told args answers (string_bytes env.rustup) first asked prepared last seen mid new held same stay g);
     }) follows
 
 -- a call that reported no error in the end returned none
@@ -113,7 +113,7 @@ dressed old middle now answer args notes is same told =
 
 -- what arguments ask for was done
 pub obeys : {T E : Type 0} (tells told quiet : Type 0) (r : Result T E) (args : Args) (answer : Parsed) (env : Env) (held last : Contents) (before : ℕ) (seen : Seen) (flag : Bool) (old new : List Call) → answer ≡ parsed.Args args → seen.warned ≡ flag
-    → OnOk r (quiet → tells → Performs told args env held last before seen old new)
+    → OnOk r (quiet → tells → AsksThenPerforms told args env held last before seen old new)
     → OnOk r (quiet → tells → Obeys told answer env held last before (record seen { warned = flag }) old new)
 obeys tells told quiet r args answer env held last before seen flag old new is same performed =
     subst (λ (b : Bool). OnOk r (quiet → tells → Obeys told answer env held last before (record seen { warned = b }) old new)) same
@@ -151,7 +151,7 @@ obeyed_moved T (parsed.Args args) env held last later before seen old new same h
     planned = f.planned;
     runs = f.runs;
     warned = f.warned;
-    edited = λ t e. subst (λ (c : Contents). IsPrepared (wanted_in f.cx) (members_in f.cx) held c) (same t) (f.edited t e);
+    edited = λ t e. subst (λ (c : Contents). IsPrepared (wanted_in f.cx) (member_manifests_in f.cx) held c) (same t) (f.edited t e);
   };
 }
 obeyed_moved T (parsed.Print text) env held last later before seen old new same h = h

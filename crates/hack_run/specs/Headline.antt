@@ -1,7 +1,7 @@
 -- The headline: what is handed out for a context, whatever comes of its steps.
 use Rattle.std.specs.Prelude.{ℕ, ◌≡◌, ◌<◌, true, List, Option, None, Some, Result, Ok, IsSome, length}
 use Rattle.std.proofs.Common.{Global, String}
-use Rattle.hack_planner.specs.Made.{IsPlanOf}
+use Rattle.hack_planner.specs.CallPlan.{IsPlanOf}
 use Rattle.hack_planner.specs.Powersets.{HavePowersets}
 use Rattle.hack_planner.specs.Samples.{HaveSamples, ArePatternsHeld}
 use Rattle.hack_uses.specs.declared.behavior.WorkspaceBehavior.TheVariants.{Cargo}

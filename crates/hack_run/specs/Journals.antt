@@ -1,8 +1,8 @@
 -- What a call over files with a journal sees.
 use Rattle.std.specs.Prelude.{ℕ, List}
 use Rattle.hack_files.specs.Files.{Contents}
-use Rattle.hack_journal.specs.Apart.{apart}
-use Rattle.hack_journal.specs.Safe.{without}
+use Rattle.hack_journal.specs.LockfilesApart.{apart}
+use Rattle.hack_journal.specs.SafeFiles.{without}
 
 -- what the paths hold: lockfiles what `lockfiles` holds, all others what `files` holds, and the
 -- journal nothing

@@ -1,8 +1,8 @@
 pub mod Headline
 pub mod Journals
-pub mod Made
+pub mod CallTrace
 pub mod Questions
-pub mod Restores
-pub mod Runs
-pub mod Told
-pub mod Whole
+pub mod TemporaryEdits
+pub mod ScheduleCalls
+pub mod Warnings
+pub mod Success

@@ -7,7 +7,7 @@ use Rattle.hack_process.specs.Calls.{Asked, Call, IsSuccess}
 use Rattle.hack_process.specs.CargoTexts.{release_part}
 use Rattle.hack_process.specs.Commands.{asked_of}
 use Rattle.hack_process.specs.CommandTexts.{Command}
-use Rattle.hack_process.specs.Faults.{Had, without_line_ends}
+use Rattle.hack_process.specs.Faults.{GotAnswer, without_line_ends}
 use Rattle.hack_plan.specs.Commands.{plain_command}
 use Rattle.hack_versions.specs.RangeSteps.{NeedsStable}
 use Rattle.hack_versions.specs.ToolTexts.{IsAnswerFault, TellsRelease, rustup_part}
@@ -16,7 +16,7 @@ use Rattle.hack_versions.specs.declared.rustup.Rustup.{Rustup}
 use Rattle.hack_versions.specs.declared.rustup.Rustup.TheVariants.{Known, Unasked, Unknown}
 use Rattle.hack_versions.specs.declared.version.Version.{Version}
 use Rattle.hack_words.specs.declared.cli.args.Args.{Args}
-use Rattle.hack_session.specs.Performs.{Installs, Makes}
+use Rattle.hack_session.specs.StepCalls.{Installs, MakesCalls}
 use Rattle.hack_session.specs.Toolchains.{addition_of, trial_of}
 use Rattle.hack_session.specs.declared.step.Outcome.TheVariants.{Passed}
 
@@ -43,12 +43,12 @@ IsUnknown (Unknown text) = Unit {0}
 -- a command gave no answer: its program has no name, and nothing was called; or it didn't end with
 -- status 0, or its output isn't UTF-8
 abbrev pub AsksInVain : Asked → List Call → List Call → Type 0
-AsksInVain asked old new = ((asked.program ≡ []) × (new ≡ old)) ⊎ Had (λ told. ¬ (IsSuccess told.end × IsUtf8 told.stdout)) asked old new
+AsksInVain asked old new = ((asked.program ≡ []) × (new ≡ old)) ⊎ GotAnswer (λ told. ¬ (IsSuccess told.end × IsUtf8 told.stdout)) asked old new
 
 -- rustup was asked, and its answer has this minor version, or can't be read
 pub record ReadsRustup (rustup : Name) (known : Rustup) (old new : List Call) : Type 0 where
   pub answer : Name
-  pub read : Had (λ told. IsSuccess told.end × IsUtf8 told.stdout × (answer ≡ without_line_ends told.stdout)) (rustup_asked rustup) old new
+  pub read : GotAnswer (λ told. IsSuccess told.end × IsUtf8 told.stdout × (answer ≡ without_line_ends told.stdout)) (rustup_asked rustup) old new
   pub told : TellsMinor answer known
 
 -- where an argument needs it, rustup was asked, and `known` is what its answer says, or unknown
@@ -64,12 +64,12 @@ stable_command rustup = plain_command rustup [] (codes "run" ∷ codes "stable" 
 -- the toolchain `stable` is installed: it was tried, and added where that failed
 abbrev pub InstallsStable : Name → List Call → List Call → Type 0
 InstallsStable rustup old new =
-    Makes (λ calls. Installs [] (asked_of true (trial_of rustup (codes "stable"))) (asked_of true (addition_of rustup (codes "stable") [])) calls Passed) old new
+    MakesCalls (λ calls. Installs [] (asked_of true (trial_of rustup (codes "stable"))) (asked_of true (addition_of rustup (codes "stable") [])) calls Passed) old new
 
 -- stable's cargo answered with this version
 pub record ReadsStable (rustup : Name) (v : Version) (old new : List Call) : Type 0 where
   pub answer : Name
-  pub read : Had (λ told. IsSuccess told.end × IsUtf8 told.stdout × (answer ≡ without_line_ends told.stdout)) (asked_of true (stable_command rustup)) old new
+  pub read : GotAnswer (λ told. IsSuccess told.end × IsUtf8 told.stdout × (answer ≡ without_line_ends told.stdout)) (asked_of true (stable_command rustup)) old new
   pub told : TellsRelease (release_part answer) v
 
 -- the toolchain is installed, and then its cargo answered with this version

@@ -10,7 +10,7 @@ ghost use Rattle.hack_process.specs.Commands.{asked_of, command_of};
 ghost use Rattle.hack_versions.specs.RangeSteps.{NeedsStable};
 ghost use Rattle.hack_versions.specs.ToolTexts.{TellsRelease};
 ghost use Rattle.hack_words.specs.Start.{wants_rustup as rustup_wanted};
-ghost use Rattle.hack_run.specs.Made.{FailsStable, MayAskStable};
+ghost use Rattle.hack_run.specs.CallTrace.{FailsStable, MayAskStable};
 ghost use Rattle.hack_run.specs.Questions.{AsksStable, InstallsStable, IsLatest, NeedsAnswer};
 ghost use Rattle.hack_run.specs.Questions.{AsksRustup, IsAnswered, IsUnknown, ReadsStable};
 ghost use Rattle.hack_run.specs.Questions.{TellsMinor};

@@ -1,13 +1,13 @@
 //! What a call runs: the plan of what is loaded, handed out to a runner.
 
 ghost use Rattle.std.specs.Prelude.{◌≡◌, ◌⊎◌, IfErr, IfOk, List, map};
-ghost use Rattle.hack_planner.specs.Made.{IsCauseOf, IsPlanOf, IsSureCauseOf};
+ghost use Rattle.hack_planner.specs.CallPlan.{IsCauseOf, IsPlanOf, IsSureCauseOf};
 ghost use Rattle.hack_load.specs.ContextView.{context_view};
 ghost use Rattle.hack_plan.specs.View.{PlanView};
 ghost use Rattle.hack_base.specs.Notes.{Note, note_of};
 ghost use Rattle.hack_run.specs.Headline.{IsHandedOut};
 ghost use Rattle.hack_run.specs.Questions.{IsAnswered};
-ghost use Rattle.hack_run.specs.Told.{after_notes};
+ghost use Rattle.hack_run.specs.Warnings.{after_notes};
 
 use crate::tell::tell_all;
 use hack_base::notice::Notice;

@@ -3,9 +3,9 @@
 ghost use Rattle.std.specs.Prelude.{◌≡◌, None, Ok, OnOk, false, true};
 ghost use Rattle.std.specs.Io.KnownBytes.{append_known};
 ghost use Rattle.hack_load.specs.ContextView.{context_view};
-ghost use Rattle.hack_run.specs.Made.{HandsOverAtMostOne, PerformsAtMostOne};
+ghost use Rattle.hack_run.specs.CallTrace.{HandsOverAtMostOne, PerformsAtMostOne};
 ghost use Rattle.hack_run.specs.Questions.{IsAnswered};
-ghost use Rattle.hack_run.specs.Runs.{DoesPlan, ListsOver, SendsAll};
+ghost use Rattle.hack_run.specs.ScheduleCalls.{DoesPlan, ListsOver, SendsAll};
 
 use crate::drive::{Teller, drive_context};
 use crate::fault::RunFault;

@@ -5,13 +5,13 @@ ghost use Rattle.std.specs.Prelude.{map, string_bytes};
 ghost use Rattle.std.specs.Io.KnownBytes.{Appends};
 ghost use Rattle.hack_base.specs.Names.{names_of};
 ghost use Rattle.hack_base.specs.Notes.{note_of};
-ghost use Rattle.hack_load.specs.LeavesFew.{LeavesFew};
+ghost use Rattle.hack_load.specs.FilesAfterLoading.{LeavesFew};
 ghost use Rattle.hack_process.specs.Calls.{MayAdd};
-ghost use Rattle.hack_run.specs.Made.{MadeOnce, TriesOnce, listing_asked};
+ghost use Rattle.hack_run.specs.CallTrace.{MadeOnce, TriesOnce, listing_asked};
 ghost use Rattle.hack_run.specs.Questions.{rustup_asked};
-ghost use Rattle.hack_run.specs.Restores.{ComesBack, IsClean, RestoresEdits};
-ghost use Rattle.hack_run.specs.Told.{seen_of};
-ghost use Rattle.hack_run.specs.Whole.{AreRefused, IsDone, ListsCommands, Obeys, warned_by};
+ghost use Rattle.hack_run.specs.TemporaryEdits.{ComesBack, IsClean, RestoresEdits};
+ghost use Rattle.hack_run.specs.Warnings.{seen_of};
+ghost use Rattle.hack_run.specs.Success.{AreRefused, IsDone, ListsCommands, Obeys, warned_by};
 
 use crate::ask::rustup_for;
 use crate::fault::RunFault;

@@ -7,16 +7,16 @@ ghost use Rattle.hack_files.specs.Restore.{AreSafe, registered_files};
 ghost use Rattle.hack_load.specs.Answers.{IsLoaded};
 ghost use Rattle.hack_load.specs.ContextOf.{IsContextFrom, warnings_of};
 ghost use Rattle.hack_load.specs.ContextView.{context_view};
-ghost use Rattle.hack_load.specs.LeavesFew.{LeavesFew};
-ghost use Rattle.hack_load.specs.Loads.{told_version};
+ghost use Rattle.hack_load.specs.FilesAfterLoading.{LeavesFew};
+ghost use Rattle.hack_load.specs.CargoQuestions.{told_version};
 ghost use Rattle.hack_prepare.specs.PreparedView.{HoldTextsIn, IsPreparedIn, notes_in};
-ghost use Rattle.hack_prepare.specs.Steps.{Grows};
-ghost use Rattle.hack_run.specs.Made.{AfterAnswers, MakesOnce, PerformsAtMostOne};
-ghost use Rattle.hack_run.specs.Restores.{IsClean};
+ghost use Rattle.hack_prepare.specs.EditSteps.{Grows};
+ghost use Rattle.hack_run.specs.CallTrace.{AfterAnswers, MakesOnce, PerformsAtMostOne};
+ghost use Rattle.hack_run.specs.TemporaryEdits.{IsClean};
 ghost use Rattle.hack_run.specs.Questions.{IsAnswered};
-ghost use Rattle.hack_run.specs.Runs.{Does, DoesPlan};
-ghost use Rattle.hack_run.specs.Told.{after_notes, seen_of};
-ghost use Rattle.hack_run.specs.Whole.{Follows, Performs};
+ghost use Rattle.hack_run.specs.ScheduleCalls.{RunsOrLists, DoesPlan};
+ghost use Rattle.hack_run.specs.Warnings.{after_notes, seen_of};
+ghost use Rattle.hack_run.specs.Success.{PerformsSchedule, AsksThenPerforms};
 
 use crate::ask::stable_for;
 use crate::fault::RunFault;
@@ -48,7 +48,7 @@ pub(crate) fn perform<F: Files, C: Caller, O: Write, E: Write>(
 ) -> Result<(), RunFault>
     ensures stays { F.stays files.old files.new }
     ensures done { OnOk result (term.new.error ≡ false → C.tells
-        → Performs F.tells args env.now (F.bytes_at files.old) (F.bytes_at files.new)
+        → AsksThenPerforms F.tells args env.now (F.bytes_at files.old) (F.bytes_at files.new)
         (F.failed files.old)
         (seen_of term.old.warn term.new (O.contents out.old) (O.contents out.new))
         (C.calls caller.old) (C.calls caller.new)) }
@@ -94,7 +94,7 @@ fn follow<F: Files, C: Caller, O: Write, E: Write>(
 ) -> Result<(), RunFault>
     ensures stays { F.stays files.old files.new }
     ensures done { OnOk result (term.new.error ≡ false → C.tells
-        → Follows
+        → PerformsSchedule
         (F.tells × IfOk answers.loaded (IsLoaded F.tells (F.bytes_at files.old) env.now)) args answers (string_bytes env.now.rustup)
         (F.bytes_at files.old) (F.bytes_at files.new)
         (seen_of term.old.warn term.new (O.contents out.old) (O.contents out.new))
@@ -194,7 +194,7 @@ fn run_plan<C: Caller, O: Write, E: Write>(
 ) -> Result<(), RunFault>
     requires { IsAnswered (context_view cx.now).args stable }
     ensures done { OnOk result (term.new.error ≡ false → C.tells
-        → DoesPlan (Does (context_view cx.now).args.print_command_list
+        → DoesPlan (RunsOrLists (context_view cx.now).args.print_command_list
         (O.contents out.old) (O.contents out.new)) (context_view cx.now)
         stable rustup.now (C.calls caller.old) (C.calls caller.new)
         term.old.warn term.new.warn) }

@@ -2,9 +2,9 @@
 
 ghost use Rattle.std.specs.Prelude.{◌≡◌, None, OnOk, false};
 ghost use Rattle.hack_load.specs.ContextView.{context_view};
-ghost use Rattle.hack_run.specs.Made.{PerformsAtMostOne};
+ghost use Rattle.hack_run.specs.CallTrace.{PerformsAtMostOne};
 ghost use Rattle.hack_run.specs.Questions.{IsAnswered};
-ghost use Rattle.hack_run.specs.Runs.{DoesPlan, RunsAll};
+ghost use Rattle.hack_run.specs.ScheduleCalls.{DoesPlan, RunsAll};
 
 use crate::drive::drive_context;
 use crate::fault::RunFault;

@@ -2,7 +2,7 @@
 
 ghost use Rattle.std.specs.Prelude.{◌≡◌, OnErr, OnOk, map, true};
 ghost use Rattle.hack_base.specs.Notes.{note_of};
-ghost use Rattle.hack_run.specs.Told.{after_notes};
+ghost use Rattle.hack_run.specs.Warnings.{after_notes};
 
 use crate::fault::RunFault;
 use hack_base::notice::Notice;

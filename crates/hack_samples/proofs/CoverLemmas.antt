@@ -4,8 +4,8 @@ use Rattle.std.proofs.lemmas.List.{get_or_past}
 use Rattle.std.proofs.lemmas.List.Elements.{All-cons, All-head, All-tail, All-nil}
 use Rattle.std.proofs.lemmas.Bool.{cases_lt}
 use Rattle.hack_samples.specs.Sets.{has_each, is_on}
-use Rattle.hack_samples.specs.Samples.{Shows, SomeShows, Covers}
-use Rattle.hack_samples.specs.Descends.{IsPossible, Descends, CoversBelow, AreKept}
+use Rattle.hack_samples.specs.Samples.{Shows, SomeShows, ShowEachPattern}
+use Rattle.hack_samples.specs.DescendingPatterns.{IsPossible, Descends, CoversBelow, AreKept}
 use Rattle.hack_samples.specs.declared.sets.Setting.{Setting}
 use Rattle.hack_samples.proofs.SetLemmas.{told}
 use Rattle.hack_samples.proofs.ShowLemmas.{all-left}
@@ -140,7 +140,7 @@ sorted providers s (x ∷ pattern) shows =
     ]
 
 -- what is covered in descending order is covered
-pub covers-whole : (may : List Bool → Bool) (n : ℕ) (required : List (List ℕ)) (providers : List (List (List ℕ))) (most : ℕ) (sets : List (List Bool)) → CoversBelow may n required providers [] (length providers) most sets → Covers may n required providers most sets
+pub covers-whole : (may : List Bool → Bool) (n : ℕ) (required : List (List ℕ)) (providers : List (List (List ℕ))) (most : ℕ) (sets : List (List Bool)) → CoversBelow may n required providers [] (length providers) most sets → ShowEachPattern may n required providers most sets
 covers-whole may n required providers most sets covers = λ pattern few s listed shows.
     let order = sorted providers s pattern shows in
     let few' : length order.all ≤ length pattern = order.few in

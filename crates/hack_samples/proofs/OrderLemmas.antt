@@ -8,7 +8,7 @@ use Rattle.std.proofs.lemmas.List.{take-append-drop, get_or_default}
 use Rattle.std.proofs.lemmas.List.Edits.{length-insert, get_or-insert_below, get_or-insert_at, get_or-insert_above}
 use Rattle.std.proofs.lemmas.List.Elements.{Contains-append_left, Contains-append_right, Contains-append_cases, Contains-push, Contains-push_cases, Contains-get_or}
 use Rattle.hack_samples.specs.Sets.{has, rows_of}
-use Rattle.hack_samples.specs.Order.{IsBefore, Fits}
+use Rattle.hack_samples.specs.Order.{IsMaskBefore, BelongsAt}
 use Rattle.hack_samples.proofs.SetLemmas.{not_both}
 
 pub three : (a b : ℕ) → (a < b) ⊎ ((a ≡ b) ⊎ (b < a))
@@ -25,7 +25,7 @@ same-sets [] (y ∷ t) e h = absurd (omega (arith, e))
 same-sets (x ∷ s) [] e h = absurd (omega (arith, e))
 same-sets (x ∷ s) (y ∷ t) e h = ap (λ l. x ∷ l) (same-sets s t (omega (arith, e)) (λ p. h (suc p))) ∙ ap (λ b. b ∷ t) (h 0)
 
-pub before_trans : (s t u : List Bool) → IsBefore s t → IsBefore t u → IsBefore s u
+pub before_trans : (s t u : List Bool) → IsMaskBefore s t → IsMaskBefore t u → IsMaskBefore s u
 before_trans s t u a b =
     elim (three a.greatest b.greatest) [
       | inl lt ↦ record { greatest = b.greatest; absent = a.above b.greatest lt ∙ b.absent; present = b.present; above = λ p more. a.above p (omega arith) ∙ b.above p more }
@@ -111,34 +111,34 @@ rows-insert (x ∷ xs) zero v = refl
 rows-insert (x ∷ xs) (suc i) v = ap (λ l. x.items ∷ l) (rows-insert xs i v)
 
 -- one more of the sets is before s
-pub front-more : (sets : List (List Bool)) (s t : List Bool) (i : ℕ) → get_or sets i t ≡ t → i < length sets → ((k : ℕ) (d : List Bool) → k < i → IsBefore (get_or sets k d) s) → IsBefore t s
-    → (k : ℕ) (d : List Bool) → k < i + 1 → IsBefore (get_or sets k d) s
+pub front-more : (sets : List (List Bool)) (s t : List Bool) (i : ℕ) → get_or sets i t ≡ t → i < length sets → ((k : ℕ) (d : List Bool) → k < i → IsMaskBefore (get_or sets k d) s) → IsMaskBefore t s
+    → (k : ℕ) (d : List Bool) → k < i + 1 → IsMaskBefore (get_or sets k d) s
 front-more sets s t i at lt before now k d below =
     elim (three k i) [
       | inl less ↦ before k d less
       | inr w ↦ elim w [
-        | inl e ↦ subst (λ l. IsBefore l s) (sym (ap (λ j. get_or sets j d) e ∙ get_or_default sets i d t lt ∙ at)) now
+        | inl e ↦ subst (λ l. IsMaskBefore l s) (sym (ap (λ j. get_or sets j d) e ∙ get_or_default sets i d t lt ∙ at)) now
         | inr more ↦ absurd (omega arith)
       ]
     ]
 
 -- if s is before the set at the place, it is before all later ones, and belongs at the place
-pub fits-here : (sets : List (List Bool)) (s t : List Bool) (i : ℕ) → get_or sets i t ≡ t → i < length sets → AllPairs IsBefore sets → ((k : ℕ) (d : List Bool) → k < i → IsBefore (get_or sets k d) s) → IsBefore s t
-    → Fits sets s i
+pub fits-here : (sets : List (List Bool)) (s t : List Bool) (i : ℕ) → get_or sets i t ≡ t → i < length sets → AllPairs IsMaskBefore sets → ((k : ℕ) (d : List Bool) → k < i → IsMaskBefore (get_or sets k d) s) → IsMaskBefore s t
+    → BelongsAt sets s i
 fits-here sets s t i at lt ordered front now = record {
   within = omega arith;
   in_front = front;
   behind = λ k d le below.
       elim (three i k) [
-        | inl less ↦ before_trans s t (get_or sets k d) now (subst (λ l. IsBefore l (get_or sets k d)) (get_or_default sets i d t lt ∙ at) (ordered i k d less below))
+        | inl less ↦ before_trans s t (get_or sets k d) now (subst (λ l. IsMaskBefore l (get_or sets k d)) (get_or_default sets i d t lt ∙ at) (ordered i k d less below))
         | inr w ↦ elim w [
-          | inl e ↦ subst (IsBefore s) (sym (ap (λ j. get_or sets j d) (sym e) ∙ get_or_default sets i d t lt ∙ at)) now
+          | inl e ↦ subst (IsMaskBefore s) (sym (ap (λ j. get_or sets j d) (sym e) ∙ get_or_default sets i d t lt ∙ at)) now
           | inr more ↦ absurd (omega arith)
         ]
       ];
 }
 
-pub fits-end : (sets : List (List Bool)) (s : List Bool) (i : ℕ) → i ≡ length sets → ((k : ℕ) (d : List Bool) → k < i → IsBefore (get_or sets k d) s) → Fits sets s i
+pub fits-end : (sets : List (List Bool)) (s : List Bool) (i : ℕ) → i ≡ length sets → ((k : ℕ) (d : List Bool) → k < i → IsMaskBefore (get_or sets k d) s) → BelongsAt sets s i
 fits-end sets s i is front = record { within = omega arith; in_front = front; behind = λ k d le below. absurd (omega arith) }
 
 -- a set that is the same as one of them is one of them

@@ -1,9 +1,9 @@
 -- Lemmas on the sets of a sample.
 use Rattle.std.proofs.Common.{◌≡◌, ℕ, List, [], ◌∷◌, ◌++◌, length, get_or, sym, ◌∙◌, subst, Bool, ◌⊎◌, inl, inr, All, AllPairs, Contains}
 use Rattle.std.proofs.lemmas.List.Elements.{All-contains, Contains-push_cases, Contains-get_or}
-use Rattle.hack_samples.specs.Samples.{Shows, SomeShows, IsListed, IsSample}
-use Rattle.hack_samples.specs.Order.{IsBefore}
-use Rattle.hack_samples.specs.Descends.{AreKept}
+use Rattle.hack_samples.specs.Samples.{Shows, SomeShows, IsListedMask, IsMaskSample}
+use Rattle.hack_samples.specs.Order.{IsMaskBefore}
+use Rattle.hack_samples.specs.DescendingPatterns.{AreKept}
 use Rattle.hack_samples.specs.declared.sets.Setting.{Setting}
 
 -- after one more set that doesn't show the pattern, still none shows it
@@ -20,15 +20,15 @@ some-kept providers pattern sets later kept h = record { by = h.by; chosen = kep
 
 -- one more listed set
 pub sample-more : (may : List Bool → Bool) (n : ℕ) (required : List (List ℕ)) (sets more : List (List Bool)) (s : List Bool)
-    → IsSample may n required sets → IsListed may n required s → AllPairs IsBefore more → ((t : List Bool) → Contains more t → Contains sets t ⊎ (t ≡ s)) → IsSample may n required more
+    → IsMaskSample may n required sets → IsListedMask may n required s → AllPairs IsMaskBefore more → ((t : List Bool) → Contains more t → Contains sets t ⊎ (t ≡ s)) → IsMaskSample may n required more
 sample-more may n required sets more s old listed ordered only = record {
   listed = λ k d lt. elim (only (get_or more k d) (Contains-get_or more k d lt)) [
-    | inl w ↦ All-contains (IsListed may n required) sets (get_or more k d) old.listed w
-    | inr e ↦ subst (IsListed may n required) (sym e) listed
+    | inl w ↦ All-contains (IsListedMask may n required) sets (get_or more k d) old.listed w
+    | inr e ↦ subst (IsListedMask may n required) (sym e) listed
   ];
   ordered = ordered;
 }
 
 -- the sets of a sample are as long as each listed one
-pub sizes : (may : List Bool → Bool) (n : ℕ) (required : List (List ℕ)) (sets : List (List Bool)) (s : List Bool) → IsSample may n required sets → IsListed may n required s → All (λ t. length t ≡ length s) sets
+pub sizes : (may : List Bool → Bool) (n : ℕ) (required : List (List ℕ)) (sets : List (List Bool)) (s : List Bool) → IsMaskSample may n required sets → IsListedMask may n required s → All (λ t. length t ≡ length s) sets
 sizes may n required sets s old listed = λ k d lt. (old.listed k d lt).size ∙ sym listed.size

@@ -2,4 +2,4 @@ pub mod Sets
 pub mod Samples
 pub mod Questions
 pub mod Order
-pub mod Descends
+pub mod DescendingPatterns

@@ -4,14 +4,14 @@ use Rattle.std.specs.List.{slice_index_or}
 use Rattle.hack_samples.specs.Sets.{has}
 
 -- s is before t: the greatest position that is in only one of them is in t
-pub record IsBefore (s t : List Bool) : Type 0 where
+pub record IsMaskBefore (s t : List Bool) : Type 0 where
   pub greatest : ℕ
   pub absent : has s greatest ≡ false
   pub present : has t greatest ≡ true
   pub above : (p : ℕ) → greatest < p → has s p ≡ has t p
 
 -- s belongs at the place among the sets: those at earlier places are before s, the others after it
-pub record Fits (sets : List (List Bool)) (s : List Bool) (place : ℕ) : Type 0 where
+pub record BelongsAt (sets : List (List Bool)) (s : List Bool) (place : ℕ) : Type 0 where
   pub within : place ≤ length sets
-  pub in_front : (k : ℕ) (d : List Bool) → k < place → IsBefore (slice_index_or sets k d) s
-  pub behind : (k : ℕ) (d : List Bool) → place ≤ k → k < length sets → IsBefore s (slice_index_or sets k d)
+  pub in_front : (k : ℕ) (d : List Bool) → k < place → IsMaskBefore (slice_index_or sets k d) s
+  pub behind : (k : ℕ) (d : List Bool) → place ≤ k → k < length sets → IsMaskBefore s (slice_index_or sets k d)

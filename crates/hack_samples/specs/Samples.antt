@@ -1,7 +1,7 @@
 -- What a sample of sets covers.
 use Rattle.std.specs.Prelude.{◌≡◌, ◌≤◌, ℕ, List, Bool, true, All, AllPairs, Contains, length}
 use Rattle.hack_samples.specs.Sets.{is_on, has_each, Meets}
-use Rattle.hack_samples.specs.Order.{IsBefore}
+use Rattle.hack_samples.specs.Order.{IsMaskBefore}
 use Rattle.hack_samples.specs.declared.sets.Setting.{Setting}
 
 -- the set shows the pattern: each of its candidates is on or off in it as the pattern says
@@ -9,7 +9,7 @@ abbrev pub Shows : List (List (List ℕ)) → List Setting → List Bool → Typ
 Shows providers pattern s = All (λ setting. is_on providers s setting.candidate ≡ setting.on) pattern
 
 -- the set is listed: it is over n positions, allowed, and has a member of each required group
-pub record IsListed (may : List Bool → Bool) (n : ℕ) (required : List (List ℕ)) (s : List Bool) : Type 0 where
+pub record IsListedMask (may : List Bool → Bool) (n : ℕ) (required : List (List ℕ)) (s : List Bool) : Type 0 where
   pub size : length s ≡ n
   pub allowed : may s ≡ true
   pub met : has_each s required ≡ true
@@ -21,14 +21,14 @@ pub record SomeShows (providers : List (List (List ℕ))) (pattern : List Settin
   pub shows : Shows providers pattern by
 
 -- each pattern of at most t candidates that some listed set shows is shown by one of the sets
-abbrev pub Covers : (List Bool → Bool) → ℕ → List (List ℕ) → List (List (List ℕ)) → ℕ → List (List Bool) → Type 0
-Covers may n required providers t sets =
-    (pattern : List Setting) → length pattern ≤ t → (s : List Bool) → IsListed may n required s → Shows providers pattern s → SomeShows providers pattern sets
+abbrev pub ShowEachPattern : (List Bool → Bool) → ℕ → List (List ℕ) → List (List (List ℕ)) → ℕ → List (List Bool) → Type 0
+ShowEachPattern may n required providers t sets =
+    (pattern : List Setting) → length pattern ≤ t → (s : List Bool) → IsListedMask may n required s → Shows providers pattern s → SomeShows providers pattern sets
 
 -- the sets are listed, and each is before all later ones
-pub record IsSample (may : List Bool → Bool) (n : ℕ) (required : List (List ℕ)) (sets : List (List Bool)) : Type 0 where
-  pub listed : All (IsListed may n required) sets
-  pub ordered : AllPairs IsBefore sets
+pub record IsMaskSample (may : List Bool → Bool) (n : ℕ) (required : List (List ℕ)) (sets : List (List Bool)) : Type 0 where
+  pub listed : All (IsListedMask may n required) sets
+  pub ordered : AllPairs IsMaskBefore sets
 
 -- no set that meets the groups, without a banned position, shows the pattern
 abbrev pub NoneShows : (List Bool → Bool) → ℕ → List (List ℕ) → List Bool → List (List (List ℕ)) → List Setting → Type 0

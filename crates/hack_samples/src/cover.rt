@@ -4,8 +4,8 @@ ghost use Rattle.std.specs.Prelude.{◌≡◌, ◌<◌, ◌≤◌, ◌+◌, ◌-
 ghost use Rattle.std.specs.Prelude.{true, false, length, min, IsTrue, IfOk, IfErr, OnOk, MatchBool};
 ghost use Rattle.std.specs.Prelude.{Contains, ◌⊎◌};
 ghost use Rattle.hack_samples.specs.Sets.{rows_of, tables_of};
-ghost use Rattle.hack_samples.specs.Samples.{IsListed, IsSample, Shows, SomeShows, Covers};
-ghost use Rattle.hack_samples.specs.Descends.{CoversBelow, IsPossible, AreKept};
+ghost use Rattle.hack_samples.specs.Samples.{IsListedMask, IsMaskSample, Shows, SomeShows, ShowEachPattern};
+ghost use Rattle.hack_samples.specs.DescendingPatterns.{CoversBelow, IsPossible, AreKept};
 ghost use Rattle.hack_samples.specs.Questions.{IsTired, StaysWithin};
 
 use crate::allowed::Allowed;
@@ -69,9 +69,9 @@ fn show<A: Allowed>(
     chosen: &mut Chosen,
     pattern: &[Setting],
 ) -> Result<bool, SampleFault>
-    requires { IsSample (A.may allowed.old) (A.size allowed.old)
+    requires { IsMaskSample (A.may allowed.old) (A.size allowed.old)
         (rows_of wanted.now.required.now) (rows_of chosen.old.sets.items) }
-    ensures sample { OnOk result (IsSample (A.may allowed.old) (A.size allowed.old)
+    ensures sample { OnOk result (IsMaskSample (A.may allowed.old) (A.size allowed.old)
         (rows_of wanted.now.required.now) (rows_of chosen.new.sets.items)) }
     ensures kept { OnOk result (AreKept (rows_of chosen.old.sets.items)
         (rows_of chosen.new.sets.items)) }
@@ -110,9 +110,9 @@ fn cover<A: Allowed>(
     limit: usize,
     more: usize,
 ) -> Result<(), SampleFault>
-    requires { IsSample (A.may allowed.old) (A.size allowed.old)
+    requires { IsMaskSample (A.may allowed.old) (A.size allowed.old)
         (rows_of wanted.now.required.now) (rows_of chosen.old.sets.items) }
-    ensures sample { OnOk result (IsSample (A.may allowed.old) (A.size allowed.old)
+    ensures sample { OnOk result (IsMaskSample (A.may allowed.old) (A.size allowed.old)
         (rows_of wanted.now.required.now) (rows_of chosen.new.sets.items)) }
     ensures kept { OnOk result (AreKept (rows_of chosen.old.sets.items)
         (rows_of chosen.new.sets.items)) }
@@ -182,9 +182,9 @@ fn follow<A: Allowed>(
     chosen: &mut Chosen,
     row: u32,
 ) -> Result<(), SampleFault>
-    requires { IsSample (A.may allowed.old) (A.size allowed.old)
+    requires { IsMaskSample (A.may allowed.old) (A.size allowed.old)
         (rows_of wanted.now.required.now) (rows_of chosen.old.sets.items) }
-    ensures sample { OnOk result (IsSample (A.may allowed.old) (A.size allowed.old)
+    ensures sample { OnOk result (IsMaskSample (A.may allowed.old) (A.size allowed.old)
         (rows_of wanted.now.required.now) (rows_of chosen.new.sets.items)) }
     ensures tired { IfErr result (IsTired wanted.now.end (A.count allowed.new)) }
     ensures within { StaysWithin wanted.now.end (A.count allowed.old) (A.count allowed.new) }
@@ -217,9 +217,9 @@ fn sample_by<A: Allowed>(
     wanted: &Wanted<'_>,
     guided: bool,
 ) -> Result<Vec<Vec<bool>>, SampleFault>
-    ensures sample { IfOk result (λ sets. IsSample (A.may allowed.old) (A.size allowed.old)
+    ensures sample { IfOk result (λ sets. IsMaskSample (A.may allowed.old) (A.size allowed.old)
         (rows_of wanted.now.required.now) (rows_of sets.items)) }
-    ensures covers { IfOk result (λ sets. Covers (A.may allowed.old) (A.size allowed.old)
+    ensures covers { IfOk result (λ sets. ShowEachPattern (A.may allowed.old) (A.size allowed.old)
         (rows_of wanted.now.required.now) (tables_of wanted.now.providers.now)
         wanted.now.strength (rows_of sets.items)) }
     ensures tired { IfErr result (IsTired wanted.now.end (A.count allowed.new)) }
@@ -268,9 +268,9 @@ pub fn sample<A: Allowed>(
     strength: usize,
     most_questions: u64,
 ) -> Result<Vec<Vec<bool>>, SampleFault>
-    ensures sample { IfOk result (λ sets. IsSample (A.may allowed.old) (A.size allowed.old)
+    ensures sample { IfOk result (λ sets. IsMaskSample (A.may allowed.old) (A.size allowed.old)
         (rows_of required.now) (rows_of sets.items)) }
-    ensures covers { IfOk result (λ sets. Covers (A.may allowed.old) (A.size allowed.old)
+    ensures covers { IfOk result (λ sets. ShowEachPattern (A.may allowed.old) (A.size allowed.old)
         (rows_of required.now) (tables_of providers.now) strength (rows_of sets.items)) }
     ensures tired { IfErr result (IsTired (min (A.count allowed.old + most_questions)
         (2 ^ 128 - 1)) (A.count allowed.new)) }

@@ -5,8 +5,8 @@ ghost use Rattle.std.specs.Prelude.{◌≡◌, ℕ, List, Bool, length, OnOk, Ma
 ghost use Rattle.std.specs.Prelude.{All, AllPairs, Contains};
 ghost use Rattle.std.specs.Ordering.{MatchOrdering};
 ghost use Rattle.hack_samples.specs.Sets.{rows_of};
-ghost use Rattle.hack_samples.specs.Order.{IsBefore, Fits};
-ghost use Rattle.hack_samples.specs.Descends.{AreKept};
+ghost use Rattle.hack_samples.specs.Order.{IsMaskBefore, BelongsAt};
+ghost use Rattle.hack_samples.specs.DescendingPatterns.{AreKept};
 
 use crate::sets::has;
 use std::alloc::AllocError;
@@ -16,8 +16,8 @@ use std::cmp::Ordering;
 /// later.
 fn compare(one: &[bool], other: &[bool]) -> Ordering
     requires { length one.now ≡ length other.now }
-    ensures { MatchOrdering result (IsBefore one.now other.now) (one.now ≡ other.now)
-        (IsBefore other.now one.now) }
+    ensures { MatchOrdering result (IsMaskBefore one.now other.now) (one.now ≡ other.now)
+        (IsMaskBefore other.now one.now) }
 {
     let mut left = one.len();
     while left > 0 {
@@ -36,9 +36,9 @@ fn compare(one: &[bool], other: &[bool]) -> Ordering
 /// Returns the place where the set belongs among sets in order; None if it is one of them.
 fn place_of(sets: &[Vec<bool>], set: &[bool]) -> Option<usize>
     requires sizes { All (λ t. length t ≡ length set.now) (rows_of sets.now) }
-    requires ordered { AllPairs IsBefore (rows_of sets.now) }
+    requires ordered { AllPairs IsMaskBefore (rows_of sets.now) }
     ensures { MatchOption result (Contains (rows_of sets.now) set.now)
-        (Fits (rows_of sets.now) set.now) }
+        (BelongsAt (rows_of sets.now) set.now) }
 {
     for place in 0..sets.len() {
         match compare(sets[place].as_slice(), set) {
@@ -53,8 +53,8 @@ fn place_of(sets: &[Vec<bool>], set: &[bool]) -> Option<usize>
 /// Inserts a set at its place among sets in order, unless it is one of them.
 pub(crate) fn put(sets: &mut Vec<Vec<bool>>, set: Vec<bool>) -> Result<(), AllocError>
     requires sizes { All (λ t. length t ≡ length set.items) (rows_of sets.old.items) }
-    requires ordered { AllPairs IsBefore (rows_of sets.old.items) }
-    ensures ordered { OnOk result (AllPairs IsBefore (rows_of sets.new.items)) }
+    requires ordered { AllPairs IsMaskBefore (rows_of sets.old.items) }
+    ensures ordered { OnOk result (AllPairs IsMaskBefore (rows_of sets.new.items)) }
     ensures kept { OnOk result (AreKept (rows_of sets.old.items) (rows_of sets.new.items)) }
     ensures added { OnOk result (Contains (rows_of sets.new.items) set.items) }
     ensures only { OnOk result ((s : List Bool) → Contains (rows_of sets.new.items) s

@@ -8,7 +8,7 @@ ghost use Rattle.std.specs.Prelude.{◌≡◌, ◌<◌, ℕ, List, Bool, true, f
 ghost use Rattle.std.specs.Prelude.{IsTrue, IfOk, IfErr, IfSome, IfNone, MatchOption};
 ghost use Rattle.hack_samples.specs.Sets.{IsClear, IsInside, IsSuited, Meets, NoneMeets};
 ghost use Rattle.hack_samples.specs.Sets.{has_each, is_on, rows_of, tables_of};
-ghost use Rattle.hack_samples.specs.Samples.{IsListed, Shows, NoneShows};
+ghost use Rattle.hack_samples.specs.Samples.{IsListedMask, Shows, NoneShows};
 ghost use Rattle.hack_samples.specs.Questions.{IsTired, StaysWithin};
 
 use crate::allowed::Allowed;
@@ -161,9 +161,9 @@ pub(crate) fn pick<A: Allowed>(
     row: Option<u32>,
 ) -> Result<Option<Vec<bool>>, SampleFault>
     ensures none { IfOk result (λ found. IfNone found ((s : List Bool)
-        → IsListed (A.may allowed.old) (A.size allowed.old) (rows_of wanted.now.required.now) s
+        → IsListedMask (A.may allowed.old) (A.size allowed.old) (rows_of wanted.now.required.now) s
         → Shows (tables_of wanted.now.providers.now) pattern.now s → ⊥)) }
-    ensures listed { IfOk result (λ found. IfSome found (λ t. IsListed (A.may allowed.old)
+    ensures listed { IfOk result (λ found. IfSome found (λ t. IsListedMask (A.may allowed.old)
         (A.size allowed.old) (rows_of wanted.now.required.now) t.items)) }
     ensures shows { IfOk result (λ found. IfSome found (λ t.
         Shows (tables_of wanted.now.providers.now) pattern.now t.items)) }

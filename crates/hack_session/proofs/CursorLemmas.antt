@@ -13,7 +13,7 @@ use Rattle.hack_session.specs.declared.step.Outcome.{Outcome}
 use Rattle.hack_session.specs.declared.step.Handed.{Handed}
 use Rattle.hack_session.specs.Histories.{Hands, next_of, step_of, stops}
 use Rattle.hack_session.specs.Schedules.{all_steps, in_piece, steps_of}
-use Rattle.hack_session.specs.Cursors.{IsOnItsWay, course_of, left_in, steps_left, with_outcomes}
+use Rattle.hack_session.specs.Cursors.{IsOnItsWay, course_of, steps_without_first, steps_left, with_outcomes}
 use Rattle.hack_session.proofs.Headline.{ends}
 use Rattle.hack_session.proofs.HistoryLemmas.{Goes, IsHistory-push, goes_on, hands, list_any-push, with_handed}
 
@@ -24,36 +24,36 @@ drop_at_none : {X : Type 0} (xs : List X) (i : ℕ) → slice_get xs i ≡ None 
 drop_at_none xs i e le = drop_all i xs le
 
 -- at the start all steps are left
-pub left_first : (inside : ℕ → Bool) (vs : List PlanVersion) → left_in inside 0 (drop 0 vs) ≡ flat_map (steps_of inside) vs
+pub left_first : (inside : ℕ → Bool) (vs : List PlanVersion) → steps_without_first inside 0 (drop 0 vs) ≡ flat_map (steps_of inside) vs
 left_first inside [] = refl
 left_first inside (v ∷ vs) = refl
 
 pub left_at_start : (piece : Option Partition) (plan : PlanView) (cursor : Cursor) → cursor.version ≡ 0 → cursor.taken ≡ 0 → steps_left piece plan cursor ≡ all_steps piece plan
 left_at_start piece plan cursor e f =
-    ap (λ (i : ℕ). left_in (in_piece piece (length plan.entries)) cursor.taken (drop i plan.versions)) e ∙ ap (λ (n : ℕ). left_in (in_piece piece (length plan.entries)) n (drop 0 plan.versions)) f
+    ap (λ (i : ℕ). steps_without_first (in_piece piece (length plan.entries)) cursor.taken (drop i plan.versions)) e ∙ ap (λ (n : ℕ). steps_without_first (in_piece piece (length plan.entries)) n (drop 0 plan.versions)) f
     ∙ left_first (in_piece piece (length plan.entries)) plan.versions
 
 pub left_taken : (inside : ℕ → Bool) (vs : List PlanVersion) (i n : ℕ) (v : PlanVersion) (step : Step) → slice_get vs i ≡ Some v → slice_get (steps_of inside v) n ≡ Some step
-    → left_in inside n (drop i vs) ≡ step ∷ left_in inside (n + 1) (drop i vs)
+    → steps_without_first inside n (drop i vs) ≡ step ∷ steps_without_first inside (n + 1) (drop i vs)
 left_taken inside vs i n v step e f =
     let here : drop i vs ≡ v ∷ drop (i + 1) vs = drop_at_some vs i v e in
     rw here (ap (λ (l : List Step). l ++ flat_map (steps_of inside) (drop (i + 1) vs)) (drop_at_some (steps_of inside v) n step f))
 
 -- a version whose steps were all taken
 pub left_next : (inside : ℕ → Bool) (vs : List PlanVersion) (i n : ℕ) (v : PlanVersion) → slice_get vs i ≡ Some v → None ≡ slice_get (steps_of inside v) n
-    → left_in inside n (drop i vs) ≡ left_in inside 0 (drop (i + 1) vs)
+    → steps_without_first inside n (drop i vs) ≡ steps_without_first inside 0 (drop (i + 1) vs)
 left_next inside vs i n v e f =
     let here : drop i vs ≡ v ∷ drop (i + 1) vs = drop_at_some vs i v e in
     let none : drop n (steps_of inside v) ≡ [] = drop_all n (steps_of inside v) (ends (steps_of inside v) n (sym f)) in
     rw here (ap (λ (l : List Step). l ++ flat_map (steps_of inside) (drop (i + 1) vs)) none ∙ sym (from_start (drop (i + 1) vs)))
   where
-    from_start : (ws : List PlanVersion) → left_in inside 0 ws ≡ flat_map (steps_of inside) ws
+    from_start : (ws : List PlanVersion) → steps_without_first inside 0 ws ≡ flat_map (steps_of inside) ws
     from_start [] = refl
     from_start (w ∷ ws) = refl
 
 -- after the last version
-pub left_none : (inside : ℕ → Bool) (vs : List PlanVersion) (i n : ℕ) → length vs ≤ i → left_in inside n (drop i vs) ≡ []
-left_none inside vs i n le = ap (left_in inside n) (drop_all i vs le)
+pub left_none : (inside : ℕ → Bool) (vs : List PlanVersion) (i n : ℕ) → length vs ≤ i → steps_without_first inside n (drop i vs) ≡ []
+left_none inside vs i n le = ap (steps_without_first inside n) (drop_all i vs le)
 
 -- no step has an outcome yet
 pub no_outcomes : (ss : List Step) → with_outcomes ss [] ≡ []

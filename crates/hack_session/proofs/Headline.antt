@@ -21,7 +21,7 @@ use Rattle.hack_session.specs.declared.step.Outcome.TheVariants.{Passed}
 use Rattle.hack_session.specs.declared.step.Handed.{Handed}
 use Rattle.hack_session.specs.Histories.{Course, IsHistory, IsSameCourse, HasPassed, next_of, passed_step, stops, stops_at, step_of}
 use Rattle.hack_session.specs.Schedules.{IsTestOf, IsSchedule, in_kind, in_piece, is_place, mark}
-use Rattle.hack_session.specs.Handouts.{ArePiece, HandsOut, run_place, runs_of}
+use Rattle.hack_session.specs.Handouts.{ArePiece, HandsOut, run_place, run_places_of}
 
 is_true : (b : Bool) → IsTrue b → b ≡ true
 is_true true h = refl
@@ -109,16 +109,16 @@ are_piece piece total inside test = record {
 }
 
 -- the runs of marked places
-marked : (inside : ℕ → Bool) (places : List ℕ) → runs_of (map (mark inside) places) ≡ filter inside places
+marked : (inside : ℕ → Bool) (places : List ℕ) → run_places_of (map (mark inside) places) ≡ filter inside places
 marked inside [] = refl
 marked inside (p ∷ ps) = go (inside p) refl (marked inside ps)
   where
-    go : (b : Bool) → inside p ≡ b → runs_of (map (mark inside) ps) ≡ filter inside ps → runs_of (map (mark inside) (p ∷ ps)) ≡ filter inside (p ∷ ps)
+    go : (b : Bool) → inside p ≡ b → run_places_of (map (mark inside) ps) ≡ filter inside ps → run_places_of (map (mark inside) (p ∷ ps)) ≡ filter inside (p ∷ ps)
     go true e h = rw e (ap (λ (l : List ℕ). p ∷ l) h)
     go false e h = rw e h
 
 -- steps at no place run nothing
-only_places : (steps : List Step) → runs_of (filter is_place steps) ≡ runs_of steps
+only_places : (steps : List Step) → run_places_of (filter is_place steps) ≡ run_places_of steps
 only_places [] = refl
 only_places (Prepare p ∷ steps) = only_places steps
 only_places (Skip p ∷ steps) = only_places steps
@@ -131,22 +131,22 @@ ends xs n e = elim (slice_get_cases xs n).1 [ inl w ↦ let f : slice_get xs n �
 pub hands_out : (piece : Option Partition) (t : Course) → IsSchedule piece t.plan t.schedule → IsHistory t → next_of t ≡ None → HandsOut piece (length t.plan.entries) t
 hands_out piece t schedule history complete = go (list_any (stops t.keep_going) t.handed) refl
   where
-    all : runs_of t.schedule ≡ filter schedule.inside (range_with_len 0 (length t.plan.entries))
-    all = sym (only_places t.schedule) ∙ ap runs_of schedule.places ∙ marked schedule.inside (range_with_len 0 (length t.plan.entries))
+    all : run_places_of t.schedule ≡ filter schedule.inside (range_with_len 0 (length t.plan.entries))
+    all = sym (only_places t.schedule) ∙ ap run_places_of schedule.places ∙ marked schedule.inside (range_with_len 0 (length t.plan.entries))
 
-    front : runs_of t.schedule ≡ runs_of (map step_of t.handed) ++ runs_of (drop (length t.handed) t.schedule)
-    front = ap runs_of (sym (take-append-drop (length t.handed) t.schedule)) ∙ filter_map-append run_place (take (length t.handed) t.schedule) (drop (length t.handed) t.schedule)
-        ∙ ap (λ (l : List Step). runs_of l ++ runs_of (drop (length t.handed) t.schedule)) (sym history.front)
+    front : run_places_of t.schedule ≡ run_places_of (map step_of t.handed) ++ run_places_of (drop (length t.handed) t.schedule)
+    front = ap run_places_of (sym (take-append-drop (length t.handed) t.schedule)) ∙ filter_map-append run_place (take (length t.handed) t.schedule) (drop (length t.handed) t.schedule)
+        ∙ ap (λ (l : List Step). run_places_of l ++ run_places_of (drop (length t.handed) t.schedule)) (sym history.front)
 
-    chosen : ArePiece piece (length t.plan.entries) (runs_of t.schedule)
+    chosen : ArePiece piece (length t.plan.entries) (run_places_of t.schedule)
     chosen = subst (ArePiece piece (length t.plan.entries)) (sym all) (are_piece piece (length t.plan.entries) schedule.inside schedule.test)
 
     go : (b : Bool) → list_any (stops t.keep_going) t.handed ≡ b → HandsOut piece (length t.plan.entries) t
-    go true e = record { places = runs_of t.schedule; left = runs_of (drop (length t.handed) t.schedule); chosen = chosen; in_order = front; until = inl e }
+    go true e = record { places = run_places_of t.schedule; left = run_places_of (drop (length t.handed) t.schedule); chosen = chosen; in_order = front; until = inl e }
     go false e =
         let at : slice_get t.schedule (length t.handed) ≡ None = rw e at complete in
         let past : length t.schedule ≤ length t.handed = ends t.schedule (length t.handed) at in
-        record { places = runs_of t.schedule; left = []; chosen = chosen; in_order = ap runs_of (sym (take_all (length t.handed) t.schedule past) ∙ sym history.front) ∙ sym (append-nil (runs_of (map step_of t.handed))); until = inr refl }
+        record { places = run_places_of t.schedule; left = []; chosen = chosen; in_order = ap run_places_of (sym (take_all (length t.handed) t.schedule past) ∙ sym history.front) ∙ sym (append-nil (run_places_of (map step_of t.handed))); until = inr refl }
 
 tail_passed : (h : Handed) (hs : List Handed) → All HasPassed (h ∷ hs) → All HasPassed hs
 tail_passed h hs a = λ k d l. a (suc k) d (omega arith)

@@ -4,7 +4,7 @@ use Rattle.std.specs.List.{list_any}
 use Rattle.hack_plan.specs.declared.places.PlanEntry.{PlanEntry}
 use Rattle.hack_process.specs.CommandTexts.{text_of}
 use Rattle.hack_plan.specs.View.{PlanView}
-use Rattle.hack_plan.specs.Commands.{command_of_entry, name_in, package_at}
+use Rattle.hack_plan.specs.Commands.{command_of_entry, name_in, chosen_package_at}
 use Rattle.hack_session.specs.declared.report.Failure.{Failure}
 use Rattle.hack_session.specs.Reports.{FailedRun, failure_view, is_of, run_at, told_text}
 
@@ -28,7 +28,7 @@ name_or (Some n) d e = refl
 abbrev told : List ℕ → List ℕ → FailedRun
 told n t = record { name = n; text = t }
 
-pub told_at : (plan : PlanView) (o : Option PlanEntry) (q : PlanEntry) (name text : List ℕ) → o ≡ Some q → name ≡ unwrap_or (name_in (package_at plan.packages q.package)) [] → text ≡ text_of true plan.call.dir (command_of_entry plan q)
+pub told_at : (plan : PlanView) (o : Option PlanEntry) (q : PlanEntry) (name text : List ℕ) → o ≡ Some q → name ≡ unwrap_or (name_in (chosen_package_at plan.packages q.package)) [] → text ≡ text_of true plan.call.dir (command_of_entry plan q)
     → Some (record { name = name; text = text }) ≡ run_at plan o
 told_at plan o q name text e f g =
-    ap (λ (n : List ℕ). Some (told n text)) f ∙ ap (λ (t : List ℕ). Some (told (unwrap_or (name_in (package_at plan.packages q.package)) []) t)) g ∙ sym (ap (run_at plan) e)
+    ap (λ (n : List ℕ). Some (told n text)) f ∙ ap (λ (t : List ℕ). Some (told (unwrap_or (name_in (chosen_package_at plan.packages q.package)) []) t)) g ∙ sym (ap (run_at plan) e)

@@ -13,7 +13,7 @@ use Rattle.hack_process.specs.declared.fault.ProcessFault.{ProcessFault}
 use Rattle.hack_process.specs.declared.fault.ProcessFault.TheVariants.{Memory, EmptyProgram, NeverExecuted, NotText, Failed as ByFailure}
 use Rattle.hack_process.specs.CommandTexts.{Command}
 use Rattle.hack_plan.specs.declared.parts.Preparation.TheVariants.{Toolchain}
-use Rattle.hack_plan.specs.Commands.{clean_command, package_at, toolchain_of}
+use Rattle.hack_plan.specs.Commands.{clean_command, chosen_package_at, toolchain_of}
 use Rattle.hack_versions.specs.declared.version.Version.{Version}
 use Rattle.hack_plan.specs.View.{PlanView}
 use Rattle.hack_session.specs.declared.step.Step.{Step}
@@ -23,9 +23,9 @@ use Rattle.hack_session.specs.Toolchains.{addition_of, toolchain_name}
 use Rattle.hack_session.specs.declared.step.Outcome.{Outcome}
 use Rattle.hack_session.specs.declared.step.Outcome.TheVariants.{Passed, Failed}
 use Rattle.hack_session.specs.declared.step.Handed.{Handed}
-use Rattle.hack_session.specs.Performs.{Comes, GrowsBy, is_memory, number_at}
-use Rattle.hack_session.specs.Shown.{Shown, on_err, both_shown, all_shown, Manner, space_before, end_line, end_shown, opening_shown, group_shown, cleaning_shown, run_cleaning_shown, status_shown, addition_shown, addition_parts, run_parts, skip_parts, parts_of, IsWhole, IsPart, IsFront, Displays, is_run, IsErrorLine, TellsError, memory_shown, Shows, ShowsAll, Streams, Prints, HasShown}
-use Rattle.hack_session.specs.JoinedShown.{then-nothing, prints_as, prints_then, prints_none}
+use Rattle.hack_session.specs.StepCalls.{EndsOrIsCut, CountGrowsBy, is_memory, number_at}
+use Rattle.hack_session.specs.StepOutput.{Shown, on_err, both_shown, all_shown, Manner, space_before, end_line, end_shown, opening_shown, group_shown, cleaning_shown, run_cleaning_shown, status_shown, addition_shown, addition_parts, run_parts, skip_parts, parts_of, IsWhole, IsSomeFront, IsFront, Displays, is_run, IsErrorLine, TellsError, memory_shown, ShowsStep, ShowsAll, Streams, Prints, HasShown}
+use Rattle.hack_session.specs.JoinedOutput.{then-nothing, prints_as, prints_then, prints_none}
 use Rattle.hack_session.proofs.RunLemmas.{comes_fault, comes_map, not_cut, cut_of}
 
 -- ---- lists of parts
@@ -36,25 +36,25 @@ one_whole x s e = e ∙ sym (then-nothing x)
 pub whole_is : (x s : Shown) → IsWhole (x ∷ []) s → s ≡ x
 whole_is x s e = e ∙ then-nothing x
 
-pub no_part : (parts : List Shown) → IsPart parts (on_err [])
+pub no_part : (parts : List Shown) → IsSomeFront parts (on_err [])
 no_part parts = (0, refl)
 
-pub whole_part : (parts : List Shown) (s : Shown) → IsWhole parts s → IsPart parts s
+pub whole_part : (parts : List Shown) (s : Shown) → IsWhole parts s → IsSomeFront parts s
 whole_part parts s e = (length parts, e ∙ ap all_shown (sym (all parts)))
   where
     all : (l : List Shown) → take (length l) l ≡ l
     all [] = refl
     all (x ∷ l) = ap (λ (m : List Shown). x ∷ m) (all l)
 
-pub part_more : (x : Shown) (parts : List Shown) (s : Shown) → IsPart parts s → IsPart (x ∷ parts) (both_shown x s)
+pub part_more : (x : Shown) (parts : List Shown) (s : Shown) → IsSomeFront parts s → IsSomeFront (x ∷ parts) (both_shown x s)
 part_more x parts s p = (suc p.0, ap (both_shown x) p.1)
 
 -- ---- by what was returned
 
 abbrev pub Part : {T : Type 0} → List Shown → Result T ProcessFault → Shown → Type 0
-Part parts r s = Comes (λ _. IsWhole parts s) (IsPart parts s) r
+Part parts r s = EndsOrIsCut (λ _. IsWhole parts s) (IsSomeFront parts s) r
 
-comes_both : (T : Type 0) (r : Result T ProcessFault) (A : Outcome → Type 0) (C : Type 0) → ((o : Outcome) → A o) → C → Comes A C r
+comes_both : (T : Type 0) (r : Result T ProcessFault) (A : Outcome → Type 0) (C : Type 0) → ((o : Outcome) → A o) → C → EndsOrIsCut A C r
 comes_both T (Ok done) A C f c = f Passed
 comes_both T (Err Memory) A C f c = c
 comes_both T (Err EmptyProgram) A C f c = f Failed
@@ -62,7 +62,7 @@ comes_both T (Err (NeverExecuted text)) A C f c = f Failed
 comes_both T (Err (NotText text)) A C f c = f Failed
 comes_both T (Err (ByFailure failure)) A C f c = f Failed
 
-retyped : (S T : Type 0) (fault : ProcessFault) (A : Outcome → Type 0) (C : Type 0) → Comes {T = S} A C (Err fault) → Comes {T = T} A C (Err fault)
+retyped : (S T : Type 0) (fault : ProcessFault) (A : Outcome → Type 0) (C : Type 0) → EndsOrIsCut {T = S} A C (Err fault) → EndsOrIsCut {T = T} A C (Err fault)
 retyped S T Memory A C h = h
 retyped S T EmptyProgram A C h = h
 retyped S T (NeverExecuted text) A C h = h
@@ -71,20 +71,20 @@ retyped S T (ByFailure failure) A C h = h
 
 -- the one part was printed, whatever was returned
 pub printed_part : (T : Type 0) (r : Result T ProcessFault) (x : Shown) (a b : Streams) → Prints (λ s. s ≡ x) a b → Prints (Part (x ∷ []) r) a b
-printed_part T r x a b p = prints_as (λ s. s ≡ x) (Part (x ∷ []) r) a b (λ s e. comes_both T r (λ _. IsWhole (x ∷ []) s) (IsPart (x ∷ []) s) (λ _. one_whole x s e) (whole_part (x ∷ []) s (one_whole x s e))) p
+printed_part T r x a b p = prints_as (λ s. s ≡ x) (Part (x ∷ []) r) a b (λ s e. comes_both T r (λ _. IsWhole (x ∷ []) s) (IsSomeFront (x ∷ []) s) (λ _. one_whole x s e) (whole_part (x ∷ []) s (one_whole x s e))) p
 
 -- a step without parts
 pub printed_none : (T : Type 0) (r : Result T ProcessFault) (a : Streams) → Prints (Part [] r) a a
-printed_none T r a = prints_none (Part [] r) a (comes_both T r (λ _. IsWhole [] (on_err [])) (IsPart [] (on_err [])) (λ _. refl) (no_part []))
+printed_none T r a = prints_none (Part [] r) a (comes_both T r (λ _. IsWhole [] (on_err [])) (IsSomeFront [] (on_err [])) (λ _. refl) (no_part []))
 
 -- memory was refused before anything was printed
-pub refused_part : (T : Type 0) (r : Result T ProcessFault) (A : Outcome → Shown → Type 0) (parts : List Shown) (a : Streams) → r ≡ Err Memory → Prints (λ s. Comes (λ o. A o s) (IsPart parts s) r) a a
-refused_part T r A parts a e = subst (λ (x : Result T ProcessFault). Prints (λ s. Comes (λ o. A o s) (IsPart parts s) x) a a) (sym e) (prints_none (λ s. Comes {T = T} (λ o. A o s) (IsPart parts s) (Err Memory)) a (no_part parts))
+pub refused_part : (T : Type 0) (r : Result T ProcessFault) (A : Outcome → Shown → Type 0) (parts : List Shown) (a : Streams) → r ≡ Err Memory → Prints (λ s. EndsOrIsCut (λ o. A o s) (IsSomeFront parts s) r) a a
+refused_part T r A parts a e = subst (λ (x : Result T ProcessFault). Prints (λ s. EndsOrIsCut (λ o. A o s) (IsSomeFront parts s) x) a a) (sym e) (prints_none (λ s. EndsOrIsCut {T = T} (λ o. A o s) (IsSomeFront parts s) (Err Memory)) a (no_part parts))
 
-pub cut_part : (T : Type 0) (fault : ProcessFault) (A : Outcome → Shown → Type 0) (parts : List Shown) (a : Streams) → true ≡ is_memory fault → Prints (λ s. Comes {T = T} (λ o. A o s) (IsPart parts s) (Err fault)) a a
-cut_part T fault A parts a e = prints_none (λ s. Comes {T = T} (λ o. A o s) (IsPart parts s) (Err fault)) a (only fault e)
+pub cut_part : (T : Type 0) (fault : ProcessFault) (A : Outcome → Shown → Type 0) (parts : List Shown) (a : Streams) → true ≡ is_memory fault → Prints (λ s. EndsOrIsCut {T = T} (λ o. A o s) (IsSomeFront parts s) (Err fault)) a a
+cut_part T fault A parts a e = prints_none (λ s. EndsOrIsCut {T = T} (λ o. A o s) (IsSomeFront parts s) (Err fault)) a (only fault e)
   where
-    only : (f : ProcessFault) → true ≡ is_memory f → Comes {T = T} (λ o. A o (on_err [])) (IsPart parts (on_err [])) (Err f)
+    only : (f : ProcessFault) → true ≡ is_memory f → EndsOrIsCut {T = T} (λ o. A o (on_err [])) (IsSomeFront parts (on_err [])) (Err f)
     only Memory e = no_part parts
     only EmptyProgram e = absurd (cc)
     only (NeverExecuted text) e = absurd (cc)
@@ -103,8 +103,8 @@ pub group_part : (T : Type 0) (r : Result T ProcessFault) (m : Manner) (text oth
 group_part T r m text other a b e p = printed_part T r (group_shown m other) a b (subst (λ (x : List ℕ). Prints (λ s. s ≡ group_shown m x) a b) e p)
 
 -- all of it, or what ends early
-pub or_early : (T : Type 0) (r : Result T ProcessFault) (parts : List Shown) (A : Outcome → Shown → Type 0) (a b : Streams) → Prints (Part parts r) a b → Prints (λ s. Comes (λ o. IsWhole parts s ⊎ A o s) (IsPart parts s) r) a b
-or_early T r parts A a b p = prints_as (Part parts r) (λ s. Comes (λ o. IsWhole parts s ⊎ A o s) (IsPart parts s) r) a b (λ s h. comes_map T r (λ _. IsWhole parts s) (λ o. IsWhole parts s ⊎ A o s) (IsPart parts s) (IsPart parts s) (λ o w. inl w) (λ w. w) h) p
+pub or_early : (T : Type 0) (r : Result T ProcessFault) (parts : List Shown) (A : Outcome → Shown → Type 0) (a b : Streams) → Prints (Part parts r) a b → Prints (λ s. EndsOrIsCut (λ o. IsWhole parts s ⊎ A o s) (IsSomeFront parts s) r) a b
+or_early T r parts A a b p = prints_as (Part parts r) (λ s. EndsOrIsCut (λ o. IsWhole parts s ⊎ A o s) (IsSomeFront parts s) r) a b (λ s h. comes_map T r (λ _. IsWhole parts s) (λ o. IsWhole parts s ⊎ A o s) (IsSomeFront parts s) (IsSomeFront parts s) (λ o w. inl w) (λ w. w) h) p
 
 pub in_manner : (P : Manner → Shown → Type 0) (m n : Manner) (a b : Streams) → m ≡ n → Prints (P m) a b → Prints (P n) a b
 in_manner P m n a b e p = subst (λ (x : Manner). Prints (P x) a b) e p
@@ -127,9 +127,9 @@ prints_group m text a b c p q =
 -- one part and others after it
 pub part_then : (T : Type 0) (r : Result T ProcessFault) (x : Shown) (parts : List Shown) (a b c : Streams) → Prints (λ s. s ≡ x) a b → Prints (Part parts r) b c → Prints (Part (x ∷ parts) r) a c
 part_then T r x parts a b c p q = prints_then (λ s. s ≡ x) (Part parts r) (Part (x ∷ parts) r) a b c
-    (λ s t e h. comes_map T r (λ _. IsWhole parts t) (λ _. IsWhole (x ∷ parts) (both_shown s t)) (IsPart parts t) (IsPart (x ∷ parts) (both_shown s t))
+    (λ s t e h. comes_map T r (λ _. IsWhole parts t) (λ _. IsWhole (x ∷ parts) (both_shown s t)) (IsSomeFront parts t) (IsSomeFront (x ∷ parts) (both_shown s t))
     (λ _ w. ap (λ (y : Shown). both_shown y t) e ∙ ap (both_shown x) w)
-    (λ w. subst (λ (y : Shown). IsPart (x ∷ parts) (both_shown y t)) (sym e) (part_more x parts t w)) h) p q
+    (λ w. subst (λ (y : Shown). IsSomeFront (x ∷ parts) (both_shown y t)) (sym e) (part_more x parts t w)) h) p q
 
 entry_at : (entries : List PlanEntry) (place : ℕ) → place < length entries → (q : PlanEntry) × (slice_get entries place ≡ Some q)
 entry_at entries place lt = elim (slice_get_cases entries place).1 [
@@ -138,25 +138,25 @@ entry_at entries place lt = elim (slice_get_cases entries place).1 [
 ]
 
 -- the empty line before a place
-pub space_run : (m : Manner) (plan : PlanView) (place : ℕ) (s : Shown) → place < length plan.entries → s ≡ on_err (space_before m.group place) → IsPart (run_parts m plan place (slice_get plan.entries place)) s
+pub space_run : (m : Manner) (plan : PlanView) (place : ℕ) (s : Shown) → place < length plan.entries → s ≡ on_err (space_before m.group place) → IsSomeFront (run_parts m plan place (slice_get plan.entries place)) s
 space_run m plan place s lt e =
     let q = entry_at plan.entries place lt in
-    subst (λ (o : Option PlanEntry). IsPart (run_parts m plan place o) s) (sym q.1) (1, e ∙ sym (then-nothing (on_err (space_before m.group place))))
+    subst (λ (o : Option PlanEntry). IsSomeFront (run_parts m plan place o) s) (sym q.1) (1, e ∙ sym (then-nothing (on_err (space_before m.group place))))
 
-pub space_skip : (m : Manner) (plan : PlanView) (place : ℕ) (s : Shown) → place < length plan.entries → s ≡ on_err (space_before m.group place) → IsPart (skip_parts m plan place (slice_get plan.entries place)) s
+pub space_skip : (m : Manner) (plan : PlanView) (place : ℕ) (s : Shown) → place < length plan.entries → s ≡ on_err (space_before m.group place) → IsSomeFront (skip_parts m plan place (slice_get plan.entries place)) s
 space_skip m plan place s lt e =
     let q = entry_at plan.entries place lt in
-    subst (λ (o : Option PlanEntry). IsPart (skip_parts m plan place o) s) (sym q.1) (1, e ∙ sym (then-nothing (on_err (space_before m.group place))))
+    subst (λ (o : Option PlanEntry). IsSomeFront (skip_parts m plan place o) s) (sym q.1) (1, e ∙ sym (then-nothing (on_err (space_before m.group place))))
 
 pub run_refused : (T : Type 0) (r : Result T ProcessFault) (m : Manner) (plan : PlanView) (place : ℕ) (a b : Streams) → place < length plan.entries → r ≡ Err Memory
-    → Prints (λ s. s ≡ on_err (space_before m.group place)) a b → Prints (λ s. Comes (λ o. Displays m plan (Run place) o s) (IsPart (parts_of m plan (Run place)) s) r) a b
-run_refused T r m plan place a b lt e p = prints_as (λ s. s ≡ on_err (space_before m.group place)) (λ s. Comes (λ o. Displays m plan (Run place) o s) (IsPart (parts_of m plan (Run place)) s) r) a b
-    (λ s is. subst (λ (x : Result T ProcessFault). Comes (λ o. Displays m plan (Run place) o s) (IsPart (parts_of m plan (Run place)) s) x) (sym e) (space_run m plan place s lt is)) p
+    → Prints (λ s. s ≡ on_err (space_before m.group place)) a b → Prints (λ s. EndsOrIsCut (λ o. Displays m plan (Run place) o s) (IsSomeFront (parts_of m plan (Run place)) s) r) a b
+run_refused T r m plan place a b lt e p = prints_as (λ s. s ≡ on_err (space_before m.group place)) (λ s. EndsOrIsCut (λ o. Displays m plan (Run place) o s) (IsSomeFront (parts_of m plan (Run place)) s) r) a b
+    (λ s is. subst (λ (x : Result T ProcessFault). EndsOrIsCut (λ o. Displays m plan (Run place) o s) (IsSomeFront (parts_of m plan (Run place)) s) x) (sym e) (space_run m plan place s lt is)) p
 
 pub skip_refused : (T E : Type 0) (r : Result T E) (fault : E) (m : Manner) (plan : PlanView) (place : ℕ) (a b : Streams) → place < length plan.entries → r ≡ Err fault
-    → Prints (λ s. s ≡ on_err (space_before m.group place)) a b → Prints (λ s. MatchResult r (λ _. IsWhole (skip_parts m plan place (slice_get plan.entries place)) s) (λ _. IsPart (skip_parts m plan place (slice_get plan.entries place)) s)) a b
-skip_refused T E r fault m plan place a b lt e p = prints_as (λ s. s ≡ on_err (space_before m.group place)) (λ s. MatchResult r (λ _. IsWhole (skip_parts m plan place (slice_get plan.entries place)) s) (λ _. IsPart (skip_parts m plan place (slice_get plan.entries place)) s)) a b
-    (λ s is. subst (λ (x : Result T E). MatchResult x (λ _. IsWhole (skip_parts m plan place (slice_get plan.entries place)) s) (λ _. IsPart (skip_parts m plan place (slice_get plan.entries place)) s)) (sym e) (space_skip m plan place s lt is)) p
+    → Prints (λ s. s ≡ on_err (space_before m.group place)) a b → Prints (λ s. MatchResult r (λ _. IsWhole (skip_parts m plan place (slice_get plan.entries place)) s) (λ _. IsSomeFront (skip_parts m plan place (slice_get plan.entries place)) s)) a b
+skip_refused T E r fault m plan place a b lt e p = prints_as (λ s. s ≡ on_err (space_before m.group place)) (λ s. MatchResult r (λ _. IsWhole (skip_parts m plan place (slice_get plan.entries place)) s) (λ _. IsSomeFront (skip_parts m plan place (slice_get plan.entries place)) s)) a b
+    (λ s is. subst (λ (x : Result T E). MatchResult x (λ _. IsWhole (skip_parts m plan place (slice_get plan.entries place)) s) (λ _. IsSomeFront (skip_parts m plan place (slice_get plan.entries place)) s)) (sym e) (space_skip m plan place s lt is)) p
 
 -- a cleaning by other names of its folder and its command
 pub cleaned_as : (T : Type 0) (r : Result T ProcessFault) (m : Manner) (dir other : List ℕ) (k l : Command) (a b : Streams) → dir ≡ other → k ≡ l → Prints (Part (cleaning_shown m dir k ∷ []) r) a b → Prints (Part (cleaning_shown m other l ∷ []) r) a b
@@ -167,25 +167,25 @@ cleaned_as T r m dir other k l a b e f p = subst (λ (x : List ℕ). Prints (Par
 no_cleaning : (m : Manner) (plan : PlanView) (q : PlanEntry) → plan.call.clean_per_run ≡ false → run_cleaning_shown m plan q ≡ on_err []
 no_cleaning m plan q e = go plan.call.clean_per_run e
   where
-    go : (flag : Bool) → flag ≡ false → (if flag then cleaning_shown m plan.call.dir (clean_command plan.call (package_at plan.packages q.package)) else on_err []) ≡ on_err []
+    go : (flag : Bool) → flag ≡ false → (if flag then cleaning_shown m plan.call.dir (clean_command plan.call (chosen_package_at plan.packages q.package)) else on_err []) ≡ on_err []
     go true b = absurd (cc)
     go false b = refl
 
-pub own_cleaning : (m : Manner) (plan : PlanView) (o : Option PlanEntry) (q : PlanEntry) (clean : Command) → o ≡ Some q → IfSome o (λ x. clean ≡ clean_command plan.call (package_at plan.packages x.package)) → plan.call.clean_per_run ≡ true → cleaning_shown m plan.call.dir clean ≡ run_cleaning_shown m plan q
+pub own_cleaning : (m : Manner) (plan : PlanView) (o : Option PlanEntry) (q : PlanEntry) (clean : Command) → o ≡ Some q → IfSome o (λ x. clean ≡ clean_command plan.call (chosen_package_at plan.packages x.package)) → plan.call.clean_per_run ≡ true → cleaning_shown m plan.call.dir clean ≡ run_cleaning_shown m plan q
 own_cleaning m plan o q clean e g b =
-    let h : clean ≡ clean_command plan.call (package_at plan.packages q.package) = subst (λ (x : Option PlanEntry). IfSome x (λ y. clean ≡ clean_command plan.call (package_at plan.packages y.package))) e g in
+    let h : clean ≡ clean_command plan.call (chosen_package_at plan.packages q.package) = subst (λ (x : Option PlanEntry). IfSome x (λ y. clean ≡ clean_command plan.call (chosen_package_at plan.packages y.package))) e g in
     ap (cleaning_shown m plan.call.dir) h ∙ sym (go plan.call.clean_per_run b)
   where
-    go : (flag : Bool) → flag ≡ true → (if flag then cleaning_shown m plan.call.dir (clean_command plan.call (package_at plan.packages q.package)) else on_err []) ≡ cleaning_shown m plan.call.dir (clean_command plan.call (package_at plan.packages q.package))
+    go : (flag : Bool) → flag ≡ true → (if flag then cleaning_shown m plan.call.dir (clean_command plan.call (chosen_package_at plan.packages q.package)) else on_err []) ≡ cleaning_shown m plan.call.dir (clean_command plan.call (chosen_package_at plan.packages q.package))
     go true b = refl
     go false b = absurd (cc)
 
 -- a run is shown by the parts that it has
 pub ran_part : (T : Type 0) (r : Result T ProcessFault) (m : Manner) (plan : PlanView) (place : ℕ) (a b : Streams)
     → Prints (Part (run_parts m plan place (slice_get plan.entries place)) r) a b
-    → Prints (λ s. Comes (λ o. Displays m plan (Run place) o s) (IsPart (parts_of m plan (Run place)) s) r) a b
-ran_part T r m plan place a b p = prints_as (Part (run_parts m plan place (slice_get plan.entries place)) r) (λ s. Comes (λ o. Displays m plan (Run place) o s) (IsPart (parts_of m plan (Run place)) s) r) a b
-    (λ s h. comes_map T r (λ _. IsWhole (run_parts m plan place (slice_get plan.entries place)) s) (λ o. Displays m plan (Run place) o s) (IsPart (run_parts m plan place (slice_get plan.entries place)) s) (IsPart (parts_of m plan (Run place)) s)
+    → Prints (λ s. EndsOrIsCut (λ o. Displays m plan (Run place) o s) (IsSomeFront (parts_of m plan (Run place)) s) r) a b
+ran_part T r m plan place a b p = prints_as (Part (run_parts m plan place (slice_get plan.entries place)) r) (λ s. EndsOrIsCut (λ o. Displays m plan (Run place) o s) (IsSomeFront (parts_of m plan (Run place)) s) r) a b
+    (λ s h. comes_map T r (λ _. IsWhole (run_parts m plan place (slice_get plan.entries place)) s) (λ o. Displays m plan (Run place) o s) (IsSomeFront (run_parts m plan place (slice_get plan.entries place)) s) (IsSomeFront (parts_of m plan (Run place)) s)
     (λ o w. of_outcome o s w) (λ w. w) h) p
   where
     of_outcome : (o : Outcome) (s : Shown) → IsWhole (run_parts m plan place (slice_get plan.entries place)) s → Displays m plan (Run place) o s
@@ -197,7 +197,7 @@ pub ran_plain : (T : Type 0) (r : Result T ProcessFault) (m : Manner) (plan : Pl
     → slice_get plan.entries place ≡ Some q → plan.call.clean_per_run ≡ false
     → Prints (λ s. s ≡ on_err (space_before m.group place)) a b
     → Prints (Part (status_shown m (codes "running") plan place q ∷ []) r) b c
-    → Prints (λ s. Comes (λ o. Displays m plan (Run place) o s) (IsPart (parts_of m plan (Run place)) s) r) a c
+    → Prints (λ s. EndsOrIsCut (λ o. Displays m plan (Run place) o s) (IsSomeFront (parts_of m plan (Run place)) s) r) a c
 ran_plain T r m plan place q a b c e f p t =
     let status = status_shown m (codes "running") plan place q in
     let mid : Prints (Part (run_cleaning_shown m plan q ∷ status ∷ []) r) b c = part_then T r (run_cleaning_shown m plan q) (status ∷ []) b b c (prints_none (λ s. s ≡ run_cleaning_shown m plan q) b (sym (no_cleaning m plan q f))) t in
@@ -211,7 +211,7 @@ pub ran_cleaned : (S T : Type 0) (done : S) (r : Result T ProcessFault) (m : Man
     → Prints (λ s. s ≡ on_err (space_before m.group place)) a b
     → Prints (Part {T = S} (x ∷ []) (Ok done)) b c
     → Prints (Part (status_shown m (codes "running") plan place q ∷ []) r) c d
-    → Prints (λ s. Comes (λ o. Displays m plan (Run place) o s) (IsPart (parts_of m plan (Run place)) s) r) a d
+    → Prints (λ s. EndsOrIsCut (λ o. Displays m plan (Run place) o s) (IsSomeFront (parts_of m plan (Run place)) s) r) a d
 ran_cleaned S T done r m plan place q x a b c d e f p u t =
     let status = status_shown m (codes "running") plan place q in
     let clean : Prints (λ s. s ≡ run_cleaning_shown m plan q) b c = prints_as (Part {T = S} (x ∷ []) (Ok done)) (λ s. s ≡ run_cleaning_shown m plan q) b c (λ s h. whole_is x s h ∙ f) u in
@@ -220,7 +220,7 @@ ran_cleaned S T done r m plan place q x a b c d e f p u t =
     (part_then T r (on_err (space_before m.group place)) (run_cleaning_shown m plan q ∷ status ∷ []) a b d p
     (part_then T r (run_cleaning_shown m plan q) (status ∷ []) b c d clean t)))
 
-one_part : (x s : Shown) → IsPart (x ∷ []) s → (s ≡ on_err []) ⊎ (s ≡ x)
+one_part : (x s : Shown) → IsSomeFront (x ∷ []) s → (s ≡ on_err []) ⊎ (s ≡ x)
 one_part x s (zero, e) = inl e
 one_part x s (suc k, e) = inr (e ∙ ap (both_shown x) (none k) ∙ then-nothing x)
   where
@@ -233,22 +233,22 @@ pub ran_not : (S T : Type 0) (fault : ProcessFault) (m : Manner) (plan : PlanVie
     → slice_get plan.entries place ≡ Some q → x ≡ run_cleaning_shown m plan q → plan.call.clean_per_run ≡ true
     → Prints (λ s. s ≡ on_err (space_before m.group place)) a b
     → Prints (Part {T = S} (x ∷ []) (Err fault)) b c
-    → Prints (λ s. Comes {T = T} (λ o. Displays m plan (Run place) o s) (IsPart (parts_of m plan (Run place)) s) (Err fault)) a c
+    → Prints (λ s. EndsOrIsCut {T = T} (λ o. Displays m plan (Run place) o s) (IsSomeFront (parts_of m plan (Run place)) s) (Err fault)) a c
 ran_not S T fault m plan place q x a b c e f g p u =
-    prints_then (λ s. s ≡ on_err (space_before m.group place)) (Part {T = S} (x ∷ []) (Err fault)) (λ s. Comes {T = T} (λ o. Displays m plan (Run place) o s) (IsPart (parts_of m plan (Run place)) s) (Err fault)) a b c
-    (λ s t is h. fault_as S T fault (λ o. Displays m plan (Run place) o (both_shown s t)) (IsPart (parts_of m plan (Run place)) (both_shown s t)) t
+    prints_then (λ s. s ≡ on_err (space_before m.group place)) (Part {T = S} (x ∷ []) (Err fault)) (λ s. EndsOrIsCut {T = T} (λ o. Displays m plan (Run place) o s) (IsSomeFront (parts_of m plan (Run place)) s) (Err fault)) a b c
+    (λ s t is h. fault_as S T fault (λ o. Displays m plan (Run place) o (both_shown s t)) (IsSomeFront (parts_of m plan (Run place)) (both_shown s t)) t
     (λ w. inr (g, subst (λ (o : Option PlanEntry). IsFront 2 (run_parts m plan place o) (both_shown s t)) (sym e) (two s t is (whole_is x t w ∙ f))))
-    (λ w. subst (λ (o : Option PlanEntry). IsPart (run_parts m plan place o) (both_shown s t)) (sym e) (some s t is (one_part x t w))) h) p u
+    (λ w. subst (λ (o : Option PlanEntry). IsSomeFront (run_parts m plan place o) (both_shown s t)) (sym e) (some s t is (one_part x t w))) h) p u
   where
     two : (s t : Shown) → s ≡ on_err (space_before m.group place) → t ≡ run_cleaning_shown m plan q → both_shown s t ≡ all_shown (on_err (space_before m.group place) ∷ run_cleaning_shown m plan q ∷ [])
     two s t is it = ap (λ (y : Shown). both_shown y t) is ∙ ap (both_shown (on_err (space_before m.group place))) (it ∙ sym (then-nothing (run_cleaning_shown m plan q)))
 
-    some : (s t : Shown) → s ≡ on_err (space_before m.group place) → (t ≡ on_err []) ⊎ (t ≡ x) → IsPart (run_parts m plan place (Some q)) (both_shown s t)
+    some : (s t : Shown) → s ≡ on_err (space_before m.group place) → (t ≡ on_err []) ⊎ (t ≡ x) → IsSomeFront (run_parts m plan place (Some q)) (both_shown s t)
     some s t is (inl w) = (1, ap (λ (y : Shown). both_shown y t) is ∙ ap (both_shown (on_err (space_before m.group place))) w)
     some s t is (inr w) = (2, two s t is (w ∙ f))
 
-    fault_as : (S T : Type 0) (fault : ProcessFault) (B : Outcome → Type 0) (D : Type 0) (t : Shown) → (IsWhole (x ∷ []) t → B Failed) → (IsPart (x ∷ []) t → D) → Comes {T = S} (λ _. IsWhole (x ∷ []) t) (IsPart (x ∷ []) t) (Err fault) → Comes {T = T} B D (Err fault)
-    fault_as S T fault B D t y z h = retyped S T fault B D (comes_fault S fault (λ _. IsWhole (x ∷ []) t) B (IsPart (x ∷ []) t) D y z h)
+    fault_as : (S T : Type 0) (fault : ProcessFault) (B : Outcome → Type 0) (D : Type 0) (t : Shown) → (IsWhole (x ∷ []) t → B Failed) → (IsSomeFront (x ∷ []) t → D) → EndsOrIsCut {T = S} (λ _. IsWhole (x ∷ []) t) (IsSomeFront (x ∷ []) t) (Err fault) → EndsOrIsCut {T = T} B D (Err fault)
+    fault_as S T fault B D t y z h = retyped S T fault B D (comes_fault S fault (λ _. IsWhole (x ∷ []) t) B (IsSomeFront (x ∷ []) t) D y z h)
 
 -- ---- skipped places
 
@@ -274,11 +274,11 @@ skipped m plan place q a b c e p t =
 
 -- what the addition of a toolchain prints, or nothing where it is found
 abbrev pub Adds : {T : Type 0} → List Shown → Type 0 → Result T ProcessFault → Shown → Type 0
-Adds parts without r s = Comes (λ o. IsWhole parts s ⊎ ((o ≡ Passed) × without × (s ≡ on_err []))) (IsPart parts s) r
+Adds parts without r s = EndsOrIsCut (λ o. IsWhole parts s ⊎ ((o ≡ Passed) × without × (s ≡ on_err []))) (IsSomeFront parts s) r
 
 -- the addition of a toolchain by another name of its command
 pub added_as : (T : Type 0) (r : Result T ProcessFault) (m : Manner) (dir : List ℕ) (k l : Command) (A : Outcome → Shown → Type 0) (a b : Streams) → k ≡ l
-    → Prints (Part (addition_shown m dir k ∷ []) r) a b → Prints (λ s. Comes (λ o. IsWhole (addition_shown m dir l ∷ []) s ⊎ A o s) (IsPart (addition_shown m dir l ∷ []) s) r) a b
+    → Prints (Part (addition_shown m dir k ∷ []) r) a b → Prints (λ s. EndsOrIsCut (λ o. IsWhole (addition_shown m dir l ∷ []) s ⊎ A o s) (IsSomeFront (addition_shown m dir l ∷ []) s) r) a b
 added_as T r m dir k l A a b e p = or_early T r (addition_shown m dir l ∷ []) A a b (subst (λ (x : Command). Prints (Part (addition_shown m dir x ∷ []) r) a b) e p)
 
 pub no_targets : (xs : List (String Global)) → true ≡ (length xs == 0) → map string_bytes xs ≡ []
@@ -286,10 +286,10 @@ no_targets [] e = refl
 no_targets (x ∷ xs) e = absurd (search rules)
 
 pub tried_shown : (T : Type 0) (r : Result T ProcessFault) (parts more : List Shown) (without : Type 0) (a b : Streams) → parts ≡ more → without
-    → Prints (λ s. Comes (λ o. IsWhole parts s ⊎ ((o ≡ Passed) × (s ≡ on_err []))) (IsPart parts s) r) a b → Prints (Adds more without r) a b
+    → Prints (λ s. EndsOrIsCut (λ o. IsWhole parts s ⊎ ((o ≡ Passed) × (s ≡ on_err []))) (IsSomeFront parts s) r) a b → Prints (Adds more without r) a b
 tried_shown T r parts more without a b e w p = subst (λ (l : List Shown). Prints (Adds l without r) a b) e
-    (prints_as (λ s. Comes (λ o. IsWhole parts s ⊎ ((o ≡ Passed) × (s ≡ on_err []))) (IsPart parts s) r) (Adds parts without r) a b
-    (λ s h. comes_map T r (λ o. IsWhole parts s ⊎ ((o ≡ Passed) × (s ≡ on_err []))) (λ o. IsWhole parts s ⊎ ((o ≡ Passed) × without × (s ≡ on_err []))) (IsPart parts s) (IsPart parts s)
+    (prints_as (λ s. EndsOrIsCut (λ o. IsWhole parts s ⊎ ((o ≡ Passed) × (s ≡ on_err []))) (IsSomeFront parts s) r) (Adds parts without r) a b
+    (λ s h. comes_map T r (λ o. IsWhole parts s ⊎ ((o ≡ Passed) × (s ≡ on_err []))) (λ o. IsWhole parts s ⊎ ((o ≡ Passed) × without × (s ≡ on_err []))) (IsSomeFront parts s) (IsSomeFront parts s)
     (λ o q. either o s q) (λ q. q) h) p)
   where
     either : (o : Outcome) (s : Shown) → IsWhole parts s ⊎ ((o ≡ Passed) × (s ≡ on_err [])) → IsWhole parts s ⊎ ((o ≡ Passed) × without × (s ≡ on_err []))
@@ -312,9 +312,9 @@ pub none_added : (T : Type 0) (done : T) (m : Manner) (plan : PlanView) (o : Opt
 none_added T done m plan o a e = subst (λ (x : Option Version). Prints (Adds {T = T} (addition_parts m plan x) (plan.call.targets ≡ []) (Ok done)) a a) e (prints_none (Adds {T = T} (addition_parts m plan None) (plan.call.targets ≡ []) (Ok done)) a (inl refl))
 
 pub toolchain_step : (T : Type 0) (r : Result T ProcessFault) (m : Manner) (plan : PlanView) (v : ℕ) (a b : Streams)
-    → Prints (Adds (addition_parts m plan (number_at (slice_get plan.versions v))) (plan.call.targets ≡ []) r) a b → Prints (λ s. Comes (λ o. Displays m plan (Prepare (Toolchain v)) o s) (IsPart (parts_of m plan (Prepare (Toolchain v))) s) r) a b
-toolchain_step T r m plan v a b p = prints_as (Adds (addition_parts m plan (number_at (slice_get plan.versions v))) (plan.call.targets ≡ []) r) (λ s. Comes (λ o. Displays m plan (Prepare (Toolchain v)) o s) (IsPart (parts_of m plan (Prepare (Toolchain v))) s) r) a b
-    (λ s h. comes_map T r (λ o. IsWhole (addition_parts m plan (number_at (slice_get plan.versions v))) s ⊎ ((o ≡ Passed) × (plan.call.targets ≡ []) × (s ≡ on_err []))) (λ o. Displays m plan (Prepare (Toolchain v)) o s) (IsPart (addition_parts m plan (number_at (slice_get plan.versions v))) s) (IsPart (parts_of m plan (Prepare (Toolchain v))) s)
+    → Prints (Adds (addition_parts m plan (number_at (slice_get plan.versions v))) (plan.call.targets ≡ []) r) a b → Prints (λ s. EndsOrIsCut (λ o. Displays m plan (Prepare (Toolchain v)) o s) (IsSomeFront (parts_of m plan (Prepare (Toolchain v))) s) r) a b
+toolchain_step T r m plan v a b p = prints_as (Adds (addition_parts m plan (number_at (slice_get plan.versions v))) (plan.call.targets ≡ []) r) (λ s. EndsOrIsCut (λ o. Displays m plan (Prepare (Toolchain v)) o s) (IsSomeFront (parts_of m plan (Prepare (Toolchain v))) s) r) a b
+    (λ s h. comes_map T r (λ o. IsWhole (addition_parts m plan (number_at (slice_get plan.versions v))) s ⊎ ((o ≡ Passed) × (plan.call.targets ≡ []) × (s ≡ on_err []))) (λ o. Displays m plan (Prepare (Toolchain v)) o s) (IsSomeFront (addition_parts m plan (number_at (slice_get plan.versions v))) s) (IsSomeFront (parts_of m plan (Prepare (Toolchain v))) s)
     (λ o q. either o s q) (λ q. q) h) p
   where
     either : (o : Outcome) (s : Shown) → IsWhole (addition_parts m plan (number_at (slice_get plan.versions v))) s ⊎ ((o ≡ Passed) × (plan.call.targets ≡ []) × (s ≡ on_err [])) → Displays m plan (Prepare (Toolchain v)) o s
@@ -327,9 +327,9 @@ toolchain_step T r m plan v a b p = prints_as (Adds (addition_parts m plan (numb
 
 -- what a step prints, by what it returned
 abbrev pub Does : {T : Type 0} → Manner → PlanView → Step → Result T ProcessFault → Shown → Type 0
-Does m plan step r s = Comes (λ o. Displays m plan step o s) (IsPart (parts_of m plan step) s) r
+Does m plan step r s = EndsOrIsCut (λ o. Displays m plan step o s) (IsSomeFront (parts_of m plan step) s) r
 
-one_shows : (keep_going : Bool) (m : Manner) (plan : PlanView) (h : Handed) (s : Shown) (cut : ℕ) → Shows keep_going m plan h s cut → ShowsAll keep_going m plan (h ∷ []) s cut
+one_shows : (keep_going : Bool) (m : Manner) (plan : PlanView) (h : Handed) (s : Shown) (cut : ℕ) → ShowsStep keep_going m plan h s cut → ShowsAll keep_going m plan (h ∷ []) s cut
 one_shows keep_going m plan h s cut p = (s, on_err [], cut, 0, sym (then-nothing s), omega arith, p, (refl, refl))
 
 pub shown_passed : (T : Type 0) (done : T) (keep_going : Bool) (m : Manner) (plan : PlanView) (step : Step) (a b : Streams) (n : ℕ) → Prints (Does {T = T} m plan step (Ok done)) a b → HasShown keep_going m plan (record { step = step; outcome = Passed } ∷ []) a b n n
@@ -342,7 +342,7 @@ shown_passed T done keep_going m plan step a b n p =
           (λ s d. one_shows keep_going m plan h s 0 (inl (s, on_err [], sym (then-nothing s), d, refl, refl))) p;
     }
 
-pub shown_cut : (T : Type 0) (fault : ProcessFault) (keep_going : Bool) (m : Manner) (plan : PlanView) (step : Step) (a b c : Streams) (n k : ℕ) → true ≡ is_memory fault → GrowsBy 1 n k
+pub shown_cut : (T : Type 0) (fault : ProcessFault) (keep_going : Bool) (m : Manner) (plan : PlanView) (step : Step) (a b c : Streams) (n k : ℕ) → true ≡ is_memory fault → CountGrowsBy 1 n k
     → Prints (Does {T = T} m plan step (Err fault)) a b → Prints (λ s. s ≡ memory_shown m) b c → HasShown keep_going m plan (record { step = step; outcome = Failed } ∷ []) a c n k
 shown_cut T fault keep_going m plan step a b c n k e grows p q =
     let h : Handed = record { step = step; outcome = Failed } in
@@ -350,7 +350,7 @@ shown_cut T fault keep_going m plan step a b c n k e grows p q =
       cut = 1;
       counted = grows;
       printed = prints_then (Does {T = T} m plan step (Err fault)) (λ s. s ≡ memory_shown m) (λ s. ShowsAll keep_going m plan (h ∷ []) s 1) a b c
-          (λ s t d is. one_shows keep_going m plan h (both_shown s t) 1 (inr (s, ap (both_shown s) is, cut_of T fault (λ o. Displays m plan step o s) (IsPart (parts_of m plan step) s) e d, refl, refl))) p q;
+          (λ s t d is. one_shows keep_going m plan h (both_shown s t) 1 (inr (s, ap (both_shown s) is, cut_of T fault (λ o. Displays m plan step o s) (IsSomeFront (parts_of m plan step) s) e d, refl, refl))) p q;
     }
 
 -- a step failed, and its error was told or not
@@ -362,7 +362,7 @@ shown_error T fault keep_going m plan step a b c n ne p q =
       cut = 0;
       counted = λ t. omega arith;
       printed = prints_then (Does {T = T} m plan step (Err fault)) (TellsError keep_going m step Failed) (λ s. ShowsAll keep_going m plan (h ∷ []) s 0) a b c
-          (λ s t d tells. one_shows keep_going m plan h (both_shown s t) 0 (inl (s, t, refl, not_cut T fault (λ o. Displays m plan step o s) (IsPart (parts_of m plan step) s) ne d, tells, refl))) p q;
+          (λ s t d tells. one_shows keep_going m plan h (both_shown s t) 0 (inl (s, t, refl, not_cut T fault (λ o. Displays m plan step o s) (IsSomeFront (parts_of m plan step) s) ne d, tells, refl))) p q;
     }
 
 pub shown_told : (T : Type 0) (fault : ProcessFault) (keep_going : Bool) (m : Manner) (plan : PlanView) (step : Step) (a b c : Streams) (n : ℕ) → fault ≢ Memory → keep_going ≡ true → is_run step ≡ true

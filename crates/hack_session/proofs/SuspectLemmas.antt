@@ -5,7 +5,7 @@ use Rattle.std.proofs.lemmas.List.Elements.{Contains-get_or, Contains-append_lef
 use Rattle.std.proofs.lemmas.List.Quantifiers.{all_pairs_push}
 use Rattle.hack_plan.specs.View.{PlanView}
 use Rattle.hack_plan.specs.declared.places.PlanEntry.{PlanEntry}
-use Rattle.hack_suspects.specs.Suspects.{Outcome as Run_outcome}
+use Rattle.hack_suspects.specs.Suspects.{RunOutcome as Run_outcome}
 use Rattle.hack_session.specs.declared.step.Handed.{Handed}
 use Rattle.hack_session.specs.declared.step.Outcome.{Outcome}
 use Rattle.hack_session.specs.declared.step.Outcome.TheVariants.{Passed, Failed}
@@ -17,8 +17,8 @@ use Rattle.std.proofs.lemmas.List.{map-append}
 use Rattle.hack_suspects.specs.declared.suspect.Outcome.{Outcome as Ran}
 use Rattle.hack_suspects.specs.Suspects.{outcomes_of}
 use Rattle.hack_session.specs.Histories.{Course}
-use Rattle.hack_session.specs.Suspects.{AreExplained, ExplainedView, IsExplained, outcome_of, part_explained, settings_in}
-use Rattle.hack_session.specs.Suspects.{AddsOnce, AreDistinct, FailsBefore, HasFailed, is_failed, part_at, part_where, part_of, entry_of}
+use Rattle.hack_session.specs.Suspects.{AreExplained, ExplainedView, IsExplained, run_outcome_of, part_explained, settings_in}
+use Rattle.hack_session.specs.Suspects.{AddsOnce, AreDistinctParts, FailsBefore, HasFailedRun, is_failed, part_at, part_where, part_of, plan_entry_of}
 
 bools-differ : {b : Bool} → b ≡ true → b ≡ false → ⊥
 bools-differ p q = let e : true ≡ false = sym p ∙ q in cc
@@ -31,30 +31,30 @@ empty-none : {X : Type 0} (x : X) → Contains [] x → ⊥
 empty-none x h = omega (arith, h.1)
 
 -- a step alone is a failed run of a part
-pub failed-single : (plan : PlanView) (h : Handed) (part : Part) → is_failed h.outcome ≡ true → part_at plan h ≡ Some part → HasFailed plan (h ∷ []) part
+pub failed-single : (plan : PlanView) (h : Handed) (part : Part) → is_failed h.outcome ≡ true → part_at plan h ≡ Some part → HasFailedRun plan (h ∷ []) part
 failed-single plan h part failed of = record { by = h; among = Contains-push [] h; failed = failed-is h.outcome failed; of = of }
 
-pub single-failed : (plan : PlanView) (h : Handed) (part : Part) → HasFailed plan (h ∷ []) part → (is_failed h.outcome ≡ true) × (part_at plan h ≡ Some part)
+pub single-failed : (plan : PlanView) (h : Handed) (part : Part) → HasFailedRun plan (h ∷ []) part → (is_failed h.outcome ≡ true) × (part_at plan h ≡ Some part)
 single-failed plan h part f =
     elim (Contains-push_cases [] h f.by f.among) [
       | inl none ↦ absurd (empty-none f.by none)
       | inr e ↦ (ap (λ (x : Handed). is_failed x.outcome) e ∙ ap is_failed f.failed, ap (part_at plan) e ∙ f.of)
     ]
 
-pub none-failed : (plan : PlanView) (h : Handed) (part : Part) → is_failed h.outcome ≡ false → HasFailed plan (h ∷ []) part → ⊥
+pub none-failed : (plan : PlanView) (h : Handed) (part : Part) → is_failed h.outcome ≡ false → HasFailedRun plan (h ∷ []) part → ⊥
 none-failed plan h part passed f = bools-differ (single-failed plan h part f).0 passed
 
-pub no-part : (plan : PlanView) (h : Handed) (part : Part) → part_at plan h ≡ None → HasFailed plan (h ∷ []) part → ⊥
+pub no-part : (plan : PlanView) (h : Handed) (part : Part) → part_at plan h ≡ None → HasFailedRun plan (h ∷ []) part → ⊥
 no-part plan h part none f = let e : Some part ≡ None = sym (single-failed plan h part f).1 ∙ none in cc
 
 -- failed runs among earlier and later steps
-pub failed-before : (plan : PlanView) (xs ys : List Handed) (part : Part) → HasFailed plan xs part → HasFailed plan (xs ++ ys) part
+pub failed-before : (plan : PlanView) (xs ys : List Handed) (part : Part) → HasFailedRun plan xs part → HasFailedRun plan (xs ++ ys) part
 failed-before plan xs ys part f = record { by = f.by; among = Contains-append_left xs ys f.by f.among; failed = f.failed; of = f.of }
 
-pub failed-after : (plan : PlanView) (xs ys : List Handed) (part : Part) → HasFailed plan ys part → HasFailed plan (xs ++ ys) part
+pub failed-after : (plan : PlanView) (xs ys : List Handed) (part : Part) → HasFailedRun plan ys part → HasFailedRun plan (xs ++ ys) part
 failed-after plan xs ys part f = record { by = f.by; among = Contains-append_right xs ys f.by f.among; failed = f.failed; of = f.of }
 
-pub failed-cases : (plan : PlanView) (xs ys : List Handed) (part : Part) → HasFailed plan (xs ++ ys) part → HasFailed plan xs part ⊎ HasFailed plan ys part
+pub failed-cases : (plan : PlanView) (xs ys : List Handed) (part : Part) → HasFailedRun plan (xs ++ ys) part → HasFailedRun plan xs part ⊎ HasFailedRun plan ys part
 failed-cases plan xs ys part f =
     elim (Contains-append_cases xs ys f.by f.among) [
       | inl a ↦ inl (record { by = f.by; among = a; failed = f.failed; of = f.of })
@@ -62,15 +62,15 @@ failed-cases plan xs ys part f =
     ]
 
 -- the parts that are listed are those of one more step
-pub parts-more : (plan : PlanView) (before : List Handed) (h : Handed) (old new : List Part) → ((part : Part) → Contains new part ↔ (Contains old part ⊎ HasFailed plan (h ∷ []) part)) → ((part : Part) → Contains old part ↔ HasFailed plan before part)
-    → (part : Part) → Contains new part ↔ HasFailed plan (before ++ h ∷ []) part
+pub parts-more : (plan : PlanView) (before : List Handed) (h : Handed) (old new : List Part) → ((part : Part) → Contains new part ↔ (Contains old part ⊎ HasFailedRun plan (h ∷ []) part)) → ((part : Part) → Contains old part ↔ HasFailedRun plan before part)
+    → (part : Part) → Contains new part ↔ HasFailedRun plan (before ++ h ∷ []) part
 parts-more plan before h old new more are part = (
   λ c. elim ((more part).0 c) [ inl o ↦ failed-before plan before (h ∷ []) part ((are part).0 o) | inr f ↦ failed-after plan before (h ∷ []) part f ],
   λ f. elim (failed-cases plan before (h ∷ []) part f) [ inl b ↦ (more part).1 (inl ((are part).1 b)) | inr g ↦ (more part).1 (inr g) ],
 )
 
 -- no step, and no part
-pub no-parts : (plan : PlanView) (parts : List Part) → parts ≡ [] → AllPairs (FailsBefore plan []) parts × ((part : Part) → Contains parts part ↔ HasFailed plan [] part)
+pub no-parts : (plan : PlanView) (parts : List Part) → parts ≡ [] → AllPairs (FailsBefore plan []) parts × ((part : Part) → Contains parts part ↔ HasFailedRun plan [] part)
 no-parts plan [] e = (λ i j d l m. absurd (omega arith), λ part. (λ c. absurd (empty-none part c), λ f. absurd (empty-none f.by f.among)))
 no-parts plan (p ∷ parts) e = absurd (cc)
 
@@ -80,7 +80,7 @@ parts-same parts Q not part = (λ c. inl c, λ s. elim s [ inl c ↦ c | inr q �
 
 -- the part that is added is that of a failed step
 pub parts-added : (plan : PlanView) (h : Handed) (added : Part) (old new : List Part) → is_failed h.outcome ≡ true → part_at plan h ≡ Some added → ((part : Part) → Contains new part ↔ (Contains old part ⊎ (added ≡ part)))
-    → (part : Part) → Contains new part ↔ (Contains old part ⊎ HasFailed plan (h ∷ []) part)
+    → (part : Part) → Contains new part ↔ (Contains old part ⊎ HasFailedRun plan (h ∷ []) part)
 parts-added plan h added old new failed of more part = (
   λ c. elim ((more part).0 c) [ inl o ↦ inl o | inr e ↦ inr (failed-single plan h part failed (of ∙ ap Some e)) ],
   λ s. elim s [ inl o ↦ (more part).1 (inl o) | inr f ↦ (more part).1 (inr (same added part (sym of ∙ (single-failed plan h part f).1))) ],
@@ -103,7 +103,7 @@ failed-first : (plan : PlanView) (xs ys : List Handed) (one other : Part) → Fa
 failed-first plan xs ys one other f = record { before = f.before; after = f.after ++ ys; split = ap (λ l. l ++ ys) f.split ∙ append_assoc f.before f.after ys; failed = f.failed; not = f.not }
 
 -- the parts after one more step are in the order of their first failures
-pub ordered-more : (plan : PlanView) (before : List Handed) (h : Handed) (old new : List Part) → AddsOnce old new → ((part : Part) → Contains old part ↔ HasFailed plan before part)
+pub ordered-more : (plan : PlanView) (before : List Handed) (h : Handed) (old new : List Part) → AddsOnce old new → ((part : Part) → Contains old part ↔ HasFailedRun plan before part)
     → AllPairs (FailsBefore plan before) old → AllPairs (FailsBefore plan (before ++ h ∷ [])) new
 ordered-more plan before h old new adds are ordered =
     elim adds [
@@ -119,8 +119,8 @@ ordered-more plan before h old new adds are ordered =
     kept = λ i j d l m. failed-first plan before (h ∷ []) (get_or old i d) (get_or old j d) (ordered i j d l m)
 
 -- parts in that order are listed once
-distinct-by : (plan : PlanView) (handed : List Handed) (parts : List Part) → AllPairs (FailsBefore plan handed) parts → AreDistinct parts
-distinct-by plan handed parts ordered = λ i j d l m e. let f = ordered i j d l m in f.not (subst (HasFailed plan f.before) e f.failed)
+distinct-by : (plan : PlanView) (handed : List Handed) (parts : List Part) → AllPairs (FailsBefore plan handed) parts → AreDistinctParts parts
+distinct-by plan handed parts ordered = λ i j d l m e. let f = ordered i j d l m in f.not (subst (HasFailedRun plan f.before) e f.failed)
 
 -- none of one more is the part
 pub not-among-more : (parts : List Part) (i : ℕ) (part : Part) → i < length parts → (Contains (take i parts) part → ⊥) → ((d : Part) → get_or parts i d ≢ part) → Contains (take (i + 1) parts) part → ⊥
@@ -131,15 +131,15 @@ not-among-more parts i part lt not differs c =
     ]
 
 -- a step of another part, or of none, adds nothing
-pub no-entry : (plan : PlanView) (h : Handed) (part : Part) → entry_of plan h.step ≡ None → part_at plan h ≢ Some part
+pub no-entry : (plan : PlanView) (h : Handed) (part : Part) → plan_entry_of plan h.step ≡ None → part_at plan h ≢ Some part
 no-entry plan h part none e = let f : None ≡ Some part = sym (ap part_where none) ∙ e in cc
 
-pub other-entry : (plan : PlanView) (h : Handed) (q : PlanEntry) (part : Part) → entry_of plan h.step ≡ Some q → part_of q ≢ Some part → part_at plan h ≢ Some part
+pub other-entry : (plan : PlanView) (h : Handed) (q : PlanEntry) (part : Part) → plan_entry_of plan h.step ≡ Some q → part_of q ≢ Some part → part_at plan h ≢ Some part
 other-entry plan h q part is other e = other (sym (ap part_where is) ∙ e)
 
 -- what came of one more run is added
 pub outcome-pushed : (plan : PlanView) (part : Part) (q : PlanEntry) (outcome : Outcome) (old new : List Ran) (run : Ran) → new ≡ old ++ run ∷ [] → run.on.items ≡ slice_index_or (settings_in (slice_get plan.packages part.package)) q.rank [] → run.failed ≡ is_failed outcome
-    → outcomes_of new ≡ outcomes_of old ++ outcome_of plan part q outcome ∷ []
+    → outcomes_of new ≡ outcomes_of old ++ run_outcome_of plan part q outcome ∷ []
 outcome-pushed plan part q outcome old new run more on failed =
     let plain : Ran → Run_outcome = λ r. record { on = r.on.items; failed = r.failed } in
     let row : Run_outcome → List Run_outcome = λ o. outcomes_of old ++ o ∷ [] in
@@ -153,12 +153,12 @@ if_ok_both P Q R (Err e) f p q = p
 
 -- the parts that are explained are those that failed
 pub explained-by : (t : Course) (strength : ℕ) (parts slice : List Part) (all : List ExplainedView) → slice ≡ parts
-    → AllPairs (FailsBefore t.plan t.handed) parts → ((part : Part) → Contains parts part ↔ HasFailed t.plan t.handed part) → map part_explained all ≡ slice → All (IsExplained t.plan t.handed strength) all → AreExplained t strength all
+    → AllPairs (FailsBefore t.plan t.handed) parts → ((part : Part) → Contains parts part ↔ HasFailedRun t.plan t.handed part) → map part_explained all ≡ slice → All (IsExplained t.plan t.handed strength) all → AreExplained t strength all
 explained-by t strength parts slice all s ordered exactly same each =
     let is : parts ≡ map part_explained all = sym (same ∙ s) in
     record {
-      once = subst AreDistinct is (distinct-by t.plan t.handed parts ordered);
+      once = subst AreDistinctParts is (distinct-by t.plan t.handed parts ordered);
       ordered = subst (AllPairs (FailsBefore t.plan t.handed)) is ordered;
-      exactly = λ part. subst (λ l. Contains l part ↔ HasFailed t.plan t.handed part) is (exactly part);
+      exactly = λ part. subst (λ l. Contains l part ↔ HasFailedRun t.plan t.handed part) is (exactly part);
       explained = each;
     }

@@ -13,7 +13,7 @@ use Rattle.std.specs.Prelude.{nat_eq}
 use Rattle.std.proofs.Common.{arith}
 use Rattle.std.proofs.lemmas.Bool.Decides.{nat_tests}
 use Rattle.hack_samples.specs.declared.sets.Setting.{Setting}
-use Rattle.hack_session.specs.SuspectNotes.{has_setting, notes_on}
+use Rattle.hack_session.specs.SuspectNotes.{has_setting, suspect_notes_on}
 
 pub join-texts : (sep : List ℕ) (xs : List (String Global)) → join_by string_bytes sep xs ≡ join_by (λ text. text) sep (map string_bytes xs)
 join-texts sep [] = refl
@@ -24,10 +24,10 @@ pub adds-then : {X : Type 0} (old mid new xs ys : List X) → mid ≡ old ++ xs 
 adds-then old mid new xs ys p q = q ∙ ap (λ l. l ++ ys) p ∙ append_assoc old xs ys
 
 -- the notes on one more part
-pub notes-more : (plan : PlanView) (xs : List Explained) (i : ℕ) (x : Explained) (old new : List Note) → i < length xs → x ≡ get_or xs i x → new ≡ old ++ notes_on plan (explained_view x) → old ≡ flat_map (notes_on plan) (map explained_view (take i xs))
-    → new ≡ flat_map (notes_on plan) (map explained_view (take (i + 1) xs))
+pub notes-more : (plan : PlanView) (xs : List Explained) (i : ℕ) (x : Explained) (old new : List Note) → i < length xs → x ≡ get_or xs i x → new ≡ old ++ suspect_notes_on plan (explained_view x) → old ≡ flat_map (suspect_notes_on plan) (map explained_view (take i xs))
+    → new ≡ flat_map (suspect_notes_on plan) (map explained_view (take (i + 1) xs))
 notes-more plan xs i x old new lt is adds before =
-    let f = notes_on plan in
+    let f = suspect_notes_on plan in
     let front = map explained_view (take i xs) in
     adds ∙ ap (λ l. l ++ f (explained_view x)) before
     ∙ sym (ap (flat_map f) (map_more explained_view xs i x lt ∙ ap (λ y. front ++ explained_view y ∷ []) (sym is)) ∙ flat_map-append f front (explained_view x ∷ []) ∙ ap (λ l. flat_map f front ++ l) (append-nil (f (explained_view x))))

@@ -12,13 +12,13 @@ use Rattle.hack_session.specs.Histories.{Course, IsHistory, stops}
 use Rattle.hack_session.specs.Schedules.{all_steps, in_piece, steps_of}
 
 -- the steps of versions, without the first ones of the first version
-abbrev pub left_in : (ℕ → Bool) → ℕ → List PlanVersion → List Step
-left_in inside taken [] = []
-left_in inside taken (v ∷ vs) = drop taken (steps_of inside v) ++ flat_map (steps_of inside) vs
+abbrev pub steps_without_first : (ℕ → Bool) → ℕ → List PlanVersion → List Step
+steps_without_first inside taken [] = []
+steps_without_first inside taken (v ∷ vs) = drop taken (steps_of inside v) ++ flat_map (steps_of inside) vs
 
 -- the steps that are left at a cursor
 abbrev pub steps_left : Option Partition → PlanView → Cursor → List Step
-steps_left piece plan c = left_in (in_piece piece (length plan.entries)) c.taken (drop c.version plan.versions)
+steps_left piece plan c = steps_without_first (in_piece piece (length plan.entries)) c.taken (drop c.version plan.versions)
 
 -- steps with their outcomes, as far as there are both
 abbrev pub with_outcomes : List Step → List Outcome → List Handed

@@ -19,13 +19,13 @@ run_place (Prepare preparation) = None
 run_place (Skip place) = None
 
 -- the places that steps run, in order
-abbrev pub runs_of : List Step → List ℕ
-runs_of steps = filter_map run_place steps
+abbrev pub run_places_of : List Step → List ℕ
+run_places_of steps = filter_map run_place steps
 
 -- the runs handed out are the first of the chosen piece, in order, each once, and all of them unless a step stopped
 pub record HandsOut (piece : Option Partition) (total : ℕ) (t : Course) : Type 0 where
   pub places : List ℕ
   pub left : List ℕ
   pub chosen : ArePiece piece total places
-  pub in_order : places ≡ runs_of (map step_of t.handed) ++ left
+  pub in_order : places ≡ run_places_of (map step_of t.handed) ++ left
   pub until : (list_any (stops t.keep_going) t.handed ≡ true) ⊎ (left ≡ [])

@@ -8,7 +8,7 @@ use Rattle.std.proofs.Common.{Global, String, Vec}
 use Rattle.hack_plan.specs.declared.places.PlanEntry.{PlanEntry}
 use Rattle.hack_process.specs.CommandTexts.{text_of}
 use Rattle.hack_plan.specs.View.{PlanView}
-use Rattle.hack_plan.specs.Commands.{command_of_entry, name_in, package_at}
+use Rattle.hack_plan.specs.Commands.{command_of_entry, name_in, chosen_package_at}
 use Rattle.hack_session.specs.declared.step.Step.{Step}
 use Rattle.hack_session.specs.declared.step.Step.TheVariants.{Prepare, Skip, Run}
 use Rattle.hack_session.specs.declared.step.Outcome.{Outcome}
@@ -26,7 +26,7 @@ pub record FailedRun : Type 0 where
 -- a run at a place as it is reported where it failed
 abbrev pub run_at : PlanView → Option PlanEntry → Option FailedRun
 run_at plan None = None
-run_at plan (Some q) = Some (record { name = unwrap_or (name_in (package_at plan.packages q.package)) []; text = text_of true plan.call.dir (command_of_entry plan q) })
+run_at plan (Some q) = Some (record { name = unwrap_or (name_in (chosen_package_at plan.packages q.package)) []; text = text_of true plan.call.dir (command_of_entry plan q) })
 
 -- a step's failed run, where it is one
 abbrev pub failed_run : PlanView → Step → Outcome → Option FailedRun
@@ -56,13 +56,13 @@ abbrev pub failure_view : Failure → FailedRun
 failure_view f = record { name = string_bytes f.name; text = string_bytes f.text }
 
 -- the texts under a name, in order
-abbrev pub texts_in : List ℕ → BTreeMap (String Global) (Vec (String Global) Global) → List (List ℕ)
-texts_in name m = option_map_or (λ texts. map string_bytes texts.items) (get_by_text m name) []
+abbrev pub texts_under : List ℕ → BTreeMap (String Global) (Vec (String Global) Global) → List (List ℕ)
+texts_under name m = option_map_or (λ texts. map string_bytes texts.items) (get_by_text m name) []
 
 -- the failed runs are counted, and those of each package's name are under it, in order; no other name is there
 pub record IsReport (failures : List FailedRun) (r : KeepGoing) : Type 0 where
   pub count : r.count ≡ length failures
-  pub texts : (name : List ℕ) → texts_in name r.commands ≡ map told_text (filter (is_of name) failures)
+  pub texts : (name : List ℕ) → texts_under name r.commands ≡ map told_text (filter (is_of name) failures)
   pub names : (name : List ℕ) → is_some (get_by_text r.commands name) ≡ list_any (is_of name) failures
 
 -- the line of a command
@@ -70,9 +70,9 @@ abbrev pub command_text : String Global → List ℕ
 command_text command = codes "        " ++ (string_bytes command ++ codes "\n")
 
 -- the lines of a package: its name, and its commands
-abbrev pub group_text : String Global × Vec (String Global) Global → List ℕ
-group_text group = codes "    " ++ (string_bytes group.0 ++ (codes ":\n" ++ flat_map command_text group.1.items))
+abbrev pub package_group_text : String Global × Vec (String Global) Global → List ℕ
+package_group_text group = codes "    " ++ (string_bytes group.0 ++ (codes ":\n" ++ flat_map command_text group.1.items))
 
 -- the text of a report: how many runs failed, and the packages in the order of their names, each with its commands
 abbrev pub report_text : KeepGoing → List ℕ
-report_text r = codes "failed to run " ++ (decimal r.count ++ (codes " commands\n\nfailed commands:\n" ++ flat_map group_text r.commands.entries))
+report_text r = codes "failed to run " ++ (decimal r.count ++ (codes " commands\n\nfailed commands:\n" ++ flat_map package_group_text r.commands.entries))

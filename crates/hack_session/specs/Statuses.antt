@@ -4,7 +4,7 @@ use Rattle.std.specs.Fmt.{decimal}
 use Rattle.hack_process.specs.CommandTexts.{text_of}
 use Rattle.hack_plan.specs.declared.places.PlanEntry.{PlanEntry}
 use Rattle.hack_plan.specs.View.{PlanView}
-use Rattle.hack_plan.specs.Commands.{command_of_entry, name_in, package_at}
+use Rattle.hack_plan.specs.Commands.{command_of_entry, name_in, chosen_package_at}
 
 -- the line on a command that is run outside the plan's places
 abbrev pub running_text : List ℕ → List ℕ
@@ -28,4 +28,4 @@ told_name false name = name
 -- the status of a run at a place: its number is the place from 1, and the total is the plan's length
 abbrev pub place_status : List ℕ → Bool → PlanView → ℕ → PlanEntry → List ℕ
 place_status verb verbose plan place q =
-    status_text verb (text_of verbose plan.call.dir (command_of_entry plan q)) (told_name verbose (name_in (package_at plan.packages q.package))) (place + 1) (length plan.entries)
+    status_text verb (text_of verbose plan.call.dir (command_of_entry plan q)) (told_name verbose (name_in (chosen_package_at plan.packages q.package))) (place + 1) (length plan.entries)

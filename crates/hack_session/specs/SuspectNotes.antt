@@ -13,9 +13,9 @@ use Rattle.hack_session.specs.declared.suspects.Part.{Part}
 use Rattle.hack_session.specs.Suspects.{ExplainedView}
 
 -- the names of each candidate of a package
-abbrev pub candidates_in : Option PackageView → List (List (List ℕ))
-candidates_in None = []
-candidates_in (Some k) = k.candidates
+abbrev pub package_candidates : Option PackageView → List (List (List ℕ))
+package_candidates None = []
+package_candidates (Some k) = k.candidates
 
 -- the version of runs, where they have one
 abbrev pub version_words : Option Version → List ℕ
@@ -23,14 +23,14 @@ version_words None = []
 version_words (Some v) = codes " on " ++ version_text v
 
 -- the target of runs, where their slot has one of its own
-abbrev pub target_words : Option (List ℕ) → List ℕ
-target_words None = []
-target_words (Some target) = codes " for " ++ target
+abbrev pub for_target_text : Option (List ℕ) → List ℕ
+for_target_text None = []
+for_target_text (Some target) = codes " for " ++ target
 
 -- where runs were: their package, version and target
 abbrev pub place_text : PlanView → Part → List ℕ
 place_text plan part =
-    codes "in " ++ (unwrap_or (name_in (slice_get plan.packages part.package)) [] ++ (version_words part.version ++ target_words (slot_target plan.call part.version part.slot)))
+    codes "in " ++ (unwrap_or (name_in (slice_get plan.packages part.package)) [] ++ (version_words part.version ++ for_target_text (slot_target plan.call part.version part.slot)))
 
 -- the heading of the suspects
 abbrev pub heading_text : PlanView → Part → List ℕ
@@ -70,16 +70,16 @@ abbrev pub has_setting : List Setting → Bool
 has_setting pattern = nat_lt 0 (length pattern)
 
 -- the lines of suspects: of the first ones, and how many more there are
-abbrev pub lines_of : List (List (List ℕ)) → List (List Setting) → List Note
-lines_of candidates found =
+abbrev pub suspect_lines : List (List (List ℕ)) → List (List Setting) → List Note
+suspect_lines candidates found =
     map (λ pattern. info (suspect_text candidates pattern)) (take most_lines found) ++ (if nat_lt most_lines (length found) then info (more_text (length found - most_lines)) ∷ [] else [])
 
 -- the notices on a part's suspects: none where no suspect has a setting, since then all of the
 -- part's runs failed or there is no suspect
 abbrev pub notes_of : PlanView → Part → Option (List (List Setting)) → List Note
 notes_of plan part None = info (too_many_text plan part) ∷ []
-notes_of plan part (Some found) = if list_any has_setting found then info (heading_text plan part) ∷ lines_of (candidates_in (slice_get plan.packages part.package)) found else []
+notes_of plan part (Some found) = if list_any has_setting found then info (heading_text plan part) ∷ suspect_lines (package_candidates (slice_get plan.packages part.package)) found else []
 
 -- the notices on a part that is explained
-abbrev pub notes_on : PlanView → ExplainedView → List Note
-notes_on plan e = notes_of plan e.part e.suspects
+abbrev pub suspect_notes_on : PlanView → ExplainedView → List Note
+suspect_notes_on plan e = notes_of plan e.part e.suspects

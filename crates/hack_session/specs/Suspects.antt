@@ -5,7 +5,7 @@ use Rattle.hack_plan.specs.declared.places.PlanEntry.{PlanEntry}
 use Rattle.hack_plan.specs.View.{PackageView, PlanView}
 use Rattle.hack_samples.specs.Sets.{rows_of}
 use Rattle.hack_samples.specs.declared.sets.Setting.{Setting}
-use Rattle.hack_suspects.specs.Suspects.{Outcome as Run_outcome, AreSuspects, choices}
+use Rattle.hack_suspects.specs.Suspects.{RunOutcome as Run_outcome, AreSuspects, choices}
 use Rattle.hack_session.specs.declared.step.Step.{Step}
 use Rattle.hack_session.specs.declared.step.Step.TheVariants.{Prepare, Skip, Run}
 use Rattle.hack_session.specs.declared.step.Outcome.{Outcome}
@@ -25,10 +25,10 @@ abbrev pub part_of : PlanEntry → Option Part
 part_of q = part_in q q.package
 
 -- the run of a step, where it has one
-abbrev pub entry_of : PlanView → Step → Option PlanEntry
-entry_of plan (Prepare preparation) = None
-entry_of plan (Skip place) = None
-entry_of plan (Run place) = slice_get plan.entries place
+abbrev pub plan_entry_of : PlanView → Step → Option PlanEntry
+plan_entry_of plan (Prepare preparation) = None
+plan_entry_of plan (Skip place) = None
+plan_entry_of plan (Run place) = slice_get plan.entries place
 
 -- the part of a run, where there is one
 abbrev pub part_where : Option PlanEntry → Option Part
@@ -37,7 +37,7 @@ part_where (Some q) = part_of q
 
 -- the part that a handed step is a run of, where it is one of a single package
 abbrev pub part_at : PlanView → Handed → Option Part
-part_at plan h = part_where (entry_of plan h.step)
+part_at plan h = part_where (plan_entry_of plan h.step)
 
 -- for each run of a package which candidates are on in it
 abbrev pub settings_in : Option PackageView → List (List Bool)
@@ -45,9 +45,9 @@ settings_in None = []
 settings_in (Some k) = k.settings
 
 -- how many candidates a package has
-abbrev pub count_in : Option PackageView → ℕ
-count_in None = 0
-count_in (Some k) = length k.candidates
+abbrev pub candidate_count : Option PackageView → ℕ
+candidate_count None = 0
+candidate_count (Some k) = length k.candidates
 
 -- an outcome is that the run failed
 abbrev pub is_failed : Outcome → Bool
@@ -55,14 +55,14 @@ is_failed Passed = false
 is_failed Failed = true
 
 -- what came of a part's run: which candidates were on in it, and whether it failed
-abbrev pub outcome_of : PlanView → Part → PlanEntry → Outcome → Run_outcome
-outcome_of plan part q outcome = record { on = slice_index_or (settings_in (slice_get plan.packages part.package)) q.rank []; failed = is_failed outcome }
+abbrev pub run_outcome_of : PlanView → Part → PlanEntry → Outcome → Run_outcome
+run_outcome_of plan part q outcome = record { on = slice_index_or (settings_in (slice_get plan.packages part.package)) q.rank []; failed = is_failed outcome }
 
 -- what came of the part's runs among the handed steps, in order
 pub data AreOutcomes (plan : PlanView) (part : Part) : List Handed → List Run_outcome → Type 0 where
   starts : AreOutcomes plan part [] []
-  ran : {handed : List Handed} {outcomes : List Run_outcome} (h : Handed) (q : PlanEntry) → AreOutcomes plan part handed outcomes → entry_of plan h.step ≡ Some q → part_of q ≡ Some part
-      → AreOutcomes plan part (handed ++ h ∷ []) (outcomes ++ outcome_of plan part q h.outcome ∷ [])
+  ran : {handed : List Handed} {outcomes : List Run_outcome} (h : Handed) (q : PlanEntry) → AreOutcomes plan part handed outcomes → plan_entry_of plan h.step ≡ Some q → part_of q ≡ Some part
+      → AreOutcomes plan part (handed ++ h ∷ []) (outcomes ++ run_outcome_of plan part q h.outcome ∷ [])
   passes : {handed : List Handed} {outcomes : List Run_outcome} (h : Handed) → AreOutcomes plan part handed outcomes → part_at plan h ≢ Some part → AreOutcomes plan part (handed ++ h ∷ []) outcomes
 
 -- a part, and the suspects of its runs, or none where there are too many patterns to look at
@@ -91,26 +91,26 @@ AreFound outcomes n strength (Some found) = AreSuspects outcomes n strength foun
 pub record IsExplained (plan : PlanView) (handed : List Handed) (strength : ℕ) (e : ExplainedView) : Type 0 where
   pub outcomes : List Run_outcome
   pub came : AreOutcomes plan e.part handed outcomes
-  pub found : AreFound outcomes (count_in (slice_get plan.packages e.part.package)) strength e.suspects
+  pub found : AreFound outcomes (candidate_count (slice_get plan.packages e.part.package)) strength e.suspects
 
 -- some run of the part failed
-pub record HasFailed (plan : PlanView) (handed : List Handed) (part : Part) : Type 0 where
+pub record HasFailedRun (plan : PlanView) (handed : List Handed) (part : Part) : Type 0 where
   pub by : Handed
   pub among : Contains handed by
   pub failed : by.outcome ≡ Failed
   pub of : part_at plan by ≡ Some part
 
 -- each is listed once
-abbrev pub AreDistinct : List Part → Type 0
-AreDistinct parts = AllPairs (λ one other. one ≢ other) parts
+abbrev pub AreDistinctParts : List Part → Type 0
+AreDistinctParts parts = AllPairs (λ one other. one ≢ other) parts
 
 -- the one part had a failed run before the other had any: after some of the steps it has one, and the other hasn't
 pub record FailsBefore (plan : PlanView) (handed : List Handed) (one other : Part) : Type 0 where
   pub before : List Handed
   pub after : List Handed
   pub split : handed ≡ before ++ after
-  pub failed : HasFailed plan before one
-  pub not : HasFailed plan before other → ⊥
+  pub failed : HasFailedRun plan before one
+  pub not : HasFailedRun plan before other → ⊥
 
 -- the parts are the old ones, or these and one more that is none of them
 abbrev pub AddsOnce : List Part → List Part → Type 0
@@ -118,7 +118,7 @@ AddsOnce old new = (new ≡ old) ⊎ ((part : Part) × (new ≡ old ++ part ∷ 
 
 -- just the parts with failed runs are explained, each once, in the order of their first failures
 pub record AreExplained (t : Course) (strength : ℕ) (all : List ExplainedView) : Type 0 where
-  pub once : AreDistinct (map part_explained all)
+  pub once : AreDistinctParts (map part_explained all)
   pub ordered : AllPairs (FailsBefore t.plan t.handed) (map part_explained all)
-  pub exactly : (part : Part) → Contains (map part_explained all) part ↔ HasFailed t.plan t.handed part
+  pub exactly : (part : Part) → Contains (map part_explained all) part ↔ HasFailedRun t.plan t.handed part
   pub explained : All (IsExplained t.plan t.handed strength) all

@@ -2,8 +2,8 @@
 
 ghost use Rattle.std.specs.Prelude.{◌≡◌, ◌∷◌, [], true, false};
 ghost use Rattle.hack_process.specs.Commands.{asked_of, command_of};
-ghost use Rattle.hack_session.specs.Performs.{Breaks, Comes, Follows, Makes, is_memory as is_want};
-ghost use Rattle.hack_session.specs.Shown.{Prints, group_shown, manner_of, streams};
+ghost use Rattle.hack_session.specs.StepCalls.{Breaks, EndsOrIsCut, CallsUpToFailure, MakesCalls, is_memory as is_want};
+ghost use Rattle.hack_session.specs.StepOutput.{Prints, group_shown, manner_of, streams};
 
 use crate::screen::Screen;
 use hack_base::writes::Sink;
@@ -17,8 +17,8 @@ pub(crate) fn call<C: Caller>(
     command: &ProcessBuilder<'_>,
     dir: &str,
 ) -> Result<(), ProcessFault>
-    ensures { C.tells → Makes (λ calls.
-        Comes (Follows (asked_of false (command_of command.now) ∷ []) calls)
+    ensures { C.tells → MakesCalls (λ calls.
+        EndsOrIsCut (CallsUpToFailure (asked_of false (command_of command.now) ∷ []) calls)
         (Breaks (asked_of false (command_of command.now) ∷ []) calls) result)
         (C.calls caller.old) (C.calls caller.new) }
 {
@@ -32,8 +32,8 @@ pub(crate) fn call_quietly<C: Caller>(
     command: &ProcessBuilder<'_>,
     dir: &str,
 ) -> Result<(), ProcessFault>
-    ensures { C.tells → Makes (λ calls.
-        Comes (Follows (asked_of true (command_of command.now) ∷ []) calls)
+    ensures { C.tells → MakesCalls (λ calls.
+        EndsOrIsCut (CallsUpToFailure (asked_of true (command_of command.now) ∷ []) calls)
         (Breaks (asked_of true (command_of command.now) ∷ []) calls) result)
         (C.calls caller.old) (C.calls caller.new) }
 {
@@ -52,8 +52,8 @@ pub(crate) fn call_in_group<C: Caller, O: Sink, E: Sink>(
     text: &str,
     dir: &str,
 ) -> Result<(), ProcessFault>
-    ensures made { C.tells → Makes (λ calls.
-        Comes (Follows (asked_of false (command_of command.now) ∷ []) calls)
+    ensures made { C.tells → MakesCalls (λ calls.
+        EndsOrIsCut (CallsUpToFailure (asked_of false (command_of command.now) ∷ []) calls)
         (Breaks (asked_of false (command_of command.now) ∷ []) calls) result)
         (C.calls caller.old) (C.calls caller.new) }
     ensures shown { Prints (λ shown. shown

@@ -29,7 +29,7 @@ impl From<AllocError> for LineFault {
 
 /// A writer of lines. It counts those that it failed to write.
 pub trait Lines {
-    ghost use Rattle.hack_session.specs.Lists.{Counts};
+    ghost use Rattle.hack_session.specs.ListLines.{CountsFailedLine};
 
     /// The bytes that were written, where they are known.
     ghost contents: { Self → Option (List ℕ) };
@@ -45,7 +45,7 @@ pub trait Lines {
 
     /// Writes a text and a line feed.
     fn line<D: fmt::Display + Drop>(&mut self, text: D) -> Result<(), fmt::Error>
-        ensures counted { Counts (failed self.old) (failed self.new) result }
+        ensures counted { CountsFailedLine (failed self.old) (failed self.new) result }
         ensures written { OnOk result (IfSome (with_newline (D.output text))
             (Appends (contents self.old) (contents self.new))) }
         ensures missed { OnErr result (whole → Keeps (contents self.old) (contents self.new)) }

@@ -8,9 +8,9 @@ ghost use Rattle.std.proofs.Common.{◌∙◌, refl};
 ghost use Rattle.hack_process.specs.Commands.{command_of, line_text, listed_text};
 ghost use Rattle.hack_plan.specs.Commands.{clean_command};
 ghost use Rattle.hack_session.specs.Histories.{IsStepOf};
-ghost use Rattle.hack_session.specs.Lists.{CountsLines, ListsAll, is_sent, is_sent_step, line_of};
-ghost use Rattle.hack_session.specs.Lists.{page_of, run_lines, step_lines};
-ghost use Rattle.hack_session.specs.Joins.{listed_more, sent_more};
+ghost use Rattle.hack_session.specs.ListLines.{CountsLines, ListsAll, is_sent, is_sent_step, line_of};
+ghost use Rattle.hack_session.specs.ListLines.{page_of, run_lines_at, step_lines};
+ghost use Rattle.hack_session.specs.JoinedLists.{listed_more, sent_more};
 
 use crate::lines::{LineFault, Lines};
 use crate::runner::Runner;
@@ -126,7 +126,7 @@ fn list_run<W: Lines>(
 ) -> Result<(), LineFault>
     requires { place < length plan.now.entries }
     ensures written { OnOk result (Appends (W.contents out.old) (W.contents out.new)
-        (run_lines plan.now (slice_get plan.now.entries place))) }
+        (run_lines_at plan.now (slice_get plan.now.entries place))) }
     ensures counted { CountsLines (W.failed out.old) (W.failed out.new) result }
     ensures kept { result ≡ Err LineFault.Memory → out.new ≡ out.old }
     ensures left { result ≡ Err LineFault.Unwritten

@@ -3,14 +3,14 @@
 ghost use Rattle.std.specs.Prelude.{◌≡◌, ◌⊎◌, ◌<◌, ◌∷◌, [], IfOk, MatchResult, None, Some, codes};
 ghost use Rattle.std.specs.Prelude.{false, length, option_map, slice_get, string_bytes};
 ghost use Rattle.hack_process.specs.Commands.{asked_of, command_of};
-ghost use Rattle.hack_plan.specs.Commands.{clean_command, command_of_entry, name_in, package_at};
+ghost use Rattle.hack_plan.specs.Commands.{clean_command, command_of_entry, name_in, chosen_package_at};
 ghost use Rattle.hack_session.specs.Histories.{IsStepOf};
-ghost use Rattle.hack_session.specs.Performs.{Breaks, BreaksInstallAt, Comes, Exactly, Follows};
-ghost use Rattle.hack_session.specs.Performs.{InstallsAt, IsCut, Makes, lockfile_commands};
-ghost use Rattle.hack_session.specs.Performs.{number_at, run_commands};
-ghost use Rattle.hack_session.specs.Shown.{Displays, IsPart, IsWhole, Prints, addition_parts};
-ghost use Rattle.hack_session.specs.Shown.{cleaning_shown, manner_of, on_err, parts_of};
-ghost use Rattle.hack_session.specs.Shown.{skip_parts, status_shown, streams};
+ghost use Rattle.hack_session.specs.StepCalls.{Breaks, BreaksInstallAt, EndsOrIsCut, Exactly, CallsUpToFailure};
+ghost use Rattle.hack_session.specs.StepCalls.{InstallsAt, IsCutShort, MakesCalls, lockfile_commands};
+ghost use Rattle.hack_session.specs.StepCalls.{number_at, run_commands};
+ghost use Rattle.hack_session.specs.StepOutput.{Displays, IsSomeFront, IsWhole, Prints, addition_parts};
+ghost use Rattle.hack_session.specs.StepOutput.{cleaning_shown, manner_of, on_err, parts_of};
+ghost use Rattle.hack_session.specs.StepOutput.{skip_parts, status_shown, streams};
 ghost use Rattle.hack_session.specs.declared.step.Outcome.TheVariants.{Passed};
 ghost use Rattle.hack_session.specs.Statuses.{place_status, told_name as name_told};
 
@@ -34,13 +34,13 @@ pub(crate) fn perform<C: Caller, O: Sink, E: Sink>(
     step: Step,
 ) -> Result<(), ProcessFault>
     requires { IsStepOf plan.now step }
-    ensures made { C.tells → Makes (λ calls.
-        Comes (Exactly plan.now step calls) (IsCut plan.now step calls) result)
+    ensures made { C.tells → MakesCalls (λ calls.
+        EndsOrIsCut (Exactly plan.now step calls) (IsCutShort plan.now step calls) result)
         (C.calls caller.old) (C.calls caller.new) }
-    ensures shown { Prints (λ shown. Comes
+    ensures shown { Prints (λ shown. EndsOrIsCut
         (λ outcome. Displays (manner_of screen.old.log_group screen.old.term.now)
         plan.now step outcome shown)
-        (IsPart (parts_of (manner_of screen.old.log_group screen.old.term.now) plan.now step) shown)
+        (IsSomeFront (parts_of (manner_of screen.old.log_group screen.old.term.now) plan.now step) shown)
         result)
         (streams O.contents O.failed E.contents E.failed screen.old.out.now screen.old.err.now)
         (streams O.contents O.failed E.contents E.failed screen.new.out.now screen.new.err.now) }
@@ -73,15 +73,15 @@ fn install<C: Caller, O: Sink, E: Sink>(
     plan: &Plan,
     version: usize,
 ) -> Result<(), ProcessFault>
-    ensures made { C.tells → Makes (λ calls. Comes
+    ensures made { C.tells → MakesCalls (λ calls. EndsOrIsCut
         (InstallsAt plan.now (number_at (slice_get plan.now.versions version)) calls)
         (BreaksInstallAt plan.now (number_at (slice_get plan.now.versions version)) calls) result)
         (C.calls caller.old) (C.calls caller.new) }
-    ensures shown { Prints (λ shown. Comes
+    ensures shown { Prints (λ shown. EndsOrIsCut
         (λ outcome. IsWhole (addition_parts (manner_of screen.old.log_group screen.old.term.now)
         plan.now (number_at (slice_get plan.now.versions version))) shown
         ⊎ ((outcome ≡ Passed) × (plan.now.call.targets ≡ []) × (shown ≡ on_err [])))
-        (IsPart (addition_parts (manner_of screen.old.log_group screen.old.term.now)
+        (IsSomeFront (addition_parts (manner_of screen.old.log_group screen.old.term.now)
         plan.now (number_at (slice_get plan.now.versions version))) shown) result)
         (streams O.contents O.failed E.contents E.failed screen.old.out.now screen.old.err.now)
         (streams O.contents O.failed E.contents E.failed screen.new.out.now screen.new.err.now) }
@@ -125,8 +125,8 @@ fn generate_lockfile<C: Caller>(
     plan: &Plan,
     version: usize,
 ) -> Result<(), ProcessFault>
-    ensures { C.tells → Makes (λ calls. Comes
-        (Follows (lockfile_commands plan.now
+    ensures { C.tells → MakesCalls (λ calls. EndsOrIsCut
+        (CallsUpToFailure (lockfile_commands plan.now
         (number_at (slice_get plan.now.versions version))) calls)
         (Breaks (lockfile_commands plan.now
         (number_at (slice_get plan.now.versions version))) calls) result)
@@ -148,14 +148,14 @@ fn clean_all<C: Caller, O: Sink, E: Sink>(
     screen: &mut Screen<'_, O, E>,
     plan: &Plan,
 ) -> Result<(), ProcessFault>
-    ensures made { C.tells → Makes (λ calls.
-        Comes (Follows (asked_of false (clean_command plan.now.call None) ∷ []) calls)
+    ensures made { C.tells → MakesCalls (λ calls.
+        EndsOrIsCut (CallsUpToFailure (asked_of false (clean_command plan.now.call None) ∷ []) calls)
         (Breaks (asked_of false (clean_command plan.now.call None) ∷ []) calls) result)
         (C.calls caller.old) (C.calls caller.new) }
-    ensures shown { Prints (λ shown. Comes
+    ensures shown { Prints (λ shown. EndsOrIsCut
         (λ _. IsWhole (cleaning_shown (manner_of screen.old.log_group screen.old.term.now)
         plan.now.call.dir (clean_command plan.now.call None) ∷ []) shown)
-        (IsPart (cleaning_shown (manner_of screen.old.log_group screen.old.term.now)
+        (IsSomeFront (cleaning_shown (manner_of screen.old.log_group screen.old.term.now)
         plan.now.call.dir (clean_command plan.now.call None) ∷ []) shown) result)
         (streams O.contents O.failed E.contents E.failed screen.old.out.now screen.old.err.now)
         (streams O.contents O.failed E.contents E.failed screen.new.out.now screen.new.err.now) }
@@ -176,14 +176,14 @@ fn clean<C: Caller, O: Sink, E: Sink>(
     command: &ProcessBuilder<'_>,
     dir: &str,
 ) -> Result<(), ProcessFault>
-    ensures made { C.tells → Makes (λ calls.
-        Comes (Follows (asked_of false (command_of command.now) ∷ []) calls)
+    ensures made { C.tells → MakesCalls (λ calls.
+        EndsOrIsCut (CallsUpToFailure (asked_of false (command_of command.now) ∷ []) calls)
         (Breaks (asked_of false (command_of command.now) ∷ []) calls) result)
         (C.calls caller.old) (C.calls caller.new) }
-    ensures shown { Prints (λ shown. Comes
+    ensures shown { Prints (λ shown. EndsOrIsCut
         (λ _. IsWhole (cleaning_shown (manner_of screen.old.log_group screen.old.term.now)
         dir.now (command_of command.now) ∷ []) shown)
-        (IsPart (cleaning_shown (manner_of screen.old.log_group screen.old.term.now)
+        (IsSomeFront (cleaning_shown (manner_of screen.old.log_group screen.old.term.now)
         dir.now (command_of command.now) ∷ []) shown) result)
         (streams O.contents O.failed E.contents E.failed screen.old.out.now screen.old.err.now)
         (streams O.contents O.failed E.contents E.failed screen.new.out.now screen.new.err.now) }
@@ -207,7 +207,7 @@ fn skip<O: Sink, E: Sink>(
     ensures shown { Prints (λ shown. MatchResult result
         (λ _. IsWhole (skip_parts (manner_of screen.old.log_group screen.old.term.now)
         plan.now place (slice_get plan.now.entries place)) shown)
-        (λ _. IsPart (skip_parts (manner_of screen.old.log_group screen.old.term.now)
+        (λ _. IsSomeFront (skip_parts (manner_of screen.old.log_group screen.old.term.now)
         plan.now place (slice_get plan.now.entries place)) shown))
         (streams O.contents O.failed E.contents E.failed screen.old.out.now screen.old.err.now)
         (streams O.contents O.failed E.contents E.failed screen.new.out.now screen.new.err.now) }
@@ -233,14 +233,14 @@ fn run<C: Caller, O: Sink, E: Sink>(
     place: usize,
 ) -> Result<(), ProcessFault>
     requires { place < length plan.now.entries }
-    ensures made { C.tells → Makes (λ calls.
-        Comes (Follows (run_commands plan.now (slice_get plan.now.entries place)) calls)
+    ensures made { C.tells → MakesCalls (λ calls.
+        EndsOrIsCut (CallsUpToFailure (run_commands plan.now (slice_get plan.now.entries place)) calls)
         (Breaks (run_commands plan.now (slice_get plan.now.entries place)) calls) result)
         (C.calls caller.old) (C.calls caller.new) }
-    ensures shown { Prints (λ shown. Comes
+    ensures shown { Prints (λ shown. EndsOrIsCut
         (λ outcome. Displays (manner_of screen.old.log_group screen.old.term.now)
         plan.now (Step.Run place) outcome shown)
-        (IsPart (parts_of (manner_of screen.old.log_group screen.old.term.now)
+        (IsSomeFront (parts_of (manner_of screen.old.log_group screen.old.term.now)
         plan.now (Step.Run place)) shown) result)
         (streams O.contents O.failed E.contents E.failed screen.old.out.now screen.old.err.now)
         (streams O.contents O.failed E.contents E.failed screen.new.out.now screen.new.err.now) }
@@ -272,16 +272,16 @@ fn run_own<C: Caller, O: Sink, E: Sink>(
 ) -> Result<(), ProcessFault>
     requires place { place < length plan.now.entries }
     requires name { option_map (λ name. name.now) run.now.name
-        ≡ name_in (package_at plan.now.packages run.now.entry.package) }
+        ≡ name_in (chosen_package_at plan.now.packages run.now.entry.package) }
     requires command { command_of run.now.command ≡ command_of_entry plan.now run.now.entry }
-    ensures made { C.tells → Makes (λ calls.
-        Comes (Follows (asked_of false (command_of run.now.command) ∷ []) calls)
+    ensures made { C.tells → MakesCalls (λ calls.
+        EndsOrIsCut (CallsUpToFailure (asked_of false (command_of run.now.command) ∷ []) calls)
         (Breaks (asked_of false (command_of run.now.command) ∷ []) calls) result)
         (C.calls caller.old) (C.calls caller.new) }
-    ensures shown { Prints (λ shown. Comes
+    ensures shown { Prints (λ shown. EndsOrIsCut
         (λ _. IsWhole (status_shown (manner_of screen.old.log_group screen.old.term.now)
         (codes "running") plan.now place run.now.entry ∷ []) shown)
-        (IsPart (status_shown (manner_of screen.old.log_group screen.old.term.now)
+        (IsSomeFront (status_shown (manner_of screen.old.log_group screen.old.term.now)
         (codes "running") plan.now place run.now.entry ∷ []) shown) result)
         (streams O.contents O.failed E.contents E.failed screen.old.out.now screen.old.err.now)
         (streams O.contents O.failed E.contents E.failed screen.new.out.now screen.new.err.now) }
@@ -305,7 +305,7 @@ fn status(
 ) -> Result<String, AllocError>
     requires place { place < length plan.now.entries }
     requires name { option_map (λ name. name.now) run.now.name
-        ≡ name_in (package_at plan.now.packages run.now.entry.package) }
+        ≡ name_in (chosen_package_at plan.now.packages run.now.entry.package) }
     requires command { command_of run.now.command ≡ command_of_entry plan.now run.now.entry }
     ensures { IfOk result (λ text. string_bytes text
         ≡ place_status verb.now verbose plan.now place run.now.entry) }

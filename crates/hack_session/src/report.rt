@@ -4,9 +4,9 @@ ghost use Rattle.std.specs.Prelude.{◌≡◌, ℕ, List, IfOk, Some, filter, op
 ghost use Rattle.std.specs.Prelude.{is_some};
 ghost use Rattle.std.specs.BTreeMap.{get_by_text};
 ghost use Rattle.std.specs.List.{filter_map, flat_map, list_any};
-ghost use Rattle.hack_session.specs.Reports.{IsReport, command_text, group_text, report_text};
+ghost use Rattle.hack_session.specs.Reports.{IsReport, command_text, package_group_text, report_text};
 ghost use Rattle.hack_session.specs.Reports.{failure_of, failure_view, failures_of, is_of};
-ghost use Rattle.hack_session.specs.Reports.{run_at, texts_in, told_text};
+ghost use Rattle.hack_session.specs.Reports.{run_at, texts_under, told_text};
 
 use crate::history::History;
 use crate::session::Session;
@@ -80,7 +80,7 @@ fn group_by_package(
     failures: &[Failure],
 ) -> Result<BTreeMap<String, Vec<String>>, AllocError>
     ensures texts { IfOk result (λ m. (name : List ℕ)
-        → texts_in name m ≡ map told_text (filter (is_of name) (map failure_view failures.now))) }
+        → texts_under name m ≡ map told_text (filter (is_of name) (map failure_view failures.now))) }
     ensures names { IfOk result (λ m. (name : List ℕ) → is_some (get_by_text m name)
         ≡ list_any (is_of name) (map failure_view failures.now)) }
 {
@@ -138,7 +138,7 @@ impl fmt::Display for KeepGoing {
 struct Groups<'a>(&'a BTreeMap<String, Vec<String>>);
 
 impl fmt::Display for Groups<'_> {
-    ghost output = { λ g. Some (flat_map group_text g.0.now.entries) };
+    ghost output = { λ g. Some (flat_map package_group_text g.0.now.entries) };
 
     fn fmt<W: fmt::Write>(&self, f: &mut fmt::Formatter<W>) -> fmt::Result {
         for (name, texts) in self.0 {

@@ -4,10 +4,10 @@ ghost use Rattle.std.specs.Prelude.{◌≡◌, ◌≢◌, ◌∷◌, ◌⊎◌, 
 ghost use Rattle.std.specs.Prelude.{false, map, not, string_bytes, true};
 ghost use Rattle.hack_process.specs.Commands.{asked_of, command_of};
 ghost use Rattle.hack_session.specs.declared.step.Outcome.TheVariants.{Passed};
-ghost use Rattle.hack_session.specs.Performs.{Breaks, BreaksInstall, Comes, Fails, Follows};
-ghost use Rattle.hack_session.specs.Performs.{Installs, Makes};
-ghost use Rattle.hack_session.specs.Shown.{IsPart, IsWhole, Prints, addition_shown, manner_of};
-ghost use Rattle.hack_session.specs.Shown.{on_err, streams};
+ghost use Rattle.hack_session.specs.StepCalls.{Breaks, BreaksInstall, EndsOrIsCut, Fails, CallsUpToFailure};
+ghost use Rattle.hack_session.specs.StepCalls.{Installs, MakesCalls};
+ghost use Rattle.hack_session.specs.StepOutput.{IsSomeFront, IsWhole, Prints, addition_shown, manner_of};
+ghost use Rattle.hack_session.specs.StepOutput.{on_err, streams};
 ghost use Rattle.hack_session.specs.Toolchains.{addition_of, toolchain_name, trial_of};
 
 use crate::calls::{call_in_group, call_quietly, is_memory};
@@ -29,7 +29,7 @@ pub fn install_toolchain<C: Caller, O: Sink, E: Sink>(
     print_output: bool,
     dir: &str,
 ) -> Result<(), ProcessFault>
-    ensures made { C.tells → Makes (λ calls. Comes
+    ensures made { C.tells → MakesCalls (λ calls. EndsOrIsCut
         (Installs (map string_bytes target.now)
         (asked_of true (trial_of rustup.now (toolchain_name toolchain.now)))
         (asked_of (not print_output) (addition_of rustup.now (toolchain_name toolchain.now)
@@ -40,12 +40,12 @@ pub fn install_toolchain<C: Caller, O: Sink, E: Sink>(
         (map string_bytes target.now))) calls) result)
         (C.calls caller.old) (C.calls caller.new) }
     ensures quiet { print_output ≡ false → screen.new ≡ screen.old }
-    ensures shown { print_output ≡ true → Prints (λ shown. Comes
+    ensures shown { print_output ≡ true → Prints (λ shown. EndsOrIsCut
         (λ outcome. IsWhole (addition_shown (manner_of screen.old.log_group screen.old.term.now)
         dir.now (addition_of rustup.now (toolchain_name toolchain.now)
         (map string_bytes target.now)) ∷ []) shown
         ⊎ ((outcome ≡ Passed) × (map string_bytes target.now ≡ []) × (shown ≡ on_err [])))
-        (IsPart (addition_shown (manner_of screen.old.log_group screen.old.term.now)
+        (IsSomeFront (addition_shown (manner_of screen.old.log_group screen.old.term.now)
         dir.now (addition_of rustup.now (toolchain_name toolchain.now)
         (map string_bytes target.now)) ∷ []) shown) result)
         (streams O.contents O.failed E.contents E.failed screen.old.out.now screen.old.err.now)
@@ -74,18 +74,18 @@ pub(crate) fn try_toolchain<C: Caller, O: Sink, E: Sink>(
     print_output: bool,
     dir: &str,
 ) -> Result<(), ProcessFault>
-    ensures made { C.tells → Makes (λ calls. Comes
+    ensures made { C.tells → MakesCalls (λ calls. EndsOrIsCut
         (Installs [] (asked_of true (command_of trial.now))
         (asked_of (not print_output) (command_of add.now)) calls)
         (BreaksInstall [] (asked_of true (command_of trial.now))
         (asked_of (not print_output) (command_of add.now)) calls) result)
         (C.calls caller.old) (C.calls caller.new) }
     ensures quiet { print_output ≡ false → screen.new ≡ screen.old }
-    ensures shown { print_output ≡ true → Prints (λ shown. Comes
+    ensures shown { print_output ≡ true → Prints (λ shown. EndsOrIsCut
         (λ outcome. IsWhole (addition_shown (manner_of screen.old.log_group screen.old.term.now)
         dir.now (command_of add.now) ∷ []) shown
         ⊎ ((outcome ≡ Passed) × (shown ≡ on_err [])))
-        (IsPart (addition_shown (manner_of screen.old.log_group screen.old.term.now)
+        (IsSomeFront (addition_shown (manner_of screen.old.log_group screen.old.term.now)
         dir.now (command_of add.now) ∷ []) shown) result)
         (streams O.contents O.failed E.contents E.failed screen.old.out.now screen.old.err.now)
         (streams O.contents O.failed E.contents E.failed screen.new.out.now screen.new.err.now) }
@@ -114,15 +114,15 @@ pub(crate) fn add_toolchain<C: Caller, O: Sink, E: Sink>(
     print_output: bool,
     dir: &str,
 ) -> Result<(), ProcessFault>
-    ensures made { C.tells → Makes (λ calls. Comes
-        (Follows (asked_of (not print_output) (command_of add.now) ∷ []) calls)
+    ensures made { C.tells → MakesCalls (λ calls. EndsOrIsCut
+        (CallsUpToFailure (asked_of (not print_output) (command_of add.now) ∷ []) calls)
         (Breaks (asked_of (not print_output) (command_of add.now) ∷ []) calls) result)
         (C.calls caller.old) (C.calls caller.new) }
     ensures quiet { print_output ≡ false → screen.new ≡ screen.old }
-    ensures shown { print_output ≡ true → Prints (λ shown. Comes
+    ensures shown { print_output ≡ true → Prints (λ shown. EndsOrIsCut
         (λ _. IsWhole (addition_shown (manner_of screen.old.log_group screen.old.term.now)
         dir.now (command_of add.now) ∷ []) shown)
-        (IsPart (addition_shown (manner_of screen.old.log_group screen.old.term.now)
+        (IsSomeFront (addition_shown (manner_of screen.old.log_group screen.old.term.now)
         dir.now (command_of add.now) ∷ []) shown) result)
         (streams O.contents O.failed E.contents E.failed screen.old.out.now screen.old.err.now)
         (streams O.contents O.failed E.contents E.failed screen.new.out.now screen.new.err.now) }

@@ -4,11 +4,11 @@ ghost use Rattle.std.specs.Prelude.{◌≡◌, ◌⊎◌, All, List, ℕ, true};
 ghost use Rattle.std.proofs.Common.{◌∙◌, refl, inl};
 ghost use Rattle.hack_base.specs.Writes.{Writes};
 ghost use Rattle.hack_session.specs.Histories.{HasPassed};
-ghost use Rattle.hack_session.specs.Performs.{HasPerformed, HasTold};
-ghost use Rattle.hack_session.specs.Joined.{performed_none, performed_more, none_passed, passed_or};
-ghost use Rattle.hack_session.specs.JoinedShown.{error_alone, manner_stays, shown_more};
-ghost use Rattle.hack_session.specs.JoinedShown.{shown_none};
-ghost use Rattle.hack_session.specs.Shown.{HasShown, is_run as is_run_step, manner_of, streams};
+ghost use Rattle.hack_session.specs.StepCalls.{HasPerformed, HasTold};
+ghost use Rattle.hack_session.specs.JoinedCalls.{performed_none, performed_more, none_passed, passed_or};
+ghost use Rattle.hack_session.specs.JoinedOutput.{error_alone, manner_stays, shown_more};
+ghost use Rattle.hack_session.specs.JoinedOutput.{shown_none};
+ghost use Rattle.hack_session.specs.StepOutput.{HasShown, is_run as is_run_step, manner_of, streams};
 ghost use Rattle.hack_term.specs.Lines.{error_line};
 
 use crate::calls::is_memory;

@@ -10,10 +10,10 @@ ghost use Rattle.hack_features.specs.Feature.{groups_of};
 ghost use Rattle.hack_plan.specs.Commands.{name_in};
 ghost use Rattle.hack_samples.specs.Sets.{rows_of};
 ghost use Rattle.hack_session.specs.Suspects.{explained_view};
-ghost use Rattle.hack_session.specs.SuspectNotes.{candidates_in, has_setting, heading_text, info};
-ghost use Rattle.hack_session.specs.SuspectNotes.{lines_of, more_text, most_lines, notes_of};
-ghost use Rattle.hack_session.specs.SuspectNotes.{notes_on, place_text, setting_text, state_text};
-ghost use Rattle.hack_session.specs.SuspectNotes.{suspect_text, target_words, too_many_text};
+ghost use Rattle.hack_session.specs.SuspectNotes.{package_candidates, has_setting, heading_text, info};
+ghost use Rattle.hack_session.specs.SuspectNotes.{suspect_lines, more_text, most_lines, notes_of};
+ghost use Rattle.hack_session.specs.SuspectNotes.{suspect_notes_on, place_text, setting_text, state_text};
+ghost use Rattle.hack_session.specs.SuspectNotes.{suspect_text, for_target_text, too_many_text};
 ghost use Rattle.hack_session.specs.SuspectNotes.{version_words};
 
 use crate::suspects::{Explained, Part};
@@ -36,7 +36,7 @@ pub fn suspect_notes(
     explained: &[Explained],
 ) -> Result<Vec<Notice>, AllocError>
     ensures { IfOk result (λ notices. map note_of notices.items
-        ≡ flat_map (notes_on plan.now) (map explained_view explained.now)) }
+        ≡ flat_map (suspect_notes_on plan.now) (map explained_view explained.now)) }
 {
     let mut notices = Vec::new(alloc);
     for one in explained {
@@ -53,7 +53,7 @@ fn add_notes(
     notices: &mut Vec<Notice>,
 ) -> Result<(), AllocError>
     ensures { OnOk result (AddsNotes notices.old notices.new
-        (notes_on plan.now (explained_view one.now))) }
+        (suspect_notes_on plan.now (explained_view one.now))) }
 {
     match &one.suspects {
         Some(found) => add_found(alloc, plan, one.part, found.as_slice(), notices),
@@ -72,7 +72,7 @@ fn add_found(
     ensures { OnOk result (AddsNotes notices.old notices.new
         (if list_any has_setting (rows_of found.now)
         then info (heading_text plan.now part)
-        ∷ lines_of (candidates_in (slice_get plan.now.packages part.package)) (rows_of found.now)
+        ∷ suspect_lines (package_candidates (slice_get plan.now.packages part.package)) (rows_of found.now)
         else [])) }
 {
     if !has_setting(found) {
@@ -102,7 +102,7 @@ fn add_lines(
     notices: &mut Vec<Notice>,
 ) -> Result<(), AllocError>
     ensures { OnOk result (AddsNotes notices.old notices.new
-        (lines_of (groups_of candidates.now) (rows_of found.now))) }
+        (suspect_lines (groups_of candidates.now) (rows_of found.now))) }
 {
     add_suspects(alloc, candidates, first_ones(found), notices)?;
     add_more(alloc, found.len(), notices)
@@ -207,7 +207,7 @@ fn name_in(plan: &Plan, place: usize) -> &str
 
 /// The candidates of a package.
 fn candidates_in(plan: &Plan, place: usize) -> &[Feature]
-    ensures { groups_of result.now ≡ candidates_in (slice_get plan.now.packages place) }
+    ensures { groups_of result.now ≡ package_candidates (slice_get plan.now.packages place) }
 {
     match plan.packages().get(place) {
         Some(member) => member.candidates.as_slice(),
@@ -228,7 +228,7 @@ fn version_words(alloc: Global, version: Option<Version>) -> Result<String, Allo
 /// The target of runs, where their slot has one of its own.
 fn target_words(alloc: Global, target: Option<&str>) -> Result<String, AllocError>
     ensures { IfOk result (λ text. string_bytes text
-        ≡ target_words (option_map (λ text. text.now) target.entry)) }
+        ≡ for_target_text (option_map (λ text. text.now) target.entry)) }
 {
     match target {
         Some(target) => format!(in alloc; " for {target}"),

@@ -8,9 +8,9 @@ ghost use Rattle.std.specs.List.{slice_index_or};
 ghost use Rattle.hack_samples.specs.Sets.{rows_of};
 ghost use Rattle.hack_suspects.specs.Suspects.{outcomes_of};
 ghost use Rattle.hack_session.specs.Suspects.{AddsOnce, AreExplained, AreFound, AreOutcomes};
-ghost use Rattle.hack_session.specs.Suspects.{FailsBefore, HasFailed, IsExplained, count_in};
+ghost use Rattle.hack_session.specs.Suspects.{FailsBefore, HasFailedRun, IsExplained, candidate_count};
 ghost use Rattle.hack_session.specs.Suspects.{explained_view, is_failed, part_at, part_explained};
-ghost use Rattle.hack_session.specs.Suspects.{part_of, entry_of, settings_in};
+ghost use Rattle.hack_session.specs.Suspects.{part_of, plan_entry_of, settings_in};
 
 use crate::session::Session;
 use crate::step::{Handed, Outcome, Step};
@@ -60,7 +60,7 @@ fn failed_parts(alloc: Global, session: &Session) -> Result<Vec<Part>, AllocErro
     ensures ordered { IfOk result (λ parts.
         AllPairs (FailsBefore session.now.plan session.now.handed) parts.items) }
     ensures exactly { IfOk result (λ parts. (part : Part) → Contains parts.items part
-        ↔ HasFailed session.now.plan session.now.handed part) }
+        ↔ HasFailedRun session.now.plan session.now.handed part) }
 {
     let mut parts = Vec::new(alloc);
     for one in session.handed() {
@@ -73,7 +73,7 @@ fn failed_parts(alloc: Global, session: &Session) -> Result<Vec<Part>, AllocErro
 fn add_failed(plan: &Plan, handed: Handed, parts: &mut Vec<Part>) -> Result<(), AllocError>
     ensures once { OnOk result (AddsOnce parts.old.items parts.new.items) }
     ensures exactly { OnOk result ((part : Part) → Contains parts.new.items part
-        ↔ (Contains parts.old.items part ⊎ HasFailed plan.now (handed ∷ []) part)) }
+        ↔ (Contains parts.old.items part ⊎ HasFailedRun plan.now (handed ∷ []) part)) }
 {
     if !is_failed(handed.outcome) {
         return Ok(());
@@ -242,7 +242,7 @@ fn part_at(plan: &Plan, handed: Handed) -> Option<Part>
 
 /// The version, slot, package and rank of a step that is a run.
 fn entry_of(plan: &Plan, step: Step) -> Option<PlanEntry>
-    ensures { result ≡ entry_of plan.now step }
+    ensures { result ≡ plan_entry_of plan.now step }
 {
     match step {
         Step::Run(place) => entry_at(plan, place),
@@ -293,7 +293,7 @@ fn row_at(rows: &[Vec<bool>], place: usize) -> &[bool]
 
 /// How many candidates a package has.
 fn candidates_in(plan: &Plan, place: usize) -> usize
-    ensures { result ≡ count_in (slice_get plan.now.packages place) }
+    ensures { result ≡ candidate_count (slice_get plan.now.packages place) }
 {
     match plan.packages().get(place) {
         Some(member) => member.candidates.len(),

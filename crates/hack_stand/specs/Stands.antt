@@ -6,7 +6,7 @@ use Rattle.hack_files.specs.Files.{Contents, GrowsBy, KeepsAll, KeepsOthers}
 use Rattle.hack_files.specs.declared.fs.FsFault.{FsFault}
 use Rattle.hack_files.specs.declared.fs.FsFault.TheVariants.{Read, Write, NotText, Memory}
 use Rattle.hack_stand.specs.declared.stand.Tool.{Tool}
-use Rattle.hack_stand.specs.Words.{has_line, line_of, printed_by}
+use Rattle.hack_stand.specs.Words.{has_line, arguments_line, printed_by}
 
 -- a file of a folder
 abbrev pub file_in : List ℕ → List ℕ → List ℕ
@@ -31,7 +31,7 @@ pub record Notes (dir line : List ℕ) (old new : Contents) (output : List ℕ) 
   pub ended : status ≡ noted_status dir line old
 
 -- a file is printed, and all files are unchanged
-pub record Prints (dir name : List ℕ) (old new : Contents) (output : List ℕ) (status : ℕ)
+pub record PrintsFile (dir name : List ℕ) (old new : Contents) (output : List ℕ) (status : ℕ)
     : Type 0 where
   pub printed : old (file_in dir name) ≡ Some output
   pub kept : KeepsAll old new
@@ -40,8 +40,8 @@ pub record Prints (dir name : List ℕ) (old new : Contents) (output : List ℕ)
 -- what a stand-in does with its arguments in a folder: it prints a file, or records the call
 abbrev pub Stands : Tool → List ℕ → List (List ℕ) → Contents → Contents → List ℕ → ℕ → Type 0
 Stands tool dir words old new output status = MatchOption (printed_by tool words)
-    (Notes dir (line_of words) old new output status)
-    (λ name. Prints dir name old new output status)
+    (Notes dir (arguments_line words) old new output status)
+    (λ name. PrintsFile dir name old new output status)
 
 -- the path is a file of this folder
 abbrev pub IsIn : List ℕ → List ℕ → Type 0

@@ -36,8 +36,8 @@ printed_by tool words =
     else (if has_word (codes "locate-project") words then Some (codes "locate.json") else None)))
 
 -- arguments on one line
-abbrev pub line_of : List (List ℕ) → List ℕ
-line_of words = join_by (λ word. word) (codes " ") words
+abbrev pub arguments_line : List (List ℕ) → List ℕ
+arguments_line words = join_by (λ word. word) (codes " ") words
 
 -- a text has this line
 abbrev pub has_line : List ℕ → List ℕ → Bool

@@ -3,7 +3,7 @@
 
 ghost use Rattle.std.specs.Prelude.{◌≡◌, ◌≢◌, IfOk, drop};
 ghost use Rattle.std.specs.Vec.Iter.{into_iter_items};
-ghost use Rattle.hack_stand.specs.Calls.{Answers};
+ghost use Rattle.hack_stand.specs.Calls.{AnswersArguments};
 
 use crate::stand::{Tool, stand};
 use hack_files::fs::{Files, FsFault};
@@ -46,7 +46,7 @@ pub fn call<F: Files, O: Write, E: Write>(
     out: &mut O,
     err: &mut E,
 ) -> u8
-    ensures { result ≢ 2 → Answers tool F.tells dir arguments (F.bytes_at files.old)
+    ensures { result ≢ 2 → AnswersArguments tool F.tells dir arguments (F.bytes_at files.old)
         (F.bytes_at files.new) (O.contents out.old) (O.contents out.new) result }
 {
     match answer(alloc, tool, files, dir, arguments, out) {
@@ -67,7 +67,7 @@ fn answer<F: Files, O: Write>(
     arguments: io::Result<Args>,
     out: &mut O,
 ) -> Result<u8, CallFault>
-    ensures { IfOk result (Answers tool F.tells dir arguments (F.bytes_at files.old)
+    ensures { IfOk result (AnswersArguments tool F.tells dir arguments (F.bytes_at files.old)
         (F.bytes_at files.new) (O.contents out.old) (O.contents out.new)) }
 {
     let Ok(dir) = dir else {

@@ -6,10 +6,10 @@
 ghost use Rattle.std.specs.Prelude.{◌≡◌, ◌++◌, IfOk, IfErr, OnOk, Some, map, string_bytes, codes};
 ghost use Rattle.std.specs.Prelude.{option_copied};
 ghost use Rattle.hack_files.specs.Files.{GrowsBy, KeepsAll, KeepsOthers};
-ghost use Rattle.hack_stand.specs.Words.{ends_with_word, has_line, has_word, is_lone_word, line_of};
+ghost use Rattle.hack_stand.specs.Words.{ends_with_word, has_line, has_word, is_lone_word, arguments_line};
 ghost use Rattle.hack_stand.specs.Words.{printed_by};
 ghost use Rattle.hack_stand.specs.Stands.{IsDeviceFault, IsFailedRead, IsStandFault, Notes};
-ghost use Rattle.hack_stand.specs.Stands.{Prints, Stands, file_in, held_or_none, noted_status};
+ghost use Rattle.hack_stand.specs.Stands.{PrintsFile, Stands, file_in, held_or_none, noted_status};
 
 use hack_files::fs;
 use hack_files::fs::{FileFault, Files, FsFault};
@@ -109,7 +109,7 @@ fn path_of(alloc: Global, dir: &str, name: &str) -> Result<String, AllocError>
 
 /// Prints a file of the folder.
 fn print<F: Files>(alloc: Global, files: &mut F, dir: &str, name: &str) -> Result<Stood, FsFault>
-    ensures ok { IfOk result (λ stood. F.tells → Prints dir.now name.now (F.bytes_at files.old)
+    ensures ok { IfOk result (λ stood. F.tells → PrintsFile dir.now name.now (F.bytes_at files.old)
         (F.bytes_at files.new) stood.output.items stood.status) }
     ensures counted { OnOk result (GrowsBy 0 (F.failed files.old) (F.failed files.new)) }
     ensures err { IfErr result (IsStandFault dir.now F.tells (F.bytes_at files.old)
@@ -128,7 +128,7 @@ fn note<F: Files>(
     words: &[String],
 ) -> Result<Stood, FsFault>
     ensures ok { IfOk result (λ stood. F.tells →
-        Notes dir.now (line_of (map string_bytes words.now)) (F.bytes_at files.old)
+        Notes dir.now (arguments_line (map string_bytes words.now)) (F.bytes_at files.old)
         (F.bytes_at files.new) stood.output.items stood.status) }
     ensures counted { OnOk result (GrowsBy 0 (F.failed files.old) (F.failed files.new)) }
     ensures err { IfErr result (IsStandFault dir.now F.tells (F.bytes_at files.old)
@@ -145,7 +145,7 @@ fn note<F: Files>(
 
 /// Arguments on one line.
 fn joined(alloc: Global, words: &[String]) -> Result<String, AllocError>
-    ensures { IfOk result (λ line. string_bytes line ≡ line_of (map string_bytes words.now)) }
+    ensures { IfOk result (λ line. string_bytes line ≡ arguments_line (map string_bytes words.now)) }
 {
     words.join(alloc, " ")
 }

@@ -3,7 +3,7 @@ use Rattle.std.proofs.Common.{◌≡◌, ℕ, zero, suc, ◌+◌, ◌<◌, ◌�
 use Rattle.std.specs.Prelude.{slice_get, Option, Some, None}
 use Rattle.std.proofs.lemmas.List.Edits.{length-remove}
 use Rattle.std.proofs.lemmas.List.Elements.{All-nil, All-cons, All-head, All-tail, Contains-push, Contains-push_cases, Contains-append_cases, Contains-append_left, Contains-append_right}
-use Rattle.hack_suspects.specs.Suspects.{Outcome, RowShows, IsShown, IsSuspicious, Rises, IsPart}
+use Rattle.hack_suspects.specs.Suspects.{RunOutcome, RowShows, IsShown, IsSuspicious, Rises, IsPart}
 use Rattle.hack_suspects.specs.Faults.{FailBy, FaultsAreFound, HasSuspect}
 use Rattle.hack_samples.specs.declared.sets.Setting.{Setting}
 use Rattle.hack_samples.proofs.SetLemmas.{told, not_both}
@@ -32,7 +32,7 @@ row-or-not row (x ∷ pattern) =
     ]
 
 -- the first run, or one of the others
-first-or-later : (o : Outcome) (outcomes : List Outcome) (u : Outcome) → Contains (o ∷ outcomes) u → (o ≡ u) ⊎ Contains outcomes u
+first-or-later : (o : RunOutcome) (outcomes : List RunOutcome) (u : RunOutcome) → Contains (o ∷ outcomes) u → (o ≡ u) ⊎ Contains outcomes u
 first-or-later o outcomes u h =
     elim (Contains-append_cases (o ∷ []) outcomes u h) [
       | inr w ↦ inr w
@@ -40,19 +40,19 @@ first-or-later o outcomes u h =
     ]
 
 -- if the first run doesn't show the pattern, a passed one of the others does or none does
-later-or-not : (o : Outcome) (outcomes : List Outcome) (pattern : List Setting) → ((o.failed ≡ false) → RowShows o.on pattern → ⊥) → IsShown false outcomes pattern ⊎ (IsShown false outcomes pattern → ⊥)
+later-or-not : (o : RunOutcome) (outcomes : List RunOutcome) (pattern : List Setting) → ((o.failed ≡ false) → RowShows o.on pattern → ⊥) → IsShown false outcomes pattern ⊎ (IsShown false outcomes pattern → ⊥)
     → IsShown false (o ∷ outcomes) pattern ⊎ (IsShown false (o ∷ outcomes) pattern → ⊥)
 later-or-not o outcomes pattern not later =
     elim later [
       | inl h ↦ inl (record { by = h.by; among = Contains-append_right (o ∷ []) outcomes h.by h.among; ended = h.ended; shows = h.shows })
       | inr none ↦ inr (λ h. elim (first-or-later o outcomes h.by h.among) [
-        | inl e ↦ not (ap (λ (r : Outcome). r.failed) e ∙ h.ended) (subst (λ (r : Outcome). RowShows r.on pattern) (sym e) h.shows)
+        | inl e ↦ not (ap (λ (r : RunOutcome). r.failed) e ∙ h.ended) (subst (λ (r : RunOutcome). RowShows r.on pattern) (sym e) h.shows)
         | inr w ↦ none (record { by = h.by; among = w; ended = h.ended; shows = h.shows })
       ])
     ]
 
 -- a passed run shows a pattern or none does
-passed-or-not : (outcomes : List Outcome) (pattern : List Setting) → IsShown false outcomes pattern ⊎ (IsShown false outcomes pattern → ⊥)
+passed-or-not : (outcomes : List RunOutcome) (pattern : List Setting) → IsShown false outcomes pattern ⊎ (IsShown false outcomes pattern → ⊥)
 passed-or-not [] pattern = inr (λ h. omega (arith, h.among.1))
 passed-or-not (o ∷ outcomes) pattern =
     elim (told o.failed) [
@@ -64,11 +64,11 @@ passed-or-not (o ∷ outcomes) pattern =
     ]
 
 -- for each of the first n settings a passed run shows the pattern without it, or for one none does
-abbrev Tried : List Outcome → List Setting → ℕ → Type 0
+abbrev Tried : List RunOutcome → List Setting → ℕ → Type 0
 Tried outcomes pattern n =
     ((place : ℕ) → place < n → IsShown false outcomes (remove pattern place)) ⊎ ((place : ℕ) × (place < n) × (IsShown false outcomes (remove pattern place) → ⊥))
 
-tried : (outcomes : List Outcome) (pattern : List Setting) (n : ℕ) → Tried outcomes pattern n
+tried : (outcomes : List RunOutcome) (pattern : List Setting) (n : ℕ) → Tried outcomes pattern n
 tried outcomes pattern zero = inl (λ place lt. absurd (omega arith))
 tried outcomes pattern (suc n) =
     elim (tried outcomes pattern n) [
@@ -86,7 +86,7 @@ tried outcomes pattern (suc n) =
     ]
 
 -- a suspicious pattern is a suspect or has one as a part
-has-suspect : (size : ℕ) (outcomes : List Outcome) (n t : ℕ) (pattern : List Setting) → length pattern ≤ size → Rises 0 n pattern → length pattern ≤ t → IsSuspicious outcomes pattern → HasSuspect outcomes n t pattern
+has-suspect : (size : ℕ) (outcomes : List RunOutcome) (n t : ℕ) (pattern : List Setting) → length pattern ≤ size → Rises 0 n pattern → length pattern ≤ t → IsSuspicious outcomes pattern → HasSuspect outcomes n t pattern
 has-suspect zero outcomes n t pattern le rises small suspicious = record {
   part = pattern;
   inside = part-self pattern;
@@ -103,7 +103,7 @@ has-suspect (suc size) outcomes n t pattern le rises small suspicious =
           record { part = less.part; inside = part-then less.part (remove pattern w.0) pattern less.inside inside; suspect = less.suspect }
     ]
 
-pub faults-found : (outcomes : List Outcome) (n t : ℕ) (faults : List (List Setting)) → FailBy faults outcomes → FaultsAreFound outcomes n t faults
+pub faults-found : (outcomes : List RunOutcome) (n t : ℕ) (faults : List (List Setting)) → FailBy faults outcomes → FaultsAreFound outcomes n t faults
 faults-found outcomes n t faults by = λ fault among rises small run chosen shows.
     has-suspect (length fault) outcomes n t fault (omega arith) rises small (record {
       failed = record { by = run; among = chosen; ended = (by run chosen).1 (record { fault = fault; among = among; shows = shows }); shows = shows };

@@ -3,7 +3,7 @@ use Rattle.std.proofs.Common.{◌≡◌, ℕ, zero, suc, ◌+◌, ◌<◌, ◌�
 use Rattle.std.specs.Prelude.{slice_get, Some, MatchBool}
 use Rattle.std.proofs.lemmas.List.{get_or_default}
 use Rattle.std.proofs.lemmas.List.Elements.{All-append, All-cons, All-head, All-tail, All-nil, All-contains, Contains-append_right, Contains-get_or}
-use Rattle.hack_suspects.specs.Suspects.{RowShows, Rises, IsPart, Precedes, DiffersBefore, IsBefore}
+use Rattle.hack_suspects.specs.Suspects.{RowShows, Rises, IsPart, Precedes, DiffersBefore, IsPatternBefore}
 use Rattle.hack_suspects.specs.Walks.{PatternFits}
 use Rattle.hack_samples.specs.declared.sets.Setting.{Setting}
 use Rattle.hack_samples.proofs.SetLemmas.{not_both}
@@ -148,7 +148,7 @@ differs_trans (a ∷ p) (b ∷ q) (c ∷ r) h k =
       ]
     ]
 
-pub before_trans : (p q r : List Setting) → IsBefore p q → IsBefore q r → IsBefore p r
+pub before_trans : (p q r : List Setting) → IsPatternBefore p q → IsPatternBefore q r → IsPatternBefore p r
 before_trans p q r h k =
     elim h [
       | inl lt ↦ elim k [
@@ -175,28 +175,28 @@ differs-at (a ∷ p) (b ∷ q) (suc i) d lt lt' same h =
     inr (head-same a b (take i p) (take i q) same, differs-at p q i d (omega arith) (omega arith) (tail-same a b (take i p) (take i q) same) h)
 
 -- one more of the patterns is before p
-pub front-more : (found : List (List Setting)) (p q : List Setting) (i : ℕ) → get_or found i q ≡ q → i < length found → ((k : ℕ) (d : List Setting) → k < i → IsBefore (get_or found k d) p) → IsBefore q p
-    → (k : ℕ) (d : List Setting) → k < i + 1 → IsBefore (get_or found k d) p
+pub front-more : (found : List (List Setting)) (p q : List Setting) (i : ℕ) → get_or found i q ≡ q → i < length found → ((k : ℕ) (d : List Setting) → k < i → IsPatternBefore (get_or found k d) p) → IsPatternBefore q p
+    → (k : ℕ) (d : List Setting) → k < i + 1 → IsPatternBefore (get_or found k d) p
 front-more found p q i at lt before now k d below =
     elim (three k i) [
       | inl less ↦ before k d less
       | inr w ↦ elim w [
-        | inl e ↦ subst (λ l. IsBefore l p) (sym (ap (λ j. get_or found j d) e ∙ get_or_default found i d q lt ∙ at)) now
+        | inl e ↦ subst (λ l. IsPatternBefore l p) (sym (ap (λ j. get_or found j d) e ∙ get_or_default found i d q lt ∙ at)) now
         | inr more ↦ absurd (omega arith)
       ]
     ]
 
 -- if p is before the pattern at the place, it is before all later ones, and belongs at the place
-pub fits-here : (found : List (List Setting)) (p q : List Setting) (i : ℕ) → get_or found i q ≡ q → i < length found → AllPairs IsBefore found → ((k : ℕ) (d : List Setting) → k < i → IsBefore (get_or found k d) p) → IsBefore p q
+pub fits-here : (found : List (List Setting)) (p q : List Setting) (i : ℕ) → get_or found i q ≡ q → i < length found → AllPairs IsPatternBefore found → ((k : ℕ) (d : List Setting) → k < i → IsPatternBefore (get_or found k d) p) → IsPatternBefore p q
     → PatternFits found p i
 fits-here found p q i at lt ordered front now = record {
   within = omega arith;
   in_front = front;
   later = λ k d le below.
       elim (three i k) [
-        | inl less ↦ before_trans p q (get_or found k d) now (subst (λ l. IsBefore l (get_or found k d)) (get_or_default found i d q lt ∙ at) (ordered i k d less below))
+        | inl less ↦ before_trans p q (get_or found k d) now (subst (λ l. IsPatternBefore l (get_or found k d)) (get_or_default found i d q lt ∙ at) (ordered i k d less below))
         | inr w ↦ elim w [
-          | inl e ↦ subst (IsBefore p) (sym (ap (λ j. get_or found j d) (sym e) ∙ get_or_default found i d q lt ∙ at)) now
+          | inl e ↦ subst (IsPatternBefore p) (sym (ap (λ j. get_or found j d) (sym e) ∙ get_or_default found i d q lt ∙ at)) now
           | inr more ↦ absurd (omega arith)
         ]
       ];

@@ -5,7 +5,7 @@ use Rattle.std.proofs.lemmas.List.{append-nil, length-map, get_or-map, map_more}
 use Rattle.std.proofs.lemmas.List.Edits.{length-remove}
 use Rattle.std.proofs.lemmas.List.Elements.{All-contains, Contains-get_or, Contains-push, Contains-push_cases, Contains-append_left, Contains-append_right}
 use Rattle.std.proofs.lemmas.Option.{same_Some}
-use Rattle.hack_suspects.specs.Suspects.{Outcome, outcomes_of, RowShows, IsShown, IsSuspicious, Rises, IsPart, IsSuspect, IsBefore, AreSuspects}
+use Rattle.hack_suspects.specs.Suspects.{RunOutcome, outcomes_of, RowShows, IsShown, IsSuspicious, Rises, IsPart, IsSuspect, IsPatternBefore, AreSuspects}
 use Rattle.hack_suspects.specs.Walks.{IsFailedRow, AreSomeSuspects, FindsFrom, PatternsAreKept}
 use Rattle.hack_suspects.specs.declared.suspect.Outcome.{Outcome as Run}
 use Rattle.hack_samples.specs.declared.sets.Setting.{Setting}
@@ -18,13 +18,13 @@ among pattern x rest = Contains-append_right pattern (x ∷ rest) x (Contains-ap
 -- the run at a place is one of them
 pub run-among : (runs : List Run) (i : ℕ) (run : Run) → i < length runs → run ≡ get_or runs i run → Contains (outcomes_of runs) (record { on = run.on.items; failed = run.failed })
 run-among runs i run lt is =
-    let plain : Run → Outcome = λ r. record { on = r.on.items; failed = r.failed } in
+    let plain : Run → RunOutcome = λ r. record { on = r.on.items; failed = r.failed } in
     let below : i < length (outcomes_of runs) = omega (arith, lt, length-map runs plain) in
     subst (Contains (outcomes_of runs)) (get_or-map plain runs i run (plain run) lt ∙ ap plain (sym is)) (Contains-get_or (outcomes_of runs) i (plain run) below)
 
 pub runs-more : (runs : List Run) (i : ℕ) (run : Run) → i < length runs → run ≡ get_or runs i run → outcomes_of (take (i + 1) runs) ≡ outcomes_of (take i runs) ++ record { on = run.on.items; failed = run.failed } ∷ []
 runs-more runs i run lt is =
-    let plain : Run → Outcome = λ r. record { on = r.on.items; failed = r.failed } in
+    let plain : Run → RunOutcome = λ r. record { on = r.on.items; failed = r.failed } in
     map_more plain runs i run lt ∙ ap (λ r. outcomes_of (take i runs) ++ plain r ∷ []) (sym is)
 
 pub on_ok_both : {T E P Q R : Type 0} (r : Result T E) → (P → Q → R) → OnOk r P → OnOk r Q → OnOk r R
@@ -32,23 +32,23 @@ on_ok_both (Ok x) f p q = f p q
 on_ok_both (Err e) f p q = tt
 
 -- after one more run that doesn't pass with the pattern, still none does
-pub shown-more : (outcomes more : List Outcome) (o : Outcome) (pattern : List Setting) → more ≡ outcomes ++ o ∷ [] → (IsShown false outcomes pattern → ⊥) → ((o.failed ≡ false) × RowShows o.on pattern → ⊥)
+pub shown-more : (outcomes more : List RunOutcome) (o : RunOutcome) (pattern : List Setting) → more ≡ outcomes ++ o ∷ [] → (IsShown false outcomes pattern → ⊥) → ((o.failed ≡ false) × RowShows o.on pattern → ⊥)
     → IsShown false more pattern → ⊥
 shown-more outcomes more o pattern is none not h =
     elim (Contains-push_cases outcomes o h.by (subst (λ l. Contains l h.by) is h.among)) [
       | inl w ↦ none (record { by = h.by; among = w; ended = h.ended; shows = h.shows })
-      | inr e ↦ not (subst (λ (r : Outcome). (r.failed ≡ false) × RowShows r.on pattern) (sym e) (h.ended, h.shows))
+      | inr e ↦ not (subst (λ (r : RunOutcome). (r.failed ≡ false) × RowShows r.on pattern) (sym e) (h.ended, h.shows))
     ]
 
 -- what shows a pattern shows each part of it
-pub shown-part : (failed : Bool) (outcomes : List Outcome) (part pattern : List Setting) → IsPart part pattern → IsShown failed outcomes pattern → IsShown failed outcomes part
+pub shown-part : (failed : Bool) (outcomes : List RunOutcome) (part pattern : List Setting) → IsPart part pattern → IsShown failed outcomes pattern → IsShown failed outcomes part
 shown-part failed outcomes part pattern inside h = record { by = h.by; among = h.among; ended = h.ended; shows = part-shows h.by.on part pattern inside h.shows }
 
-pub shown-by-row : (outcomes : List Outcome) (row : List Bool) (pattern : List Setting) → IsFailedRow outcomes row → RowShows row pattern → IsShown true outcomes pattern
+pub shown-by-row : (outcomes : List RunOutcome) (row : List Bool) (pattern : List Setting) → IsFailedRow outcomes row → RowShows row pattern → IsShown true outcomes pattern
 shown-by-row outcomes row pattern of shows = record { by = of.by; among = of.among; ended = of.ended; shows = subst (λ r. RowShows r pattern) (sym of.is) shows }
 
 -- a suspicious pattern is a suspect if passed runs show it without each one of its settings
-pub suspect-by : (outcomes : List Outcome) (n t : ℕ) (pattern : List Setting) → Rises 0 n pattern → length pattern ≤ t → IsSuspicious outcomes pattern
+pub suspect-by : (outcomes : List RunOutcome) (n t : ℕ) (pattern : List Setting) → Rises 0 n pattern → length pattern ≤ t → IsSuspicious outcomes pattern
     → ((place : ℕ) → place < length pattern → IsShown false outcomes (remove pattern place)) → IsSuspect outcomes n t pattern
 suspect-by outcomes n t pattern rises small suspicious each = record {
   rises = rises;
@@ -60,14 +60,14 @@ suspect-by outcomes n t pattern rises small suspicious each = record {
 }
 
 -- a pattern isn't a suspect if no passed run shows it without some one of its settings
-pub suspect-not : (outcomes : List Outcome) (n t : ℕ) (pattern : List Setting) (place : ℕ) → place < length pattern → (IsShown false outcomes (remove pattern place) → ⊥) → IsSuspect outcomes n t pattern → ⊥
+pub suspect-not : (outcomes : List RunOutcome) (n t : ℕ) (pattern : List Setting) (place : ℕ) → place < length pattern → (IsShown false outcomes (remove pattern place) → ⊥) → IsSuspect outcomes n t pattern → ⊥
 suspect-not outcomes n t pattern place lt none h =
     let shorter : length (remove pattern place) + 1 ≡ length pattern = length-remove pattern place lt in
     h.minimal (remove pattern place) (part-without pattern place) (omega arith)
     (record { failed = shown-part true outcomes (remove pattern place) pattern (part-without pattern place) h.suspicious.failed; passed = none })
 
 -- one more suspect
-pub some-more : (outcomes : List Outcome) (n t : ℕ) (found more : List (List Setting)) (pattern : List Setting) → AreSomeSuspects outcomes n t found → IsSuspect outcomes n t pattern → AllPairs IsBefore more
+pub some-more : (outcomes : List RunOutcome) (n t : ℕ) (found more : List (List Setting)) (pattern : List Setting) → AreSomeSuspects outcomes n t found → IsSuspect outcomes n t pattern → AllPairs IsPatternBefore more
     → ((p : List Setting) → Contains more p → Contains found p ⊎ (p ≡ pattern)) → AreSomeSuspects outcomes n t more
 some-more outcomes n t found more pattern old suspect ordered only = record {
   ordered = ordered;
@@ -77,7 +77,7 @@ some-more outcomes n t found more pattern old suspect ordered only = record {
   ];
 }
 
-module _ (outcomes : List Outcome) (n t : ℕ) (row : List Bool) where
+module _ (outcomes : List RunOutcome) (n t : ℕ) (row : List Bool) where
   pub finds-kept : (pattern : List Setting) (first more : ℕ) (found later : List (List Setting)) → PatternsAreKept found later → FindsFrom outcomes n t row pattern first more found → FindsFrom outcomes n t row pattern first more later
   finds-kept pattern first more found later kept finds = λ rest rises few shows suspect. kept (pattern ++ rest) (finds rest rises few shows suspect)
 
@@ -127,8 +127,8 @@ module _ (outcomes : List Outcome) (n t : ℕ) (row : List Bool) where
       ]
 
 -- if the suspects that each failed run shows were found, these are all suspects
-pub suspects-all : (outcomes : List Outcome) (n t : ℕ) (found : List (List Setting)) → AreSomeSuspects outcomes n t found
-    → ((o : Outcome) → Contains outcomes o → o.failed ≡ true → (p : List Setting) → RowShows o.on p → IsSuspect outcomes n t p → Contains found p) → AreSuspects outcomes n t found
+pub suspects-all : (outcomes : List RunOutcome) (n t : ℕ) (found : List (List Setting)) → AreSomeSuspects outcomes n t found
+    → ((o : RunOutcome) → Contains outcomes o → o.failed ≡ true → (p : List Setting) → RowShows o.on p → IsSuspect outcomes n t p → Contains found p) → AreSuspects outcomes n t found
 suspects-all outcomes n t found some all = record {
   ordered = some.ordered;
   exactly = λ p. (
@@ -138,12 +138,12 @@ suspects-all outcomes n t found some all = record {
 }
 
 -- what was found for one more run
-pub suspects-more : (outcomes front now : List Outcome) (o : Outcome) (n t : ℕ) (found more : List (List Setting)) → now ≡ front ++ o ∷ [] → PatternsAreKept found more
+pub suspects-more : (outcomes front now : List RunOutcome) (o : RunOutcome) (n t : ℕ) (found more : List (List Setting)) → now ≡ front ++ o ∷ [] → PatternsAreKept found more
     → (o.failed ≡ true → FindsFrom outcomes n t o.on [] 0 t more)
-    → ((u : Outcome) → Contains front u → u.failed ≡ true → (p : List Setting) → RowShows u.on p → IsSuspect outcomes n t p → Contains found p)
-    → (u : Outcome) → Contains now u → u.failed ≡ true → (p : List Setting) → RowShows u.on p → IsSuspect outcomes n t p → Contains more p
+    → ((u : RunOutcome) → Contains front u → u.failed ≡ true → (p : List Setting) → RowShows u.on p → IsSuspect outcomes n t p → Contains found p)
+    → (u : RunOutcome) → Contains now u → u.failed ≡ true → (p : List Setting) → RowShows u.on p → IsSuspect outcomes n t p → Contains more p
 suspects-more outcomes front now o n t found more is kept finds before u among failed p shows suspect =
     elim (Contains-push_cases front o u (subst (λ l. Contains l u) is among)) [
       | inl w ↦ kept p (before u w failed p shows suspect)
-      | inr e ↦ finds (ap (λ (r : Outcome). r.failed) e ∙ failed) p suspect.rises suspect.small (subst (λ (r : Outcome). RowShows r.on p) (sym e) shows) suspect
+      | inr e ↦ finds (ap (λ (r : RunOutcome). r.failed) e ∙ failed) p suspect.rises suspect.small (subst (λ (r : RunOutcome). RowShows r.on p) (sym e) shows) suspect
     ]

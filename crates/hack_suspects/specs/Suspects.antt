@@ -6,12 +6,12 @@ use Rattle.hack_suspects.specs.declared.suspect.SuspectFault.{SuspectFault}
 use Rattle.hack_suspects.specs.declared.suspect.SuspectFault.TheVariants.{Memory, TooManyPatterns}
 
 -- a run: for each candidate whether it is on, and whether the run failed
-pub record Outcome : Type 0 where
+pub record RunOutcome : Type 0 where
   pub on : List Bool
   pub failed : Bool
 
 -- the runs as plain data
-abbrev pub outcomes_of : List Run → List Outcome
+abbrev pub outcomes_of : List Run → List RunOutcome
 outcomes_of runs = map (λ run. record { on = run.on.items; failed = run.failed }) runs
 
 -- the row shows the pattern: each of its candidates is on or off in it as the pattern says
@@ -19,14 +19,14 @@ abbrev pub RowShows : List Bool → List Setting → Type 0
 RowShows row pattern = All (λ setting. slice_get row setting.candidate ≡ Some setting.on) pattern
 
 -- some run shows the pattern, and failed if `failed` is true, else passed
-pub record IsShown (failed : Bool) (outcomes : List Outcome) (pattern : List Setting) : Type 0 where
-  pub by : Outcome
+pub record IsShown (failed : Bool) (outcomes : List RunOutcome) (pattern : List Setting) : Type 0 where
+  pub by : RunOutcome
   pub among : Contains outcomes by
   pub ended : by.failed ≡ failed
   pub shows : RowShows by.on pattern
 
 -- some failed run shows the pattern, and no passed one does
-pub record IsSuspicious (outcomes : List Outcome) (pattern : List Setting) : Type 0 where
+pub record IsSuspicious (outcomes : List RunOutcome) (pattern : List Setting) : Type 0 where
   pub failed : IsShown true outcomes pattern
   pub passed : IsShown false outcomes pattern → ⊥
 
@@ -43,7 +43,7 @@ IsPart [] (kept ∷ pattern) = Unit {0}
 IsPart (setting ∷ part) (kept ∷ pattern) = ((setting ≡ kept) × IsPart part pattern) ⊎ IsPart (setting ∷ part) pattern
 
 -- a suspicious pattern of at most t of the candidates below n, of which no proper part is suspicious
-pub record IsSuspect (outcomes : List Outcome) (n t : ℕ) (pattern : List Setting) : Type 0 where
+pub record IsSuspect (outcomes : List RunOutcome) (n t : ℕ) (pattern : List Setting) : Type 0 where
   pub rises : Rises 0 n pattern
   pub small : length pattern ≤ t
   pub suspicious : IsSuspicious outcomes pattern
@@ -60,12 +60,12 @@ DiffersBefore (a ∷ p) [] = ⊥
 DiffersBefore (a ∷ p) (b ∷ q) = Precedes a b ⊎ ((a ≡ b) × DiffersBefore p q)
 
 -- a pattern is before another: it is shorter, or as long and before it where they first differ
-abbrev pub IsBefore : List Setting → List Setting → Type 0
-IsBefore p q = (length p < length q) ⊎ ((length p ≡ length q) × DiffersBefore p q)
+abbrev pub IsPatternBefore : List Setting → List Setting → Type 0
+IsPatternBefore p q = (length p < length q) ⊎ ((length p ≡ length q) × DiffersBefore p q)
 
 -- these are all the suspects, each before all later ones
-pub record AreSuspects (outcomes : List Outcome) (n t : ℕ) (found : List (List Setting)) : Type 0 where
-  pub ordered : AllPairs IsBefore found
+pub record AreSuspects (outcomes : List RunOutcome) (n t : ℕ) (found : List (List Setting)) : Type 0 where
+  pub ordered : AllPairs IsPatternBefore found
   pub exactly : (pattern : List Setting) → Contains found pattern ↔ IsSuspect outcomes n t pattern
 
 -- how many choices there are of at most t of n candidates

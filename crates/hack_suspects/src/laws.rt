@@ -1,7 +1,7 @@
 //! Laws: functions that do nothing, each of which has a law over definitions as its contract.
 
 ghost use Rattle.std.specs.Prelude.{ℕ, List};
-ghost use Rattle.hack_suspects.specs.Suspects.{Outcome as Plain};
+ghost use Rattle.hack_suspects.specs.Suspects.{RunOutcome as Plain};
 ghost use Rattle.hack_suspects.specs.Faults.{FailBy, FaultsAreFound};
 
 /// Suspects find faults. A fault is a pattern. If exactly

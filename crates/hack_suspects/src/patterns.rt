@@ -4,7 +4,7 @@ ghost use Rattle.std.specs.Prelude.{◌≡◌, ◌≢◌, ℕ, List, length, Som
 ghost use Rattle.std.specs.Prelude.{MatchBool, MatchOption, AllPairs, Contains, ◌⊎◌};
 ghost use Rattle.std.specs.Ordering.{MatchOrdering};
 ghost use Rattle.hack_samples.specs.Sets.{rows_of};
-ghost use Rattle.hack_suspects.specs.Suspects.{RowShows, Precedes, DiffersBefore, IsBefore};
+ghost use Rattle.hack_suspects.specs.Suspects.{RowShows, Precedes, DiffersBefore, IsPatternBefore};
 ghost use Rattle.hack_suspects.specs.Walks.{PatternsAreKept, PatternFits};
 
 use hack_samples::Setting;
@@ -65,8 +65,8 @@ fn compare_places(one: &[Setting], other: &[Setting]) -> Ordering
 /// Compares two patterns: the shorter one comes first; of the same length the first place where
 /// they differ decides.
 fn compare(one: &[Setting], other: &[Setting]) -> Ordering
-    ensures { MatchOrdering result (IsBefore one.now other.now) (one.now ≡ other.now)
-        (IsBefore other.now one.now) }
+    ensures { MatchOrdering result (IsPatternBefore one.now other.now) (one.now ≡ other.now)
+        (IsPatternBefore other.now one.now) }
 {
     match one.len().cmp(&other.len()) {
         Ordering::Less => Ordering::Less,
@@ -77,7 +77,7 @@ fn compare(one: &[Setting], other: &[Setting]) -> Ordering
 
 /// Returns the place where the pattern belongs among patterns in order; None if it is one of them.
 fn place_of(found: &[Vec<Setting>], pattern: &[Setting]) -> Option<usize>
-    requires { AllPairs IsBefore (rows_of found.now) }
+    requires { AllPairs IsPatternBefore (rows_of found.now) }
     ensures { MatchOption result (Contains (rows_of found.now) pattern.now)
         (PatternFits (rows_of found.now) pattern.now) }
 {
@@ -93,8 +93,8 @@ fn place_of(found: &[Vec<Setting>], pattern: &[Setting]) -> Option<usize>
 
 /// Inserts a pattern at its place among patterns in order, unless it is one of them.
 pub(crate) fn put(found: &mut Vec<Vec<Setting>>, pattern: Vec<Setting>) -> Result<(), AllocError>
-    requires { AllPairs IsBefore (rows_of found.old.items) }
-    ensures ordered { OnOk result (AllPairs IsBefore (rows_of found.new.items)) }
+    requires { AllPairs IsPatternBefore (rows_of found.old.items) }
+    ensures ordered { OnOk result (AllPairs IsPatternBefore (rows_of found.new.items)) }
     ensures kept { OnOk result (PatternsAreKept (rows_of found.old.items)
         (rows_of found.new.items)) }
     ensures added { OnOk result (Contains (rows_of found.new.items) pattern.items) }

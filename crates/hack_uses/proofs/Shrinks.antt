@@ -4,7 +4,7 @@ use Rattle.std.specs.List.{starts_with, position_or_len, after_first}
 use Rattle.std.proofs.lemmas.Str.{length-encode, len_utf8_bounds}
 use Rattle.hack_lexopt.specs.declared.fault.LexFault.{LexFault}
 use Rattle.hack_lexopt.specs.declared.fault.LexFault.TheVariants.{UnexpectedValue}
-use Rattle.hack_lexopt.specs.Cuts.{Left, Untaken, Nothing, Pending, Chain, Cut, LongCut, ShortCut, ValueCut, is_long, is_chain, is_equals, is_plain, pending_of, first_letter, after_letter, chain_of, untaken_of, next_cut, after_cut, after_value, after_attached, after_optional, value_of, optional_of, attached_value, unexpected_of}
+use Rattle.hack_lexopt.specs.Cuts.{LeftArguments, Untaken, Nothing, Pending, Chain, Cut, LongCut, ShortCut, ValueCut, is_long, is_chain, is_equals, is_plain_word, pending_of, first_letter, after_letter, chain_of, untaken_of, next_cut, after_cut, after_value, after_attached, after_optional, value_of, optional_of, attached_value, unexpected_of}
 use Rattle.hack_options.specs.declared.opt.Opt.{Opt}
 use Rattle.hack_options.specs.declared.table.Kind.{Kind}
 use Rattle.hack_options.specs.declared.table.Kind.TheVariants as kind
@@ -14,7 +14,7 @@ use Rattle.hack_uses.specs.declared.cut.Print.{Print}
 use Rattle.hack_uses.specs.declared.cut.Print.TheVariants as print
 use Rattle.hack_uses.specs.Faults.{Flag, LongFlag, ShortFlag, Repeat, LoneQuote}
 use Rattle.hack_uses.specs.Uses.{Use, Known, Unknown, is_given, subcommand_of}
-use Rattle.hack_uses.specs.Reads.{Reading, Met, End, Prints, Fails, is_quote, is_bare, unknown_option, with_value, with_names, with_names_or_none, question, help_of, by_kind, known_option, removed_of, similar_of, other, by_name, by_letter, of_cut, refused_value, of_next, read_of, Reads, flag_left}
+use Rattle.hack_uses.specs.UseReading.{Reading, Met, End, Prints, Fails, is_lone_quote, is_bare_letter, unknown_option, option_with_value, option_with_names, with_names_or_none, print_request, help_of, by_kind, known_option, removed_of, similar_of, other, by_name, by_letter, of_cut, refused_value, of_next, read_of, Reads, flag_left}
 
 -- a measure of how much is left to read
 abbrev pub weight_of : Untaken → ℕ
@@ -26,7 +26,7 @@ abbrev pub words_weight : List (List ℕ) → ℕ
 words_weight [] = 0
 words_weight (w ∷ ws) = (length w + 2) + words_weight ws
 
-abbrev pub weight : Left → ℕ
+abbrev pub weight : LeftArguments → ℕ
 weight l = weight_of l.untaken + words_weight l.words
 
 chain_weight : (xs : List ℕ) → weight_of (chain_of xs) ≤ length xs + 1
@@ -66,40 +66,40 @@ after_optional-le : (o : Option Cut) (t : Untaken) (ws : List (List ℕ)) → we
 after_optional-le o (Pending v) ws = omega arith
 after_optional-le o (Chain letters) ws = omega arith
 after_optional-le o Nothing [] = omega arith
-after_optional-le o Nothing (w ∷ ws) = elim (is_plain w) as (λ b. 0 + words_weight (cond b ws (w ∷ ws)) ≤ 0 + words_weight (w ∷ ws)) [ true ↦ omega arith | false ↦ omega arith ]
+after_optional-le o Nothing (w ∷ ws) = elim (is_plain_word w) as (λ b. 0 + words_weight (cond b ws (w ∷ ws)) ≤ 0 + words_weight (w ∷ ws)) [ true ↦ omega arith | false ↦ omega arith ]
 
 -- where a use was read, P holds for what is left
-abbrev Leaves : (Left → Type 0) → Reading → Type 0
+abbrev Leaves : (LeftArguments → Type 0) → Reading → Type 0
 Leaves P (Met u left) = P left
 Leaves P End = Unit {0}
 Leaves P (Prints print) = Unit {0}
 Leaves P (Fails fault) = Unit {0}
 
 -- P still holds for what is left, whatever is taken as a value
-abbrev Kept : (Left → Type 0) → Type 0
-Kept P = (l : Left) → P l → P (after_attached l) × P (after_value l) × P (after_optional l)
+abbrev Kept : (LeftArguments → Type 0) → Type 0
+Kept P = (l : LeftArguments) → P l → P (after_attached l) × P (after_value l) × P (after_optional l)
 
-leaves-unknown : (P : Left → Type 0) (k : Kept P) (flag : Flag) (l : Left) → P l → Leaves P (unknown_option flag l)
+leaves-unknown : (P : LeftArguments → Type 0) (k : Kept P) (flag : Flag) (l : LeftArguments) → P l → Leaves P (unknown_option flag l)
 leaves-unknown P k (LongFlag name) l p = (k l p).0
-leaves-unknown P k (ShortFlag c) l p = elim (is_bare c) as (λ b. Leaves P (cond b (Met (Unknown (ShortFlag c) None) l) (Met (Unknown (ShortFlag c) (attached_value l.untaken)) (after_attached l)))) [ true ↦ p | false ↦ (k l p).0 ]
+leaves-unknown P k (ShortFlag c) l p = elim (is_bare_letter c) as (λ b. Leaves P (cond b (Met (Unknown (ShortFlag c) None) l) (Met (Unknown (ShortFlag c) (attached_value l.untaken)) (after_attached l)))) [ true ↦ p | false ↦ (k l p).0 ]
 
-leaves-value : (P : Left → Type 0) (o : Opt) (flag : Flag) (v : Option (List ℕ)) (l : Left) → P l → Leaves P (with_value o flag v l)
+leaves-value : (P : LeftArguments → Type 0) (o : Opt) (flag : Flag) (v : Option (List ℕ)) (l : LeftArguments) → P l → Leaves P (option_with_value o flag v l)
 leaves-value P o flag (Some v) l p = p
 leaves-value P o flag None l p = tt
 
-leaves-names : (P : Left → Type 0) (o : Opt) (flag : Flag) (v : Option (List ℕ)) (l : Left) → P l → Leaves P (with_names o flag v l)
-leaves-names P o flag (Some v) l p = elim (is_quote v) as (λ b. Leaves P (cond b (Fails (LoneQuote flag)) (Met (Known (meaning_of o) flag (Some v)) l))) [ true ↦ tt | false ↦ p ]
+leaves-names : (P : LeftArguments → Type 0) (o : Opt) (flag : Flag) (v : Option (List ℕ)) (l : LeftArguments) → P l → Leaves P (option_with_names o flag v l)
+leaves-names P o flag (Some v) l p = elim (is_lone_quote v) as (λ b. Leaves P (cond b (Fails (LoneQuote flag)) (Met (Known (meaning_of o) flag (Some v)) l))) [ true ↦ tt | false ↦ p ]
 leaves-names P o flag None l p = tt
 
-leaves-optional : (P : Left → Type 0) (o : Opt) (flag : Flag) (v : Option (List ℕ)) (l : Left) → P l → Leaves P (with_names_or_none o flag v l)
-leaves-optional P o flag (Some v) l p = elim (is_quote v) as (λ b. Leaves P (cond b (Fails (LoneQuote flag)) (Met (Known (meaning_of o) flag (Some v)) l))) [ true ↦ tt | false ↦ p ]
+leaves-optional : (P : LeftArguments → Type 0) (o : Opt) (flag : Flag) (v : Option (List ℕ)) (l : LeftArguments) → P l → Leaves P (with_names_or_none o flag v l)
+leaves-optional P o flag (Some v) l p = elim (is_lone_quote v) as (λ b. Leaves P (cond b (Fails (LoneQuote flag)) (Met (Known (meaning_of o) flag (Some v)) l))) [ true ↦ tt | false ↦ p ]
 leaves-optional P o flag None l p = p
 
-leaves-question : (P : Left → Type 0) (k : Kept P) (print : Print) (sub : Option (List ℕ)) (flag : Flag) (l : Left) → P l → Leaves P (question print sub flag l)
+leaves-question : (P : LeftArguments → Type 0) (k : Kept P) (print : Print) (sub : Option (List ℕ)) (flag : Flag) (l : LeftArguments) → P l → Leaves P (print_request print sub flag l)
 leaves-question P k print (Some sub) flag l p = leaves-unknown P k flag l p
 leaves-question P k print None flag l p = tt
 
-leaves-kind : (P : Left → Type 0) (k : Kept P) (takes : Kind) (us : List Use) (o : Opt) (flag : Flag) (l : Left) → P l → Leaves P (by_kind takes us o flag l)
+leaves-kind : (P : LeftArguments → Type 0) (k : Kept P) (takes : Kind) (us : List Use) (o : Opt) (flag : Flag) (l : LeftArguments) → P l → Leaves P (by_kind takes us o flag l)
 leaves-kind P k kind.Flag us o flag l p = p
 leaves-kind P k kind.Value us o flag l p = leaves-value P o flag (value_of l) (after_value l) (k l p).1
 leaves-kind P k kind.Names us o flag l p = leaves-names P o flag (value_of l) (after_value l) (k l p).1
@@ -108,34 +108,34 @@ leaves-kind P k kind.Help us o flag l p = leaves-question P k (help_of flag) (su
 leaves-kind P k kind.Version us o flag l p = leaves-question P k print.Version (subcommand_of us) flag l p
 leaves-kind P k kind.Refused us o flag l p = tt
 
-leaves-known : (P : Left → Type 0) (k : Kept P) (us : List Use) (o : Opt) (flag : Flag) (l : Left) → P l → Leaves P (known_option us o flag l)
+leaves-known : (P : LeftArguments → Type 0) (k : Kept P) (us : List Use) (o : Opt) (flag : Flag) (l : LeftArguments) → P l → Leaves P (known_option us o flag l)
 leaves-known P k us o flag l p = elim ((entry_of o).once && is_given (meaning_of o) us) as (λ b. Leaves P (cond b (Fails (Repeat flag o (subcommand_of us))) (by_kind (entry_of o).kind us o flag l))) [ true ↦ tt | false ↦ leaves-kind P k (entry_of o).kind us o flag l p ]
 
-leaves-other : (P : Left → Type 0) (k : Kept P) (r s : Option Opt) (us : List Use) (name : List ℕ) (l : Left) → P l → Leaves P (other r s us name l)
+leaves-other : (P : LeftArguments → Type 0) (k : Kept P) (r s : Option Opt) (us : List Use) (name : List ℕ) (l : LeftArguments) → P l → Leaves P (other r s us name l)
 leaves-other P k (Some o) s us name l p = tt
 leaves-other P k None (Some o) us name l p = tt
 leaves-other P k None None us name l p = leaves-unknown P k (LongFlag name) l p
 
-leaves-name : (P : Left → Type 0) (k : Kept P) (o : Option Opt) (us : List Use) (name : List ℕ) (l : Left) → P l → Leaves P (by_name o us name l)
+leaves-name : (P : LeftArguments → Type 0) (k : Kept P) (o : Option Opt) (us : List Use) (name : List ℕ) (l : LeftArguments) → P l → Leaves P (by_name o us name l)
 leaves-name P k (Some o) us name l p = leaves-known P k us o (LongFlag name) l p
 leaves-name P k None us name l p = leaves-other P k (removed_of name) (similar_of name) us name l p
 
-leaves-letter : (P : Left → Type 0) (k : Kept P) (o : Option Opt) (us : List Use) (c : ℕ) (l : Left) → P l → Leaves P (by_letter o us c l)
+leaves-letter : (P : LeftArguments → Type 0) (k : Kept P) (o : Option Opt) (us : List Use) (c : ℕ) (l : LeftArguments) → P l → Leaves P (by_letter o us c l)
 leaves-letter P k (Some o) us c l p = leaves-known P k us o (ShortFlag c) l p
 leaves-letter P k None us c l p = leaves-unknown P k (ShortFlag c) l p
 
-leaves-cut : (P : Left → Type 0) (k : Kept P) (us : List Use) (cut : Cut) (l : Left) → P l → Leaves P (of_cut us cut l)
+leaves-cut : (P : LeftArguments → Type 0) (k : Kept P) (us : List Use) (cut : Cut) (l : LeftArguments) → P l → Leaves P (of_cut us cut l)
 leaves-cut P k us (LongCut name) l p = leaves-name P k (long_option name) us name l p
 leaves-cut P k us (ShortCut c) l p = leaves-letter P k (short_option c) us c l p
 leaves-cut P k us (ValueCut word) l p = p
 
-refused-no_use : (option : Option Flag) (v : Option (List ℕ)) (u : Use) (l : Left) → refused_value option v ≡ Met u l → ⊥
+refused-no_use : (option : Option Flag) (v : Option (List ℕ)) (u : Use) (l : LeftArguments) → refused_value option v ≡ Met u l → ⊥
 refused-no_use (Some flag) (Some v) u l h = cc
 refused-no_use (Some flag) None u l h = cc
 refused-no_use None v u l h = cc
 
 -- what holds after each item, and whatever is taken as a value, holds after a use that was read
-read-leaves : (P : Left → Type 0) (k : Kept P) (us : List Use) (l : Left) (u : Use) (new : Left) → ((cut : Cut) → next_cut l ≡ Ok (Some cut) → P (after_cut l)) → read_of us l ≡ Met u new → P new
+read-leaves : (P : LeftArguments → Type 0) (k : Kept P) (us : List Use) (l : LeftArguments) (u : Use) (new : LeftArguments) → ((cut : Cut) → next_cut l ≡ Ok (Some cut) → P (after_cut l)) → read_of us l ≡ Met u new → P new
 read-leaves P k us l u new behind h = cases (next_cut l) refl
   where
     cases : (r : Result (Option Cut) LexFault) → next_cut l ≡ r → P new
@@ -144,19 +144,19 @@ read-leaves P k us l u new behind h = cases (next_cut l) refl
     cases (Err fault) e = absurd (refused-no_use (flag_left l.option) (unexpected_of l.untaken) u new (sym (ap (λ r. of_next r us l) e) ∙ h))
 
 -- the measure of what is left is below n
-abbrev Below : ℕ → Left → Type 0
+abbrev Below : ℕ → LeftArguments → Type 0
 Below n l = weight l < n
 
 kept-below : (n : ℕ) → Kept (Below n)
 kept-below n l p = (omega arith, omega (arith, after_value-le l.option l.untaken l.words), omega (arith, after_optional-le l.option l.untaken l.words))
 
 -- reading a use leaves less
-pub read-smaller : (us : List Use) (l : Left) (u : Use) (new : Left) → read_of us l ≡ Met u new → weight new < weight l
+pub read-smaller : (us : List Use) (l : LeftArguments) (u : Use) (new : LeftArguments) → read_of us l ≡ Met u new → weight new < weight l
 read-smaller us l u new h = read-leaves (Below (weight l)) (kept-below (weight l)) us l u new (λ cut e. after_cut-smaller l.option l.untaken l.words cut e) h
 
 -- one more use is read
-pub Reads-more : (before us : List Use) (u : Use) (old mid new : Left) → Reads before old us mid → read_of (before ++ us) mid ≡ Met u new → Reads before old (us ++ u ∷ []) new
-Reads-more before [] u old mid new r h = (new, subst (λ (x : Left). read_of before x ≡ Met u new) r at-end, refl)
+pub Reads-more : (before us : List Use) (u : Use) (old mid new : LeftArguments) → Reads before old us mid → read_of (before ++ us) mid ≡ Met u new → Reads before old (us ++ u ∷ []) new
+Reads-more before [] u old mid new r h = (new, subst (λ (x : LeftArguments). read_of before x ≡ Met u new) r at-end, refl)
   where
     at-end : read_of before mid ≡ Met u new
     at-end = rw append-nil at h

@@ -25,33 +25,33 @@ flag_in (ShortCut letter) = Some (ShortFlag letter)
 flag_in (ValueCut word) = None
 
 -- the item that an option comes from
-abbrev pub cut_by : Flag → Cut
-cut_by (LongFlag name) = LongCut name
-cut_by (ShortFlag letter) = ShortCut letter
+abbrev pub cut_of_flag : Flag → Cut
+cut_of_flag (LongFlag name) = LongCut name
+cut_of_flag (ShortFlag letter) = ShortCut letter
 
 -- an option with its dashes
 abbrev pub flag_text : Flag → List ℕ
-flag_text flag = as_written (cut_by flag)
+flag_text flag = as_written (cut_of_flag flag)
 
 -- why an argument is refused: a value is missing, or not expected; an option is repeated (after
 -- this subcommand); a list of names is a lone quote sign; --workspace-behavior has another form; a
 -- name was removed, or resembles an option's
-pub data Fault : Type 0 where
-  Missing : Flag → Fault
-  Unexpected : Flag → List ℕ → Fault
-  Repeat : Flag → Opt → Option (List ℕ) → Fault
-  LoneQuote : Flag → Fault
-  BehaviorForm : Fault
-  Removed : List ℕ → Opt → Fault
-  Similar : List ℕ → Opt → Option (List ℕ) → Fault
+pub data ArgumentFault : Type 0 where
+  Missing : Flag → ArgumentFault
+  Unexpected : Flag → List ℕ → ArgumentFault
+  Repeat : Flag → Opt → Option (List ℕ) → ArgumentFault
+  LoneQuote : Flag → ArgumentFault
+  BehaviorForm : ArgumentFault
+  Removed : List ℕ → Opt → ArgumentFault
+  Similar : List ℕ → Opt → Option (List ℕ) → ArgumentFault
 
 -- the error that a `CutFault` reports; none where memory ran out
-abbrev pub fault_of : CutFault → Option Fault
-fault_of code.Memory = None
-fault_of (code.Missing flag) = Some (Missing (flag_seen flag))
-fault_of (code.Unexpected flag value) = Some (Unexpected (flag_seen flag) (string_bytes value))
-fault_of (code.Repeat flag option subcommand) = Some (Repeat (flag_seen flag) option (optional_text subcommand))
-fault_of (code.LoneQuote flag) = Some (LoneQuote (flag_seen flag))
-fault_of code.BehaviorForm = Some BehaviorForm
-fault_of (code.Removed name instead) = Some (Removed (string_bytes name) instead)
-fault_of (code.Similar name meant subcommand) = Some (Similar (string_bytes name) meant (optional_text subcommand))
+abbrev pub argument_fault_of : CutFault → Option ArgumentFault
+argument_fault_of code.Memory = None
+argument_fault_of (code.Missing flag) = Some (Missing (flag_seen flag))
+argument_fault_of (code.Unexpected flag value) = Some (Unexpected (flag_seen flag) (string_bytes value))
+argument_fault_of (code.Repeat flag option subcommand) = Some (Repeat (flag_seen flag) option (optional_text subcommand))
+argument_fault_of (code.LoneQuote flag) = Some (LoneQuote (flag_seen flag))
+argument_fault_of code.BehaviorForm = Some BehaviorForm
+argument_fault_of (code.Removed name instead) = Some (Removed (string_bytes name) instead)
+argument_fault_of (code.Similar name meant subcommand) = Some (Similar (string_bytes name) meant (optional_text subcommand))

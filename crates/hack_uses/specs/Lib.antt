@@ -1,6 +1,6 @@
 pub mod Behavior
 pub mod Faults
 pub mod Uses
-pub mod Reads
+pub mod UseReading
 pub mod Values
-pub mod Passed
+pub mod PassedWords

@@ -3,7 +3,7 @@ use Rattle.std.specs.Prelude.{ℕ, List, [], ◌∷◌, Bool, false, Option, Som
 use Rattle.std.specs.List.{list_any}
 use Rattle.hack_base.specs.Names.{optional_text}
 use Rattle.hack_options.specs.declared.opt.Opt.{Opt}
-use Rattle.hack_options.specs.Table.{same}
+use Rattle.hack_options.specs.Table.{is_same_option}
 use Rattle.hack_uses.specs.declared.cut.Use.{Use as CodeUse}
 use Rattle.hack_uses.specs.declared.cut.Use.TheVariants as code
 use Rattle.hack_uses.specs.Faults.{Flag, flag_seen}
@@ -27,7 +27,7 @@ views us = map view us
 
 -- this is a use of the option
 abbrev pub is_use_of : Opt → Use → Bool
-is_use_of o (Known p flag value) = same p o
+is_use_of o (Known p flag value) = is_same_option p o
 is_use_of o (Unknown flag value) = false
 is_use_of o (Word word) = false
 

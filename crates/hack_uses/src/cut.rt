@@ -2,7 +2,7 @@
 
 ghost use Rattle.std.specs.Prelude.{map, string_bytes};
 ghost use Rattle.hack_lexopt.specs.Parsers.{left_in};
-ghost use Rattle.hack_uses.specs.Reads.{Gives, GivesUses, GivesNoOther, read_of};
+ghost use Rattle.hack_uses.specs.UseReading.{ReturnsStep, GivesUses, GivesNoOther, read_of};
 ghost use Rattle.hack_uses.specs.Uses.{views};
 
 use crate::fault::{CutFault, OwnedFlag};
@@ -48,7 +48,7 @@ pub(crate) enum Step {
 
 /// The next use after the uses so far, or what comes instead of one.
 fn read(alloc: Global, parser: &mut Parser, uses: &[Use]) -> Result<Step, CutFault>
-    ensures { Gives result (left_in parser.new) (read_of (views uses.now) (left_in parser.old)) }
+    ensures { ReturnsStep result (left_in parser.new) (read_of (views uses.now) (left_in parser.old)) }
 {
     match parser.cut() {
         Next::Cut(Arg::Long(name)) => {

@@ -2,7 +2,7 @@
 
 ghost use Rattle.std.specs.Prelude.{◌≡◌, IfOk, Some, option_map};
 ghost use Rattle.hack_lexopt.specs.Parsers.{cut_in, flag_cut};
-ghost use Rattle.hack_uses.specs.Faults.{flag_seen, flag_in, cut_by, flag_text};
+ghost use Rattle.hack_uses.specs.Faults.{flag_seen, flag_in, cut_of_flag, flag_text};
 
 use hack_lexopt::{Arg, Flag};
 use hack_options::{Opt, Usage};
@@ -42,7 +42,7 @@ impl OwnedFlag {
 
     /// The item that the option comes from.
     pub fn as_arg(&self) -> Arg<'_>
-        ensures { cut_in result ≡ cut_by (flag_seen self.now) }
+        ensures { cut_in result ≡ cut_of_flag (flag_seen self.now) }
     {
         match self {
             OwnedFlag::Long(name) => Arg::Long(name.as_str()),

@@ -5,13 +5,13 @@ ghost use Rattle.hack_base.specs.Names.{optional_text};
 ghost use Rattle.hack_lexopt.specs.Parsers.{left_in};
 ghost use Rattle.hack_uses.specs.Faults.{flag_seen};
 ghost use Rattle.hack_lexopt.specs.Cuts.{value_of, after_value, optional_of, after_optional};
-ghost use Rattle.hack_uses.specs.Reads.{Gives, known_option as known_reading};
-ghost use Rattle.hack_uses.specs.Reads.{unknown_option as unknown_reading};
-ghost use Rattle.hack_uses.specs.Reads.{other_name as other_reading, with_value as value_reading};
-ghost use Rattle.hack_uses.specs.Reads.{with_names as names_reading};
-ghost use Rattle.hack_uses.specs.Reads.{with_names_or_none as optional_reading};
-ghost use Rattle.hack_uses.specs.Reads.{by_kind as kind_reading, question as question_reading};
-ghost use Rattle.hack_uses.specs.Reads.{is_quote as quote, help_of, removed_of, similar_of};
+ghost use Rattle.hack_uses.specs.UseReading.{ReturnsStep, known_option as known_reading};
+ghost use Rattle.hack_uses.specs.UseReading.{unknown_option as unknown_reading};
+ghost use Rattle.hack_uses.specs.UseReading.{other_name as other_reading, option_with_value as value_reading};
+ghost use Rattle.hack_uses.specs.UseReading.{option_with_names as names_reading};
+ghost use Rattle.hack_uses.specs.UseReading.{with_names_or_none as optional_reading};
+ghost use Rattle.hack_uses.specs.UseReading.{by_kind as kind_reading, print_request as question_reading};
+ghost use Rattle.hack_uses.specs.UseReading.{is_lone_quote as quote, help_of, removed_of, similar_of};
 ghost use Rattle.hack_options.specs.Table.{entry_of, meaning_of};
 ghost use Rattle.hack_uses.specs.Uses.{views, is_given, subcommand_of};
 
@@ -58,7 +58,7 @@ pub(crate) fn cut_unknown(
     parser: &mut Parser,
     flag: OwnedFlag,
 ) -> Result<Step, CutFault>
-    ensures { Gives result (left_in parser.new)
+    ensures { ReturnsStep result (left_in parser.new)
         (unknown_reading (flag_seen flag) (left_in parser.old)) }
 {
     if let OwnedFlag::Short('n' | 'q' | 'r') = flag {
@@ -77,7 +77,7 @@ fn question(
     flag: OwnedFlag,
     print: Print,
 ) -> Result<Step, CutFault>
-    ensures { Gives result (left_in parser.new)
+    ensures { ReturnsStep result (left_in parser.new)
         (question_reading print (subcommand_of (views uses.now)) (flag_seen flag)
         (left_in parser.old)) }
 {
@@ -104,7 +104,7 @@ fn with_value(
     option: Opt,
     flag: OwnedFlag,
 ) -> Result<Step, CutFault>
-    ensures { Gives result (left_in parser.new)
+    ensures { ReturnsStep result (left_in parser.new)
         (value_reading option (flag_seen flag) (value_of (left_in parser.old))
         (after_value (left_in parser.old))) }
 {
@@ -122,7 +122,7 @@ fn with_names(
     option: Opt,
     flag: OwnedFlag,
 ) -> Result<Step, CutFault>
-    ensures { Gives result (left_in parser.new)
+    ensures { ReturnsStep result (left_in parser.new)
         (names_reading option (flag_seen flag) (value_of (left_in parser.old))
         (after_value (left_in parser.old))) }
 {
@@ -141,7 +141,7 @@ fn with_names_or_none(
     option: Opt,
     flag: OwnedFlag,
 ) -> Result<Step, CutFault>
-    ensures { Gives result (left_in parser.new)
+    ensures { ReturnsStep result (left_in parser.new)
         (optional_reading option (flag_seen flag) (optional_of (left_in parser.old))
         (after_optional (left_in parser.old))) }
 {
@@ -159,7 +159,7 @@ fn by_kind(
     option: Opt,
     flag: OwnedFlag,
 ) -> Result<Step, CutFault>
-    ensures { Gives result (left_in parser.new)
+    ensures { ReturnsStep result (left_in parser.new)
         (kind_reading (entry_of option).kind (views uses.now) option (flag_seen flag)
         (left_in parser.old)) }
 {
@@ -192,7 +192,7 @@ pub(crate) fn cut_known(
     option: Opt,
     flag: OwnedFlag,
 ) -> Result<Step, CutFault>
-    ensures { Gives result (left_in parser.new)
+    ensures { ReturnsStep result (left_in parser.new)
         (known_reading (views uses.now) option (flag_seen flag) (left_in parser.old)) }
 {
     if is_repeat(option, uses) {
@@ -244,7 +244,7 @@ pub(crate) fn other_name(
     uses: &[Use],
     name: String,
 ) -> Result<Step, CutFault>
-    ensures { Gives result (left_in parser.new)
+    ensures { ReturnsStep result (left_in parser.new)
         (other_reading (views uses.now) (string_bytes name) (left_in parser.old)) }
 {
     if let Some(option) = replacement_of(&name) {

@@ -3,7 +3,7 @@
 ghost use Rattle.std.specs.Prelude.{◌≡◌, ◌++◌, IfOk, OnOk, map, string_bytes};
 ghost use Rattle.hack_base.specs.Names.{optional_text};
 ghost use Rattle.hack_uses.specs.Faults.{flag_seen};
-ghost use Rattle.hack_uses.specs.Passed.{words_passed, passes, word_of, leading_of};
+ghost use Rattle.hack_uses.specs.PassedWords.{words_passed, is_passed_on, word_of, leading_of};
 ghost use Rattle.hack_uses.specs.Uses.{view, views};
 
 use crate::fault::OwnedFlag;
@@ -13,7 +13,7 @@ use std::alloc::{AllocError, Global};
 
 /// Whether an option of the table is also passed on to cargo.
 fn is_passed(behavior: WorkspaceBehavior, option: Opt) -> bool
-    ensures { result ≡ passes behavior option }
+    ensures { result ≡ is_passed_on behavior option }
 {
     match option {
         Opt::Locked | Opt::NoDefaultFeatures | Opt::AllFeatures | Opt::Color => true,

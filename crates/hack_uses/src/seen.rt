@@ -2,7 +2,7 @@
 
 ghost use Rattle.std.specs.Prelude.{◌≡◌, IfOk, map, string_bytes};
 ghost use Rattle.hack_base.specs.Names.{optional_text_ref};
-ghost use Rattle.hack_uses.specs.Passed.{count_of};
+ghost use Rattle.hack_uses.specs.PassedWords.{count_of};
 ghost use Rattle.hack_uses.specs.Values.{value_given, values_given};
 ghost use Rattle.hack_uses.specs.Uses.{is_given, views, subcommand_of};
 

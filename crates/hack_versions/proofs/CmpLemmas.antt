@@ -15,22 +15,22 @@ use Rattle.hack_versions.specs.contracts.version.VersionPartialEq.TheImpl as par
 use Rattle.hack_versions.specs.contracts.version.VersionPartialOrd.TheImpl as partial_ord
 use Rattle.hack_versions.specs.contracts.version.VersionOrd.TheImpl as ord
 use Rattle.hack_versions.specs.declared.version.Version.{Version}
-use Rattle.hack_versions.specs.VersionOrder.{IsBefore, IsAtMost}
+use Rattle.hack_versions.specs.VersionOrder.{IsEarlierVersion, IsAtMost}
 use Rattle.hack_versions.proofs.OrderLemmas.{before-trans, three-way}
 
-pub lt-before : (a b : Version) → (partial_lt (partial_ord.ghosts).partial_cmp a b ≡ true) ↔ IsBefore a b
+pub lt-before : (a b : Version) → (partial_lt (partial_ord.ghosts).partial_cmp a b ≡ true) ↔ IsEarlierVersion a b
 lt-before a b = search rules
 
 pub le-at_most : (a b : Version) → (partial_le (partial_ord.ghosts).partial_cmp a b ≡ true) ↔ IsAtMost a b
 le-at_most a b = search rules
 
-less-before : (a b : Version) → ((ord.ghosts).cmp a b ≡ Less) ↔ IsBefore a b
+less-before : (a b : Version) → ((ord.ghosts).cmp a b ≡ Less) ↔ IsEarlierVersion a b
 less-before a b = search rules
 
 pub equal-same : (a b : Version) → ((ord.ghosts).cmp a b ≡ Equal) ↔ (a ≡ b)
 equal-same a b = search rules
 
-greater-after : (a b : Version) → ((ord.ghosts).cmp a b ≡ Greater) ↔ IsBefore b a
+greater-after : (a b : Version) → ((ord.ghosts).cmp a b ≡ Greater) ↔ IsEarlierVersion b a
 greater-after a b = search rules
 
 eq-same : (a b : Version) → ((partial_eq.ghosts).eq a b ≡ true) → a ≡ b
@@ -58,16 +58,16 @@ total = record {
 equiv : IsEquivalence (partial_eq.ghosts).eq
 equiv = search rules
 
-pub rising-sorted : (xs : List Version) → IsSorted (ord.ghosts).cmp xs → AllPairs IsBefore (dedup (partial_eq.ghosts).eq xs)
+pub rising-sorted : (xs : List Version) → IsSorted (ord.ghosts).cmp xs → AllPairs IsEarlierVersion (dedup (partial_eq.ghosts).eq xs)
 rising-sorted xs h i j d l m = (less-before _ _).0 (Less-from_sorted (ord.ghosts).cmp (dedup (partial_eq.ghosts).eq xs) i j d (IsStrictlySortedBy-dedup total eq-cmp xs h) l m)
 
 pub deduped : (xs : List Version) (v : Version) → Contains (dedup (partial_eq.ghosts).eq xs) v ↔ Contains xs v
 deduped xs v = (Contains-from_dedup (partial_eq.ghosts).eq xs v, Contains-dedup equiv eq-same xs v)
 
-in-order : (xs : List Version) → AllPairs IsBefore xs → IsSorted (ord.ghosts).cmp xs
+in-order : (xs : List Version) → AllPairs IsEarlierVersion xs → IsSorted (ord.ghosts).cmp xs
 in-order xs h k d z l = ap is_lt ((greater-after _ _).1 (h k (k + 1) d (omega arith) l))
 
-pub searched : (xs : List Version) (v : Version) (r : Result ℕ ℕ) → AllPairs IsBefore xs → IsSearchInRange r (length xs) → IsBinarySearchResult (λ y. (ord.ghosts).cmp y v) xs r → (is_ok r ≡ true) ↔ Contains xs v
+pub searched : (xs : List Version) (v : Version) (r : Result ℕ ℕ) → AllPairs IsEarlierVersion xs → IsSearchInRange r (length xs) → IsBinarySearchResult (λ y. (ord.ghosts).cmp y v) xs r → (is_ok r ≡ true) ↔ Contains xs v
 searched xs v (Ok i) h b p = (λ _. (i, b, (equal-same _ _).0 (p v)), λ _. refl)
 searched xs v (Err i) h b p =
     let q = p (searchable_from_sorted total (λ x. x) xs v (in-order xs h)) in (

@@ -10,10 +10,10 @@ use Rattle.hack_versions.specs.declared.version.VersionRange.{VersionRange}
 use Rattle.hack_versions.specs.declared.version.VersionFault.{VersionFault}
 use Rattle.hack_versions.specs.declared.version.VersionFault.TheVariants as fault
 use Rattle.hack_base.specs.Numbers.{IsNumber}
-use Rattle.hack_versions.specs.VersionTexts.{IsSomeNumber, IsBadNumber, IsVersionText, IsVersionFault, IsCut, IsUncut, IsBare, IsBoundText, IsBoundFault, IsEndText, IsOpen, IsEndFault, IsRangeText, IsRangeTextFault}
+use Rattle.hack_versions.specs.VersionTexts.{IsSomeNumber, IsBadNumber, IsVersionText, IsVersionFault, IsCut, IsUncut, IsBare, IsBoundText, IsBoundFault, IsEndText, IsOpen, IsEndTextFault, IsRangeText, IsRangeTextFault}
 use Rattle.hack_base.specs.Cuts.{front_of, rest_of}
 use Rattle.hack_versions.specs.Readings.{BadRange, BadNumber, OpenInclusive, IsRefusedBy}
-use Rattle.hack_versions.specs.Readings.{End, Sides, ReadRange, then_read, read_as, or_bad, part_of, with_patch, with_minor, version_of, bound_of, behind_equals, end_of, at_dots, with_end, range_at, range_of}
+use Rattle.hack_versions.specs.Readings.{End, Sides, ReadRange, then_read, read_as, or_bad, version_part_of, with_patch, with_minor, version_of, bound_of, behind_equals, end_of, at_dots, with_end, range_at, range_of}
 use Rattle.hack_base.proofs.NumberLemmas.{number-read, number-unread}
 
 Refused-then : {A B : Type 0} (f : A → Result B BadRange) (r : Result A BadRange) (e : VersionFault) → IsRefusedBy r e → IsRefusedBy (then_read f r) e
@@ -34,10 +34,10 @@ Refused-next {A} f r a e h k = subst (λ (x : Result A BadRange). IsRefusedBy (t
 
 -- parts
 
-part-read : (text : List ℕ) (n : ℕ) → IsNumber 32 text n → part_of text ≡ Ok n
+part-read : (text : List ℕ) (n : ℕ) → IsNumber 32 text n → version_part_of text ≡ Ok n
 part-read text n h = ap (or_bad text) (number-read 32 n text h)
 
-part-bad : (text : List ℕ) (e : VersionFault) → IsBadNumber text e → IsRefusedBy (part_of text) e
+part-bad : (text : List ℕ) (e : VersionFault) → IsBadNumber text e → IsRefusedBy (version_part_of text) e
 part-bad text (fault.BadNumber s) h = ap (or_bad text) (number-unread 32 text h.1) ∙ ap (λ t. Err (BadNumber t)) (sym h.0)
 part-bad text fault.MissingMinor h = absurd h
 part-bad text (fault.OpenInclusive s) h = absurd h
@@ -59,16 +59,16 @@ version-read text v h = ap (then_read (λ major. with_minor major (rest_of 46 te
 
 patch-bad : (o : Option (List ℕ)) (major minor : ℕ) (e : VersionFault) → IsSomeAnd o (λ last. IsBadNumber last e) → IsRefusedBy (with_patch major minor o) e
 patch-bad None major minor e h = absurd h
-patch-bad (Some last) major minor e h = Refused-as (λ p. record { major = major; minor = minor; patch = Some p }) (part_of last) e (part-bad last e h)
+patch-bad (Some last) major minor e h = Refused-as (λ p. record { major = major; minor = minor; patch = Some p }) (version_part_of last) e (part-bad last e h)
 
 minor-bad : (o : Option (List ℕ)) (major : ℕ) (e : VersionFault) → MatchOption o (e ≡ fault.MissingMinor) (λ rest. IsBadNumber (front_of 46 rest) e ⊎ (IsSomeNumber (front_of 46 rest) × IsSomeAnd (rest_of 46 rest) (λ last. IsBadNumber last e))) → IsRefusedBy (with_minor major o) e
 minor-bad None major e h = subst (λ (e : VersionFault). IsRefusedBy (with_minor major None) e) (sym h) refl
-minor-bad (Some text) major e (inl h) = Refused-then (λ minor. with_patch major minor (rest_of 46 text)) (part_of (front_of 46 text)) e (part-bad (front_of 46 text) e h)
-minor-bad (Some text) major e (inr h) = Refused-next (λ minor. with_patch major minor (rest_of 46 text)) (part_of (front_of 46 text)) h.0.0 e (part-read (front_of 46 text) h.0.0 h.0.1) (patch-bad (rest_of 46 text) major h.0.0 e h.1)
+minor-bad (Some text) major e (inl h) = Refused-then (λ minor. with_patch major minor (rest_of 46 text)) (version_part_of (front_of 46 text)) e (part-bad (front_of 46 text) e h)
+minor-bad (Some text) major e (inr h) = Refused-next (λ minor. with_patch major minor (rest_of 46 text)) (version_part_of (front_of 46 text)) h.0.0 e (part-read (front_of 46 text) h.0.0 h.0.1) (patch-bad (rest_of 46 text) major h.0.0 e h.1)
 
 version-bad : (text : List ℕ) (e : VersionFault) → IsVersionFault text e → IsRefusedBy (version_of text) e
-version-bad text e (inl h) = Refused-then (λ major. with_minor major (rest_of 46 text)) (part_of (front_of 46 text)) e (part-bad (front_of 46 text) e h)
-version-bad text e (inr h) = Refused-next (λ major. with_minor major (rest_of 46 text)) (part_of (front_of 46 text)) h.0.0 e (part-read (front_of 46 text) h.0.0 h.0.1) (minor-bad (rest_of 46 text) h.0.0 e h.1)
+version-bad text e (inl h) = Refused-then (λ major. with_minor major (rest_of 46 text)) (version_part_of (front_of 46 text)) e (part-bad (front_of 46 text) e h)
+version-bad text e (inr h) = Refused-next (λ major. with_minor major (rest_of 46 text)) (version_part_of (front_of 46 text)) h.0.0 e (part-read (front_of 46 text) h.0.0 h.0.1) (minor-bad (rest_of 46 text) h.0.0 e h.1)
 
 -- bounds
 
@@ -122,7 +122,7 @@ equals-bad : (front back : List ℕ) (e : VersionFault) → IsBoundFault back e 
 equals-bad front [] e h = absurd (h.0 refl)
 equals-bad front (c ∷ cs) e h = Refused-as (ends false) (bound_of Stable (c ∷ cs)) e (bound-bad Stable (c ∷ cs) e h)
 
-end-bad : (front back : List ℕ) (e : VersionFault) → IsEndFault front back e → IsRefusedBy (end_of front back) e
+end-bad : (front back : List ℕ) (e : VersionFault) → IsEndTextFault front back e → IsRefusedBy (end_of front back) e
 end-bad front back e (inl h) = subst (λ (t : List ℕ). IsRefusedBy (end_of front t) e) (sym h.0) (open-bad front e h.1)
 end-bad front back e (inr (inl h)) = subst (λ (t : List ℕ). IsRefusedBy (end_of front t) e) (sym h.1) (equals-bad front h.0 e h.2)
 end-bad front [] e (inr (inr h)) = absurd (h.1.0 refl)
@@ -181,7 +181,7 @@ range-bad : (text : List ℕ) (e : VersionFault) → IsRangeTextFault text e →
 range-bad text e (inl h) = subst (λ (o : Option Sides). IsRefusedBy (range_at text o) e) (sym (uncut-read text h.0)) (Refused-as (with_end (ends false Stable)) (bound_of Msrv text) e (bound-bad Msrv text e h.1))
 range-bad text e (inr h) = subst (λ (o : Option Sides). IsRefusedBy (range_at text o) e) (sym (cut-read text h.0 h.1 h.2)) (sides h.3)
   where
-    sides : IsEndFault h.0 h.1 e ⊎ (((end : MaybeVersion) × (old : Bool) × IsEndText h.1 end old) × IsBoundFault h.0 e) → IsRefusedBy (then_read (with_start h.0) (end_of h.0 h.1)) e
+    sides : IsEndTextFault h.0 h.1 e ⊎ (((end : MaybeVersion) × (old : Bool) × IsEndText h.1 end old) × IsBoundFault h.0 e) → IsRefusedBy (then_read (with_start h.0) (end_of h.0 h.1)) e
     sides (inl k) = Refused-then (with_start h.0) (end_of h.0 h.1) e (end-bad h.0 h.1 e k)
     sides (inr k) = Refused-next (with_start h.0) (end_of h.0 h.1) (ends k.0.1 k.0.0) e (end-read h.0 h.1 k.0.0 k.0.1 k.0.2) (Refused-as (with_end (ends k.0.1 k.0.0)) (bound_of Msrv h.0) e (bound-bad Msrv h.0 e k.1))
 

@@ -47,25 +47,25 @@ or_bad text (Some n) = Ok n
 or_bad text None = Err (BadNumber text)
 
 -- a part of a version, a number below 2^32
-abbrev pub part_of : List ℕ → Result ℕ BadRange
-part_of text = or_bad text (number_of 32 text)
+abbrev pub version_part_of : List ℕ → Result ℕ BadRange
+version_part_of text = or_bad text (number_of 32 text)
 
 -- a version with these parts, given the text after the second dot
 abbrev pub with_patch : ℕ → ℕ → Option (List ℕ) → Result Version BadRange
 with_patch major minor None = Ok (record { major = major; minor = minor; patch = None })
 with_patch major minor (Some text) =
-    read_as (λ patch. record { major = major; minor = minor; patch = Some patch }) (part_of text)
+    read_as (λ patch. record { major = major; minor = minor; patch = Some patch }) (version_part_of text)
 
 -- a version with this major part, given the text after the first dot
 abbrev pub with_minor : ℕ → Option (List ℕ) → Result Version BadRange
 with_minor major None = Err MissingMinor
 with_minor major (Some text) =
-    then_read (λ minor. with_patch major minor (rest_of 46 text)) (part_of (front_of 46 text))
+    then_read (λ minor. with_patch major minor (rest_of 46 text)) (version_part_of (front_of 46 text))
 
 -- a version, split at its first two dots
 abbrev pub version_of : List ℕ → Result Version BadRange
 version_of text =
-    then_read (λ major. with_minor major (rest_of 46 text)) (part_of (front_of 46 text))
+    then_read (λ major. with_minor major (rest_of 46 text)) (version_part_of (front_of 46 text))
 
 -- a bound of a range: a version, or the bound that an empty text means
 abbrev pub bound_of : MaybeVersion → List ℕ → Result MaybeVersion BadRange

@@ -1,15 +1,15 @@
 -- What a command line leads to once its uses of options are judged.
 use Rattle.std.proofs.Common.{◌≡◌, ℕ, List, Option, Some, None, Err, IfSome, MatchOption, ap, refl, sym, subst, ◌∙◌}
 use Rattle.hack_uses.specs.declared.behavior.WorkspaceBehavior.{WorkspaceBehavior}
-use Rattle.hack_uses.specs.Faults.{Fault as WrongCut, fault_of as cut_fault_of}
+use Rattle.hack_uses.specs.Faults.{ArgumentFault as WrongCut, argument_fault_of as cut_fault_of}
 use Rattle.hack_uses.specs.declared.fault.CutFault.{CutFault}
 use Rattle.hack_uses.specs.declared.fault.CutFault.TheVariants as cut
-use Rattle.hack_uses.specs.Reads.{Ends, Reading, Met, End, Prints, Fails, IsLast}
+use Rattle.hack_uses.specs.UseReading.{ReadsUsesThen, Reading, Met, End, Prints, Fails, IsLast}
 use Rattle.hack_uses.specs.Uses.{Use}
 use Rattle.hack_uses.specs.declared.cut.Print.{Print as Question}
 use Rattle.hack_base.specs.Notes.{Note}
-use Rattle.hack_words.specs.Answers.{Answers, Refuses, IsJudged, IsPrinted, GivesCuts, BreakNoRule}
-use Rattle.hack_words.specs.Call.{Around, Outcome, IsEnd, ComesFrom, ComesTo, Faulty, outcome_of}
+use Rattle.hack_words.specs.ParseAnswers.{AnswersCommandLine, Refuses, IsJudged, IsPrinted, GivesCuts, BreakNoRule}
+use Rattle.hack_words.specs.CommandLine.{Around, CommandLineOutcome, IsEnd, ComesFrom, ComesTo, Faulty, outcome_of}
 use Rattle.hack_rules.specs.CliFaults.{Fault, Cut, fault_of, told_of_cut}
 use Rattle.hack_rules.specs.declared.fault.CliFault.{CliFault}
 use Rattle.hack_rules.specs.declared.fault.CliFault.TheVariants as fault
@@ -19,18 +19,18 @@ use Rattle.hack_rules.specs.Rules.{Verdict, Refused, refused_by, verdict_or}
 use Rattle.hack_words.specs.declared.cli.parse.Parsed.{Parsed}
 use Rattle.hack_words.specs.declared.cli.parse.Parsed.TheVariants as code
 
-pub judged-answers : (around : Around) (behavior : WorkspaceBehavior) (cut trailing : List (List ℕ)) (us : List Use) (parsed : Parsed) (notes : List Note) → Ends cut us End → IsJudged around behavior trailing us parsed notes → Answers around (ComesFrom around (Cuts behavior cut trailing)) parsed notes
+pub judged-answers : (around : Around) (behavior : WorkspaceBehavior) (cut trailing : List (List ℕ)) (us : List Use) (parsed : Parsed) (notes : List Note) → ReadsUsesThen cut us End → IsJudged around behavior trailing us parsed notes → AnswersCommandLine around (ComesFrom around (Cuts behavior cut trailing)) parsed notes
 judged-answers around behavior cut trailing us (code.Args args) notes ends h = (behavior, trailing, us, (us, End, ends, sym h.0), h.1, h.2)
 judged-answers around behavior cut trailing us (code.Print text) notes ends h = absurd h
 judged-answers around behavior cut trailing us code.List notes ends h = (us, (us, End, ends, sym h.0), h.1)
 
-pub printed-answers : (around : Around) (behavior : WorkspaceBehavior) (cut trailing : List (List ℕ)) (us : List Use) (print : Question) (parsed : Parsed) (notes : List Note) → Ends cut us (Prints print) → IsPrinted print parsed notes → Answers around (ComesFrom around (Cuts behavior cut trailing)) parsed notes
+pub printed-answers : (around : Around) (behavior : WorkspaceBehavior) (cut trailing : List (List ℕ)) (us : List Use) (print : Question) (parsed : Parsed) (notes : List Note) → ReadsUsesThen cut us (Prints print) → IsPrinted print parsed notes → AnswersCommandLine around (ComesFrom around (Cuts behavior cut trailing)) parsed notes
 printed-answers around behavior cut trailing us print (code.Args args) notes ends h = absurd h
 printed-answers around behavior cut trailing us print (code.Print text) notes ends h = (print, (us, Prints print, ends, refl), h.0, h.1)
 printed-answers around behavior cut trailing us print code.List notes ends h = absurd h
 
 -- a parse error, as the call reports it
-pub cut-told : (words : List (List ℕ)) (e : CutFault) → IfSome (cut_fault_of e) (λ wrong. (us : List Use) × Ends words us (Fails wrong)) → GivesCuts (Err (told_of_cut e)) words
+pub cut-told : (words : List (List ℕ)) (e : CutFault) → IfSome (cut_fault_of e) (λ wrong. (us : List Use) × ReadsUsesThen words us (Fails wrong)) → GivesCuts (Err (told_of_cut e)) words
 cut-told words cut.Memory h = refl
 cut-told words (cut.Missing flag) h = (h.0, _, refl, h.1)
 cut-told words (cut.Unexpected flag value) h = (h.0, _, refl, h.1)
@@ -40,15 +40,15 @@ cut-told words cut.BehaviorForm h = (h.0, _, refl, h.1)
 cut-told words (cut.Removed name instead) h = (h.0, _, refl, h.1)
 cut-told words (cut.Similar name meant subcommand) h = (h.0, _, refl, h.1)
 
-pub cut-refuses : (around : Around) (behavior : WorkspaceBehavior) (cut trailing : List (List ℕ)) (Q : Type 0) (o : Option Fault) → MatchOption o Q (λ fault. (us : List Use) × (f : WrongCut) × (fault ≡ Cut f) × Ends cut us (Fails f)) → MatchOption o Q (λ fault. ComesFrom around (Cuts behavior cut trailing) (Faulty fault))
+pub cut-refuses : (around : Around) (behavior : WorkspaceBehavior) (cut trailing : List (List ℕ)) (Q : Type 0) (o : Option Fault) → MatchOption o Q (λ fault. (us : List Use) × (f : WrongCut) × (fault ≡ Cut f) × ReadsUsesThen cut us (Fails f)) → MatchOption o Q (λ fault. ComesFrom around (Cuts behavior cut trailing) (Faulty fault))
 cut-refuses around behavior cut trailing Q (Some fault) h = (h.0, Fails h.1, h.3, ap Faulty h.2)
 cut-refuses around behavior cut trailing Q None h = h
 
-judged-refuses : (around : Around) (behavior : WorkspaceBehavior) (cut trailing : List (List ℕ)) (us : List Use) (Q : Type 0) (o : Option Fault) → Ends cut us End → MatchOption o Q (λ fault. outcome_of around behavior trailing us ≡ Faulty fault) → MatchOption o Q (λ fault. ComesFrom around (Cuts behavior cut trailing) (Faulty fault))
+judged-refuses : (around : Around) (behavior : WorkspaceBehavior) (cut trailing : List (List ℕ)) (us : List Use) (Q : Type 0) (o : Option Fault) → ReadsUsesThen cut us End → MatchOption o Q (λ fault. outcome_of around behavior trailing us ≡ Faulty fault) → MatchOption o Q (λ fault. ComesFrom around (Cuts behavior cut trailing) (Faulty fault))
 judged-refuses around behavior cut trailing us Q (Some fault) ends h = (us, End, ends, sym h)
 judged-refuses around behavior cut trailing us Q None ends h = h
 
-pub fault-refuses : (around : Around) (behavior : WorkspaceBehavior) (cut trailing : List (List ℕ)) (us : List Use) (e : CliFault) → Ends cut us End → MatchOption (fault_of e) (e ≡ fault.Memory) (λ told. outcome_of around behavior trailing us ≡ Faulty told) → Refuses (ComesFrom around (Cuts behavior cut trailing)) e
+pub fault-refuses : (around : Around) (behavior : WorkspaceBehavior) (cut trailing : List (List ℕ)) (us : List Use) (e : CliFault) → ReadsUsesThen cut us End → MatchOption (fault_of e) (e ≡ fault.Memory) (λ told. outcome_of around behavior trailing us ≡ Faulty told) → Refuses (ComesFrom around (Cuts behavior cut trailing)) e
 fault-refuses around behavior cut trailing us e ends h = judged-refuses around behavior cut trailing us (e ≡ fault.Memory) (fault_of e) ends h
 
 -- where no earlier rule is broken, a refusal for a missing subcommand is the verdict
@@ -58,19 +58,19 @@ bare-refused None Q early bare after e h = h
 
 -- a command line has one outcome
 
-end-last : (around : Around) (behavior : WorkspaceBehavior) (trailing : List (List ℕ)) (us : List Use) (r : Reading) (o : Outcome) → IsEnd around behavior trailing us r o → IsLast r
+end-last : (around : Around) (behavior : WorkspaceBehavior) (trailing : List (List ℕ)) (us : List Use) (r : Reading) (o : CommandLineOutcome) → IsEnd around behavior trailing us r o → IsLast r
 end-last around behavior trailing us (Met one left) o h = h
 end-last around behavior trailing us End o h = tt
 end-last around behavior trailing us (Prints print) o h = tt
 end-last around behavior trailing us (Fails cut) o h = tt
 
-end-one : (around : Around) (behavior : WorkspaceBehavior) (trailing : List (List ℕ)) (us : List Use) (r : Reading) (a b : Outcome) → IsEnd around behavior trailing us r a → IsEnd around behavior trailing us r b → a ≡ b
+end-one : (around : Around) (behavior : WorkspaceBehavior) (trailing : List (List ℕ)) (us : List Use) (r : Reading) (a b : CommandLineOutcome) → IsEnd around behavior trailing us r a → IsEnd around behavior trailing us r b → a ≡ b
 end-one around behavior trailing us (Met one left) a b h k = absurd h
 end-one around behavior trailing us End a b h k = h ∙ sym k
 end-one around behavior trailing us (Prints print) a b h k = h ∙ sym k
 end-one around behavior trailing us (Fails cut) a b h k = h ∙ sym k
 
-from-one : (around : Around) (start : Start) (a b : Outcome) → ComesFrom around start a → ComesFrom around start b → a ≡ b
+from-one : (around : Around) (start : Start) (a b : CommandLineOutcome) → ComesFrom around start a → ComesFrom around start b → a ≡ b
 from-one around (Begun told) a b h k = h ∙ sym k
 from-one around (Cuts behavior cut trailing) a b h k =
     let one = ends-one cut h.0 k.0 h.1 k.1 h.2 (end-last around behavior trailing h.0 h.1 a h.3) k.2 (end-last around behavior trailing k.0 k.1 b k.3) in
@@ -78,11 +78,11 @@ from-one around (Cuts behavior cut trailing) a b h k =
     let at_end = subst (λ r. IsEnd around behavior trailing h.0 r b) (sym one.1) at_us in
     end-one around behavior trailing h.0 h.1 a b h.3 at_end
 
-pub outcome-one : (around : Around) (words : List (List ℕ)) (a b : Outcome) → ComesTo around words a → ComesTo around words b → a ≡ b
+pub outcome-one : (around : Around) (words : List (List ℕ)) (a b : CommandLineOutcome) → ComesTo around words a → ComesTo around words b → a ≡ b
 outcome-one around words a b = from-one around (start_of words) a b
 
 -- an answer is never an error
-pub answers-never : (around : Around) (words : List (List ℕ)) (parsed : Parsed) (notes : List Note) → Answers around (ComesTo around words) parsed notes → BreakNoRule around words
+pub answers-never : (around : Around) (words : List (List ℕ)) (parsed : Parsed) (notes : List Note) → AnswersCommandLine around (ComesTo around words) parsed notes → BreakNoRule around words
 answers-never around words (code.Args args) notes h told k = absurd (let e = outcome-one around words _ _ h.3 k in cc e)
 answers-never around words code.List notes h told k = absurd (let e = outcome-one around words _ _ h.1 k in cc e)
 answers-never around words (code.Print text) notes h told k = absurd (let e = outcome-one around words _ _ h.1 k in cc e)

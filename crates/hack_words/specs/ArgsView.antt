@@ -7,11 +7,11 @@ use Rattle.hack_uses.specs.Uses.{Use, is_given, subcommand_of}
 use Rattle.hack_uses.specs.Values.{value_given, values_given}
 use Rattle.hack_words.specs.declared.cli.args.Args.{Args}
 use Rattle.hack_words.specs.declared.cli.args.Read.{Read}
-use Rattle.hack_rules.specs.Asked.{coloring_asked, depth_asked, strength_asked, range_asked, step_asked, log_group_asked, piece_asked, kind_asked, leading_asked, excluded_asked, excludes_no_default, excludes_all, ignores_private}
+use Rattle.hack_rules.specs.AskedFields.{coloring_asked, depth_asked, strength_asked, range_asked, step_asked, log_group_asked, piece_asked, kind_asked, leading_asked, excluded_asked, excludes_no_default, excludes_all, ignores_private}
 use Rattle.hack_rules.specs.CliGroups.{AreGroupsOf, AreNormalsOf, AreLifts}
 use Rattle.hack_rules.specs.CliLists.{names_given, optional_given, lifts_given}
-use Rattle.hack_rules.specs.Listed.{listed_by}
-use Rattle.hack_rules.specs.CliTargets.{AreRising, AreSame}
+use Rattle.hack_rules.specs.ListedFeatures.{listed_by}
+use Rattle.hack_rules.specs.CliTargets.{AreRising, HaveSameTexts}
 
 -- the options without a value
 pub record HasFlags (us : List Use) (args : Args) : Type 0 where
@@ -46,7 +46,7 @@ pub record HasTexts (behavior : WorkspaceBehavior) (us : List Use) (args : Args)
   pub exclude_features : names_of args.exclude_features.items ≡ excluded_asked us
   pub optional_deps : option_map (λ names. names_of names.items) args.optional_deps ≡ optional_given us
   pub target_rising : AreRising (names_of args.target.items)
-  pub target_same : AreSame (names_of args.target.items) (values_given opt.Target us)
+  pub target_same : HaveSameTexts (names_of args.target.items) (values_given opt.Target us)
 
 -- the features and their groups
 pub record HasFeatures (us : List Use) (args : Args) : Type 0 where

@@ -1,7 +1,7 @@
 -- What a call reads from its environment.
 use Rattle.std.specs.Prelude.{◌≡◌, ℕ, List, [], ◌∷◌, Bool, true, false, Option, Some, None, String, string_bytes, codes, map, bytes_eq, if◌then◌else◌}
 use Rattle.hack_base.specs.Names.{optional_text}
-use Rattle.hack_rules.specs.Asked.{or_else, or_next}
+use Rattle.hack_rules.specs.AskedFields.{or_else, or_next}
 use Rattle.hack_words.specs.declared.cli.env.Env.{Env}
 
 -- an environment variable

@@ -1,6 +1,6 @@
-pub mod Answers
+pub mod ParseAnswers
 pub mod ArgsView
-pub mod Call
+pub mod CommandLine
 pub mod EnvView
 pub mod RustupView
 pub mod Start

@@ -15,9 +15,9 @@ abbrev pub start_in : CodeStart → Start
 start_in start = Cuts start.behavior (names_of start.words.items) (names_of start.trailing.items)
 
 -- the code returns the start of the command line
-abbrev pub Begins : Result CodeStart CliFault → List (List ℕ) → Type 0
-Begins (Ok start) words = start_of words ≡ start_in start
-Begins (Err e) words = MatchOption (fault_of e) (e ≡ fault.Memory) (λ told. start_of words ≡ Refuses told)
+abbrev pub ReturnsStart : Result CodeStart CliFault → List (List ℕ) → Type 0
+ReturnsStart (Ok start) words = start_of words ≡ start_in start
+ReturnsStart (Err e) words = MatchOption (fault_of e) (e ≡ fault.Memory) (λ told. start_of words ≡ Refuses told)
 
 -- what the code takes out of the arguments before --, or the error that the argument is repeated
 abbrev pub TakesOut : Result Front CliFault → List (List ℕ) → Type 0

@@ -3,12 +3,12 @@
 ghost use Rattle.std.specs.Prelude.{◌≡◌, ◌++◌, IfOk, OnOk, codes, string_bytes};
 ghost use Rattle.std.specs.List.{repeat};
 ghost use Rattle.hack_base.specs.Names.{names_of, optional_text_ref, optional_text};
-ghost use Rattle.hack_uses.specs.Passed.{leading_of};
+ghost use Rattle.hack_uses.specs.PassedWords.{leading_of};
 ghost use Rattle.hack_uses.specs.Uses.{views};
 ghost use Rattle.hack_uses.specs.Values.{values_given};
-ghost use Rattle.hack_rules.specs.Asked.{verbose_words, excludes_no_default, excludes_all};
-ghost use Rattle.hack_rules.specs.Asked.{ignores_private as private_ignored};
-ghost use Rattle.hack_rules.specs.ListsView.{listed_in};
+ghost use Rattle.hack_rules.specs.AskedFields.{verbose_words, excludes_no_default, excludes_all};
+ghost use Rattle.hack_rules.specs.AskedFields.{ignores_private as private_ignored};
+ghost use Rattle.hack_rules.specs.ListsView.{listed_view};
 
 use hack_base::copies::{copy_of, push_copies};
 use hack_features::Feature;
@@ -114,7 +114,7 @@ fn pass_verbose(alloc: Global, leading: &mut Vec<String>, said: usize) -> Result
 
 /// Whether the run without default features is left out.
 fn leaves_no_default(lists: &Lists, uses: &[Use]) -> bool
-    ensures { result ≡ excludes_no_default (listed_in lists.now) (views uses.now) }
+    ensures { result ≡ excludes_no_default (listed_view lists.now) (views uses.now) }
 {
     given(Opt::ExcludeNoDefaultFeatures, uses)
         || given(Opt::AtLeastOneOf, uses)
@@ -124,7 +124,7 @@ fn leaves_no_default(lists: &Lists, uses: &[Use]) -> bool
 /// Whether the run with all features is left out: it would have features that are excluded, or that
 /// exclude each other.
 fn leaves_all(lists: &Lists, uses: &[Use]) -> bool
-    ensures { result ≡ excludes_all (listed_in lists.now) (views uses.now) }
+    ensures { result ≡ excludes_all (listed_view lists.now) (views uses.now) }
 {
     given(Opt::ExcludeAllFeatures, uses)
         || has_some(lists.include_features.as_slice())
@@ -160,13 +160,13 @@ pub struct Read {
 impl Args {
     ghost use Rattle.hack_words.specs.ArgsView.{HasFlags, HasTexts, HasFeatures, Carries};
     ghost use Rattle.hack_rules.specs.CliGroups.{AreGroupsOf};
-    ghost use Rattle.hack_rules.specs.Listed.{listed_by};
+    ghost use Rattle.hack_rules.specs.ListedFeatures.{listed_by};
 
     /// The arguments, from the uses of options and from what the rules read.
     pub(crate) fn of(alloc: Global, read: Read, uses: &[Use]) -> Result<Args, AllocError>
         requires passed { names_of read.call.passed.items
             ≡ leading_of read.call.behavior (views uses.now) }
-        requires listed { listed_in read.call.lists ≡ listed_by (views uses.now) }
+        requires listed { listed_view read.call.lists ≡ listed_by (views uses.now) }
         requires groups { AreGroupsOf (values_given Opt.GroupFeatures
             (views uses.now)) read.call.lists.group_features.items }
         requires exclusive { AreGroupsOf

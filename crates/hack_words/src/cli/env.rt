@@ -2,7 +2,7 @@
 
 ghost use Rattle.std.specs.Prelude.{◌≡◌, IfOk, string_bytes};
 ghost use Rattle.hack_base.specs.Names.{optional_text_ref};
-ghost use Rattle.hack_rules.specs.Asked.{or_else};
+ghost use Rattle.hack_rules.specs.AskedFields.{or_else};
 ghost use Rattle.hack_words.specs.EnvView.{IsEnv, variable as variable_named, is_set as set};
 ghost use Rattle.hack_words.specs.EnvView.{vars_of};
 

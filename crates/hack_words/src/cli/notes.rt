@@ -4,9 +4,9 @@ ghost use Rattle.std.specs.Prelude.{◌≡◌, ◌++◌, IfOk, OnOk, true, codes
 ghost use Rattle.hack_base.specs.Names.{optional_text_ref};
 ghost use Rattle.hack_base.specs.Notes.{AddsNotes};
 ghost use Rattle.hack_base.specs.Notes.{note_if};
-ghost use Rattle.hack_words.specs.Call.{unknown_words, rustup_words, rustup_notes};
-ghost use Rattle.hack_words.specs.Call.{old_words, old_notes, editing_words, edits_words};
-ghost use Rattle.hack_words.specs.Call.{edit_notes, new_form as newer_form};
+ghost use Rattle.hack_words.specs.CommandLine.{unknown_words, rustup_words, rustup_notes};
+ghost use Rattle.hack_words.specs.CommandLine.{old_words, old_notes, editing_words, edits_words};
+ghost use Rattle.hack_words.specs.CommandLine.{editing_notes, new_form as newer_form};
 ghost use Rattle.hack_words.specs.RustupView.{unknown_of};
 
 use hack_base::notice::{Notice, NoticeKind, tell};
@@ -129,7 +129,7 @@ pub fn tell_edits(
     no_dev_deps: bool,
     no_private: bool,
 ) -> Result<(), AllocError>
-    ensures { OnOk result (AddsNotes notices.old notices.new (edit_notes no_dev_deps no_private)) }
+    ensures { OnOk result (AddsNotes notices.old notices.new (editing_notes no_dev_deps no_private)) }
 {
     let edits = no_dev_deps || no_private;
     if edits {

@@ -3,17 +3,17 @@
 ghost use Rattle.std.specs.Prelude.{List, ◌≡◌, IfOk, IfErr, MatchOption, OnOk, map};
 ghost use Rattle.std.specs.Prelude.{string_bytes};
 ghost use Rattle.hack_base.specs.Names.{names_of};
-ghost use Rattle.hack_uses.specs.Passed.{leading_of};
+ghost use Rattle.hack_uses.specs.PassedWords.{leading_of};
 ghost use Rattle.hack_uses.specs.Uses.{views};
 ghost use Rattle.hack_base.specs.Notes.{note_of, AddsNotes};
-ghost use Rattle.hack_words.specs.Answers.{Judges, IsJudged, IsText, IsPrinted, Answers};
-ghost use Rattle.hack_words.specs.Answers.{Refuses, GivesCuts, BreakNoRule, around_of, around_in};
-ghost use Rattle.hack_rules.specs.Asked.{is_old_asked};
-ghost use Rattle.hack_words.specs.Call.{ComesFrom, ComesTo, Faulty, outcome_of};
-ghost use Rattle.hack_words.specs.Call.{later_notes, in_vain};
+ghost use Rattle.hack_words.specs.ParseAnswers.{Judges, IsJudged, IsText, IsPrinted, AnswersCommandLine};
+ghost use Rattle.hack_words.specs.ParseAnswers.{Refuses, GivesCuts, BreakNoRule, around_of, around_in};
+ghost use Rattle.hack_rules.specs.AskedFields.{is_old_asked};
+ghost use Rattle.hack_words.specs.CommandLine.{ComesFrom, ComesTo, Faulty, outcome_of};
+ghost use Rattle.hack_words.specs.CommandLine.{later_notes, in_vain};
 ghost use Rattle.hack_rules.specs.CliFaults.{fault_of};
-ghost use Rattle.hack_rules.specs.Listed.{listed_by};
-ghost use Rattle.hack_rules.specs.ListsView.{listed_in};
+ghost use Rattle.hack_rules.specs.ListedFeatures.{listed_by};
+ghost use Rattle.hack_rules.specs.ListsView.{listed_view};
 ghost use Rattle.hack_words.specs.StartView.{start_in};
 ghost use Rattle.hack_words.specs.RustupView.{known_of, unknown_of};
 
@@ -75,7 +75,7 @@ fn keep_rules(
 ) -> Result<Checked, CliFault>
     requires passed { names_of call.now.passed.items
         ≡ leading_of call.now.behavior (views uses.now) }
-    requires listed { listed_in call.now.lists ≡ listed_by (views uses.now) }
+    requires listed { listed_view call.now.lists ≡ listed_by (views uses.now) }
     ensures { Judges result call.now.behavior (around_in around.entry) (views uses.now) }
 {
     let Surroundings { env, rustup } = around;
@@ -114,7 +114,7 @@ fn tell(
 
 /// Whether unknown features are to be ignored where they can't be.
 fn ignores_in_vain(lists: &Lists, uses: &[Use]) -> bool
-    ensures { result ≡ in_vain (listed_in lists.now) (views uses.now) }
+    ensures { result ≡ in_vain (listed_view lists.now) (views uses.now) }
 {
     given(Opt::IgnoreUnknownFeatures, uses) && has_some(lists.include_features.as_slice())
 }
@@ -192,7 +192,7 @@ fn parse_start(
     start: Start,
 ) -> Result<(Parsed, Vec<Notice>), CliFault>
     ensures ok { IfOk result (λ answer.
-        Answers (around_in around.entry)
+        AnswersCommandLine (around_in around.entry)
         (ComesFrom (around_in around.entry) (start_in start)) answer.0
         (map note_of answer.1.items)) }
     ensures err { IfErr result (Refuses (ComesFrom (around_in around.entry) (start_in start))) }
@@ -215,7 +215,7 @@ fn read_words(
     words: &[String],
 ) -> Result<(Parsed, Vec<Notice>), CliFault>
     ensures ok { IfOk result (λ answer.
-        Answers (around_in around.entry)
+        AnswersCommandLine (around_in around.entry)
         (ComesTo (around_in around.entry) (names_of words.now)) answer.0
         (map note_of answer.1.items)) }
     ensures err { IfErr result (Refuses (ComesTo (around_in around.entry) (names_of words.now))) }
@@ -234,7 +234,7 @@ impl Args {
         rustup: Rustup,
     ) -> Result<(Parsed, Vec<Notice>), CliFault>
         ensures ok { IfOk result (λ answer.
-            Answers (around_of env.now rustup)
+            AnswersCommandLine (around_of env.now rustup)
             (ComesTo (around_of env.now rustup) (names_of words.now)) answer.0
             (map note_of answer.1.items)) }
         ensures never { IfOk result (λ _.

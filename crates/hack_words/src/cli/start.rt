@@ -6,7 +6,7 @@ ghost use Rattle.hack_words.specs.Start.{front_words, trailing_words, is_behavio
 ghost use Rattle.hack_words.specs.Start.{is_range_option as range_option};
 ghost use Rattle.hack_words.specs.Start.{has_range as range_with_value};
 ghost use Rattle.hack_words.specs.Start.{wants_rustup as rustup_wanted};
-ghost use Rattle.hack_words.specs.StartView.{Begins, TakesOut};
+ghost use Rattle.hack_words.specs.StartView.{ReturnsStart, TakesOut};
 
 use hack_base::copies::copies;
 use hack_options::Opt;
@@ -104,7 +104,7 @@ pub struct Start {
 impl Start {
     /// The first argument must be `hack`. The arguments after it are parsed, up to the first `--`.
     pub fn of(alloc: Global, words: &[String]) -> Result<Start, CliFault>
-        ensures { Begins result (names_of words.now) }
+        ensures { ReturnsStart result (names_of words.now) }
     {
         let [first, rest @ ..] = words else {
             return Err(CliFault::NoWord);

@@ -1,5 +1,5 @@
 use Rattle.std.proofs.Common.{ℕ, ◌+◌, ◌<◌}
-use Rattle.hack_manifest.specs.Fronts.{IsFrontTo}
+use Rattle.hack_manifest.specs.PieceFronts.{IsFrontTo}
 use Rattle.hack_edits.proofs.arrays.first_front.Given as goal
 
 abbrev pub invariant-loop-i : goal.invariant-loop-i

@@ -1,5 +1,5 @@
 use Rattle.std.proofs.Common.{◌≡◌, drop}
-use Rattle.hack_manifest.specs.View.{slice_view}
+use Rattle.hack_manifest.specs.PieceView.{slice_view}
 use Rattle.hack_edits.specs.DevDeps.{some_dev}
 use Rattle.hack_edits.proofs.dev_deps.any_dev.Given as goal
 

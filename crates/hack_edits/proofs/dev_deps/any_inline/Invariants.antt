@@ -1,6 +1,6 @@
 use Rattle.std.proofs.Common.{◌≡◌, drop}
 use Rattle.toml.specs.View.{table_view}
-use Rattle.hack_manifest.specs.View.{slice_view}
+use Rattle.hack_manifest.specs.PieceView.{slice_view}
 use Rattle.hack_edits.specs.DevDeps.{some_inline}
 use Rattle.hack_edits.proofs.dev_deps.any_inline.Given as goal
 

@@ -1,9 +1,9 @@
 use Rattle.std.proofs.Common.{◌≡◌, ◌⊎◌, ◌++◌, ℕ, List, ap, sym, subst, inl, inr, true, false, ◌∙◌, string_bytes, map}
 use Rattle.std.proofs.lemmas.Bool.{false≢true}
 use Rattle.toml.specs.View.{table_view}
-use Rattle.hack_manifest.specs.View.{piece_view}
+use Rattle.hack_manifest.specs.PieceView.{piece_view}
 use Rattle.hack_edits.specs.DevDeps.{IsLeft, AreLeft}
-use Rattle.hack_edits.specs.Recut.{IsRecut, AreRecut, Leaves}
+use Rattle.hack_edits.specs.LeftPieces.{IsRecut, AreRecut, AppendsWhatIsLeft}
 use Rattle.hack_edits.proofs.LeftLemmas.{parts-more, cuts_arrays-more, cuts_arrays-here}
 use Rattle.hack_edits.proofs.dev_deps.join_pieces.Goals.{then-known, else-known}
 use Rattle.hack_edits.proofs.dev_deps.join_pieces.Goals as goal
@@ -17,7 +17,7 @@ loop-piece-preserved c =
     let ps = map piece_view xs in
     let tail = c.args.tail.now in
     let before = string_bytes c.loop-piece.text in
-    let left : Leaves old (piece_view x) c.in-Some.same before (string_bytes c.push_left.new.text) = rw c.in-Some.is at c.in_ok-same.ensures.left in
+    let left : AppendsWhatIsLeft old (piece_view x) c.in-Some.same before (string_bytes c.push_left.new.text) = rw c.in-Some.is at c.in_ok-same.ensures.left in
     let inside = c.loop-piece-test.true in
     let so_far = c.loop-piece.invariant in
     let both : c.if-known.known ≡ true → (c.loop-piece.known ≡ true) × (c.in-Some.same ≡ true) = λ h. elim c.if-known.branch [

@@ -1,8 +1,8 @@
 use Rattle.std.proofs.Common.{◌≡◌, List, ◌++◌, ℕ, map, drop, string_bytes, true, false}
 use Rattle.toml.specs.View.{table_view}
 use Rattle.hack_edits.specs.DevDeps.{AreLeft, cuts_arrays}
-use Rattle.hack_edits.specs.Recut.{AreRecut}
-use Rattle.hack_manifest.specs.View.{piece_view}
+use Rattle.hack_edits.specs.LeftPieces.{AreRecut}
+use Rattle.hack_manifest.specs.PieceView.{piece_view}
 use Rattle.hack_edits.proofs.dev_deps.join_pieces.Given as goal
 
 -- what is left of the rest comes after what was joined

@@ -1,8 +1,8 @@
 use Rattle.std.proofs.Common.{◌++◌, ℕ, List, ap, subst, ◌∙◌, string_bytes}
 use Rattle.toml.specs.View.{table_view}
-use Rattle.hack_manifest.specs.View.{piece_view}
+use Rattle.hack_manifest.specs.PieceView.{piece_view}
 use Rattle.hack_edits.specs.Arrays.{IsCutInside}
-use Rattle.hack_edits.specs.Recut.{KeepsKey}
+use Rattle.hack_edits.specs.LeftPieces.{KeepsKey}
 use Rattle.hack_edits.proofs.LeftLemmas.{left-cut, recut-cut}
 use Rattle.hack_edits.proofs.dev_deps.push_thinned.Goals as goal
 

@@ -2,7 +2,7 @@ use Rattle.std.proofs.Common.{◌≡◌, Some, true, sym, ap, ◌∙◌}
 use Rattle.std.proofs.lemmas.Bool.{false≢true}
 use Rattle.toml.specs.View.{table_view}
 use Rattle.toml.specs.Parse.{parse_document}
-use Rattle.hack_manifest.specs.View.{slice_view, pieces_view}
+use Rattle.hack_manifest.specs.PieceView.{slice_view, pieces_view}
 use Rattle.hack_edits.specs.DevDeps.{has_dev_work}
 use Rattle.hack_edits.proofs.AgainLemmas.{no-work}
 use Rattle.hack_edits.proofs.dev_deps.remove_dev_deps.Goals as goal

@@ -1,5 +1,5 @@
 use Rattle.std.proofs.Common.{◌≡◌, drop}
-use Rattle.hack_manifest.specs.View.{slice_view}
+use Rattle.hack_manifest.specs.PieceView.{slice_view}
 use Rattle.hack_edits.specs.PrivateCrates.{some_header}
 use Rattle.hack_edits.proofs.private_crates.any_header.Given as goal
 

@@ -2,7 +2,7 @@ use Rattle.std.proofs.Common.{◌≡◌, ◌++◌, ap, ◌∙◌, map}
 use Rattle.toml.specs.View.{table_view}
 use Rattle.hack_base.specs.PathTexts.{parent_of}
 use Rattle.hack_base.specs.Names.{names_behind}
-use Rattle.hack_manifest.specs.View.{piece_view}
+use Rattle.hack_manifest.specs.PieceView.{piece_view}
 use Rattle.hack_edits.specs.PrivateCrates.{IsMade}
 use Rattle.hack_edits.proofs.LeftLemmas.{parts-more}
 use Rattle.hack_edits.proofs.private_crates.joined_parts.Goals as goal

@@ -1,6 +1,6 @@
 use Rattle.std.proofs.Common.{List, ◌++◌, ℕ, map, drop}
 use Rattle.toml.specs.View.{table_view}
-use Rattle.hack_manifest.specs.View.{piece_view}
+use Rattle.hack_manifest.specs.PieceView.{piece_view}
 use Rattle.hack_edits.specs.PrivateCrates.{AreMade}
 use Rattle.hack_base.specs.PathTexts.{parent_of}
 use Rattle.hack_base.specs.Names.{names_behind}

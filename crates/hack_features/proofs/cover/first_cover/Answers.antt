@@ -1,8 +1,8 @@
 use Rattle.std.proofs.Common.{◌≡◌, ◌<◌, ◌+◌, ◌-◌, [], List, ℕ, Bool, cond, sym, ap, subst, length, get_or, arith}
 use Rattle.std.specs.List.{remove}
 use Rattle.hack_features.specs.Cover.{covers_test}
-use Rattle.hack_features.specs.Sets.{rows_of}
-use Rattle.hack_features.specs.Routed.{names_in}
+use Rattle.hack_samples.specs.Sets.{rows_of}
+use Rattle.hack_features.specs.RoutesView.{routed_names}
 use Rattle.hack_features.proofs.CoverLemmas.{Greedy, greedy_start, greedy_turn, greedy_end, kept_room}
 use Rattle.hack_features.proofs.cover.first_cover.Goals as goal
 
@@ -27,7 +27,7 @@ loop-place-preserved c =
       room = kept_room _ kept place at c.in_ok-kept-2.kept.items next;
       greedy = λ k are sel w.
           let up : c.loop-place.place ≡ place + 1 = omega (arith, c.loop-place-test.true) in
-          greedy_turn k (names_in e.routes) e.routes.keys.items marks all (rows_of e.groups.items) are c.args.positions.now sel place (omega (arith, c.loop-place.invariant.small, c.loop-place-test.true)) kept
+          greedy_turn k (routed_names e.routes) e.routes.keys.items marks all (rows_of e.groups.items) are c.args.positions.now sel place (omega (arith, c.loop-place.invariant.small, c.loop-place-test.true)) kept
           (subst (λ m. Greedy k c.args.positions.now m kept) up (c.loop-place.invariant.greedy k are sel w)) c.in_ok-kept-2.kept.items next;
     }
 

@@ -3,9 +3,9 @@ use Rattle.std.specs.Prelude.{◌==◌, ◌&&◌, not}
 use Rattle.std.specs.Cmp.Lexicographic.{slice_cmp}
 use Rattle.std.specs.Ordering.{nat_cmp, is_eq}
 use Rattle.hack_features.specs.Deps.{has_name}
-use Rattle.hack_features.specs.Sets.{rows_of}
+use Rattle.hack_samples.specs.Sets.{rows_of}
 use Rattle.hack_features.specs.Tables.{cell}
-use Rattle.hack_features.specs.Routed.{names_in}
+use Rattle.hack_features.specs.RoutesView.{routed_names}
 use Rattle.hack_base.proofs.NameLemmas.{length-shown}
 use Rattle.hack_features.proofs.RouteDeps.{Tells, here_at, tells-more, tells-skip, tells-end}
 use Rattle.hack_features.proofs.deps.deps_at.Goals as goal
@@ -14,7 +14,7 @@ use Rattle.hack_features.proofs.deps.deps_at.Goals.{then-leads_on+in_ok-insert, 
 pub loop-to-preserved : goal.loop-to-preserved
 loop-to-preserved c =
     let routes = c.args.routes.now in
-    let names = names_in routes in
+    let names = routed_names routes in
     let to = c.loop-to.to in
     let test = λ (k : ℕ). not (c.args.from == k) && cell (rows_of routes.marks.items) c.args.from k in
     elim c.if-leads_on.branch [
@@ -30,6 +30,6 @@ loop-to-preserved c =
 pub returns : goal.returns
 returns c = λ m h.
     let routes = c.args.routes.now in
-    let all : length (names_in routes) ≤ c.loop-to.to = omega (arith, length-shown routes.names.items, ap length c.names-name-items.ensures, c.loop-to-test.false) in
-    tells-end m (names_in routes) routes.keys.items (rows_of routes.marks.items) h c.args.from c.loop-to.to c.requires
+    let all : length (routed_names routes) ≤ c.loop-to.to = omega (arith, length-shown routes.names.items, ap length c.names-name-items.ensures, c.loop-to-test.false) in
+    tells-end m (routed_names routes) routes.keys.items (rows_of routes.marks.items) h c.args.from c.loop-to.to c.requires
     (omega (arith, all, length-shown routes.names.items, ap length c.names-name-items.ensures, c.loop-to.auto.to-end)) c.loop-to.set c.loop-to.invariant

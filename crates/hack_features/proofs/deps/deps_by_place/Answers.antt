@@ -4,9 +4,9 @@ use Rattle.std.specs.Str.{bytes_eq}
 use Rattle.std.proofs.lemmas.Map.Text.{btree_map_updates_str}
 use Rattle.hack_base.specs.Names.{Name}
 use Rattle.hack_features.specs.Deps.{get_at}
-use Rattle.hack_features.specs.Sets.{rows_of}
+use Rattle.hack_samples.specs.Sets.{rows_of}
 use Rattle.hack_features.specs.Places.{name_at}
-use Rattle.hack_features.specs.Routed.{names_in}
+use Rattle.hack_features.specs.RoutesView.{routed_names}
 use Rattle.hack_features.specs.declared.reach.Edges.TheVariants.{Enabling}
 use Rattle.hack_base.proofs.NameLemmas.{length-shown}
 use Rattle.hack_features.proofs.TableLemmas.{key_of, of_key}
@@ -17,7 +17,7 @@ use Rattle.hack_features.proofs.deps.deps_by_place.Goals.{then-is_key+in_ok-set+
 pub loop-place-preserved : goal.loop-place-preserved
 loop-place-preserved c = λ m h.
     let routes = c.args.routes.now in
-    let names = names_in routes in
+    let names = routed_names routes in
     let place = c.loop-place.place in
     let keys = routes.keys.items in
     let marks = rows_of routes.marks.items in
@@ -45,5 +45,5 @@ loop-place-preserved c = λ m h.
 pub returns : goal.returns
 returns c = λ m h.
     let routes = c.args.routes.now in
-    tabling-end m (names_in routes) c.loop-place.place c.loop-place.deps h.known
+    tabling-end m (routed_names routes) c.loop-place.place c.loop-place.deps h.known
     (omega (arith, length-shown routes.names.items, ap length c.names-name-items.ensures, c.loop-place-test.false, c.loop-place.auto.place-end)) (c.loop-place.invariant m h)

@@ -1,6 +1,6 @@
 use Rattle.std.proofs.Common.{◌≡◌, ◌↔◌, ◌==◌, ◌||◌, ℕ, List, Bool, [], IsTrue, length, sym, ◌∙◌, subst, eqb-true}
 use Rattle.hack_features.specs.FeatureMap.{Chain}
-use Rattle.hack_features.specs.Sets.{rows_of}
+use Rattle.hack_samples.specs.Sets.{rows_of}
 use Rattle.hack_features.specs.Tables.{bit}
 use Rattle.hack_features.specs.Places.{Leads}
 use Rattle.hack_features.proofs.MarkLemmas.{led_nowhere, led_on, nil_from}

@@ -1,6 +1,6 @@
 use Rattle.std.proofs.Common.{◌∙◌, ◌∷◌, [], List, Bool, ap, refl}
 use Rattle.std.proofs.lemmas.List.{map-append}
-use Rattle.hack_features.specs.Sets.{rows_of}
+use Rattle.hack_samples.specs.Sets.{rows_of}
 use Rattle.hack_features.specs.Samples.{positions_of}
 use Rattle.hack_base.proofs.Steps.{row_items}
 use Rattle.hack_features.proofs.MemberLemmas.{step-map, rows-next}

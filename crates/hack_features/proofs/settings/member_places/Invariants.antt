@@ -1,5 +1,5 @@
 use Rattle.std.proofs.Common.{◌≡◌, [], take, flat_map, get_or}
-use Rattle.hack_features.specs.Sets.{rows_of}
+use Rattle.hack_samples.specs.Sets.{rows_of}
 use Rattle.hack_features.proofs.settings.member_places.Given as goal
 
 abbrev pub invariant-loop-p : goal.invariant-loop-p

@@ -1,7 +1,7 @@
 use Rattle.std.proofs.Common.{◌≡◌, ◌+◌, ◌∙◌, ℕ, IsTrue, arith, take, subst, sym, true, false, get_or, length, ◌≤◌}
 use Rattle.std.specs.List.{list_any}
 use Rattle.std.proofs.lemmas.List.{take_more, take_all}
-use Rattle.hack_features.specs.Sets.{rows_of}
+use Rattle.hack_samples.specs.Sets.{rows_of}
 use Rattle.hack_features.specs.Tables.{leads, Counts}
 use Rattle.hack_features.specs.Tables as table
 use Rattle.hack_features.proofs.TableLemmas.{counts_yes, counts_no}

@@ -4,8 +4,8 @@ use Rattle.hack_base.specs.Names.{Name}
 use Rattle.hack_features.specs.FeatureMap.{feature_map}
 use Rattle.hack_features.specs.Feature.{candidates_of, groups_of, group_of}
 use Rattle.hack_features.specs.Rules.{unlifted_groups}
-use Rattle.hack_features.specs.Sets.{rows_of}
-use Rattle.hack_features.specs.Routed.{names_in}
+use Rattle.hack_samples.specs.Sets.{rows_of}
+use Rattle.hack_features.specs.RoutesView.{routed_names}
 use Rattle.hack_features.specs.Tables as table
 use Rattle.hack_features.specs.Tables.{Matched, CountsHits, bit}
 use Rattle.hack_base.proofs.Steps.{row_items}
@@ -44,7 +44,7 @@ loop-place-preserved c =
           (sym (ap (λ v. rows_of v.items) w.rows-is ∙ ap rows_of w.in_ok-push.ensures.items ∙ map-append row_items c.loop-place.rows.items (w.in_ok-hit_row.field-0 ∷ [])))
           (next_group R (unlifted_groups (take place groups) lifted) (unlifted_groups (take (place + 1) groups) lifted) group (bit lifted place) (rows_of c.loop-place.rows.items) w.in_ok-hit_row.field-0.items more
           (sym c.bit.ensures ∙ w.if-not-bit.true) c.loop-place.invariant
-          (hits_of m candidates groups (names_in p.routes) p.routes.keys.items (rows_of p.routes.marks.items) (rows_of p.candidates.items) (rows_of p.groups.items) c.in_ok-placed.ensures place lt w.row_at.result.now
+          (hits_of m candidates groups (routed_names p.routes) p.routes.keys.items (rows_of p.routes.marks.items) (rows_of p.candidates.items) (rows_of p.groups.items) c.in_ok-placed.ensures place lt w.row_at.result.now
           (w.row_at.ensures ∙ ap (λ gs. get_or (rows_of gs) place []) w.as_slice.ensures.value) w.in_ok-hit_row.field-0.items
           (λ q l. w.in_ok-hit_row.ensures q (omega (arith, length-map p.candidates.items row_items)))))
       | else-not-bit w ↦

@@ -1,6 +1,6 @@
 use Rattle.std.proofs.Common.{◌≡◌, ◌==◌, ◌∙◌, List, ℕ, Bool, true, false, length, take, sym, subst, arith, vec_len}
 use Rattle.std.specs.List.{list_any}
-use Rattle.hack_features.specs.Sets.{rows_of}
+use Rattle.hack_samples.specs.Sets.{rows_of}
 use Rattle.hack_base.proofs.Passes.{any_passes}
 use Rattle.hack_base.proofs.Steps.{seen-next, seen_here, none_one_more, row_items}
 use Rattle.hack_features.proofs.tables.is_some_nameless.Goals as goal

@@ -1,8 +1,8 @@
 use Rattle.std.proofs.Common.{◌≡◌, ◌<◌, ◌≤◌, ◌+◌, ◌∷◌, [], sym, ap, ◌∙◌, subst, arith, Bool, ℕ, List, false, get_or, take, length, IsTrue}
 use Rattle.std.specs.List.{list_any}
 use Rattle.std.proofs.lemmas.List.{take_all, map-append, length-map}
-use Rattle.hack_features.specs.Sets.{rows_of}
-use Rattle.hack_features.specs.Routed.{names_in}
+use Rattle.hack_samples.specs.Sets.{rows_of}
+use Rattle.hack_features.specs.RoutesView.{routed_names}
 use Rattle.hack_features.specs.Tables as table
 use Rattle.hack_features.specs.Tables.{RowsServe, serves_test}
 use Rattle.hack_base.proofs.NameLemmas.{length-shown}
@@ -26,7 +26,7 @@ loop-group-preserved c = λ m candidates groups p.
     ap (λ l. get_or (rows_of l) k []) (sym c.as_slice-group-items.ensures.value) ∙ row_at c.as_slice-group-items.result.now k c.group-item.result c.loop-group-test.true c.group-item.is in
     let lt : k < length groups = omega (arith, p.groups_at.count, length-map placed.groups.items row_items, c.loop-group-test.true, ap length c.as_slice-group-items.ensures.value) in
     let before = c.loop-group.invariant m candidates groups p in
-    let names = names_in placed.routes in
+    let names = routed_names placed.routes in
     let count : length names ≡ length placed.routes.names.items = length-shown placed.routes.names.items in
     elim c.if-is_served.branch [
       | then-is_served+in_ok-serve_row+in_ok-push w ↦

@@ -1,6 +1,6 @@
 use Rattle.std.proofs.Common.{◌≡◌, subst, List, ◌∷◌, rules}
 use Rattle.hack_journal.specs.Journal.{edit_of, edits_of}
-use Rattle.hack_journal.specs.Safe.{KeepFirst, without}
+use Rattle.hack_journal.specs.SafeFiles.{KeepFirst, without}
 use Rattle.hack_journal.proofs.RecoverLemmas.{back_safe, join_safe, differ_none, differ_step}
 use Rattle.hack_journal.specs.declared.journal.Entry.{Entry}
 use Rattle.hack_journal.proofs.recover.+put_all_back.Goals as goal

@@ -1,9 +1,9 @@
 use Rattle.std.proofs.Common.{◌∙◌, inr, subst}
 use Rattle.hack_files.specs.Files.{Contents}
 use Rattle.hack_journal.specs.Journal.{edits_of}
-use Rattle.hack_journal.specs.Safe.{without}
+use Rattle.hack_journal.specs.SafeFiles.{without}
 use Rattle.hack_journal.specs.SafeLaws.{stay_append}
-use Rattle.hack_journal.specs.Recover.{Differ}
+use Rattle.hack_journal.specs.Recovery.{Differ}
 use Rattle.hack_journal.proofs.FinishLemmas.{removed_safe}
 use Rattle.hack_journal.proofs.RecoverLemmas.{safe_by, backs_first, without_same}
 use Rattle.std.proofs.Common.{sym}

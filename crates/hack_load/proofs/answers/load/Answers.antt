@@ -1,6 +1,6 @@
 use Rattle.std.proofs.Common.{inl, inr, refl, Ok, Err}
 use Rattle.std.specs.Prelude.{option_copied}
-use Rattle.hack_metadata.specs.Asks.{Writes}
+use Rattle.hack_metadata.specs.QuestionCalls.{WroteWhereKnown}
 use Rattle.hack_metadata.specs.Requests.{question}
 use Rattle.hack_load.proofs.AnswerLemmas.{ends-known, follows-earlier, loaded-later}
 use Rattle.hack_load.proofs.LeaveLemmas.{few-left, few-reads}
@@ -25,7 +25,7 @@ returns-in-Ok-clause-asked g c =
     λ called. inr (record {
       metadata = c.in-Ok.metadata;
       mid = mid;
-      ends = ends-known g.F.Files.tells q held (g.C.Caller.calls c.args.caller.now) mid (Writes g.F.Files.whole g.F.Files.tells (g.F.Files.trace c.args.files.now) (g.F.Files.trace c.new.new.files) held later) (Ok c.in-Ok.metadata) (c.in-Ok.ensures.ends called);
+      ends = ends-known g.F.Files.tells q held (g.C.Caller.calls c.args.caller.now) mid (WroteWhereKnown g.F.Files.whole g.F.Files.tells (g.F.Files.trace c.args.files.now) (g.F.Files.trace c.new.new.files) held later) (Ok c.in-Ok.metadata) (c.in-Ok.ensures.ends called);
       follows = follows-earlier g.F.Files.tells c.args.args.now c.args.env.now held later (g.F.Files.failed c.args.files.now) (g.F.Files.failed c.new.new.files) (g.F.Files.failed c.load_behind.new.files) c.in-Ok.metadata mid (g.C.Caller.calls c.load_behind.new.caller) c.load_behind.result
           c.in-Ok.ensures.left.1 (c.load_behind.ensures.asked called);
     })
@@ -41,7 +41,7 @@ returns-in-Err-clause-asked g c =
     λ called. inl (record {
       asked = c.in-Err.fault;
       fault = c.of_question.result;
-      ends = ends-known g.F.Files.tells q held (g.C.Caller.calls c.args.caller.now) (g.C.Caller.calls c.new.new.caller) (Writes g.F.Files.whole g.F.Files.tells (g.F.Files.trace c.args.files.now) (g.F.Files.trace c.new.new.files) held (g.F.Files.bytes_at c.new.new.files)) (Err c.in-Err.fault) (c.in-Err.ensures.ends called);
+      ends = ends-known g.F.Files.tells q held (g.C.Caller.calls c.args.caller.now) (g.C.Caller.calls c.new.new.caller) (WroteWhereKnown g.F.Files.whole g.F.Files.tells (g.F.Files.trace c.args.files.now) (g.F.Files.trace c.new.new.files) held (g.F.Files.bytes_at c.new.new.files)) (Err c.in-Err.fault) (c.in-Err.ensures.ends called);
       of = c.of_question.ensures;
       is = refl;
     })

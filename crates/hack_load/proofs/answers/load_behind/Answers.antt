@@ -1,6 +1,6 @@
 use Rattle.std.proofs.Common.{inl, inr, refl, rules, string_bytes}
 use Rattle.std.proofs.lemmas.Result.{err_from_is_err_and}
-use Rattle.hack_load.specs.Loads.{locate}
+use Rattle.hack_load.specs.CargoQuestions.{locate}
 use Rattle.hack_load.proofs.AnswerLemmas.{members-long}
 use Rattle.hack_load.proofs.AskLemmas.{locate-told}
 use Rattle.hack_load.proofs.answers.load_behind.Goals as goal

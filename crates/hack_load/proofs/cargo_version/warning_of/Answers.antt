@@ -3,7 +3,7 @@ use Rattle.std.specs.Prelude.{IfOk}
 use Rattle.hack_process.specs.CommandTexts.{text_of}
 use Rattle.hack_process.specs.Commands.{command_of}
 use Rattle.hack_versions.specs.ToolTexts.{answer_fault_text}
-use Rattle.hack_load.specs.Loads.{unknown_version}
+use Rattle.hack_load.specs.CargoQuestions.{unknown_version}
 use Rattle.hack_load.proofs.told.warning_of.Goals as goal
 
 pub returns : goal.returns

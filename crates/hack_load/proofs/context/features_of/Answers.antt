@@ -1,7 +1,7 @@
 use Rattle.std.proofs.Common.{◌<◌, ◌∙◌, length, map, sym, arith}
 use Rattle.std.proofs.lemmas.List.{length-map}
-use Rattle.hack_metadata.specs.View.{place_at}
-use Rattle.hack_metadata.specs.Whole.{metadata_view}
+use Rattle.hack_metadata.specs.RecordViews.{place_at}
+use Rattle.hack_metadata.specs.MetadataView.{metadata_view}
 use Rattle.hack_load.proofs.BuildLemmas.{completes-all, completes-more, id-at, misses-more, node-fault}
 use Rattle.hack_load.proofs.context.features_of.Goals as goal
 

@@ -1,6 +1,6 @@
 use Rattle.std.proofs.Common.{ℕ, ◌<◌, get_or, map}
-use Rattle.hack_metadata.specs.View.{place_at}
-use Rattle.hack_metadata.specs.Whole.{metadata_view}
+use Rattle.hack_metadata.specs.RecordViews.{place_at}
+use Rattle.hack_metadata.specs.MetadataView.{metadata_view}
 use Rattle.hack_load.specs.Candidates.{MissesNode}
 use Rattle.hack_load.proofs.BuildLemmas.{Completes}
 use Rattle.hack_load.proofs.context.features_of.Given as goal

@@ -1,5 +1,5 @@
 use Rattle.std.proofs.Common.{◌≡◌, ◌==◌, ℕ, ◌<◌, false, map, get_or}
-use Rattle.hack_metadata.specs.View.{place_at}
+use Rattle.hack_metadata.specs.RecordViews.{place_at}
 use Rattle.hack_load.proofs.context.place_of.Given as goal
 
 -- no member so far is the one

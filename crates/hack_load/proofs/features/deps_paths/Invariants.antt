@@ -2,7 +2,7 @@ use Rattle.std.proofs.Common.{map, take}
 use Rattle.std.specs.List.{flat_map}
 use Rattle.hack_load.specs.Candidates.{node_paths}
 use Rattle.hack_load.specs.Features.{ArePaths}
-use Rattle.hack_metadata.specs.View.{dependency_view, node_dep_view, package_view}
+use Rattle.hack_metadata.specs.RecordViews.{dependency_view, node_dep_view, package_view}
 use Rattle.hack_load.proofs.features.deps_paths.Given as goal
 
 -- the features of the dependencies so far

@@ -1,7 +1,7 @@
 use Rattle.std.proofs.Common.{◌≡◌, drop, map}
 use Rattle.std.specs.List.{list_any}
 use Rattle.hack_load.specs.Candidates.{is_normal}
-use Rattle.hack_metadata.specs.View.{kind_view}
+use Rattle.hack_metadata.specs.RecordViews.{kind_view}
 use Rattle.hack_load.proofs.features.one_is_normal.Given as goal
 
 -- no kind so far is that of a normal dependency

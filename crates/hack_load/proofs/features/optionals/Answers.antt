@@ -2,7 +2,7 @@ use Rattle.std.proofs.Common.{◌+◌, ◌∙◌, ap, sym, subst, map, drop, Lis
 use Rattle.hack_features.specs.FeatureMap.{feature_map}
 use Rattle.hack_features.specs.declared.feature.Feature.{Feature}
 use Rattle.hack_metadata.specs.Records.{DependencyRecord}
-use Rattle.hack_metadata.specs.View.{dependency_view}
+use Rattle.hack_metadata.specs.RecordViews.{dependency_view}
 use Rattle.hack_load.specs.Features.{texts_of}
 use Rattle.hack_load.proofs.FeatureLemmas.{Picked, picked, picked-start, picked-pass, left-none, left-named, pass-old, picked-take, left-at}
 use Rattle.hack_load.proofs.features.optionals.Goals as goal

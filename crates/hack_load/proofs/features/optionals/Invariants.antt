@@ -1,6 +1,6 @@
 use Rattle.std.proofs.Common.{drop, map}
 use Rattle.hack_features.specs.FeatureMap.{feature_map}
-use Rattle.hack_metadata.specs.View.{dependency_view}
+use Rattle.hack_metadata.specs.RecordViews.{dependency_view}
 use Rattle.hack_load.proofs.FeatureLemmas.{Picked}
 use Rattle.hack_load.proofs.features.optionals.Given as goal
 

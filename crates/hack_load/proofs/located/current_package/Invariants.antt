@@ -1,7 +1,7 @@
 use Rattle.std.proofs.Common.{◌≡◌, drop, map}
 use Rattle.std.specs.List.{find}
 use Rattle.hack_load.specs.Located.{has_manifest}
-use Rattle.hack_metadata.specs.View.{package_view, place_at}
+use Rattle.hack_metadata.specs.RecordViews.{package_view, place_at}
 use Rattle.hack_load.proofs.located.current_package.Given as goal
 
 -- no member so far has the manifest

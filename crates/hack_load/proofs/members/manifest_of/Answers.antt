@@ -1,8 +1,8 @@
 use Rattle.std.proofs.Common.{ap, sym, ◌∙◌, subst, string_bytes}
 use Rattle.hack_files.specs.Faults.{IsOfText}
-use Rattle.hack_manifest.specs.Reads.{IsRefusal}
-use Rattle.hack_metadata.specs.View.{package_view}
-use Rattle.hack_metadata.specs.Whole.{metadata_view}
+use Rattle.hack_manifest.specs.ManifestResults.{IsRefusal}
+use Rattle.hack_metadata.specs.RecordViews.{package_view}
+use Rattle.hack_metadata.specs.MetadataView.{metadata_view}
 use Rattle.hack_load.proofs.MemberLemmas.{file-fault, manifest-fault, member-of, package-at}
 use Rattle.hack_load.proofs.members.manifest_of.Goals as goal
 

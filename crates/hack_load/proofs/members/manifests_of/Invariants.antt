@@ -1,9 +1,9 @@
 use Rattle.std.proofs.Common.{take, map}
 use Rattle.std.specs.List.{AllZip}
-use Rattle.hack_metadata.specs.Left.{Whole}
-use Rattle.hack_metadata.specs.View.{place_at}
-use Rattle.hack_metadata.specs.Whole.{metadata_view}
-use Rattle.hack_load.specs.Loads.{IsOfMember}
+use Rattle.hack_metadata.specs.FilesAfterAsking.{Whole}
+use Rattle.hack_metadata.specs.RecordViews.{place_at}
+use Rattle.hack_metadata.specs.MetadataView.{metadata_view}
+use Rattle.hack_load.specs.CargoQuestions.{IsOfMember}
 use Rattle.hack_load.proofs.members.manifests_of.Given as goal
 
 -- the members so far have their manifests, and nothing else happened to the files

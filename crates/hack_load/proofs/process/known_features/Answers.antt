@@ -4,7 +4,7 @@ use Rattle.std.proofs.lemmas.List.{take_all}
 use Rattle.hack_base.specs.Names.{Name, names_of}
 use Rattle.hack_base.specs.Notes.{note_of}
 use Rattle.hack_load.specs.ContextView.{context_view}
-use Rattle.hack_load.specs.GivenFeatures.{knows, left_out, name_at}
+use Rattle.hack_load.specs.GivenFeatures.{knows, left_out, name_or_empty_at}
 use Rattle.hack_load.proofs.GivenLemmas.{known-more, unknown-more}
 use Rattle.hack_load.proofs.process.known_features.Goals as goal
 
@@ -23,7 +23,7 @@ loop-name-preserved c =
     let notes = map note_of c.loop-name.notices.items in
     let more = map note_of c.sort.new.notices.items in (
       known-more (knows cx id) items i x lt is old new (subst (λ (t : Name). new ≡ old ++ cond (knows cx id t) (t ∷ []) []) c.as_str.ensures.value c.in_ok-sort.ensures.known) c.loop-name.invariant.0,
-      unknown-more (knows cx id) items i x lt is (left_out (name_at cx id)) notes more (subst (λ (t : Name). more ≡ notes ++ cond (knows cx id t) [] (left_out (name_at cx id) t ∷ [])) c.as_str.ensures.value c.in_ok-sort.ensures.unknown) c.loop-name.invariant.1,
+      unknown-more (knows cx id) items i x lt is (left_out (name_or_empty_at cx id)) notes more (subst (λ (t : Name). more ≡ notes ++ cond (knows cx id t) [] (left_out (name_or_empty_at cx id) t ∷ [])) c.as_str.ensures.value c.in_ok-sort.ensures.unknown) c.loop-name.invariant.1,
     )
 
 pub returns-clause-names : goal.returns-clause-names
@@ -44,4 +44,4 @@ returns-clause-notices c =
     let i = c.loop-name.name-index in
     let at : c.deref-name-items.result.now ≡ items = c.deref-name-items.ensures.value ∙ ap (λ a. a.features.items) c.args-2.ensures in
     let le : length items ≤ i = subst (λ (xs : List (String Global)). length xs ≤ i) at c.loop-name-test.false in
-    c.loop-name.invariant.1 ∙ ap (λ (xs : List (String Global)). map (left_out (name_at cx id)) (filter (λ f. not (knows cx id f)) (names_of xs))) (take_all i items le)
+    c.loop-name.invariant.1 ∙ ap (λ (xs : List (String Global)). map (left_out (name_or_empty_at cx id)) (filter (λ f. not (knows cx id f)) (names_of xs))) (take_all i items le)

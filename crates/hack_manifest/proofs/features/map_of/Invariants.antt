@@ -1,6 +1,6 @@
 use Rattle.toml.specs.View.{table_view}
 use Rattle.hack_features.specs.FeatureMap.{feature_map}
-use Rattle.hack_manifest.specs.Manifest.{members_in}
+use Rattle.hack_manifest.specs.Manifest.{feature_map_in}
 use Rattle.hack_manifest.proofs.FeatureLemmas.{IsSoFar}
 use Rattle.hack_manifest.proofs.features.map_of.Given as goal
 
@@ -8,4 +8,4 @@ abbrev pub invariant-features : goal.invariant-features
 invariant-features l =
     goal.iterator-features.can_next l.name-iterator ×
     goal.iterator-features.is_finite l.name-iterator ×
-    IsSoFar (members_in (table_view l.table)) (feature_map l.map) l.name-iterator
+    IsSoFar (feature_map_in (table_view l.table)) (feature_map l.map) l.name-iterator

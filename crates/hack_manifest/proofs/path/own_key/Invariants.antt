@@ -1,5 +1,5 @@
 use Rattle.std.proofs.Common.{ℕ, ◌+◌, ◌<◌, [], ◌∷◌}
-use Rattle.hack_manifest.specs.Fronts.{IsFrontTo}
+use Rattle.hack_manifest.specs.PieceFronts.{IsFrontTo}
 use Rattle.hack_manifest.proofs.path.own_key.Given as goal
 
 -- no such prefix so far

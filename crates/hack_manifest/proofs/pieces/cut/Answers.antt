@@ -2,9 +2,9 @@ use Rattle.std.proofs.Common.{[], ◌∷◌, ◌++◌, map, ◌≡◌, refl, app
 use Rattle.std.proofs.lemmas.Str.{IsUtf8-drop}
 use Rattle.std.proofs.lemmas.List.{map-append}
 use Rattle.hack_base.specs.Names.{names_of}
-use Rattle.hack_manifest.specs.Runs.{IsFirstRun, HasNoRun}
+use Rattle.hack_manifest.specs.LineRuns.{IsFirstRun, HasNoRun}
 use Rattle.hack_manifest.specs.Paths.{View, next_header}
-use Rattle.hack_manifest.specs.View.{piece_view}
+use Rattle.hack_manifest.specs.PieceView.{piece_view}
 use Rattle.hack_manifest.proofs.RunLemmas.{IsCharBoundary-lines, texts-last, HavePaths-last, last_header-last}
 use Rattle.hack_manifest.proofs.pieces.cut.Goals as goal
 

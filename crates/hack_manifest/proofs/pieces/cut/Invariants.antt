@@ -1,10 +1,10 @@
 use Rattle.std.proofs.Common.{◌≡◌, ℕ, List, [], ◌++◌, map, length}
 use Rattle.std.specs.Prelude.{IsUtf8}
 use Rattle.hack_base.specs.Names.{names_of}
-use Rattle.hack_manifest.specs.Runs.{IsCutInto}
+use Rattle.hack_manifest.specs.LineRuns.{IsCutInto}
 use Rattle.hack_manifest.specs.Paths.{HavePaths}
 use Rattle.hack_manifest.proofs.RunLemmas.{last_header}
-use Rattle.hack_manifest.specs.View.{piece_view}
+use Rattle.hack_manifest.specs.PieceView.{piece_view}
 use Rattle.hack_manifest.proofs.pieces.cut.Given as goal
 
 -- the pieces of the rest come after those found

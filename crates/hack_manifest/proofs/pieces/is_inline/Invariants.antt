@@ -1,6 +1,6 @@
 use Rattle.std.proofs.Common.{◌≡◌, drop}
 use Rattle.hack_manifest.specs.Manifest.{is_inline}
-use Rattle.hack_manifest.specs.View.{slice_view}
+use Rattle.hack_manifest.specs.PieceView.{slice_view}
 use Rattle.hack_manifest.proofs.pieces.is_inline.Given as goal
 
 -- a remaining piece has exactly this name just where some piece has

@@ -3,7 +3,7 @@ use Rattle.std.proofs.lemmas.Grind.{common_steps}
 use Rattle.std.proofs.lemmas.Bool.Decides.{nat_tests}
 use Rattle.toml_parser.specs.Lexical.{first, skip_blank}
 use Rattle.toml.specs.Parse.{val, atom, after_element}
-use Rattle.hack_manifest.specs.Keys.{rest_of}
+use Rattle.hack_manifest.specs.Keys.{rest_of_read}
 use Rattle.hack_manifest.proofs.PairLemmas.{passed-start, passed-more, passed-end, passed-atom}
 use Rattle.hack_manifest.proofs.plain.behind_items.Goals as goal
 
@@ -22,8 +22,8 @@ items-preserved c =
     let other : (first c.skip_blank-start.result.now == 93) ≡ false = grind (arith, nat_tests, common_steps) in
     let bracket : (first c.skip_blank-start.result.now == 91) ≡ false = grind (arith, nat_tests, common_steps) in
     let brace : (first c.skip_blank-start.result.now == 123) ≡ false = grind (arith, nat_tests, common_steps) in
-    let read : rest_of (atom c.skip_blank-start.result.now) ≡ Some c.in-Some.after.now = rw c.in-Some.is at c.behind_atom.ensures.value in
-    let value : rest_of (val 79 c.skip_blank-start.result.now) ≡ Some c.in-Some.after.now = passed-atom 79 _ _ bracket brace read in
+    let read : rest_of_read (atom c.skip_blank-start.result.now) ≡ Some c.in-Some.after.now = rw c.in-Some.is at c.behind_atom.ensures.value in
+    let value : rest_of_read (val 79 c.skip_blank-start.result.now) ≡ Some c.in-Some.after.now = passed-atom 79 _ _ bracket brace read in
     let element : after_element 93 c.in-Some.after.now ≡ Some c.in-Some-behind_item.next.now = rw c.in-Some-behind_item.is at c.behind_item.ensures.value in
     let shorter : length c.in-Some.after.now < length c.skip_blank-start.result.now = rw c.in-Some.is at c.behind_atom.ensures.shorter in
     let within : length c.in-Some-behind_item.next.now ≤ length c.in-Some.after.now = rw c.in-Some-behind_item.is at c.behind_item.ensures.within in

@@ -3,7 +3,7 @@ use Rattle.std.specs.List.{list_any}
 use Rattle.std.specs.BTreeMap.{is_at}
 use Rattle.std.specs.Ordering.{nat_cmp}
 use Rattle.std.proofs.lemmas.List.{get_or-map, length-map}
-use Rattle.hack_metadata.specs.View.{place_at}
+use Rattle.hack_metadata.specs.RecordViews.{place_at}
 use Rattle.hack_metadata.proofs.IdLemmas.{AreKept, kept-none, kept-turn}
 use Rattle.hack_metadata.proofs.metadata.distinct.Goals as goal
 

@@ -1,5 +1,5 @@
 use Rattle.std.proofs.Common.{map}
-use Rattle.hack_metadata.specs.View.{place_at}
+use Rattle.hack_metadata.specs.RecordViews.{place_at}
 use Rattle.hack_metadata.proofs.IdLemmas.{AreKept}
 use Rattle.hack_metadata.proofs.metadata.distinct.Given as goal
 

@@ -3,7 +3,7 @@ use Rattle.std.specs.Map.{keys_of}
 use Rattle.std.proofs.lemmas.Map.Iter.{rest_more}
 use Rattle.serde_json.specs.View.{members_view}
 use Rattle.hack_base.specs.Names.{names_of}
-use Rattle.hack_metadata.specs.Read.{features_of}
+use Rattle.hack_metadata.specs.MetadataReading.{features_of}
 use Rattle.hack_metadata.proofs.FeatureLemmas.{features-turn}
 use Rattle.hack_metadata.proofs.package.features_from.Goals as goal
 

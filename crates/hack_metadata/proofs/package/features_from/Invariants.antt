@@ -1,6 +1,6 @@
 use Rattle.std.specs.Map.{keys_of}
 use Rattle.serde_json.specs.View.{members_view}
-use Rattle.hack_metadata.specs.Read.{features_of}
+use Rattle.hack_metadata.specs.MetadataReading.{features_of}
 use Rattle.hack_metadata.proofs.FeatureLemmas.{Turns}
 use Rattle.hack_metadata.proofs.package.features_from.Given as goal
 

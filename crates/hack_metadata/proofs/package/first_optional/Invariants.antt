@@ -1,6 +1,6 @@
 use Rattle.std.proofs.Common.{◌≡◌, map, length}
 use Rattle.hack_metadata.specs.Optional.{optional_in}
-use Rattle.hack_metadata.specs.View.{dependency_view}
+use Rattle.hack_metadata.specs.RecordViews.{dependency_view}
 use Rattle.hack_metadata.proofs.package.first_optional.Given as goal
 
 -- no dependency so far is optional

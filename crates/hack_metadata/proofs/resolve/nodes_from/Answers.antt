@@ -1,8 +1,8 @@
 use Rattle.std.proofs.Common.{◌≡◌, ◌∷◌, arith, ap}
 use Rattle.std.proofs.lemmas.Grind.{common_steps}
 use Rattle.serde_json.specs.View.{view, items_view}
-use Rattle.hack_metadata.specs.Read.{read_node}
-use Rattle.hack_metadata.specs.View.{node_view, nodes_view, place_in}
+use Rattle.hack_metadata.specs.MetadataReading.{read_node}
+use Rattle.hack_metadata.specs.RecordViews.{node_view, nodes_view, place_in}
 use Rattle.hack_metadata.proofs.NodeLemmas.{nodes-insert, nodes-turn}
 use Rattle.hack_metadata.proofs.resolve.nodes_from.Goals as goal
 

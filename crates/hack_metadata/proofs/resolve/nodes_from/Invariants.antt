@@ -1,8 +1,8 @@
 use Rattle.std.proofs.Common.{◌≡◌, Ok}
 use Rattle.serde_json.specs.View.{items_view}
 use Rattle.hack_metadata.specs.Fields.{◌>>=◌, read_all}
-use Rattle.hack_metadata.specs.Read.{read_node, read_nodes, with_nodes}
-use Rattle.hack_metadata.specs.View.{nodes_view, place_in}
+use Rattle.hack_metadata.specs.MetadataReading.{read_node, read_nodes, with_nodes}
+use Rattle.hack_metadata.specs.RecordViews.{nodes_view, place_in}
 use Rattle.hack_metadata.proofs.resolve.nodes_from.Given as goal
 
 -- the nodes so far, with those left inserted after them, are those of the whole list

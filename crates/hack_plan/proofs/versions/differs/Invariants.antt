@@ -1,7 +1,7 @@
 use Rattle.std.proofs.Common.{◌≢◌, take}
 use Rattle.std.specs.List.{Contains}
 use Rattle.hack_versions.specs.declared.group.PackageVersion.{PackageVersion}
-use Rattle.hack_versions.specs.Uses.{own_of}
+use Rattle.hack_versions.specs.VersionUses.{own_of}
 use Rattle.hack_plan.proofs.versions.differs.Given as goal
 
 abbrev pub invariant-loop-member : goal.invariant-loop-member

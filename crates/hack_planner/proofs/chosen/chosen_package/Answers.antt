@@ -2,12 +2,12 @@ use Rattle.std.proofs.Common.{◌∙◌, List, sym, ap, subst, Some, inr}
 use Rattle.hack_features.specs.Feature.{groups_of}
 use Rattle.hack_base.specs.Names.{names_behind}
 use Rattle.hack_load.specs.ContextView.{context_view}
-use Rattle.hack_metadata.specs.View.{package_view}
+use Rattle.hack_metadata.specs.RecordViews.{package_view}
 use Rattle.hack_planner.specs.CandidatesView.{wishes}
 use Rattle.hack_planner.specs.ContextMembers.{known_as}
-use Rattle.hack_planner.specs.Kinds.{AreRuns, AreCovering, AreRunSettings, choice_of}
+use Rattle.hack_planner.specs.Kinds.{AreRuns, AreCovering, AreRunSettings, package_choice}
 use Rattle.hack_plan.specs.Runs.{PackageRun}
-use Rattle.hack_features.specs.Sets.{rows_of}
+use Rattle.hack_samples.specs.Sets.{rows_of}
 use Rattle.hack_plan.specs.RunsView.{runs_in}
 use Rattle.hack_words.specs.declared.cli.args.Args.{Args}
 use Rattle.hack_planner.specs.Calls.{given_path}
@@ -37,7 +37,7 @@ returns-clause-ok c =
       candidates = of-kind (wishes cx.args) (known_as pkg features) c.in-Ok.answer.0.kind (groups_of c.in_ok-candidates.candidates.items) (runs_in c.in_ok-candidates.runs) parts.candidates parts.runs (found.kind pkg features known loaded);
       runs = subst (AreRuns (wishes cx.args) (known_as pkg features)) (sym parts.runs) (found.runs pkg features known loaded);
       covered = λ powerset all. subst (AreCovering (wishes cx.args) (known_as pkg features)) (sym parts.runs) (found.covered pkg features known loaded powerset all);
-      settings = subst (λ (rs : List PackageRun). AreRunSettings cx.args.strength (choice_of (wishes cx.args) (known_as pkg features)) rs (rows_of c.in-Ok.answer.0.settings.items)) (sym parts.runs) (found.settings pkg features known loaded);
+      settings = subst (λ (rs : List PackageRun). AreRunSettings cx.args.strength (package_choice (wishes cx.args) (known_as pkg features)) rs (rows_of c.in-Ok.answer.0.settings.items)) (sym parts.runs) (found.settings pkg features known loaded);
       told = found.notices pkg features known loaded;
     }
 

@@ -7,10 +7,10 @@ use Rattle.hack_base.specs.Notes.{note_of}
 use Rattle.hack_words.specs.declared.cli.args.Args.{Args}
 use Rattle.hack_planner.specs.Candidates.{candidate_notes}
 use Rattle.hack_planner.specs.CandidatesView.{wishes}
-use Rattle.hack_planner.specs.Kinds.{AreRuns, AreCovering, AreRunSettings, IsDepthOne, as_each, choice_of}
+use Rattle.hack_planner.specs.Kinds.{AreRuns, AreCovering, AreRunSettings, IsDepthOne, as_each, package_choice}
 use Rattle.hack_planner.specs.KindsView.{IsKind, IsRunsFault, runs_of}
 use Rattle.hack_planner.specs.ContextMembers.{known_as}
-use Rattle.hack_features.specs.Sets.{rows_of}
+use Rattle.hack_samples.specs.Sets.{rows_of}
 use Rattle.hack_samples.specs.declared.fault.SampleFault.TheVariants as fault
 use Rattle.hack_planner.proofs.KindLemmas.{moved}
 use Rattle.hack_planner.proofs.determine.determine_kind.Goals as goal
@@ -47,7 +47,7 @@ returns-clause-depth_one c = λ (p : PackageRecord) (f : Features) ep ef.
 
 pub returns-clause-settings : goal.returns-clause-settings
 returns-clause-settings c = λ (p : PackageRecord) (f : Features) ep ef.
-    moved (λ (args : Args) (q : PackageRecord) (g : Features). IfOk c.determine_runs.result (λ answer. AreRunSettings args.strength (choice_of (wishes args) (known_as q g)) (runs_of answer.0.kind) (rows_of answer.0.settings.items))) _ _ _ _ _ _
+    moved (λ (args : Args) (q : PackageRecord) (g : Features). IfOk c.determine_runs.result (λ answer. AreRunSettings args.strength (package_choice (wishes args) (known_as q g)) (runs_of answer.0.kind) (rows_of answer.0.settings.items))) _ _ _ _ _ _
     c.args-2.ensures (sym ep ∙ c.packages-pkg.ensures) (sym ef ∙ c.pkg_features-features.ensures) c.determine_runs.ensures.settings
 
 pub returns-clause-err : goal.returns-clause-err

@@ -5,7 +5,7 @@ use Rattle.hack_metadata.specs.Records.{PackageRecord}
 use Rattle.hack_words.specs.declared.cli.args.Args.{Args}
 use Rattle.hack_planner.specs.CandidatesView.{wishes}
 use Rattle.hack_planner.specs.ContextMembers.{known_as}
-use Rattle.hack_planner.specs.Least.{HasRunsAtLeast}
+use Rattle.hack_planner.specs.LeastRuns.{HasRunsAtLeast}
 use Rattle.hack_planner.proofs.KindLemmas.{moved}
 use Rattle.hack_planner.proofs.determine.least_count.Goals as goal
 

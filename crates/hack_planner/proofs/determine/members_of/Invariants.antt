@@ -1,7 +1,7 @@
 use Rattle.std.proofs.Common.{◌≡◌, take, map}
 use Rattle.std.specs.List.{filter_map}
 use Rattle.hack_load.specs.ContextView.{context_view}
-use Rattle.hack_metadata.specs.View.{place_at}
+use Rattle.hack_metadata.specs.RecordViews.{place_at}
 use Rattle.hack_planner.specs.MembersView.{member_view}
 use Rattle.hack_planner.specs.ContextMembers.{member_at}
 use Rattle.hack_planner.proofs.determine.members_of.Given as goal

@@ -4,7 +4,7 @@ use Rattle.hack_features.specs.Samples.{IsSample, CoversPatterns}
 use Rattle.hack_features.specs.Sets.{IsListing}
 use Rattle.hack_features.specs.Forest.{sets_in}
 use Rattle.hack_features.specs.Rules.{Choice, IsListed, AreCovers}
-use Rattle.hack_features.specs.View.{choice_of, size_of, asked_of}
+use Rattle.hack_features.specs.View.{choice_of, size_of, questions_asked}
 use Rattle.hack_features.proofs.CandidateLemmas.{length-candidates_of}
 use Rattle.hack_load.specs.declared.features.Features.{Features}
 use Rattle.hack_samples.specs.Questions.{IsTired}
@@ -21,15 +21,15 @@ returns-in-Some-clause-sets c = λ (features : Features) e.
     let r = c.in_ok-rules.rules in
     let w : Wishes = wishes c.args.args.now in
     let p : Known = known_of_package c.args.pkg.now features in
-    let same : choice_of r ≡ kinds.choice_of w p = c.in_ok-rules.ensures.choice features (ap candidates_of c.as_slice.ensures.value ∙ c.in_ok-all.ensures ∙ e) (c.as_slice-2.ensures.value ∙ c.in_ok-lifted.ensures ∙ ap (lifted_for w) c.as_str.ensures.value) in
+    let same : choice_of r ≡ kinds.package_choice w p = c.in_ok-rules.ensures.choice features (ap candidates_of c.as_slice.ensures.value ∙ c.in_ok-all.ensures ∙ e) (c.as_slice-2.ensures.value ∙ c.in_ok-lifted.ensures ∙ ap (lifted_for w) c.as_str.ensures.value) in
     let size : size_of r ≡ length (candidates w p) = c.in_ok-rules.ensures.size ∙ ap length c.as_slice.ensures.value ∙ sym (length-candidates_of c.in_ok-all.all.items) ∙ ap length (c.in_ok-all.ensures ∙ e) in
     ok-both c.sample.result (λ sets. IsSample (choice_of r) (size_of r) (sets_in sets)) (λ sets. CoversPatterns (choice_of r) (size_of r) c.in-Some.strength (sets_in sets)) (λ sets. kinds.AreSets true w p (sets_in sets))
     (λ sets sample covers.
-    let both : kinds.ArePowersets (Some c.in-Some.strength) (kinds.choice_of w p) (length (candidates w p)) (sets_in sets) = (
+    let both : kinds.ArePowersets (Some c.in-Some.strength) (kinds.package_choice w p) (length (candidates w p)) (sets_in sets) = (
       subst (λ (q : Choice). IsSample q (length (candidates w p)) (sets_in sets)) same (subst (λ n. IsSample (choice_of r) n (sets_in sets)) size sample),
       subst (λ (q : Choice). CoversPatterns q (length (candidates w p)) c.in-Some.strength (sets_in sets)) same (subst (λ n. CoversPatterns (choice_of r) n c.in-Some.strength (sets_in sets)) size covers),
     ) in
-    subst (λ o. kinds.ArePowersets o (kinds.choice_of w p) (length (candidates w p)) (sets_in sets)) (sym c.in-Some.is) both)
+    subst (λ o. kinds.ArePowersets o (kinds.package_choice w p) (length (candidates w p)) (sets_in sets)) (sym c.in-Some.is) both)
     c.sample.ensures.sample c.sample.ensures.covers
 
 pub returns-in-Some-clause-err : goal.returns-in-Some-clause-err
@@ -37,9 +37,9 @@ returns-in-Some-clause-err c = λ (features : Features) e powerset.
     let r = c.in_ok-rules.rules in
     let w : Wishes = wishes c.args.args.now in
     let p : Known = known_of_package c.args.pkg.now features in
-    let same : choice_of r ≡ kinds.choice_of w p = c.in_ok-rules.ensures.choice features (ap candidates_of c.as_slice.ensures.value ∙ c.in_ok-all.ensures ∙ e) (c.as_slice-2.ensures.value ∙ c.in_ok-lifted.ensures ∙ ap (lifted_for w) c.as_str.ensures.value) in
-    let end = min (asked_of r + kinds.most_questions) (2 ^ 128 - 1) in
-    err-weaker c.sample.result (IsTired end (asked_of c.sample.new.self)) (λ f. (f ≡ Memory) ⊎ IsRunsFault w p f)
+    let same : choice_of r ≡ kinds.package_choice w p = c.in_ok-rules.ensures.choice features (ap candidates_of c.as_slice.ensures.value ∙ c.in_ok-all.ensures ∙ e) (c.as_slice-2.ensures.value ∙ c.in_ok-lifted.ensures ∙ ap (lifted_for w) c.as_str.ensures.value) in
+    let end = min (questions_asked r + kinds.most_questions) (2 ^ 128 - 1) in
+    err-weaker c.sample.result (IsTired end (questions_asked c.sample.new.self)) (λ f. (f ≡ Memory) ⊎ IsRunsFault w p f)
     (λ f at_end. tired w p c.in-Some.strength c.sample.new.self end f powerset c.in-Some.is (c.sample.ensures.same_choice ∙ same) (omega (arith, c.in_ok-rules.ensures.fresh)) at_end)
     c.sample.ensures.tired
 
@@ -48,10 +48,10 @@ returns-clause-sets c = λ (features : Features) e.
     let r = c.in_ok-rules.rules in
     let w : Wishes = wishes c.args.args.now in
     let p : Known = known_of_package c.args.pkg.now features in
-    let same : choice_of r ≡ kinds.choice_of w p = c.in_ok-rules.ensures.choice features (ap candidates_of c.as_slice.ensures.value ∙ c.in_ok-all.ensures ∙ e) (c.as_slice-2.ensures.value ∙ c.in_ok-lifted.ensures ∙ ap (lifted_for w) c.as_str.ensures.value) in
+    let same : choice_of r ≡ kinds.package_choice w p = c.in_ok-rules.ensures.choice features (ap candidates_of c.as_slice.ensures.value ∙ c.in_ok-all.ensures ∙ e) (c.as_slice-2.ensures.value ∙ c.in_ok-lifted.ensures ∙ ap (lifted_for w) c.as_str.ensures.value) in
     let size : size_of r ≡ length (candidates w p) = c.in_ok-rules.ensures.size ∙ ap length c.as_slice.ensures.value ∙ sym (length-candidates_of c.in_ok-all.all.items) ∙ ap length (c.in_ok-all.ensures ∙ e) in
     let sets = sets_in c.in_ok-found-in-None.found.sets in
-    subst (λ o. kinds.ArePowersets o (kinds.choice_of w p) (length (candidates w p)) sets) (sym c.in-None.is)
+    subst (λ o. kinds.ArePowersets o (kinds.package_choice w p) (length (candidates w p)) sets) (sym c.in-None.is)
     (subst (λ (q : Choice). IsListing (length (candidates w p)) (IsListed q) sets) same
     (subst (λ n. IsListing n (IsListed (choice_of r)) sets) size c.in_ok-found-in-None.ensures.sets))
 
@@ -60,7 +60,7 @@ returns-clause-covers c = λ (features : Features) e all.
     let r = c.in_ok-rules.rules in
     let w : Wishes = wishes c.args.args.now in
     let p : Known = known_of_package c.args.pkg.now features in
-    let same : choice_of r ≡ kinds.choice_of w p = c.in_ok-rules.ensures.choice features (ap candidates_of c.as_slice.ensures.value ∙ c.in_ok-all.ensures ∙ e) (c.as_slice-2.ensures.value ∙ c.in_ok-lifted.ensures ∙ ap (lifted_for w) c.as_str.ensures.value) in
+    let same : choice_of r ≡ kinds.package_choice w p = c.in_ok-rules.ensures.choice features (ap candidates_of c.as_slice.ensures.value ∙ c.in_ok-all.ensures ∙ e) (c.as_slice-2.ensures.value ∙ c.in_ok-lifted.ensures ∙ ap (lifted_for w) c.as_str.ensures.value) in
     let size : size_of r ≡ length (candidates w p) = c.in_ok-rules.ensures.size ∙ ap length c.as_slice.ensures.value ∙ sym (length-candidates_of c.in_ok-all.all.items) ∙ ap length (c.in_ok-all.ensures ∙ e) in
     let sets = sets_in c.in_ok-found-in-None.found.sets in
     subst (λ (q : Choice). AreCovers q (length (candidates w p)) sets) same

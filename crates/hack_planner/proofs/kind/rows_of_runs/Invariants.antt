@@ -1,6 +1,6 @@
 use Rattle.std.proofs.Common.{◌≤◌, length, take}
 use Rattle.std.specs.List.{AllZip}
-use Rattle.hack_features.specs.Sets.{rows_of}
+use Rattle.hack_samples.specs.Sets.{rows_of}
 use Rattle.hack_features.specs.View.{choice_of}
 use Rattle.hack_planner.specs.Kinds.{IsRowOf}
 use Rattle.hack_planner.specs.KindsView.{runs_of}

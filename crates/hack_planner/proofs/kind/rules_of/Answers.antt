@@ -5,7 +5,7 @@ use Rattle.hack_features.specs.Feature.{groups_of}
 use Rattle.hack_features.specs.FeatureMap.{FeatureMap, feature_map}
 use Rattle.hack_features.specs.Rules.{Choice, unlifted_groups}
 use Rattle.hack_features.specs.View.{choice_of}
-use Rattle.hack_features.specs.Given.{choice}
+use Rattle.hack_features.specs.ChoiceView.{choice}
 use Rattle.hack_load.specs.declared.features.Features.{Features}
 use Rattle.hack_planner.specs.Candidates.{Wishes, Known, candidates, lifted_for}
 use Rattle.hack_planner.specs.CandidatesView.{wishes, known_of_package}
@@ -18,7 +18,7 @@ returns-clause-choice c = λ (features : Features) names lifts.
     let p : Known = known_of_package c.args.pkg.now features in
     let m : FeatureMap = feature_map c.args.pkg.now.features in
     let made_of : List (List Name) → List (List Name) → List (List Name) → Choice = λ names one exclusive. record { map = m; candidates = names; depth = w.depth; at_least_one_of = one; exclusive = exclusive } in
-    IfOk-weaker c.new.result (λ r. choice_of r ≡ choice c.args.all.now w.depth c.as_slice.result.now c.as_slice-2.result.now c.args.pkg.now.features c.args.lifted.now) (λ r. choice_of r ≡ kinds.choice_of w p)
+    IfOk-weaker c.new.result (λ r. choice_of r ≡ choice c.args.all.now w.depth c.as_slice.result.now c.as_slice-2.result.now c.args.pkg.now.features c.args.lifted.now) (λ r. choice_of r ≡ kinds.package_choice w p)
     (λ r made. made
     ∙ ap (λ names. made_of names (groups_of c.as_slice.result.now) (unlifted_groups (groups_of c.as_slice-2.result.now) c.args.lifted.now)) names
     ∙ ap (λ l. made_of (candidates w p) (groups_of l) (unlifted_groups (groups_of c.as_slice-2.result.now) c.args.lifted.now)) c.as_slice.ensures.value

@@ -6,7 +6,7 @@ use Rattle.hack_features.proofs.CandidateLemmas.{length-candidates_of}
 use Rattle.hack_planner.specs.Candidates.{Wishes, Known, candidates, lifted_for}
 use Rattle.hack_planner.specs.CandidatesView.{wishes, known_of_package}
 use Rattle.hack_planner.specs.Kinds as kinds
-use Rattle.hack_planner.specs.Least.{ListsAtLeast}
+use Rattle.hack_planner.specs.LeastRuns.{ListsAtLeast}
 use Rattle.hack_planner.proofs.LeastLemmas.{runs-at_least}
 use Rattle.hack_planner.proofs.least.least_runs.Goals as goal
 
@@ -16,7 +16,7 @@ returns c =
     let w : Wishes = wishes c.args.args.now in
     let p : Known = known_of_package c.args.pkg.now c.args.features.now in
     let found = ap candidates_of c.as_slice.ensures.value ∙ c.in_ok-all.ensures ∙ ap groups_of c.deref.ensures.value ∙ c.in_ok-candidates.ensures in
-    let same : choice_of r ≡ kinds.choice_of w p = c.in_ok-rules.ensures.choice c.args.features.now found (c.as_slice-2.ensures.value ∙ c.in_ok-lifted.ensures ∙ ap (lifted_for w) c.as_str.ensures.value) in
+    let same : choice_of r ≡ kinds.package_choice w p = c.in_ok-rules.ensures.choice c.args.features.now found (c.as_slice-2.ensures.value ∙ c.in_ok-lifted.ensures ∙ ap (lifted_for w) c.as_str.ensures.value) in
     let size : size_of r ≡ length (candidates w p) = c.in_ok-rules.ensures.size ∙ sym (length-candidates_of c.as_slice.result.now) ∙ ap length found in
     let least = subst (λ (q : Choice). ListsAtLeast q (length (candidates w p)) c.in_ok-sets.sets) same (subst (λ n. ListsAtLeast (choice_of r) n c.in_ok-sets.sets) size c.in_ok-sets.ensures.least) in
     runs-at_least w p c.in_ok-sets.sets c.runs_of.result c.requires.powerset c.requires.all least c.runs_of.ensures.most c.runs_of.ensures.none

@@ -1,7 +1,7 @@
 use Rattle.std.proofs.Common.{[], List, map, sym, subst}
 use Rattle.std.proofs.lemmas.List.{take_all}
 use Rattle.hack_load.specs.ContextView.{context_view}
-use Rattle.hack_metadata.specs.View.{place_at}
+use Rattle.hack_metadata.specs.RecordViews.{place_at}
 use Rattle.hack_metadata.specs.declared.resolve.PackageId.{PackageId}
 use Rattle.hack_planner.specs.LeastPlaces.{HaveAtLeast}
 use Rattle.hack_planner.proofs.LeastPlaceLemmas.{none-at_least, more-at_least}

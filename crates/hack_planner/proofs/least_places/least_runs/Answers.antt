@@ -1,6 +1,6 @@
 use Rattle.std.proofs.lemmas.Result.{IfOk-weaker}
 use Rattle.hack_load.specs.ContextView.{context_view}
-use Rattle.hack_metadata.specs.View.{package_view}
+use Rattle.hack_metadata.specs.RecordViews.{package_view}
 use Rattle.hack_planner.proofs.LeastPlaceLemmas.{planned-at_least}
 use Rattle.hack_planner.proofs.least_places.least_runs.Goals as goal
 

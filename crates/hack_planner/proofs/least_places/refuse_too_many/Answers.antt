@@ -1,6 +1,6 @@
 use Rattle.std.proofs.Common.{◌∙◌, ◌≡◌, ◌⊎◌, ℕ, map, ap, sym, subst, true, length, List}
 use Rattle.hack_load.specs.ContextView.{context_view}
-use Rattle.hack_metadata.specs.View.{place_at}
+use Rattle.hack_metadata.specs.RecordViews.{place_at}
 use Rattle.hack_plan.specs.Entries.{HasTooMany}
 use Rattle.hack_plan.specs.declared.places.PlacesFault.TheVariants as places
 use Rattle.hack_planner.proofs.LeastPlaceLemmas.{at_least-length, least-cause}

@@ -1,5 +1,5 @@
 use Rattle.std.proofs.Common.{◌≡◌, ◌∙◌, sym, ap, true}
-use Rattle.hack_features.specs.Closed.{same_more}
+use Rattle.hack_features.specs.ClosureLaws.{same_more}
 use Rattle.hack_features.specs.Samples.{positions_of}
 use Rattle.hack_planner.proofs.SetLemmas.{same-permitted}
 use Rattle.hack_planner.proofs.least_sets.grow.Goals as goal

@@ -1,6 +1,6 @@
 use Rattle.std.proofs.Common.{◌≡◌, ◌∙◌, length, replicate, sym, subst, ap, true, false}
 use Rattle.std.proofs.lemmas.List.{length-replicate}
-use Rattle.hack_features.specs.Closed.{may-empty, same_more}
+use Rattle.hack_features.specs.ClosureLaws.{may-empty, same_more}
 use Rattle.hack_features.specs.Samples.{positions_of}
 use Rattle.hack_features.specs.View.{may_of, size_of}
 use Rattle.hack_planner.proofs.SetLemmas.{same-permitted, same-size}

@@ -1,14 +1,14 @@
 use Rattle.std.proofs.Common.{◌≡◌, ◌∙◌, [], ◌∷◌, true, false, sym, ap, subst, map}
 use Rattle.std.proofs.lemmas.List.{map-append}
 use Rattle.hack_base.specs.Names.{names_of}
-use Rattle.hack_planner.specs.Members.{Member, Keeps, ends}
+use Rattle.hack_planner.specs.Members.{Member, SelectsMembers, ends}
 use Rattle.hack_planner.specs.MembersView.{member_view}
 use Rattle.hack_planner.specs.ListingView.{IsMatchedAs}
 use Rattle.hack_planner.proofs.Growth.{collects-taken, collects-left}
 use Rattle.hack_planner.proofs.listing.matched_members.Goals as goal
 
 pub loop-member-init : goal.loop-member-init
-loop-member-init c = subst (λ l. Keeps (IsMatchedAs c.args.matched (names_of c.args.specs.now)) [] (map member_view l)) (sym c.new-kept.ensures.items) ends
+loop-member-init c = subst (λ l. SelectsMembers (IsMatchedAs c.args.matched (names_of c.args.specs.now)) [] (map member_view l)) (sym c.new-kept.ensures.items) ends
 
 pub loop-member-preserved-then-not-is_picked : goal.loop-member-preserved-then-not-is_picked
 loop-member-preserved-then-not-is_picked c =

@@ -1,7 +1,7 @@
 use Rattle.std.proofs.Common.{◌≡◌, ◌∙◌, true, false, List, map, inl, inr, sym, ap, subst}
 use Rattle.std.specs.Prelude.{option_copied}
 use Rattle.hack_base.specs.Names.{names_of}
-use Rattle.hack_planner.specs.Members.{Choosing, IsAbout, Keeps, IsMatched, AllMatch, names_some}
+use Rattle.hack_planner.specs.Members.{Choosing, IsAbout, SelectsMembers, IsMatched, AllMatch, names_some}
 use Rattle.hack_planner.specs.Members as plain
 use Rattle.hack_planner.specs.MembersView.{member_view, choosing_of}
 use Rattle.hack_planner.proofs.PackageLemmas.{never-unnamed, never-named, named-fault}
@@ -37,7 +37,7 @@ returns-clause-ok c =
     let found : List plain.Member = map member_view c.in_ok-matched_members.field-0.items in
     let f : names_some w ≡ true = sym (c.names_some.ensures (option_copied c.args.current)) ∙ c.if-not-names_some.false in
     subst (λ b. IsAbout b w ms found) (sym f)
-    (subst (λ l. Keeps (IsMatched (names_of l)) ms found) c.deref-2.ensures.value c.in_ok-matched_members.ensures)
+    (subst (λ l. SelectsMembers (IsMatched (names_of l)) ms found) c.deref-2.ensures.value c.in_ok-matched_members.ensures)
 
 pub returns-clause-never : goal.returns-clause-never
 returns-clause-never c =

@@ -6,7 +6,7 @@ use Rattle.hack_base.specs.Names.{Name, names_of}
 use Rattle.hack_features.specs.declared.feature.Feature.{Feature}
 use Rattle.hack_base.specs.Notes.{note_of}
 use Rattle.hack_planner.specs.Texts.{exclusion_text, lift_text, private_text}
-use Rattle.hack_planner.specs.Members.{Choosing, Keeps, Collects, IsMatched, MatchesSome, is_called, is_skipped, warning_note, info_note}
+use Rattle.hack_planner.specs.Members.{Choosing, SelectsMembers, Collects, IsMatched, MatchesSome, is_called, is_skipped, warning_note, info_note}
 use Rattle.hack_planner.specs.Members as plain
 use Rattle.hack_planner.specs.MembersView.{member_view, choosing_of}
 use Rattle.hack_planner.proofs.PackageLemmas.{three-lists}
@@ -23,8 +23,8 @@ returns-clause-ok c =
       remaining = left;
       on_exclusions = map note_of c.in_ok-notices.notices.items;
       is_about = c.in-Ok.ensures.ok;
-      remain = subst (λ l. Keeps (λ (m : plain.Member). ¬ IsMatched (names_of l) m) (map member_view c.in-Ok.about.items) left) c.deref-2.ensures.value
-          (subst (λ l. Keeps (λ (m : plain.Member). ¬ IsMatched (names_of c.deref-2.result.now) m) (map member_view l) left) c.deref.ensures.value c.in_ok-left.ensures);
+      remain = subst (λ l. SelectsMembers (λ (m : plain.Member). ¬ IsMatched (names_of l) m) (map member_view c.in-Ok.about.items) left) c.deref-2.ensures.value
+          (subst (λ l. SelectsMembers (λ (m : plain.Member). ¬ IsMatched (names_of c.deref-2.result.now) m) (map member_view l) left) c.deref.ensures.value c.in_ok-left.ensures);
       single = c.is_one.ensures ∙ ap (λ l. length (map member_view l) == 1) c.deref-7.ensures.value;
       chosen = c.in_ok-kept_ids.ensures ∙ ap (λ l. map (λ (m : plain.Member). m.place) (filter (λ (m : plain.Member). not (is_skipped w m)) (map member_view l))) c.deref-6.ensures.value;
       unmatched = subst (λ l. Collects (λ (spec : Name). ¬ MatchesSome ms spec) (λ (spec : Name). warning_note (exclusion_text root spec)) (names_of l) (map note_of c.in_ok-notices.notices.items)) c.deref-3.ensures.value c.in_ok-notices.ensures;

@@ -2,17 +2,17 @@ use Rattle.std.proofs.Common.{◌≡◌, ◌⊎◌, ◌∙◌, sym, ap, subst, L
 use Rattle.std.proofs.lemmas.List.{length-map}
 use Rattle.std.proofs.lemmas.Result.{err_from_is_err_and}
 use Rattle.hack_load.specs.ContextView.{context_view}
-use Rattle.hack_metadata.specs.View.{place_at}
+use Rattle.hack_metadata.specs.RecordViews.{place_at}
 use Rattle.hack_metadata.specs.declared.resolve.PackageId.{PackageId}
 use Rattle.hack_planner.specs.ContextMembers.{AreChosen}
 use Rattle.hack_plan.specs.Entries.{ArePlaces, HasTooMany}
 use Rattle.hack_plan.specs.Plans.{counts_in}
 use Rattle.hack_plan.specs.Prepared.{ArePrepared}
-use Rattle.hack_plan.specs.View.{CallView, package_view}
+use Rattle.hack_plan.specs.View.{CallView, plan_package_view}
 use Rattle.hack_base.specs.Notes.{note_of}
 use Rattle.hack_versions.specs.declared.version.VersionFault.{VersionFault}
 use Rattle.hack_planner.specs.Calls.{IsInputOf, ArePlanned, HasBadOwn, HasRunsFault, left_out_notes}
-use Rattle.hack_planner.specs.Made.{IsCause, run_counts}
+use Rattle.hack_planner.specs.CallPlan.{IsCause, run_counts}
 use Rattle.hack_planner.proofs.CauseLemmas.{range-cause, places-cause, counts-same, all-told}
 use Rattle.hack_planner.proofs.NeverLemmas.{no-cause}
 use Rattle.hack_planner.proofs.PlanLemmas.{members-length, planned-length, covers}
@@ -41,8 +41,8 @@ of_input-requires-clause-packages c =
     let cx = context_view c.args.cx.now in
     let ids = c.in_ok-list.list.ids.items in
     let of_call = subst (λ l. IsInputOf cx (map place_at l) c.in_ok-input.input) c.as_slice.ensures.value c.in_ok-input.ensures.ok in
-    let planned = subst (λ l. ArePlanned cx c.in_ok-list.list.is_single (map place_at l) (map package_view c.in-Ok.answer.0.items) (map note_of c.in-Ok.answer.1.items)) c.as_slice-ids.ensures.value c.in-Ok.ensures.ok in
-    sym (length-map c.in-Ok.answer.0.items package_view)
+    let planned = subst (λ l. ArePlanned cx c.in_ok-list.list.is_single (map place_at l) (map plan_package_view c.in-Ok.answer.0.items) (map note_of c.in-Ok.answer.1.items)) c.as_slice-ids.ensures.value c.in-Ok.ensures.ok in
+    sym (length-map c.in-Ok.answer.0.items plan_package_view)
     ∙ sym (planned-length cx c.in_ok-list.list.is_single (map place_at ids) _ _ planned)
     ∙ members-length cx (map place_at ids) c.in_ok-input.input.packages.items of_call.members
 
@@ -75,7 +75,7 @@ returns-in-Err-of_input-clause-err c =
     let cx = context_view c.args.cx.now in
     let ids = c.in_ok-list.list.ids.items in
     let of_call = subst (λ l. IsInputOf cx (map place_at l) c.in_ok-input.input) c.as_slice.ensures.value c.in_ok-input.ensures.ok in
-    let planned = subst (λ l. ArePlanned cx c.in_ok-list.list.is_single (map place_at l) (map package_view c.in-Ok.answer.0.items) (map note_of c.in-Ok.answer.1.items)) c.as_slice-ids.ensures.value c.in-Ok.ensures.ok in
+    let planned = subst (λ l. ArePlanned cx c.in_ok-list.list.is_single (map place_at l) (map plan_package_view c.in-Ok.answer.0.items) (map note_of c.in-Ok.answer.1.items)) c.as_slice-ids.ensures.value c.in-Ok.ensures.ok in
     rw c.of_places.ensures (places-cause cx (map place_at ids) c.in_ok-list.list.is_single (map note_of c.in_ok-list.notices.items) c.in_ok-input.input c.in_ok-versions.versions.stable c.args.latest c.in-Ok.answer.0.items (map note_of c.in-Ok.answer.1.items) c.in-Err-of_input.fault c.in_ok-list.ensures.ok of_call planned c.in_ok-versions.ensures.stable c.in-Err-of_input.ensures.err)
 
 pub returns-clause-ok : goal.returns-clause-ok
@@ -88,7 +88,7 @@ returns-clause-ok c = λ rustup call.
     let packages = c.in-Ok.answer.0.items in
     let on_features = map note_of c.in-Ok.answer.1.items in
     let counts = ap run_counts c.in-Ok-of_input.ensures.packages ∙ counts-same packages in
-    let planned = subst (λ l. ArePlanned cx single (map place_at l) (map package_view packages) on_features) c.as_slice-ids.ensures.value c.in-Ok.ensures.ok in
+    let planned = subst (λ l. ArePlanned cx single (map place_at l) (map plan_package_view packages) on_features) c.as_slice-ids.ensures.value c.in-Ok.ensures.ok in
     record {
       ids = map place_at ids;
       single = single;
@@ -132,12 +132,12 @@ returns-clause-never c =
       ids = map place_at ids;
       single = single;
       input = input;
-      packages = map package_view packages;
+      packages = map plan_package_view packages;
       notes = map note_of c.in_ok-list.notices.items;
       on_features = on_features;
       chosen = c.in_ok-list.ensures.ok;
       of_call = subst (λ l. IsInputOf cx (map place_at l) input) c.as_slice.ensures.value c.in_ok-input.ensures.ok;
-      planned = subst (λ l. ArePlanned cx single (map place_at l) (map package_view packages) on_features) c.as_slice-ids.ensures.value c.in-Ok.ensures.ok;
+      planned = subst (λ l. ArePlanned cx single (map place_at l) (map plan_package_view packages) on_features) c.as_slice-ids.ensures.value c.in-Ok.ensures.ok;
       known = c.in_ok-list.ensures.never;
       readable = subst (λ (l : List PackageId). (e : VersionFault) → ¬ HasBadOwn cx (map place_at l) e) c.as_slice.ensures.value c.in_ok-input.ensures.never;
       in_range = c.in_ok-versions.ensures.never;

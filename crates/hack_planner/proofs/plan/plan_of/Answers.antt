@@ -3,8 +3,8 @@ use Rattle.std.proofs.lemmas.Result.{IfOk-weaker}
 use Rattle.hack_load.specs.ContextView.{context_view}
 use Rattle.hack_base.specs.Notes.{note_of}
 use Rattle.hack_words.specs.declared.cli.args.Args.{Args}
-use Rattle.hack_planner.specs.Covered.{AreCovered}
-use Rattle.hack_planner.specs.Made.{IsPlan, IsPlanOf, IsSureCause, IsSureCauseOf}
+use Rattle.hack_planner.specs.CoveredSets.{AreCovered}
+use Rattle.hack_planner.specs.CallPlan.{IsPlan, IsPlanOf, IsSureCause, IsSureCauseOf}
 use Rattle.hack_planner.specs.declared.fault.PlanFault.{PlanFault}
 use Rattle.hack_planner.specs.Powersets.{HavePowersets}
 use Rattle.hack_planner.proofs.MadeLemmas.{by-subcommand, same-latest}

@@ -1,7 +1,7 @@
 use Rattle.std.proofs.Common.{◌≡◌, ◌++◌, Some, map, take}
 use Rattle.std.specs.List.{flat_map}
 use Rattle.hack_load.specs.ContextView.{context_view}
-use Rattle.hack_metadata.specs.View.{place_at}
+use Rattle.hack_metadata.specs.RecordViews.{place_at}
 use Rattle.hack_base.specs.Notes.{note_of}
 use Rattle.hack_planner.specs.Calls.{version_notes}
 use Rattle.hack_planner.proofs.plan_notes.add_groups.Given as goal

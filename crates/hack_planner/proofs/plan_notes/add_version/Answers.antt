@@ -2,7 +2,7 @@ use Rattle.std.proofs.Common.{map, slice_get}
 use Rattle.std.specs.List.{flat_map}
 use Rattle.hack_load.specs.ContextView.{context_view}
 use Rattle.hack_load.specs.GivenFeatures.{left_out_for}
-use Rattle.hack_metadata.specs.View.{place_at}
+use Rattle.hack_metadata.specs.RecordViews.{place_at}
 use Rattle.hack_base.specs.Notes.{note_of}
 use Rattle.hack_planner.proofs.NoteLemmas.{slots-more}
 use Rattle.hack_planner.proofs.plan_notes.add_version.Goals as goal

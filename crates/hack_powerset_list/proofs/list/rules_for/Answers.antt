@@ -4,7 +4,7 @@ use Rattle.hack_base.specs.Names.{Name}
 use Rattle.hack_features.specs.Feature.{group_of, groups_of}
 use Rattle.hack_features.specs.FeatureMap.{FeatureMap, feature_map}
 use Rattle.hack_features.specs.Rules.{Choice, unlifted_groups}
-use Rattle.hack_features.specs.Given.{choice}
+use Rattle.hack_features.specs.ChoiceView.{choice}
 use Rattle.hack_features.proofs.CandidateLemmas.{length-candidates_of}
 use Rattle.hack_powerset_list.proofs.ListLemmas.{unlifted-none}
 use Rattle.hack_powerset_list.proofs.list.rules_for.Goals as goal

@@ -5,7 +5,7 @@ use Rattle.hack_base.specs.Names.{Name}
 use Rattle.hack_features.specs.Feature.{name_of}
 use Rattle.hack_plan.specs.Runs.{Plain, NoDefaultFeatures, allows_two, run_if, runs_from, with_last_first}
 use Rattle.hack_powerset_list.specs.Lines.{run_lines}
-use Rattle.hack_powerset_list.specs.LineWords.{Prints}
+use Rattle.hack_powerset_list.specs.LineWords.{PrintsText}
 use Rattle.hack_powerset_list.specs.ListRuns.{options_from}
 use Rattle.hack_powerset_list.specs.Room.{set_in}
 use Rattle.hack_powerset_list.specs.Walks.{EndsIn, listed_below, listed_in, set_lines}
@@ -59,7 +59,7 @@ returns-in_default-clause-ok g c =
     ∙ ap (λ b. run_lines names (if length fs == 0 then Plain ∷ [] else run_if b NoDefaultFeatures)) bare
     ∙ ap (run_lines names) (sym (runs-none w fs))
     ∙ ap (λ l. run_lines names (runs_from (options_from w fs) l)) (sym none) in
-    on_ok-same c.print_front.result (λ l. Prints (g.W.Sink.contents c.args.out.now) (g.W.Sink.contents c.print_front.new.out) page (string_bytes c.print_front.new.page) l) _ _ is c.print_front.ensures.ok
+    on_ok-same c.print_front.result (λ l. PrintsText (g.W.Sink.contents c.args.out.now) (g.W.Sink.contents c.print_front.new.out) page (string_bytes c.print_front.new.page) l) _ _ is c.print_front.ensures.ok
 
 pub returns-in_default-clause-err : goal.returns-in_default-clause-err
 returns-in_default-clause-err g c =
@@ -133,9 +133,9 @@ returns-clause-ok g c =
     ap (λ l. set_lines names (with_last_first c.fits_two-last_first.result l)) (listed-in-same r asked c.in_ok-last.ensures.same_size c.in_ok-last.ensures.same_may c.in_ok-last.ensures.same_whole)
     ∙ ap (λ b. set_lines names (with_last_first b sets)) c.fits_two-last_first.ensures in
     on_ok-then c.print_sets.result _ _
-    (λ h. subst (Prints (g.W.Sink.contents c.args.out.now) (g.W.Sink.contents c.print_sets.new.out) page (string_bytes c.print_sets.new.page)) (sym is)
+    (λ h. subst (PrintsText (g.W.Sink.contents c.args.out.now) (g.W.Sink.contents c.print_sets.new.out) page (string_bytes c.print_sets.new.page)) (sym is)
     (prints-then _ _ _ page (string_bytes c.print_front-2.new.page) (string_bytes c.print_sets.new.page) front lines c.in_ok-print_front.ensures.ok
-    (subst (Prints (g.W.Sink.contents c.print_front-2.new.out) (g.W.Sink.contents c.print_sets.new.out) (string_bytes c.print_front-2.new.page) (string_bytes c.print_sets.new.page)) shown h)))
+    (subst (PrintsText (g.W.Sink.contents c.print_front-2.new.out) (g.W.Sink.contents c.print_sets.new.out) (string_bytes c.print_front-2.new.page) (string_bytes c.print_sets.new.page)) shown h)))
     c.print_sets.ensures.ok
 
 pub returns-clause-err : goal.returns-clause-err

@@ -5,7 +5,7 @@ use Rattle.hack_features.specs.Feature.{name_of}
 use Rattle.hack_features.specs.View.{may_of}
 use Rattle.hack_plan.specs.Runs.{Set, with_last_first}
 use Rattle.hack_powerset_list.specs.Lines.{run_line}
-use Rattle.hack_powerset_list.specs.LineWords.{Prints}
+use Rattle.hack_powerset_list.specs.LineWords.{PrintsText}
 use Rattle.hack_powerset_list.specs.Room.{set_in}
 use Rattle.hack_features.specs.Walk.{below}
 use Rattle.hack_powerset_list.specs.Walks.{is_other, listed_in, set_lines}
@@ -73,9 +73,9 @@ returns-in_ok-print_whole-clause-ok g c =
     let all : List ℕ = set_lines names (with_last_first c.args.last_first sets) in
     let is : all ≡ run_line names (Set last) ++ set_lines names front = first-text names sets front last c.requires.last.same c.args.last_first c.if-last_first.true in
     on_ok-then c.print_below.result _ _
-    (λ h. subst (Prints (g.W.Sink.contents c.args.out.now) (g.W.Sink.contents c.print_below.new.out) page (string_bytes c.print_below.new.page)) (sym is)
+    (λ h. subst (PrintsText (g.W.Sink.contents c.args.out.now) (g.W.Sink.contents c.print_below.new.out) page (string_bytes c.print_below.new.page)) (sym is)
     (prints-then _ _ _ page (string_bytes c.print_whole.new.page) (string_bytes c.print_below.new.page) (run_line names (Set last)) (set_lines names front) c.in_ok-print_whole.ensures.ok
-    (subst (Prints (g.W.Sink.contents c.print_whole.new.out) (g.W.Sink.contents c.print_below.new.out) (string_bytes c.print_whole.new.page) (string_bytes c.print_below.new.page)) others h)))
+    (subst (PrintsText (g.W.Sink.contents c.print_whole.new.out) (g.W.Sink.contents c.print_below.new.out) (string_bytes c.print_whole.new.page) (string_bytes c.print_below.new.page)) others h)))
     c.print_below.ensures.ok
 
 pub returns-in_ok-print_whole-clause-err : goal.returns-in_ok-print_whole-clause-err
@@ -109,9 +109,9 @@ returns-in_ok-print_below-clause-ok g c =
     let all : List ℕ = set_lines names (with_last_first c.args.last_first sets) in
     let is : all ≡ set_lines names front ++ run_line names (Set last) = behind-text names sets front last c.requires.last.same c.args.last_first c.if-last_first.false in
     on_ok-then c.print_whole-else-last_first.result _ _
-    (λ h. subst (Prints (g.W.Sink.contents c.args.out.now) (g.W.Sink.contents c.print_whole-else-last_first.new.out) page (string_bytes c.print_whole-else-last_first.new.page)) (sym is)
+    (λ h. subst (PrintsText (g.W.Sink.contents c.args.out.now) (g.W.Sink.contents c.print_whole-else-last_first.new.out) page (string_bytes c.print_whole-else-last_first.new.page)) (sym is)
     (prints-then _ _ _ page (string_bytes c.print_below-else-last_first.new.page) (string_bytes c.print_whole-else-last_first.new.page) (set_lines names front) (run_line names (Set last))
-    (subst (Prints (g.W.Sink.contents c.args.out.now) (g.W.Sink.contents c.print_below-else-last_first.new.out) page (string_bytes c.print_below-else-last_first.new.page)) others c.in_ok-print_below.ensures.ok) h))
+    (subst (PrintsText (g.W.Sink.contents c.args.out.now) (g.W.Sink.contents c.print_below-else-last_first.new.out) page (string_bytes c.print_below-else-last_first.new.page)) others c.in_ok-print_below.ensures.ok) h))
     c.print_whole-else-last_first.ensures.ok
 
 pub returns-in_ok-print_below-clause-err : goal.returns-in_ok-print_below-clause-err
@@ -128,6 +128,6 @@ returns-in_ok-print_below-clause-err g c =
     let is : all ≡ set_lines names front ++ run_line names (Set last) = behind-text names sets front last c.requires.last.same c.args.last_first c.if-last_first.false in
     on_err-then c.print_whole-else-last_first.result _ _
     (λ h. prints-stopped _ _ _ page (string_bytes c.print_below-else-last_first.new.page) (set_lines names front) (run_line names (Set last)) [] all
-    (subst (Prints (g.W.Sink.contents c.args.out.now) (g.W.Sink.contents c.print_below-else-last_first.new.out) page (string_bytes c.print_below-else-last_first.new.page)) others c.in_ok-print_below.ensures.ok) h
+    (subst (PrintsText (g.W.Sink.contents c.args.out.now) (g.W.Sink.contents c.print_below-else-last_first.new.out) page (string_bytes c.print_below-else-last_first.new.page)) others c.in_ok-print_below.ensures.ok) h
     (is ∙ ap (λ l. set_lines names front ++ l) (sym (append-nil (run_line names (Set last))))))
     c.print_whole-else-last_first.ensures.err

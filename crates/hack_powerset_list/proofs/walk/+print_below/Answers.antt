@@ -5,7 +5,7 @@ use Rattle.hack_base.specs.Names.{Name}
 use Rattle.hack_features.specs.Feature.{name_of}
 use Rattle.hack_features.specs.Sets.{IsSelection, items_at}
 use Rattle.hack_features.specs.View.{may_of, size_of, whole_of}
-use Rattle.hack_powerset_list.specs.LineWords.{Prints, others_text}
+use Rattle.hack_powerset_list.specs.LineWords.{PrintsText, others_text}
 use Rattle.hack_powerset_list.specs.Room.{set_in, most_in}
 use Rattle.hack_features.specs.Walk.{below}
 use Rattle.hack_powerset_list.specs.Walks.{is_other, set_lines}
@@ -44,7 +44,7 @@ loop-p-preserved-then-not-may_begin g t c =
     let refused : may (p ∷ s) ≡ false =
     ap (λ l. may (p ∷ l)) (sym (c.set.ensures ∙ c.loop-p.invariant.kept)) ∙ sym (c.may_begin.ensures.answer ∙ ap (λ f. f (p ∷ c.set.result.now)) c.loop-p.invariant.same_may) ∙ c.if-not-may_begin.true in
     record {
-      printed = subst (Prints (g.W.Sink.contents c.args.out.now) (g.W.Sink.contents c.loop-p.out) (string_bytes c.args.page.now) (string_bytes c.loop-p.page))
+      printed = subst (PrintsText (g.W.Sink.contents c.args.out.now) (g.W.Sink.contents c.loop-p.out) (string_bytes c.args.page.now) (string_bytes c.loop-p.page))
           (sym (text-skip names test may s p refused)) c.loop-p.invariant.printed;
       count = c.loop-p.invariant.count;
       kept = c.loop-p.invariant.kept;
@@ -131,10 +131,10 @@ returns-in_err-longer-clause-err g t c =
     let back : is_other c.may_begin.new.self c.args.lines.now.last.now ≡ test = other-same r c.may_begin.new.self c.args.lines.now.last.now (c.may_begin.ensures.same_whole ∙ c.loop-p.invariant.same_whole) in
     let others : c.args.others.now ≡ others_text (items_at names s) = asked.1.1.1.1.1.1 in
     let all = text-all names test may s p c.args.limit lt permitted in
-    let line : Prints (g.W.Sink.contents c.loop-p.out) (g.W.Sink.contents c.print_other.new.out) (string_bytes c.loop-p.page) (string_bytes c.print_other.new.page) (line_at names test may s p) =
-    subst (λ x. Prints (g.W.Sink.contents c.loop-p.out) (g.W.Sink.contents c.print_other.new.out) (string_bytes c.loop-p.page) (string_bytes c.print_other.new.page) (set_lines names (filter test (x ∷ []))))
-    set (subst (λ f. Prints (g.W.Sink.contents c.loop-p.out) (g.W.Sink.contents c.print_other.new.out) (string_bytes c.loop-p.page) (string_bytes c.print_other.new.page) (set_lines names (filter f (c.set-in-loop-p.result.now ∷ [])))) back (c.in_ok-print_other.ensures.ok s set others)) in
-    let so_far : Prints (g.W.Sink.contents c.args.out.now) (g.W.Sink.contents c.print_other.new.out) (string_bytes c.args.page.now) (string_bytes c.print_other.new.page) (lines_below names test may s p ++ line_at names test may s p) =
+    let line : PrintsText (g.W.Sink.contents c.loop-p.out) (g.W.Sink.contents c.print_other.new.out) (string_bytes c.loop-p.page) (string_bytes c.print_other.new.page) (line_at names test may s p) =
+    subst (λ x. PrintsText (g.W.Sink.contents c.loop-p.out) (g.W.Sink.contents c.print_other.new.out) (string_bytes c.loop-p.page) (string_bytes c.print_other.new.page) (set_lines names (filter test (x ∷ []))))
+    set (subst (λ f. PrintsText (g.W.Sink.contents c.loop-p.out) (g.W.Sink.contents c.print_other.new.out) (string_bytes c.loop-p.page) (string_bytes c.print_other.new.page) (set_lines names (filter f (c.set-in-loop-p.result.now ∷ [])))) back (c.in_ok-print_other.ensures.ok s set others)) in
+    let so_far : PrintsText (g.W.Sink.contents c.args.out.now) (g.W.Sink.contents c.print_other.new.out) (string_bytes c.args.page.now) (string_bytes c.print_other.new.page) (lines_below names test may s p ++ line_at names test may s p) =
     prints-then _ _ _ (string_bytes c.args.page.now) (string_bytes c.loop-p.page) (string_bytes c.print_other.new.page) (lines_below names test may s p) (line_at names test may s p) c.loop-p.invariant.printed line in
     on_err-any c.from_residual-in_err-longer.result _
     (prints-front _ _ (string_bytes c.args.page.now) (string_bytes c.print_other.new.page) (lines_below names test may s p ++ line_at names test may s p) (lines_under names test may s p ++ all.0) (lines_below names test may s c.args.limit)
@@ -200,10 +200,10 @@ returns-in_err-print_below-clause-err g t c =
     let back : is_other c.may_begin.new.self c.args.lines.now.last.now ≡ test = other-same r c.may_begin.new.self c.args.lines.now.last.now (c.may_begin.ensures.same_whole ∙ c.loop-p.invariant.same_whole) in
     let others : c.args.others.now ≡ others_text (items_at names s) = asked.1.1.1.1.1.1 in
     let all = text-all names test may s p c.args.limit lt permitted in
-    let line : Prints (g.W.Sink.contents c.loop-p.out) (g.W.Sink.contents c.print_other.new.out) (string_bytes c.loop-p.page) (string_bytes c.print_other.new.page) (line_at names test may s p) =
-    subst (λ x. Prints (g.W.Sink.contents c.loop-p.out) (g.W.Sink.contents c.print_other.new.out) (string_bytes c.loop-p.page) (string_bytes c.print_other.new.page) (set_lines names (filter test (x ∷ []))))
-    set (subst (λ f. Prints (g.W.Sink.contents c.loop-p.out) (g.W.Sink.contents c.print_other.new.out) (string_bytes c.loop-p.page) (string_bytes c.print_other.new.page) (set_lines names (filter f (c.set-in-loop-p.result.now ∷ [])))) back (c.in_ok-print_other.ensures.ok s set others)) in
-    let so_far : Prints (g.W.Sink.contents c.args.out.now) (g.W.Sink.contents c.print_other.new.out) (string_bytes c.args.page.now) (string_bytes c.print_other.new.page) (lines_below names test may s p ++ line_at names test may s p) =
+    let line : PrintsText (g.W.Sink.contents c.loop-p.out) (g.W.Sink.contents c.print_other.new.out) (string_bytes c.loop-p.page) (string_bytes c.print_other.new.page) (line_at names test may s p) =
+    subst (λ x. PrintsText (g.W.Sink.contents c.loop-p.out) (g.W.Sink.contents c.print_other.new.out) (string_bytes c.loop-p.page) (string_bytes c.print_other.new.page) (set_lines names (filter test (x ∷ []))))
+    set (subst (λ f. PrintsText (g.W.Sink.contents c.loop-p.out) (g.W.Sink.contents c.print_other.new.out) (string_bytes c.loop-p.page) (string_bytes c.print_other.new.page) (set_lines names (filter f (c.set-in-loop-p.result.now ∷ [])))) back (c.in_ok-print_other.ensures.ok s set others)) in
+    let so_far : PrintsText (g.W.Sink.contents c.args.out.now) (g.W.Sink.contents c.print_other.new.out) (string_bytes c.args.page.now) (string_bytes c.print_other.new.page) (lines_below names test may s p ++ line_at names test may s p) =
     prints-then _ _ _ (string_bytes c.args.page.now) (string_bytes c.loop-p.page) (string_bytes c.print_other.new.page) (lines_below names test may s p) (line_at names test may s p) c.loop-p.invariant.printed line in
     let put : List ℕ = set_in c.put.new.self in
     let under : lines_under names test may s p ≡ set_lines names (filter (is_other c.may_begin.new.self c.args.lines.now.last.now) (below (may_of c.may_begin.new.self) p put)) =
@@ -235,10 +235,10 @@ loop-p-preserved g t c =
     let back : is_other c.may_begin.new.self c.args.lines.now.last.now ≡ test = other-same r c.may_begin.new.self c.args.lines.now.last.now (c.may_begin.ensures.same_whole ∙ c.loop-p.invariant.same_whole) in
     let others : c.args.others.now ≡ others_text (items_at names s) = asked.1.1.1.1.1.1 in
     let all = text-all names test may s p c.args.limit lt permitted in
-    let line : Prints (g.W.Sink.contents c.loop-p.out) (g.W.Sink.contents c.print_other.new.out) (string_bytes c.loop-p.page) (string_bytes c.print_other.new.page) (line_at names test may s p) =
-    subst (λ x. Prints (g.W.Sink.contents c.loop-p.out) (g.W.Sink.contents c.print_other.new.out) (string_bytes c.loop-p.page) (string_bytes c.print_other.new.page) (set_lines names (filter test (x ∷ []))))
-    set (subst (λ f. Prints (g.W.Sink.contents c.loop-p.out) (g.W.Sink.contents c.print_other.new.out) (string_bytes c.loop-p.page) (string_bytes c.print_other.new.page) (set_lines names (filter f (c.set-in-loop-p.result.now ∷ [])))) back (c.in_ok-print_other.ensures.ok s set others)) in
-    let so_far : Prints (g.W.Sink.contents c.args.out.now) (g.W.Sink.contents c.print_other.new.out) (string_bytes c.args.page.now) (string_bytes c.print_other.new.page) (lines_below names test may s p ++ line_at names test may s p) =
+    let line : PrintsText (g.W.Sink.contents c.loop-p.out) (g.W.Sink.contents c.print_other.new.out) (string_bytes c.loop-p.page) (string_bytes c.print_other.new.page) (line_at names test may s p) =
+    subst (λ x. PrintsText (g.W.Sink.contents c.loop-p.out) (g.W.Sink.contents c.print_other.new.out) (string_bytes c.loop-p.page) (string_bytes c.print_other.new.page) (set_lines names (filter test (x ∷ []))))
+    set (subst (λ f. PrintsText (g.W.Sink.contents c.loop-p.out) (g.W.Sink.contents c.print_other.new.out) (string_bytes c.loop-p.page) (string_bytes c.print_other.new.page) (set_lines names (filter f (c.set-in-loop-p.result.now ∷ [])))) back (c.in_ok-print_other.ensures.ok s set others)) in
+    let so_far : PrintsText (g.W.Sink.contents c.args.out.now) (g.W.Sink.contents c.print_other.new.out) (string_bytes c.args.page.now) (string_bytes c.print_other.new.page) (lines_below names test may s p ++ line_at names test may s p) =
     prints-then _ _ _ (string_bytes c.args.page.now) (string_bytes c.loop-p.page) (string_bytes c.print_other.new.page) (lines_below names test may s p) (line_at names test may s p) c.loop-p.invariant.printed line in
     let put : List ℕ = set_in c.put.new.self in
     let under : lines_under names test may s p ≡ set_lines names (filter (is_other c.may_begin.new.self c.args.lines.now.last.now) (below (may_of c.may_begin.new.self) p put)) =
@@ -258,12 +258,12 @@ loop-p-preserved g t c =
       | then-p-gt0+then-not-is_full+in_ok-longer+in_ok-print_below w ↦ ap most_in w.room-is ∙ w.in_ok-print_below.ensures.room ∙ c.put.ensures.most ∙ c.loop-p.invariant.room
       | else-p-gt0 w ↦ ap most_in w.room-is ∙ c.put.ensures.most ∙ c.loop-p.invariant.room
     ] in
-    let behind : Prints (g.W.Sink.contents c.print_other.new.out) out_new (string_bytes c.print_other.new.page) page_new (lines_under names test may s p) =
+    let behind : PrintsText (g.W.Sink.contents c.print_other.new.out) out_new (string_bytes c.print_other.new.page) page_new (lines_under names test may s p) =
     elim c.if-p-gt0.branch [
       | then-p-gt0+then-not-is_full+in_ok-longer+in_ok-print_below w ↦
-          subst (λ o. Prints (g.W.Sink.contents c.print_other.new.out) (g.W.Sink.contents o) (string_bytes c.print_other.new.page) page_new (lines_under names test may s p)) (sym w.out-is)
-          (subst (λ b. Prints (g.W.Sink.contents c.print_other.new.out) (g.W.Sink.contents w.print_below.new.out) (string_bytes c.print_other.new.page) (string_bytes b) (lines_under names test may s p)) (sym w.page-is)
-          (subst (Prints (g.W.Sink.contents c.print_other.new.out) (g.W.Sink.contents w.print_below.new.out) (string_bytes c.print_other.new.page) (string_bytes w.print_below.new.page)) (sym under)
+          subst (λ o. PrintsText (g.W.Sink.contents c.print_other.new.out) (g.W.Sink.contents o) (string_bytes c.print_other.new.page) page_new (lines_under names test may s p)) (sym w.out-is)
+          (subst (λ b. PrintsText (g.W.Sink.contents c.print_other.new.out) (g.W.Sink.contents w.print_below.new.out) (string_bytes c.print_other.new.page) (string_bytes b) (lines_under names test may s p)) (sym w.page-is)
+          (subst (PrintsText (g.W.Sink.contents c.print_other.new.out) (g.W.Sink.contents w.print_below.new.out) (string_bytes c.print_other.new.page) (string_bytes w.print_below.new.page)) (sym under)
           w.in_ok-print_below.ensures.ok))
       | else-p-gt0 w ↦
           let none : lines_under names test may s p ≡ [] =
@@ -273,9 +273,9 @@ loop-p-preserved g t c =
                 ap (λ l. set_lines names (filter test l)) (below-full may (p ∷ s) p full)
             | else-p-gt0-via-else-p-gt0 w' ↦ let least : p ≡ zero = omega (arith, w'.if-p-gt0.false) in ap (lines_under names test may s) least
           ] in
-          subst (λ o. Prints (g.W.Sink.contents c.print_other.new.out) (g.W.Sink.contents o) (string_bytes c.print_other.new.page) page_new (lines_under names test may s p)) (sym w.out-is)
-          (subst (λ b. Prints (g.W.Sink.contents c.print_other.new.out) (g.W.Sink.contents c.print_other.new.out) (string_bytes c.print_other.new.page) (string_bytes b) (lines_under names test may s p)) (sym w.page-is)
-          (subst (Prints (g.W.Sink.contents c.print_other.new.out) (g.W.Sink.contents c.print_other.new.out) (string_bytes c.print_other.new.page) (string_bytes c.print_other.new.page)) (sym none)
+          subst (λ o. PrintsText (g.W.Sink.contents c.print_other.new.out) (g.W.Sink.contents o) (string_bytes c.print_other.new.page) page_new (lines_under names test may s p)) (sym w.out-is)
+          (subst (λ b. PrintsText (g.W.Sink.contents c.print_other.new.out) (g.W.Sink.contents c.print_other.new.out) (string_bytes c.print_other.new.page) (string_bytes b) (lines_under names test may s p)) (sym w.page-is)
+          (subst (PrintsText (g.W.Sink.contents c.print_other.new.out) (g.W.Sink.contents c.print_other.new.out) (string_bytes c.print_other.new.page) (string_bytes c.print_other.new.page)) (sym none)
           (prints-none (g.W.Sink.contents c.print_other.new.out) (string_bytes c.print_other.new.page))))
     ] in
     let count : NoFewer (g.W.Sink.failed c.print_other.new.out) (g.W.Sink.failed c.if-p-gt0.out) =
@@ -284,7 +284,7 @@ loop-p-preserved g t c =
       | else-p-gt0 w ↦ stayed _ _ (ap g.W.Sink.failed w.out-is)
     ] in
     record {
-      printed = subst (Prints (g.W.Sink.contents c.args.out.now) out_new (string_bytes c.args.page.now) page_new) (sym next)
+      printed = subst (PrintsText (g.W.Sink.contents c.args.out.now) out_new (string_bytes c.args.page.now) page_new) (sym next)
           (prints-then _ _ _ (string_bytes c.args.page.now) (string_bytes c.print_other.new.page) page_new (lines_below names test may s p ++ line_at names test may s p) (lines_under names test may s p) so_far behind);
       count = NoFewer-trans _ _ _ c.loop-p.invariant.count (NoFewer-trans _ _ _ c.in_ok-print_other.ensures.counted count);
       kept = c.take.ensures.set ∙ ap (drop 1) kept;
@@ -321,4 +321,4 @@ returns-clause-ok g t c =
     let names : List Name = map name_of c.args.lines.now.features.now in
     let s : List ℕ = set_in c.args.room.now in
     let ended : c.loop-p.p ≡ c.args.limit = omega (arith, c.loop-p-test.false) in
-    subst (λ k. Prints (g.W.Sink.contents c.args.out.now) (g.W.Sink.contents c.loop-p.out) (string_bytes c.args.page.now) (string_bytes c.loop-p.page) (lines_below names test may s k)) ended c.loop-p.invariant.printed
+    subst (λ k. PrintsText (g.W.Sink.contents c.args.out.now) (g.W.Sink.contents c.loop-p.out) (string_bytes c.args.page.now) (string_bytes c.loop-p.page) (lines_below names test may s k)) ended c.loop-p.invariant.printed

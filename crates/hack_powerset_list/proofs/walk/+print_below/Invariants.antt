@@ -2,7 +2,7 @@ use Rattle.std.proofs.Common.{◌≡◌, map, filter, string_bytes}
 use Rattle.hack_base.specs.Writes.{NoFewer}
 use Rattle.hack_features.specs.Feature.{name_of}
 use Rattle.hack_features.specs.View.{may_of, size_of, whole_of}
-use Rattle.hack_powerset_list.specs.LineWords.{Prints}
+use Rattle.hack_powerset_list.specs.LineWords.{PrintsText}
 use Rattle.hack_powerset_list.specs.Room.{set_in, most_in}
 use Rattle.hack_features.specs.Walk.{below}
 use Rattle.hack_powerset_list.specs.Walks.{is_other, set_lines}
@@ -13,7 +13,7 @@ decreases-print_below g l = l.limit
 
 abbrev pub invariant-loop-p : goal.invariant-loop-p
 invariant-loop-p g l = record {
-  printed : Prints (g.W.Sink.contents l.fn.out) (g.W.Sink.contents l.out) (string_bytes l.fn.page) (string_bytes l.page)
+  printed : PrintsText (g.W.Sink.contents l.fn.out) (g.W.Sink.contents l.out) (string_bytes l.fn.page) (string_bytes l.page)
       (set_lines (map name_of l.lines.features.now) (filter (is_other l.fn.rules l.lines.last.now) (below (may_of l.fn.rules) l.p (set_in l.fn.room))));
   count : NoFewer (g.W.Sink.failed l.fn.out) (g.W.Sink.failed l.out);
   kept : set_in l.room ≡ set_in l.fn.room;

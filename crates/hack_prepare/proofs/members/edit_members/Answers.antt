@@ -5,7 +5,7 @@ use Rattle.hack_prepare.proofs.FaultLemmas.{member-fault, member-spared, root-fa
 use Rattle.hack_base.proofs.Steps.{seen-next, seen_here}
 use Rattle.hack_base.specs.Names.{names_behind}
 use Rattle.hack_base.specs.Notes.{note_of}
-use Rattle.hack_prepare.specs.PreparedView.{member_view, members_view, wanted_view}
+use Rattle.hack_prepare.specs.PreparedView.{member_manifest_view, members_view, wanted_view}
 use Rattle.hack_prepare.specs.declared.wanted.Member.{Member}
 use Rattle.hack_files.specs.Files.{GrowsBy}
 use Rattle.hack_prepare.proofs.CountLemmas.{fault_then, none_then}
@@ -31,10 +31,10 @@ loop-member-preserved g c =
     let x : Member = get_or xs k d in
     let w = wanted_view c.args.wanted.now in
     let same : x ≡ get_or xs k x = get_or_default xs k d x c.loop-member-test.true in
-    let one = seen-next member_view xs k x c.loop-member-test.true same in
+    let one = seen-next member_manifest_view xs k x c.loop-member-test.true same in
     let tells = g.F.Files.tells in
     let ms = members_view xs in
-    let m = member_view x in
+    let m = member_manifest_view x in
     let h = c.loop-member.invariant in
     let start = g.F.Files.bytes_at c.args.files.now in
     let before = g.F.Files.failed c.args.files.now in
@@ -60,7 +60,7 @@ loop-member-preserved g c =
               λ y. alone-made w ms k m one trace so_far (g.F.Files.trace b.edit_member.new.files) start now (g.F.Files.bytes_at b.edit_member.new.files) (sym b.if-is_alone.ensures) (b.in_ok-edit_member.ensures.traced y) (h.0.1 y),
             ),
             visited-alone tells w ms k m one c.args.manager.now start before told c.loop-member.manager b.edit_member.new.manager now (g.F.Files.bytes_at b.edit_member.new.files) after (g.F.Files.failed b.edit_member.new.files)
-                private notes (map note_of b.edit_member.new.notices.items) (seen_here member_view xs k x c.loop-member-test.true same) (sym b.if-goes.ensures) (sym b.if-is_alone.ensures)
+                private notes (map note_of b.edit_member.new.notices.items) (seen_here member_manifest_view xs k x c.loop-member-test.true same) (sym b.if-goes.ensures) (sym b.if-is_alone.ensures)
                 b.edit_member.ensures.step b.in_ok-edit_member.ensures.counted b.in_ok-edit_member.ensures.turned b.edit_member.ensures.others b.in_ok-edit_member.ensures.told h.1,
           )
       | else-goes+else-is_alone b ↦
@@ -81,8 +81,8 @@ returns-in_err-edit_member-clause-step g c =
     let k = c.loop-member.member-index in
     let d : Member = record { path = record { ref_ptr = (0, 0); now = [] }; text = record { ref_ptr = (0, 0); now = [] }; is_private = false } in
     let x : Member = get_or xs k d in
-    let among = seen_here member_view xs k x c.loop-member-test.true (get_or_default xs k d x c.loop-member-test.true) in
-    visited-fails g.F.Files.tells (wanted_view c.args.wanted.now) (members_view xs) (member_view x) c.args.manager.now c.loop-member.manager c.edit_member.new.manager
+    let among = seen_here member_manifest_view xs k x c.loop-member-test.true (get_or_default xs k d x c.loop-member-test.true) in
+    visited-fails g.F.Files.tells (wanted_view c.args.wanted.now) (members_view xs) (member_manifest_view x) c.args.manager.now c.loop-member.manager c.edit_member.new.manager
     (g.F.Files.bytes_at c.args.files.now) (g.F.Files.bytes_at c.loop-member.files) (g.F.Files.bytes_at c.edit_member.new.files)
     among (sym c.if-is_alone.ensures) c.loop-member.invariant.1.0 c.edit_member.ensures.step
 
@@ -92,12 +92,12 @@ returns-in_err-edit_member-clause-partly g c =
     let k = c.loop-member.member-index in
     let d : Member = record { path = record { ref_ptr = (0, 0); now = [] }; text = record { ref_ptr = (0, 0); now = [] }; is_private = false } in
     let x : Member = get_or xs k d in
-    let among = seen_here member_view xs k x c.loop-member-test.true (get_or_default xs k d x c.loop-member-test.true) in
+    let among = seen_here member_manifest_view xs k x c.loop-member-test.true (get_or_default xs k d x c.loop-member-test.true) in
     let fails = GrowsBy 1 (g.F.Files.failed c.args.files.now) (g.F.Files.failed c.edit_member.new.files) in
-    partly-fails g.F.Files.tells (wanted_view c.args.wanted.now) (members_view xs) (member_view x) (λ q. fails)
+    partly-fails g.F.Files.tells (wanted_view c.args.wanted.now) (members_view xs) (member_manifest_view x) (λ q. fails)
     (g.F.Files.bytes_at c.args.files.now) (g.F.Files.bytes_at c.loop-member.files) (g.F.Files.bytes_at c.edit_member.new.files)
     among c.loop-member.invariant.1.4
-    (λ t. turned-fails (member_view x) _ fails (g.F.Files.bytes_at c.loop-member.files) (g.F.Files.bytes_at c.edit_member.new.files)
+    (λ t. turned-fails (member_manifest_view x) _ fails (g.F.Files.bytes_at c.loop-member.files) (g.F.Files.bytes_at c.edit_member.new.files)
     (none_then 1 (g.F.Files.failed c.args.files.now) (g.F.Files.failed c.loop-member.files) (g.F.Files.failed c.edit_member.new.files) c.loop-member.invariant.1.1) (c.edit_member.ensures.partly t))
     c.edit_member.ensures.others
 
@@ -107,8 +107,8 @@ returns-in_err-edit_member-clause-others g c =
     let k = c.loop-member.member-index in
     let d : Member = record { path = record { ref_ptr = (0, 0); now = [] }; text = record { ref_ptr = (0, 0); now = [] }; is_private = false } in
     let x : Member = get_or xs k d in
-    let among = seen_here member_view xs k x c.loop-member-test.true (get_or_default xs k d x c.loop-member-test.true) in
-    others-fail g.F.Files.tells (wanted_view c.args.wanted.now) (members_view xs) (member_view x)
+    let among = seen_here member_manifest_view xs k x c.loop-member-test.true (get_or_default xs k d x c.loop-member-test.true) in
+    others-fail g.F.Files.tells (wanted_view c.args.wanted.now) (members_view xs) (member_manifest_view x)
     (g.F.Files.bytes_at c.args.files.now) (g.F.Files.bytes_at c.loop-member.files) (g.F.Files.bytes_at c.edit_member.new.files)
     among (sym c.if-is_alone.ensures) c.loop-member.invariant.1.2 c.edit_member.ensures.others
 
@@ -119,8 +119,8 @@ returns-in_err-edit_member-clause-err g c =
     let d : Member = record { path = record { ref_ptr = (0, 0); now = [] }; text = record { ref_ptr = (0, 0); now = [] }; is_private = false } in
     let x : Member = get_or xs k d in
     let p = err_from_is_err_and c.from_residual-in_err-edit_member.result c.from_residual-in_err-edit_member.ensures.1 in
-    let among = seen_here member_view xs k x c.loop-member-test.true (get_or_default xs k d x c.loop-member-test.true) in
-    rw (p.1, p.2) (member-fault (wanted_view c.args.wanted.now) (members_view xs) (member_view x) _ among (sym c.if-is_alone.ensures) c.in_err-edit_member.ensures.err)
+    let among = seen_here member_manifest_view xs k x c.loop-member-test.true (get_or_default xs k d x c.loop-member-test.true) in
+    rw (p.1, p.2) (member-fault (wanted_view c.args.wanted.now) (members_view xs) (member_manifest_view x) _ among (sym c.if-is_alone.ensures) c.in_err-edit_member.ensures.err)
 
 pub returns-then-is_root-clause-err : goal.returns-then-is_root-clause-err
 returns-then-is_root-clause-err g c =
@@ -128,8 +128,8 @@ returns-then-is_root-clause-err g c =
     let k = c.loop-member.member-index in
     let d : Member = record { path = record { ref_ptr = (0, 0); now = [] }; text = record { ref_ptr = (0, 0); now = [] }; is_private = false } in
     let x : Member = get_or xs k d in
-    let among = seen_here member_view xs k x c.loop-member-test.true (get_or_default xs k d x c.loop-member-test.true) in
-    root-fault (wanted_view c.args.wanted.now) (members_view xs) (member_view x) among (sym c.if-goes.ensures) (sym c.if-is_root.ensures)
+    let among = seen_here member_manifest_view xs k x c.loop-member-test.true (get_or_default xs k d x c.loop-member-test.true) in
+    root-fault (wanted_view c.args.wanted.now) (members_view xs) (member_manifest_view x) among (sym c.if-goes.ensures) (sym c.if-is_root.ensures)
 
 pub returns-in_err-edit_member-clause-refused : goal.returns-in_err-edit_member-clause-refused
 returns-in_err-edit_member-clause-refused g c =
@@ -137,9 +137,9 @@ returns-in_err-edit_member-clause-refused g c =
     let k = c.loop-member.member-index in
     let d : Member = record { path = record { ref_ptr = (0, 0); now = [] }; text = record { ref_ptr = (0, 0); now = [] }; is_private = false } in
     let x : Member = get_or xs k d in
-    let one = seen-next member_view xs k x c.loop-member-test.true (get_or_default xs k d x c.loop-member-test.true) in
+    let one = seen-next member_manifest_view xs k x c.loop-member-test.true (get_or_default xs k d x c.loop-member-test.true) in
     let p = err_from_is_err_and c.from_residual-in_err-edit_member.result c.from_residual-in_err-edit_member.ensures.1 in
-    rw p.1 (λ y. alone-begun (wanted_view c.args.wanted.now) (members_view xs) k (member_view x) one (g.F.Files.trace c.args.files.now) (g.F.Files.trace c.loop-member.files) (g.F.Files.trace c.edit_member.new.files)
+    rw p.1 (λ y. alone-begun (wanted_view c.args.wanted.now) (members_view xs) k (member_manifest_view x) one (g.F.Files.trace c.args.files.now) (g.F.Files.trace c.loop-member.files) (g.F.Files.trace c.edit_member.new.files)
     (g.F.Files.bytes_at c.args.files.now) (g.F.Files.bytes_at c.loop-member.files) (g.F.Files.bytes_at c.edit_member.new.files)
     (sym c.if-is_alone.ensures) (c.in_err-edit_member.ensures.refused y) (c.loop-member.invariant.0.1 y))
 
@@ -161,6 +161,6 @@ returns-in_err-edit_member-clause-spared g c =
     let d : Member = record { path = record { ref_ptr = (0, 0); now = [] }; text = record { ref_ptr = (0, 0); now = [] }; is_private = false } in
     let x : Member = get_or xs k d in
     let p = err_from_is_err_and c.from_residual-in_err-edit_member.result c.from_residual-in_err-edit_member.ensures.1 in
-    let among = seen_here member_view xs k x c.loop-member-test.true (get_or_default xs k d x c.loop-member-test.true) in
-    rw (p.1, p.2) (member-spared g.F.Files.tells (wanted_view c.args.wanted.now) (members_view xs) (member_view x)
+    let among = seen_here member_manifest_view xs k x c.loop-member-test.true (get_or_default xs k d x c.loop-member-test.true) in
+    rw (p.1, p.2) (member-spared g.F.Files.tells (wanted_view c.args.wanted.now) (members_view xs) (member_manifest_view x)
     (g.F.Files.bytes_at c.args.files.now) (g.F.Files.bytes_at c.loop-member.files) (g.F.Files.bytes_at c.edit_member.new.files) _ among c.loop-member.invariant.1.4 c.edit_member.ensures.others c.in_err-edit_member.ensures.err)

@@ -10,7 +10,7 @@ use Rattle.hack_prepare.proofs.EditLemmas.{members-step, root-step, lock-step}
 use Rattle.hack_prepare.proofs.RootLemmas.{partly-all, partly-members, partly-root, prepared, unedited, unedited-apart}
 use Rattle.std.proofs.Common.{inl, inr}
 use Rattle.hack_prepare.specs.Prepared.{HoldTexts, IsPartlyPrepared}
-use Rattle.hack_prepare.specs.Steps.{ArePartlyTurned}
+use Rattle.hack_prepare.specs.EditSteps.{ArePartlyTurned}
 use Rattle.hack_prepare.specs.Writes.{AreWrites, BeginDevWrites, BeginWrites}
 use Rattle.hack_prepare.proofs.WriteLemmas.{all-made, made-still, root-begun, some-made}
 use Rattle.hack_prepare.proofs.prepare.edit.Goals as goal

@@ -1,5 +1,5 @@
 use Rattle.std.proofs.Common.{◌∙◌, sym}
-use Rattle.hack_recovery.specs.Locking.IsAdmitted.{asked}
+use Rattle.hack_recovery.specs.Admission.IsAdmitted.{asked}
 use Rattle.hack_recovery.proofs.admit.admit.Goals as goal
 
 pub returns : goal.returns

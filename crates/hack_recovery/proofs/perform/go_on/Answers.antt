@@ -1,5 +1,5 @@
 use Rattle.std.proofs.Common.{refl}
-use Rattle.hack_recovery.specs.Ways.Continues.{unedited, journaled}
+use Rattle.hack_recovery.specs.CallCourses.Continues.{unedited, journaled}
 use Rattle.hack_recovery.proofs.perform.go_on.Goals as goal
 
 pub returns-in-None-clause-goes : goal.returns-in-None-clause-goes

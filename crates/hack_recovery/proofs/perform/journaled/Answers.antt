@@ -1,7 +1,7 @@
 use Rattle.std.proofs.Common.{ap, inl, inr, refl}
 use Rattle.hack_term.specs.declared.term.Term.{Term}
-use Rattle.hack_recovery.specs.Ways.{World}
-use Rattle.hack_recovery.specs.Ways.IsJournaledCall.{performed}
+use Rattle.hack_recovery.specs.CallCourses.{World}
+use Rattle.hack_recovery.specs.CallCourses.IsJournaledCall.{performed}
 use Rattle.hack_recovery.proofs.perform.journaled.Goals as goal
 
 pub returns-in-Ok-close-clause-goes : goal.returns-in-Ok-close-clause-goes

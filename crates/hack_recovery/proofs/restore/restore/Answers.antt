@@ -1,7 +1,7 @@
 use Rattle.std.proofs.Common.{string_bytes}
 use Rattle.std.proofs.lemmas.Result.{err_from_is_err_and}
-use Rattle.hack_recovery.specs.Looks.{FilesView}
-use Rattle.hack_recovery.specs.Ways.Restores.{trusted, unread}
+use Rattle.hack_recovery.specs.FileLooks.{FilesView}
+use Rattle.hack_recovery.specs.CallCourses.Restores.{trusted, unread}
 use Rattle.hack_recovery.proofs.WayLemmas.{strange_told}
 use Rattle.hack_recovery.proofs.restore.restore.Goals as goal
 

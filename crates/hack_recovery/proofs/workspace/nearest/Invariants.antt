@@ -4,7 +4,7 @@ use denote.Shadow.{shadow}
 use denote.Text.{Utf8}
 use Rattle.hack_files.specs.Files.{KeepsAll, Makes}
 use Rattle.hack_recovery.specs.Folders.{workspace_from}
-use Rattle.hack_recovery.specs.Looks.{Finds}
+use Rattle.hack_recovery.specs.FileLooks.{Finds}
 use Rattle.hack_recovery.proofs.FolderLemmas.{rest_of}
 use Rattle.hack_recovery.proofs.workspace.nearest.Given as goal
 

@@ -1,6 +1,6 @@
 use Rattle.std.proofs.Common.{◌≡◌, drop}
 use Rattle.hack_features.specs.Feature.{groups_of}
-use Rattle.hack_rules.specs.Early.{is_in_group}
+use Rattle.hack_rules.specs.EarlyRules.{is_in_group}
 use Rattle.hack_rules.proofs.early.group_has.Given as goal
 
 abbrev pub invariant-loop-group : goal.invariant-loop-group

@@ -1,6 +1,6 @@
 use Rattle.std.proofs.Common.{◌≡◌, drop}
 use Rattle.hack_base.specs.Names.{names_of}
-use Rattle.hack_rules.specs.Early.{first_target_word}
+use Rattle.hack_rules.specs.EarlyRules.{first_target_word}
 use Rattle.hack_rules.proofs.early.target_choice.Given as goal
 
 abbrev pub invariant-loop-word : goal.invariant-loop-word

@@ -1,8 +1,8 @@
 use Rattle.std.proofs.Common.{true, [], codes, subst, OnErr, OnOk}
 use Rattle.hack_process.specs.Commands.{asked_of}
-use Rattle.hack_session.specs.Performs.{BreaksInstall, Installs}
+use Rattle.hack_session.specs.StepCalls.{BreaksInstall, Installs}
 use Rattle.hack_session.specs.Toolchains.{addition_of, trial_of}
-use Rattle.hack_run.specs.Made.{FailsStable}
+use Rattle.hack_run.specs.CallTrace.{FailsStable}
 use Rattle.hack_run.specs.Questions.{InstallsStable}
 use Rattle.hack_run.proofs.CallLemmas.{installed}
 use Rattle.hack_run.proofs.MadeLemmas.{fails}

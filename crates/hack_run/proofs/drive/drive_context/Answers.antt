@@ -1,6 +1,6 @@
 use Rattle.std.proofs.Common.{◌∙◌, ap, map, subst, sym}
 use Rattle.hack_words.specs.declared.cli.args.Args.{Args}
-use Rattle.hack_planner.specs.Made.{IsPlanOf}
+use Rattle.hack_planner.specs.CallPlan.{IsPlanOf}
 use Rattle.hack_plan.specs.View.{PlanView}
 use Rattle.hack_load.specs.ContextView.{context_view}
 use Rattle.hack_base.specs.Notes.{note_of}

@@ -2,11 +2,11 @@ use Rattle.std.proofs.Common.{◌∙◌, arith, inl, inr, refl, string_bytes, su
 use Rattle.hack_base.specs.Names.{names_of}
 use Rattle.hack_files.specs.Files.{Contents, KeepsAll}
 use Rattle.hack_journal.specs.Journal.{edits_of}
-use Rattle.hack_journal.specs.Apart.{apart}
-use Rattle.hack_journal.specs.Safe.{without}
+use Rattle.hack_journal.specs.LockfilesApart.{apart}
+use Rattle.hack_journal.specs.SafeFiles.{without}
 use Rattle.hack_journal.specs.SafeLaws.{stays_join}
 use Rattle.hack_run.specs.Journals.{contents_seen}
-use Rattle.hack_run.specs.Told.{seen_of}
+use Rattle.hack_run.specs.Warnings.{seen_of}
 use Rattle.hack_run.proofs.JournalLemmas.{entries_back, leaves_end, leaves_nothing, none_before, seen_same}
 use Rattle.hack_run.proofs.WholeLemmas.{done_moved}
 use Rattle.hack_run.proofs.journaled.run_journaled.Goals as goal

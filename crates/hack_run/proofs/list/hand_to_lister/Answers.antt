@@ -3,7 +3,7 @@ use Rattle.std.specs.Io.KnownBytes.{append_known}
 use Rattle.hack_load.specs.ContextView.{context_view}
 use Rattle.hack_session.proofs.Headline.{whole}
 use Rattle.hack_term.specs.declared.term.Term.{Term}
-use Rattle.hack_run.specs.Runs.{SendsAll}
+use Rattle.hack_run.specs.ScheduleCalls.{SendsAll}
 use Rattle.hack_run.proofs.RunLemmas.{handed_keeps, handed_makes, sends_all}
 use Rattle.hack_run.proofs.ToldLemmas.{warned_run}
 use Rattle.hack_run.proofs.list.hand_to_lister.Goals as goal

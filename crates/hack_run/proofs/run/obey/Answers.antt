@@ -2,9 +2,9 @@ use Rattle.std.proofs.Common.{◌≡◌, OnOk, ap, false, map, subst, sym}
 use Rattle.hack_base.specs.Notes.{note_of}
 use Rattle.hack_term.specs.declared.term.Term.{Term}
 use Rattle.hack_words.specs.declared.cli.parse.Parsed.{Parsed}
-use Rattle.hack_run.specs.Restores.{ComesBack, IsClean}
-use Rattle.hack_run.specs.Told.{seen_of}
-use Rattle.hack_run.specs.Whole.{warned_by}
+use Rattle.hack_run.specs.TemporaryEdits.{ComesBack, IsClean}
+use Rattle.hack_run.specs.Warnings.{seen_of}
+use Rattle.hack_run.specs.Success.{warned_by}
 use Rattle.hack_run.proofs.BackLemmas.{clean_rest}
 use Rattle.hack_run.proofs.WholeLemmas.{dressed, lists, obeys}
 use Rattle.hack_run.proofs.run.obey.Goals as goal

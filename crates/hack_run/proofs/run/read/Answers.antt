@@ -1,8 +1,8 @@
 use Rattle.std.proofs.Common.{◌≡◌, false, map}
 use Rattle.hack_base.specs.Names.{names_of}
 use Rattle.hack_base.specs.Notes.{note_of}
-use Rattle.hack_run.specs.Restores.{ComesBack, RestoresEdits}
-use Rattle.hack_run.specs.Told.{seen_of}
+use Rattle.hack_run.specs.TemporaryEdits.{ComesBack, RestoresEdits}
+use Rattle.hack_run.specs.Warnings.{seen_of}
 use Rattle.hack_run.proofs.BackLemmas.{clean_by}
 use Rattle.hack_run.proofs.WholeLemmas.{done}
 use Rattle.hack_run.proofs.run.read.Goals as goal

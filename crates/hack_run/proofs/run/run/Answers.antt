@@ -1,7 +1,7 @@
 use Rattle.hack_base.specs.Names.{names_of}
-use Rattle.hack_run.specs.Restores.{IsClean, RestoresEdits}
-use Rattle.hack_run.specs.Told.{seen_of}
-use Rattle.hack_run.specs.Whole.{IsDone}
+use Rattle.hack_run.specs.TemporaryEdits.{IsClean, RestoresEdits}
+use Rattle.hack_run.specs.Warnings.{seen_of}
+use Rattle.hack_run.specs.Success.{IsDone}
 use Rattle.hack_term.specs.declared.term.Term.{Term}
 use Rattle.hack_run.proofs.WholeLemmas.{comes, told_fault}
 use Rattle.hack_run.proofs.run.run.Goals as goal

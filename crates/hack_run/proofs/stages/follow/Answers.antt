@@ -7,8 +7,8 @@ use Rattle.hack_run.specs.Questions.{NeedsAnswer}
 use Rattle.hack_run.proofs.BackLemmas.{counted_ok}
 use Rattle.hack_run.proofs.MadeLemmas.{goes_on, shows_nothing}
 use Rattle.hack_load.specs.ContextOf.{warnings_of}
-use Rattle.hack_load.specs.Loads.{told_version}
-use Rattle.hack_run.specs.Told.{seen_of}
+use Rattle.hack_load.specs.CargoQuestions.{told_version}
+use Rattle.hack_run.specs.Warnings.{seen_of}
 use Rattle.hack_run.proofs.ToldLemmas.{warned_first}
 use Rattle.hack_run.proofs.WholeLemmas.{follows}
 use Rattle.hack_run.proofs.stages.follow.Goals as goal

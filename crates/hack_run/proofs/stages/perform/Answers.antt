@@ -3,7 +3,7 @@ use Rattle.std.specs.Prelude.{IfOk, not}
 use Rattle.hack_load.specs.Answers.{IsLoaded}
 use Rattle.hack_files.specs.Restore.{registered_files}
 use Rattle.hack_run.proofs.BackLemmas.{brings_none, cleans, kept_none, leaves, safe_new, whole_keeps}
-use Rattle.hack_run.specs.Told.{seen_of}
+use Rattle.hack_run.specs.Warnings.{seen_of}
 use Rattle.hack_term.specs.declared.term.Term.{Term}
 use Rattle.hack_run.proofs.WholeLemmas.{performs}
 use Rattle.hack_run.proofs.stages.perform.Goals as goal

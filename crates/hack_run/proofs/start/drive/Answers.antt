@@ -2,7 +2,7 @@ use Rattle.std.proofs.Common.{sym, ◌∙◌, ap, subst}
 use Rattle.hack_load.specs.ContextView.{context_view}
 use Rattle.hack_session.proofs.Headline.{whole}
 use Rattle.hack_term.specs.declared.term.Term.{Term}
-use Rattle.hack_run.specs.Runs.{RunsAll}
+use Rattle.hack_run.specs.ScheduleCalls.{RunsAll}
 use Rattle.hack_run.proofs.RunLemmas.{runs_all}
 use Rattle.hack_run.proofs.ToldLemmas.{warned_run}
 use Rattle.hack_run.proofs.start.drive.Goals as goal

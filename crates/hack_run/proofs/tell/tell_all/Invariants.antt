@@ -1,6 +1,6 @@
 use Rattle.std.proofs.Common.{◌≡◌, drop, map}
 use Rattle.hack_base.specs.Notes.{note_of}
-use Rattle.hack_run.specs.Told.{after_notes}
+use Rattle.hack_run.specs.Warnings.{after_notes}
 use Rattle.hack_run.proofs.tell.tell_all.Given as goal
 
 abbrev pub invariant-loop-notice : goal.invariant-loop-notice

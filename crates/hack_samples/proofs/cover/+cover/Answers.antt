@@ -1,7 +1,7 @@
 use Rattle.std.proofs.Common.{◌≡◌, ◌∙◌, ◌<◌, ◌-◌, ◌++◌, ◌∷◌, [], subst, List, Bool, ℕ, true, arith}
 use Rattle.hack_samples.specs.Sets.{rows_of, tables_of}
-use Rattle.hack_samples.specs.Samples.{IsSample}
-use Rattle.hack_samples.specs.Descends.{CoversBelow, AreKept}
+use Rattle.hack_samples.specs.Samples.{IsMaskSample}
+use Rattle.hack_samples.specs.DescendingPatterns.{CoversBelow, AreKept}
 use Rattle.hack_samples.specs.declared.sets.Setting.{Setting}
 use Rattle.hack_samples.proofs.SetLemmas.{both_turned}
 use Rattle.hack_samples.proofs.SampleLemmas.{some-kept}
@@ -27,7 +27,7 @@ loop-candidate-preserved g t c =
     let may-2 : g.A.Allowed.may c.cover.new.allowed ≡ may = c.cover.ensures.same_may ∙ inv.same_may in
     let size-2 : g.A.Allowed.size c.cover.new.allowed ≡ n = c.cover.ensures.same_size ∙ inv.same_size in
     record {
-      sample = both_turned (λ m k. IsSample m k required third) may-2 size-2 c.in_ok-cover-2.ensures.sample;
+      sample = both_turned (λ m k. IsMaskSample m k required third) may-2 size-2 c.in_ok-cover-2.ensures.sample;
       kept = λ s h. both s (inv.kept s h);
       shown = some-kept providers pattern first third both inv.shown;
       covered = covers-step may n required providers pattern f more third

@@ -1,7 +1,7 @@
 use Rattle.std.proofs.Common.{◌≡◌, ◌<◌, ◌-◌, ◌++◌, ◌∷◌, []}
 use Rattle.hack_samples.specs.Sets.{rows_of, tables_of}
-use Rattle.hack_samples.specs.Samples.{IsSample, SomeShows}
-use Rattle.hack_samples.specs.Descends.{CoversBelow, AreKept}
+use Rattle.hack_samples.specs.Samples.{IsMaskSample, SomeShows}
+use Rattle.hack_samples.specs.DescendingPatterns.{CoversBelow, AreKept}
 use Rattle.hack_samples.specs.Questions.{StaysWithin}
 use Rattle.hack_samples.specs.declared.sets.Setting.{Setting}
 use Rattle.hack_samples.proofs.cover.+cover.Given as goal
@@ -11,7 +11,7 @@ decreases-cover g l = l.more
 
 abbrev pub invariant-loop-candidate : goal.invariant-loop-candidate
 invariant-loop-candidate g l = record {
-  sample : IsSample (g.A.Allowed.may l.fn.allowed) (g.A.Allowed.size l.fn.allowed) (rows_of l.wanted.required.now) (rows_of l.chosen.sets.items);
+  sample : IsMaskSample (g.A.Allowed.may l.fn.allowed) (g.A.Allowed.size l.fn.allowed) (rows_of l.wanted.required.now) (rows_of l.chosen.sets.items);
   kept : AreKept (rows_of l.fn.chosen.sets.items) (rows_of l.chosen.sets.items);
   shown : SomeShows (tables_of l.wanted.providers.now) l.pattern (rows_of l.chosen.sets.items);
   covered : (x : Setting) → x.candidate < l.candidate → CoversBelow (g.A.Allowed.may l.fn.allowed) (g.A.Allowed.size l.fn.allowed) (rows_of l.wanted.required.now) (tables_of l.wanted.providers.now) (l.pattern ++ x ∷ []) x.candidate (l.more - 1) (rows_of l.chosen.sets.items);

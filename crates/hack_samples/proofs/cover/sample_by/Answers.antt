@@ -1,15 +1,15 @@
 use Rattle.std.proofs.Common.{◌∙◌, [], sym, subst, List, Bool, ℕ, length}
 use Rattle.std.proofs.lemmas.List.{length-map}
 use Rattle.hack_samples.specs.Sets.{rows_of, tables_of}
-use Rattle.hack_samples.specs.Samples.{IsSample}
-use Rattle.hack_samples.specs.Descends.{CoversBelow}
+use Rattle.hack_samples.specs.Samples.{IsMaskSample}
+use Rattle.hack_samples.specs.DescendingPatterns.{CoversBelow}
 use Rattle.hack_samples.proofs.SetLemmas.{both_turned}
 use Rattle.hack_samples.proofs.CoverLemmas.{covers-whole}
 use Rattle.hack_samples.proofs.cover.sample_by.Goals as goal
 
 pub follow-requires : goal.follow-requires
 follow-requires g c =
-    both_turned (λ m k. IsSample m k (rows_of c.args.wanted.now.required.now) (rows_of c.loop-row.chosen.sets.items))
+    both_turned (λ m k. IsMaskSample m k (rows_of c.args.wanted.now.required.now) (rows_of c.loop-row.chosen.sets.items))
     (sym c.loop-row.invariant.same_may) (sym c.loop-row.invariant.same_size) c.loop-row.invariant.sample
 
 pub returns-in_err-follow-clause-within : goal.returns-in_err-follow-clause-within
@@ -20,7 +20,7 @@ loop-row-preserved g c =
     let inv = c.loop-row.invariant in
     let made = c.follow.ensures in
     record {
-      sample = both_turned (λ m k. IsSample m k (rows_of c.args.wanted.now.required.now) (rows_of c.follow.new.chosen.sets.items)) inv.same_may inv.same_size c.in_ok-follow.ensures.sample;
+      sample = both_turned (λ m k. IsMaskSample m k (rows_of c.args.wanted.now.required.now) (rows_of c.follow.new.chosen.sets.items)) inv.same_may inv.same_size c.in_ok-follow.ensures.sample;
       within = λ k end old. made.within k end (inv.within k end old);
       same_size = made.same_size ∙ inv.same_size;
       same_may = made.same_may ∙ inv.same_may;
@@ -29,7 +29,7 @@ loop-row-preserved g c =
 
 pub cover-requires : goal.cover-requires
 cover-requires g c =
-    both_turned (λ m k. IsSample m k (rows_of c.args.wanted.now.required.now) (rows_of c.loop-row.chosen.sets.items))
+    both_turned (λ m k. IsMaskSample m k (rows_of c.args.wanted.now.required.now) (rows_of c.loop-row.chosen.sets.items))
     (sym c.loop-row.invariant.same_may) (sym c.loop-row.invariant.same_size) c.loop-row.invariant.sample
 
 pub returns-in_err-cover-clause-within : goal.returns-in_err-cover-clause-within
@@ -40,7 +40,7 @@ returns-clause-within g c = λ k end old. c.cover.ensures.within k end (c.loop-r
 
 pub returns-clause-sample : goal.returns-clause-sample
 returns-clause-sample g c =
-    both_turned (λ m k. IsSample m k (rows_of c.args.wanted.now.required.now) (rows_of c.cover.new.chosen.sets.items)) c.loop-row.invariant.same_may c.loop-row.invariant.same_size c.in_ok-cover.ensures.sample
+    both_turned (λ m k. IsMaskSample m k (rows_of c.args.wanted.now.required.now) (rows_of c.cover.new.chosen.sets.items)) c.loop-row.invariant.same_may c.loop-row.invariant.same_size c.in_ok-cover.ensures.sample
 
 pub returns-clause-covers : goal.returns-clause-covers
 returns-clause-covers g c =

@@ -1,6 +1,6 @@
 use Rattle.std.proofs.Common.{subst, List, Bool, ℕ, IfSome}
 use Rattle.hack_samples.specs.Sets.{rows_of, tables_of}
-use Rattle.hack_samples.specs.Samples.{Shows, IsListed}
+use Rattle.hack_samples.specs.Samples.{Shows, IsListedMask}
 use Rattle.hack_samples.proofs.SampleLemmas.{sample-more, sizes}
 use Rattle.hack_samples.proofs.cover.show.Goals as goal
 
@@ -11,7 +11,7 @@ put-requires g c =
     let required : List (List ℕ) = rows_of c.args.wanted.now.required.now in
     record {
       sizes = sizes may n required (rows_of c.args.chosen.now.sets.items) c.in-Some.set.items c.requires
-          (subst (λ o. IfSome o (λ t. IsListed may n required t.items)) c.in-Some.is c.in_ok-picked.ensures.listed);
+          (subst (λ o. IfSome o (λ t. IsListedMask may n required t.items)) c.in-Some.is c.in_ok-picked.ensures.listed);
       ordered = c.requires.ordered;
     }
 
@@ -21,7 +21,7 @@ returns-clause-sample g c =
     let n : ℕ = g.A.Allowed.size c.args.allowed.now in
     let required : List (List ℕ) = rows_of c.args.wanted.now.required.now in
     sample-more may n required (rows_of c.args.chosen.now.sets.items) (rows_of c.put.new.sets.items) c.in-Some.set.items c.requires
-    (subst (λ o. IfSome o (λ t. IsListed may n required t.items)) c.in-Some.is c.in_ok-picked.ensures.listed)
+    (subst (λ o. IfSome o (λ t. IsListedMask may n required t.items)) c.in-Some.is c.in_ok-picked.ensures.listed)
     c.in_ok-put.ensures.ordered c.in_ok-put.ensures.only
 
 pub returns-clause-shown : goal.returns-clause-shown

@@ -1,7 +1,7 @@
 use Rattle.std.proofs.Common.{◌<◌, ◌∙◌, sym, ap, subst, ℕ, List, Bool, length, arith}
 use Rattle.std.proofs.lemmas.List.{length-map}
 use Rattle.hack_samples.specs.Sets.{rows_of}
-use Rattle.hack_samples.specs.Order.{IsBefore}
+use Rattle.hack_samples.specs.Order.{IsMaskBefore}
 use Rattle.hack_samples.proofs.ShowLemmas.{row-at}
 use Rattle.hack_samples.proofs.OrderLemmas.{front-more, fits-here}
 use Rattle.hack_samples.proofs.order.place_of.Goals as goal
@@ -23,7 +23,7 @@ returns-in-Greater c =
     let lt : i < length sets = omega (arith, c.loop-place-test.true) in
     let below : i < length (rows_of sets) = omega (arith, lt, length-map sets (λ v. v.items)) in
     fits-here (rows_of sets) c.args.set.now t i (row-at sets i c.index-sets-place.result lt c.index-sets-place.is) below c.requires.ordered c.loop-place.invariant
-    (subst (IsBefore c.args.set.now) c.as_slice.ensures.value c.in-Greater.ensures)
+    (subst (IsMaskBefore c.args.set.now) c.as_slice.ensures.value c.in-Greater.ensures)
 
 pub loop-place-preserved : goal.loop-place-preserved
 loop-place-preserved c =
@@ -33,4 +33,4 @@ loop-place-preserved c =
     let lt : i < length sets = omega (arith, c.loop-place-test.true) in
     let below : i < length (rows_of sets) = omega (arith, lt, length-map sets (λ v. v.items)) in
     front-more (rows_of sets) c.args.set.now t i (row-at sets i c.index-sets-place.result lt c.index-sets-place.is) below c.loop-place.invariant
-    (subst (λ l. IsBefore l c.args.set.now) c.as_slice.ensures.value c.in-Less.ensures)
+    (subst (λ l. IsMaskBefore l c.args.set.now) c.as_slice.ensures.value c.in-Less.ensures)

@@ -1,7 +1,7 @@
 use Rattle.std.proofs.Common.{ap, ◌∙◌, Err, ◌∷◌, []}
 use Rattle.std.proofs.lemmas.Result.{err_from_is_err_and}
 use Rattle.hack_process.specs.Commands.{command_of}
-use Rattle.hack_session.specs.Shown.{cleaning_shown, manner_of}
+use Rattle.hack_session.specs.StepOutput.{cleaning_shown, manner_of}
 use Rattle.hack_session.proofs.ShownLemmas.{nothing_part, printed_part}
 use Rattle.hack_session.proofs.perform.clean.Goals as goal
 

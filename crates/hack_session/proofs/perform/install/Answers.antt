@@ -2,8 +2,8 @@ use Rattle.std.proofs.Common.{◌≡◌, ◌⊎◌, ap, ◌∙◌, Err, [], sym,
 use Rattle.std.specs.Prelude.{slice_get}
 use Rattle.std.proofs.lemmas.Result.{err_from_is_err_and}
 use Rattle.hack_session.specs.declared.step.Outcome.TheVariants.{Passed}
-use Rattle.hack_session.specs.Performs.{number_at}
-use Rattle.hack_session.specs.Shown.{IsWhole, addition_parts, manner_of, on_err}
+use Rattle.hack_session.specs.StepCalls.{number_at}
+use Rattle.hack_session.specs.StepOutput.{IsWhole, addition_parts, manner_of, on_err}
 use Rattle.hack_session.proofs.ShownLemmas.{install_shown, none_added, refused_part}
 use Rattle.hack_session.proofs.perform.install.Goals as goal
 

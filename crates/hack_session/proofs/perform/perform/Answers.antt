@@ -1,7 +1,7 @@
 use Rattle.std.proofs.Common.{ap, ◌∙◌}
 use Rattle.hack_plan.specs.declared.parts.Preparation.TheVariants.{Lockfile, Toolchain}
 use Rattle.hack_session.specs.declared.step.Step.TheVariants.{Prepare}
-use Rattle.hack_session.specs.Shown.{manner_of}
+use Rattle.hack_session.specs.StepOutput.{manner_of}
 use Rattle.hack_session.proofs.ShownLemmas.{does_as, printed_none, toolchain_step}
 use Rattle.hack_session.proofs.perform.perform.Goals as goal
 

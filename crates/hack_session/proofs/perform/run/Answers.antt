@@ -2,7 +2,7 @@ use Rattle.std.proofs.Common.{ap, ◌∙◌, sym, slice_get, Err, ◌∷◌, [],
 use Rattle.std.proofs.lemmas.Result.{err_from_is_err_and}
 use Rattle.hack_process.specs.Commands.{asked_of, command_of}
 use Rattle.hack_session.proofs.RunLemmas.{cut_run, ran_as, run_plain, run_cleaned, run_then, run_stops}
-use Rattle.hack_session.specs.Shown.{manner_of, status_shown, cleaning_shown}
+use Rattle.hack_session.specs.StepOutput.{manner_of, status_shown, cleaning_shown}
 use Rattle.hack_session.proofs.ShownLemmas.{Part, cleaned_as, in_manner, own_cleaning, ran_plain, ran_cleaned, ran_not, run_refused}
 use Rattle.hack_session.proofs.perform.run.Goals as goal
 

@@ -1,6 +1,6 @@
 use Rattle.std.proofs.Common.{ap, ◌∙◌, Err, codes, ◌∷◌, []}
 use Rattle.std.proofs.lemmas.Result.{err_from_is_err_and}
-use Rattle.hack_session.specs.Shown.{IsWhole, manner_of, status_shown}
+use Rattle.hack_session.specs.StepOutput.{IsWhole, manner_of, status_shown}
 use Rattle.hack_session.specs.Statuses.{place_status}
 use Rattle.hack_session.proofs.ShownLemmas.{group_part, refused_part}
 use Rattle.hack_session.proofs.perform.run_own.Goals as goal

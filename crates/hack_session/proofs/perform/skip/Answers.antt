@@ -1,6 +1,6 @@
 use Rattle.std.proofs.Common.{◌∙◌, codes}
 use Rattle.std.proofs.lemmas.Result.{err_from_is_err_and}
-use Rattle.hack_session.specs.Shown.{manner_of}
+use Rattle.hack_session.specs.StepOutput.{manner_of}
 use Rattle.hack_session.proofs.ShownLemmas.{placed_group, skip_refused, skipped}
 use Rattle.hack_session.proofs.perform.skip.Goals as goal
 

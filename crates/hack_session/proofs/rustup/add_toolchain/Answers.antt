@@ -1,7 +1,7 @@
 use Rattle.std.proofs.Common.{ap, ◌∙◌, Err, ◌∷◌, []}
 use Rattle.std.proofs.lemmas.Result.{err_from_is_err_and}
 use Rattle.hack_process.specs.Commands.{command_of}
-use Rattle.hack_session.specs.Shown.{IsWhole, addition_shown, manner_of}
+use Rattle.hack_session.specs.StepOutput.{IsWhole, addition_shown, manner_of}
 use Rattle.hack_session.proofs.ShownLemmas.{refused_part}
 use Rattle.hack_session.proofs.rustup.add_toolchain.Goals as goal
 

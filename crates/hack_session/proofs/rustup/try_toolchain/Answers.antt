@@ -1,8 +1,8 @@
 use Rattle.std.proofs.Common.{◌≡◌, ◌⊎◌, inr, refl, ◌∷◌, []}
 use Rattle.hack_process.specs.Commands.{command_of}
 use Rattle.hack_session.specs.declared.step.Outcome.TheVariants.{Passed}
-use Rattle.hack_session.specs.Shown.{IsWhole, addition_shown, manner_of, on_err}
-use Rattle.hack_session.specs.JoinedShown.{prints_none}
+use Rattle.hack_session.specs.StepOutput.{IsWhole, addition_shown, manner_of, on_err}
+use Rattle.hack_session.specs.JoinedOutput.{prints_none}
 use Rattle.hack_session.proofs.RunLemmas.{tried_then, not_memory}
 use Rattle.hack_session.proofs.ShownLemmas.{cut_part, or_early}
 use Rattle.hack_session.proofs.rustup.try_toolchain.Goals as goal

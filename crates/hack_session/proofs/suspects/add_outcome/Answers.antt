@@ -1,11 +1,11 @@
 use Rattle.std.proofs.Common.{◌≡◌, ◌∙◌, ◌++◌, ◌∷◌, [], sym, subst, rules, None}
-use Rattle.hack_session.specs.Suspects.{AreOutcomes, passes, entry_of, ran}
+use Rattle.hack_session.specs.Suspects.{AreOutcomes, passes, plan_entry_of, ran}
 use Rattle.hack_session.proofs.SuspectLemmas.{no-entry, other-entry, outcome-pushed}
 use Rattle.hack_session.proofs.suspects.add_outcome.Goals as goal
 
 pub returns-in_default : goal.returns-in_default
 returns-in_default c = λ before came.
-    let none : entry_of c.args.plan.now c.args.handed.step ≡ None = search rules in
+    let none : plan_entry_of c.args.plan.now c.args.handed.step ≡ None = search rules in
     passes c.args.handed came (no-entry c.args.plan.now c.args.handed c.args.part none)
 
 pub returns-then-not-is_in : goal.returns-then-not-is_in

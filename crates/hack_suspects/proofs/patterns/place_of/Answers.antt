@@ -1,7 +1,7 @@
 use Rattle.std.proofs.Common.{◌<◌, subst, ℕ, List, length, arith}
 use Rattle.std.proofs.lemmas.List.{length-map}
 use Rattle.hack_samples.specs.Sets.{rows_of}
-use Rattle.hack_suspects.specs.Suspects.{IsBefore}
+use Rattle.hack_suspects.specs.Suspects.{IsPatternBefore}
 use Rattle.hack_samples.specs.declared.sets.Setting.{Setting}
 use Rattle.hack_samples.proofs.ShowLemmas.{row-at}
 use Rattle.hack_suspects.proofs.PatternLemmas.{front-more, fits-here}
@@ -15,7 +15,7 @@ returns-in-Greater c =
     let lt : i < length found = omega (arith, c.loop-place-test.true) in
     let below : i < length (rows_of found) = omega (arith, lt, length-map found (λ v. v.items)) in
     fits-here (rows_of found) c.args.pattern.now q i (row-at found i c.index-found-place.result lt c.index-found-place.is) below c.requires c.loop-place.invariant
-    (subst (IsBefore c.args.pattern.now) c.as_slice.ensures.value c.in-Greater.ensures)
+    (subst (IsPatternBefore c.args.pattern.now) c.as_slice.ensures.value c.in-Greater.ensures)
 
 pub loop-place-preserved : goal.loop-place-preserved
 loop-place-preserved c =
@@ -25,4 +25,4 @@ loop-place-preserved c =
     let lt : i < length found = omega (arith, c.loop-place-test.true) in
     let below : i < length (rows_of found) = omega (arith, lt, length-map found (λ v. v.items)) in
     front-more (rows_of found) c.args.pattern.now q i (row-at found i c.index-found-place.result lt c.index-found-place.is) below c.loop-place.invariant
-    (subst (λ l. IsBefore l c.args.pattern.now) c.as_slice.ensures.value c.in-Less.ensures)
+    (subst (λ l. IsPatternBefore l c.args.pattern.now) c.as_slice.ensures.value c.in-Less.ensures)

@@ -1,7 +1,7 @@
 use Rattle.std.proofs.Common.{◌≡◌, ◌∙◌, sym, ap, subst, ℕ, List, AllPairs, Contains}
 use Rattle.std.specs.List.{insert}
 use Rattle.hack_samples.specs.Sets.{rows_of}
-use Rattle.hack_suspects.specs.Suspects.{IsBefore}
+use Rattle.hack_suspects.specs.Suspects.{IsPatternBefore}
 use Rattle.hack_suspects.specs.Walks.{PatternFits}
 use Rattle.hack_samples.specs.declared.sets.Setting.{Setting}
 use Rattle.hack_samples.proofs.OrderLemmas.{pairs-insert, kept-insert, only-insert, rows-insert}
@@ -15,7 +15,7 @@ returns-clause-ordered c =
     let fits : PatternFits old c.args.pattern.items place =
     subst (λ l. PatternFits (rows_of l) c.args.pattern.items place) c.as_slice.ensures.value
     (subst (λ s. PatternFits (rows_of c.as_slice.result.now) s place) c.as_slice-2.ensures.value c.in-Some.ensures) in
-    subst (AllPairs IsBefore) (sym is) (pairs-insert IsBefore old place c.args.pattern.items fits.within c.requires fits.in_front fits.later)
+    subst (AllPairs IsPatternBefore) (sym is) (pairs-insert IsPatternBefore old place c.args.pattern.items fits.within c.requires fits.in_front fits.later)
 
 pub returns-clause-kept : goal.returns-clause-kept
 returns-clause-kept c = λ p h.

@@ -6,7 +6,7 @@ use Rattle.std.proofs.lemmas.Option.{slice_get_within, slice_get_read}
 use Rattle.std.proofs.lemmas.Result.{on_ok_weaker}
 use Rattle.std.proofs.lemmas.List.Elements.{All-push}
 use Rattle.hack_samples.specs.Sets.{rows_of}
-use Rattle.hack_suspects.specs.Suspects.{Outcome, IsShown, RowShows, Rises, outcomes_of}
+use Rattle.hack_suspects.specs.Suspects.{RunOutcome, IsShown, RowShows, Rises, outcomes_of}
 use Rattle.hack_suspects.specs.Walks.{FindsFrom, PatternsAreKept}
 use Rattle.hack_samples.specs.declared.sets.Setting.{Setting}
 use Rattle.hack_suspects.proofs.PatternLemmas.{rises-more, rises-wider}
@@ -18,7 +18,7 @@ add-requires-clause-rises t c = rises-wider 0 c.args.first c.args.search.now.can
 
 pub returns-then-not-passed_shows-clause-all : goal.returns-then-not-passed_shows-clause-all
 returns-then-not-passed_shows-clause-all t c =
-    let outcomes : List Outcome = outcomes_of c.args.search.now.outcomes.now in
+    let outcomes : List RunOutcome = outcomes_of c.args.search.now.outcomes.now in
     let none = subst (λ (p : List Setting). IsShown false outcomes p → ⊥) (ap (λ (p : List Setting). p ++ []) c.as_slice.ensures.value ∙ append-nil c.args.pattern.items) c.if-not-passed_shows.ensures in
     on_ok_weaker c.add.result
     (finds-here outcomes c.args.search.now.candidates c.args.search.now.strength c.args.search.now.row.now c.args.pattern.items c.args.first c.args.more (rows_of c.add.new.found.items) c.requires.row c.requires.shown none)
@@ -61,7 +61,7 @@ walk-requires t c =
 
 pub loop-candidate-preserved : goal.loop-candidate-preserved
 loop-candidate-preserved t c =
-    let outcomes : List Outcome = outcomes_of c.args.search.now.outcomes.now in
+    let outcomes : List RunOutcome = outcomes_of c.args.search.now.outcomes.now in
     let n : ℕ = c.args.search.now.candidates in
     let t' : ℕ = c.args.search.now.strength in
     let row : List Bool = c.args.search.now.row.now in

@@ -1,7 +1,7 @@
 use Rattle.std.proofs.Common.{◌≡◌, ◌+◌, sym, subst, ℕ, List, [], take, true, Contains, arith}
 use Rattle.std.proofs.lemmas.List.{take_all}
 use Rattle.hack_samples.specs.Sets.{rows_of}
-use Rattle.hack_suspects.specs.Suspects.{Outcome, RowShows, IsSuspect, outcomes_of}
+use Rattle.hack_suspects.specs.Suspects.{RunOutcome, RowShows, IsSuspect, outcomes_of}
 use Rattle.hack_suspects.specs.Walks.{AreSomeSuspects, FindsFrom, PatternsAreKept}
 use Rattle.hack_samples.specs.declared.sets.Setting.{Setting}
 use Rattle.hack_samples.proofs.SetLemmas.{not_both}
@@ -21,7 +21,7 @@ pub loop-outcome-preserved : goal.loop-outcome-preserved
 loop-outcome-preserved c =
     let runs = c.args.outcomes.now in
     let i : ℕ = c.loop-outcome.outcome-index in
-    let o : Outcome = record { on = c.outcome-item.result.on.items; failed = c.outcome-item.result.failed } in
+    let o : RunOutcome = record { on = c.outcome-item.result.on.items; failed = c.outcome-item.result.failed } in
     let n : ℕ = c.args.candidates in
     let t : ℕ = c.args.strength in
     let more = suspects-more (outcomes_of runs) (outcomes_of (take i runs)) (outcomes_of (take (i + 1) runs)) o n t in
@@ -50,6 +50,6 @@ pub returns-clause-ok : goal.returns-clause-ok
 returns-clause-ok c =
     let runs = c.args.outcomes.now in
     let found = rows_of c.loop-outcome.found.items in
-    let all = subst (λ l. (o : Outcome) → Contains (outcomes_of l) o → o.failed ≡ true → (p : List Setting) → RowShows o.on p → IsSuspect (outcomes_of runs) c.args.candidates c.args.strength p → Contains found p)
+    let all = subst (λ l. (o : RunOutcome) → Contains (outcomes_of l) o → o.failed ≡ true → (p : List Setting) → RowShows o.on p → IsSuspect (outcomes_of runs) c.args.candidates c.args.strength p → Contains found p)
     (take_all c.loop-outcome.outcome-index runs (omega (arith, c.loop-outcome-test.false))) c.loop-outcome.invariant.all in
     suspects-all (outcomes_of runs) c.args.candidates c.args.strength found c.loop-outcome.invariant.sound all

@@ -3,7 +3,7 @@ use Rattle.std.proofs.lemmas.List.{map-append}
 use Rattle.hack_lexopt.specs.Parsers.{left_in}
 use Rattle.hack_uses.specs.declared.cut.Use.{Use}
 use Rattle.hack_uses.specs.Uses.{views, view}
-use Rattle.hack_uses.specs.Reads.{read_of, Met}
+use Rattle.hack_uses.specs.UseReading.{read_of, Met}
 use Rattle.hack_uses.proofs.Shrinks.{Reads-more, read-smaller}
 use Rattle.hack_uses.proofs.cut.cut_all.Goals as goal
 

@@ -1,6 +1,6 @@
 use Rattle.std.proofs.Common.{map, string_bytes, []}
 use Rattle.hack_lexopt.specs.Parsers.{left_in, start}
-use Rattle.hack_uses.specs.Reads.{Reads}
+use Rattle.hack_uses.specs.UseReading.{Reads}
 use Rattle.hack_uses.specs.Uses.{views}
 use Rattle.hack_uses.proofs.Shrinks.{weight}
 use Rattle.hack_uses.proofs.cut.cut_all.Given as goal

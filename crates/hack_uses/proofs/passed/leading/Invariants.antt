@@ -1,6 +1,6 @@
 use Rattle.std.proofs.Common.{◌≡◌, ◌++◌, drop, map, string_bytes}
 use Rattle.hack_uses.specs.Uses.{views}
-use Rattle.hack_uses.specs.Passed.{leading_of}
+use Rattle.hack_uses.specs.PassedWords.{leading_of}
 use Rattle.hack_uses.proofs.passed.leading.Given as goal
 
 abbrev pub invariant-loop-one : goal.invariant-loop-one

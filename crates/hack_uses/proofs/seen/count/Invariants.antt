@@ -1,6 +1,6 @@
 use Rattle.std.proofs.Common.{◌≡◌, ◌+◌, ◌≤◌, drop}
 use Rattle.hack_uses.specs.Uses.{views}
-use Rattle.hack_uses.specs.Passed.{count_of}
+use Rattle.hack_uses.specs.PassedWords.{count_of}
 use Rattle.hack_uses.proofs.seen.count.Given as goal
 
 abbrev pub invariant-loop-one : goal.invariant-loop-one

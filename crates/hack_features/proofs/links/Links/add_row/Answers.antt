@@ -2,9 +2,9 @@ use Rattle.std.proofs.Common.{◌≡◌, ◌++◌, ◌∷◌, [], ◌<◌, ◌�
 use Rattle.std.proofs.lemmas.List.{get_or_default, map-append, length-map}
 use Rattle.hack_features.specs.FeatureMap.{feature_map}
 use Rattle.hack_features.specs.Places.{AreRows, name_at}
-use Rattle.hack_features.specs.Sets.{rows_of}
-use Rattle.hack_features.specs.Table.{table}
-use Rattle.hack_features.specs.Linked.{table_of}
+use Rattle.hack_samples.specs.Sets.{rows_of}
+use Rattle.hack_features.specs.NamesView.{table}
+use Rattle.hack_features.specs.LinksView.{table_of}
 use Rattle.hack_base.proofs.NameLemmas.{shown-at, length-shown}
 use Rattle.hack_base.proofs.Steps.{row_items}
 use Rattle.hack_features.proofs.LinkLemmas.{rows-next, key_at, grown-targets}

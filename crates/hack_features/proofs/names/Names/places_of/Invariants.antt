@@ -1,7 +1,7 @@
 use Rattle.std.proofs.Common.{take}
 use Rattle.hack_base.specs.Names.{names_of}
 use Rattle.hack_features.specs.Places.{AreAt, IsMore}
-use Rattle.hack_features.specs.Table.{table, IsInStep}
+use Rattle.hack_features.specs.NamesView.{table, IsInStep}
 use Rattle.hack_features.proofs.names.Names.places_of.Given as goal
 
 abbrev pub invariant-loop-text : goal.invariant-loop-text

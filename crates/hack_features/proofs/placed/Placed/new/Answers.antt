@@ -1,10 +1,10 @@
 use Rattle.std.proofs.Common.{sym, subst, Contains}
 use Rattle.std.proofs.lemmas.List.Elements.{Contains-append_left}
 use Rattle.hack_features.specs.Places.{IsMore}
-use Rattle.hack_features.specs.Sets.{rows_of}
+use Rattle.hack_samples.specs.Sets.{rows_of}
 use Rattle.hack_features.specs.Feature.{groups_of, candidates_of}
-use Rattle.hack_features.specs.Table.{table}
-use Rattle.hack_features.specs.Routed.{names_in}
+use Rattle.hack_features.specs.NamesView.{table}
+use Rattle.hack_features.specs.RoutesView.{routed_names}
 use Rattle.hack_features.proofs.PlaceLemmas.{all_at-front, more-then}
 use Rattle.hack_features.proofs.placed.Placed.new.Goals as goal
 
@@ -18,7 +18,7 @@ pub returns : goal.returns
 returns c =
     let second = table c.candidate_places.new.names in
     let third = table c.group_places.new.names in
-    let last = names_in c.in_ok-routes.routes in
+    let last = routed_names c.in_ok-routes.routes in
     let kept : IsMore third last = c.in_ok-routes.ensures.kept in
     record {
       routes = c.in_ok-routes.ensures.routes;

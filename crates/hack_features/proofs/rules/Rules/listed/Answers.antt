@@ -4,7 +4,7 @@ use Rattle.hack_features.specs.declared.forest.Pruned.{Pruned}
 use Rattle.hack_features.specs.Sets.{IsListing}
 use Rattle.hack_features.specs.Forest.{sets_in}
 use Rattle.hack_features.specs.Rules.{IsListed, IsPermitted, AreCovers}
-use Rattle.hack_features.specs.Questions.{IsWhole, IsCheap}
+use Rattle.hack_features.specs.Questions.{IsWholeSet, IsCheap}
 use Rattle.hack_features.specs.View.{choice_of, size_of, may_of, whole_of}
 use Rattle.hack_features.proofs.RuleLemmas.{tables_of, listing_of, covers_of, cheap_of}
 use Rattle.hack_features.proofs.rules.Rules.listed.Goals as goal
@@ -12,8 +12,8 @@ use Rattle.hack_features.proofs.rules.Rules.listed.Goals as goal
 pub returns-clause-sets : goal.returns-clause-sets
 returns-clause-sets c =
     let r = c.args.self.now in
-    IfOk-weaker c.pruned_within.result (λ (p : Pruned). IsListing (size_of r) (IsWhole (may_of r) (whole_of r)) (sets_in p.sets)) (λ (p : Pruned). IsListing (size_of r) (IsListed (choice_of r)) (sets_in p.sets))
-    (λ (p : Pruned). listing_of r (tables_of r) (sets_in p.sets)) (subst (λ n. IfOk c.pruned_within.result (λ (p : Pruned). IsListing n (IsWhole (may_of r) (whole_of r)) (sets_in p.sets))) c.size-n.ensures c.pruned_within.ensures.sets)
+    IfOk-weaker c.pruned_within.result (λ (p : Pruned). IsListing (size_of r) (IsWholeSet (may_of r) (whole_of r)) (sets_in p.sets)) (λ (p : Pruned). IsListing (size_of r) (IsListed (choice_of r)) (sets_in p.sets))
+    (λ (p : Pruned). listing_of r (tables_of r) (sets_in p.sets)) (subst (λ n. IfOk c.pruned_within.result (λ (p : Pruned). IsListing n (IsWholeSet (may_of r) (whole_of r)) (sets_in p.sets))) c.size-n.ensures c.pruned_within.ensures.sets)
 
 pub returns-clause-few : goal.returns-clause-few
 returns-clause-few c =
@@ -24,5 +24,5 @@ returns-clause-few c =
 pub returns-clause-covered : goal.returns-clause-covered
 returns-clause-covered c =
     let r = c.args.self.now in
-    IfOk-weaker c.pruned_within.result (λ (p : Pruned). IsListing (size_of r) (IsWhole (may_of r) (whole_of r)) (sets_in p.sets)) (λ (p : Pruned). AreCovers (choice_of r) (size_of r) (sets_in p.sets))
-    (λ (p : Pruned) (l : IsListing (size_of r) (IsWhole (may_of r) (whole_of r)) (sets_in p.sets)). covers_of r (tables_of r) (sets_in p.sets) (listing_of r (tables_of r) (sets_in p.sets) l)) (subst (λ n. IfOk c.pruned_within.result (λ (p : Pruned). IsListing n (IsWhole (may_of r) (whole_of r)) (sets_in p.sets))) c.size-n.ensures c.pruned_within.ensures.sets)
+    IfOk-weaker c.pruned_within.result (λ (p : Pruned). IsListing (size_of r) (IsWholeSet (may_of r) (whole_of r)) (sets_in p.sets)) (λ (p : Pruned). AreCovers (choice_of r) (size_of r) (sets_in p.sets))
+    (λ (p : Pruned) (l : IsListing (size_of r) (IsWholeSet (may_of r) (whole_of r)) (sets_in p.sets)). covers_of r (tables_of r) (sets_in p.sets) (listing_of r (tables_of r) (sets_in p.sets) l)) (subst (λ n. IfOk c.pruned_within.result (λ (p : Pruned). IsListing n (IsWholeSet (may_of r) (whole_of r)) (sets_in p.sets))) c.size-n.ensures c.pruned_within.ensures.sets)

@@ -1,6 +1,6 @@
 use Rattle.std.proofs.Common.{◌∙◌, [], flat_map, get_or, ap}
 use Rattle.std.proofs.lemmas.Result.{IfOk-weaker}
-use Rattle.hack_features.specs.Sets.{rows_of}
+use Rattle.hack_samples.specs.Sets.{rows_of}
 use Rattle.hack_features.specs.Samples.{IsOn}
 use Rattle.hack_features.specs.View.{choice_of}
 use Rattle.hack_features.proofs.SettingLemmas.{settings_row, shows_iff}

@@ -1,7 +1,7 @@
 use Rattle.std.proofs.Common.{◌≡◌, take, true, ◌++◌, ◌∷◌, []}
 use Rattle.std.specs.Prelude.{nat_le, sum_by}
 use Rattle.std.specs.List.{list_all}
-use Rattle.hack_features.specs.Sets.{rows_of}
+use Rattle.hack_samples.specs.Sets.{rows_of}
 use Rattle.hack_features.specs.Tables.{count_at}
 use Rattle.hack_features.specs.Samples.{positions_of}
 use Rattle.hack_features.proofs.tables.Tables.is_exclusive_in.Given as goal

@@ -1,8 +1,8 @@
 use Rattle.std.proofs.Common.{[], ◌∙◌, sym, arith, get_or, List, ℕ}
 use Rattle.std.proofs.lemmas.List.{length-map}
-use Rattle.hack_features.specs.Sets.{rows_of}
-use Rattle.hack_features.specs.Given.{choice_in}
-use Rattle.hack_features.specs.Routed.{names_in}
+use Rattle.hack_samples.specs.Sets.{rows_of}
+use Rattle.hack_features.specs.ChoiceView.{choice_in}
+use Rattle.hack_features.specs.RoutesView.{routed_names}
 use Rattle.hack_base.proofs.Steps.{row_items}
 use Rattle.hack_features.proofs.TableLemmas.{spares_iff, exclusive_iff, required_iff}
 use Rattle.hack_features.proofs.tables.Tables.new.Goals as goal
@@ -17,7 +17,7 @@ returns c =
     record {
       spared = λ a b la lb.
           let same = c.in_ok-spare_rows.ensures a b (omega (arith, p.candidates_at.count, count)) (omega (arith, p.candidates_at.count, count)) in
-          let both = spares_iff choice.map (names_in e.routes) e.routes.keys.items (rows_of e.routes.marks.items) p.routes (get_or all a []) (get_or all b []) (get_or choice.candidates a []) (get_or choice.candidates b []) (p.candidates_at.each a la) (p.candidates_at.each b lb) in
+          let both = spares_iff choice.map (routed_names e.routes) e.routes.keys.items (rows_of e.routes.marks.items) p.routes (get_or all a []) (get_or all b []) (get_or choice.candidates a []) (get_or choice.candidates b []) (p.candidates_at.each a la) (p.candidates_at.each b lb) in
           (λ t. both.0 (sym same ∙ t), λ s. same ∙ both.1 s);
       exclusive = exclusive_iff choice (rows_of c.in_ok-hit_rows.field-0.items) c.in_ok-hit_rows.ensures;
       required = required_iff choice (rows_of c.in_ok-serve_rows.field-0.items) (c.in_ok-serve_rows.ensures choice.map choice.candidates choice.at_least_one_of p);

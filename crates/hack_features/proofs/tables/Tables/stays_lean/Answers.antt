@@ -1,5 +1,5 @@
 use Rattle.std.proofs.Common.{◌∙◌, sym, ap}
-use Rattle.hack_features.specs.Sets.{rows_of}
+use Rattle.hack_samples.specs.Sets.{rows_of}
 use Rattle.hack_features.specs.Samples.{positions_of}
 use Rattle.hack_features.proofs.MemberLemmas.{lean-more, clear_of}
 use Rattle.hack_features.proofs.tables.Tables.stays_lean.Goals as goal

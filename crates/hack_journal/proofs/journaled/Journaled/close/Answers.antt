@@ -1,7 +1,7 @@
 use Rattle.std.proofs.Common.{◌≡◌, ap, sym, subst, string_bytes, List, inr, []}
 use Rattle.hack_files.specs.Files.{MakesOrNot, removes, Contents}
 use Rattle.hack_journal.specs.Journal.{Edit, edits_of}
-use Rattle.hack_journal.specs.Safe.{AreBack, Stays}
+use Rattle.hack_journal.specs.SafeFiles.{AreBack, Stays}
 use Rattle.hack_journal.specs.SafeLaws.{stays_none, stays_more}
 use Rattle.hack_journal.proofs.FinishLemmas.{finish_stays, all_same}
 use Rattle.hack_journal.proofs.journaled.Journaled.close.Goals as goal

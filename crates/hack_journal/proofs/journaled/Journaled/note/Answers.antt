@@ -1,6 +1,6 @@
 use Rattle.std.proofs.Common.{ap, sym, subst, string_bytes, List}
 use Rattle.hack_journal.specs.SafeLaws.{stays_none}
-use Rattle.hack_journal.specs.Safe.{Stays}
+use Rattle.hack_journal.specs.SafeFiles.{Stays}
 use Rattle.hack_journal.proofs.SafeLemmas.{note_stays_by, told_ok}
 use Rattle.hack_journal.specs.Journal.{Edit, edit_of, edits_of}
 use Rattle.hack_journal.proofs.journaled.Journaled.note.Goals as goal

@@ -1,7 +1,7 @@
 use Rattle.std.proofs.Common.{◌≡◌, string_bytes, rules}
 use Rattle.std.proofs.lemmas.Result.{IfOk-weaker}
 use Rattle.hack_process.specs.Commands.{command_of}
-use Rattle.hack_load.specs.Loads.{self_command}
+use Rattle.hack_load.specs.CargoQuestions.{self_command}
 use Rattle.hack_load.proofs.AskLemmas.{self-failed}
 use Rattle.hack_load.proofs.told.CargoVersion.ask.Goals as goal
 

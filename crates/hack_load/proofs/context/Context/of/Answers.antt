@@ -1,8 +1,8 @@
 use Rattle.std.proofs.Common.{map, ◌∙◌}
 use Rattle.std.specs.Prelude.{option_map}
 use Rattle.std.proofs.lemmas.List.{length-map}
-use Rattle.hack_metadata.specs.View.{package_view, place_at}
-use Rattle.hack_metadata.specs.Whole.{metadata_view}
+use Rattle.hack_metadata.specs.RecordViews.{package_view, place_at}
+use Rattle.hack_metadata.specs.MetadataView.{metadata_view}
 use Rattle.hack_load.specs.Located.{has_manifest}
 use Rattle.hack_load.proofs.BuildLemmas.{features-long}
 use Rattle.hack_load.proofs.ContextLemmas.{contains-place, found-contains}

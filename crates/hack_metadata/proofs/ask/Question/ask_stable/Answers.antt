@@ -3,9 +3,9 @@ use Rattle.std.specs.Prelude.{MatchOption}
 use Rattle.std.proofs.lemmas.Result.{err_from_is_err_and, IfErr-weaker}
 use Rattle.hack_process.specs.CommandTexts.{text_of}
 use Rattle.hack_process.specs.Commands.{command_of}
-use Rattle.hack_metadata.specs.AskView.{asks}
-use Rattle.hack_metadata.specs.Asks.{Reads, Fails, IsLockfile, first, locked, answers, tells_newer}
-use Rattle.hack_metadata.specs.Read.{read_metadata}
+use Rattle.hack_metadata.specs.AskView.{question_of}
+use Rattle.hack_metadata.specs.QuestionCalls.{ReadsOutput, FailsToRead, IsLockfile, first, locked, answers, tells_newer}
+use Rattle.hack_metadata.specs.MetadataReading.{read_metadata}
 use Rattle.hack_metadata.specs.Requests.{by_stable}
 use Rattle.hack_metadata.proofs.AskWays.{asked-counts, back-wrote, counts-ends, fallen-ends, first-ends, left-more, over-stops, over-wrote, text-spares, unchanged, whole-left, whole-leaves, whole-more, wrote-none}
 use Rattle.hack_metadata.proofs.ask.Question.ask_stable.Goals as goal
@@ -22,7 +22,7 @@ returns-in_err-first-clause-ends g c =
     let p = err_from_is_err_and c.from_residual.result c.from_residual.ensures.1 in
     let held = g.F.Files.bytes_at c.args.files.now in
     let trace = g.F.Files.trace c.args.files.now in
-    rw (p.1, p.2) (λ called start way. first-ends g.F.Files.tells g.F.Files.whole (asks c.args.self.now) held held trace trace start (g.C.Caller.calls c.first.new.caller) (g.C.Caller.calls c.args.caller.now) c.args.minor c.in_err-first.field-0.0 way
+    rw (p.1, p.2) (λ called start way. first-ends g.F.Files.tells g.F.Files.whole (question_of c.args.self.now) held held trace trace start (g.C.Caller.calls c.first.new.caller) (g.C.Caller.calls c.args.caller.now) c.args.minor c.in_err-first.field-0.0 way
     (λ w. wrote-none trace held) (c.in_err-first.ensures.err called c.args.minor))
 
 pub returns-in_err-make_lockfile-clause-left : goal.returns-in_err-make_lockfile-clause-left
@@ -57,9 +57,9 @@ returns-in_err-told-clause-left g c =
 pub returns-in_err-told-clause-ends : goal.returns-in_err-told-clause-ends
 returns-in_err-told-clause-ends g c =
     let p = err_from_is_err_and c.from_residual-in_err-told.result c.from_residual-in_err-told.ensures.1 in
-    let q = asks c.args.self.now in
+    let q = question_of c.args.self.now in
     let words = map string_bytes c.args.self.now.full.items in
-    let is : command_of c.in_ok-asked.asked ≡ by_stable (asks c.args.self.now) (map string_bytes c.args.self.now.full.items) = search rules in
+    let is : command_of c.in_ok-asked.asked ≡ by_stable (question_of c.args.self.now) (map string_bytes c.args.self.now.full.items) = search rules in
     let text = string_bytes c.in_ok-first.first.text in
     let path = c.as_str-lockfile.result.now in
     let lock = subst (λ p. IsLockfile (string_bytes c.in_ok-first.first.text) p) (sym c.as_str.ensures.value) c.in_ok-first.ensures.lockfile in
@@ -89,9 +89,9 @@ returns-in-Some-clause-left g c = (
 
 pub returns-in-Some-clause-ends : goal.returns-in-Some-clause-ends
 returns-in-Some-clause-ends g c =
-    let q = asks c.args.self.now in
+    let q = question_of c.args.self.now in
     let words = map string_bytes c.args.self.now.full.items in
-    let is : command_of c.in_ok-asked.asked ≡ by_stable (asks c.args.self.now) (map string_bytes c.args.self.now.full.items) = search rules in
+    let is : command_of c.in_ok-asked.asked ≡ by_stable (question_of c.args.self.now) (map string_bytes c.args.self.now.full.items) = search rules in
     let text = string_bytes c.in_ok-first.first.text in
     let path = c.as_str-lockfile.result.now in
     let lock = subst (λ p. IsLockfile (string_bytes c.in_ok-first.first.text) p) (sym c.as_str.ensures.value) c.in_ok-first.ensures.lockfile in
@@ -103,7 +103,7 @@ returns-in-Some-clause-ends g c =
     (g.F.Files.failed c.args.files.now) (g.F.Files.failed c.make_lockfile.new.files) path text c.in_ok-make_lockfile.ensures.left again c.in_ok-make_lockfile.ensures.untraced c.in_ok-told.ensures.back in
     λ called start way. counts-ends g.F.Files.tells g.F.Files.whole q (g.F.Files.bytes_at c.args.files.now) (g.F.Files.bytes_at c.read_over.new.files) (g.F.Files.trace c.args.files.now) (g.F.Files.trace c.read_over.new.files) start new (by_stable q words) told c.args.minor (put.0 ∷ []) c.metadata_in.result
     (tells_newer words told refl (c.in_ok-make_lockfile.ensures.ok called start c.args.minor text lock (answers text way (c.in_ok-first.ensures.ok called)))
-    (subst (λ k. Reads k told mid new) is (subst (λ o. MatchOption o (Fails (command_of c.in_ok-asked.asked) mid new) (λ t. Reads (command_of c.in_ok-asked.asked) (string_bytes t) mid new)) c.in-Some.is (c.in_ok-told.ensures.ok called))) put.1)
+    (subst (λ k. ReadsOutput k told mid new) is (subst (λ o. MatchOption o (FailsToRead (command_of c.in_ok-asked.asked) mid new) (λ t. ReadsOutput (command_of c.in_ok-asked.asked) (string_bytes t) mid new)) c.in-Some.is (c.in_ok-told.ensures.ok called))) put.1)
     put.2 (asked-counts q new (by_stable q words) (command_of c.in_ok-asked.asked) told c.as_str-in-Some.result.now c.args.minor c.metadata_in.result is c.as_str-in-Some.ensures.value c.metadata_in.ensures.ok c.metadata_in.ensures.err)
 
 pub returns-clause-stays : goal.returns-clause-stays
@@ -118,9 +118,9 @@ returns-clause-left g c = (
 
 pub returns-clause-ends : goal.returns-clause-ends
 returns-clause-ends g c =
-    let q = asks c.args.self.now in
+    let q = question_of c.args.self.now in
     let words = map string_bytes c.args.self.now.full.items in
-    let is : command_of c.in_ok-asked.asked ≡ by_stable (asks c.args.self.now) (map string_bytes c.args.self.now.full.items) = search rules in
+    let is : command_of c.in_ok-asked.asked ≡ by_stable (question_of c.args.self.now) (map string_bytes c.args.self.now.full.items) = search rules in
     let text = string_bytes c.in_ok-first.first.text in
     let path = c.as_str-lockfile.result.now in
     let lock = subst (λ p. IsLockfile (string_bytes c.in_ok-first.first.text) p) (sym c.as_str.ensures.value) c.in_ok-first.ensures.lockfile in
@@ -131,5 +131,5 @@ returns-clause-ends g c =
     (g.F.Files.failed c.args.files.now) (g.F.Files.failed c.make_lockfile.new.files) path text c.in_ok-make_lockfile.ensures.left again c.in_ok-make_lockfile.ensures.untraced c.in_ok-told.ensures.back in
     λ called start way. fallen-ends g.F.Files.tells g.F.Files.whole q (g.F.Files.bytes_at c.args.files.now) (g.F.Files.bytes_at c.read_over.new.files) (g.F.Files.trace c.args.files.now) (g.F.Files.trace c.read_over.new.files) start (g.C.Caller.calls c.fall_back.new.caller) mid old c.args.minor text words c.fall_back.result refl
     (c.in_ok-make_lockfile.ensures.ok called start c.args.minor text lock (answers text way (c.in_ok-first.ensures.ok called)))
-    (subst (λ k. Fails k mid old) is (subst (λ o. MatchOption o (Fails (command_of c.in_ok-asked.asked) mid old) (λ t. Reads (command_of c.in_ok-asked.asked) (string_bytes t) mid old)) c.in-None.is (c.in_ok-told.ensures.ok called)))
+    (subst (λ k. FailsToRead k mid old) is (subst (λ o. MatchOption o (FailsToRead (command_of c.in_ok-asked.asked) mid old) (λ t. ReadsOutput (command_of c.in_ok-asked.asked) (string_bytes t) mid old)) c.in-None.is (c.in_ok-told.ensures.ok called)))
     put (c.fall_back.ensures.fell called c.in_ok-first.ensures.command)

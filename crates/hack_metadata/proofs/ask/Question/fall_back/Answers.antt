@@ -1,6 +1,6 @@
 use Rattle.std.proofs.Common.{inl, inr, refl, string_bytes}
 use Rattle.hack_process.specs.Commands.{command_of}
-use Rattle.hack_metadata.specs.AskView.{asks}
+use Rattle.hack_metadata.specs.AskView.{question_of}
 use Rattle.hack_metadata.specs.Requests.{first_command}
 use Rattle.hack_metadata.proofs.AskWays.{asked-counts}
 use Rattle.hack_metadata.proofs.ask.Question.fall_back.Goals as goal
@@ -10,7 +10,7 @@ returns-then-self-clause-fell g c = λ told first. inr (c.if-self.true, c.ask_ca
 
 pub returns-clause-fell : goal.returns-clause-fell
 returns-clause-fell g c =
-    let q = asks c.args.self.now in
+    let q = question_of c.args.self.now in
     λ told first. inl (
       c.if-self.false,
       refl,

@@ -4,8 +4,8 @@ use Rattle.std.proofs.lemmas.Result.{err_from_is_err_and, on_ok_weaker, IfErr-we
 use Rattle.hack_process.specs.CommandTexts.{text_of}
 use Rattle.hack_process.specs.Commands.{asked_of, command_of}
 use Rattle.std.specs.Prelude.{true}
-use Rattle.hack_metadata.specs.AskView.{asks}
-use Rattle.hack_metadata.specs.Asks.{Runs, first, is_there, is_made}
+use Rattle.hack_metadata.specs.AskView.{question_of}
+use Rattle.hack_metadata.specs.QuestionCalls.{Runs, first, is_there, is_made}
 use Rattle.hack_metadata.specs.Requests.{lock_command}
 use Rattle.hack_metadata.proofs.AskWays.{command-stops, run-fails, there-stops}
 use Rattle.hack_metadata.proofs.ask.Question.make_lockfile.Goals as goal
@@ -13,14 +13,14 @@ use Rattle.hack_metadata.proofs.ask.Question.make_lockfile.Goals as goal
 pub returns-in_err-is_there-clause-err : goal.returns-in_err-is_there-clause-err
 returns-in_err-is_there-clause-err g c =
     let p = err_from_is_err_and c.from_residual.result c.from_residual.ensures.1 in
-    rw (p.1, p.2) (λ called minor text lock. there-stops (asks c.args.self.now) (g.C.Caller.calls c.args.caller.now) minor text c.args.lockfile.now c.in_err-is_there.field-0.0 lock c.in_err-is_there.ensures.fault)
+    rw (p.1, p.2) (λ called minor text lock. there-stops (question_of c.args.self.now) (g.C.Caller.calls c.args.caller.now) minor text c.args.lockfile.now c.in_err-is_there.field-0.0 lock c.in_err-is_there.ensures.fault)
 
 pub returns-then-branch-clause-ok : goal.returns-then-branch-clause-ok
 returns-then-branch-clause-ok g c = λ called start minor text lock way. is_there c.args.lockfile.now way lock (λ told. (c.in_ok-is_there.ensures.there told).0 c.if-branch.true)
 
 pub returns-clause-ok : goal.returns-clause-ok
 returns-clause-ok g c =
-    let is : command_of c.in_ok-asked.asked ≡ lock_command (asks c.args.self.now) = search rules in
+    let is : command_of c.in_ok-asked.asked ≡ lock_command (question_of c.args.self.now) = search rules in
     on_ok_weaker c.run.result (λ h called start minor text lock way.
     is_made c.args.lockfile.now way lock (λ told. iff_false (c.in_ok-is_there.ensures.there told) c.if-branch.false)
     (subst (λ k. Runs k (g.C.Caller.calls c.args.caller.now) (g.C.Caller.calls c.run.new.caller)) is (h called)))
@@ -28,10 +28,10 @@ returns-clause-ok g c =
 
 pub returns-clause-err : goal.returns-clause-err
 returns-clause-err g c =
-    let is : command_of c.in_ok-asked.asked ≡ lock_command (asks c.args.self.now) = search rules in
+    let is : command_of c.in_ok-asked.asked ≡ lock_command (question_of c.args.self.now) = search rules in
     let old = g.C.Caller.calls c.args.caller.now in
     let new = g.C.Caller.calls c.run.new.caller in
-    let q = asks c.args.self.now in
+    let q = question_of c.args.self.now in
     let asked = command_of c.in_ok-asked.asked in
     IfErr-weaker c.run.result _ _ (λ e h called minor text lock.
     command-stops g.C.Caller.tells q old new (first minor text) asked e called tt is

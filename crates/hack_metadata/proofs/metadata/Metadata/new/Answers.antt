@@ -1,8 +1,8 @@
 use Rattle.std.proofs.Common.{◌≡◌, ◌<◌, ◌≤◌, [], inr, refl, sym, subst, rules}
 use Rattle.std.specs.Prelude.{option_copied, string_bytes}
 use Rattle.std.proofs.lemmas.Result.{err_from_is_err_and}
-use Rattle.hack_metadata.specs.AskView.{asks}
-use Rattle.hack_metadata.specs.Asks.{AsksCargo, EndsSo, Way, Writes, begun, newer, versioned, starts, tells_minor, is_older, is_newer}
+use Rattle.hack_metadata.specs.AskView.{question_of}
+use Rattle.hack_metadata.specs.QuestionCalls.{AsksCargo, EndsSo, LeadsToStage, WroteWhereKnown, begun, newer, versioned, starts, tells_minor, is_older, is_newer}
 use Rattle.hack_metadata.specs.Requests.{question, version_command}
 use Rattle.hack_metadata.proofs.AskWays.{cargo-ends, question-stops, unchanged, whole-leaves, wrote-none}
 use Rattle.hack_metadata.proofs.metadata.Metadata.new.Goals as goal
@@ -31,10 +31,10 @@ returns-then-stable-cargo_version-clause-ends g c =
     let q = question c.args.args.now c.args.env.now c.args.cargo_version (option_copied c.args.host) in
     let held = g.F.Files.bytes_at c.args.files.now in
     let old = g.C.Caller.calls c.args.caller.now in
-    let is : asks c.in_ok-question.question ≡ question c.args.args.now c.args.env.now c.args.cargo_version (option_copied c.args.host) = c.in_ok-question.ensures.ok in
+    let is : question_of c.in_ok-question.question ≡ question c.args.args.now c.args.env.now c.args.cargo_version (option_copied c.args.host) = c.in_ok-question.ensures.ok in
     let lt : c.args.cargo_version < c.in_ok-stable.stable = search rules in
-    λ called. subst (λ x. EndsSo g.F.Files.tells x held old (g.C.Caller.calls c.ask_stable.new.caller) (Writes g.F.Files.whole g.F.Files.tells (g.F.Files.trace c.args.files.now) (g.F.Files.trace c.ask_stable.new.files) held (g.F.Files.bytes_at c.ask_stable.new.files)) c.ask_stable.result) is
-    (c.ask_stable.ensures.ends called old (subst (λ x. Way g.F.Files.tells x held old (newer c.in_ok-stable.stable) (g.C.Caller.calls c.stable_minor.new.caller) []) (sym is)
+    λ called. subst (λ x. EndsSo g.F.Files.tells x held old (g.C.Caller.calls c.ask_stable.new.caller) (WroteWhereKnown g.F.Files.whole g.F.Files.tells (g.F.Files.trace c.args.files.now) (g.F.Files.trace c.ask_stable.new.files) held (g.F.Files.bytes_at c.ask_stable.new.files)) c.ask_stable.result) is
+    (c.ask_stable.ensures.ends called old (subst (λ x. LeadsToStage g.F.Files.tells x held old (newer c.in_ok-stable.stable) (g.C.Caller.calls c.stable_minor.new.caller) []) (sym is)
     (is_newer (tells_minor c.in_ok-stable.stable (c.in_ok-stable.ensures.ok called)) lt)))
 
 pub returns-clause-left : goal.returns-clause-left
@@ -48,7 +48,7 @@ returns-clause-ends g c =
     let old = g.C.Caller.calls c.args.caller.now in
     let mid = g.C.Caller.calls c.stable_minor.new.caller in
     let new = g.C.Caller.calls c.ask_cargo.new.caller in
-    let is : asks c.in_ok-question.question ≡ question c.args.args.now c.args.env.now c.args.cargo_version (option_copied c.args.host) = c.in_ok-question.ensures.ok in
+    let is : question_of c.in_ok-question.question ≡ question c.args.args.now c.args.env.now c.args.cargo_version (option_copied c.args.host) = c.in_ok-question.ensures.ok in
     let le : c.in_ok-stable.stable ≤ c.args.cargo_version = search rules in
     λ called. cargo-ends g.F.Files.tells g.F.Files.whole q held held trace trace old new mid [] c.ask_cargo.result (is_older (tells_minor c.in_ok-stable.stable (c.in_ok-stable.ensures.ok called)) le)
     (λ w. wrote-none trace held) (subst (λ x. AsksCargo x mid new c.ask_cargo.result) is (c.ask_cargo.ensures.asked called))

@@ -1,6 +1,6 @@
 use Rattle.std.proofs.Common.{length, map}
 use Rattle.serde_json.specs.View.{members_view}
-use Rattle.hack_metadata.specs.View.{place_in, place_at, nodes_view}
+use Rattle.hack_metadata.specs.RecordViews.{place_in, place_at, nodes_view}
 use Rattle.hack_metadata.proofs.KnownLemmas.{all-known}
 use Rattle.hack_metadata.proofs.metadata.Metadata.with_packages.Goals as goal
 

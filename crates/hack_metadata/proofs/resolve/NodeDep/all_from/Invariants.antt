@@ -1,8 +1,8 @@
 use Rattle.std.proofs.Common.{◌≡◌, ◌++◌, map, Ok}
 use Rattle.serde_json.specs.View.{items_view}
 use Rattle.hack_metadata.specs.Fields.{◌>>=◌, read_all}
-use Rattle.hack_metadata.specs.Read.{read_node_dep}
-use Rattle.hack_metadata.specs.View.{node_dep_view, place_in}
+use Rattle.hack_metadata.specs.MetadataReading.{read_node_dep}
+use Rattle.hack_metadata.specs.RecordViews.{node_dep_view, place_in}
 use Rattle.hack_metadata.proofs.resolve.NodeDep.all_from.Given as goal
 
 -- what was read, and then what is read of the rest, is what is read of the whole list

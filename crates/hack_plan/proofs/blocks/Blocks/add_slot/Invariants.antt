@@ -1,7 +1,7 @@
 use Rattle.std.proofs.Common.{take}
-use Rattle.hack_plan.specs.Entries.{Adds}
+use Rattle.hack_plan.specs.Entries.{AddsEntries}
 use Rattle.hack_plan.specs.Parts.{InSlot}
 use Rattle.hack_plan.proofs.blocks.Blocks.add_slot.Given as goal
 
 abbrev pub invariant-loop-member : goal.invariant-loop-member
-invariant-loop-member l = Adds (InSlot l.version l.slot (take l.member-index l.members) l.runs) l.fn.self l.self
+invariant-loop-member l = AddsEntries (InSlot l.version l.slot (take l.member-index l.members) l.runs) l.fn.self l.self

@@ -2,7 +2,7 @@ use Rattle.std.proofs.Common.{List, Some, inl, inr, arith, sym, subst, map}
 use Rattle.std.proofs.lemmas.List.{take_all}
 use Rattle.std.proofs.lemmas.List.Elements.{Contains-get_or}
 use Rattle.hack_versions.specs.declared.group.VersionGroup.{VersionGroup}
-use Rattle.hack_versions.specs.Uses.{UsesAt, AreGroups}
+use Rattle.hack_versions.specs.VersionUses.{UsesAt, AreVersionGroups}
 use Rattle.hack_plan.specs.Inputs.{IsStepList, slots_of}
 use Rattle.hack_plan.specs.Spans.{AreSpans, version_in}
 use Rattle.hack_plan.proofs.Groups.{in_owns, groups-more, groups-over, groups-all}
@@ -13,7 +13,7 @@ pub add-requires-clause-within : goal.add-requires-clause-within
 add-requires-clause-within c = λ b.
     let v = c.as_slice-group-items.ensures.value in
     let steps = c.requires.versions.0 in
-    let are = subst (λ xs. AreGroups (UsesAt c.args.range steps c.args.input.now.packages.items) xs) (sym v) c.requires.versions.2 in
+    let are = subst (λ xs. AreVersionGroups (UsesAt c.args.range steps c.args.input.now.packages.items) xs) (sym v) c.requires.versions.2 in
     rw c.deref.ensures.value (λ k d l.
     let p = in_owns c.args.input.now c.args.counts.now c.args.range c.requires.some steps c.as_slice-group-items.result.now are c.loop-group.group-index c.group-item.result c.loop-group-test.true (sym c.group-item.is) _ (Contains-get_or c.group-item.result.packages.items k d l) in
     omega (arith, p, c.requires.counted b))
@@ -31,7 +31,7 @@ pub returns-in-Err-clause-err : goal.returns-in-Err-clause-err
 returns-in-Err-clause-err c =
     let v = c.as_slice-group-items.ensures.value in
     let steps = c.requires.versions.0 in
-    let are = subst (λ xs. AreGroups (UsesAt c.args.range steps c.args.input.now.packages.items) xs) (sym v) c.requires.versions.2 in
+    let are = subst (λ xs. AreVersionGroups (UsesAt c.args.range steps c.args.input.now.packages.items) xs) (sym v) c.requires.versions.2 in
     let k = c.loop-group.invariant steps are in
     let f = rw c.deref.ensures.value at c.in-Err.ensures.err in
     elim f [
@@ -50,7 +50,7 @@ pub returns-clause-ok : goal.returns-clause-ok
 returns-clause-ok c =
     let v = c.as_slice-group-items.ensures.value in
     let steps = c.requires.versions.0 in
-    let are = subst (λ xs. AreGroups (UsesAt c.args.range steps c.args.input.now.packages.items) xs) (sym v) c.requires.versions.2 in
+    let are = subst (λ xs. AreVersionGroups (UsesAt c.args.range steps c.args.input.now.packages.items) xs) (sym v) c.requires.versions.2 in
     let k = rw (take_all c.loop-group.group-index c.as_slice-group-items.result.now c.loop-group-test.false) at (c.loop-group.invariant steps are) in (
       steps,
       subst (λ r. IsStepList r c.args.input.now c.args.versions.now.stable steps) (sym c.requires.some) c.requires.versions.1,
@@ -61,6 +61,6 @@ pub returns-clause-spans : goal.returns-clause-spans
 returns-clause-spans c =
     let v = c.as_slice-group-items.ensures.value in
     let steps = c.requires.versions.0 in
-    let are = subst (λ xs. AreGroups (UsesAt c.args.range steps c.args.input.now.packages.items) xs) (sym v) c.requires.versions.2 in
+    let are = subst (λ xs. AreVersionGroups (UsesAt c.args.range steps c.args.input.now.packages.items) xs) (sym v) c.requires.versions.2 in
     let k = rw (take_all c.loop-group.group-index c.as_slice-group-items.result.now c.loop-group-test.false) at (c.loop-group.invariant steps are) in
     subst (λ (xs : List VersionGroup). AreSpans (map version_in xs) c.loop-group.places) v k.1

@@ -5,11 +5,11 @@ use Rattle.hack_process.specs.declared.listed.ListedLine.{ListedLine}
 use Rattle.hack_process.specs.CommandTexts.{listed_of}
 use Rattle.hack_process.specs.Commands.{listed_text}
 use Rattle.hack_plan.specs.View.{PackageView, PlanView}
-use Rattle.hack_plan.specs.Commands.{command_of_entry, package_at, ranked_command, whole_command}
+use Rattle.hack_plan.specs.Commands.{command_of_entry, chosen_package_at, ranked_command, whole_command}
 use Rattle.hack_plan.proofs.plan.Plan.line.Goals as goal
 
 -- the line of the entry at a place
-line-at : {E : Type 0} (plan : PlanView) (r : Result ListedLine E) (o : Option PlanEntry) (q : PlanEntry) (k : Option PackageView) → o ≡ Some q → k ≡ package_at plan.packages q.package
+line-at : {E : Type 0} (plan : PlanView) (r : Result ListedLine E) (o : Option PlanEntry) (q : PlanEntry) (k : Option PackageView) → o ≡ Some q → k ≡ chosen_package_at plan.packages q.package
     → IfOk r (λ line. listed_text line ≡ listed_of plan.call.dir (ranked_command plan.call q.version q.slot k q.rank)) → IfOk r (λ line. option_map (λ entry. listed_of plan.call.dir (command_of_entry plan entry)) o ≡ Some (listed_text line))
 line-at plan r o q k e f h =
     IfOk-weaker r (λ line. listed_text line ≡ listed_of plan.call.dir (ranked_command plan.call q.version q.slot k q.rank)) (λ line. option_map (λ entry. listed_of plan.call.dir (command_of_entry plan entry)) o ≡ Some (listed_text line))

@@ -2,10 +2,10 @@ use Rattle.std.proofs.Common.{ap, map, Global, String, Option}
 use Rattle.std.proofs.lemmas.Result.{IfOk-weaker}
 use Rattle.hack_base.specs.Names.{names_of, optional_text}
 use Rattle.hack_base.specs.Notes.{note_of}
-use Rattle.hack_words.specs.Answers.{around_of}
-use Rattle.hack_words.specs.Call.{ComesTo}
+use Rattle.hack_words.specs.ParseAnswers.{around_of}
+use Rattle.hack_words.specs.CommandLine.{ComesTo}
 use Rattle.hack_versions.specs.declared.rustup.Rustup.TheVariants.{Unasked}
-use Rattle.hack_recovery.specs.Asks.AsksFor.{parsed, faulty}
+use Rattle.hack_recovery.specs.AskedEdits.AsksFor.{parsed, faulty}
 use Rattle.hack_recovery.proofs.AskLemmas.{refusal}
 use Rattle.hack_recovery.proofs.BackLemmas.{back_restores}
 use Rattle.hack_recovery.proofs.asked.Asked.of.Goals as goal

@@ -1,7 +1,7 @@
 use Rattle.std.proofs.Common.{◌≡◌}
 use Rattle.std.proofs.lemmas.Result.{err_from_is_err_and}
 use Rattle.hack_process.specs.Commands.{command_of}
-use Rattle.hack_session.specs.Shown.{cleaning_shown, manner_of}
+use Rattle.hack_session.specs.StepOutput.{cleaning_shown, manner_of}
 use Rattle.hack_session.proofs.ShownLemmas.{err_nothing}
 use Rattle.hack_session.proofs.screen.Screen.tell_cleaning.Goals as goal
 

@@ -1,7 +1,7 @@
 use Rattle.std.proofs.Common.{inl, inr, refl, ap, arith, codes, sym}
 use Rattle.hack_base.proofs.WriteLemmas.{writes-by}
 use Rattle.hack_term.specs.Lines.{error_line}
-use Rattle.hack_session.specs.Shown.{manner_of}
+use Rattle.hack_session.specs.StepOutput.{manner_of}
 use Rattle.hack_session.proofs.RunLemmas.{step_passed, step_failed, step_cut, not_memory, all_passed}
 use Rattle.hack_session.proofs.ShownLemmas.{and_not, not_and, error_noted, prints_err, prints_line, shown_cut, shown_passed, shown_told, shown_untold}
 use Rattle.hack_session.proofs.starter.StarterRunner.step.Goals as goal

@@ -1,11 +1,11 @@
 use Rattle.std.proofs.Common.{◌≡◌, Ok, List, MatchOption, ap, sym, subst, map, string_bytes}
 use Rattle.std.proofs.lemmas.Result.{err_from_is_err_and, IfOk-weaker, IfErr-weaker}
-use Rattle.hack_uses.specs.Reads.{Ends, End}
+use Rattle.hack_uses.specs.UseReading.{ReadsUsesThen, End}
 use Rattle.hack_uses.specs.Uses.{Use, views}
 use Rattle.hack_uses.specs.declared.cut.Cuts.{Cuts}
 use Rattle.hack_base.specs.Notes.{note_of}
-use Rattle.hack_words.specs.Answers.{Answers, IsJudged, Refuses, GivesCuts, around_in}
-use Rattle.hack_words.specs.Call.{ComesFrom, Faulty, outcome_of}
+use Rattle.hack_words.specs.ParseAnswers.{AnswersCommandLine, IsJudged, Refuses, GivesCuts, around_in}
+use Rattle.hack_words.specs.CommandLine.{ComesFrom, Faulty, outcome_of}
 use Rattle.hack_rules.specs.CliFaults.{fault_of}
 use Rattle.hack_rules.specs.declared.fault.CliFault.TheVariants as fault
 use Rattle.hack_words.specs.Start.{Cuts as Begun}
@@ -29,10 +29,10 @@ returns-in-Uses-clause-ok c =
     let trailing = map string_bytes c.args.start.trailing.items in
     let us = views c.as_slice.result.now in
     let ends = subst (λ (cuts : Cuts). GivesCuts (Ok cuts) (map string_bytes c.args.start.words.items)) c.in-Uses.is c.in_ok-print.ensures in
-    let read = subst (λ (us : List Use). Ends (map string_bytes c.args.start.words.items) us End) (sym (ap views c.as_slice.ensures.value)) ends in
+    let read = subst (λ (us : List Use). ReadsUsesThen (map string_bytes c.args.start.words.items) us End) (sym (ap views c.as_slice.ensures.value)) ends in
     IfOk-weaker c.judge_uses.result
     (λ answer. IsJudged around c.args.start.behavior trailing us answer.0 (map note_of answer.1.items))
-    (λ answer. Answers around (ComesFrom around (Begun c.args.start.behavior words trailing)) answer.0 (map note_of answer.1.items))
+    (λ answer. AnswersCommandLine around (ComesFrom around (Begun c.args.start.behavior words trailing)) answer.0 (map note_of answer.1.items))
     (λ answer h. judged-answers around c.args.start.behavior words trailing us answer.0 (map note_of answer.1.items) read h) c.judge_uses.ensures.ok
 
 pub returns-in-Uses-clause-err : goal.returns-in-Uses-clause-err
@@ -42,7 +42,7 @@ returns-in-Uses-clause-err c =
     let trailing = map string_bytes c.args.start.trailing.items in
     let us = views c.as_slice.result.now in
     let ends = subst (λ (cuts : Cuts). GivesCuts (Ok cuts) (map string_bytes c.args.start.words.items)) c.in-Uses.is c.in_ok-print.ensures in
-    let read = subst (λ (us : List Use). Ends (map string_bytes c.args.start.words.items) us End) (sym (ap views c.as_slice.ensures.value)) ends in
+    let read = subst (λ (us : List Use). ReadsUsesThen (map string_bytes c.args.start.words.items) us End) (sym (ap views c.as_slice.ensures.value)) ends in
     IfErr-weaker c.judge_uses.result
     (λ e. MatchOption (fault_of e) (e ≡ fault.Memory) (λ told. outcome_of around c.args.start.behavior trailing us ≡ Faulty told))
     (Refuses (ComesFrom around (Begun c.args.start.behavior words trailing)))

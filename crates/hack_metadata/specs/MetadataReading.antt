@@ -1,0 +1,179 @@
+-- What is read from the data of `cargo metadata`: the records, or the first field that is missing
+-- or has the wrong type, in this order of fields. `minor` is the minor version of the cargo that
+-- wrote the data: some fields came with a later one.
+use Rattle.std.specs.Prelude.{ℕ, ◌+◌, ◌==◌, Bool, true, false, not, List, [], ◌∷◌, Option, Some, None, Ok, codes, filter, map, nat_le, option_map, option_and_then, if◌then◌else◌}
+use Rattle.std.specs.Ordering.{nat_cmp}
+use Rattle.std.specs.Str.{bytes_eq}
+use Rattle.std.specs.BTreeMap.{insert_entry}
+use Rattle.serde_json.specs.Data.{Data, Items, no_items, item, Members, no_members, member}
+use Rattle.serde_json.specs.Find.{as_str, as_array}
+use Rattle.hack_base.specs.Names.{Name}
+use Rattle.hack_features.specs.FeatureMap.{FeatureMap}
+use Rattle.hack_metadata.specs.Fields.{Field, ◌>>=◌, or_name, string_in, bool_in, array_in, object_in, nullable_in, optional_text_in, element_of, read_all}
+use Rattle.hack_metadata.specs.Records.{DependencyRecord, PackageRecord, KindRecord, NodeDepRecord, NodeRecord, Nodes, MetadataRecord}
+
+-- ---- packages
+
+-- an element of `dependencies`
+abbrev pub read_dependency : Data → Field DependencyRecord
+read_dependency d =
+    element_of (codes "dependencies") d >>= λ ms.
+    string_in (codes "name") ms >>= λ name.
+    bool_in (codes "optional") ms >>= λ optional.
+    optional_text_in (codes "rename") ms >>= λ rename.
+    Ok (record { name = name; optional = optional; rename = rename })
+
+-- the texts of items, none where one of them is no text
+abbrev pub texts_of_items : Items → Option (List Name)
+texts_of_items no_items = Some []
+texts_of_items (item d ds) = option_and_then (λ text. option_map (λ texts. text ∷ texts) (texts_of_items ds)) (as_str d)
+
+-- the features of an object: each name with its texts; none where a name has anything else
+abbrev pub features_of : Members → Option FeatureMap
+features_of no_members = Some []
+features_of (member name d ms) = option_and_then (λ values. option_map (λ features. (name, values) ∷ features) (features_of ms)) (option_and_then texts_of_items (as_array d))
+
+-- `features`, an object of arrays of texts
+abbrev pub features_in : Members → Field FeatureMap
+features_in ms = object_in (codes "features") ms >>= λ features. or_name (codes "features") (features_of features)
+
+-- there is an item
+abbrev pub has_items : Items → Bool
+has_items no_items = false
+has_items (item d ds) = true
+
+-- whether a package may be published, by what `publish` holds: null, or a list with a registry
+abbrev pub may_publish : Option Data → Field Bool
+may_publish None = Ok true
+may_publish (Some d) = or_name (codes "publish") (option_map has_items (as_array d))
+
+-- `publish`, from cargo 1.39 on
+abbrev pub publish_in : ℕ → Members → Field Bool
+publish_in minor ms = if nat_le 39 minor then (nullable_in (codes "publish") ms >>= may_publish) else Ok true
+
+-- `rust_version`, from cargo 1.58 on
+abbrev pub rust_version_in : ℕ → Members → Field (Option Name)
+rust_version_in minor ms = if nat_le 58 minor then optional_text_in (codes "rust_version") ms else Ok None
+
+-- an element of `packages`
+abbrev pub read_package : ℕ → Data → Field PackageRecord
+read_package minor d =
+    element_of (codes "packages") d >>= λ ms.
+    string_in (codes "id") ms >>= λ id.
+    string_in (codes "name") ms >>= λ name.
+    string_in (codes "version") ms >>= λ version.
+    (array_in (codes "dependencies") ms >>= read_all read_dependency) >>= λ dependencies.
+    features_in ms >>= λ features.
+    string_in (codes "manifest_path") ms >>= λ manifest_path.
+    publish_in minor ms >>= λ publish.
+    rust_version_in minor ms >>= λ rust_version.
+    Ok (record { id = id; name = name; version = version; dependencies = dependencies; features = features; manifest_path = manifest_path; publish = publish; rust_version = rust_version })
+
+-- ---- package ids
+
+-- of two places that a name may have, the later one
+abbrev pub later : Option ℕ → Option ℕ → Option ℕ
+later (Some place) earlier = Some place
+later None earlier = earlier
+
+-- the place of the last package with the id, where the first of the ids has the place k
+abbrev pub place_from : ℕ → List Name → Name → Option ℕ
+place_from k [] id = None
+place_from k (x ∷ ids) id = later (place_from (k + 1) ids id) (if bytes_eq x id then Some k else None)
+
+-- the place of the last package with the id, none where no package has it
+abbrev pub place_of : List Name → Name → Option ℕ
+place_of ids id = place_from 0 ids id
+
+-- the numbers, each once, at its first place
+abbrev pub distinct : List ℕ → List ℕ
+distinct [] = []
+distinct (x ∷ xs) = x ∷ filter (λ y. not (y == x)) (distinct xs)
+
+-- `place` says which package an id means
+module _ (place : Name → Option ℕ) where
+  -- an element of `workspace_members`: the id of a package
+  abbrev pub read_member : Data → Field ℕ
+  read_member d = or_name (codes "workspace_members") (option_and_then place (as_str d))
+
+  -- `workspace_members`
+  abbrev pub workspace_members_in : Members → Field (List ℕ)
+  workspace_members_in ms = (array_in (codes "workspace_members") ms >>= read_all read_member) >>= λ members. Ok (distinct members)
+
+-- ---- the graph of dependencies
+
+-- an element of `dep_kinds`
+abbrev pub read_kind : Data → Field KindRecord
+read_kind d =
+    element_of (codes "dep_kinds") d >>= λ ms.
+    optional_text_in (codes "kind") ms >>= λ kind.
+    optional_text_in (codes "target") ms >>= λ target.
+    Ok (record { kind = kind; target = target })
+
+-- `dep_kinds`, from cargo 1.41 on
+abbrev pub kinds_in : ℕ → Members → Field (List KindRecord)
+kinds_in minor ms = if nat_le 41 minor then (array_in (codes "dep_kinds") ms >>= read_all read_kind) else Ok []
+
+-- the nodes, put in one after another: of two nodes of one package the last counts
+abbrev pub with_nodes : Nodes → List (ℕ × NodeRecord) → Nodes
+with_nodes nodes [] = nodes
+with_nodes nodes (n ∷ more) = with_nodes (insert_entry nat_cmp nodes n.0 n.1) more
+
+module _ (place : Name → Option ℕ) (minor : ℕ) where
+  -- an element of `deps`
+  abbrev pub read_node_dep : Data → Field NodeDepRecord
+  read_node_dep d =
+      element_of (codes "deps") d >>= λ ms.
+      string_in (codes "pkg") ms >>= λ id.
+      or_name (codes "pkg") (place id) >>= λ pkg.
+      kinds_in minor ms >>= λ kinds.
+      Ok (record { pkg = pkg; dep_kinds = kinds })
+
+  -- `deps`, from cargo 1.30 on
+  abbrev pub deps_in : Members → Field (List NodeDepRecord)
+  deps_in ms = if nat_le 30 minor then (array_in (codes "deps") ms >>= read_all read_node_dep) else Ok []
+
+  -- an element of `nodes`: the place of its package, which is looked up last, and the node
+  abbrev pub read_node : Data → Field (ℕ × NodeRecord)
+  read_node d =
+      element_of (codes "nodes") d >>= λ ms.
+      string_in (codes "id") ms >>= λ id.
+      deps_in ms >>= λ deps.
+      or_name (codes "id") (place id) >>= λ at.
+      Ok (at, record { deps = deps })
+
+  -- `nodes`
+  abbrev pub read_nodes : Items → Field Nodes
+  read_nodes ds = read_all read_node ds >>= λ nodes. Ok (with_nodes [] nodes)
+
+  -- what `resolve` holds: no nodes where it is null
+  abbrev pub read_resolve : Option Data → Field Nodes
+  read_resolve None = Ok []
+  read_resolve (Some d) =
+      element_of (codes "resolve") d >>= λ ms.
+      array_in (codes "nodes") ms >>= λ nodes.
+      read_nodes nodes
+
+  -- `resolve`
+  abbrev pub resolve_in : Members → Field Nodes
+  resolve_in ms = nullable_in (codes "resolve") ms >>= read_resolve
+
+-- ---- the whole
+
+-- the ids of packages, in order
+abbrev pub ids_of : List PackageRecord → List Name
+ids_of packages = map (λ p. p.id) packages
+
+-- what is read after the packages, where `place` says which one an id means
+abbrev pub read_behind : ℕ → List PackageRecord → (Name → Option ℕ) → Members → Field MetadataRecord
+read_behind minor packages place ms =
+    workspace_members_in place ms >>= λ members.
+    resolve_in place minor ms >>= λ nodes.
+    string_in (codes "workspace_root") ms >>= λ root.
+    Ok (record { cargo_version = minor; packages = packages; workspace_members = members; resolve = nodes; workspace_root = root })
+
+-- all that the object of `cargo metadata` says: an id means the last package that has it
+abbrev pub read_metadata : ℕ → Members → Field MetadataRecord
+read_metadata minor ms =
+    (array_in (codes "packages") ms >>= read_all (read_package minor)) >>= λ packages.
+    read_behind minor packages (place_of (ids_of packages)) ms

@@ -1,0 +1,234 @@
+-- Which calls a question to cargo makes, and which answer is used.
+use Rattle.std.specs.Prelude.{◌≡◌, ◌⊎◌, ◌<◌, ◌≤◌, ◌++◌, ◌∷◌, ℕ, true, false, List, [], Some, None, Result, Ok, Err, codes, string_bytes, IsSome}
+use Rattle.std.specs.Str.{IsUtf8}
+use Rattle.serde_json.specs.Data.{Members}
+use Rattle.hack_base.specs.Names.{Name}
+use Rattle.hack_files.specs.Files.{Change, Contents, Makes, puts}
+use Rattle.hack_files.specs.declared.fs.FsFault.{FsFault}
+use Rattle.hack_metadata.specs.FileFaults.{IsUnread, IsUnwritten}
+use Rattle.hack_versions.specs.declared.version.Version.{Version}
+use Rattle.hack_versions.specs.declared.rustup.VersionTextFault.{VersionTextFault}
+use Rattle.hack_versions.specs.ToolTexts.{TellsRelease, IsAnswerFault}
+use Rattle.hack_process.specs.Calls.{Call, MayAdd, IsSuccess}
+use Rattle.hack_process.specs.CargoTexts.{release_part}
+use Rattle.hack_process.specs.CommandTexts.{Command, text_of}
+use Rattle.hack_process.specs.Commands.{asked_of}
+use Rattle.hack_process.specs.Faults.{GotAnswer, IsReadFault, without_line_ends}
+use Rattle.hack_base.specs.PathTexts.{join_of}
+use Rattle.hack_process.specs.declared.fault.ProcessFault.{ProcessFault}
+use Rattle.hack_metadata.specs.Fields.{Field, object_in_text, string_in}
+use Rattle.hack_metadata.specs.MetadataReading.{read_metadata}
+use Rattle.hack_metadata.specs.Requests.{Question, command_line, by_stable, version_command, first_command, lock_command}
+use Rattle.hack_metadata.specs.MetadataView.{metadata_view}
+use Rattle.hack_metadata.specs.declared.metadata.Metadata.{Metadata}
+use Rattle.hack_metadata.specs.declared.ask_fault.AskFault.{AskFault}
+use Rattle.hack_metadata.specs.declared.ask_fault.AskFault.TheVariants as fault
+
+-- just this command was called, and ended with status 0
+abbrev pub Runs : Command → List Call → List Call → Type 0
+Runs c old new = GotAnswer (λ answer. IsSuccess answer.end) (asked_of true c) old new
+
+-- just this command was called, and ended with status 0; without line ends, its output is this text
+abbrev pub ReadsOutput : Command → Name → List Call → List Call → Type 0
+ReadsOutput c text old new = GotAnswer (λ answer. IsSuccess answer.end × IsUtf8 answer.stdout × (text ≡ without_line_ends answer.stdout)) (asked_of true c) old new
+
+-- its program has no name and wasn't called; or just it was called, and failed or wrote no text
+abbrev pub FailsToRead : Command → List Call → List Call → Type 0
+FailsToRead c old new = ((c.program ≡ []) × (new ≡ old)) ⊎ GotAnswer (λ answer. ¬ (IsSuccess answer.end × IsUtf8 answer.stdout)) (asked_of true c) old new
+
+-- the minor version in an answer, or 0 where it has none
+abbrev pub MinorOf : Name → ℕ → Type 0
+MinorOf text minor = ((v : Version) × TellsRelease (release_part text) v × (minor ≡ v.minor)) ⊎ (((e : VersionTextFault) × IsAnswerFault text (release_part text) e) × (minor ≡ 0))
+
+-- stable's cargo was asked for its version, and this is its minor version; 0 where it failed
+abbrev pub TellsStableMinor : Name → ℕ → List Call → List Call → Type 0
+TellsStableMinor rustup minor old new = ((text : Name) × ReadsOutput (version_command rustup) text old new × MinorOf text minor) ⊎ (FailsToRead (version_command rustup) old new × (minor ≡ 0))
+
+-- the answer is a JSON object, and f reads this from it
+abbrev pub TellsAs : {A : Type 0} → (Members → Field A) → Name → A → Type 0
+TellsAs f text a = (ms : Members) × (object_in_text text ≡ Some ms) × (f ms ≡ Ok a)
+
+-- the folder of the workspace
+abbrev pub root_of : Members → Field Name
+root_of ms = string_in (codes "workspace_root") ms
+
+-- the path is the lockfile of the workspace whose folder the answer names
+abbrev pub IsLockfile : Name → Name → Type 0
+IsLockfile text path = (root : Name) × TellsAs root_of text root × (path ≡ join_of root (codes "Cargo.lock"))
+
+-- how far asking has come
+pub data Stage : Type 0 where
+  -- nothing was asked
+  begun : Stage
+  -- stable's cargo has this minor version
+  versioned : ℕ → Stage
+  -- the full request to cargo is next
+  to_cargo : Stage
+  -- stable's cargo has this minor version, which is newer
+  newer : ℕ → Stage
+  -- the same, and cargo's first answer is this text
+  first : ℕ → Name → Stage
+  -- the same, and the lockfile is there
+  locked : ℕ → Name → Stage
+  -- the answer of this command is used, as that of a cargo of this minor version
+  taken : Command → Name → ℕ → Stage
+
+-- the lockfile of an answer is written, with what it held, where the files say what they hold
+pub record PutsBack (tells : Type 0) (held : Contents) (text : Name) (put : Change) : Type 0 where
+  pub path : Name
+  pub bytes : List ℕ
+  pub lockfile : IsLockfile text path
+  pub kept : tells → held path ≡ Some bytes
+  pub is : put ≡ puts path bytes
+
+-- `held` is what the files held before, where they say it
+module _ (tells : Type 0) (q : Question) (held : Contents) (old : List Call) where
+  -- these calls and writes lead to a stage
+  pub data LeadsToStage : Stage → List Call → List Change → Type 0 where
+    starts : LeadsToStage begun old []
+    tells_minor : {new : List Call} (minor : ℕ) → TellsStableMinor q.rustup minor old new → LeadsToStage (versioned minor) new []
+    is_older : {new : List Call} {minor : ℕ} → LeadsToStage (versioned minor) new [] → minor ≤ q.cargo_version → LeadsToStage to_cargo new []
+    is_newer : {new : List Call} {minor : ℕ} → LeadsToStage (versioned minor) new [] → q.cargo_version < minor → LeadsToStage (newer minor) new []
+    answers : {mid new : List Call} {minor : ℕ} (text : Name) → LeadsToStage (newer minor) mid [] → ReadsOutput (first_command q) text mid new → LeadsToStage (first minor text) new []
+    is_there : {mid : List Call} {minor : ℕ} {text : Name} (path : Name) → LeadsToStage (first minor text) mid [] → IsLockfile text path → (tells → IsSome (held path)) → LeadsToStage (locked minor text) mid []
+    is_made : {mid new : List Call} {minor : ℕ} {text : Name} (path : Name) → LeadsToStage (first minor text) mid [] → IsLockfile text path → (tells → ¬ IsSome (held path)) → Runs (lock_command q) mid new → LeadsToStage (locked minor text) new []
+    tells_newer : {mid new : List Call} {minor : ℕ} {text : Name} {put : Change} (words : List Name) (told : Name) → q.full ≡ Some words → LeadsToStage (locked minor text) mid [] → ReadsOutput (by_stable q words) told mid new → PutsBack tells held text put
+        → LeadsToStage (taken (by_stable q words) told minor) new (put ∷ [])
+    first_counts : {mid new : List Call} {minor : ℕ} {text : Name} {put : Change} (words : List Name) → q.full ≡ Some words → LeadsToStage (locked minor text) mid [] → FailsToRead (by_stable q words) mid new → PutsBack tells held text put → q.deps ≡ false
+        → LeadsToStage (taken (first_command q) text q.cargo_version) new (put ∷ [])
+    asks_again : {mid new : List Call} {minor : ℕ} {text : Name} {put : Change} (words : List Name) → q.full ≡ Some words → LeadsToStage (locked minor text) mid [] → FailsToRead (by_stable q words) mid new → PutsBack tells held text put → q.deps ≡ true
+        → LeadsToStage to_cargo new (put ∷ [])
+    tells_older : {mid new : List Call} {made : List Change} (words : List Name) (text : Name) → q.full ≡ Some words → LeadsToStage to_cargo mid made → ReadsOutput (command_line q.cargo words) text mid new
+        → LeadsToStage (taken (command_line q.cargo words) text q.cargo_version) new made
+
+-- the command that may be called at a stage
+abbrev pub IsNextCommand : Question → Stage → Command → Type 0
+IsNextCommand q begun c = c ≡ version_command q.rustup
+IsNextCommand q (versioned minor) c = ⊥
+IsNextCommand q to_cargo c = (words : List Name) × (q.full ≡ Some words) × (c ≡ command_line q.cargo words)
+IsNextCommand q (newer minor) c = c ≡ first_command q
+IsNextCommand q (first minor text) c = c ≡ lock_command q
+IsNextCommand q (locked minor text) c = (words : List Name) × (q.full ≡ Some words) × (c ≡ by_stable q words)
+IsNextCommand q (taken c minor text) next = ⊥
+
+-- nothing more was called, or just the next command
+abbrev pub MayAsk : Question → Stage → List Call → List Call → Type 0
+MayAsk q stage mid new = (new ≡ mid) ⊎ ((c : Command) × IsNextCommand q stage c × MayAdd (asked_of true c) mid new)
+
+-- the answer that is read at a stage is this text, of this command
+abbrev pub IsAnswer : Question → Stage → Command → Name → Type 0
+IsAnswer q begun c text = ⊥
+IsAnswer q (versioned minor) c text = ⊥
+IsAnswer q to_cargo c text = ⊥
+IsAnswer q (newer minor) c text = ⊥
+IsAnswer q (first minor told) c text = (c ≡ first_command q) × (text ≡ told)
+IsAnswer q (locked minor told) c text = ⊥
+IsAnswer q (taken by told minor) c text = (c ≡ by) × (text ≡ told)
+
+-- the answer of a stage can't be read at this field: the workspace's folder, or any of the metadata
+abbrev pub Lacks : Stage → Name → Type 0
+Lacks begun name = ⊥
+Lacks (versioned minor) name = ⊥
+Lacks to_cargo name = ⊥
+Lacks (newer minor) name = ⊥
+Lacks (first minor text) name = (ms : Members) × (object_in_text text ≡ Some ms) × (root_of ms ≡ Err name)
+Lacks (locked minor text) name = ⊥
+Lacks (taken c text minor) name = (ms : Members) × (object_in_text text ≡ Some ms) × (read_metadata minor ms ≡ Err name)
+
+-- a command that fails at this stage ends the question; stable's cargo may fail
+abbrev pub IsNeeded : Stage → Type 0
+IsNeeded begun = ⊥
+IsNeeded (versioned minor) = ⊥
+IsNeeded to_cargo = Unit {0}
+IsNeeded (newer minor) = Unit {0}
+IsNeeded (first minor text) = Unit {0}
+IsNeeded (locked minor text) = ⊥
+IsNeeded (taken c text minor) = ⊥
+
+-- the lockfile can't be looked for or read before stable's cargo runs, or not be put back after it
+abbrev pub StopsAtFile : Question → Stage → List Call → List Call → FsFault → Type 0
+StopsAtFile q stage mid new f = (minor : ℕ) × (text : Name) × (path : Name) × IsLockfile text path
+    × (((new ≡ mid) × IsUnread path f × ((stage ≡ first minor text) ⊎ (stage ≡ locked minor text)))
+    ⊎ (MayAsk q stage mid new × IsUnwritten path f × (stage ≡ locked minor text)))
+
+-- why a question ends after a stage; at most one more call was made
+abbrev pub StopsQuestion : Question → Stage → List Call → List Call → AskFault → Type 0
+StopsQuestion q stage mid new fault.Memory = MayAsk q stage mid new
+StopsQuestion q stage mid new fault.NoHost = (minor : ℕ) × (stage ≡ versioned minor) × (new ≡ mid) × (q.full ≡ None)
+StopsQuestion q stage mid new (fault.Process p) = IsNeeded stage × ((c : Command) × IsNextCommand q stage c × IsReadFault (Unit {0}) (asked_of true c) (text_of true q.dir c) mid new p)
+StopsQuestion q stage mid new (fault.Files f) = StopsAtFile q stage mid new f
+StopsQuestion q stage mid new (fault.Output shown) = (new ≡ mid) × ((c : Command) × (text : Name) × IsAnswer q stage c text × (object_in_text text ≡ None) × (string_bytes shown ≡ text_of q.verbose q.dir c))
+StopsQuestion q stage mid new (fault.Field name) = (new ≡ mid) × Lacks stage name.now
+
+-- an answer is used: the result is the metadata in it, or the error says why it can't be read
+abbrev pub UsesAnswer : Question → Command → Name → ℕ → List Call → Result Metadata AskFault → Type 0
+UsesAnswer q c text minor now (Ok m) = TellsAs (read_metadata minor) text (metadata_view m)
+UsesAnswer q c text minor now (Err e) = StopsQuestion q (taken c text minor) now now e
+
+-- the full request was made to cargo, and its answer is used; or an error ended the question
+abbrev pub AsksCargo : Question → List Call → List Call → Result Metadata AskFault → Type 0
+AsksCargo q old new r = ((e : AskFault) × (r ≡ Err e) × StopsQuestion q to_cargo old new e)
+    ⊎ ((words : List Name) × (text : Name) × (q.full ≡ Some words) × ReadsOutput (command_line q.cargo words) text old new × UsesAnswer q (command_line q.cargo words) text q.cargo_version new r)
+
+-- cargo's first answer, this text, is used; or the full request, where dependencies are wanted
+abbrev pub FallsBack : Question → Name → List Call → List Call → Result Metadata AskFault → Type 0
+FallsBack q text old new r = ((q.deps ≡ false) × (new ≡ old) × UsesAnswer q (first_command q) text q.cargo_version new r) ⊎ ((q.deps ≡ true) × AsksCargo q old new r)
+
+-- the question ended at the first request to cargo, or at its answer
+abbrev pub FailsFirst : Question → ℕ → List Call → List Call → AskFault → Type 0
+FailsFirst q minor old new e = StopsQuestion q (newer minor) old new e ⊎ ((text : Name) × ReadsOutput (first_command q) text old new × StopsQuestion q (first minor text) new new e)
+
+module _ (tells : Type 0) (q : Question) (held : Contents) (old new : List Call) where
+  -- calls and writes led to a stage where this error ends the question, and `W` holds of the writes
+  abbrev pub Halts : (Stage → List Change → Type 0) → AskFault → Type 0
+  Halts W e = (stage : Stage) × (mid : List Call) × (made : List Change) × LeadsToStage tells q held old stage mid made × StopsQuestion q stage mid new e × W stage made
+
+  -- the metadata are those of the answer that is used, or the error ended the question
+  abbrev pub EndsSo : (Stage → List Change → Type 0) → Result Metadata AskFault → Type 0
+  EndsSo W (Ok m) = (c : Command) × (text : Name) × (minor : ℕ) × (made : List Change) × LeadsToStage tells q held old (taken c text minor) new made × W (taken c text minor) made × TellsAs (read_metadata minor) text (metadata_view m)
+  EndsSo W (Err e) = Halts W e
+
+  -- how a question ended, whatever was written
+  abbrev pub QuestionEndsWith : Result Metadata AskFault → Type 0
+  QuestionEndsWith r = EndsSo (λ stage made. Unit {0}) r
+
+-- just the writes that led to a stage were made; at `locked` the lockfile may be put back too
+abbrev pub Wrote : Type 0 → Contents → (List Change → Type 0) → Stage → List Change → Type 0
+Wrote tells held Made begun made = Made made
+Wrote tells held Made (versioned minor) made = Made made
+Wrote tells held Made to_cargo made = Made made
+Wrote tells held Made (newer minor) made = Made made
+Wrote tells held Made (first minor text) made = Made made
+Wrote tells held Made (locked minor text) made = Made made ⊎ ((put : Change) × PutsBack tells held text put × Made (made ++ put ∷ []))
+Wrote tells held Made (taken c text minor) made = Made made
+
+-- where the files say which changes were made, these are all of them
+abbrev pub WroteWhereKnown : Type 0 → Type 0 → List Change → List Change → Contents → Contents → Stage → List Change → Type 0
+WroteWhereKnown whole tells before now held later stage made = whole → Wrote tells held (λ cs. Makes cs before now held later) stage made
+
+-- why f can't be read from a text
+abbrev pub IsTextFault : {A : Type 0} → (Members → Field A) → Name → Name → AskFault → Type 0
+IsTextFault f text shown fault.Memory = Unit {0}
+IsTextFault f text shown fault.NoHost = ⊥
+IsTextFault f text shown (fault.Process p) = ⊥
+IsTextFault f text shown (fault.Files e) = ⊥
+IsTextFault f text shown (fault.Output told) = (object_in_text text ≡ None) × (string_bytes told ≡ shown)
+IsTextFault f text shown (fault.Field name) = (ms : Members) × (object_in_text text ≡ Some ms) × (f ms ≡ Err name.now)
+
+-- why a text can't be read as an object
+abbrev pub IsObjectFault : Name → Name → AskFault → Type 0
+IsObjectFault text shown fault.Memory = Unit {0}
+IsObjectFault text shown fault.NoHost = ⊥
+IsObjectFault text shown (fault.Process p) = ⊥
+IsObjectFault text shown (fault.Files e) = ⊥
+IsObjectFault text shown (fault.Output told) = (object_in_text text ≡ None) × (string_bytes told ≡ shown)
+IsObjectFault text shown (fault.Field name) = ⊥
+
+-- memory was refused and M holds, or a command failed by an error of which P holds
+abbrev pub FailsAs : Type 0 → (ProcessFault → Type 0) → AskFault → Type 0
+FailsAs M P fault.Memory = M
+FailsAs M P fault.NoHost = ⊥
+FailsAs M P (fault.Process p) = P p
+FailsAs M P (fault.Files e) = ⊥
+FailsAs M P (fault.Output text) = ⊥
+FailsAs M P (fault.Field name) = ⊥

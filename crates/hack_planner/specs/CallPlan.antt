@@ -1,0 +1,170 @@
+-- The plan of a call, and the causes to refuse it.
+use Rattle.std.specs.Prelude.{ℕ, ◌≡◌, ◌++◌, List, [], map, length, string_bytes, Bool, Option, Some, None, Result, Ok, Err}
+use Rattle.std.specs.declared.string.String.{String}
+use Rattle.std.specs.declared.alloc.Global.{Global}
+use Rattle.hack_base.specs.Names.{Name}
+use Rattle.hack_load.specs.Contexts.{ContextRecord}
+use Rattle.hack_planner.specs.ContextMembers.{AreChosen, IsChoiceFault}
+use Rattle.hack_versions.specs.declared.version.Version.{Version}
+use Rattle.hack_versions.specs.declared.version.VersionFault.{VersionFault}
+use Rattle.hack_versions.specs.declared.rustup.RangeFault.{RangeFault}
+use Rattle.hack_base.specs.Notes.{Note}
+use Rattle.hack_plan.specs.Entries.{ArePlaces, HasTooMany}
+use Rattle.hack_plan.specs.Inputs.{AreVersions, AreNotices, IsVersionsFault}
+use Rattle.hack_plan.specs.Spans.{versions_of}
+use Rattle.hack_plan.specs.declared.versions.PlanInput.{PlanInput}
+use Rattle.hack_plan.specs.declared.versions.Versions.{Versions}
+use Rattle.hack_planner.specs.Calls.{IsInputOf, ArePlanned, HasBadOwn, HasNoSample, call_of, left_out_notes}
+use Rattle.hack_plan.specs.Plans.{AreLaid}
+use Rattle.hack_plan.specs.Prepared.{ArePrepared}
+use Rattle.hack_plan.specs.View.{PackageView, PlanView}
+use Rattle.hack_planner.specs.declared.fault.PlanFault.{PlanFault}
+use Rattle.hack_planner.specs.declared.fault.PlanFault.TheVariants as fault
+
+-- the number of runs of each package
+abbrev pub run_counts : List PackageView → List ℕ
+run_counts packages = map (λ k. length k.runs) packages
+
+-- the plan of a call with a subcommand, where `stable` is this version: exactly the admissible runs
+-- of the chosen packages, in order, each version with its places and its preparations; and no cause
+-- to refuse it holds
+pub record IsPlan (cx : ContextRecord) (rustup : Name) (latest : Option Version) (plan : PlanView) (notes : List Note) : Type 0 where
+  pub ids : List ℕ
+  pub single : Bool
+  pub input : PlanInput
+  pub versions : Versions
+  pub on_packages : List Note
+  pub on_features : List Note
+  pub on_range : List Note
+  pub chosen : AreChosen cx ids single on_packages
+  pub of_call : IsInputOf cx ids input
+  pub of_range : AreVersions input versions
+  pub newest : versions.stable ≡ latest
+  pub ranged : AreNotices input.range input latest on_range
+  pub planned : ArePlanned cx single ids plan.packages on_features
+  pub call : plan.call ≡ call_of cx rustup
+  pub places : ArePlaces input (run_counts plan.packages) latest plan.entries
+  pub laid : AreLaid (versions_of input.range versions.groups.items) plan
+  pub prepared : ArePrepared cx.args.locked cx.args.clean_per_version plan.versions
+  pub told : notes ≡ on_packages ++ (on_features ++ (on_range ++ left_out_notes cx ids input versions.groups.items))
+  pub readable : (e : VersionFault) → ¬ HasBadOwn cx ids e
+  pub in_range : (e : RangeFault) → ¬ IsVersionsFault input.range input latest e
+  pub fits : ¬ HasTooMany input (run_counts plan.packages) latest
+
+-- the plan without a version, for a call without a subcommand
+pub record IsEmptyPlan (cx : ContextRecord) (rustup : Name) (plan : PlanView) (notes : List Note) : Type 0 where
+  pub call : plan.call ≡ call_of cx rustup
+  pub packages : plan.packages ≡ []
+  pub versions : plan.versions ≡ []
+  pub entries : plan.entries ≡ []
+  pub told : notes ≡ []
+
+-- the plan, given the answer for `stable`
+abbrev pub IsPlanBy : Result (Option Version) (String Global) → ContextRecord → Name → PlanView → List Note → Type 0
+IsPlanBy (Ok latest) cx rustup plan notes = IsPlan cx rustup latest plan notes
+IsPlanBy (Err text) cx rustup plan notes = ⊥
+
+-- the plan of a call
+abbrev pub IsPlanOf : Option (String Global) → Result (Option Version) (String Global) → ContextRecord → Name → PlanView → List Note → Type 0
+IsPlanOf None stable cx rustup plan notes = IsEmptyPlan cx rustup plan notes
+IsPlanOf (Some subcommand) stable cx rustup plan notes = IsPlanBy stable cx rustup plan notes
+
+-- the own version of one of the chosen packages can't be read
+pub record IsBadVersion (cx : ContextRecord) (e : VersionFault) : Type 0 where
+  pub ids : List ℕ
+  pub single : Bool
+  pub notes : List Note
+  pub chosen : AreChosen cx ids single notes
+  pub bad : HasBadOwn cx ids e
+
+-- the range is refused for the chosen packages
+pub record IsBadRange (cx : ContextRecord) (latest : Option Version) (e : RangeFault) : Type 0 where
+  pub ids : List ℕ
+  pub single : Bool
+  pub notes : List Note
+  pub input : PlanInput
+  pub chosen : AreChosen cx ids single notes
+  pub of_call : IsInputOf cx ids input
+  pub bad : IsVersionsFault input.range input latest e
+
+-- the chosen packages have more than 4294967295 runs in all
+pub record AreTooManyRuns (cx : ContextRecord) (latest : Option Version) : Type 0 where
+  pub ids : List ℕ
+  pub single : Bool
+  pub notes : List Note
+  pub input : PlanInput
+  pub packages : List PackageView
+  pub on_features : List Note
+  pub chosen : AreChosen cx ids single notes
+  pub of_call : IsInputOf cx ids input
+  pub planned : ArePlanned cx single ids packages on_features
+  pub many : HasTooMany input (run_counts packages) latest
+
+-- the sample of one of the chosen packages, of this name, needs too many questions
+pub record IsTooWide (cx : ContextRecord) (name : Name) : Type 0 where
+  pub ids : List ℕ
+  pub single : Bool
+  pub notes : List Note
+  pub chosen : AreChosen cx ids single notes
+  pub wide : HasNoSample cx ids name
+
+-- the causes to refuse a call with a subcommand, where `stable` is this version
+abbrev pub IsCause : ContextRecord → Option Version → PlanFault → Type 0
+IsCause cx latest fault.Memory = ⊥
+IsCause cx latest (fault.Stable text) = ⊥
+IsCause cx latest (fault.Packages e) = IsChoiceFault cx e
+IsCause cx latest (fault.Version e) = IsBadVersion cx e
+IsCause cx latest (fault.Range e) = IsBadRange cx latest e
+IsCause cx latest (fault.TooManyQuestions name) = IsTooWide cx (string_bytes name)
+IsCause cx latest fault.TooManyRuns = AreTooManyRuns cx latest
+
+-- the causes that leave no plan, whatever samples are found: with a strength another sample could have too many runs, or need
+-- too many questions
+abbrev pub IsSureCause : ContextRecord → Option Version → PlanFault → Type 0
+IsSureCause cx latest fault.Memory = ⊥
+IsSureCause cx latest (fault.Stable text) = ⊥
+IsSureCause cx latest (fault.Packages e) = IsChoiceFault cx e
+IsSureCause cx latest (fault.Version e) = IsBadVersion cx e
+IsSureCause cx latest (fault.Range e) = IsBadRange cx latest e
+IsSureCause cx latest (fault.TooManyQuestions name) = (cx.args.strength ≡ None) × IsTooWide cx (string_bytes name)
+IsSureCause cx latest fault.TooManyRuns = (cx.args.strength ≡ None) × AreTooManyRuns cx latest
+
+-- the causes, given the answer for `stable`: its error, or one of the causes above
+abbrev pub IsCauseBy : Result (Option Version) (String Global) → ContextRecord → PlanFault → Type 0
+IsCauseBy (Ok latest) cx e = IsCause cx latest e
+IsCauseBy (Err text) cx e = e ≡ fault.Stable text
+
+-- the causes to refuse a call: it has a subcommand, and a cause holds
+abbrev pub IsCauseOf : Option (String Global) → Result (Option Version) (String Global) → ContextRecord → PlanFault → Type 0
+IsCauseOf None stable cx e = ⊥
+IsCauseOf (Some subcommand) stable cx e = IsCauseBy stable cx e
+
+-- the sure causes, given the answer for `stable`: its error, or one of the sure causes above
+abbrev pub IsSureCauseBy : Result (Option Version) (String Global) → ContextRecord → PlanFault → Type 0
+IsSureCauseBy (Ok latest) cx e = IsSureCause cx latest e
+IsSureCauseBy (Err text) cx e = e ≡ fault.Stable text
+
+-- the sure causes to refuse a call: it has a subcommand, and a sure cause holds
+abbrev pub IsSureCauseOf : Option (String Global) → Result (Option Version) (String Global) → ContextRecord → PlanFault → Type 0
+IsSureCauseOf None stable cx e = ⊥
+IsSureCauseOf (Some subcommand) stable cx e = IsSureCauseBy stable cx e
+
+-- the error says that the packages aren't known
+abbrev pub SaysPackagesUnknown : ContextRecord → PlanFault → Type 0
+SaysPackagesUnknown cx fault.Memory = ⊥
+SaysPackagesUnknown cx (fault.Stable text) = ⊥
+SaysPackagesUnknown cx (fault.Packages e) = IsChoiceFault cx e
+SaysPackagesUnknown cx (fault.Version e) = ⊥
+SaysPackagesUnknown cx (fault.Range e) = ⊥
+SaysPackagesUnknown cx (fault.TooManyQuestions name) = ⊥
+SaysPackagesUnknown cx fault.TooManyRuns = ⊥
+
+-- the error says that the range is refused
+abbrev pub SaysRangeRefused : PlanInput → Option Version → PlanFault → Type 0
+SaysRangeRefused s latest fault.Memory = ⊥
+SaysRangeRefused s latest (fault.Stable text) = ⊥
+SaysRangeRefused s latest (fault.Packages e) = ⊥
+SaysRangeRefused s latest (fault.Version e) = ⊥
+SaysRangeRefused s latest (fault.Range e) = IsVersionsFault s.range s latest e
+SaysRangeRefused s latest (fault.TooManyQuestions name) = ⊥
+SaysRangeRefused s latest fault.TooManyRuns = ⊥

@@ -1,0 +1,47 @@
+-- The sets of features that a plan covers.
+use Rattle.std.specs.Prelude.{ℕ, ◌≡◌, ◌<◌, List, Bool, Option, Some, length, Contains, IsSomeAnd, slice_get}
+use Rattle.hack_features.specs.Rules.{Choice, IsWanted, Covers}
+use Rattle.hack_features.specs.Sets.{IsSelection}
+use Rattle.hack_load.specs.Contexts.{ContextRecord, package_at, features_at}
+use Rattle.hack_load.specs.declared.features.Features.{Features}
+use Rattle.hack_metadata.specs.Records.{PackageRecord}
+use Rattle.hack_planner.specs.Candidates.{candidates}
+use Rattle.hack_planner.specs.CandidatesView.{wishes}
+use Rattle.hack_planner.specs.ContextMembers.{AreChosen, known_as}
+use Rattle.hack_planner.specs.Kinds.{package_choice}
+use Rattle.hack_plan.specs.Runs.{Set}
+use Rattle.hack_plan.specs.Inputs.{IsStepList, UsesVersion, slots_of}
+use Rattle.hack_plan.specs.declared.versions.PlanInput.{PlanInput}
+use Rattle.hack_plan.specs.View.{PlanView}
+use Rattle.hack_versions.specs.declared.version.Version.{Version}
+use Rattle.hack_base.specs.Notes.{Note}
+use Rattle.hack_planner.specs.Calls.{IsInputOf}
+
+-- the input from which the sets of a package are chosen
+abbrev pub choice_at : ContextRecord → PackageRecord → Features → Choice
+choice_at cx p features = package_choice (wishes cx.args) (known_as p features)
+
+-- the plan holds a place of the version, slot and package, whose run has a set that covers this one
+pub record HoldsCover (plan : PlanView) (version : Option Version) (slot place : ℕ) (choice : Choice) (s : List ℕ) : Type 0 where
+  pub rank : ℕ
+  pub set : List ℕ
+  pub held : Contains plan.entries (record { version = version; slot = slot; «package» = Some place; rank = rank })
+  pub run : IsSomeAnd (slice_get plan.packages place) (λ k. slice_get k.runs rank ≡ Some (Set set))
+  pub covers : Covers choice s set
+
+-- the plan holds such a place for each chosen package, each version that it uses, each slot of the
+-- version and each set of its candidates that has to be covered
+pub record AreCovered (cx : ContextRecord) (latest : Option Version) (plan : PlanView) : Type 0 where
+  pub ids : List ℕ
+  pub single : Bool
+  pub notes : List Note
+  pub input : PlanInput
+  pub steps : List Version
+  pub chosen : AreChosen cx ids single notes
+  pub of_call : IsInputOf cx ids input
+  pub on_steps : IsStepList input.range input latest steps
+  pub covered : (place id : ℕ) (p : PackageRecord) (features : Features) (version : Option Version) (slot : ℕ) (s : List ℕ)
+      → slice_get ids place ≡ Some id → package_at cx id ≡ Some p → features_at cx id ≡ Some features
+      → UsesVersion input.range input steps version place → slot < slots_of input version
+      → IsSelection (length (candidates (wishes cx.args) (known_as p features))) s → IsWanted (choice_at cx p features) s
+      → HoldsCover plan version slot place (choice_at cx p features) s

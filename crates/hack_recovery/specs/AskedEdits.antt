@@ -1,0 +1,46 @@
+-- What a command line asks of manifests.
+use Rattle.std.specs.Prelude.{◌≡◌, ◌||◌, ◌^◌, ◌-◌, Bool, true, false, List, Option, None, if◌then◌else◌}
+use Rattle.hack_base.specs.Names.{Name, optional_text}
+use Rattle.hack_base.specs.Notes.{Note}
+use Rattle.hack_rules.specs.CliFaults.{Fault}
+use Rattle.hack_versions.specs.declared.rustup.Rustup.{Rustup}
+use Rattle.hack_versions.specs.declared.rustup.Rustup.TheVariants.{Unasked}
+use Rattle.hack_words.specs.ParseAnswers.{AnswersCommandLine as IsAnswer, around_of}
+use Rattle.hack_words.specs.CommandLine.{ComesTo, Faulty}
+use Rattle.hack_words.specs.declared.cli.args.Args.{Args}
+use Rattle.hack_words.specs.declared.cli.env.Env.{Env}
+use Rattle.hack_words.specs.declared.cli.parse.Parsed.{Parsed}
+use Rattle.hack_words.specs.declared.cli.parse.Parsed.TheVariants as answer
+use Rattle.hack_recovery.specs.declared.asked.Edits.{Edits}
+use Rattle.hack_recovery.specs.declared.asked.Edits.TheVariants as edits
+
+-- what arguments do to manifests: `--remove-dev-deps` edits them permanently, `--no-dev-deps` and
+-- `--no-private` edit them and bring them back, and all others leave them
+abbrev pub edits_asked : Args → Edits
+edits_asked args = if args.remove_dev_deps then edits.Good else (if args.no_dev_deps || args.no_private then edits.Back else edits.None)
+
+-- what a parsed command line does to manifests: nothing, where it asks for a text or a list
+abbrev pub edits_by : Parsed → Edits
+edits_by (answer.Args args) = edits_asked args
+edits_by (answer.Print text) = edits.None
+edits_by answer.List = edits.None
+
+-- a call edits manifests, permanently or not
+abbrev pub is_edit : Edits → Bool
+is_edit edits.None = false
+is_edit edits.Back = true
+is_edit edits.Good = true
+
+-- the manifest that a parsed command line names
+abbrev pub manifest_by : Parsed → Option Name
+manifest_by (answer.Args args) = optional_text args.manifest_path
+manifest_by (answer.Print text) = None
+manifest_by answer.List = None
+
+-- what a command line does to manifests, and the one that it names: what it is parsed into says
+-- so, and one that is refused does nothing and names none; what is known of rustup matters only for
+-- whether it is refused
+pub data AsksFor (env : Env) (words : List Name) (does : Edits) (path : Option Name) : Type 0 where
+  parsed : (read : Parsed) (notes : List Note) → IsAnswer (around_of env Unasked) (ComesTo (around_of env Unasked) words) read notes
+      → does ≡ edits_by read → path ≡ manifest_by read → AsksFor env words does path
+  faulty : (told : Fault) → ComesTo (around_of env Unasked) words (Faulty told) → does ≡ edits.None → path ≡ None → AsksFor env words does path

@@ -1,0 +1,211 @@
+-- The ways that a call can go.
+use Rattle.std.specs.Prelude.{◌≡◌, ◌↔◌, ◌⊎◌, ◌≤◌, ℕ, zero, suc, Bool, true, false, IsTrue, IsSome, List, None, Ok, Err, Option, Result, string_bytes}
+use Rattle.hack_base.specs.Names.{Name}
+use Rattle.hack_files.specs.Files.{Contents, GrowsBy, KeepsAll, KeepsOthers}
+use Rattle.hack_journal.specs.Recovery.{CountsRecoverFault, IsJournalRefusal, IsRestored, IsWhy}
+use Rattle.hack_journal.specs.SafeFiles.{IsSafe, StaysSafe}
+use Rattle.hack_journal.specs.declared.recover.RecoverFault.{RecoverFault}
+use Rattle.hack_load.specs.FilesAfterLoading.{LeavesFew}
+use Rattle.hack_process.specs.Calls.{Call, MayAdd}
+use Rattle.hack_run.specs.Journals.{contents_seen}
+use Rattle.hack_run.specs.CallTrace.{MadeOnce}
+use Rattle.hack_run.specs.Questions.{rustup_asked}
+use Rattle.hack_run.specs.TemporaryEdits.{IsClean, RestoresEdits}
+use Rattle.hack_run.specs.Warnings.{seen_of}
+use Rattle.hack_run.specs.Success.{AreRefused, IsDone}
+use Rattle.hack_term.specs.declared.term.Term.{Term}
+use Rattle.hack_words.specs.declared.cli.env.Env.{Env}
+use Rattle.hack_recovery.specs.declared.admit.Way.{Way}
+use Rattle.hack_recovery.specs.declared.admit.Way.TheVariants.{Plain, Guarded}
+use Rattle.hack_recovery.specs.declared.asked.Edits.{Edits}
+use Rattle.hack_recovery.specs.declared.asked.Edits.TheVariants as edits
+use Rattle.hack_recovery.specs.declared.fault.CallFault.{CallFault}
+use Rattle.hack_recovery.specs.declared.fault.CallFault.TheVariants.{Busy, Unlocked}
+use Rattle.hack_recovery.specs.AskedEdits.{AsksFor}
+use Rattle.hack_recovery.specs.LockEvents.{LocksView, after_release}
+use Rattle.hack_recovery.specs.Folders.{journal_of, start_at, workspace_from}
+use Rattle.hack_recovery.specs.Admission.{IsAdmitted}
+use Rattle.hack_recovery.specs.FileLooks.{FilesView, Finds, Unchanged}
+use Rattle.hack_recovery.specs.Strangers.{NamesStranger, NamesNone}
+
+-- ---- what a call sees and changes
+
+-- the files, what lockfiles hold, the locks, the calls of programs, what was printed, and what was
+-- reported
+pub record World : Type 0 where
+  pub files : FilesView
+  pub lockfiles : Contents
+  pub locks : LocksView
+  pub calls : List Call
+  pub out : Option (List ℕ)
+  pub term : Term
+
+-- these files and lockfiles, these locks and calls, this output and this report
+abbrev pub world_of : FilesView → Contents → LocksView → List Call → Option (List ℕ) → Term → World
+world_of files lockfiles locks calls out term = record { files = files; lockfiles = lockfiles; locks = locks; calls = calls; out = out; term = term }
+
+-- files were looked at, and a lock may have been taken: nothing was changed, called or printed
+pub record Untouched (tells whole : Type 0) (old new : World) : Type 0 where
+  pub files : Unchanged tells whole old.files new.files
+  pub lockfiles : new.lockfiles ≡ old.lockfiles
+  pub calls : new.calls ≡ old.calls
+  pub out : new.out ≡ old.out
+
+-- an error was reported
+abbrev pub IsFailed : World → Type 0
+IsFailed new = new.term.error ≡ true
+
+-- ---- the beginning
+
+-- what the call does to manifests, its workspace's folder, the journal in there, and whether a file
+-- is at the journal's path; where edits are to come back, the call asks for none that stay
+pub record FindsJournal (tells : Type 0) (words : List Name) (env : Env) (does : Edits) (folder journal : Name) (there : Bool) (old new : FilesView) : Type 0 where
+  pub path : Option Name
+  pub asked : AsksFor env words does path
+  pub back : does ≡ edits.Back → RestoresEdits env words
+  pub place : journal ≡ journal_of folder
+  pub found : Finds tells old.failed new.failed (folder ≡ workspace_from old.held (start_at path (string_bytes env.current_dir)))
+  pub seen : Finds tells old.failed new.failed (IsTrue there ↔ IsSome (old.held journal))
+
+-- with only looks at files, the call came to this answer on how it may go on
+pub record DecidesHowToGoOn (tells whole records : Type 0) (words : List Name) (env : Env) (does : Edits) (folder journal : Name) (old new : World) (came : Result Way CallFault) : Type 0 where
+  pub there : Bool
+  pub begins : FindsJournal tells words env does folder journal there old.files new.files
+  pub admitted : IsAdmitted records does folder there old.locks new.locks came
+  pub untouched : Untouched tells whole old new
+
+-- ---- what an interrupted call left
+
+-- what it left was brought back: `count` files held something else, and the journal is gone
+pub record Recovers (tells whole : Type 0) (journal : Name) (count : ℕ) (old new : FilesView) : Type 0 where
+  pub failures : GrowsBy 0 old.failed new.failed
+  pub restored : tells → IsRestored journal count old.held new.held
+  pub comes_back : tells → (first : Contents) → IsSafe journal first old.held → KeepsOthers journal first new.held
+  pub safe : tells → whole → (first : Contents) → IsSafe journal first old.held → StaysSafe journal first old.trace new.trace old.held new.held
+
+-- it could not be brought back, or not all of it: the error says why, and what isn't back is still
+-- in the journal
+pub record FailsToRestore (tells whole : Type 0) (journal : Name) (fault : RecoverFault) (old new : FilesView) : Type 0 where
+  pub failures : CountsRecoverFault old.failed new.failed fault
+  pub why : IsWhy journal tells old.held fault
+  pub refused : IsJournalRefusal fault → tells → KeepsAll old.held new.held
+  pub never : IsJournalRefusal fault → tells → (first : Contents) → ¬ IsSafe journal first old.held
+  pub safe : tells → whole → (first : Contents) → IsSafe journal first old.held → StaysSafe journal first old.trace new.trace old.held new.held
+
+-- only looked at, the journal names no stranger
+pub record Trusts (tells whole : Type 0) (folder journal : Name) (old new : FilesView) : Type 0 where
+  pub unchanged : Unchanged tells whole old new
+  pub none : Finds tells old.failed new.failed (NamesNone folder journal old.held)
+
+-- a warning is noted where files were brought back
+abbrev pub noted : ℕ → Term → Term
+noted zero term = term
+noted (suc k) term = record term { warn = true }
+
+-- what came of bringing back what the journal keeps: it is back, or it can't be brought back and an
+-- error was reported; or memory was refused for the report
+pub data IsBroughtBack (tells whole : Type 0) (journal : Name) (old new : FilesView) (was now : Term) (came : Result Bool CallFault) : Type 0 where
+  brought : (count : ℕ) → Recovers tells whole journal count old new → now ≡ noted count was → came ≡ Ok true → IsBroughtBack tells whole journal old new was now came
+  stopped : (fault : RecoverFault) → FailsToRestore tells whole journal fault old new → now.error ≡ true → came ≡ Ok false → IsBroughtBack tells whole journal old new was now came
+  back_unreported : (count : ℕ) (fault : CallFault) → Recovers tells whole journal count old new → came ≡ Err fault → IsBroughtBack tells whole journal old new was now came
+  stopped_unreported : (fault : RecoverFault) (told : CallFault) → FailsToRestore tells whole journal fault old new → came ≡ Err told → IsBroughtBack tells whole journal old new was now came
+
+-- what became of what an interrupted call left: it names a stranger, which was reported, and
+-- nothing is changed; or it names none, and what it keeps was brought back as said above; or memory
+-- was refused before that, and nothing is changed
+pub data Restores (tells whole : Type 0) (folder journal : Name) (old new : FilesView) (was now : Term) (came : Result Bool CallFault) : Type 0 where
+  strange : (path : Name) → NamesStranger tells folder journal old.held path → Unchanged tells whole old new → now.error ≡ true → came ≡ Ok false
+      → Restores tells whole folder journal old new was now came
+  trusted : (at : FilesView) → Trusts tells whole folder journal old at → IsBroughtBack tells whole journal at new was now came
+      → Restores tells whole folder journal old new was now came
+  unread : (fault : CallFault) → Unchanged tells whole old new → came ≡ Err fault → Restores tells whole folder journal old new was now came
+
+-- ---- the call itself
+
+-- the call was performed without a journal: it meets what `run` promises
+pub record PerformsUnjournaled (tells talks : Type 0) (words : List Name) (env : Env) (old new : World) : Type 0 where
+  pub refused : AreRefused env words → (new.term.error ≡ true) × (talks → MayAdd (rustup_asked (string_bytes env.rustup)) old.calls new.calls)
+  pub done : new.term.error ≡ false → talks
+      → IsDone tells words env old.files.held new.files.held old.files.failed (seen_of old.term.warn new.term old.out new.out) old.calls new.calls
+  pub made : talks → MadeOnce tells words env old.files.held old.files.failed old.out new.out old.calls new.calls
+  pub back : RestoresEdits env words → tells → LeavesFew (Unit {0}) old.files.held new.files.held old.files.failed new.files.failed
+  pub clean : new.term.error ≡ false → IsClean (RestoresEdits env words) tells old.files.held new.files.held old.files.failed new.files.failed
+  pub lockfiles : new.lockfiles ≡ old.lockfiles
+  pub locks : new.locks ≡ old.locks
+
+-- the call was performed with a journal at this path, and so many calls of files failed: it meets
+-- what `run_journaled` promises
+pub record Journals (tells whole locked talks : Type 0) (words : List Name) (env : Env) (journal : Name) (failed : ℕ) (old new : World) : Type 0 where
+  pub refused : AreRefused env words → (new.term.error ≡ true) × (talks → MayAdd (rustup_asked (string_bytes env.rustup)) old.calls new.calls)
+  pub done : new.term.error ≡ false → talks
+      → IsDone (tells × locked) words env (contents_seen journal old.files.held old.lockfiles) (contents_seen journal new.files.held new.lockfiles) 0
+      (seen_of old.term.warn new.term old.out new.out) old.calls new.calls
+  pub made : talks → MadeOnce (tells × locked) words env (contents_seen journal old.files.held old.lockfiles) 0 old.out new.out old.calls new.calls
+  pub clean : new.term.error ≡ false → RestoresEdits env words → tells → locked
+      → KeepsAll (contents_seen journal old.files.held old.lockfiles) (contents_seen journal new.files.held new.lockfiles)
+  pub back : RestoresEdits env words → tells → locked
+      → LeavesFew (Unit {0}) (contents_seen journal old.files.held old.lockfiles) (contents_seen journal new.files.held new.lockfiles) 0 failed
+  pub few : new.term.error ≡ false → failed ≤ 1
+  pub gone : RestoresEdits env words → tells → whole → locked → failed ≡ 0 → old.files.held journal ≡ None → new.files.held journal ≡ None
+  pub safe : tells → whole → old.files.held journal ≡ None → StaysSafe journal old.files.held old.files.trace new.files.trace old.files.held new.files.held
+  pub locks : new.locks ≡ old.locks
+
+-- after it no file is at the journal's path, or one is, which is reported as a warning
+abbrev pub IsJournalClosed : Type 0 → Name → FilesView → FilesView → Term → Term → Type 0
+IsJournalClosed tells journal old new was now =
+    ((now ≡ was) × Finds tells old.failed new.failed (¬ IsSome (old.held journal)))
+    ⊎ ((now ≡ record was { warn = true }) × (tells → IsSome (old.held journal)))
+
+-- after it the journal's path was only looked at, and a journal that stays was reported; or memory was
+-- refused for that, which is an error
+pub record Closes (tells whole : Type 0) (journal : Name) (old new : World) : Type 0 where
+  pub untouched : Untouched tells whole old new
+  pub locks : new.locks ≡ old.locks
+  pub told : IsJournalClosed tells journal old.files new.files old.term new.term ⊎ IsFailed new
+
+-- ---- the ways
+
+-- how a call with a journal goes: it is performed, and then a journal that stays is reported; or
+-- memory was refused before it was, and nothing is changed or called
+pub data IsJournaledCall (tells whole locked talks : Type 0) (words : List Name) (env : Env) (journal : Name) (old new : World) : Type 0 where
+  performed : (failed : ℕ) (last : World) → Journals tells whole locked talks words env journal failed old last → Closes tells whole journal last new
+      → IsJournaledCall tells whole locked talks words env journal old new
+  unstarted : new ≡ record old { term = new.term } → IsFailed new → IsJournaledCall tells whole locked talks words env journal old new
+
+-- how a call is performed under its own lock, by what it does to manifests
+pub data Continues (tells whole locked talks records : Type 0) (words : List Name) (env : Env) (does : Edits) (journal : Name) (old new : World) : Type 0 where
+  -- nothing is to be edited: the lock is let go first, and there is no journal
+  unedited : (locks : LocksView) → does ≡ edits.None → (records → locks ≡ after_release old.locks) → PerformsUnjournaled tells talks words env (record old { locks = locks }) new
+      → Continues tells whole locked talks records words env does journal old new
+  -- edits stay: there is no journal
+  good : does ≡ edits.Good → PerformsUnjournaled tells talks words env old new → Continues tells whole locked talks records words env does journal old new
+  -- edits come back: there is a journal
+  journaled : does ≡ edits.Back → IsJournaledCall tells whole locked talks words env journal old new → Continues tells whole locked talks records words env does journal old new
+
+-- how a call goes under its own lock: what an interrupted call left is brought back before anything
+-- else is changed, and before anything is called
+pub data LockedCallLeadsTo (tells whole locked talks records : Type 0) (words : List Name) (env : Env) (does : Edits) (folder journal : Name) (old new : World) : Type 0 where
+  -- that can't be brought back: the call ends
+  ended : Restores tells whole folder journal old.files new.files old.term new.term (Ok false) → new ≡ record old { files = new.files; term = new.term } → IsFailed new
+      → LockedCallLeadsTo tells whole locked talks records words env does folder journal old new
+  -- memory was refused meanwhile: the call ends
+  cut_short : (term : Term) (fault : CallFault) → Restores tells whole folder journal old.files new.files old.term term (Err fault)
+      → new ≡ record old { files = new.files; term = new.term } → IsFailed new → LockedCallLeadsTo tells whole locked talks records words env does folder journal old new
+  -- it is back: the call is performed
+  went_on : (files : FilesView) (term : Term) → Restores tells whole folder journal old.files files old.term term (Ok true)
+      → Continues tells whole locked talks records words env does journal (record old { files = files; term = term }) new
+      → LockedCallLeadsTo tells whole locked talks records words env does folder journal old new
+
+-- how a call goes
+pub data CallLeadsTo (tells whole locked talks records : Type 0) (words : List Name) (env : Env) (old new : World) : Type 0 where
+  -- memory was refused before it began: nothing was changed or called
+  starved : Untouched tells whole old new → IsFailed new → CallLeadsTo tells whole locked talks records words env old new
+  -- another call has the lock, there is none, or memory was refused: nothing was changed or called
+  turned_away : (does : Edits) (folder journal : Name) (fault : CallFault) → DecidesHowToGoOn tells whole records words env does folder journal old new (Err fault) → IsFailed new
+      → CallLeadsTo tells whole locked talks records words env old new
+  -- nothing is to be guarded, or nothing can be: the call is performed without a journal
+  without_journal : (does : Edits) (folder journal : Name) (at : World) → DecidesHowToGoOn tells whole records words env does folder journal old at (Ok Plain) → at.term ≡ old.term
+      → PerformsUnjournaled tells talks words env at new → CallLeadsTo tells whole locked talks records words env old new
+  -- the lock is this call's
+  under_its_lock : (does : Edits) (folder journal : Name) (at : World) → DecidesHowToGoOn tells whole records words env does folder journal old at (Ok Guarded) → at.term ≡ old.term
+      → LockedCallLeadsTo tells whole locked talks records words env does folder journal at new → CallLeadsTo tells whole locked talks records words env old new

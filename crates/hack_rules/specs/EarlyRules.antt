@@ -1,0 +1,170 @@
+-- The rules that are checked before the one on a missing subcommand.
+use Rattle.std.specs.Prelude.{ℕ, ◌&&◌, ◌||◌, not, List, [], ◌∷◌, Bool, false, Option, Some, None, codes, nat_eq, bytes_eq, option_map, if◌then◌else◌}
+use Rattle.std.specs.List.{list_any, starts_with}
+use Rattle.hack_options.specs.declared.opt.Opt.{Opt}
+use Rattle.hack_options.specs.declared.opt.Opt.TheVariants as opt
+use Rattle.hack_uses.specs.declared.behavior.WorkspaceBehavior.{WorkspaceBehavior}
+use Rattle.hack_uses.specs.Behavior.{is_cargo}
+use Rattle.hack_uses.specs.PassedWords.{leading_of}
+use Rattle.hack_uses.specs.Uses.{Use, is_given, subcommand_of}
+use Rattle.hack_uses.specs.Values.{value_given, values_given}
+use Rattle.hack_rules.specs.declared.fault.Beside.TheVariants as beside
+use Rattle.hack_rules.specs.CliFaults.{Fault, Color, TermColor, Single, BesideSubcommand, Install, Clash, ClashWord, Excluded}
+use Rattle.hack_rules.specs.CliLists.{first_fault_of}
+use Rattle.hack_rules.specs.CliValues.{unless_read, depth_fault}
+use Rattle.hack_term.specs.Lines.{coloring_of}
+use Rattle.hack_base.specs.Lists.{is_list}
+use Rattle.hack_rules.specs.ListedFeatures.{Listed}
+use Rattle.hack_rules.specs.Rules.{fault_if, first_of, of_value, needs, clash, is_nonempty, is_among}
+
+-- the error of a text that names no colouring
+abbrev pub coloring_fault : (List ℕ → Fault) → List ℕ → Option Fault
+coloring_fault fault text = unless_read (fault text) (coloring_of text)
+
+-- colour: that of the command line, else that of the environment
+abbrev pub color_rule : Option (List ℕ) → Option (List ℕ) → Option Fault
+color_rule (Some said) env = coloring_fault Color said
+color_rule None env = of_value (coloring_fault TermColor) env
+
+-- --ignore-unknown-features needs a list of features
+abbrev pub unknown_rule : Listed → List Use → Option Fault
+unknown_rule l us =
+    needs (is_given opt.IgnoreUnknownFeatures us) opt.IgnoreUnknownFeatures beside.FeatureLists
+    (is_nonempty l.features || is_nonempty l.includes || is_given opt.GroupFeatures us)
+
+-- --each-feature or --feature-powerset is given
+abbrev pub is_each : List Use → Bool
+is_each us = is_given opt.EachFeature us || is_given opt.FeaturePowerset us
+
+-- options that need --each-feature or --feature-powerset; a list counts where it has a name
+abbrev pub each_rules : Listed → List Use → List (Option Fault)
+each_rules l us =
+    needs (is_given opt.OptionalDeps us) opt.OptionalDeps beside.EachOrPowerset (is_each us)
+    ∷ needs (is_nonempty l.excludes) opt.ExcludeFeatures beside.EachOrPowerset (is_each us)
+    ∷ needs (is_given opt.ExcludeNoDefaultFeatures us) opt.ExcludeNoDefaultFeatures beside.EachOrPowerset (is_each us)
+    ∷ needs (is_given opt.ExcludeAllFeatures us) opt.ExcludeAllFeatures beside.EachOrPowerset (is_each us)
+    ∷ needs (is_nonempty l.includes) opt.IncludeFeatures beside.EachOrPowerset (is_each us)
+    ∷ needs (is_given opt.IncludeDepsFeatures us) opt.IncludeDepsFeatures beside.EachOrPowerset (is_each us)
+    ∷ []
+
+-- options that need --feature-powerset
+abbrev pub powerset_rules : List Use → List (Option Fault)
+powerset_rules us =
+    needs (is_given opt.Depth us) opt.Depth beside.Powerset (is_given opt.FeaturePowerset us)
+    ∷ needs (is_given opt.GroupFeatures us) opt.GroupFeatures beside.Powerset (is_given opt.FeaturePowerset us)
+    ∷ needs (is_given opt.MutuallyExclusiveFeatures us) opt.MutuallyExclusiveFeatures beside.Powerset (is_given opt.FeaturePowerset us)
+    ∷ needs (is_given opt.AtLeastOneOf us) opt.AtLeastOneOf beside.Powerset (is_given opt.FeaturePowerset us)
+    ∷ []
+
+-- each use of a group has a comma or a space
+abbrev pub single_rule : Opt → List Use → Option Fault
+single_rule option us = fault_if (list_any (λ text. not (is_list text)) (values_given option us)) (Single option)
+
+-- the same of the three options that take groups
+abbrev pub single_rules : List Use → List (Option Fault)
+single_rules us = single_rule opt.GroupFeatures us ∷ single_rule opt.MutuallyExclusiveFeatures us ∷ single_rule opt.AtLeastOneOf us ∷ []
+
+-- test and bench need dev-dependencies, and the subcommand install is refused
+abbrev pub subcommand_rule : Option (List ℕ) → List Use → Option Fault
+subcommand_rule None us = None
+subcommand_rule (Some word) us =
+    if bytes_eq word (codes "test") || bytes_eq word (codes "bench") then
+    (if is_given opt.RemoveDevDeps us then Some (BesideSubcommand opt.RemoveDevDeps word) else fault_if (is_given opt.NoDevDeps us) (BesideSubcommand opt.NoDevDeps word))
+    else fault_if (bytes_eq word (codes "install")) Install
+
+-- no runs by features where Cargo handles workspaces
+abbrev pub cargo_rule : WorkspaceBehavior → Opt → List Use → Option Fault
+cargo_rule behavior option us = fault_if (is_cargo behavior && is_given option us) (Clash opt.WorkspaceBehavior option)
+
+-- an argument for cargo that selects targets which need dev-dependencies
+abbrev pub is_target_flag : List ℕ → Bool
+is_target_flag w =
+    bytes_eq w (codes "--example") || bytes_eq w (codes "--examples") || bytes_eq w (codes "--test") || bytes_eq w (codes "--tests")
+    || bytes_eq w (codes "--bench") || bytes_eq w (codes "--benches") || bytes_eq w (codes "--all-targets")
+
+-- the same with the target's name
+abbrev pub is_target_name : List ℕ → Bool
+is_target_name w = starts_with nat_eq w (codes "--example=") || starts_with nat_eq w (codes "--test=") || starts_with nat_eq w (codes "--bench=")
+
+-- either of the two
+abbrev pub is_target_word : List ℕ → Bool
+is_target_word w = is_target_flag w || is_target_name w
+
+-- the first such argument
+abbrev pub first_target_word : List (List ℕ) → Option (List ℕ)
+first_target_word [] = None
+first_target_word (w ∷ ws) = if is_target_word w then Some w else first_target_word ws
+
+-- dev-dependencies can't be left out beside such an argument
+abbrev pub target_rule : List Use → Option (List ℕ) → Option Fault
+target_rule us None = None
+target_rule us (Some word) = if is_given opt.RemoveDevDeps us then Some (ClashWord opt.RemoveDevDeps word) else fault_if (is_given opt.NoDevDeps us) (ClashWord opt.NoDevDeps word)
+
+-- a list of features to include excludes some options
+abbrev pub include_rules : Listed → List Use → List (Option Fault)
+include_rules l us =
+    fault_if (is_nonempty l.includes && is_given opt.OptionalDeps us) (Clash opt.IncludeFeatures opt.OptionalDeps)
+    ∷ fault_if (is_nonempty l.includes && is_given opt.IncludeDepsFeatures us) (Clash opt.IncludeFeatures opt.IncludeDepsFeatures)
+    ∷ []
+
+-- pairs of options that exclude each other
+abbrev pub pair_rules : List Use → List (Option Fault)
+pair_rules us =
+    clash opt.NoDevDeps opt.RemoveDevDeps us
+    ∷ clash opt.EachFeature opt.FeaturePowerset us
+    ∷ clash opt.AllFeatures opt.EachFeature us
+    ∷ clash opt.AllFeatures opt.FeaturePowerset us
+    ∷ clash opt.NoDefaultFeatures opt.EachFeature us
+    ∷ clash opt.NoDefaultFeatures opt.FeaturePowerset us
+    ∷ []
+
+-- one of the groups has this name
+abbrev pub is_in_group : List (List (List ℕ)) → List ℕ → Bool
+is_in_group groups name = list_any (λ group. is_among group name) groups
+
+-- one of the optional dependencies has this name
+abbrev pub is_optional : Option (List (List ℕ)) → List ℕ → Bool
+is_optional (Some names) name = is_among names name
+is_optional None name = false
+
+-- the first option that names this feature
+abbrev pub option_naming : Listed → List ℕ → Option Opt
+option_naming l name =
+    if is_among l.features name then Some opt.Features
+    else if is_optional l.optional name then Some opt.OptionalDeps
+    else if is_in_group l.groups name then Some opt.GroupFeatures
+    else if is_in_group l.exclusive name then Some opt.MutuallyExclusiveFeatures
+    else if is_among l.includes name then Some opt.IncludeFeatures
+    else None
+
+-- no option names a feature that is excluded
+abbrev pub excluded_rule : Listed → List (List ℕ) → Option Fault
+excluded_rule l [] = None
+excluded_rule l (name ∷ names) = first_fault_of (option_map (Excluded name) (option_naming l name)) (excluded_rule l names)
+
+-- the rules on colour, on options that need lists or runs by features, and on the depth
+abbrev pub early_rules : Option (List ℕ) → Listed → List Use → List (Option Fault)
+early_rules term_color l us =
+    color_rule (value_given opt.Color us) term_color
+    ∷ unknown_rule l us
+    ∷ first_of (each_rules l us)
+    ∷ first_of (powerset_rules us)
+    ∷ of_value depth_fault (value_given opt.Depth us)
+    ∷ []
+
+-- the rules on groups, and on options that exclude each other
+abbrev pub together_rules : WorkspaceBehavior → Listed → List Use → List (Option Fault)
+together_rules behavior l us =
+    first_of (single_rules us)
+    ∷ subcommand_rule (subcommand_of us) us
+    ∷ cargo_rule behavior opt.EachFeature us
+    ∷ cargo_rule behavior opt.FeaturePowerset us
+    ∷ target_rule us (first_target_word (leading_of behavior us))
+    ∷ first_of (include_rules l us)
+    ∷ first_of (pair_rules us)
+    ∷ excluded_rule l l.excludes
+    ∷ []
+
+-- the rules that are checked before the one on a missing subcommand
+abbrev pub rules_before : WorkspaceBehavior → Option (List ℕ) → Listed → List Use → List (Option Fault)
+rules_before behavior term_color l us = first_of (early_rules term_color l us) ∷ first_of (together_rules behavior l us) ∷ []

@@ -1,0 +1,136 @@
+-- The programs that a call called, whatever came of it.
+use Rattle.std.specs.Prelude.{ℕ, ◌≡◌, ◌⊎◌, ◌∷◌, [], Bool, List, Option, Result, codes, false, filter, string_bytes, true}
+use Rattle.std.specs.List.{flat_map}
+use Rattle.std.specs.Io.KnownBytes.{Keeps}
+use Rattle.std.proofs.Common.{Global, String}
+use Rattle.hack_base.specs.Names.{Name}
+use Rattle.hack_files.specs.Files.{Contents}
+use Rattle.hack_load.specs.Answers.{AreAnswers}
+use Rattle.hack_load.specs.ContextOf.{IsContextFrom}
+use Rattle.hack_load.specs.Contexts.{ContextRecord}
+use Rattle.hack_load.specs.declared.answers.Answers.{Answers}
+use Rattle.hack_process.specs.Calls.{Asked, Call, MayAdd}
+use Rattle.hack_process.specs.Commands.{asked_of}
+use Rattle.hack_plan.specs.Commands.{plain_command}
+use Rattle.hack_plan.specs.View.{PlanView}
+use Rattle.hack_session.specs.Histories.{Course}
+use Rattle.hack_session.specs.ListLines.{is_sent, lines_written}
+use Rattle.hack_session.specs.StepCalls.{BreaksInstall, Installs, MakesCalls, PerformsAll}
+use Rattle.hack_session.specs.Toolchains.{addition_of, trial_of}
+use Rattle.hack_session.specs.declared.step.Handed.{Handed}
+use Rattle.hack_session.specs.declared.step.Outcome.TheVariants.{Failed}
+use Rattle.hack_base.specs.Notes.{Note}
+use Rattle.hack_versions.specs.declared.rustup.Rustup.{Rustup}
+use Rattle.hack_versions.specs.declared.version.Version.{Version}
+use Rattle.hack_words.specs.ParseAnswers.{AnswersCommandLine as IsAnswer, around_of}
+use Rattle.hack_words.specs.CommandLine.{ComesTo}
+use Rattle.hack_words.specs.Start.{wants_rustup}
+use Rattle.hack_words.specs.declared.cli.args.Args.{Args}
+use Rattle.hack_words.specs.declared.cli.env.Env.{Env}
+use Rattle.hack_words.specs.declared.cli.parse.Parsed.{Parsed}
+use Rattle.hack_words.specs.declared.cli.parse.Parsed.TheVariants as parsed
+use Rattle.hack_run.specs.Headline.{IsHandedOut}
+use Rattle.hack_run.specs.Questions.{AsksRustup, AsksStable, InstallsStable, NeedsAnswer, rustup_asked, stable_command}
+use Rattle.hack_run.specs.ScheduleCalls.{HandsOver}
+use Rattle.hack_run.specs.Warnings.{GrowsWithin}
+
+-- the steps that call programs: of a list only those that aren't listed, else all
+abbrev pub steps_performed : Bool → List Handed → List Handed
+steps_performed true steps = filter is_sent steps
+steps_performed false steps = steps
+
+-- what a list wrote is a front of this text; nothing is said where commands aren't listed
+abbrev pub ListGrowsWithin : Bool → Option (List ℕ) → Option (List ℕ) → List ℕ → Type 0
+ListGrowsWithin true had has text = GrowsWithin had has text
+ListGrowsWithin false had has text = Unit {0}
+
+-- one history of a context's plan, made with this answer on stable's version, was handed out, and
+-- its steps made just these calls, one after the other; a list wrote a front of the lines of the
+-- steps that passed, and nothing else
+pub record PerformsOne (listing : Bool) (cx : ContextRecord) (stable : Result (Option Version) (String Global)) (rustup : Name) (had has : Option (List ℕ)) (old new : List Call) : Type 0 where
+  pub course : Course
+  pub cut : ℕ
+  pub handed : IsHandedOut cx stable rustup course
+  pub calls : MakesCalls (λ made. PerformsAll course.plan (steps_performed listing course.handed) made cut) old new
+  pub wrote : ListGrowsWithin listing had has (flat_map (lines_written course.plan) course.handed)
+
+-- one history was performed, or nothing was called and nothing listed
+abbrev pub PerformsAtMostOne : Bool → ContextRecord → Result (Option Version) (String Global) → Name → Option (List ℕ) → Option (List ℕ) → List Call → List Call → Type 0
+PerformsAtMostOne listing cx stable rustup had has old new = ((new ≡ old) × ListGrowsWithin listing had has []) ⊎ PerformsOne listing cx stable rustup had has old new
+
+-- a list was handed out to its end; or nothing was, and the runner printed notices at most
+abbrev pub HandsOverAtMostOne : {R : Type 0} → Type 0 → Option (List ℕ) → Option (List ℕ) → (List Note → R → R → Type 0) → (PlanView → List Handed → R → R → Type 0) → ContextRecord → Result (Option Version) (String Global) → Name → R → R → Type 0
+HandsOverAtMostOne whole had has Told Ran cx stable rustup old new =
+    (((new ≡ old) ⊎ ((notes : List Note) × Told notes old new)) × Keeps had has) ⊎ HandsOver whole had has Told Ran cx stable rustup old new
+
+-- installing the toolchain `stable` failed: it was tried, and added where that failed, up to the
+-- command that failed or for which memory was refused
+abbrev pub FailsStable : Name → List Call → List Call → Type 0
+FailsStable rustup old new =
+    MakesCalls (λ calls. Installs [] (asked_of true (trial_of rustup (codes "stable"))) (asked_of true (addition_of rustup (codes "stable") [])) calls Failed
+    ⊎ BreaksInstall [] (asked_of true (trial_of rustup (codes "stable"))) (asked_of true (addition_of rustup (codes "stable") [])) calls) old new
+
+-- stable's version was asked for at most once: nothing was called; or the toolchain is installed,
+-- and its cargo was asked at most once; or installing it failed
+abbrev pub MayAskStable : Name → List Call → List Call → Type 0
+MayAskStable rustup old new =
+    (new ≡ old)
+    ⊎ (((mid : List Call) × InstallsStable rustup old mid × MayAdd (asked_of true (stable_command rustup)) mid new)
+    ⊎ FailsStable rustup old new)
+
+-- this was answered on stable's version, and then one history of the plan was performed
+pub record PerformsBehind (cx : ContextRecord) (rustup : Name) (had has : Option (List ℕ)) (old mid new : List Call) : Type 0 where
+  pub stable : Result (Option Version) (String Global)
+  pub told : AsksStable rustup stable old mid
+  pub performs : PerformsOne cx.args.print_command_list cx stable rustup had has mid new
+
+-- stable's version was asked for only where the range needs it, and then one history of the plan
+-- was performed, or nothing was called
+pub record PerformsPlanAtMostOnce (cx : ContextRecord) (rustup : Name) (had has : Option (List ℕ)) (old new : List Call) : Type 0 where
+  pub mid : List Call
+  pub asked : MayAskStable rustup old mid
+  pub needed : ¬ NeedsAnswer cx.args → mid ≡ old
+  pub runs : ((new ≡ mid) × ListGrowsWithin cx.args.print_command_list had has []) ⊎ PerformsBehind cx rustup had has old mid new
+
+-- after the answers nothing was called or printed; or a context was made of them, and its plan was
+-- performed at most once
+abbrev pub AfterAnswers : Args → Answers → Name → Option (List ℕ) → Option (List ℕ) → List Call → List Call → Type 0
+AfterAnswers args answers rustup had has old new = ((new ≡ old) × (has ≡ had)) ⊎ ((cx : ContextRecord) × IsContextFrom args answers cx × PerformsPlanAtMostOnce cx rustup had has old new)
+
+-- the questions of these arguments were asked in order, up to one that ended them, and then a plan
+-- was performed at most once
+pub record MakesOnce (tells : Type 0) (args : Args) (env : Env) (held : Contents) (before : ℕ) (had has : Option (List ℕ)) (old new : List Call) : Type 0 where
+  pub answers : Answers
+  pub now : ℕ
+  pub mid : List Call
+  pub asked : AreAnswers tells args env held before now old mid answers
+  pub behind : AfterAnswers args answers (string_bytes env.rustup) had has mid new
+
+-- what a caller is asked where cargo is to list its commands
+abbrev pub listing_asked : Name → Asked
+listing_asked cargo = asked_of false (plain_command cargo [] (codes "--list" ∷ []))
+
+-- what a command line asks for was tried once: a history was performed, a text was printed, or
+-- cargo was called for its commands
+abbrev pub TriesOnce : Type 0 → Parsed → Env → Contents → ℕ → Option (List ℕ) → Option (List ℕ) → List Call → List Call → Type 0
+TriesOnce tells (parsed.Args args) env held before had has old new = MakesOnce tells args env held before had has old new
+TriesOnce tells (parsed.Print text) env held before had has old new = new ≡ old
+TriesOnce tells parsed.List env held before had has old new = MayAdd (listing_asked (string_bytes env.cargo)) old new × (has ≡ had)
+
+-- rustup was asked where an argument needs it, the command line was parsed, and what it asks for
+-- was tried once
+pub record TriesRead (tells : Type 0) (words : List Name) (env : Env) (held : Contents) (before : ℕ) (had has : Option (List ℕ)) (old mid new : List Call) : Type 0 where
+  pub rustup : Rustup
+  pub answer : Parsed
+  pub notes : List Note
+  pub told : AsksRustup (wants_rustup words) (string_bytes env.rustup) rustup old mid
+  pub read : IsAnswer (around_of env rustup) (ComesTo (around_of env rustup) words) answer notes
+  pub tried : TriesOnce tells answer env held before had has mid new
+
+-- rustup was asked for its version at most, where an argument needs it; then nothing was called or
+-- printed, or what the command line asks for was tried once
+pub record MadeOnce (tells : Type 0) (words : List Name) (env : Env) (held : Contents) (before : ℕ) (had has : Option (List ℕ)) (old new : List Call) : Type 0 where
+  pub mid : List Call
+  pub asked : MayAdd (rustup_asked (string_bytes env.rustup)) old mid
+  pub needed : wants_rustup words ≡ false → mid ≡ old
+  pub behind : ((new ≡ mid) × (has ≡ had)) ⊎ TriesRead tells words env held before had has old mid new

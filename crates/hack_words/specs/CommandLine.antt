@@ -1,0 +1,125 @@
+-- The outcome of a command line in its environment: an error, a text to print, cargo's list, or
+-- arguments.
+use Rattle.std.specs.Prelude.{ℕ, ◌≡◌, ◌++◌, ◌&&◌, ◌||◌, List, [], ◌∷◌, Bool, true, false, Option, Some, None, codes, if◌then◌else◌}
+use Rattle.hack_options.specs.declared.opt.Opt.TheVariants as opt
+use Rattle.hack_uses.specs.declared.behavior.WorkspaceBehavior.{WorkspaceBehavior}
+use Rattle.hack_uses.specs.declared.cut.Print.{Print}
+use Rattle.hack_uses.specs.UseReading.{Reading, Met, End, Prints as Questions, Fails, ReadsUsesThen}
+use Rattle.hack_uses.specs.Uses.{Use, is_given}
+use Rattle.hack_uses.specs.Values.{value_given}
+use Rattle.hack_base.specs.Notes.{Note, note_if}
+use Rattle.hack_versions.specs.Readings.{Sides, at_dots}
+use Rattle.hack_base.specs.declared.notice.NoticeKind.{NoticeKind}
+use Rattle.hack_base.specs.declared.notice.NoticeKind.TheVariants.{Info, Warn, QuietWarn}
+use Rattle.hack_rules.specs.AskedFields.{is_old_asked}
+use Rattle.hack_rules.specs.CliFaults.{Fault, Cut}
+use Rattle.hack_rules.specs.ListedFeatures.{Listed, listed_by}
+use Rattle.hack_rules.specs.Rules.{Verdict, Accepted, Lists, Refused, is_nonempty}
+use Rattle.hack_rules.specs.LateRules.{is_ranged}
+use Rattle.hack_rules.specs.Verdicts.{verdict_of}
+use Rattle.hack_words.specs.Start.{Start, Refuses, Cuts, start_of}
+
+-- what is known besides the command line: the environment's colouring, whether GitHub Actions runs,
+-- and rustup's minor version or why it isn't known
+pub record Around : Type 0 where
+  pub term_color : Option (List ℕ)
+  pub github_actions : Bool
+  pub rustup : Option ℕ
+  pub unknown : Option (List ℕ)
+
+-- the outcome of a command line
+pub data CommandLineOutcome : Type 0 where
+  Faulty : Fault → CommandLineOutcome
+  Printed : Print → CommandLineOutcome
+  Listing : List Use → CommandLineOutcome
+  Parsed : WorkspaceBehavior → List (List ℕ) → List Use → CommandLineOutcome
+
+-- the outcome of uses of options, given who handles workspaces and the arguments after --
+abbrev pub outcome_of : Around → WorkspaceBehavior → List (List ℕ) → List Use → CommandLineOutcome
+outcome_of around behavior trailing us = by_verdict (verdict_of behavior around.term_color around.rustup us)
+  where
+    by_verdict : Verdict → CommandLineOutcome
+    by_verdict Accepted = Parsed behavior trailing us
+    by_verdict Lists = Listing us
+    by_verdict (Refused fault) = Faulty fault
+
+-- the outcome, given how parsing ended
+abbrev pub IsEnd : Around → WorkspaceBehavior → List (List ℕ) → List Use → Reading → CommandLineOutcome → Type 0
+IsEnd around behavior trailing us End outcome = outcome ≡ outcome_of around behavior trailing us
+IsEnd around behavior trailing us (Questions print) outcome = outcome ≡ Printed print
+IsEnd around behavior trailing us (Fails fault) outcome = outcome ≡ Faulty (Cut fault)
+IsEnd around behavior trailing us (Met one left) outcome = ⊥
+
+-- the outcome of a command line, given its start: it is parsed up to the first error or request to
+-- print, and then judged
+abbrev pub ComesFrom : Around → Start → CommandLineOutcome → Type 0
+ComesFrom around (Refuses fault) outcome = outcome ≡ Faulty fault
+ComesFrom around (Cuts behavior cut trailing) outcome = (us : List Use) × (end : Reading) × ReadsUsesThen cut us end × IsEnd around behavior trailing us end outcome
+
+-- the outcome of a command line
+abbrev pub ComesTo : Around → List (List ℕ) → CommandLineOutcome → Type 0
+ComesTo around words outcome = ComesFrom around (start_of words) outcome
+
+-- the text of the notice on unknown features
+abbrev pub unknown_words : List ℕ
+unknown_words = codes "--ignore-unknown-features for --include-features is not fully implemented and may not work as intended"
+
+-- unknown features are to be ignored where they can't be
+abbrev pub in_vain : Listed → List Use → Bool
+in_vain l us = is_given opt.IgnoreUnknownFeatures us && is_nonempty l.includes
+
+-- the notice that unknown features are not ignored everywhere
+abbrev pub unknown_notes : List Use → List Note
+unknown_notes us = note_if (in_vain (listed_by us) us) QuietWarn unknown_words
+
+-- the text of the notice on rustup
+abbrev pub rustup_words : List ℕ → List ℕ
+rustup_words why = codes "unable to determine rustup version; assuming latest stable rustup: " ++ why
+
+-- the notice where a range is given and rustup's version isn't known
+abbrev pub rustup_notes : Bool → Option (List ℕ) → List Note
+rustup_notes ranged None = []
+rustup_notes ranged (Some why) = note_if ranged Warn (rustup_words why)
+
+-- a range rewritten in its new form
+abbrev pub new_form : List ℕ → List ℕ
+new_form text = of_sides (at_dots text)
+  where
+    of_sides : Option Sides → List ℕ
+    of_sides None = text
+    of_sides (Some sides) = sides.front ++ codes "..=" ++ sides.back
+
+-- the text of the notice on a range in the old form
+abbrev pub old_words : List ℕ → List ℕ
+old_words newer = codes "using `..` for inclusive range is deprecated; consider using `" ++ newer ++ codes "`"
+
+-- the notice where a range is in the old form
+abbrev pub old_notes : Bool → Option (List ℕ) → List Note
+old_notes old None = []
+old_notes old (Some text) = note_if old Warn (old_words (new_form text))
+
+-- the options that edit manifests while commands run
+abbrev pub editing_words : Bool → Bool → List ℕ
+editing_words false no_private = codes "--no-private modifies"
+editing_words true false = codes "--no-dev-deps modifies"
+editing_words true true = codes "--no-dev-deps and --no-private modify"
+
+-- the text of the notice on edits
+abbrev pub edits_words : List ℕ → List ℕ
+edits_words flags = flags ++ codes " real `Cargo.toml` while cargo-hack is running and restores it when finished"
+
+-- the notice where manifests are edited while commands run
+abbrev pub editing_notes : Bool → Bool → List Note
+editing_notes no_dev_deps no_private =
+    note_if (no_dev_deps || no_private) Info (edits_words (editing_words no_dev_deps no_private))
+
+-- the notices after that on unknown features; `unknown` is why rustup's version isn't known
+abbrev pub later_notes : Option (List ℕ) → List Use → List Note
+later_notes unknown us =
+    rustup_notes (is_ranged us) unknown
+    ++ old_notes (is_old_asked us) (value_given opt.VersionRange us)
+    ++ editing_notes (is_given opt.NoDevDeps us) (is_given opt.NoPrivate us)
+
+-- the notices on an accepted command line, in order
+abbrev pub notes_on : Around → List Use → List Note
+notes_on around us = unknown_notes us ++ later_notes around.unknown us
