@@ -9,4 +9,5 @@ mod Below
 mod TwoLemmas
 mod CommandJoins
 mod Ready
+mod Shown
 mod Within

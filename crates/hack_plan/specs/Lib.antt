@@ -10,4 +10,4 @@ pub mod View
 pub mod Commands
 pub mod Plans
 pub mod Prepared
-pub mod RunWords
+pub mod Lines

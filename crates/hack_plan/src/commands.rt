@@ -2,24 +2,22 @@
 
 ghost use Rattle.std.specs.Prelude.{◌≡◌, ◌++◌, ◌∷◌, [], Some, None, map, option_map, IfOk, OnOk};
 ghost use Rattle.std.specs.Prelude.{List, ℕ, take, drop, string_bytes, codes, slice_get};
-ghost use Rattle.std.specs.List.{flat_map, slice_index_or};
+ghost use Rattle.std.specs.List.{cons_option, flat_map, slice_index_or};
 ghost use Rattle.hack_base.specs.Names.{names_behind, optional_text};
 ghost use Rattle.hack_features.specs.Feature.{groups_of};
 ghost use Rattle.hack_plan.specs.Runs.{run_of};
-ghost use Rattle.hack_process.specs.Commands.{command_of, listed_text};
-ghost use Rattle.hack_process.specs.CommandTexts.{listed_of};
+ghost use Rattle.hack_process.specs.Commands.{command_of};
 ghost use Rattle.hack_plan.specs.View.{call_view, plan_package_view};
 ghost use Rattle.hack_plan.specs.Commands.{toolchain_of, program_of, rustup_run_words, is_split};
 ghost use Rattle.hack_plan.specs.Commands.{targets_in, target_pair, manifest_words, run_words};
-ghost use Rattle.hack_plan.specs.Commands.{candidate_names_at, run_names, call_command, whole_command};
-ghost use Rattle.hack_plan.specs.Commands.{run_command, plain_command, locked_words, cleaned_words};
-ghost use Rattle.hack_plan.specs.Commands.{clean_command, lockfile_command, slot_target};
-ghost use Rattle.hack_plan.specs.RunWords.{words_command};
+ghost use Rattle.hack_plan.specs.Commands.{candidate_names_at, call_command, plain_command, locked_words};
+ghost use Rattle.hack_plan.specs.Commands.{cleaned_words, clean_command, lockfile_command};
+ghost use Rattle.hack_plan.specs.Commands.{slot_target};
 
 use crate::parts::{CommandParts, PlanPackage};
 use hack_features::Feature;
 use crate::runs::Run;
-use hack_process::process::{ListedLine, ProcessBuilder};
+use hack_process::process::ProcessBuilder;
 use hack_versions::version::Version;
 use std::alloc::{AllocError, Global};
 use std::slice;
@@ -46,17 +44,9 @@ fn leading(alloc: Global, version: Option<Version>) -> Result<Vec<String>, Alloc
     Ok(words)
 }
 
-/// What a run has besides the arguments that are passed on: arguments of its own, and the names of
-/// features.
-#[derive(Drop)]
-struct RunWords<'a> {
-    own: Vec<&'a str>,
-    names: Vec<&'a str>,
-}
-
 impl CommandParts {
     /// The program of a version's commands.
-    fn program_of(&self, version: Option<Version>) -> &str
+    pub(crate) fn program_of(&self, version: Option<Version>) -> &str
         ensures { result.now ≡ program_of (call_view self.now) version }
     {
         match version {
@@ -82,43 +72,24 @@ impl CommandParts {
         Ok(command)
     }
 
-    /// The command of a run.
-    fn command(
+    /// A command with the arguments that the call passes on, these of its own, and these names of
+    /// features.
+    pub(crate) fn command(
         &self,
         alloc: Global,
         version: Option<Version>,
-        words: &RunWords<'_>,
+        own: &[&str],
+        names: &[&str],
     ) -> Result<ProcessBuilder<'_>, AllocError>
         ensures { IfOk result (λ command. command_of command
-            ≡ words_command (call_view self.now) version words.now) }
+            ≡ call_command (call_view self.now) version (names_behind own.now)
+            (names_behind names.now)) }
     {
         let mut command = self.program(alloc, version)?;
         command.pass_words(self.passed.as_slice(), self.trailing.as_slice());
-        command.args(words.own.as_slice())?;
-        command.append_features(words.names.as_slice())?;
+        command.args(own)?;
+        command.append_features(names)?;
         Ok(command)
-    }
-
-    /// The line of a run.
-    fn line<'a>(
-        &'a self,
-        alloc: Global,
-        version: Option<Version>,
-        words: RunWords<'a>,
-    ) -> Result<ListedLine<'a>, AllocError>
-        ensures { IfOk result (λ line. listed_text line ≡ listed_of (call_view self.now).dir
-            (words_command (call_view self.now) version words.entry)) }
-    {
-        let leading = leading(alloc, version)?;
-        Ok(ListedLine {
-            program: self.program_of(version),
-            leading,
-            passed: self.passed.as_slice(),
-            own: words.own,
-            names: words.names,
-            trailing: self.trailing.as_slice(),
-            dir: self.dir.as_str(),
-        })
     }
 
     /// Whether each target is a separate slot.
@@ -144,118 +115,13 @@ impl CommandParts {
     }
 
     /// The targets of a slot.
-    fn targets_in(&self, version: Option<Version>, slot: usize) -> &[String]
+    pub(crate) fn targets_in(&self, version: Option<Version>, slot: usize) -> &[String]
         ensures { map string_bytes result.now ≡ targets_in (call_view self.now) version slot }
     {
         if !self.is_split(version) {
             return self.targets.as_slice();
         }
         one_at(self.targets.as_slice(), slot)
-    }
-
-    /// The command of a run for all packages.
-    pub fn whole(
-        &self,
-        alloc: Global,
-        version: Option<Version>,
-        slot: usize,
-    ) -> Result<ProcessBuilder<'_>, AllocError>
-        ensures { IfOk result (λ command. command_of command
-            ≡ whole_command (call_view self.now) version slot) }
-    {
-        let words = self.whole_words(alloc, version, slot)?;
-        self.command(alloc, version, &words)
-    }
-
-    /// The line of a run for all packages.
-    pub(crate) fn whole_line(
-        &self,
-        alloc: Global,
-        version: Option<Version>,
-        slot: usize,
-    ) -> Result<ListedLine<'_>, AllocError>
-        ensures { IfOk result (λ line. listed_text line ≡ listed_of (call_view self.now).dir
-            (whole_command (call_view self.now) version slot)) }
-    {
-        let words = self.whole_words(alloc, version, slot)?;
-        self.line(alloc, version, words)
-    }
-
-    /// What a run for all packages has.
-    fn whole_words(
-        &self,
-        alloc: Global,
-        version: Option<Version>,
-        slot: usize,
-    ) -> Result<RunWords<'_>, AllocError>
-        ensures { IfOk result (λ words. words_command (call_view self.now) version words
-            ≡ whole_command (call_view self.now) version slot) }
-    {
-        let mut own = Vec::new(alloc);
-        push_targets(&mut own, self.targets_in(version, slot))?;
-        let mut names = Vec::new(alloc);
-        push_all(&mut names, self.features.as_slice())?;
-        Ok(RunWords { own, names })
-    }
-
-    /// The command of a package's run; where it is the run of a set, `positions` are those of the
-    /// set's candidates.
-    pub fn run(
-        &self,
-        alloc: Global,
-        version: Option<Version>,
-        slot: usize,
-        member: &PlanPackage,
-        run: Run,
-        positions: &[usize],
-    ) -> Result<ProcessBuilder<'_>, AllocError>
-        ensures { IfOk result (λ command. command_of command
-            ≡ run_command (call_view self.now) version slot (plan_package_view member.now)
-            (run_of run positions.now)) }
-    {
-        let words = self.run_words(alloc, version, slot, member, run, positions)?;
-        self.command(alloc, version, &words)
-    }
-
-    /// The line of a package's run, like its command.
-    pub(crate) fn run_line<'a>(
-        &'a self,
-        alloc: Global,
-        version: Option<Version>,
-        slot: usize,
-        member: &'a PlanPackage,
-        run: Run,
-        positions: &[usize],
-    ) -> Result<ListedLine<'a>, AllocError>
-        ensures { IfOk result (λ line. listed_text line ≡ listed_of (call_view self.now).dir
-            (run_command (call_view self.now) version slot (plan_package_view member.now)
-            (run_of run positions.now))) }
-    {
-        let words = self.run_words(alloc, version, slot, member, run, positions)?;
-        self.line(alloc, version, words)
-    }
-
-    /// What a package's run has.
-    fn run_words<'a>(
-        &'a self,
-        alloc: Global,
-        version: Option<Version>,
-        slot: usize,
-        member: &'a PlanPackage,
-        run: Run,
-        positions: &[usize],
-    ) -> Result<RunWords<'a>, AllocError>
-        ensures { IfOk result (λ words. words_command (call_view self.now) version words
-            ≡ run_command (call_view self.now) version slot (plan_package_view member.now)
-            (run_of run positions.now)) }
-    {
-        let targets = self.targets_in(version, slot);
-        let mut own = Vec::with_capacity(alloc, 2 * targets.len() + 3)?;
-        push_targets(&mut own, targets)?;
-        push_manifest(&mut own, &member.manifest_path)?;
-        push_run(&mut own, run)?;
-        let names = run_names(alloc, member, run, positions)?;
-        Ok(RunWords { own, names })
     }
 
     /// The command that removes the artifacts of a package, or all artifacts.
@@ -289,7 +155,7 @@ impl CommandParts {
         let mut command = self.program(alloc, Some(version))?;
         command.arg("generate-lockfile")?;
         let mut manifest = Vec::new(alloc);
-        push_manifest(&mut manifest, &self.current_manifest)?;
+        push_manifest(&mut manifest, text_in(&self.current_manifest))?;
         command.args(manifest.as_slice())?;
         Ok(command)
     }
@@ -339,7 +205,10 @@ fn push_pair<'a>(
 }
 
 /// Adds each target after its option.
-fn push_targets<'a>(words: &mut Vec<&'a str>, targets: &'a [String]) -> Result<(), AllocError>
+pub(crate) fn push_targets<'a>(
+    words: &mut Vec<&'a str>,
+    targets: &'a [String],
+) -> Result<(), AllocError>
     ensures { OnOk result (names_behind words.new.items
         ≡ names_behind words.old.items ++ flat_map target_pair (map string_bytes targets.now)) }
 {
@@ -349,32 +218,55 @@ fn push_targets<'a>(words: &mut Vec<&'a str>, targets: &'a [String]) -> Result<(
     Ok(())
 }
 
+/// The text, if there is one.
+pub(crate) fn text_in(text: &Option<String>) -> Option<&str>
+    ensures { option_map (λ text. text.now) result ≡ optional_text text.now }
+{
+    match text {
+        Some(text) => Some(text.as_str()),
+        None => None,
+    }
+}
+
 /// Adds a manifest's path after its option.
-fn push_manifest<'a>(words: &mut Vec<&'a str>, path: &'a Option<String>) -> Result<(), AllocError>
+pub(crate) fn push_manifest<'a>(
+    words: &mut Vec<&'a str>,
+    path: Option<&'a str>,
+) -> Result<(), AllocError>
     ensures { OnOk result (names_behind words.new.items
-        ≡ names_behind words.old.items ++ manifest_words (optional_text path.now)) }
+        ≡ names_behind words.old.items ++ manifest_words (option_map (λ path. path.now) path.entry)) }
 {
     match path {
-        Some(path) => push_pair(words, "--manifest-path", path.as_str()),
+        Some(path) => push_pair(words, "--manifest-path", path),
         None => Ok(()),
     }
 }
 
+/// The argument that says which features a run has.
+pub(crate) fn run_word(run: Run) -> Option<&'static str>
+    ensures { (positions : List ℕ) → cons_option (option_map (λ word. word.now) result) []
+        ≡ run_words (run_of run positions) }
+{
+    match run {
+        Run::Plain => None,
+        Run::AllFeatures => Some("--all-features"),
+        Run::NoDefaultFeatures | Run::Features => Some("--no-default-features"),
+    }
+}
+
 /// Adds the argument that says which features a run has.
-fn push_run(words: &mut Vec<&str>, run: Run) -> Result<(), AllocError>
+pub(crate) fn push_run(words: &mut Vec<&str>, run: Run) -> Result<(), AllocError>
     ensures { (positions : List ℕ) → OnOk result (names_behind words.new.items
         ≡ names_behind words.old.items ++ run_words (run_of run positions)) }
 {
-    match run {
-        Run::Plain => Ok(()),
-        Run::AllFeatures => push_word(words, "--all-features"),
-        Run::NoDefaultFeatures => push_word(words, "--no-default-features"),
-        Run::Features => push_word(words, "--no-default-features"),
+    match run_word(run) {
+        Some(word) => push_word(words, word),
+        None => Ok(()),
     }
 }
 
 /// The names of the features of the candidate at an index.
-fn names_of(candidates: &[Feature], place: usize) -> &[String]
+pub(crate) fn names_of(candidates: &[Feature], place: usize) -> &[String]
     ensures { map string_bytes result.now ≡ slice_index_or (groups_of candidates.now) place [] }
 {
     match candidates.get(place) {
@@ -384,7 +276,7 @@ fn names_of(candidates: &[Feature], place: usize) -> &[String]
 }
 
 /// Appends names.
-fn push_all<'a>(names: &mut Vec<&'a str>, more: &'a [String]) -> Result<(), AllocError>
+pub(crate) fn push_all<'a>(names: &mut Vec<&'a str>, more: &'a [String]) -> Result<(), AllocError>
     ensures { OnOk result (names_behind names.new.items
         ≡ names_behind names.old.items ++ map string_bytes more.now) }
 {
@@ -395,7 +287,7 @@ fn push_all<'a>(names: &mut Vec<&'a str>, more: &'a [String]) -> Result<(), Allo
 }
 
 /// Appends the names of the candidates at the positions.
-fn push_names<'a>(
+pub(crate) fn push_names<'a>(
     names: &mut Vec<&'a str>,
     candidates: &'a [Feature],
     positions: &[usize],
@@ -407,26 +299,6 @@ fn push_names<'a>(
         push_all(names, names_of(candidates, *position))?;
     }
     Ok(())
-}
-
-/// The features of `--features`, and after them those of the run's set, if it has one.
-fn run_names<'a>(
-    alloc: Global,
-    member: &'a PlanPackage,
-    run: Run,
-    positions: &[usize],
-) -> Result<Vec<&'a str>, AllocError>
-    ensures { IfOk result (λ names. names_behind names.items
-        ≡ (plan_package_view member.now).features
-        ++ run_names (plan_package_view member.now).candidates (run_of run positions.now)) }
-{
-    let mut names = Vec::with_capacity(alloc, member.features.len() + positions.len())?;
-    push_all(&mut names, member.features.as_slice())?;
-    match run {
-        Run::Features => push_names(&mut names, member.candidates.as_slice(), positions)?,
-        Run::Plain | Run::AllFeatures | Run::NoDefaultFeatures => {}
-    }
-    Ok(names)
 }
 
 /// Adds the package whose artifacts are removed, if it is a single one.

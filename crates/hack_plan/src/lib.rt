@@ -5,6 +5,7 @@
 
 mod blocks;
 mod commands;
+mod line;
 pub mod parts;
 pub mod places;
 pub mod plan;

@@ -4,21 +4,23 @@
 ghost use Rattle.std.specs.Prelude.{◌≡◌, ◌<◌, ◌^◌, Some, None, length, slice_get, option_map};
 ghost use Rattle.std.specs.Prelude.{IfOk, IfSome, string_bytes, map};
 ghost use Rattle.hack_plan.specs.Spans.{AreTiled};
-ghost use Rattle.hack_process.specs.Commands.{command_of, listed_text};
+ghost use Rattle.hack_process.specs.Commands.{command_of};
 ghost use Rattle.hack_process.specs.CommandTexts.{listed_of};
 ghost use Rattle.hack_plan.specs.Prepared.{span_of};
-ghost use Rattle.hack_plan.specs.View.{plan_package_view};
+ghost use Rattle.hack_plan.specs.View.{call_view, plan_package_view};
 ghost use Rattle.hack_plan.specs.Commands.{command_of_entry, clean_command, lockfile_command};
 ghost use Rattle.hack_plan.specs.Commands.{chosen_package_at};
 ghost use Rattle.hack_plan.specs.Commands.{name_in, ranked_command, slot_target};
+ghost use Rattle.hack_plan.specs.Lines.{command_in, listed_text};
 ghost use Rattle.hack_plan.specs.Plans.{counts_in};
 
 pub use crate::commands::toolchain;
+pub use crate::line::RunLine;
 use crate::parts::{CommandParts, PlanPackage, PlanVersion};
 use crate::prepared::prepared;
 use crate::places::{Places, PlacesFault, PlanEntry};
 use crate::versions::{PlanInput, Versions};
-use hack_process::process::{ListedLine, ProcessBuilder};
+use hack_process::process::ProcessBuilder;
 use hack_versions::version::Version;
 use std::alloc::{AllocError, Global};
 use std::marker::Model;
@@ -108,31 +110,27 @@ impl Plan {
             ≡ command_of_entry self.now run.entry) }
     {
         let entry = self.places.run(place);
-        match self.package_of(entry) {
-            None => Ok(PlannedCommand {
-                entry,
-                name: None,
-                command: self.words.whole(alloc, entry.version, entry.slot)?,
-            }),
-            Some(member) => Ok(PlannedCommand {
-                entry,
-                name: Some(member.name.as_str()),
-                command: self.of_package(alloc, entry, member)?,
-            }),
-        }
+        let line = self.line(alloc, place)?;
+        Ok(PlannedCommand {
+            entry,
+            name: self.name_of(entry),
+            command: line.command(alloc)?,
+        })
     }
 
     /// The line of the run at a place in a list of commands: that of its command, which isn't made.
-    pub fn line(&self, alloc: Global, place: usize) -> Result<ListedLine<'_>, AllocError>
+    pub fn line(&self, alloc: Global, place: usize) -> Result<RunLine<'_>, AllocError>
         requires { place < length self.now.entries }
-        ensures { IfOk result (λ line. option_map (λ entry. listed_of self.now.call.dir
+        ensures text { IfOk result (λ line. option_map (λ entry. listed_of self.now.call.dir
             (command_of_entry self.now entry)) (slice_get self.now.entries place)
             ≡ Some (listed_text line)) }
+        ensures command { IfOk result (λ line. option_map (command_of_entry self.now)
+            (slice_get self.now.entries place) ≡ Some (command_in line)) }
     {
         let entry = self.entry(place);
         match self.package_of(entry) {
-            None => self.words.whole_line(alloc, entry.version, entry.slot),
-            Some(member) => self.line_of_package(alloc, entry, member),
+            None => Ok(RunLine::whole(alloc, &self.words, entry.version, entry.slot)),
+            Some(member) => self.of_package(alloc, entry, member),
         }
     }
 
@@ -147,52 +145,33 @@ impl Plan {
         }
     }
 
-    /// The command of a package's run.
+    /// The name of a run's package.
+    fn name_of(&self, entry: PlanEntry) -> Option<&str>
+        ensures { option_map (λ name. name.now) result
+            ≡ name_in (chosen_package_at self.now.packages entry.package) }
+    {
+        match self.package_of(entry) {
+            Some(member) => Some(member.name.as_str()),
+            None => None,
+        }
+    }
+
+    /// A package's run.
     fn of_package<'a>(
         &'a self,
         alloc: Global,
         entry: PlanEntry,
         member: &'a PlanPackage,
-    ) -> Result<ProcessBuilder<'a>, AllocError>
+    ) -> Result<RunLine<'a>, AllocError>
         requires { entry.rank < length (plan_package_view member.now).runs }
-        ensures { IfOk result (λ command. command_of command
+        ensures dir { IfOk result (λ line. (call_view line.words.now).dir ≡ self.now.call.dir) }
+        ensures command { IfOk result (λ line. command_in line
             ≡ ranked_command self.now.call entry.version entry.slot (Some (plan_package_view member.now))
             entry.rank) }
     {
-        let mut positions = Vec::new(alloc);
-        let run = member.runs.run(entry.rank, &mut positions)?;
-        self.words.run(
-            alloc,
-            entry.version,
-            entry.slot,
-            member,
-            run,
-            positions.as_slice(),
-        )
-    }
-
-    /// The line of a package's run.
-    fn line_of_package<'a>(
-        &'a self,
-        alloc: Global,
-        entry: PlanEntry,
-        member: &'a PlanPackage,
-    ) -> Result<ListedLine<'a>, AllocError>
-        requires { entry.rank < length (plan_package_view member.now).runs }
-        ensures { IfOk result (λ line. listed_text line ≡ listed_of self.now.call.dir
-            (ranked_command self.now.call entry.version entry.slot (Some (plan_package_view member.now))
-            entry.rank)) }
-    {
         let mut positions = Vec::with_capacity(alloc, member.candidates.len())?;
         let run = member.runs.run(entry.rank, &mut positions)?;
-        self.words.run_line(
-            alloc,
-            entry.version,
-            entry.slot,
-            member,
-            run,
-            positions.as_slice(),
-        )
+        Ok(RunLine::of_package(&self.words, entry.version, entry.slot, member, run, positions))
     }
 
     /// The command that removes all artifacts, before the runs of a version.

@@ -6,7 +6,7 @@ use Rattle.std.proofs.lemmas.Bool.Decides.{Decides-eqb}
 use Rattle.std.proofs.lemmas.Grind.{flat_map-append}
 use Rattle.std.proofs.lemmas.List.{take_more, map-append, at_drop_more, at_drop_all}
 use Rattle.std.proofs.lemmas.Slice.Eq.{slice_eq-Decides}
-use Rattle.hack_process.specs.CommandTexts.{with_name, with_names, spaced_word, each_spaced, is_manifest_path, shown_features, shown_path, shown_words}
+use Rattle.hack_process.specs.CommandTexts.{with_name, with_names, spaced_word, each_spaced, is_manifest_path, shown_path, shown_words}
 use Rattle.hack_process.specs.OwnWords.{awaits_path, shown_own, pending_option}
 
 -- one more name, after a `,`
@@ -28,25 +28,8 @@ pub appended-more : {T : Type 0} (f : T → List ℕ) (list : Option (List ℕ))
 appended-more f list xs i d l =
     ap (λ ys. with_names list (map f ys)) (take_more xs i d l) ∙ ap (with_names list) (map-append f (take i xs) (get_or xs i d ∷ [])) ∙ appended-push list (map f (take i xs)) (f (get_or xs i d))
 
--- what is shown before the next name
-abbrev pub before_name : List (List ℕ) → List ℕ
-before_name [] = codes " --features "
-before_name (name ∷ names) = codes ","
-
--- behind a name comes a `,`
-pub before-push : (names : List (List ℕ)) (x : List ℕ) → codes "," ≡ before_name (names ++ x ∷ [])
-before-push [] x = refl
-before-push (name ∷ names) x = refl
-
--- one more name is shown
-pub names-push : (names : List (List ℕ)) (x : List ℕ) → shown_features (with_names None names) ++ (before_name names ++ x) ≡ shown_features (with_names None (names ++ x ∷ []))
-names-push [] x = refl
-names-push (y ∷ names) x =
-    let list = join_with_byte 44 (y ∷ names) in
-    append_assoc (codes " --features ") list (codes "," ++ x) ∙ ap (λ l. codes " --features " ++ l) (sym (append_assoc list (codes ",") x)) ∙ ap shown_features (sym (appended-push None (y ∷ names) x))
-
 -- an argument that is not `--manifest-path` is shown
-shown-plain : (full : Bool) (dir word : List ℕ) (words : List (List ℕ)) → is_manifest_path word ≡ false → each_spaced (shown_words full dir (word ∷ words)) ≡ spaced_word word ++ each_spaced (shown_words full dir words)
+pub shown-plain : (full : Bool) (dir word : List ℕ) (words : List (List ℕ)) → is_manifest_path word ≡ false → each_spaced (shown_words full dir (word ∷ words)) ≡ spaced_word word ++ each_spaced (shown_words full dir words)
 shown-plain full dir word [] f = refl
 shown-plain full dir word (value ∷ words) f = rw f refl
 

@@ -1,10 +1,9 @@
 -- The commands of builders, and the texts of lines.
-use Rattle.std.specs.Prelude.{ℕ, Bool, false, List, None, string_bytes, map}
-use Rattle.hack_base.specs.Names.{names_behind, optional_text}
-use Rattle.hack_process.specs.declared.listed.ListedLine.{ListedLine}
+use Rattle.std.specs.Prelude.{ℕ, Bool, List, string_bytes, map}
+use Rattle.hack_base.specs.Names.{optional_text}
 use Rattle.hack_process.specs.declared.process.ProcessBuilder.{ProcessBuilder}
 use Rattle.hack_process.specs.declared.process.Line.{Line}
-use Rattle.hack_process.specs.CommandTexts.{Command, listed_of, with_names, words_behind, words_of}
+use Rattle.hack_process.specs.CommandTexts.{Command, words_behind, words_of}
 use Rattle.hack_process.specs.Calls.{Asked}
 
 -- the command that a builder has collected
@@ -14,14 +13,6 @@ command_of b = record { program = string_bytes b.program; strip_program_path = b
 -- what a line shows
 abbrev pub line_text : Line → List ℕ
 line_text line = words_of line.program.now line.full line.dir.now (command_of line.builder.now)
-
--- the command with the parts of a line
-abbrev pub command_in : ListedLine → Command
-command_in line = record { program = line.program.now; strip_program_path = false; leading = map string_bytes line.leading.items; passed = map string_bytes line.passed.now; own = names_behind line.own.items; features = with_names None (names_behind line.names.items); trailing = map string_bytes line.trailing.now }
-
--- what a line of parts shows: that command, as a list of commands shows it
-abbrev pub listed_text : ListedLine → List ℕ
-listed_text line = listed_of line.dir.now (command_in line)
 
 -- what a caller is asked when a command runs
 abbrev pub asked_of : Bool → Command → Asked

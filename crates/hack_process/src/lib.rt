@@ -6,6 +6,5 @@ pub mod cargo;
 mod child;
 mod fake;
 mod fault;
-mod listed;
 pub mod process;
 mod words;

@@ -17,7 +17,6 @@ pub use crate::caller::{Called, Caller, End};
 pub use crate::child::Child;
 pub use crate::fake::{FakeCaller, Made};
 pub use crate::fault::{Failure, ProcessFault};
-pub use crate::listed::ListedLine;
 use crate::words::{longer, push_features, push_trailing, push_words, without_ends};
 use hack_base::copies::{copies, copy_of};
 use hack_base::paths::{stem, under};
@@ -339,7 +338,7 @@ impl fmt::Display for Line<'_> {
 
 /// Arguments, each after a space.
 #[derive(Drop)]
-pub(crate) struct Spaced<'b>(pub(crate) &'b [String]);
+pub struct Spaced<'b>(pub &'b [String]);
 
 impl fmt::Display for Spaced<'_> {
     ghost output = { λ words. Some (each_spaced (map string_bytes words.0.now)) };
@@ -353,18 +352,18 @@ impl fmt::Display for Spaced<'_> {
     }
 }
 
-/// A command's own arguments, each after a space. `--manifest-path` and its value are shown only
+/// The builder's own arguments, each after a space. `--manifest-path` and its value are shown only
 /// where the text is full.
 #[derive(Drop)]
-pub(crate) struct OwnWords<'b, T: AsStr> {
-    pub(crate) words: &'b [T],
-    pub(crate) full: bool,
-    pub(crate) dir: &'b str,
+struct OwnWords<'b> {
+    words: &'b [String],
+    full: bool,
+    dir: &'b str,
 }
 
-impl<T: AsStr> fmt::Display for OwnWords<'_, T> {
+impl fmt::Display for OwnWords<'_> {
     ghost output = { λ own. Some (each_spaced
-        (shown_words own.full own.dir.now (map T.text own.words.now))) };
+        (shown_words own.full own.dir.now (map string_bytes own.words.now))) };
 
     fn fmt<W: fmt::Write>(&self, f: &mut fmt::Formatter<W>) -> fmt::Result {
         // Whether the argument before was `--manifest-path`, whose value follows.
@@ -389,7 +388,7 @@ impl<T: AsStr> fmt::Display for OwnWords<'_, T> {
 
 const MANIFEST_PATH: &str = "--manifest-path";
 
-/// One of a command's own arguments.
+/// One of the builder's own arguments.
 #[derive(Drop)]
 struct OwnWord<'b> {
     word: &'b str,
@@ -445,7 +444,7 @@ impl fmt::Display for Features<'_> {
 
 /// `--` and the trailing arguments, where there are any.
 #[derive(Drop)]
-pub(crate) struct Trailing<'b>(pub(crate) &'b [String]);
+pub struct Trailing<'b>(pub &'b [String]);
 
 impl fmt::Display for Trailing<'_> {
     ghost output = { λ words. Some (shown_trailing (map string_bytes words.0.now)) };

@@ -5,8 +5,9 @@ ghost use Rattle.std.specs.Prelude.{false, filter, length, slice_get};
 ghost use Rattle.std.specs.Fmt.{with_newline};
 ghost use Rattle.std.specs.Io.KnownBytes.{Appends, Keeps};
 ghost use Rattle.std.proofs.Common.{◌∙◌, refl};
-ghost use Rattle.hack_process.specs.Commands.{command_of, line_text, listed_text};
+ghost use Rattle.hack_process.specs.Commands.{command_of, line_text};
 ghost use Rattle.hack_plan.specs.Commands.{clean_command};
+ghost use Rattle.hack_plan.specs.Lines.{listed_text};
 ghost use Rattle.hack_session.specs.Histories.{IsStepOf};
 ghost use Rattle.hack_session.specs.ListLines.{CountsLines, ListsAll, is_sent, is_sent_step, line_of};
 ghost use Rattle.hack_session.specs.ListLines.{page_of, run_lines_at, step_lines};
@@ -15,9 +16,9 @@ ghost use Rattle.hack_session.specs.JoinedLists.{listed_more, sent_more};
 use crate::lines::{LineFault, Lines};
 use crate::runner::Runner;
 use crate::step::{Outcome, Step};
-use hack_process::process::{Line, ListedLine, ProcessBuilder};
+use hack_process::process::{Line, ProcessBuilder};
 use hack_plan::parts::Preparation;
-use hack_plan::plan::Plan;
+use hack_plan::plan::{Plan, RunLine};
 use std::alloc::Global;
 use std::fmt;
 
@@ -159,7 +160,7 @@ fn put<W: Lines>(out: &mut W, command: &ProcessBuilder<'_>, dir: &str) -> Result
 fn put_two<'a, W: Lines>(
     out: &mut W,
     cleaning: &'a ProcessBuilder<'a>,
-    own: ListedLine<'a>,
+    own: RunLine<'a>,
     dir: &'a str,
 ) -> Result<(), LineFault>
     ensures written { OnOk result (Appends (W.contents out.old) (W.contents out.new)
@@ -197,7 +198,7 @@ fn put_text<W: Lines, D: fmt::Display + Drop>(out: &mut W, text: D) -> Result<()
 #[derive(Drop)]
 struct Cleaned<'a> {
     cleaning: Line<'a>,
-    own: ListedLine<'a>,
+    own: RunLine<'a>,
 }
 
 impl fmt::Display for Cleaned<'_> {

@@ -1,4 +1,5 @@
-use Rattle.hack_process.specs.Commands.{command_of, listed_text}
+use Rattle.hack_process.specs.Commands.{command_of}
+use Rattle.hack_plan.specs.Lines.{listed_text}
 use Rattle.hack_session.proofs.ListLemmas.{two_lines}
 use Rattle.hack_session.proofs.lister.list_run.Goals as goal
 

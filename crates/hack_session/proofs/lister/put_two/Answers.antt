@@ -1,5 +1,6 @@
 use Rattle.std.proofs.lemmas.Result.{on_ok_weaker}
-use Rattle.hack_process.specs.Commands.{command_of, line_text, listed_text}
+use Rattle.hack_process.specs.Commands.{command_of, line_text}
+use Rattle.hack_plan.specs.Lines.{listed_text}
 use Rattle.hack_session.proofs.ListLemmas.{shown_lines}
 use Rattle.hack_session.proofs.lister.put_two.Goals as goal
 

@@ -1,0 +1,59 @@
+-- The line of a run, and what its parts show.
+use Rattle.std.specs.Prelude.{ℕ, Bool, true, false, List, [], ◌∷◌, ◌++◌, ◌-◌, Option, Some, None, codes, length, map, option_map, slice_get, string_bytes, if◌then◌else◌}
+use Rattle.std.specs.List.{flat_map, join_with_byte}
+use Rattle.hack_base.specs.Names.{Name}
+use Rattle.hack_base.specs.PathTexts.{under_of}
+use Rattle.hack_features.specs.Feature.{groups_of}
+use Rattle.hack_plan.specs.Runs.{run_of}
+use Rattle.hack_process.specs.CommandTexts.{Command, is_manifest_path, listed_of}
+use Rattle.hack_plan.specs.declared.line.RunLine.{RunLine}
+use Rattle.hack_plan.specs.View.{call_view}
+use Rattle.hack_plan.specs.Commands.{call_command, manifest_words, run_names, run_words, target_pair, targets_in}
+
+-- the arguments of a run's own
+abbrev pub own_in : RunLine → List (List ℕ)
+own_in line = flat_map target_pair (targets_in (call_view line.words.now) line.version line.slot) ++ manifest_words (option_map (λ path. path.now) line.manifest_path) ++ run_words (run_of line.run line.positions.items)
+
+-- the names of a run's features
+abbrev pub names_in : RunLine → List Name
+names_in line = map string_bytes line.features.now ++ run_names (groups_of line.candidates.now) (run_of line.run line.positions.items)
+
+-- the command of a run
+abbrev pub command_in : RunLine → Command
+command_in line = call_command (call_view line.words.now) line.version (own_in line) (names_in line)
+
+-- what a run shows: its command, as a list of commands shows it
+abbrev pub listed_text : RunLine → List ℕ
+listed_text line = listed_of (call_view line.words.now).dir (command_in line)
+
+-- a target, as a line shows it
+abbrev pub shown_target : List ℕ → List ℕ
+shown_target target = codes " --target " ++ target
+
+-- `--manifest-path` and a path relative to a folder
+abbrev pub shown_manifest : List ℕ → Option (List ℕ) → List (List ℕ)
+shown_manifest dir None = []
+shown_manifest dir (Some path) = codes "--manifest-path" ∷ under_of path dir ∷ []
+
+-- a text is `--manifest-path`
+abbrev pub is_option : Option (List ℕ) → Bool
+is_option None = false
+is_option (Some text) = is_manifest_path text
+
+-- the last target is itself `--manifest-path`
+abbrev pub takes_option : List (List ℕ) → Bool
+takes_option targets = is_option (slice_get targets (length targets - 1))
+
+-- the folder to which a path after these targets is shown relative
+abbrev pub folder_behind : List (List ℕ) → List ℕ → List ℕ
+folder_behind targets dir = if takes_option targets then [] else dir
+
+-- names joined by `,`, after what comes before the first one
+abbrev pub joined_behind : List ℕ → List (List ℕ) → List ℕ
+joined_behind before [] = []
+joined_behind before (name ∷ names) = before ++ join_with_byte 44 (name ∷ names)
+
+-- what comes before the next name, once these are written
+abbrev pub before_next : List ℕ → List (List ℕ) → List ℕ
+before_next before [] = before
+before_next before (name ∷ names) = codes ","
