@@ -1,6 +1,7 @@
 -- What the own arguments of a run show, and the names of its features.
-use Rattle.std.proofs.Common.{◌≡◌, arith, ℕ, ◌+◌, ◌-◌, ◌<◌, List, [], ◌∷◌, ◌++◌, length, take, get_or, map, refl, ap, sym, ◌∙◌, append_assoc, append-nil, suc, Option, Some, None, Bool, true, false, eqb, not, ◌&&◌, inl, inr, codes, subst}
+use Rattle.std.proofs.Common.{◌≡◌, arith, ℕ, ◌+◌, ◌-◌, ◌<◌, List, [], ◌∷◌, ◌++◌, length, take, get_or, map, refl, ap, sym, ◌∙◌, append_assoc, append-nil, suc, Option, Some, None, Bool, true, false, eqb, not, ◌&&◌, inl, inr, codes, nat_eq, subst}
 use Rattle.std.specs.List.{flat_map, join_with_byte, list_all, slice_index_or, starts_with}
+use Rattle.std.proofs.Math.Dec.{eqb-suc-zero}
 use Rattle.std.proofs.lemmas.Bool.{cases_Bool}
 use Rattle.std.proofs.lemmas.Bool.Decides.{Decides-eqb}
 use Rattle.std.proofs.lemmas.Grind.{flat_map-append}
@@ -15,7 +16,7 @@ use Rattle.hack_process.specs.CommandTexts.{spaced_word, each_spaced, is_manifes
 use Rattle.hack_process.proofs.CommandLemmas.{shown-plain}
 use Rattle.hack_plan.specs.Commands.{call_command, rustup_run_words, manifest_words, candidate_names_at, program_of, run_words, target_pair}
 use Rattle.hack_plan.specs.View.{CallView}
-use Rattle.hack_plan.specs.Lines.{before_next, folder_behind, joined_behind, shown_manifest, shown_target}
+use Rattle.hack_plan.specs.Lines.{before_name, folder_behind, is_still_first, joined_names, shown_manifest, shown_target}
 
 -- the option before a manifest's path
 abbrev option : List ℕ
@@ -158,20 +159,27 @@ join-append x [] y ys = refl
 join-append x (z ∷ xs) y ys = ap (λ l. x ++ (44 ∷ l)) (join-append z xs y ys) ∙ sym (append_assoc x (44 ∷ join_with_byte 44 (z ∷ xs)) (44 ∷ join_with_byte 44 (y ∷ ys)))
 
 -- more names
-pub joined-append : (before : List ℕ) (xs ys : List (List ℕ)) → joined_behind before xs ++ joined_behind (before_next before xs) ys ≡ joined_behind before (xs ++ ys)
-joined-append before [] ys = refl
-joined-append before (x ∷ xs) [] = append-nil (joined_behind before (x ∷ xs)) ∙ ap (joined_behind before) (sym (append-nil (x ∷ xs)))
-joined-append before (x ∷ xs) (y ∷ ys) =
-    append_assoc before (join_with_byte 44 (x ∷ xs)) (44 ∷ join_with_byte 44 (y ∷ ys)) ∙ ap (λ l. before ++ l) (sym (join-append x xs y ys))
+pub joined-append : (is_first : Bool) (xs ys : List (List ℕ)) → joined_names is_first xs ++ joined_names (is_still_first is_first xs) ys ≡ joined_names is_first (xs ++ ys)
+joined-append is_first [] ys = refl
+joined-append is_first (x ∷ xs) [] = append-nil (joined_names is_first (x ∷ xs)) ∙ ap (joined_names is_first) (sym (append-nil (x ∷ xs)))
+joined-append is_first (x ∷ xs) (y ∷ ys) =
+    append_assoc (before_name is_first) (join_with_byte 44 (x ∷ xs)) (44 ∷ join_with_byte 44 (y ∷ ys)) ∙ ap (λ l. before_name is_first ++ l) (sym (join-append x xs y ys))
 
--- what comes before the next name, after more names
-pub next-append : (before : List ℕ) (xs ys : List (List ℕ)) → before_next (before_next before xs) ys ≡ before_next before (xs ++ ys)
-next-append before [] ys = refl
-next-append before (x ∷ xs) [] = refl
-next-append before (x ∷ xs) (y ∷ ys) = refl
+-- whether the next name is still the first, after more names
+pub first-append : (is_first : Bool) (xs ys : List (List ℕ)) → is_still_first (is_still_first is_first xs) ys ≡ is_still_first is_first (xs ++ ys)
+first-append is_first [] ys = refl
+first-append is_first (x ∷ xs) [] = refl
+first-append is_first (x ∷ xs) (y ∷ ys) = refl
+
+-- the next name is still the first where there are no more names
+pub still-first : {T : Type 0} (f : T → List ℕ) (is_first : Bool) (xs : List T) (is_empty : Bool) → is_empty ≡ nat_eq (length xs) 0 → (is_first && is_empty) ≡ is_still_first is_first (map f xs)
+still-first f true [] is_empty e = e
+still-first f false [] is_empty e = refl
+still-first f true (x ∷ xs) is_empty e = e ∙ eqb-suc-zero (length xs)
+still-first f false (x ∷ xs) is_empty e = refl
 
 -- all names, as a line shows them
-pub all-joined : (names : List (List ℕ)) → joined_behind (codes " --features ") names ≡ shown_features (with_names None names)
+pub all-joined : (names : List (List ℕ)) → joined_names true names ≡ shown_features (with_names None names)
 all-joined [] = refl
 all-joined (x ∷ xs) = refl
 

@@ -48,12 +48,17 @@ takes_option targets = is_option (slice_get targets (length targets - 1))
 abbrev pub folder_behind : List (List ℕ) → List ℕ → List ℕ
 folder_behind targets dir = if takes_option targets then [] else dir
 
--- names joined by `,`, after what comes before the first one
-abbrev pub joined_behind : List ℕ → List (List ℕ) → List ℕ
-joined_behind before [] = []
-joined_behind before (name ∷ names) = before ++ join_with_byte 44 (name ∷ names)
+-- what comes before a name, which is the first or not
+abbrev pub before_name : Bool → List ℕ
+before_name true = codes " --features "
+before_name false = codes ","
 
--- what comes before the next name, once these are written
-abbrev pub before_next : List ℕ → List (List ℕ) → List ℕ
-before_next before [] = before
-before_next before (name ∷ names) = codes ","
+-- names of a joined list, from its first one on or further ones
+abbrev pub joined_names : Bool → List (List ℕ) → List ℕ
+joined_names is_first [] = []
+joined_names is_first (name ∷ names) = before_name is_first ++ join_with_byte 44 (name ∷ names)
+
+-- the next name is still the first
+abbrev pub is_still_first : Bool → List (List ℕ) → Bool
+is_still_first is_first [] = is_first
+is_still_first is_first (name ∷ names) = false

@@ -15,7 +15,7 @@ ghost use Rattle.hack_plan.specs.View.{call_view, plan_package_view};
 ghost use Rattle.hack_plan.specs.Commands.{rustup_run_words, manifest_words, candidate_names_at, run_command};
 ghost use Rattle.hack_plan.specs.Commands.{run_names, run_words, target_pair, whole_command};
 ghost use Rattle.hack_plan.specs.Lines.{command_in, folder_behind, listed_text, names_in, own_in};
-ghost use Rattle.hack_plan.specs.Lines.{before_next, joined_behind, shown_manifest, shown_target};
+ghost use Rattle.hack_plan.specs.Lines.{before_name, joined_names, shown_manifest, shown_target};
 ghost use Rattle.hack_plan.specs.Lines.{takes_option};
 
 use crate::commands::{
@@ -298,38 +298,45 @@ impl fmt::Display for Names<'_> {
         ++ candidate_names_at (groups_of s.candidates.now) s.set.now))) };
 
     fn fmt<W: fmt::Write>(&self, f: &mut fmt::Formatter<W>) -> fmt::Result {
-        put_names(f, " --features ", self.features)?;
-        let mut before = before_next(" --features ", self.features);
+        put_names(f, true, self.features)?;
+        let mut is_first = self.features.is_empty();
         for position in self.set {
             let names = names_of(self.candidates, *position);
-            put_names(f, before, names)?;
-            before = before_next(before, names);
+            put_names(f, is_first, names)?;
+            is_first &= names.is_empty();
         }
         Ok(())
     }
 }
 
-/// Writes names: the first after `before`, each other one after a comma.
+/// Writes names of a joined list; `is_first` says whether none has been written before.
+#[inline(always)]
 fn put_names<W: fmt::Write>(
     f: &mut fmt::Formatter<W>,
-    before: &str,
+    is_first: bool,
     names: &[String],
 ) -> fmt::Result
     ensures { WritesOnOk W.write_str_gives f.old result
-        (joined_behind before.now (map string_bytes names.now)) f.new }
+        (joined_names is_first (map string_bytes names.now)) f.new }
 {
-    let mut before = before;
+    let mut is_first = is_first;
     for name in names {
-        f.write_str(before)?;
-        f.write_str(name.as_str())?;
-        before = ",";
+        put_name(f, is_first, name.as_str())?;
+        is_first = false;
     }
     Ok(())
 }
 
-/// What comes before the next name, once these names have been written, the first after `before`.
-fn before_next<'b>(before: &'b str, names: &[String]) -> &'b str
-    ensures { result.now ≡ before_next before.now (map string_bytes names.now) }
+/// Writes a name of a joined list. What comes before it is written as a constant, which costs less
+/// than a text.
+#[inline(always)]
+fn put_name<W: fmt::Write>(f: &mut fmt::Formatter<W>, is_first: bool, name: &str) -> fmt::Result
+    ensures { WritesOnOk W.write_str_gives f.old result (before_name is_first ++ name.now) f.new }
 {
-    if names.is_empty() { before } else { "," }
+    if is_first {
+        f.write_str(" --features ")?;
+    } else {
+        f.write_str(",")?;
+    }
+    f.write_str(name)
 }
