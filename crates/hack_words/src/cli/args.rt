@@ -1,26 +1,35 @@
 //! The parsed arguments of a call.
 
-ghost use Rattle.std.specs.Prelude.{◌≡◌, ◌++◌, IfOk, OnOk, codes, string_bytes};
+ghost use Rattle.std.specs.Prelude.{◌≡◌, ◌++◌, IfErr, IfOk, OnOk, codes, map, string_bytes};
 ghost use Rattle.std.specs.List.{repeat};
 ghost use Rattle.hack_base.specs.Names.{names_of, optional_text_ref, optional_text};
+ghost use Rattle.hack_base.specs.Notes.{note_of};
 ghost use Rattle.hack_uses.specs.PassedWords.{leading_of};
 ghost use Rattle.hack_uses.specs.Uses.{views};
 ghost use Rattle.hack_uses.specs.Values.{values_given};
 ghost use Rattle.hack_rules.specs.AskedFields.{verbose_words, excludes_no_default, excludes_all};
 ghost use Rattle.hack_rules.specs.AskedFields.{ignores_private as private_ignored};
 ghost use Rattle.hack_rules.specs.ListsView.{listed_view};
+ghost use Rattle.hack_words.specs.CommandLine.{ComesTo};
+ghost use Rattle.hack_words.specs.ParseAnswers.{AnswersCommandLine, BreakNoRule, Refuses};
+ghost use Rattle.hack_words.specs.ParseAnswers.{around_of};
 
+use crate::cli::env::Env;
+use crate::cli::parse::{Parsed, Surroundings, read_words};
 use hack_base::copies::{copy_of, push_copies};
+use hack_base::notice::Notice;
 use hack_features::Feature;
 use hack_options::Opt;
 use hack_rules::checks::has_some;
 use hack_rules::early::Early;
+use hack_rules::fault::CliFault;
 use hack_rules::late::Late;
 use hack_rules::listed::Lists;
 use hack_rules::named;
 use hack_term::partition::Partition;
 use hack_term::term::{Coloring, LogGroup};
 use hack_uses::{Use, WorkspaceBehavior, count, given, subcommand, value, values};
+use hack_versions::rustup::Rustup;
 use hack_versions::version::VersionRange;
 use std::alloc::{AllocError, Global};
 
@@ -88,6 +97,32 @@ pub struct Args {
     pub target: Vec<String>,
     pub no_default_features: bool,
     pub verbose: bool,
+}
+
+impl Args {
+    /// What the arguments after the program's name ask for, with the notices on them; or the error
+    /// of the first rule that they break. `rustup` matters where a range of versions is given.
+    pub fn parse(
+        alloc: Global,
+        words: &[String],
+        env: &Env,
+        rustup: Rustup,
+    ) -> Result<(Parsed, Vec<Notice>), CliFault>
+        ensures ok { IfOk result (λ answer.
+            AnswersCommandLine (around_of env.now rustup)
+            (ComesTo (around_of env.now rustup) (names_of words.now)) answer.0
+            (map note_of answer.1.items)) }
+        ensures never { IfOk result (λ _.
+            BreakNoRule (around_of env.now rustup) (names_of words.now)) }
+        ensures err { IfErr result (Refuses
+            (ComesTo (around_of env.now rustup) (names_of words.now))) }
+    {
+        let around = Surroundings {
+            env,
+            rustup: &rustup,
+        };
+        read_words(alloc, around, words)
+    }
 }
 
 /// The argument that passes `-v` on to cargo: one `v` less than was given.

@@ -7,7 +7,7 @@ ghost use Rattle.hack_uses.specs.PassedWords.{leading_of};
 ghost use Rattle.hack_uses.specs.Uses.{views};
 ghost use Rattle.hack_base.specs.Notes.{note_of, AddsNotes};
 ghost use Rattle.hack_words.specs.ParseAnswers.{Judges, IsJudged, IsText, IsPrinted, AnswersCommandLine};
-ghost use Rattle.hack_words.specs.ParseAnswers.{Refuses, GivesCuts, BreakNoRule, around_of, around_in};
+ghost use Rattle.hack_words.specs.ParseAnswers.{Refuses, GivesCuts, around_in};
 ghost use Rattle.hack_rules.specs.AskedFields.{is_old_asked};
 ghost use Rattle.hack_words.specs.CommandLine.{ComesFrom, ComesTo, Faulty, outcome_of};
 ghost use Rattle.hack_words.specs.CommandLine.{later_notes, in_vain};
@@ -45,9 +45,9 @@ pub enum Parsed {
 
 /// What a call reads besides its command line.
 #[derive(Clone, Copy)]
-struct Surroundings<'a> {
-    env: &'a Env,
-    rustup: &'a Rustup,
+pub(crate) struct Surroundings<'a> {
+    pub(crate) env: &'a Env,
+    pub(crate) rustup: &'a Rustup,
 }
 
 /// What the rules return.
@@ -209,7 +209,7 @@ fn parse_start(
 }
 
 /// The outcome of a command line, or the error of the first rule that it breaks.
-fn read_words(
+pub(crate) fn read_words(
     alloc: Global,
     around: Surroundings<'_>,
     words: &[String],
@@ -222,30 +222,4 @@ fn read_words(
 {
     let start = Start::of(alloc, words)?;
     parse_start(alloc, around, start)
-}
-
-impl Args {
-    /// What the arguments after the program's name ask for, with the notices on them; or the error
-    /// of the first rule that they break. `rustup` matters where a range of versions is given.
-    pub fn parse(
-        alloc: Global,
-        words: &[String],
-        env: &Env,
-        rustup: Rustup,
-    ) -> Result<(Parsed, Vec<Notice>), CliFault>
-        ensures ok { IfOk result (λ answer.
-            AnswersCommandLine (around_of env.now rustup)
-            (ComesTo (around_of env.now rustup) (names_of words.now)) answer.0
-            (map note_of answer.1.items)) }
-        ensures never { IfOk result (λ _.
-            BreakNoRule (around_of env.now rustup) (names_of words.now)) }
-        ensures err { IfErr result (Refuses
-            (ComesTo (around_of env.now rustup) (names_of words.now))) }
-    {
-        let around = Surroundings {
-            env,
-            rustup: &rustup,
-        };
-        read_words(alloc, around, words)
-    }
 }
