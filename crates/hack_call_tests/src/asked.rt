@@ -6,10 +6,10 @@ use crate::given::{Given, context_of, reason};
 use crate::packages::{package_names, package_runs};
 use crate::plans::{commands, counts, last, piece, runs, sets, versions};
 use hack_base::notice::Notice;
-use hack_planner::fault::PlanFault;
-use hack_planner::plan::{Plan, plan_of};
 use hack_holds::{Ask, Wrong, hold};
 use hack_load::context::Context;
+use hack_planner::fault::PlanFault;
+use hack_planner::plan::{Plan, plan_of};
 use hack_versions::version::Version;
 use std::alloc::{AllocError, Global};
 

@@ -9,10 +9,10 @@ use hack_base::notice::Notice;
 use hack_features::SampleFault;
 use hack_load::context::Context;
 use hack_metadata::metadata::{Metadata, PackageId};
+use hack_plan::runs::Run;
 use hack_planner::determine::{determine_kind, determine_package_list};
 use hack_planner::kind::{Kind, PackageRuns};
 use hack_planner::packages::PackageList;
-use hack_plan::runs::Run;
 use std::alloc::{AllocError, Global};
 
 /// Appends the names of packages to the text, and `(single)` where one remains after exclusions.

@@ -3,11 +3,11 @@
 use crate::shown::push_notices;
 use crate::workspace::push_all;
 use hack_base::notice::Notice;
-use hack_planner::plan::Plan;
-use hack_plan::progress::Progress;
-use hack_process::process::ProcessBuilder;
 use hack_plan::parts::{PlanVersion, Preparation};
 use hack_plan::plan::PlannedCommand;
+use hack_plan::progress::Progress;
+use hack_planner::plan::Plan;
+use hack_process::process::ProcessBuilder;
 use hack_term::partition::{Partition, PartitionFault};
 use std::alloc::{AllocError, Global};
 

@@ -4,7 +4,8 @@ ghost use Rattle.std.specs.Prelude.{◌≡◌, option_map};
 ghost use Rattle.toml.specs.View.{view, table_view, array_view};
 ghost use Rattle.hack_edits.specs.KeyPaths.{dev_key};
 ghost use Rattle.hack_edits.specs.Lookup.{has_key, some_table, lists, depends, has_target_dev};
-ghost use Rattle.hack_edits.specs.Lookup.{has_dev_under, has_dev, is_dev_only, is_dropped_text, item_goes};
+ghost use Rattle.hack_edits.specs.Lookup.{has_dev_under, has_dev, is_dev_only, is_dropped_text};
+ghost use Rattle.hack_edits.specs.Lookup.{item_goes};
 ghost use Rattle.hack_edits.specs.Lookup.{some_goes, loses_texts_at, feature};
 
 use hack_manifest::lookup::{find_table, value_at};

@@ -11,6 +11,8 @@ mod comparison;
 #[cfg(test)]
 mod given;
 #[cfg(test)]
+mod inputs;
+#[cfg(test)]
 mod list_faults;
 #[cfg(test)]
 mod lists;
@@ -24,8 +26,6 @@ mod plain;
 mod rules;
 #[cfg(test)]
 mod samples;
-#[cfg(test)]
-mod inputs;
 #[cfg(test)]
 mod settings;
 #[cfg(test)]

@@ -3,15 +3,16 @@
 
 ghost use Rattle.std.specs.Prelude.{◌≡◌, Err, IfOk, OnOk, option_copied};
 ghost use Rattle.hack_files.specs.Restore.{registered_files};
-ghost use Rattle.hack_load.specs.Answers.{AreAnswers, LoadsFromMetadata, IsAskFault, IsLoaded, LoadsTo};
+ghost use Rattle.hack_load.specs.Answers.{AreAnswers, LoadsFromMetadata, IsAskFault, IsLoaded};
+ghost use Rattle.hack_load.specs.Answers.{LoadsTo};
 ghost use Rattle.hack_load.specs.FilesAfterLoading.{LeavesFew, ReadsOnly};
 ghost use Rattle.hack_metadata.specs.FilesAfterAsking.{Whole};
 
+use crate::cargo_version::{CargoVersion, minor_of};
 use crate::fault::ContextFault;
 pub use crate::loaded::Loaded;
 use crate::located::Located;
 use crate::members::manifests_of;
-use crate::cargo_version::{CargoVersion, minor_of};
 use hack_files::fs::Files;
 use hack_files::restore::Manager;
 use hack_metadata::metadata::{AskFault, Metadata};

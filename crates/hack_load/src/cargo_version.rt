@@ -6,7 +6,8 @@ ghost use Rattle.hack_base.specs.Names.{optional_text};
 ghost use Rattle.hack_process.specs.Calls.{MayAdd};
 ghost use Rattle.hack_process.specs.CommandTexts.{text_of};
 ghost use Rattle.hack_process.specs.Commands.{asked_of, command_of};
-ghost use Rattle.hack_load.specs.CargoQuestions.{FailsSelf, IsSelf, TellsSelf, TellsVersion, self_command};
+ghost use Rattle.hack_load.specs.CargoQuestions.{FailsSelf, IsSelf, TellsSelf, TellsVersion};
+ghost use Rattle.hack_load.specs.CargoQuestions.{self_command};
 ghost use Rattle.hack_load.specs.CargoQuestions.{minor_told, told_version, unknown_version};
 ghost use Rattle.hack_versions.specs.ToolTexts.{answer_fault_text};
 

@@ -9,10 +9,12 @@ ghost use Rattle.hack_process.specs.Commands.{command_of};
 ghost use Rattle.hack_metadata.specs.Requests.{command_line};
 ghost use Rattle.hack_metadata.specs.RecordViews.{package_view, place_at};
 ghost use Rattle.hack_metadata.specs.MetadataView.{metadata_view};
-ghost use Rattle.hack_load.specs.Contexts.{IsWholeContext, is_member_or_none, place_among, package_at, manifest_at};
+ghost use Rattle.hack_load.specs.Contexts.{IsWholeContext, is_member_or_none, place_among};
+ghost use Rattle.hack_load.specs.Contexts.{package_at, manifest_at};
 ghost use Rattle.hack_load.specs.Contexts.{features_at, is_private_at, rust_version_at};
 ghost use Rattle.hack_load.specs.Contexts.{denies, verbose_name, manifest_rust_version};
-ghost use Rattle.hack_load.specs.ContextOf.{AreFeatures, IsContextCause, IsContextFrom, IsContextOf};
+ghost use Rattle.hack_load.specs.ContextOf.{AreFeatures, IsContextCause, IsContextFrom};
+ghost use Rattle.hack_load.specs.ContextOf.{IsContextOf};
 ghost use Rattle.hack_load.specs.ContextOf.{IsLoadCause, IsNodeFault, IsOfNode, IsTooOld};
 ghost use Rattle.hack_load.specs.ContextOf.{warnings_of};
 ghost use Rattle.hack_load.specs.Candidates.{MissesNode};
@@ -22,11 +24,11 @@ ghost use Rattle.hack_load.specs.Names.{name_text};
 ghost use Rattle.hack_base.specs.Notes.{note_of};
 
 pub use crate::answers::{Answers, Loaded};
+use crate::cargo_version::minor_of;
 pub use crate::fault::ContextFault;
 use crate::features::Features;
 pub use crate::located::{Located, current_package};
 pub use crate::name::VerboseName;
-use crate::cargo_version::minor_of;
 use hack_base::notice::{Notice, NoticeKind};
 use hack_base::paths::parent;
 use hack_manifest::manifest::Manifest;
@@ -66,7 +68,8 @@ impl Context {
         ensures notices { IfOk result (λ r.
             map note_of r.1.items ≡ warnings_of (told_version answers.cargo_version)) }
         ensures never { IfOk result (λ _. (e : ContextFault) → ¬ IsContextCause args answers e) }
-        ensures err { IfErr result (λ e. (e ≡ ContextFault.Memory) ⊎ IsContextCause args answers e) }
+        ensures err { IfErr result (λ e. (e ≡ ContextFault.Memory)
+            ⊎ IsContextCause args answers e) }
     {
         let Answers {
             cargo_version,

@@ -9,14 +9,16 @@ ghost use Rattle.std.specs.Str.{bytes_eq};
 ghost use Rattle.hack_features.specs.FeatureMap.{feature_map};
 ghost use Rattle.hack_base.specs.Names.{names_of};
 ghost use Rattle.hack_load.specs.Candidates.{MissesNode, names_dep, is_named, is_implicit};
-ghost use Rattle.hack_load.specs.Candidates.{optional_names, is_normal, dependency_name_in, name_among_dependencies};
+ghost use Rattle.hack_load.specs.Candidates.{optional_names, is_normal, dependency_name_in};
+ghost use Rattle.hack_load.specs.Candidates.{name_among_dependencies};
 ghost use Rattle.hack_load.specs.Candidates.{paths_to, paths_in};
 ghost use Rattle.hack_load.specs.Candidates.{node_paths, deps_paths, dependencies_at, paths_at};
 ghost use Rattle.hack_load.specs.Features.{AreNormals, ArePaths, AddsPaths};
 ghost use Rattle.hack_load.specs.Features.{AreCandidates, IsNodeRefusal};
 ghost use Rattle.hack_load.specs.Features.{IsRising};
 ghost use Rattle.hack_load.specs.Features.{texts_of, candidate_names_in};
-ghost use Rattle.hack_metadata.specs.RecordViews.{dependency_view, kind_view, node_dep_view, node_view};
+ghost use Rattle.hack_metadata.specs.RecordViews.{dependency_view, kind_view, node_dep_view};
+ghost use Rattle.hack_metadata.specs.RecordViews.{node_view};
 ghost use Rattle.hack_metadata.specs.RecordViews.{package_view};
 ghost use Rattle.hack_metadata.specs.MetadataView.{metadata_view};
 
@@ -315,7 +317,8 @@ fn is_normal(kind: &DepKindInfo) -> bool
 /// Returns the name that the dependencies use for a package: the rename of the first one with the
 /// package's name, or else that name.
 fn known_as<'a>(dependencies: &'a [Dependency], name: &str) -> Option<&'a str>
-    ensures { option_copied result ≡ name_among_dependencies (map dependency_view dependencies.now) name.now }
+    ensures { option_copied result ≡ name_among_dependencies
+        (map dependency_view dependencies.now) name.now }
 {
     for dependency in dependencies {
         if dependency.name.as_str() == name {

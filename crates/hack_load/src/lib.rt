@@ -4,6 +4,7 @@
 
 mod answers;
 pub mod cargo;
+mod cargo_version;
 pub mod context;
 mod fault;
 pub mod features;
@@ -12,7 +13,6 @@ mod located;
 mod members;
 mod name;
 pub mod process;
-mod cargo_version;
 
 pub use hack_manifest::manifest;
 pub use hack_metadata::metadata;

@@ -6,7 +6,8 @@ ghost use Rattle.hack_files.specs.Files.{GrowsBy, KeepsAll};
 ghost use Rattle.hack_metadata.specs.RecordViews.{package_view, place_at};
 ghost use Rattle.hack_metadata.specs.MetadataView.{metadata_view};
 ghost use Rattle.hack_load.specs.FilesAfterLoading.{ReadsOnly};
-ghost use Rattle.hack_load.specs.CargoQuestions.{AreOfMembers, IsMemberFault, IsOfMember, IsPackageFault};
+ghost use Rattle.hack_load.specs.CargoQuestions.{AreOfMembers, IsMemberFault, IsOfMember};
+ghost use Rattle.hack_load.specs.CargoQuestions.{IsPackageFault};
 ghost use Rattle.hack_load.specs.CargoQuestions.{IsCallFaultOfFile, IsOfManifest};
 
 use crate::fault::ContextFault;

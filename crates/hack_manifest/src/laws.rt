@@ -6,7 +6,8 @@ ghost use Rattle.hack_manifest.specs.Paths.{AreCut, View, joined_pieces};
 
 /// A manifest's text is read in only one way.
 pub fn manifest_is_one()
-    ensures { (text : List ℕ) (minor : ℕ) (read other : FieldReading Facts) → IsReadAs text minor read
+    ensures { (text : List ℕ) (minor : ℕ) (read other : FieldReading Facts)
+        → IsReadAs text minor read
         → IsReadAs text minor other → read ≡ other }
 {}
 

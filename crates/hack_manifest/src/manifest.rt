@@ -6,14 +6,15 @@ ghost use Rattle.toml.specs.Parse.{parse_document};
 ghost use Rattle.toml.specs.View.{table_view};
 ghost use Rattle.hack_manifest.specs.Manifest.{read_manifest};
 ghost use Rattle.hack_manifest.specs.PieceView.{slice_view};
-ghost use Rattle.hack_manifest.specs.ManifestResults.{ReturnsReading, ReturnsFacts, facts_view, IsManifest};
+ghost use Rattle.hack_manifest.specs.ManifestResults.{ReturnsReading, ReturnsFacts, facts_view};
+ghost use Rattle.hack_manifest.specs.ManifestResults.{IsManifest};
 ghost use Rattle.hack_manifest.specs.ManifestResults.{IsRefusal, IsTomlFault, IsFieldFault};
 
 use crate::fault::ReadFault;
 use crate::features::features_of;
+pub use crate::laws::{cut_is_one, manifest_is_one, pieces_join};
 pub use crate::package::Package;
 use crate::package::{package_of, package_table};
-pub use crate::laws::{cut_is_one, manifest_is_one, pieces_join};
 pub use crate::pieces::{Piece, Pieces, PiecesFault};
 use crate::pieces::{cut, is_inline};
 use std::alloc::{AllocError, Global};

@@ -3,7 +3,8 @@
 ghost use Rattle.toml.specs.View.{table_view};
 ghost use Rattle.hack_manifest.specs.Manifest.{package_in, publish_field, rust_version_field};
 ghost use Rattle.hack_manifest.specs.Manifest.{package_facts};
-ghost use Rattle.hack_manifest.specs.ManifestResults.{ReturnsReading, rust_version_view, package_facts_view};
+ghost use Rattle.hack_manifest.specs.ManifestResults.{ReturnsReading, rust_version_view};
+ghost use Rattle.hack_manifest.specs.ManifestResults.{package_facts_view};
 
 use crate::fault::ReadFault;
 use crate::lookup::{find_table, has_values, value_at};
@@ -22,7 +23,8 @@ pub struct Package {
 
 /// The table `package`, which must not be inline.
 pub fn package_table(tree: &Table, inline: bool) -> Result<&Table, ReadFault>
-    ensures { ReturnsReading (λ t. table_view t.now) result (package_in inline (table_view tree.now)) }
+    ensures { ReturnsReading (λ t. table_view t.now) result (package_in inline
+        (table_view tree.now)) }
 {
     if inline {
         return Err(ReadFault::Field("package"));
@@ -54,7 +56,8 @@ fn rust_version(
     table: &Table,
     cargo_version: u32,
 ) -> Result<Option<Option<String>>, ReadFault>
-    ensures { ReturnsReading rust_version_view result (rust_version_field cargo_version (table_view table.now)) }
+    ensures { ReturnsReading rust_version_view result (rust_version_field cargo_version
+        (table_view table.now)) }
 {
     if cargo_version >= 58 {
         return Ok(None);
@@ -68,7 +71,8 @@ fn rust_version(
 
 /// The content of the table `package`.
 pub fn package_of(alloc: Global, table: &Table, cargo_version: u32) -> Result<Package, ReadFault>
-    ensures { ReturnsReading package_facts_view result (package_facts cargo_version (table_view table.now)) }
+    ensures { ReturnsReading package_facts_view result (package_facts cargo_version
+        (table_view table.now)) }
 {
     let publish = publish(table, cargo_version)?;
     let rust_version = rust_version(alloc, table, cargo_version)?;

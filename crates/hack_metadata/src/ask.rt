@@ -8,10 +8,13 @@ ghost use Rattle.hack_files.specs.Restore.{registered_files};
 ghost use Rattle.hack_process.specs.Calls.{Call, MayAdd};
 ghost use Rattle.hack_process.specs.Commands.{asked_of, command_of};
 ghost use Rattle.hack_metadata.specs.AskView.{question_of};
-ghost use Rattle.hack_metadata.specs.QuestionCalls.{AsksCargo, EndsSo, FailsToRead, FailsFirst, FallsBack};
-ghost use Rattle.hack_metadata.specs.QuestionCalls.{IsLockfile, ReadsOutput, StopsQuestion, LeadsToStage, WroteWhereKnown};
+ghost use Rattle.hack_metadata.specs.QuestionCalls.{AsksCargo, EndsSo, FailsToRead, FailsFirst};
+ghost use Rattle.hack_metadata.specs.QuestionCalls.{FallsBack};
+ghost use Rattle.hack_metadata.specs.QuestionCalls.{IsLockfile, ReadsOutput, StopsQuestion};
+ghost use Rattle.hack_metadata.specs.QuestionCalls.{LeadsToStage, WroteWhereKnown};
 ghost use Rattle.hack_metadata.specs.QuestionCalls.{first, locked, newer};
-ghost use Rattle.hack_metadata.specs.FilesAfterAsking.{FailsOver, IsNoFileFault, LeavesFiles, PutsHeld};
+ghost use Rattle.hack_metadata.specs.FilesAfterAsking.{FailsOver, IsNoFileFault, LeavesFiles};
+ghost use Rattle.hack_metadata.specs.FilesAfterAsking.{PutsHeld};
 ghost use Rattle.hack_metadata.specs.Requests.{first_command, full_of, question};
 
 use crate::answers::{metadata_in, read, root_in, run, try_read};
@@ -137,7 +140,8 @@ impl<'a> Question<'a> {
         ensures needs { manager.new.needs_restore ≡ manager.old.needs_restore }
         ensures ends { C.tells → (start : List Call) → LeadsToStage F.tells (question_of self.now)
             (F.bytes_at files.old) start (newer minor) (C.calls caller.old) []
-            → EndsSo F.tells (question_of self.now) (F.bytes_at files.old) start (C.calls caller.new)
+            → EndsSo F.tells (question_of self.now) (F.bytes_at files.old) start
+            (C.calls caller.new)
             (WroteWhereKnown F.whole F.tells (F.trace files.old) (F.trace files.new)
             (F.bytes_at files.old) (F.bytes_at files.new)) result }
     {
@@ -161,7 +165,8 @@ impl<'a> Question<'a> {
             IsLockfile (string_bytes f.text) (string_bytes f.lockfile)) }
         ensures ok { IfOk result (λ f. C.tells → ReadsOutput (first_command (question_of self.now))
             (string_bytes f.text) (C.calls caller.old) (C.calls caller.new)) }
-        ensures err { IfErr result (λ e. C.tells → (minor : ℕ) → FailsFirst (question_of self.now) minor
+        ensures err { IfErr result (λ e. C.tells → (minor : ℕ)
+            → FailsFirst (question_of self.now) minor
             (C.calls caller.old) (C.calls caller.new) e) }
         ensures spares { IfErr result IsNoFileFault }
     {
@@ -187,13 +192,16 @@ impl<'a> Question<'a> {
         files: &mut F,
     ) -> Result<(), AskFault>
         ensures stays { F.stays files.old files.new }
-        ensures left { LeavesFiles lockfile.now F.tells (F.bytes_at files.old) (F.bytes_at files.new)
+        ensures left { LeavesFiles lockfile.now F.tells (F.bytes_at files.old)
+            (F.bytes_at files.new)
             (F.failed files.old) (F.failed files.new) result }
         ensures untraced { F.whole → Makes [] (F.trace files.old) (F.trace files.new)
             (F.bytes_at files.old) (F.bytes_at files.new) }
         ensures ok { OnOk result (C.tells → (start : List Call) (minor : ℕ) (text : List ℕ)
-            → IsLockfile text lockfile.now → LeadsToStage F.tells (question_of self.now) (F.bytes_at files.old)
-            start (first minor text) (C.calls caller.old) [] → LeadsToStage F.tells (question_of self.now)
+            → IsLockfile text lockfile.now → LeadsToStage F.tells (question_of self.now)
+            (F.bytes_at files.old)
+            start (first minor text) (C.calls caller.old) []
+            → LeadsToStage F.tells (question_of self.now)
             (F.bytes_at files.old) start (locked minor text) (C.calls caller.new) []) }
         ensures err { IfErr result (λ e. C.tells → (minor : ℕ) (text : List ℕ)
             → IsLockfile text lockfile.now → StopsQuestion (question_of self.now) (first minor text)
@@ -220,7 +228,8 @@ impl<'a> Question<'a> {
         manager: &mut Manager,
     ) -> Result<Option<String>, AskFault>
         ensures stays { F.stays files.old files.new }
-        ensures left { LeavesFiles lockfile.now F.tells (F.bytes_at files.old) (F.bytes_at files.new)
+        ensures left { LeavesFiles lockfile.now F.tells (F.bytes_at files.old)
+            (F.bytes_at files.new)
             (F.failed files.old) (F.failed files.new) result }
         ensures kept { registered_files manager.new ≡ registered_files manager.old }
         ensures needs { manager.new.needs_restore ≡ manager.old.needs_restore }

@@ -136,7 +136,8 @@ pub(crate) fn stable_minor<C: Caller>(
     env: &Env,
     caller: &mut C,
 ) -> Result<u32, AllocError>
-    ensures ok { IfOk result (λ minor. C.tells → TellsStableMinor (string_bytes env.now.rustup) minor
+    ensures ok { IfOk result (λ minor. C.tells → TellsStableMinor
+        (string_bytes env.now.rustup) minor
         (C.calls caller.old) (C.calls caller.new)) }
     ensures err { OnErr result (C.tells → MayAdd
         (asked_of true (version_command (string_bytes env.now.rustup)))

@@ -5,7 +5,8 @@ ghost use Rattle.std.specs.Prelude.{OnErr, IsOk, IsTrue, IsSome};
 ghost use Rattle.hack_files.specs.Files.{KeepsAll, Makes, MakesOrNot};
 ghost use Rattle.hack_files.specs.Restore.{Kept, registered_files, write_of};
 ghost use Rattle.hack_metadata.specs.FileFaults.{IsUnread};
-ghost use Rattle.hack_metadata.specs.FilesAfterAsking.{IsFileFault, KeepsOneMore, LeavesFiles, RestoresFile, IsAskFaultOfFile};
+ghost use Rattle.hack_metadata.specs.FilesAfterAsking.{IsFileFault, KeepsOneMore, LeavesFiles};
+ghost use Rattle.hack_metadata.specs.FilesAfterAsking.{RestoresFile, IsAskFaultOfFile};
 
 use crate::ask_fault::AskFault;
 use hack_files::fs;

@@ -9,10 +9,12 @@ ghost use Rattle.serde_json.specs.View.{view, items_view, members_view};
 ghost use Rattle.hack_metadata.specs.Fields.{read_all, KeepsOtherFields};
 ghost use Rattle.hack_metadata.specs.FieldResults.{ReturnsField};
 ghost use Rattle.hack_metadata.specs.MetadataReading.{read_metadata, read_behind, read_member};
-ghost use Rattle.hack_metadata.specs.MetadataReading.{workspace_members_in, resolve_in, ids_of, place_of, distinct};
+ghost use Rattle.hack_metadata.specs.MetadataReading.{workspace_members_in, resolve_in, ids_of};
+ghost use Rattle.hack_metadata.specs.MetadataReading.{place_of, distinct};
 ghost use Rattle.hack_metadata.specs.KnownIds.{Bounds, are_known};
 ghost use Rattle.hack_metadata.specs.Records.{node_at};
-ghost use Rattle.hack_metadata.specs.RecordViews.{package_view, node_view, nodes_view, place_at, place_in};
+ghost use Rattle.hack_metadata.specs.RecordViews.{package_view, node_view, nodes_view, place_at};
+ghost use Rattle.hack_metadata.specs.RecordViews.{place_in};
 
 pub use crate::ask_fault::AskFault;
 pub use crate::fault::MetadataFault;

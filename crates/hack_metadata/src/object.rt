@@ -61,7 +61,8 @@ pub trait ObjectExt {
 
     /// Takes out a value that may be null. None where it is null.
     fn remove_nullable(&mut self, key: &'static str) -> Result<Option<Value>, MetadataFault>
-        ensures value { ReturnsField (option_map view) result (nullable_in key.now (members self.old)) }
+        ensures value { ReturnsField (option_map view) result (nullable_in key.now
+            (members self.old)) }
         ensures no_memory { result ≢ Err MetadataFault.Memory }
         ensures others { KeepsOtherFields key.now (members self.old) (members self.new) };
 }
@@ -102,7 +103,8 @@ impl ObjectExt for Object {
 /// Returns what a field holds, or an element of it, as an object. Where it is none, the error names
 /// the field.
 pub(crate) fn element(value: Value, list: &'static str) -> Result<Object, MetadataFault>
-    ensures value { ReturnsField (λ m. members_view m.entries) result (element_of list.now (view value)) }
+    ensures value { ReturnsField (λ m. members_view m.entries) result (element_of list.now
+        (view value)) }
     ensures no_memory { result ≢ Err MetadataFault.Memory }
 {
     into_object(value).ok_or(MetadataFault::Field(list))
@@ -110,7 +112,8 @@ pub(crate) fn element(value: Value, list: &'static str) -> Result<Object, Metada
 
 /// Takes out a boolean.
 pub(crate) fn remove_bool(object: &mut Object, key: &'static str) -> Result<bool, MetadataFault>
-    ensures value { ReturnsField (λ b. b) result (bool_in key.now (members_view object.old.entries)) }
+    ensures value { ReturnsField (λ b. b) result (bool_in key.now
+        (members_view object.old.entries)) }
     ensures others { KeepsOtherFields key.now (members_view object.old.entries)
         (members_view object.new.entries) }
 {

@@ -182,7 +182,8 @@ fn remove_features(
     alloc: Global,
     object: &mut Object,
 ) -> Result<BTreeMap<String, Vec<String>>, MetadataFault>
-    ensures value { ReturnsField feature_map result (features_in (members_view object.old.entries)) }
+    ensures value { ReturnsField feature_map result (features_in
+        (members_view object.old.entries)) }
     ensures others { KeepsOtherFields (codes "features") (members_view object.old.entries)
         (members_view object.new.entries) }
 {

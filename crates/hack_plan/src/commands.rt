@@ -10,13 +10,14 @@ ghost use Rattle.hack_process.specs.Commands.{command_of};
 ghost use Rattle.hack_plan.specs.View.{call_view, plan_package_view};
 ghost use Rattle.hack_plan.specs.Commands.{toolchain_of, program_of, rustup_run_words, is_split};
 ghost use Rattle.hack_plan.specs.Commands.{targets_in, target_pair, manifest_words, run_words};
-ghost use Rattle.hack_plan.specs.Commands.{candidate_names_at, call_command, plain_command, locked_words};
+ghost use Rattle.hack_plan.specs.Commands.{candidate_names_at, call_command, plain_command};
+ghost use Rattle.hack_plan.specs.Commands.{locked_words};
 ghost use Rattle.hack_plan.specs.Commands.{cleaned_words, clean_command, lockfile_command};
 ghost use Rattle.hack_plan.specs.Commands.{slot_target};
 
 use crate::parts::{CommandParts, PlanPackage};
-use hack_features::Feature;
 use crate::runs::Run;
+use hack_features::Feature;
 use hack_process::process::ProcessBuilder;
 use hack_versions::version::Version;
 use std::alloc::{AllocError, Global};
@@ -62,7 +63,8 @@ impl CommandParts {
         version: Option<Version>,
     ) -> Result<ProcessBuilder<'a>, AllocError>
         ensures { IfOk result (λ command. command_of command
-            ≡ plain_command (program_of (call_view self.now) version) (rustup_run_words version) []) }
+            ≡ plain_command (program_of (call_view self.now) version)
+            (rustup_run_words version) []) }
     {
         let words = leading(alloc, version)?;
         let mut command = ProcessBuilder::new(alloc, self.program_of(version))?;
@@ -234,7 +236,8 @@ pub(crate) fn push_manifest<'a>(
     path: Option<&'a str>,
 ) -> Result<(), AllocError>
     ensures { OnOk result (names_behind words.new.items
-        ≡ names_behind words.old.items ++ manifest_words (option_map (λ path. path.now) path.entry)) }
+        ≡ names_behind words.old.items ++ manifest_words (option_map
+        (λ path. path.now) path.entry)) }
 {
     match path {
         Some(path) => push_pair(words, "--manifest-path", path),

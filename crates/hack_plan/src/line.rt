@@ -12,7 +12,8 @@ ghost use Rattle.hack_process.specs.Commands.{command_of};
 ghost use Rattle.hack_process.specs.CommandTexts.{each_spaced, shown_features, shown_words};
 ghost use Rattle.hack_process.specs.CommandTexts.{with_names};
 ghost use Rattle.hack_plan.specs.View.{call_view, plan_package_view};
-ghost use Rattle.hack_plan.specs.Commands.{rustup_run_words, manifest_words, candidate_names_at, run_command};
+ghost use Rattle.hack_plan.specs.Commands.{rustup_run_words, manifest_words, candidate_names_at};
+ghost use Rattle.hack_plan.specs.Commands.{run_command};
 ghost use Rattle.hack_plan.specs.Commands.{run_names, run_words, target_pair, whole_command};
 ghost use Rattle.hack_plan.specs.Lines.{command_in, folder_behind, listed_text, names_in, own_in};
 ghost use Rattle.hack_plan.specs.Lines.{before_name, joined_names, shown_manifest, shown_target};
@@ -22,9 +23,9 @@ use crate::commands::{
     names_of, push_all, push_manifest, push_names, push_run, push_targets, run_word, text_in,
 };
 use crate::parts::{CommandParts, PlanPackage};
+use crate::runs::Run;
 use hack_base::paths::{stem, under};
 use hack_features::Feature;
-use crate::runs::Run;
 use hack_process::process::{ProcessBuilder, Spaced, Trailing};
 use hack_versions::version::Version;
 use std::alloc::{AllocError, Global};

@@ -1,7 +1,7 @@
 //! What a plan's commands are made from.
 
-use hack_features::Feature;
 use crate::runs::Runs;
+use hack_features::Feature;
 use hack_versions::version::Version;
 
 /// What all commands of a call have in common.

@@ -184,7 +184,11 @@ impl Places {
     }
 
     /// The plan of an input without a range.
-    fn without_range(alloc: Global, input: &PlanInput, counts: &[usize]) -> Result<Places, PlacesFault>
+    fn without_range(
+        alloc: Global,
+        input: &PlanInput,
+        counts: &[usize],
+    ) -> Result<Places, PlacesFault>
         requires none { input.now.range ≡ None }
         requires counted { AreCounted input.now counts.now }
         ensures ok { IfOk result (λ p. Lists (IsAdmissible input.now counts.now []) p.entries) }

@@ -17,8 +17,8 @@ ghost use Rattle.hack_plan.specs.Plans.{counts_in};
 pub use crate::commands::toolchain;
 pub use crate::line::RunLine;
 use crate::parts::{CommandParts, PlanPackage, PlanVersion};
-use crate::prepared::prepared;
 use crate::places::{Places, PlacesFault, PlanEntry};
+use crate::prepared::prepared;
 use crate::versions::{PlanInput, Versions};
 use hack_process::process::ProcessBuilder;
 use hack_versions::version::Version;
@@ -166,12 +166,20 @@ impl Plan {
         requires { entry.rank < length (plan_package_view member.now).runs }
         ensures dir { IfOk result (λ line. (call_view line.words.now).dir ≡ self.now.call.dir) }
         ensures command { IfOk result (λ line. command_in line
-            ≡ ranked_command self.now.call entry.version entry.slot (Some (plan_package_view member.now))
+            ≡ ranked_command self.now.call entry.version entry.slot (Some
+            (plan_package_view member.now))
             entry.rank) }
     {
         let mut positions = Vec::with_capacity(alloc, member.candidates.len())?;
         let run = member.runs.run(entry.rank, &mut positions)?;
-        Ok(RunLine::of_package(&self.words, entry.version, entry.slot, member, run, positions))
+        Ok(RunLine::of_package(
+            &self.words,
+            entry.version,
+            entry.slot,
+            member,
+            run,
+            positions,
+        ))
     }
 
     /// The command that removes all artifacts, before the runs of a version.
@@ -281,7 +289,8 @@ impl Plan {
         requires versions { AreVersions input.now versions.now }
         requires packages { length packages.items ≡ length input.now.packages.items }
         ensures call { IfOk result (λ plan. plan.call ≡ call_view words) }
-        ensures packages { IfOk result (λ plan. plan.packages ≡ map plan_package_view packages.items) }
+        ensures packages { IfOk result (λ plan. plan.packages
+            ≡ map plan_package_view packages.items) }
         ensures entries { IfOk result (λ plan. ArePlaces input.now (counts_in packages.items)
             versions.now.stable plan.entries) }
         ensures spans { IfOk result (AreLaid (versions_of input.now.range

@@ -11,7 +11,9 @@ ghost use Rattle.hack_base.specs.Notes.{note_of};
 ghost use Rattle.hack_plan.specs.View.{plan_package_view};
 ghost use Rattle.hack_planner.specs.Calls.{IsPlanned, ArePlanned, SaysNoSample, HasRunsFault};
 
+use crate::determine::determine_kind;
 use crate::fault::PlanFault;
+use crate::kind::Kind;
 use crate::words::given_path;
 use hack_base::copies::copies;
 use hack_base::notice::Notice;
@@ -19,10 +21,8 @@ use hack_features::{Feature, SampleFault};
 use hack_load::context::Context;
 use hack_load::process::features_for;
 use hack_metadata::metadata::PackageId;
-use crate::determine::determine_kind;
-use crate::kind::Kind;
-use hack_plan::runs::Runs;
 use hack_plan::parts::PlanPackage;
+use hack_plan::runs::Runs;
 use std::alloc::{AllocError, Global};
 
 /// The candidates and the runs of a kind.
@@ -88,7 +88,8 @@ pub(crate) fn chosen_packages(
     requires { All (λ id. Contains (context_view cx.now).metadata.workspace_members id.index)
         ids.now }
     ensures ok { IfOk result (λ answer. ArePlanned (context_view cx.now) single
-        (map place_at ids.now) (map plan_package_view answer.0.items) (map note_of answer.1.items)) }
+        (map place_at ids.now) (map plan_package_view answer.0.items)
+        (map note_of answer.1.items)) }
     ensures err { IfErr result (λ e. (e ≡ PlanFault.Memory)
         ⊎ HasRunsFault (context_view cx.now) (map place_at ids.now) e) }
 {

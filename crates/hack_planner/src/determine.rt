@@ -15,7 +15,8 @@ ghost use Rattle.hack_planner.specs.Kinds.{AreRunSettings, package_choice};
 ghost use Rattle.hack_samples.specs.Sets.{rows_of};
 ghost use Rattle.hack_planner.specs.KindsView.{IsKind, IsRunsFault, runs_of};
 ghost use Rattle.hack_planner.specs.LeastRuns.{HasRunsAtLeast};
-ghost use Rattle.hack_planner.specs.ContextMembers.{member_at, members_in, package_name_at as named_at};
+ghost use Rattle.hack_planner.specs.ContextMembers.{member_at, members_in};
+ghost use Rattle.hack_planner.specs.ContextMembers.{package_name_at as named_at};
 ghost use Rattle.hack_planner.specs.ContextMembers.{current_name as current_called};
 ghost use Rattle.hack_planner.specs.ContextMembers.{AreChosen, IsChoiceFault, known_as};
 

@@ -2,7 +2,8 @@
 //!
 //! That this finds every such call isn't promised: the plan refuses the others.
 
-ghost use Rattle.std.specs.Prelude.{◌≡◌, ◌⊎◌, All, Bool, Contains, IfErr, IfOk, List, None, map, true};
+ghost use Rattle.std.specs.Prelude.{◌≡◌, ◌⊎◌, All, Bool, Contains, IfErr, IfOk, List, None, map};
+ghost use Rattle.std.specs.Prelude.{true};
 ghost use Rattle.hack_base.specs.Notes.{Note};
 ghost use Rattle.hack_load.specs.ContextView.{context_view};
 ghost use Rattle.hack_metadata.specs.RecordViews.{place_at};
@@ -12,10 +13,10 @@ ghost use Rattle.hack_planner.specs.Calls.{IsInputOf};
 ghost use Rattle.hack_planner.specs.LeastPlaces.{HasAtLeast, HaveAtLeast};
 ghost use Rattle.hack_planner.specs.CallPlan.{IsCause};
 
+use crate::determine::least_count;
 use crate::fault::{PlanFault, of_places};
 use hack_load::context::Context;
 use hack_metadata::metadata::PackageId;
-use crate::determine::least_count;
 use hack_plan::places::Places;
 use hack_plan::versions::{PlanInput, Versions};
 use std::alloc::{AllocError, Global};

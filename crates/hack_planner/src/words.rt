@@ -39,7 +39,8 @@ pub(crate) fn given_path(
 
 /// The current package, as cargo locates it.
 fn current(cx: &Context) -> Option<&Package>
-    ensures { option_map (λ p. package_record p.now) result ≡ current_package_of (context_view cx.now) }
+    ensures { option_map (λ p. package_record p.now) result
+        ≡ current_package_of (context_view cx.now) }
 {
     match cx.current_package() {
         Some(id) => cx.metadata().find(id),
@@ -48,7 +49,11 @@ fn current(cx: &Context) -> Option<&Package>
 }
 
 /// What all commands of the call have in common. `rustup` is the program to run as rustup.
-pub(crate) fn call_words(alloc: Global, cx: &Context, rustup: &str) -> Result<CommandParts, AllocError>
+pub(crate) fn call_words(
+    alloc: Global,
+    cx: &Context,
+    rustup: &str,
+) -> Result<CommandParts, AllocError>
     ensures { IfOk result (λ words. call_view words ≡ call_of (context_view cx.now) rustup.now) }
 {
     let args = cx.args();

@@ -3,7 +3,8 @@
 ghost use Rattle.std.specs.Prelude.{◌≡◌, ◌⊎◌, drop, OnOk, IfOk, IfErr};
 ghost use Rattle.std.specs.Vec.Iter.{into_iter_items};
 ghost use Rattle.hack_base.specs.Writes.{NoFewer};
-ghost use Rattle.hack_powerset_list.specs.Endings.{EndsWithList, EndsWithError, RefusesCall, WritesForCall};
+ghost use Rattle.hack_powerset_list.specs.Endings.{EndsWithList, EndsWithError, RefusesCall};
+ghost use Rattle.hack_powerset_list.specs.Endings.{WritesForCall};
 ghost use Rattle.hack_powerset_list.specs.Streams.{IsCounted};
 
 use crate::fault::ListFault;

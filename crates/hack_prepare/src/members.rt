@@ -115,8 +115,10 @@ fn edit_member<F: Files>(
         (F.trace files.old) (F.trace files.new) (F.bytes_at files.old) (F.bytes_at files.new)) }
     ensures told { OnOk result (AddsNotes notices.old notices.new
         (dev_note verbose (member_manifest_view member.now).path)) }
-    ensures err { IfErr result (IsPathFaultOr Nowhere (Only (member_manifest_view member.now).path) Nowhere
-        (IsDevFault (member_manifest_view member.now).path (member_manifest_view member.now).text)) }
+    ensures err { IfErr result (IsPathFaultOr Nowhere (Only
+        (member_manifest_view member.now).path) Nowhere
+        (IsDevFault (member_manifest_view member.now).path
+        (member_manifest_view member.now).text)) }
 {
     tell_dev(alloc, verbose, member.path, notices)?;
     let text = without_dev(alloc, member.path, member.text)?;

@@ -224,7 +224,8 @@ fn edit_held<F: Files>(
     ensures err { IfErr result (IsPathFaultOr Nowhere
         (OnlyIf (drops_dev || has_some (names_behind private.now)) wanted.now.root.now) Nowhere
         (λ e. ((drops_dev || has_some (names_behind private.now)) ≡ true)
-        × IsRootTextFault (wanted_view wanted.now) drops_dev (names_behind private.now) held.now e)) }
+        × IsRootTextFault (wanted_view wanted.now) drops_dev
+        (names_behind private.now) held.now e)) }
 {
     if !is_asked(drops_dev, private) {
         return Ok(());

@@ -4,7 +4,8 @@ ghost use Rattle.std.specs.Prelude.{◌≡◌, Contains, IfOk, Some, map};
 ghost use Rattle.hack_load.specs.Contexts.{IsWholeContext};
 ghost use Rattle.hack_load.specs.ContextView.{context_view};
 ghost use Rattle.hack_prepare.specs.Prepared.{is_removed, is_alone, is_left, is_root};
-ghost use Rattle.hack_prepare.specs.PreparedView.{member_manifest_at, member_manifest_view, member_manifests_in, wanted_view};
+ghost use Rattle.hack_prepare.specs.PreparedView.{member_manifest_at, member_manifest_view};
+ghost use Rattle.hack_prepare.specs.PreparedView.{member_manifests_in, wanted_view};
 
 use hack_load::context::Context;
 use hack_metadata::metadata::PackageId;
@@ -71,7 +72,8 @@ impl Wanted<'_> {
 fn member_of<'a>(cx: &'a Context, id: &PackageId) -> Member<'a>
     requires member { Contains (context_view cx.now).metadata.workspace_members id.now.index }
     requires whole { IsWholeContext (context_view cx.now) }
-    ensures { member_manifest_at (context_view cx.now) id.now.index ≡ Some (member_manifest_view result) }
+    ensures { member_manifest_at (context_view cx.now) id.now.index
+        ≡ Some (member_manifest_view result) }
 {
     Member {
         path: cx.packages(*id).manifest_path.as_str(),

@@ -4,7 +4,8 @@ ghost use Rattle.std.specs.Prelude.{◌≡◌, ◌≢◌, IfOk, None};
 ghost use Rattle.hack_base.specs.Names.{names_of, optional_text};
 ghost use Rattle.hack_run.specs.TemporaryEdits.{RestoresEdits};
 ghost use Rattle.hack_rules.specs.declared.fault.CliFault.TheVariants.{Memory};
-ghost use Rattle.hack_recovery.specs.AskedEdits.{AsksFor, edits_asked, edits_by, is_edit, manifest_by};
+ghost use Rattle.hack_recovery.specs.AskedEdits.{AsksFor, edits_asked, edits_by, is_edit};
+ghost use Rattle.hack_recovery.specs.AskedEdits.{manifest_by};
 
 use hack_base::copies::copy_of;
 use hack_versions::rustup::Rustup;

@@ -33,7 +33,8 @@ pub(crate) fn begin<F: Files>(
     env: &Env,
     files: &mut F,
 ) -> Result<Begun, AllocError>
-    ensures begun { IfOk result (λ begun. FindsJournal F.tells (names_of words.now) env.now begun.edits
+    ensures begun { IfOk result (λ begun. FindsJournal F.tells
+        (names_of words.now) env.now begun.edits
         (string_bytes begun.folder) (string_bytes begun.journal) begun.is_there
         (files_of (F.bytes_at files.old) (F.trace files.old) (F.failed files.old))
         (files_of (F.bytes_at files.new) (F.trace files.new) (F.failed files.new))) }

@@ -1,7 +1,8 @@
 //! Locks on folders: who may use a workspace's journal.
 
 ghost use Rattle.std.specs.Prelude.{◌≡◌, [], IfOk, OnErr, false, map};
-ghost use Rattle.hack_recovery.specs.LockEvents.{LocksView, after_asking, after_release, has_lock_after};
+ghost use Rattle.hack_recovery.specs.LockEvents.{LocksView, after_asking, after_release};
+ghost use Rattle.hack_recovery.specs.LockEvents.{has_lock_after};
 ghost use Rattle.hack_recovery.specs.MemoryLocks.{taking_of};
 
 use std::alloc::{AllocError, Global};

@@ -6,7 +6,8 @@ ghost use Rattle.hack_base.specs.Names.{names_of};
 ghost use Rattle.hack_files.specs.Files.{KeepsAll, Makes};
 ghost use Rattle.hack_recovery.specs.LockEvents.{LocksView};
 ghost use Rattle.hack_recovery.specs.FileLooks.{files_of};
-ghost use Rattle.hack_recovery.specs.CallCourses.{Continues, CallLeadsTo, LockedCallLeadsTo, IsJournalClosed, IsJournaledCall};
+ghost use Rattle.hack_recovery.specs.CallCourses.{Continues, CallLeadsTo, LockedCallLeadsTo};
+ghost use Rattle.hack_recovery.specs.CallCourses.{IsJournalClosed, IsJournaledCall};
 ghost use Rattle.hack_recovery.specs.CallCourses.{world_of};
 
 use crate::admit::{Way, admit};
@@ -101,7 +102,8 @@ fn guarded<F: Files, L: Files, K: Locks, C: Caller, O: Write, E: Write>(
     ensures one { (result.0 ≡ 1)
         ↔ (IsTrue term.new.error ⊎ (IsTrue term.new.warn × IsTrue env.now.deny_warnings)) }
     ensures at_most_one { result.0 ≤ 1 }
-    ensures goes { LockedCallLeadsTo F.tells F.whole L.tells C.tells K.tells (names_of words.now) env.now
+    ensures goes { LockedCallLeadsTo F.tells F.whole L.tells C.tells K.tells
+        (names_of words.now) env.now
         begun.edits (string_bytes begun.folder) (string_bytes begun.journal)
         (world_of (files_of (F.bytes_at files) (F.trace files) (F.failed files))
         (L.bytes_at lockfiles) (K.shown locks.old) (C.calls caller.old) (O.contents out.old)

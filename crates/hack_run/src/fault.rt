@@ -1,7 +1,7 @@
 //! The errors that end a call.
 
-use hack_planner::fault::PlanFault;
 use hack_load::context::ContextFault;
+use hack_planner::fault::PlanFault;
 use hack_prepare::manifest::PrepareFault;
 use hack_process::process::ProcessFault;
 use hack_words::cli::CliFault;

@@ -8,8 +8,8 @@ ghost use Rattle.hack_run.specs.ScheduleCalls.{DoesPlan, RunsAll};
 
 use crate::drive::drive_context;
 use crate::fault::RunFault;
-use hack_planner::fault::PlanFault;
 use hack_load::context::Context;
+use hack_planner::fault::PlanFault;
 use hack_process::process::{Caller, ProcessFault};
 use hack_session::session::{Handed, History, Outcome, Session, Starter, Step};
 use hack_session::suspect_notes::suspect_notes;

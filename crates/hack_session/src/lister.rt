@@ -9,16 +9,17 @@ ghost use Rattle.hack_process.specs.Commands.{command_of, line_text};
 ghost use Rattle.hack_plan.specs.Commands.{clean_command};
 ghost use Rattle.hack_plan.specs.Lines.{listed_text};
 ghost use Rattle.hack_session.specs.Histories.{IsStepOf};
-ghost use Rattle.hack_session.specs.ListLines.{CountsLines, ListsAll, is_sent, is_sent_step, line_of};
+ghost use Rattle.hack_session.specs.ListLines.{CountsLines, ListsAll, is_sent, is_sent_step};
+ghost use Rattle.hack_session.specs.ListLines.{line_of};
 ghost use Rattle.hack_session.specs.ListLines.{page_of, run_lines_at, step_lines};
 ghost use Rattle.hack_session.specs.JoinedLists.{listed_more, sent_more};
 
 use crate::lines::{LineFault, Lines};
 use crate::runner::Runner;
 use crate::step::{Outcome, Step};
-use hack_process::process::{Line, ProcessBuilder};
 use hack_plan::parts::Preparation;
 use hack_plan::plan::{Plan, RunLine};
+use hack_process::process::{Line, ProcessBuilder};
 use std::alloc::Global;
 use std::fmt;
 

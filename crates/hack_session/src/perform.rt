@@ -3,12 +3,16 @@
 ghost use Rattle.std.specs.Prelude.{◌≡◌, ◌⊎◌, ◌<◌, ◌∷◌, [], IfOk, MatchResult, None, Some, codes};
 ghost use Rattle.std.specs.Prelude.{false, length, option_map, slice_get, string_bytes};
 ghost use Rattle.hack_process.specs.Commands.{asked_of, command_of};
-ghost use Rattle.hack_plan.specs.Commands.{clean_command, command_of_entry, name_in, chosen_package_at};
+ghost use Rattle.hack_plan.specs.Commands.{clean_command, command_of_entry, name_in};
+ghost use Rattle.hack_plan.specs.Commands.{chosen_package_at};
 ghost use Rattle.hack_session.specs.Histories.{IsStepOf};
-ghost use Rattle.hack_session.specs.StepCalls.{Breaks, BreaksInstallAt, EndsOrIsCut, Exactly, CallsUpToFailure};
-ghost use Rattle.hack_session.specs.StepCalls.{InstallsAt, IsCutShort, MakesCalls, lockfile_commands};
+ghost use Rattle.hack_session.specs.StepCalls.{Breaks, BreaksInstallAt, EndsOrIsCut, Exactly};
+ghost use Rattle.hack_session.specs.StepCalls.{CallsUpToFailure};
+ghost use Rattle.hack_session.specs.StepCalls.{InstallsAt, IsCutShort, MakesCalls};
+ghost use Rattle.hack_session.specs.StepCalls.{lockfile_commands};
 ghost use Rattle.hack_session.specs.StepCalls.{number_at, run_commands};
-ghost use Rattle.hack_session.specs.StepOutput.{Displays, IsSomeFront, IsWhole, Prints, addition_parts};
+ghost use Rattle.hack_session.specs.StepOutput.{Displays, IsSomeFront, IsWhole, Prints};
+ghost use Rattle.hack_session.specs.StepOutput.{addition_parts};
 ghost use Rattle.hack_session.specs.StepOutput.{cleaning_shown, manner_of, on_err, parts_of};
 ghost use Rattle.hack_session.specs.StepOutput.{skip_parts, status_shown, streams};
 ghost use Rattle.hack_session.specs.declared.step.Outcome.TheVariants.{Passed};
@@ -19,9 +23,9 @@ use crate::rustup::install_toolchain;
 use crate::screen::{Screen, Status};
 use crate::step::Step;
 use hack_base::writes::Sink;
-use hack_process::process::{Caller, ProcessBuilder, ProcessFault};
 use hack_plan::parts::Preparation;
 use hack_plan::plan::{Plan, PlannedCommand, toolchain};
+use hack_process::process::{Caller, ProcessBuilder, ProcessFault};
 use hack_versions::version::Version;
 use std::alloc::{AllocError, Global};
 
@@ -149,7 +153,8 @@ fn clean_all<C: Caller, O: Sink, E: Sink>(
     plan: &Plan,
 ) -> Result<(), ProcessFault>
     ensures made { C.tells → MakesCalls (λ calls.
-        EndsOrIsCut (CallsUpToFailure (asked_of false (clean_command plan.now.call None) ∷ []) calls)
+        EndsOrIsCut (CallsUpToFailure (asked_of false (clean_command plan.now.call None)
+        ∷ []) calls)
         (Breaks (asked_of false (clean_command plan.now.call None) ∷ []) calls) result)
         (C.calls caller.old) (C.calls caller.new) }
     ensures shown { Prints (λ shown. EndsOrIsCut
@@ -234,7 +239,8 @@ fn run<C: Caller, O: Sink, E: Sink>(
 ) -> Result<(), ProcessFault>
     requires { place < length plan.now.entries }
     ensures made { C.tells → MakesCalls (λ calls.
-        EndsOrIsCut (CallsUpToFailure (run_commands plan.now (slice_get plan.now.entries place)) calls)
+        EndsOrIsCut (CallsUpToFailure (run_commands plan.now
+        (slice_get plan.now.entries place)) calls)
         (Breaks (run_commands plan.now (slice_get plan.now.entries place)) calls) result)
         (C.calls caller.old) (C.calls caller.new) }
     ensures shown { Prints (λ shown. EndsOrIsCut

@@ -4,7 +4,8 @@ ghost use Rattle.std.specs.Prelude.{◌≡◌, ℕ, List, IfOk, Some, filter, op
 ghost use Rattle.std.specs.Prelude.{is_some};
 ghost use Rattle.std.specs.BTreeMap.{get_by_text};
 ghost use Rattle.std.specs.List.{filter_map, flat_map, list_any};
-ghost use Rattle.hack_session.specs.Reports.{IsReport, command_text, package_group_text, report_text};
+ghost use Rattle.hack_session.specs.Reports.{IsReport, command_text, package_group_text};
+ghost use Rattle.hack_session.specs.Reports.{report_text};
 ghost use Rattle.hack_session.specs.Reports.{failure_of, failure_view, failures_of, is_of};
 ghost use Rattle.hack_session.specs.Reports.{run_at, texts_under, told_text};
 
@@ -80,7 +81,8 @@ fn group_by_package(
     failures: &[Failure],
 ) -> Result<BTreeMap<String, Vec<String>>, AllocError>
     ensures texts { IfOk result (λ m. (name : List ℕ)
-        → texts_under name m ≡ map told_text (filter (is_of name) (map failure_view failures.now))) }
+        → texts_under name m ≡ map told_text (filter (is_of name)
+        (map failure_view failures.now))) }
     ensures names { IfOk result (λ m. (name : List ℕ) → is_some (get_by_text m name)
         ≡ list_any (is_of name) (map failure_view failures.now)) }
 {

@@ -4,9 +4,11 @@ ghost use Rattle.std.specs.Prelude.{◌≡◌, ◌≢◌, ◌∷◌, ◌⊎◌, 
 ghost use Rattle.std.specs.Prelude.{false, map, not, string_bytes, true};
 ghost use Rattle.hack_process.specs.Commands.{asked_of, command_of};
 ghost use Rattle.hack_session.specs.declared.step.Outcome.TheVariants.{Passed};
-ghost use Rattle.hack_session.specs.StepCalls.{Breaks, BreaksInstall, EndsOrIsCut, Fails, CallsUpToFailure};
+ghost use Rattle.hack_session.specs.StepCalls.{Breaks, BreaksInstall, EndsOrIsCut, Fails};
+ghost use Rattle.hack_session.specs.StepCalls.{CallsUpToFailure};
 ghost use Rattle.hack_session.specs.StepCalls.{Installs, MakesCalls};
-ghost use Rattle.hack_session.specs.StepOutput.{IsSomeFront, IsWhole, Prints, addition_shown, manner_of};
+ghost use Rattle.hack_session.specs.StepOutput.{IsSomeFront, IsWhole, Prints, addition_shown};
+ghost use Rattle.hack_session.specs.StepOutput.{manner_of};
 ghost use Rattle.hack_session.specs.StepOutput.{on_err, streams};
 ghost use Rattle.hack_session.specs.Toolchains.{addition_of, toolchain_name, trial_of};
 

@@ -5,10 +5,12 @@ ghost use Rattle.std.proofs.Common.{◌∙◌, refl, inl};
 ghost use Rattle.hack_base.specs.Writes.{Writes};
 ghost use Rattle.hack_session.specs.Histories.{HasPassed};
 ghost use Rattle.hack_session.specs.StepCalls.{HasPerformed, HasTold};
-ghost use Rattle.hack_session.specs.JoinedCalls.{performed_none, performed_more, none_passed, passed_or};
+ghost use Rattle.hack_session.specs.JoinedCalls.{performed_none, performed_more, none_passed};
+ghost use Rattle.hack_session.specs.JoinedCalls.{passed_or};
 ghost use Rattle.hack_session.specs.JoinedOutput.{error_alone, manner_stays, shown_more};
 ghost use Rattle.hack_session.specs.JoinedOutput.{shown_none};
-ghost use Rattle.hack_session.specs.StepOutput.{HasShown, is_run as is_run_step, manner_of, streams};
+ghost use Rattle.hack_session.specs.StepOutput.{HasShown, is_run as is_run_step, manner_of};
+ghost use Rattle.hack_session.specs.StepOutput.{streams};
 ghost use Rattle.hack_term.specs.Lines.{error_line};
 
 use crate::calls::is_memory;
@@ -17,8 +19,8 @@ use crate::runner::Runner;
 use crate::screen::Screen;
 use crate::step::{Outcome, Step};
 use hack_base::writes::Sink;
-use hack_process::process::{Caller, ProcessFault};
 use hack_plan::plan::Plan;
+use hack_process::process::{Caller, ProcessFault};
 use hack_term::term::{LogGroup, Term};
 use std::alloc::Global;
 

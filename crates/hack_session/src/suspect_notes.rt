@@ -10,9 +10,11 @@ ghost use Rattle.hack_features.specs.Feature.{groups_of};
 ghost use Rattle.hack_plan.specs.Commands.{name_in};
 ghost use Rattle.hack_samples.specs.Sets.{rows_of};
 ghost use Rattle.hack_session.specs.Suspects.{explained_view};
-ghost use Rattle.hack_session.specs.SuspectNotes.{package_candidates, has_setting, heading_text, info};
+ghost use Rattle.hack_session.specs.SuspectNotes.{package_candidates, has_setting, heading_text};
+ghost use Rattle.hack_session.specs.SuspectNotes.{info};
 ghost use Rattle.hack_session.specs.SuspectNotes.{suspect_lines, more_text, most_lines, notes_of};
-ghost use Rattle.hack_session.specs.SuspectNotes.{suspect_notes_on, place_text, setting_text, state_text};
+ghost use Rattle.hack_session.specs.SuspectNotes.{suspect_notes_on, place_text, setting_text};
+ghost use Rattle.hack_session.specs.SuspectNotes.{state_text};
 ghost use Rattle.hack_session.specs.SuspectNotes.{suspect_text, for_target_text, too_many_text};
 ghost use Rattle.hack_session.specs.SuspectNotes.{version_words};
 
@@ -72,7 +74,8 @@ fn add_found(
     ensures { OnOk result (AddsNotes notices.old notices.new
         (if list_any has_setting (rows_of found.now)
         then info (heading_text plan.now part)
-        ∷ suspect_lines (package_candidates (slice_get plan.now.packages part.package)) (rows_of found.now)
+        ∷ suspect_lines (package_candidates (slice_get plan.now.packages part.package))
+        (rows_of found.now)
         else [])) }
 {
     if !has_setting(found) {

@@ -8,7 +8,8 @@ ghost use Rattle.std.specs.List.{slice_index_or};
 ghost use Rattle.hack_samples.specs.Sets.{rows_of};
 ghost use Rattle.hack_suspects.specs.Suspects.{outcomes_of};
 ghost use Rattle.hack_session.specs.Suspects.{AddsOnce, AreExplained, AreFound, AreOutcomes};
-ghost use Rattle.hack_session.specs.Suspects.{FailsBefore, HasFailedRun, IsExplained, candidate_count};
+ghost use Rattle.hack_session.specs.Suspects.{FailsBefore, HasFailedRun, IsExplained};
+ghost use Rattle.hack_session.specs.Suspects.{candidate_count};
 ghost use Rattle.hack_session.specs.Suspects.{explained_view, is_failed, part_at, part_explained};
 ghost use Rattle.hack_session.specs.Suspects.{part_of, plan_entry_of, settings_in};
 

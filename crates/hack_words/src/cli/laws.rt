@@ -5,6 +5,7 @@ ghost use Rattle.hack_words.specs.CommandLine.{Around, CommandLineOutcome, Comes
 
 /// A command line has one outcome.
 pub fn outcome_is_one()
-    ensures { (around : Around) (words : List (List ℕ)) (a b : CommandLineOutcome) → ComesTo around words a
+    ensures { (around : Around) (words : List (List ℕ)) (a b : CommandLineOutcome)
+        → ComesTo around words a
         → ComesTo around words b → a ≡ b }
 {}

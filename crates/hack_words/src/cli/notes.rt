@@ -129,7 +129,8 @@ pub fn tell_edits(
     no_dev_deps: bool,
     no_private: bool,
 ) -> Result<(), AllocError>
-    ensures { OnOk result (AddsNotes notices.old notices.new (editing_notes no_dev_deps no_private)) }
+    ensures { OnOk result (AddsNotes notices.old notices.new
+        (editing_notes no_dev_deps no_private)) }
 {
     let edits = no_dev_deps || no_private;
     if edits {
