@@ -10,6 +10,7 @@ use crate::start::{StartFault, coloring, env_of, words_of};
 use hack_files::fs::Disk;
 use hack_process::process::Child;
 use hack_recovery::perform::perform;
+use hack_run::host::Host;
 use hack_term::term::{Coloring, Term};
 use std::io;
 use std::io::{IsTerminal, Write};
@@ -38,17 +39,15 @@ fn call<E: Write>(
     term.coloring = coloring(rt, is_terminal)?;
     let words = words_of(rt)?;
     let env = env_of(rt)?;
+    let mut caller = Child::new(rt);
+    let mut out = io::writer(rt);
+    let mut host = Host::new(rt.alloc(), &env, term, &mut caller, &mut out, err);
     let (status, _, _) = perform(
-        rt.alloc(),
         &words,
-        &env,
-        term,
         Disk::new(rt),
         Disk::new(rt),
         &mut Folders::new(rt),
-        &mut Child::new(rt),
-        &mut io::writer(rt),
-        err,
+        &mut host,
     );
     Ok(status)
 }

@@ -4,7 +4,8 @@ use Rattle.std.specs.Prelude.{◌↔◌, IsSome, Option, Some, None, List}
 use Rattle.std.proofs.Math.Path.{fun_ext}
 use Rattle.hack_files.specs.Files.{Contents, GrowsBy, KeepsAll}
 use Rattle.hack_journal.specs.SafeLaws.{makes_append}
-use Rattle.hack_recovery.specs.FileLooks.{FilesView, Finds, Unchanged}
+use Rattle.hack_recovery.specs.FileLooks.{Finds, Unchanged}
+use Rattle.hack_run.specs.Worlds.{FilesView}
 
 -- where each path holds the same, the contents are one function
 pub all_same : (m n : Contents) → KeepsAll m n → n ≡ m

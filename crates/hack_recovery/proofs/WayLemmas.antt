@@ -3,9 +3,10 @@ use Rattle.std.proofs.Common.{◌≡◌, ◌∙◌, ap, refl, sym, true, false, 
 use Rattle.std.specs.Prelude.{IfOk, Ok, Err, Result}
 use Rattle.hack_base.specs.Names.{Name}
 use Rattle.hack_journal.specs.declared.recover.RecoverFault.{RecoverFault}
+use Rattle.hack_run.specs.Worlds.{FilesView}
 use Rattle.hack_term.specs.declared.term.Term.{Term}
 use Rattle.hack_recovery.specs.declared.fault.CallFault.{CallFault}
-use Rattle.hack_recovery.specs.FileLooks.{FilesView, Unchanged}
+use Rattle.hack_recovery.specs.FileLooks.{Unchanged}
 use Rattle.hack_recovery.specs.Strangers.{NamesStranger}
 use Rattle.hack_recovery.specs.CallCourses.{IsBroughtBack, Recovers, Restores, FailsToRestore, noted}
 use Rattle.hack_recovery.specs.CallCourses.IsBroughtBack.{brought, stopped, back_unreported, stopped_unreported}

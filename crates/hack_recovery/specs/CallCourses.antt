@@ -1,18 +1,19 @@
 -- The ways that a call can go.
 use Rattle.std.specs.Prelude.{◌≡◌, ◌↔◌, ◌⊎◌, ◌≤◌, ℕ, zero, suc, Bool, true, false, IsTrue, IsSome, List, None, Ok, Err, Option, Result, string_bytes}
+use Rattle.std.specs.declared.io.traits.Write.{Ghosts as Writing}
 use Rattle.hack_base.specs.Names.{Name}
 use Rattle.hack_files.specs.Files.{Contents, GrowsBy, KeepsAll, KeepsOthers}
+use Rattle.hack_files.specs.declared.fs.Files.{Ghosts as Filing}
 use Rattle.hack_journal.specs.Recovery.{CountsRecoverFault, IsJournalRefusal, IsRestored, IsWhy}
 use Rattle.hack_journal.specs.SafeFiles.{IsSafe, StaysSafe}
 use Rattle.hack_journal.specs.declared.recover.RecoverFault.{RecoverFault}
-use Rattle.hack_load.specs.FilesAfterLoading.{LeavesFew}
-use Rattle.hack_process.specs.Calls.{Call, MayAdd}
-use Rattle.hack_run.specs.Journals.{contents_seen}
+use Rattle.hack_process.specs.declared.caller.Caller.{Ghosts as Calling}
+use Rattle.hack_run.specs.Journals.{contents_seen, files_seen, world_seen}
 use Rattle.hack_run.specs.CallTrace.{MadeOnce}
-use Rattle.hack_run.specs.Questions.{rustup_asked}
-use Rattle.hack_run.specs.TemporaryEdits.{IsClean, RestoresEdits}
-use Rattle.hack_run.specs.Warnings.{seen_of}
-use Rattle.hack_run.specs.Success.{AreRefused, IsDone}
+use Rattle.hack_run.specs.TemporaryEdits.{BringsBack, IsClean, RestoresEdits}
+use Rattle.hack_run.specs.Success.{AreRefused, IsDone, Refuses}
+use Rattle.hack_run.specs.Worlds.{FilesView, HostView, World, files_of, host_of}
+use Rattle.hack_run.specs.declared.host.Host.{Host}
 use Rattle.hack_term.specs.declared.term.Term.{Term}
 use Rattle.hack_words.specs.declared.cli.env.Env.{Env}
 use Rattle.hack_recovery.specs.declared.admit.Way.{Way}
@@ -25,35 +26,39 @@ use Rattle.hack_recovery.specs.AskedEdits.{AsksFor}
 use Rattle.hack_recovery.specs.LockEvents.{LocksView, after_release}
 use Rattle.hack_recovery.specs.Folders.{journal_of, start_at, workspace_from}
 use Rattle.hack_recovery.specs.Admission.{IsAdmitted}
-use Rattle.hack_recovery.specs.FileLooks.{FilesView, Finds, Unchanged}
+use Rattle.hack_recovery.specs.FileLooks.{Finds, Unchanged}
 use Rattle.hack_recovery.specs.Strangers.{NamesStranger, NamesNone}
 
 -- ---- what a call sees and changes
 
--- the files, what lockfiles hold, the locks, the calls of programs, what was printed, and what was
--- reported
-pub record World : Type 0 where
+-- the files, what lockfiles hold, the locks, and the host
+pub record Scene : Type 0 where
   pub files : FilesView
   pub lockfiles : Contents
   pub locks : LocksView
-  pub calls : List Call
-  pub out : Option (List ℕ)
-  pub term : Term
+  pub host : HostView
 
--- these files and lockfiles, these locks and calls, this output and this report
-abbrev pub world_of : FilesView → Contents → LocksView → List Call → Option (List ℕ) → Term → World
-world_of files lockfiles locks calls out term = record { files = files; lockfiles = lockfiles; locks = locks; calls = calls; out = out; term = term }
+abbrev pub scene_of : {F L C O E : Type 0} → Filing F → Filing L → Calling C → Writing O → F → L → LocksView → Host C O E → Scene
+scene_of f l c o files lockfiles locks host = record { files = files_of f files; lockfiles = l.bytes_at lockfiles; locks = locks; host = host_of c o host }
+
+-- what `run` sees of it
+abbrev pub world_in : Scene → World
+world_in scene = record { files = scene.files; host = scene.host }
+
+-- a scene in which the files are these, and what was reported is this
+abbrev pub scene_with : FilesView → Term → Scene → Scene
+scene_with files term scene = record scene { files = files; host = record scene.host { term = term } }
 
 -- files were looked at, and a lock may have been taken: nothing was changed, called or printed
-pub record Untouched (tells whole : Type 0) (old new : World) : Type 0 where
+pub record Untouched (tells whole : Type 0) (old new : Scene) : Type 0 where
   pub files : Unchanged tells whole old.files new.files
   pub lockfiles : new.lockfiles ≡ old.lockfiles
-  pub calls : new.calls ≡ old.calls
-  pub out : new.out ≡ old.out
+  pub calls : new.host.calls ≡ old.host.calls
+  pub out : new.host.out ≡ old.host.out
 
 -- an error was reported
-abbrev pub IsFailed : World → Type 0
-IsFailed new = new.term.error ≡ true
+abbrev pub IsFailed : Scene → Type 0
+IsFailed new = new.host.term.error ≡ true
 
 -- ---- the beginning
 
@@ -68,7 +73,7 @@ pub record FindsJournal (tells : Type 0) (words : List Name) (env : Env) (does :
   pub seen : Finds tells old.failed new.failed (IsTrue there ↔ IsSome (old.held journal))
 
 -- with only looks at files, the call came to this answer on how it may go on
-pub record DecidesHowToGoOn (tells whole records : Type 0) (words : List Name) (env : Env) (does : Edits) (folder journal : Name) (old new : World) (came : Result Way CallFault) : Type 0 where
+pub record DecidesHowToGoOn (tells whole records : Type 0) (words : List Name) (env : Env) (does : Edits) (folder journal : Name) (old new : Scene) (came : Result Way CallFault) : Type 0 where
   pub there : Bool
   pub begins : FindsJournal tells words env does folder journal there old.files new.files
   pub admitted : IsAdmitted records does folder there old.locks new.locks came
@@ -123,29 +128,27 @@ pub data Restores (tells whole : Type 0) (folder journal : Name) (old new : File
 -- ---- the call itself
 
 -- the call was performed without a journal: it meets what `run` promises
-pub record PerformsUnjournaled (tells talks : Type 0) (words : List Name) (env : Env) (old new : World) : Type 0 where
-  pub refused : AreRefused env words → (new.term.error ≡ true) × (talks → MayAdd (rustup_asked (string_bytes env.rustup)) old.calls new.calls)
-  pub done : new.term.error ≡ false → talks
-      → IsDone tells words env old.files.held new.files.held old.files.failed (seen_of old.term.warn new.term old.out new.out) old.calls new.calls
-  pub made : talks → MadeOnce tells words env old.files.held old.files.failed old.out new.out old.calls new.calls
-  pub back : RestoresEdits env words → tells → LeavesFew (Unit {0}) old.files.held new.files.held old.files.failed new.files.failed
-  pub clean : new.term.error ≡ false → IsClean (RestoresEdits env words) tells old.files.held new.files.held old.files.failed new.files.failed
+pub record PerformsUnjournaled (tells talks : Type 0) (words : List Name) (env : Env) (old new : Scene) : Type 0 where
+  pub refused : AreRefused env words → Refuses talks env old.host new.host
+  pub done : new.host.term.error ≡ false → talks → IsDone tells words env (world_in old) (world_in new)
+  pub made : talks → MadeOnce tells words env (world_in old) new.host
+  pub back : RestoresEdits env words → tells → BringsBack old.files new.files
+  pub clean : new.host.term.error ≡ false → IsClean (RestoresEdits env words) tells old.files new.files
   pub lockfiles : new.lockfiles ≡ old.lockfiles
   pub locks : new.locks ≡ old.locks
 
 -- the call was performed with a journal at this path, and so many calls of files failed: it meets
 -- what `run_journaled` promises
-pub record Journals (tells whole locked talks : Type 0) (words : List Name) (env : Env) (journal : Name) (failed : ℕ) (old new : World) : Type 0 where
-  pub refused : AreRefused env words → (new.term.error ≡ true) × (talks → MayAdd (rustup_asked (string_bytes env.rustup)) old.calls new.calls)
-  pub done : new.term.error ≡ false → talks
-      → IsDone (tells × locked) words env (contents_seen journal old.files.held old.lockfiles) (contents_seen journal new.files.held new.lockfiles) 0
-      (seen_of old.term.warn new.term old.out new.out) old.calls new.calls
-  pub made : talks → MadeOnce (tells × locked) words env (contents_seen journal old.files.held old.lockfiles) 0 old.out new.out old.calls new.calls
-  pub clean : new.term.error ≡ false → RestoresEdits env words → tells → locked
+pub record Journals (tells whole locked talks : Type 0) (words : List Name) (env : Env) (journal : Name) (failed : ℕ) (old new : Scene) : Type 0 where
+  pub refused : AreRefused env words → Refuses talks env old.host new.host
+  pub done : new.host.term.error ≡ false → talks → IsDone (tells × locked) words env
+      (world_seen journal old.files.held old.lockfiles 0 old.host) (world_seen journal new.files.held new.lockfiles failed new.host)
+  pub made : talks → MadeOnce (tells × locked) words env (world_seen journal old.files.held old.lockfiles 0 old.host) new.host
+  pub clean : new.host.term.error ≡ false → RestoresEdits env words → tells → locked
       → KeepsAll (contents_seen journal old.files.held old.lockfiles) (contents_seen journal new.files.held new.lockfiles)
   pub back : RestoresEdits env words → tells → locked
-      → LeavesFew (Unit {0}) (contents_seen journal old.files.held old.lockfiles) (contents_seen journal new.files.held new.lockfiles) 0 failed
-  pub few : new.term.error ≡ false → failed ≤ 1
+      → BringsBack (files_seen journal old.files.held old.lockfiles 0) (files_seen journal new.files.held new.lockfiles failed)
+  pub few : new.host.term.error ≡ false → failed ≤ 1
   pub gone : RestoresEdits env words → tells → whole → locked → failed ≡ 0 → old.files.held journal ≡ None → new.files.held journal ≡ None
   pub safe : tells → whole → old.files.held journal ≡ None → StaysSafe journal old.files.held old.files.trace new.files.trace old.files.held new.files.held
   pub locks : new.locks ≡ old.locks
@@ -158,22 +161,22 @@ IsJournalClosed tells journal old new was now =
 
 -- after it the journal's path was only looked at, and a journal that stays was reported; or memory was
 -- refused for that, which is an error
-pub record Closes (tells whole : Type 0) (journal : Name) (old new : World) : Type 0 where
+pub record Closes (tells whole : Type 0) (journal : Name) (old new : Scene) : Type 0 where
   pub untouched : Untouched tells whole old new
   pub locks : new.locks ≡ old.locks
-  pub told : IsJournalClosed tells journal old.files new.files old.term new.term ⊎ IsFailed new
+  pub told : IsJournalClosed tells journal old.files new.files old.host.term new.host.term ⊎ IsFailed new
 
 -- ---- the ways
 
 -- how a call with a journal goes: it is performed, and then a journal that stays is reported; or
 -- memory was refused before it was, and nothing is changed or called
-pub data IsJournaledCall (tells whole locked talks : Type 0) (words : List Name) (env : Env) (journal : Name) (old new : World) : Type 0 where
-  performed : (failed : ℕ) (last : World) → Journals tells whole locked talks words env journal failed old last → Closes tells whole journal last new
+pub data IsJournaledCall (tells whole locked talks : Type 0) (words : List Name) (env : Env) (journal : Name) (old new : Scene) : Type 0 where
+  performed : (failed : ℕ) (last : Scene) → Journals tells whole locked talks words env journal failed old last → Closes tells whole journal last new
       → IsJournaledCall tells whole locked talks words env journal old new
-  unstarted : new ≡ record old { term = new.term } → IsFailed new → IsJournaledCall tells whole locked talks words env journal old new
+  unstarted : new ≡ scene_with old.files new.host.term old → IsFailed new → IsJournaledCall tells whole locked talks words env journal old new
 
 -- how a call is performed under its own lock, by what it does to manifests
-pub data Continues (tells whole locked talks records : Type 0) (words : List Name) (env : Env) (does : Edits) (journal : Name) (old new : World) : Type 0 where
+pub data Continues (tells whole locked talks records : Type 0) (words : List Name) (env : Env) (does : Edits) (journal : Name) (old new : Scene) : Type 0 where
   -- nothing is to be edited: the lock is let go first, and there is no journal
   unedited : (locks : LocksView) → does ≡ edits.None → (records → locks ≡ after_release old.locks) → PerformsUnjournaled tells talks words env (record old { locks = locks }) new
       → Continues tells whole locked talks records words env does journal old new
@@ -184,28 +187,28 @@ pub data Continues (tells whole locked talks records : Type 0) (words : List Nam
 
 -- how a call goes under its own lock: what an interrupted call left is brought back before anything
 -- else is changed, and before anything is called
-pub data LockedCallLeadsTo (tells whole locked talks records : Type 0) (words : List Name) (env : Env) (does : Edits) (folder journal : Name) (old new : World) : Type 0 where
+pub data LockedCallLeadsTo (tells whole locked talks records : Type 0) (words : List Name) (env : Env) (does : Edits) (folder journal : Name) (old new : Scene) : Type 0 where
   -- that can't be brought back: the call ends
-  ended : Restores tells whole folder journal old.files new.files old.term new.term (Ok false) → new ≡ record old { files = new.files; term = new.term } → IsFailed new
+  ended : Restores tells whole folder journal old.files new.files old.host.term new.host.term (Ok false) → new ≡ scene_with new.files new.host.term old → IsFailed new
       → LockedCallLeadsTo tells whole locked talks records words env does folder journal old new
   -- memory was refused meanwhile: the call ends
-  cut_short : (term : Term) (fault : CallFault) → Restores tells whole folder journal old.files new.files old.term term (Err fault)
-      → new ≡ record old { files = new.files; term = new.term } → IsFailed new → LockedCallLeadsTo tells whole locked talks records words env does folder journal old new
+  cut_short : (term : Term) (fault : CallFault) → Restores tells whole folder journal old.files new.files old.host.term term (Err fault)
+      → new ≡ scene_with new.files new.host.term old → IsFailed new → LockedCallLeadsTo tells whole locked talks records words env does folder journal old new
   -- it is back: the call is performed
-  went_on : (files : FilesView) (term : Term) → Restores tells whole folder journal old.files files old.term term (Ok true)
-      → Continues tells whole locked talks records words env does journal (record old { files = files; term = term }) new
+  went_on : (files : FilesView) (term : Term) → Restores tells whole folder journal old.files files old.host.term term (Ok true)
+      → Continues tells whole locked talks records words env does journal (scene_with files term old) new
       → LockedCallLeadsTo tells whole locked talks records words env does folder journal old new
 
 -- how a call goes
-pub data CallLeadsTo (tells whole locked talks records : Type 0) (words : List Name) (env : Env) (old new : World) : Type 0 where
+pub data CallLeadsTo (tells whole locked talks records : Type 0) (words : List Name) (env : Env) (old new : Scene) : Type 0 where
   -- memory was refused before it began: nothing was changed or called
   starved : Untouched tells whole old new → IsFailed new → CallLeadsTo tells whole locked talks records words env old new
   -- another call has the lock, there is none, or memory was refused: nothing was changed or called
   turned_away : (does : Edits) (folder journal : Name) (fault : CallFault) → DecidesHowToGoOn tells whole records words env does folder journal old new (Err fault) → IsFailed new
       → CallLeadsTo tells whole locked talks records words env old new
   -- nothing is to be guarded, or nothing can be: the call is performed without a journal
-  without_journal : (does : Edits) (folder journal : Name) (at : World) → DecidesHowToGoOn tells whole records words env does folder journal old at (Ok Plain) → at.term ≡ old.term
+  without_journal : (does : Edits) (folder journal : Name) (at : Scene) → DecidesHowToGoOn tells whole records words env does folder journal old at (Ok Plain) → at.host.term ≡ old.host.term
       → PerformsUnjournaled tells talks words env at new → CallLeadsTo tells whole locked talks records words env old new
   -- the lock is this call's
-  under_its_lock : (does : Edits) (folder journal : Name) (at : World) → DecidesHowToGoOn tells whole records words env does folder journal old at (Ok Guarded) → at.term ≡ old.term
+  under_its_lock : (does : Edits) (folder journal : Name) (at : Scene) → DecidesHowToGoOn tells whole records words env does folder journal old at (Ok Guarded) → at.host.term ≡ old.host.term
       → LockedCallLeadsTo tells whole locked talks records words env does folder journal at new → CallLeadsTo tells whole locked talks records words env old new

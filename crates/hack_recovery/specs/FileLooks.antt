@@ -1,16 +1,7 @@
 -- Files that are only looked at.
-use Rattle.std.specs.Prelude.{◌≡◌, ◌++◌, [], ℕ, List}
-use Rattle.hack_files.specs.Files.{Change, Contents, GrowsBy, KeepsAll, Makes}
-
--- files as plain data: what their paths hold, the changes so far, and how many calls failed
-pub record FilesView : Type 0 where
-  pub held : Contents
-  pub trace : List Change
-  pub failed : ℕ
-
--- files that hold this, with these changes so far and so many failed calls
-abbrev pub files_of : Contents → List Change → ℕ → FilesView
-files_of held trace failed = record { held = held; trace = trace; failed = failed }
+use Rattle.std.specs.Prelude.{◌≡◌, [], ℕ}
+use Rattle.hack_files.specs.Files.{GrowsBy, KeepsAll, Makes}
+use Rattle.hack_run.specs.Worlds.{FilesView}
 
 -- nothing was changed
 pub record Unchanged (tells whole : Type 0) (old new : FilesView) : Type 0 where

@@ -1,15 +1,17 @@
 //! What a command line asks of manifests.
 
-ghost use Rattle.std.specs.Prelude.{◌≡◌, ◌≢◌, IfOk, None};
+ghost use Rattle.std.specs.Prelude.{◌≡◌, IfOk, IfSome, false};
 ghost use Rattle.hack_base.specs.Names.{names_of, optional_text};
+ghost use Rattle.hack_words.specs.Start.{wants_rustup as rustup_wanted};
+ghost use Rattle.hack_run.specs.Readings.{IsEarlyReading};
 ghost use Rattle.hack_run.specs.TemporaryEdits.{RestoresEdits};
-ghost use Rattle.hack_rules.specs.declared.fault.CliFault.TheVariants.{Memory};
 ghost use Rattle.hack_recovery.specs.AskedEdits.{AsksFor, edits_asked, edits_by, is_edit};
 ghost use Rattle.hack_recovery.specs.AskedEdits.{manifest_by};
 
 use hack_base::copies::copy_of;
+use hack_run::reading::Reading;
 use hack_versions::rustup::Rustup;
-use hack_words::cli::{Args, CliFault, Env, Parsed};
+use hack_words::cli::{Args, CliFault, Env, Parsed, wants_rustup};
 use std::alloc::{AllocError, Global};
 
 /// What a call does to manifests.
@@ -40,6 +42,8 @@ impl Edits {
 pub struct Asked {
     pub edits: Edits,
     pub manifest_path: Option<String>,
+    /// What the command line is read into, unless an argument needs rustup's version.
+    pub reading: Option<Reading>,
 }
 
 /// What arguments do to manifests.
@@ -64,48 +68,58 @@ impl Asked {
         // Where edits come back, none is asked for that stays, whatever rustup answers.
         ensures back { IfOk result (λ asked. asked.edits ≡ Edits.Back
             → RestoresEdits env.now (names_of words.now)) }
+        ensures reading { IfOk result (λ asked. IfSome asked.reading
+            (IsEarlyReading env.now (names_of words.now))) }
     {
         // What is known of rustup matters only for whether the command line is refused.
-        match Args::parse(alloc, words, env, Rustup::Unasked) {
-            Ok(read) => {
-                let (parsed, _) = read;
-                Asked::by(alloc, &parsed)
+        match Reading::of(alloc, words, env, Rustup::Unasked) {
+            Reading::Accepted(parsed, notices) => {
+                let edits = edits_by(&parsed);
+                let manifest_path = manifest_by(&parsed)?;
+                Ok(Asked {
+                    edits,
+                    manifest_path,
+                    reading: early(words, Reading::Accepted(parsed, notices)),
+                })
             }
-            Err(fault) => Asked::refused(fault),
-        }
-    }
-
-    /// What a parsed command line asks for.
-    fn by(alloc: Global, parsed: &Parsed) -> Result<Asked, AllocError>
-        ensures { IfOk result (λ asked. (asked.edits ≡ edits_by parsed.now)
-            × (optional_text asked.manifest_path ≡ manifest_by parsed.now)) }
-    {
-        match parsed {
-            Parsed::Args(args) => Ok(Asked {
-                edits: edits_of(args),
-                manifest_path: copy_of(args.manifest_path.as_ref())?,
+            Reading::Refused(CliFault::Memory) => Err(AllocError),
+            Reading::Refused(fault) => Ok(Asked {
+                edits: Edits::None,
+                manifest_path: None,
+                reading: early(words, Reading::Refused(fault)),
             }),
-            Parsed::Print(_) | Parsed::List => Ok(Asked::nothing()),
         }
     }
+}
 
-    /// What a command line asks for that is refused with this error.
-    fn refused(fault: CliFault) -> Result<Asked, AllocError>
-        ensures { IfOk result (λ asked. (fault ≢ Memory) × (asked.edits ≡ Edits.None)
-            × (asked.manifest_path ≡ None)) }
-    {
-        match fault {
-            CliFault::Memory => Err(AllocError),
-            _ => Ok(Asked::nothing()),
-        }
+/// What a parsed command line does to manifests.
+fn edits_by(parsed: &Parsed) -> Edits
+    ensures { result ≡ edits_by parsed.now }
+{
+    match parsed {
+        Parsed::Args(args) => edits_of(args),
+        Parsed::Print(_) | Parsed::List => Edits::None,
     }
+}
 
-    fn nothing() -> Asked
-        ensures { result ≡ record { edits = Edits.None; manifest_path = None } }
-    {
-        Asked {
-            edits: Edits::None,
-            manifest_path: None,
-        }
+/// The manifest that a parsed command line names.
+fn manifest_by(parsed: &Parsed) -> Result<Option<String>, AllocError>
+    ensures { IfOk result (λ path. optional_text path ≡ manifest_by parsed.now) }
+{
+    match parsed {
+        Parsed::Args(args) => copy_of(args.manifest_path.as_ref()),
+        Parsed::Print(_) | Parsed::List => Ok(None),
+    }
+}
+
+/// What a command line is read into, unless an argument needs rustup's version.
+fn early(words: &[String], reading: Reading) -> Option<Reading>
+    ensures { IfSome result (λ early. (rustup_wanted (names_of words.now) ≡ false)
+        × (early ≡ reading)) }
+{
+    if wants_rustup(words) {
+        None
+    } else {
+        Some(reading)
     }
 }

@@ -1,16 +1,18 @@
 //! The beginning of a call: what it asks for, and where its journal lies.
 
-ghost use Rattle.std.specs.Prelude.{◌≡◌, [], IfOk, option_map, string_bytes};
+ghost use Rattle.std.specs.Prelude.{◌≡◌, [], IfOk, IfSome, option_map, string_bytes};
 ghost use Rattle.hack_base.specs.Names.{names_of, optional_text};
 ghost use Rattle.hack_files.specs.Files.{KeepsAll, Makes};
-ghost use Rattle.hack_recovery.specs.FileLooks.{files_of};
 ghost use Rattle.hack_recovery.specs.CallCourses.{FindsJournal};
+ghost use Rattle.hack_run.specs.Readings.{IsEarlyReading};
+ghost use Rattle.hack_run.specs.Worlds.{files_of};
 
 use crate::asked::{Asked, Edits};
 use crate::journal::journal_in;
 use crate::look;
 use crate::workspace::workspace;
 use hack_files::fs::Files;
+use hack_run::reading::Reading;
 use hack_words::cli::Env;
 use std::alloc::{AllocError, Global};
 
@@ -24,6 +26,8 @@ pub(crate) struct Begun {
     pub journal: String,
     /// Whether a file is at the journal's path.
     pub is_there: bool,
+    /// What the command line is read into, unless an argument needs rustup's version.
+    pub reading: Option<Reading>,
 }
 
 /// Reads what the call asks for, and looks where its journal is. Nothing is changed.
@@ -36,8 +40,10 @@ pub(crate) fn begin<F: Files>(
     ensures begun { IfOk result (λ begun. FindsJournal F.tells
         (names_of words.now) env.now begun.edits
         (string_bytes begun.folder) (string_bytes begun.journal) begun.is_there
-        (files_of (F.bytes_at files.old) (F.trace files.old) (F.failed files.old))
-        (files_of (F.bytes_at files.new) (F.trace files.new) (F.failed files.new))) }
+        (files_of F.Files files.old)
+        (files_of F.Files files.new)) }
+    ensures reading { IfOk result (λ begun. IfSome begun.reading
+        (IsEarlyReading env.now (names_of words.now))) }
     ensures same { F.tells → KeepsAll (F.bytes_at files.old) (F.bytes_at files.new) }
     ensures untraced { F.whole → Makes [] (F.trace files.old) (F.trace files.new)
         (F.bytes_at files.old) (F.bytes_at files.new) }
@@ -45,6 +51,7 @@ pub(crate) fn begin<F: Files>(
     let Asked {
         edits,
         manifest_path,
+        reading,
     } = Asked::of(alloc, words, env)?;
     let named = named(&manifest_path);
     let folder = workspace(alloc, named, env.current_dir.as_str(), files)?;
@@ -55,6 +62,7 @@ pub(crate) fn begin<F: Files>(
         folder,
         journal,
         is_there,
+        reading,
     })
 }
 

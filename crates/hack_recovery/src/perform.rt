@@ -1,14 +1,16 @@
 //! A whole call: what an interrupted one left is restored first, and what this one edits is kept in
 //! a journal meanwhile.
 
-ghost use Rattle.std.specs.Prelude.{◌≡◌, ◌↔◌, ◌⊎◌, ◌≤◌, [], IsTrue, OnOk, string_bytes, true};
+ghost use Rattle.std.specs.Prelude.{IfSome, IsTrue, OnOk, [], string_bytes, true, ◌↔◌, ◌≡◌, ◌≤◌};
+ghost use Rattle.std.specs.Prelude.{◌⊎◌};
 ghost use Rattle.hack_base.specs.Names.{names_of};
 ghost use Rattle.hack_files.specs.Files.{KeepsAll, Makes};
 ghost use Rattle.hack_recovery.specs.LockEvents.{LocksView};
-ghost use Rattle.hack_recovery.specs.FileLooks.{files_of};
-ghost use Rattle.hack_recovery.specs.CallCourses.{Continues, CallLeadsTo, LockedCallLeadsTo};
-ghost use Rattle.hack_recovery.specs.CallCourses.{IsJournalClosed, IsJournaledCall};
-ghost use Rattle.hack_recovery.specs.CallCourses.{world_of};
+ghost use Rattle.hack_recovery.specs.CallCourses.{CallLeadsTo, Continues, IsJournalClosed};
+ghost use Rattle.hack_recovery.specs.CallCourses.{IsJournaledCall, LockedCallLeadsTo};
+ghost use Rattle.hack_recovery.specs.CallCourses.{scene_of};
+ghost use Rattle.hack_run.specs.Readings.{IsEarlyReading};
+ghost use Rattle.hack_run.specs.Worlds.{IsSameHost, files_of};
 
 use crate::admit::{Way, admit};
 use crate::asked::Edits;
@@ -19,10 +21,11 @@ use crate::look::is_there;
 use crate::restore::restore;
 use hack_files::fs::Files;
 use hack_process::process::Caller;
+use hack_run::host::Host;
 use hack_run::journaled::run_journaled;
+use hack_run::reading::Reading;
 use hack_run::run::run;
 use hack_term::term::Term;
-use hack_words::cli::Env;
 use std::alloc::{AllocError, Global};
 use std::io::Write;
 
@@ -31,48 +34,47 @@ use std::io::Write;
 /// and where it edits manifests and restores them itself, it keeps a journal of its edits, under a
 /// lock of its workspace's folder. `files` and `lockfiles` are the same file system.
 pub fn perform<F: Files, L: Files, K: Locks, C: Caller, O: Write, E: Write>(
-    alloc: Global,
     words: &[String],
-    env: &Env,
-    term: &mut Term,
     files: F,
     lockfiles: L,
     locks: &mut K,
-    caller: &mut C,
-    out: &mut O,
-    err: &mut E,
+    host: &mut Host<'_, C, O, E>,
 ) -> (u8, F, L)
-    ensures one { (result.0 ≡ 1)
-        ↔ (IsTrue term.new.error ⊎ (IsTrue term.new.warn × IsTrue env.now.deny_warnings)) }
+    ensures host { IsSameHost host.old host.new }
+    ensures one { (result.0 ≡ 1) ↔ (IsTrue host.new.term.now.error
+        ⊎ (IsTrue host.new.term.now.warn × IsTrue host.old.env.now.deny_warnings)) }
     ensures at_most_one { result.0 ≤ 1 }
-    ensures goes { CallLeadsTo F.tells F.whole L.tells C.tells K.tells (names_of words.now) env.now
-        (world_of (files_of (F.bytes_at files) (F.trace files) (F.failed files))
-        (L.bytes_at lockfiles) (K.shown locks.old) (C.calls caller.old) (O.contents out.old)
-        term.old)
-        (world_of (files_of (F.bytes_at result.1) (F.trace result.1) (F.failed result.1))
-        (L.bytes_at result.2) (K.shown locks.new) (C.calls caller.new) (O.contents out.new)
-        term.new) }
+    ensures goes { CallLeadsTo F.tells F.whole L.tells C.tells K.tells (names_of words.now)
+        host.old.env.now
+        (scene_of F.Files L.Files C.Caller O.Write files lockfiles
+        (K.shown locks.old) host.old)
+        (scene_of F.Files L.Files C.Caller O.Write result.1 result.2
+        (K.shown locks.new) host.new) }
 {
     let mut files = files;
-    let begun = match begin(alloc, words, env, &mut files) {
+    let begun = match begin(host.alloc, words, host.env, &mut files) {
         Ok(begun) => begun,
-        Err(fault) => return (report(CallFault::from(fault), term, err), files, lockfiles),
+        Err(fault) => {
+            return (
+                report(CallFault::from(fault), host.term, host.err),
+                files,
+                lockfiles,
+            );
+        }
     };
     match admit(
-        alloc,
+        host.alloc,
         begun.edits,
         begun.folder.as_str(),
         begun.is_there,
         locks,
     ) {
         Ok(Way::Plain) => {
-            let status = run(alloc, words, env, term, &mut files, caller, out, err);
+            let status = run(words, begun.reading, &mut files, host);
             (status, files, lockfiles)
         }
-        Ok(Way::Guarded) => guarded(
-            alloc, words, env, begun, term, files, lockfiles, locks, caller, out, err,
-        ),
-        Err(fault) => (report(fault, term, err), files, lockfiles),
+        Ok(Way::Guarded) => guarded(words, begun, files, lockfiles, locks, host),
+        Err(fault) => (report(fault, host.term, host.err), files, lockfiles),
     }
 }
 
@@ -87,136 +89,125 @@ fn report<E: Write>(fault: CallFault, term: &mut Term, err: &mut E) -> u8
 
 /// Performs a call under its own lock.
 fn guarded<F: Files, L: Files, K: Locks, C: Caller, O: Write, E: Write>(
-    alloc: Global,
     words: &[String],
-    env: &Env,
     begun: Begun,
-    term: &mut Term,
     files: F,
     lockfiles: L,
     locks: &mut K,
-    caller: &mut C,
-    out: &mut O,
-    err: &mut E,
+    host: &mut Host<'_, C, O, E>,
 ) -> (u8, F, L)
-    ensures one { (result.0 ≡ 1)
-        ↔ (IsTrue term.new.error ⊎ (IsTrue term.new.warn × IsTrue env.now.deny_warnings)) }
+    requires { IfSome begun.reading (IsEarlyReading host.old.env.now (names_of words.now)) }
+    ensures host { IsSameHost host.old host.new }
+    ensures one { (result.0 ≡ 1) ↔ (IsTrue host.new.term.now.error
+        ⊎ (IsTrue host.new.term.now.warn × IsTrue host.old.env.now.deny_warnings)) }
     ensures at_most_one { result.0 ≤ 1 }
-    ensures goes { LockedCallLeadsTo F.tells F.whole L.tells C.tells K.tells
-        (names_of words.now) env.now
-        begun.edits (string_bytes begun.folder) (string_bytes begun.journal)
-        (world_of (files_of (F.bytes_at files) (F.trace files) (F.failed files))
-        (L.bytes_at lockfiles) (K.shown locks.old) (C.calls caller.old) (O.contents out.old)
-        term.old)
-        (world_of (files_of (F.bytes_at result.1) (F.trace result.1) (F.failed result.1))
-        (L.bytes_at result.2) (K.shown locks.new) (C.calls caller.new) (O.contents out.new)
-        term.new) }
+    ensures goes { LockedCallLeadsTo F.tells F.whole L.tells C.tells K.tells (names_of words.now)
+        host.old.env.now begun.edits (string_bytes begun.folder) (string_bytes begun.journal)
+        (scene_of F.Files L.Files C.Caller O.Write files lockfiles
+        (K.shown locks.old) host.old)
+        (scene_of F.Files L.Files C.Caller O.Write result.1 result.2
+        (K.shown locks.new) host.new) }
 {
     let mut files = files;
-    let Begun {
-        edits,
-        folder,
-        journal,
-        ..
-    } = begun;
     match restore(
-        alloc,
-        folder.as_str(),
-        journal.as_str(),
+        host.alloc,
+        begun.folder.as_str(),
+        begun.journal.as_str(),
         &mut files,
-        term,
-        err,
+        host.term,
+        host.err,
     ) {
         Ok(is_back) => {
             if !is_back {
                 return (1, files, lockfiles);
             }
-            go_on(
-                alloc, words, env, edits, journal, term, files, lockfiles, locks, caller, out, err,
-            )
+            go_on(words, begun, files, lockfiles, locks, host)
         }
-        Err(fault) => (report(fault, term, err), files, lockfiles),
+        Err(fault) => (report(fault, host.term, host.err), files, lockfiles),
     }
 }
 
 /// Performs a call under its own lock, where nothing of an interrupted call is left.
 fn go_on<F: Files, L: Files, K: Locks, C: Caller, O: Write, E: Write>(
-    alloc: Global,
     words: &[String],
-    env: &Env,
-    edits: Edits,
-    journal: String,
-    term: &mut Term,
+    begun: Begun,
     files: F,
     lockfiles: L,
     locks: &mut K,
-    caller: &mut C,
-    out: &mut O,
-    err: &mut E,
+    host: &mut Host<'_, C, O, E>,
 ) -> (u8, F, L)
-    ensures one { (result.0 ≡ 1)
-        ↔ (IsTrue term.new.error ⊎ (IsTrue term.new.warn × IsTrue env.now.deny_warnings)) }
+    requires { IfSome begun.reading (IsEarlyReading host.old.env.now (names_of words.now)) }
+    ensures host { IsSameHost host.old host.new }
+    ensures one { (result.0 ≡ 1) ↔ (IsTrue host.new.term.now.error
+        ⊎ (IsTrue host.new.term.now.warn × IsTrue host.old.env.now.deny_warnings)) }
     ensures at_most_one { result.0 ≤ 1 }
-    ensures goes { Continues F.tells F.whole L.tells C.tells K.tells (names_of words.now) env.now
-        edits (string_bytes journal)
-        (world_of (files_of (F.bytes_at files) (F.trace files) (F.failed files))
-        (L.bytes_at lockfiles) (K.shown locks.old) (C.calls caller.old) (O.contents out.old)
-        term.old)
-        (world_of (files_of (F.bytes_at result.1) (F.trace result.1) (F.failed result.1))
-        (L.bytes_at result.2) (K.shown locks.new) (C.calls caller.new) (O.contents out.new)
-        term.new) }
+    ensures goes { Continues F.tells F.whole L.tells C.tells K.tells (names_of words.now)
+        host.old.env.now begun.edits (string_bytes begun.journal)
+        (scene_of F.Files L.Files C.Caller O.Write files lockfiles
+        (K.shown locks.old) host.old)
+        (scene_of F.Files L.Files C.Caller O.Write result.1 result.2
+        (K.shown locks.new) host.new) }
 {
     let mut files = files;
+    let Begun {
+        edits,
+        journal,
+        reading,
+        ..
+    } = begun;
     match edits {
         Edits::None => {
             locks.release();
-            let status = run(alloc, words, env, term, &mut files, caller, out, err);
+            let status = run(words, reading, &mut files, host);
             (status, files, lockfiles)
         }
         Edits::Good => {
-            let status = run(alloc, words, env, term, &mut files, caller, out, err);
+            let status = run(words, reading, &mut files, host);
             (status, files, lockfiles)
         }
-        Edits::Back => journaled(
-            alloc, words, env, journal, term, files, lockfiles, caller, out, err,
-        ),
+        Edits::Back => journaled(words, reading, files, lockfiles, journal, host),
     }
 }
 
 /// Performs a call with a journal at this path, and warns where the journal stays.
 fn journaled<F: Files, L: Files, C: Caller, O: Write, E: Write>(
-    alloc: Global,
     words: &[String],
-    env: &Env,
-    journal: String,
-    term: &mut Term,
+    reading: Option<Reading>,
     files: F,
     lockfiles: L,
-    caller: &mut C,
-    out: &mut O,
-    err: &mut E,
+    journal: String,
+    host: &mut Host<'_, C, O, E>,
 ) -> (u8, F, L)
-    ensures one { (result.0 ≡ 1)
-        ↔ (IsTrue term.new.error ⊎ (IsTrue term.new.warn × IsTrue env.now.deny_warnings)) }
+    requires { IfSome reading (IsEarlyReading host.old.env.now (names_of words.now)) }
+    ensures host { IsSameHost host.old host.new }
+    ensures one { (result.0 ≡ 1) ↔ (IsTrue host.new.term.now.error
+        ⊎ (IsTrue host.new.term.now.warn × IsTrue host.old.env.now.deny_warnings)) }
     ensures at_most_one { result.0 ≤ 1 }
     ensures goes { (locks : LocksView) → IsJournaledCall F.tells F.whole L.tells C.tells
-        (names_of words.now) env.now (string_bytes journal)
-        (world_of (files_of (F.bytes_at files) (F.trace files) (F.failed files))
-        (L.bytes_at lockfiles) locks (C.calls caller.old) (O.contents out.old) term.old)
-        (world_of (files_of (F.bytes_at result.1) (F.trace result.1) (F.failed result.1))
-        (L.bytes_at result.2) locks (C.calls caller.new) (O.contents out.new) term.new) }
+        (names_of words.now) host.old.env.now (string_bytes journal)
+        (scene_of F.Files L.Files C.Caller O.Write files lockfiles locks host.old)
+        (scene_of F.Files L.Files C.Caller O.Write result.1 result.2 locks host.new) }
 {
-    let path = match String::from_str(alloc, journal.as_str()) {
+    let env = host.env;
+    let path = match String::from_str(host.alloc, journal.as_str()) {
         Ok(path) => path,
-        Err(fault) => return (report(CallFault::from(fault), term, err), files, lockfiles),
+        Err(fault) => {
+            return (
+                report(CallFault::from(fault), host.term, host.err),
+                files,
+                lockfiles,
+            );
+        }
     };
-    let (_, files, lockfiles, _) = run_journaled(
-        alloc, words, env, term, files, lockfiles, journal, caller, out, err,
-    );
+    let (_, files, lockfiles, _) = run_journaled(words, reading, files, lockfiles, journal, host);
     let mut files = files;
-    match close(alloc, path.as_str(), &mut files, term, err) {
-        Ok(()) => (term.status(env.deny_warnings), files, lockfiles),
-        Err(fault) => (report(CallFault::from(fault), term, err), files, lockfiles),
+    match close(host.alloc, path.as_str(), &mut files, host.term, host.err) {
+        Ok(()) => (host.term.status(env.deny_warnings), files, lockfiles),
+        Err(fault) => (
+            report(CallFault::from(fault), host.term, host.err),
+            files,
+            lockfiles,
+        ),
     }
 }
 
@@ -229,8 +220,8 @@ fn close<F: Files, E: Write>(
     err: &mut E,
 ) -> Result<(), AllocError>
     ensures told { OnOk result (IsJournalClosed F.tells journal.now
-        (files_of (F.bytes_at files.old) (F.trace files.old) (F.failed files.old))
-        (files_of (F.bytes_at files.new) (F.trace files.new) (F.failed files.new))
+        (files_of F.Files files.old)
+        (files_of F.Files files.new)
         term.old term.new) }
     ensures same { F.tells → KeepsAll (F.bytes_at files.old) (F.bytes_at files.new) }
     ensures untraced { F.whole → Makes [] (F.trace files.old) (F.trace files.new)

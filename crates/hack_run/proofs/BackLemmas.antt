@@ -11,6 +11,7 @@ use Rattle.hack_files.proofs.SafeLemmas.{safe_back, safe_none}
 use Rattle.hack_load.specs.FilesAfterLoading.{LeavesFew}
 use Rattle.hack_prepare.specs.EditSteps.{Grows}
 use Rattle.hack_run.specs.TemporaryEdits.{IsClean}
+use Rattle.hack_run.specs.Worlds.{FilesView}
 
 -- nothing is done to files
 pub leaves_none : (held : Contents) (n : ℕ) → LeavesFew (Unit {0}) held held n n
@@ -59,18 +60,18 @@ counted_none : (n : ℕ) → GrowsBy 0 n n
 counted_none n = λ low. omega (arith, low)
 
 -- nothing was done to files
-pub clean_none : (returns tells : Type 0) (held : Contents) (n : ℕ) → IsClean returns tells held held n n
-clean_none returns tells held n = (counted_none n, λ back t q. refl)
+pub clean_none : (returns tells : Type 0) (files : FilesView) → IsClean returns tells files files
+clean_none returns tells files = (counted_none files.failed, λ back t q. refl)
 
 -- the same for what a call returned that touched no file
-pub clean_rest : {T E : Type 0} (quiet returns tells : Type 0) (held : Contents) (n : ℕ) (r : Result T E) → OnOk r (quiet → IsClean returns tells held held n n)
-clean_rest quiet returns tells held n (Ok v) = λ q. clean_none returns tells held n
-clean_rest quiet returns tells held n (Err e) = tt
+pub clean_rest : {T E : Type 0} (quiet returns tells : Type 0) (files : FilesView) (r : Result T E) → OnOk r (quiet → IsClean returns tells files files)
+clean_rest quiet returns tells files (Ok v) = λ q. clean_none returns tells files
+clean_rest quiet returns tells files (Err e) = tt
 
 -- what is clean under a condition is clean under a stronger one
-pub clean_by : {T E : Type 0} (P Q quiet tells : Type 0) (old new : Contents) (k n : ℕ) (r : Result T E) → (Q → P) → OnOk r (quiet → IsClean P tells old new k n) → OnOk r (quiet → IsClean Q tells old new k n)
-clean_by P Q quiet tells old new k n (Ok v) f h = λ q. let c = h q in (c.0, λ back. c.1 (f back))
-clean_by P Q quiet tells old new k n (Err e) f h = tt
+pub clean_by : {T E : Type 0} (P Q quiet tells : Type 0) (old new : FilesView) (r : Result T E) → (Q → P) → OnOk r (quiet → IsClean P tells old new) → OnOk r (quiet → IsClean Q tells old new)
+clean_by P Q quiet tells old new (Ok v) f h = λ q. let c = h q in (c.0, λ back. c.1 (f back))
+clean_by P Q quiet tells old new (Err e) f h = tt
 
 -- a count that is reported where it is above 0 is 0 where nothing is reported
 none_told : (b : Bool) (r : ℕ) → (0 < r → IsTrue b) → b ≡ false → r ≡ 0
@@ -85,18 +86,18 @@ counted_ok (Ok v) (Err g) u n m is counted = absurd (cc)
 counted_ok (Err e) loaded u n m is counted = tt
 
 -- where all was loaded, edited and restored, and no call of the files failed
-pub cleans : {T E U G : Type 0} (tells returns : Type 0) (came : Result T E) (loaded : Result U G) (files : List Kept) (first asked mid last : Contents) (k n m o r : ℕ) (error : Bool)
-    → OnOk loaded (GrowsBy 0 k n × (tells → KeepsAll first asked)) → OnOk came (IsOk loaded × GrowsBy 0 n m) → (returns → tells → AreSafe files asked mid)
-    → GrowsBy r m o → (0 < r → IsTrue error) → (tells → Brings files mid last r)
-    → OnOk came (error ≡ false → IsClean returns tells first last k o)
-cleans tells returns (Err e) loaded files first asked mid last k n m o r error whole counted safe back told brings = tt
-cleans tells returns (Ok v) (Err g) files first asked mid last k n m o r error whole counted safe back told brings = absurd (cc)
-cleans tells returns (Ok v) (Ok u) files first asked mid last k n m o r error whole counted safe back told brings = λ quiet.
+pub cleans : {T E U G : Type 0} (tells returns : Type 0) (came : Result T E) (loaded : Result U G) (files : List Kept) (first asked mid last : FilesView) (r : ℕ) (error : Bool)
+    → OnOk loaded (GrowsBy 0 first.failed asked.failed × (tells → KeepsAll first.held asked.held)) → OnOk came (IsOk loaded × GrowsBy 0 asked.failed mid.failed)
+    → (returns → tells → AreSafe files asked.held mid.held) → GrowsBy r mid.failed last.failed → (0 < r → IsTrue error) → (tells → Brings files mid.held last.held r)
+    → OnOk came (error ≡ false → IsClean returns tells first last)
+cleans tells returns (Err e) loaded files first asked mid last r error whole counted safe back told brings = tt
+cleans tells returns (Ok v) (Err g) files first asked mid last r error whole counted safe back told brings = absurd (cc)
+cleans tells returns (Ok v) (Ok u) files first asked mid last r error whole counted safe back told brings = λ quiet.
     let none : r ≡ 0 = none_told error r told quiet in
-    let last_counted : GrowsBy 0 m o = subst (λ c. GrowsBy c m o) none back in (
-      grows_more 0 0 k m o (grows_more 0 0 k n m whole.0 counted.1) last_counted,
+    let last_counted : GrowsBy 0 mid.failed last.failed = subst (λ c. GrowsBy c mid.failed last.failed) none back in (
+      grows_more 0 0 first.failed mid.failed last.failed (grows_more 0 0 first.failed asked.failed mid.failed whole.0 counted.1) last_counted,
       λ returned t q.
           let are = safe returned t in
           let lost = brings t are.distinct in
-          safe_back files lost.0 asked mid last are lost.2 q (λ bad. absurd (omega (arith, bad.1, lost.1, none))) ∙ whole.1 t q,
+          safe_back files lost.0 asked.held mid.held last.held are lost.2 q (λ bad. absurd (omega (arith, bad.1, lost.1, none))) ∙ whole.1 t q,
     )

@@ -27,7 +27,8 @@ use Rattle.hack_versions.specs.declared.version.Version.{Version}
 use Rattle.hack_base.specs.Notes.{Note}
 use Rattle.hack_run.specs.CallTrace.{HandsOverAtMostOne, PerformsAtMostOne}
 use Rattle.hack_run.specs.ScheduleCalls.{DoesPlan, PassesAll, RunsAll, SendsAll}
-use Rattle.hack_run.specs.Warnings.{GrowsWithin}
+use Rattle.hack_run.specs.Warnings.{GrowsWithin, Warned}
+use Rattle.hack_run.specs.Worlds.{HostView, host_writing}
 use Rattle.hack_run.proofs.GatherLemmas.{known-none}
 
 -- a step that passed wasn't cut short
@@ -51,17 +52,28 @@ all_passed steps term fault (inr (inl told)) none quiet = let e : true ≡ false
 all_passed steps term fault (inr (inr kept)) none quiet = absurd (none_kept fault none kept)
 
 -- then the whole schedule was run
-pub runs_all : (plan : PlanView) (piece : Option Partition) (schedule : List Step) (handed : List Handed) (old new : List Call) (before now : ℕ) (term : Term) (fault : Option ProcessFault)
-    → IsSchedule piece plan schedule → (All HasPassed handed → handed ≡ map passed_step schedule) → HasPerformed plan handed old new before now
+pub runs_all : (plan : PlanView) (piece : Option Partition) (schedule : List Step) (handed : List Handed) (old new : HostView) (mid : List Call) (before now : ℕ) (term : Term) (fault : Option ProcessFault) → mid ≡ old.calls
+    → IsSchedule piece plan schedule → (All HasPassed handed → handed ≡ map passed_step schedule) → HasPerformed plan handed mid new.calls before now
     → (All HasPassed handed ⊎ HasTold term fault) → fault ≡ None → term.error ≡ false → RunsAll plan piece old new
-runs_all plan piece schedule handed old new before now term fault scheduled whole performed told none quiet = record {
+runs_all plan piece schedule handed old new mid before now term fault same scheduled whole performed told none quiet = record {
   schedule = schedule;
   scheduled = scheduled;
-  ran = record {
+  ran = subst (λ (calls : List Call). MakesCalls (PassesAll plan schedule) calls new.calls) same (record {
     made = performed.made;
     grown = performed.grown;
     such = passes plan schedule performed.made performed.cut (subst (λ hs. PerformsAll plan hs performed.made performed.cut) (whole (all_passed handed term fault told none quiet)) performed.performed);
-  };
+  });
+}
+
+-- what is reported later than the runs doesn't matter, where no more is warned of
+pub runs_told : (cx : ContextRecord) (stable : Result (Option Version) (String Global)) (rustup : Name) (old new : HostView) (now : Term) → now.warn ≡ new.term.warn
+    → DoesPlan RunsAll cx stable rustup old new → DoesPlan RunsAll cx stable rustup old (record new { term = now })
+runs_told cx stable rustup old new now same h = record {
+  plan = h.plan;
+  notes = h.notes;
+  planned = h.planned;
+  done = record { schedule = h.done.schedule; scheduled = h.done.scheduled; ran = h.done.ran };
+  warned = subst (λ (b : Bool). Warned h.notes old.term.warn b) (sym same) h.warned;
 }
 
 -- a count of refusals that isn't above 0 is 0
@@ -184,31 +196,31 @@ lines_passed plan [] = refl
 lines_passed plan (step ∷ steps) = ap (λ (bytes : List ℕ). step_lines plan step ++ bytes) (lines_passed plan steps)
 
 -- then just the toolchains and lockfiles of the whole schedule were made, and its lines written
-pub sends_all : (plan : PlanView) (piece : Option Partition) (schedule : List Step) (handed : List Handed) (old new : List Call) (before now : ℕ) (term : Term) (fault : Option ProcessFault) (out grown : Option (List ℕ))
-    → IsSchedule piece plan schedule → (All HasPassed handed → handed ≡ map passed_step schedule) → HasPerformed plan (filter is_sent handed) old new before now
-    → (All HasPassed (filter is_sent handed) ⊎ HasTold term fault) → All IsListedStep handed → Appends out grown (flat_map (lines_listed plan) handed) → fault ≡ None → term.error ≡ false → SendsAll out grown plan piece old new
-sends_all plan piece schedule handed old new before now term fault out grown scheduled whole performed told listed written none quiet = record {
+pub sends_all : (plan : PlanView) (piece : Option Partition) (schedule : List Step) (handed : List Handed) (old new : HostView) (mid : List Call) (before now : ℕ) (term : Term) (fault : Option ProcessFault) → mid ≡ old.calls
+    → IsSchedule piece plan schedule → (All HasPassed handed → handed ≡ map passed_step schedule) → HasPerformed plan (filter is_sent handed) mid new.calls before now
+    → (All HasPassed (filter is_sent handed) ⊎ HasTold term fault) → All IsListedStep handed → Appends old.out new.out (flat_map (lines_listed plan) handed) → fault ≡ None → term.error ≡ false → SendsAll plan piece old new
+sends_all plan piece schedule handed old new mid before now term fault same scheduled whole performed told listed written none quiet = record {
   schedule = schedule;
   scheduled = scheduled;
-  sent = record {
+  sent = subst (λ (calls : List Call). MakesCalls (PassesAll plan (filter is_sent_step schedule)) calls new.calls) same (record {
     made = performed.made;
     grown = performed.grown;
     such = passes plan (filter is_sent_step schedule) performed.made performed.cut (subst (λ hs. PerformsAll plan hs performed.made performed.cut) (ap (filter is_sent) all ∙ sent_passed schedule) performed.performed);
-  };
-  written = subst (Appends out grown) (ap (flat_map (lines_listed plan)) all ∙ lines_passed plan schedule) written;
+  });
+  written = subst (Appends old.out new.out) (ap (flat_map (lines_listed plan)) all ∙ lines_passed plan schedule) written;
 }
   where
     all : handed ≡ map passed_step schedule
     all = whole (all_handed handed (all_passed (filter is_sent handed) term fault told none quiet) listed)
 
 -- a list whose end was written: its output grew by its lines
-pub list_ends : {T E : Type 0} (r : Result T E) (refused none short flushed quiet tells : Type 0) (cx : ContextRecord) (stable : Result (Option Version) (String Global)) (rustup : Name) (a b c : Option (List ℕ)) (begun : List ℕ) (old new : List Call) (before warn : Bool)
-    → begun ≡ [] → OnOk r (refused × none × short × flushed) → (refused → none → short → quiet → tells → DoesPlan (SendsAll (append_known a begun) b) cx stable rustup old new before warn) → (flushed → Keeps b c)
-    → OnOk r (quiet → tells → DoesPlan (SendsAll a c) cx stable rustup old new before warn)
-list_ends (Err e) refused none short flushed quiet tells cx stable rustup a b c begun old new before warn empty came done kept = tt
-list_ends (Ok v) refused none short flushed quiet tells cx stable rustup a b c begun old new before warn empty came done kept = λ q t.
+pub list_ends : {T E : Type 0} (r : Result T E) (refused none short flushed quiet tells : Type 0) (cx : ContextRecord) (stable : Result (Option Version) (String Global)) (rustup : Name) (old mid : HostView) (begun gathered : List ℕ) (out : Option (List ℕ))
+    → begun ≡ [] → OnOk r (refused × none × short × flushed) → (refused → none → short → quiet → tells → DoesPlan SendsAll cx stable rustup (host_writing begun old) (host_writing gathered mid))
+    → (flushed → Keeps (append_known mid.out gathered) out) → OnOk r (quiet → tells → DoesPlan SendsAll cx stable rustup old (record mid { out = out }))
+list_ends (Err e) refused none short flushed quiet tells cx stable rustup old mid begun gathered out empty came done kept = tt
+list_ends (Ok v) refused none short flushed quiet tells cx stable rustup old mid begun gathered out empty came done kept = λ q t.
     let d = done came.0 came.1 came.2 q t in
-    let start : append_known a begun ≡ a = ap (append_known a) empty ∙ known-none a in
+    let start : append_known old.out begun ≡ old.out = ap (append_known old.out) empty ∙ known-none old.out in
     record {
       plan = d.plan;
       notes = d.notes;
@@ -217,7 +229,8 @@ list_ends (Ok v) refused none short flushed quiet tells cx stable rustup a b c b
         schedule = d.done.schedule;
         scheduled = d.done.scheduled;
         sent = d.done.sent;
-        written = subst (λ (x : Option (List ℕ)). Appends x c (flat_map (step_lines d.plan) d.done.schedule)) start (Appends-kept (append_known a begun) b c (flat_map (step_lines d.plan) d.done.schedule) d.done.written (kept came.3));
+        written = subst (λ (x : Option (List ℕ)). Appends x out (flat_map (step_lines d.plan) d.done.schedule)) start
+            (Appends-kept (append_known old.out begun) (append_known mid.out gathered) out (flat_map (step_lines d.plan) d.done.schedule) d.done.written (kept came.3));
       };
       warned = d.warned;
     }
@@ -234,14 +247,14 @@ pub all_shown : (a b : Option (List ℕ)) (text : List ℕ) → Appends a b text
 all_shown a b text w = ([], subst (λ (o : Option (List ℕ)). Appends a o text) (sym (known-none b)) w)
 
 -- a list whose end was written, or a part of it
-pub list_shows : (cx : ContextRecord) (stable : Result (Option Version) (String Global)) (rustup : Name) (a b c : Option (List ℕ)) (begun gathered left : List ℕ) (old new : List Call)
-    → begun ≡ [] → PerformsAtMostOne true cx stable rustup (append_known a begun) (append_known b gathered) old new → Keeps (append_known b gathered) (append_known c left) → PerformsAtMostOne true cx stable rustup a c old new
-list_shows cx stable rustup a b c begun gathered left old new empty made kept = go made
+pub list_shows : (cx : ContextRecord) (stable : Result (Option Version) (String Global)) (rustup : Name) (old mid : HostView) (begun gathered left : List ℕ) (out : Option (List ℕ))
+    → begun ≡ [] → PerformsAtMostOne true cx stable rustup (host_writing begun old) (host_writing gathered mid) → Keeps (append_known mid.out gathered) (append_known out left) → PerformsAtMostOne true cx stable rustup old (record mid { out = out })
+list_shows cx stable rustup old mid begun gathered left out empty made kept = go made
   where
-    shown : (text : List ℕ) → GrowsWithin (append_known a begun) (append_known b gathered) text → GrowsWithin a c text
-    shown text w = shown_then a (append_known b gathered) c left text (subst (λ (o : Option (List ℕ)). GrowsWithin o (append_known b gathered) text) (ap (append_known a) empty ∙ known-none a) w) kept
+    shown : (text : List ℕ) → GrowsWithin (append_known old.out begun) (append_known mid.out gathered) text → GrowsWithin old.out out text
+    shown text w = shown_then old.out (append_known mid.out gathered) out left text (subst (λ (o : Option (List ℕ)). GrowsWithin o (append_known mid.out gathered) text) (ap (append_known old.out) empty ∙ known-none old.out) w) kept
 
-    go : PerformsAtMostOne true cx stable rustup (append_known a begun) (append_known b gathered) old new → PerformsAtMostOne true cx stable rustup a c old new
+    go : PerformsAtMostOne true cx stable rustup (host_writing begun old) (host_writing gathered mid) → PerformsAtMostOne true cx stable rustup old (record mid { out = out })
     go (inl none) = inl (none.0, shown [] none.1)
     go (inr one) = inr (record { course = one.course; cut = one.cut; handed = one.handed; calls = one.calls; wrote = shown (flat_map (lines_written one.course.plan) one.course.handed) one.wrote })
 
@@ -256,12 +269,12 @@ handed_keeps whole had has Told Ran cx stable rustup a b (inr l) name told ran =
 -- a list that was handed over to a runner whose steps make just their calls
 pub handed_makes : {R : Type 0} (whole : Type 0) (had has : Option (List ℕ)) (Told : List Note → R → R → Type 0) (Ran : PlanView → List Handed → R → R → Type 0) (cx : ContextRecord) (stable : Result (Option Version) (String Global)) (rustup : Name) (a b : R)
     → HandsOverAtMostOne whole had has Told Ran cx stable rustup a b → whole
-    → (calls : R → List Call) (refused : R → ℕ) → ((notes : List Note) (x y : R) → Told notes x y → calls y ≡ calls x)
+    → (calls : R → List Call) (refused : R → ℕ) (was now : Term) → ((notes : List Note) (x y : R) → Told notes x y → calls y ≡ calls x)
     → ((plan : PlanView) (steps : List Handed) (x y : R) → Ran plan steps x y → HasPerformed plan steps (calls x) (calls y) (refused x) (refused y))
-    → PerformsAtMostOne true cx stable rustup had has (calls a) (calls b)
-handed_makes whole had has Told Ran cx stable rustup a b (inl (inl same, kept)) w calls refused told ran = inl (ap calls same, all_shown had has [] (kept_nothing had has kept))
-handed_makes whole had has Told Ran cx stable rustup a b (inl (inr some, kept)) w calls refused told ran = inl (told some.0 a b some.1, all_shown had has [] (kept_nothing had has kept))
-handed_makes whole had has Told Ran cx stable rustup a b (inr l) w calls refused told ran =
+    → PerformsAtMostOne true cx stable rustup (record { calls = calls a; out = had; term = was }) (record { calls = calls b; out = has; term = now })
+handed_makes whole had has Told Ran cx stable rustup a b (inl (inl same, kept)) w calls refused was now told ran = inl (ap calls same, all_shown had has [] (kept_nothing had has kept))
+handed_makes whole had has Told Ran cx stable rustup a b (inl (inr some, kept)) w calls refused was now told ran = inl (told some.0 a b some.1, all_shown had has [] (kept_nothing had has kept))
+handed_makes whole had has Told Ran cx stable rustup a b (inr l) w calls refused was now told ran =
     let steps = filter is_sent l.course.handed in
     let did = ran l.course.plan steps l.mid b l.ran in
     inr (record {

@@ -1,5 +1,5 @@
 -- What a call did, put together from its stages.
-use Rattle.std.proofs.Common.{◌≡◌, ◌⊎◌, inl, Bool, true, false, ℕ, List, None, Option, Result, Global, String, Ok, Err, OnOk, OnErr, IsErr, IsTrue, refl, sym, ◌∙◌, ap, subst, string_bytes}
+use Rattle.std.proofs.Common.{◌≡◌, ◌⊎◌, inl, Bool, true, false, List, None, Option, Result, Global, String, Ok, Err, OnOk, OnErr, IsErr, IsTrue, refl, sym, ◌∙◌, ap, subst, string_bytes}
 use Rattle.std.specs.Prelude.{◌||◌}
 use Rattle.hack_base.specs.Names.{Name}
 use Rattle.hack_files.specs.Files.{Contents, KeepsAll}
@@ -27,21 +27,30 @@ use Rattle.hack_term.specs.declared.term.Term.{Term}
 use Rattle.hack_versions.specs.declared.version.Version.{Version}
 use Rattle.hack_run.specs.ScheduleCalls.{RunsOrLists, DoesPlan}
 use Rattle.hack_run.specs.Questions.{AsksRustup, AsksStable, NeedsAnswer}
-use Rattle.hack_run.specs.Warnings.{Seen, Warned, after_notes, have_warning}
-use Rattle.hack_run.specs.Success.{PerformsSchedule, IsDone, ListsCommands, Obeys, AsksThenPerforms, warned_by}
+use Rattle.hack_run.specs.Warnings.{Warned, after_notes, have_warning}
+use Rattle.hack_run.specs.Success.{PerformsSchedule, IsDone, ListsCommands, Obeys, AsksThenPerforms, warned_by, world_told}
+use Rattle.hack_run.specs.Worlds.{FilesView, HostView, World, host_at, world_at}
+use Rattle.hack_plan.specs.View.{PlanView}
+use Rattle.hack_term.specs.declared.partition.Partition.{Partition}
 
 on_ok : {T E : Type 0} (P Q : Type 0) (r : Result T E) → (P → Q) → OnOk r P → OnOk r Q
 on_ok P Q (Ok v) f p = f p
 on_ok P Q (Err e) f p = tt
 
+-- what was reported before doesn't matter for a plan, nor what was reported after it
+does_told : (listing : Bool) (plan : PlanView) (piece : Option Partition) (old new : HostView) (was now : Term) → RunsOrLists listing plan piece old new → RunsOrLists listing plan piece (record old { term = was }) (record new { term = now })
+does_told true plan piece old new was now h = record { schedule = h.schedule; scheduled = h.scheduled; sent = h.sent; written = h.written }
+does_told false plan piece old new was now h = record { schedule = h.schedule; scheduled = h.scheduled; ran = h.ran }
+
 -- the runs of a context's plan, after stable's version was asked for
-pub follows : {T E : Type 0} (tells told quiet : Type 0) (r : Result T E) (args : Args) (answers : Answers) (rustup : Name) (held last : Contents) (seen : Seen) (old mid new : List Call) (cx : ContextRecord) (stable : Result (Option Version) (String Global))
-    → (flag : Bool) → flag ≡ (have_warning (warnings_of (told_version answers.cargo_version)) || seen.warned) → (told → IsPrepared (wanted_in cx) (member_manifests_in cx) held last) → IsContextFrom args answers cx → (tells → AsksStable rustup stable old mid) → (¬ NeedsAnswer cx.args → stable ≡ Ok None)
-    → OnOk r (quiet → tells → DoesPlan (RunsOrLists cx.args.print_command_list seen.before seen.now) cx stable rustup mid new flag seen.warn)
-    → OnOk r (quiet → tells → PerformsSchedule told args answers rustup held last seen old new)
-follows tells told quiet r args answers rustup held last seen old mid new cx stable flag warned prepared context asked needed ran =
-    on_ok (quiet → tells → DoesPlan (RunsOrLists cx.args.print_command_list seen.before seen.now) cx stable rustup mid new flag seen.warn)
-    (quiet → tells → PerformsSchedule told args answers rustup held last seen old new) r
+pub follows : {T E : Type 0} (tells told quiet : Type 0) (r : Result T E) (args : Args) (answers : Answers) (rustup : Name) (old new : World) (mid : List Call) (term : Term) (cx : ContextRecord) (stable : Result (Option Version) (String Global))
+    → term.warn ≡ (have_warning (warnings_of (told_version answers.cargo_version)) || old.host.term.warn) → (told → IsPrepared (wanted_in cx) (member_manifests_in cx) old.files.held new.files.held)
+    → IsContextFrom args answers cx → (tells → AsksStable rustup stable old.host.calls mid) → (¬ NeedsAnswer cx.args → stable ≡ Ok None)
+    → OnOk r (quiet → tells → DoesPlan (RunsOrLists cx.args.print_command_list) cx stable rustup (record (host_at mid old.host) { term = term }) new.host)
+    → OnOk r (quiet → tells → PerformsSchedule told args answers rustup old new)
+follows tells told quiet r args answers rustup old new mid term cx stable warned prepared context asked needed ran =
+    on_ok (quiet → tells → DoesPlan (RunsOrLists cx.args.print_command_list) cx stable rustup (record (host_at mid old.host) { term = term }) new.host)
+    (quiet → tells → PerformsSchedule told args answers rustup old new) r
     (λ runs q t.
     let h = runs q t in
     record {
@@ -50,8 +59,9 @@ follows tells told quiet r args answers rustup held last seen old mid new cx sta
       mid = mid;
       context = context;
       planned = record { stable = stable; notes = h.notes; asked = asked t; needed = needed; planned = h.planned };
-      runs = subst (λ (a : Args). RunsOrLists a.print_command_list seen.before seen.now h.plan a.partition mid new) context.2.args h.done;
-      warned = subst (λ (b : Bool). Warned h.notes b seen.warn) warned h.warned;
+      runs = subst (λ (a : Args). RunsOrLists a.print_command_list h.plan a.partition (host_at mid old.host) new.host) context.2.args
+          (does_told cx.args.print_command_list h.plan cx.args.partition (record (host_at mid old.host) { term = term }) new.host old.host.term new.host.term h.done);
+      warned = subst (λ (b : Bool). Warned h.notes b new.host.term.warn) warned h.warned;
       edited = λ u _. prepared u;
     }) ran
 
@@ -61,39 +71,41 @@ quiet_before X true now f quiet = let e : true ≡ false = sym (f (inl refl)) �
 quiet_before X false now f quiet = refl
 
 -- what is held is the same before, and in the end where edits stay
-moved : (T U : Type 0) (args : Args) (answers : Answers) (rustup : Name) (first asked prepared last : Contents) (seen : Seen) (old new : List Call) → (U → T) → (U → KeepsAll first asked) → (U → args.remove_dev_deps ≡ true → KeepsAll prepared last)
-    → PerformsSchedule T args answers rustup asked prepared seen old new → PerformsSchedule U args answers rustup first last seen old new
-moved T U args answers rustup first asked prepared last seen old new held same stay f = record {
+moved : (T U : Type 0) (args : Args) (answers : Answers) (rustup : Name) (first asked prepared last : FilesView) (begun ended : HostView) (term : Term) → (U → T) → (U → KeepsAll first.held asked.held)
+    → (U → args.remove_dev_deps ≡ true → KeepsAll prepared.held last.held) → term.warn ≡ ended.term.warn
+    → PerformsSchedule T args answers rustup (record { files = asked; host = begun }) (record { files = prepared; host = ended })
+    → PerformsSchedule U args answers rustup (record { files = first; host = begun }) (record { files = last; host = record ended { term = term } })
+moved T U args answers rustup first asked prepared last begun ended term held same stay warn f = record {
   cx = f.cx;
   plan = f.plan;
   mid = f.mid;
   context = f.context;
   planned = f.planned;
-  runs = f.runs;
-  warned = f.warned;
-  edited = λ u e. prepared-moved (wanted_in f.cx) (member_manifests_in f.cx) first asked prepared last (same u) (stay u e) (f.edited (held u) e);
+  runs = does_told args.print_command_list f.plan args.partition (host_at f.mid begun) ended begun.term term f.runs;
+  warned = subst (λ (b : Bool). Warned f.planned.notes (have_warning (warnings_of (told_version answers.cargo_version)) || begun.term.warn) b) (sym warn) f.warned;
+  edited = λ u e. prepared-moved (wanted_in f.cx) (member_manifests_in f.cx) first.held asked.held prepared.held last.held (same u) (stay u e) (f.edited (held u) e);
 }
 
 -- a call continued after its questions were answered
-pub performs : {T E : Type 0} (tells told holds X : Type 0) (r : Result T E) (args : Args) (env : Env) (first asked prepared last : Contents) (before later : ℕ) (seen : Seen) (old mid new : List Call) (answers : Answers) (mute now warn : Bool)
-    → warn ≡ seen.warn
-    → (tells → AreAnswers told args env first before later old mid answers)
-    → (IsTrue mute ⊎ X → IsTrue now)
-    → (told → holds) → OnOk answers.loaded (told → KeepsAll first asked) → (told → args.remove_dev_deps ≡ true → KeepsAll prepared last)
-    → OnOk r (mute ≡ false → tells → PerformsSchedule holds args answers (string_bytes env.rustup) asked prepared seen mid new)
-    → OnOk r (now ≡ false → tells → AsksThenPerforms told args env first last before (record seen { warn = warn }) old new)
-performs tells told holds X r args env first asked prepared last before later seen old mid new answers mute now warn same_warn answered noted held whole stay follows =
-    on_ok (mute ≡ false → tells → PerformsSchedule holds args answers (string_bytes env.rustup) asked prepared seen mid new)
-    (now ≡ false → tells → AsksThenPerforms told args env first last before (record seen { warn = warn }) old new) r
+pub performs : {T E : Type 0} (tells told holds X : Type 0) (r : Result T E) (args : Args) (env : Env) (first asked prepared last : FilesView) (begun ended : HostView) (mid : List Call) (term : Term) (answers : Answers)
+    → term.warn ≡ ended.term.warn
+    → (tells → AreAnswers told args env first.held first.failed asked.failed begun.calls mid answers)
+    → (IsTrue ended.term.error ⊎ X → IsTrue term.error)
+    → (told → holds) → OnOk answers.loaded (told → KeepsAll first.held asked.held) → (told → args.remove_dev_deps ≡ true → KeepsAll prepared.held last.held)
+    → OnOk r (ended.term.error ≡ false → tells → PerformsSchedule holds args answers (string_bytes env.rustup) (record { files = asked; host = host_at mid begun }) (record { files = prepared; host = ended }))
+    → OnOk r (term.error ≡ false → tells → AsksThenPerforms told args env (record { files = first; host = begun }) (record { files = last; host = record ended { term = term } }))
+performs tells told holds X r args env first asked prepared last begun ended mid term answers same_warn answered noted held whole stay follows =
+    on_ok (ended.term.error ≡ false → tells → PerformsSchedule holds args answers (string_bytes env.rustup) (record { files = asked; host = host_at mid begun }) (record { files = prepared; host = ended }))
+    (term.error ≡ false → tells → AsksThenPerforms told args env (record { files = first; host = begun }) (record { files = last; host = record ended { term = term } })) r
     (λ f quiet t.
-    let g = f (quiet_before X mute now noted quiet) t in
-    let same : told → KeepsAll first asked = subst (λ (a : Result Loaded ContextFault). OnOk a (told → KeepsAll first asked)) g.context.1 whole in
+    let g = f (quiet_before X ended.term.error term.error noted quiet) t in
+    let same : told → KeepsAll first.held asked.held = subst (λ (a : Result Loaded ContextFault). OnOk a (told → KeepsAll first.held asked.held)) g.context.1 whole in
     record {
       answers = answers;
-      now = later;
+      now = asked.failed;
       mid = mid;
       asked = answered t;
-      follows = subst (λ (w : Bool). PerformsSchedule told args answers (string_bytes env.rustup) first last (record seen { warn = w }) mid new) (sym same_warn) (moved holds told args answers (string_bytes env.rustup) first asked prepared last seen mid new held same stay g);
+      follows = moved holds told args answers (string_bytes env.rustup) first asked prepared last (host_at mid begun) ended term held same stay same_warn g;
     }) follows
 
 -- a call that reported no error in the end returned none
@@ -111,34 +123,57 @@ pub dressed : (old middle now : Term) (answer : Parsed) (args : Args) (notes : L
 dressed old middle now answer args notes is same told =
     subst (λ (a : Parsed). now.warn ≡ warned_by a notes old.warn) (sym is) (ap (λ (k : Term). k.warn) told ∙ ap (λ (b : Bool). have_warning notes || b) same)
 
--- what arguments ask for was done
-pub obeys : {T E : Type 0} (tells told quiet : Type 0) (r : Result T E) (args : Args) (answer : Parsed) (env : Env) (held last : Contents) (before : ℕ) (seen : Seen) (flag : Bool) (old new : List Call) → answer ≡ parsed.Args args → seen.warned ≡ flag
-    → OnOk r (quiet → tells → AsksThenPerforms told args env held last before seen old new)
-    → OnOk r (quiet → tells → Obeys told answer env held last before (record seen { warned = flag }) old new)
-obeys tells told quiet r args answer env held last before seen flag old new is same performed =
-    subst (λ (b : Bool). OnOk r (quiet → tells → Obeys told answer env held last before (record seen { warned = b }) old new)) same
-    (subst (λ (a : Parsed). OnOk r (quiet → tells → Obeys told a env held last before seen old new)) (sym is) performed)
+-- what arguments ask for was done, wherever the same warning was noted before
+performed_told : (tells : Type 0) (args : Args) (env : Env) (old new : World) (was now : Term) → was.warn ≡ now.warn
+    → AsksThenPerforms tells args env (record old { host = record old.host { term = was } }) new → AsksThenPerforms tells args env (record old { host = record old.host { term = now } }) new
+performed_told tells args env old new was now same h = record {
+  answers = h.answers;
+  now = h.now;
+  mid = h.mid;
+  asked = h.asked;
+  follows = let f = h.follows in record {
+    cx = f.cx;
+    plan = f.plan;
+    mid = f.mid;
+    context = f.context;
+    planned = f.planned;
+    runs = does_told args.print_command_list f.plan args.partition (record (host_at f.mid old.host) { term = was }) new.host now new.host.term f.runs;
+    warned = subst (λ (b : Bool). Warned f.planned.notes (have_warning (warnings_of (told_version h.answers.cargo_version)) || b) new.host.term.warn) same f.warned;
+    edited = f.edited;
+  };
+}
+
+pub obeys : {T E : Type 0} (tells told quiet : Type 0) (r : Result T E) (args : Args) (answer : Parsed) (notes : List Note) (env : Env) (old new : World) (term : Term) → answer ≡ parsed.Args args → term.warn ≡ warned_by answer notes old.host.term.warn
+    → OnOk r (quiet → tells → AsksThenPerforms told args env (record old { host = record old.host { term = term } }) new)
+    → OnOk r (quiet → tells → Obeys told answer env (world_told answer notes old) new)
+obeys tells told quiet r args answer notes env old new term is same performed =
+    let warned : Term = record old.host.term { warn = warned_by answer notes old.host.term.warn } in
+    subst (λ (a : Parsed). OnOk r (quiet → tells → Obeys told a env (record old { host = record old.host { term = warned } }) new)) (sym is)
+    (on_ok (quiet → tells → AsksThenPerforms told args env (record old { host = record old.host { term = term } }) new)
+    (quiet → tells → AsksThenPerforms told args env (record old { host = record old.host { term = warned } }) new) r
+    (λ f q t. performed_told told args env old new term warned same (f q t)) performed)
 
 -- cargo listed its commands, and nothing more is warned of
-pub lists : {T E : Type 0} (tells told quiet : Type 0) (r : Result T E) (answer : Parsed) (env : Env) (held last : Contents) (before : ℕ) (seen : Seen) (old new : List Call) → answer ≡ parsed.List → seen.warn ≡ seen.warned
-    → OnOk r (tells → ListsCommands (string_bytes env.cargo) old new)
-    → OnOk r (quiet → tells → Obeys told answer env held last before seen old new)
-lists tells told quiet r answer env held last before seen old new is same listed =
-    subst (λ (a : Parsed). OnOk r (quiet → tells → Obeys told a env held last before seen old new)) (sym is)
-    (on_ok (tells → ListsCommands (string_bytes env.cargo) old new) (quiet → tells → Obeys told parsed.List env held last before seen old new) r (λ f q t. (f t, same)) listed)
+pub lists : {T E : Type 0} (tells told quiet : Type 0) (r : Result T E) (answer : Parsed) (env : Env) (old new : World) → answer ≡ parsed.List → new.host.term.warn ≡ old.host.term.warn
+    → OnOk r (tells → ListsCommands (string_bytes env.cargo) old.host.calls new.host.calls)
+    → OnOk r (quiet → tells → Obeys told answer env old new)
+lists tells told quiet r answer env old new is same listed =
+    subst (λ (a : Parsed). OnOk r (quiet → tells → Obeys told a env old new)) (sym is)
+    (on_ok (tells → ListsCommands (string_bytes env.cargo) old.host.calls new.host.calls) (quiet → tells → Obeys told parsed.List env old new) r (λ f q t. (f t, same)) listed)
 
 -- the command line was parsed, and what it asks for was done
-pub done : {T E : Type 0} (tells told quiet : Type 0) (r : Result T E) (words : List Name) (env : Env) (held last : Contents) (before : ℕ) (seen : Seen) (old mid new : List Call) (rustup : Rustup) (answer : Parsed) (notes : List Note)
-    → IsAnswer (around_of env rustup) (ComesTo (around_of env rustup) words) answer notes → (tells → AsksRustup (wants_rustup words) (string_bytes env.rustup) rustup old mid)
-    → OnOk r (quiet → tells → Obeys told answer env held last before (record seen { warned = warned_by answer notes seen.warned }) mid new)
-    → OnOk r (quiet → tells → IsDone told words env held last before seen old new)
-done tells told quiet r words env held last before seen old mid new rustup answer notes read asked obeyed =
-    on_ok (quiet → tells → Obeys told answer env held last before (record seen { warned = warned_by answer notes seen.warned }) mid new) (quiet → tells → IsDone told words env held last before seen old new) r
+pub done : {T E : Type 0} (tells told quiet : Type 0) (r : Result T E) (words : List Name) (env : Env) (old new : World) (mid : List Call) (rustup : Rustup) (answer : Parsed) (notes : List Note)
+    → IsAnswer (around_of env rustup) (ComesTo (around_of env rustup) words) answer notes → (tells → AsksRustup (wants_rustup words) (string_bytes env.rustup) rustup old.host.calls mid)
+    → OnOk r (quiet → tells → Obeys told answer env (world_told answer notes (world_at mid old)) new)
+    → OnOk r (quiet → tells → IsDone told words env old new)
+done tells told quiet r words env old new mid rustup answer notes read asked obeyed =
+    on_ok (quiet → tells → Obeys told answer env (world_told answer notes (world_at mid old)) new) (quiet → tells → IsDone told words env old new) r
     (λ f q t. record { rustup = rustup; answer = answer; notes = notes; mid = mid; asked = asked t; read = read; obeyed = f q t }) obeyed
 
 -- what was done is the same of files that hold the same in the end, where they show that
-obeyed_moved : (T : Type 0) (answer : Parsed) (env : Env) (held last later : Contents) (before : ℕ) (seen : Seen) (old new : List Call) → (T → last ≡ later) → Obeys T answer env held last before seen old new → Obeys T answer env held later before seen old new
-obeyed_moved T (parsed.Args args) env held last later before seen old new same h = record {
+obeyed_moved : (T : Type 0) (answer : Parsed) (env : Env) (old : World) (last later : FilesView) (host : HostView) → (T → last.held ≡ later.held)
+    → Obeys T answer env old (record { files = last; host = host }) → Obeys T answer env old (record { files = later; host = host })
+obeyed_moved T (parsed.Args args) env old last later host same h = record {
   answers = h.answers;
   now = h.now;
   mid = h.mid;
@@ -151,19 +186,20 @@ obeyed_moved T (parsed.Args args) env held last later before seen old new same h
     planned = f.planned;
     runs = f.runs;
     warned = f.warned;
-    edited = λ t e. subst (λ (c : Contents). IsPrepared (wanted_in f.cx) (member_manifests_in f.cx) held c) (same t) (f.edited t e);
+    edited = λ t e. subst (λ (c : Contents). IsPrepared (wanted_in f.cx) (member_manifests_in f.cx) old.files.held c) (same t) (f.edited t e);
   };
 }
-obeyed_moved T (parsed.Print text) env held last later before seen old new same h = h
-obeyed_moved T parsed.List env held last later before seen old new same h = h
+obeyed_moved T (parsed.Print text) env old last later host same h = h
+obeyed_moved T parsed.List env old last later host same h = h
 
-pub done_moved : (T : Type 0) (words : List Name) (env : Env) (held last later : Contents) (before : ℕ) (seen : Seen) (old new : List Call) → (T → last ≡ later) → IsDone T words env held last before seen old new → IsDone T words env held later before seen old new
-done_moved T words env held last later before seen old new same h = record {
+pub done_moved : (T : Type 0) (words : List Name) (env : Env) (old : World) (last later : FilesView) (host : HostView) → (T → last.held ≡ later.held)
+    → IsDone T words env old (record { files = last; host = host }) → IsDone T words env old (record { files = later; host = host })
+done_moved T words env old last later host same h = record {
   rustup = h.rustup;
   answer = h.answer;
   notes = h.notes;
   mid = h.mid;
   asked = h.asked;
   read = h.read;
-  obeyed = obeyed_moved T h.answer env held last later before (record seen { warned = warned_by h.answer h.notes seen.warned }) h.mid new same h.obeyed;
+  obeyed = obeyed_moved T h.answer env (world_told h.answer h.notes (world_at h.mid old)) last later host same h.obeyed;
 }

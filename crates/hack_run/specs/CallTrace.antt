@@ -4,7 +4,6 @@ use Rattle.std.specs.List.{flat_map}
 use Rattle.std.specs.Io.KnownBytes.{Keeps}
 use Rattle.std.proofs.Common.{Global, String}
 use Rattle.hack_base.specs.Names.{Name}
-use Rattle.hack_files.specs.Files.{Contents}
 use Rattle.hack_load.specs.Answers.{AreAnswers}
 use Rattle.hack_load.specs.ContextOf.{IsContextFrom}
 use Rattle.hack_load.specs.Contexts.{ContextRecord}
@@ -33,6 +32,7 @@ use Rattle.hack_run.specs.Headline.{IsHandedOut}
 use Rattle.hack_run.specs.Questions.{AsksRustup, AsksStable, InstallsStable, NeedsAnswer, rustup_asked, stable_command}
 use Rattle.hack_run.specs.ScheduleCalls.{HandsOver}
 use Rattle.hack_run.specs.Warnings.{GrowsWithin}
+use Rattle.hack_run.specs.Worlds.{HostView, World, host_at, world_at}
 
 -- the steps that call programs: of a list only those that aren't listed, else all
 abbrev pub steps_performed : Bool → List Handed → List Handed
@@ -47,16 +47,16 @@ ListGrowsWithin false had has text = Unit {0}
 -- one history of a context's plan, made with this answer on stable's version, was handed out, and
 -- its steps made just these calls, one after the other; a list wrote a front of the lines of the
 -- steps that passed, and nothing else
-pub record PerformsOne (listing : Bool) (cx : ContextRecord) (stable : Result (Option Version) (String Global)) (rustup : Name) (had has : Option (List ℕ)) (old new : List Call) : Type 0 where
+pub record PerformsOne (listing : Bool) (cx : ContextRecord) (stable : Result (Option Version) (String Global)) (rustup : Name) (old new : HostView) : Type 0 where
   pub course : Course
   pub cut : ℕ
   pub handed : IsHandedOut cx stable rustup course
-  pub calls : MakesCalls (λ made. PerformsAll course.plan (steps_performed listing course.handed) made cut) old new
-  pub wrote : ListGrowsWithin listing had has (flat_map (lines_written course.plan) course.handed)
+  pub calls : MakesCalls (λ made. PerformsAll course.plan (steps_performed listing course.handed) made cut) old.calls new.calls
+  pub wrote : ListGrowsWithin listing old.out new.out (flat_map (lines_written course.plan) course.handed)
 
 -- one history was performed, or nothing was called and nothing listed
-abbrev pub PerformsAtMostOne : Bool → ContextRecord → Result (Option Version) (String Global) → Name → Option (List ℕ) → Option (List ℕ) → List Call → List Call → Type 0
-PerformsAtMostOne listing cx stable rustup had has old new = ((new ≡ old) × ListGrowsWithin listing had has []) ⊎ PerformsOne listing cx stable rustup had has old new
+abbrev pub PerformsAtMostOne : Bool → ContextRecord → Result (Option Version) (String Global) → Name → HostView → HostView → Type 0
+PerformsAtMostOne listing cx stable rustup old new = ((new.calls ≡ old.calls) × ListGrowsWithin listing old.out new.out []) ⊎ PerformsOne listing cx stable rustup old new
 
 -- a list was handed out to its end; or nothing was, and the runner printed notices at most
 abbrev pub HandsOverAtMostOne : {R : Type 0} → Type 0 → Option (List ℕ) → Option (List ℕ) → (List Note → R → R → Type 0) → (PlanView → List Handed → R → R → Type 0) → ContextRecord → Result (Option Version) (String Global) → Name → R → R → Type 0
@@ -79,32 +79,33 @@ MayAskStable rustup old new =
     ⊎ FailsStable rustup old new)
 
 -- this was answered on stable's version, and then one history of the plan was performed
-pub record PerformsBehind (cx : ContextRecord) (rustup : Name) (had has : Option (List ℕ)) (old mid new : List Call) : Type 0 where
+pub record PerformsBehind (cx : ContextRecord) (rustup : Name) (mid : List Call) (old new : HostView) : Type 0 where
   pub stable : Result (Option Version) (String Global)
-  pub told : AsksStable rustup stable old mid
-  pub performs : PerformsOne cx.args.print_command_list cx stable rustup had has mid new
+  pub told : AsksStable rustup stable old.calls mid
+  pub performs : PerformsOne cx.args.print_command_list cx stable rustup (host_at mid old) new
 
 -- stable's version was asked for only where the range needs it, and then one history of the plan
 -- was performed, or nothing was called
-pub record PerformsPlanAtMostOnce (cx : ContextRecord) (rustup : Name) (had has : Option (List ℕ)) (old new : List Call) : Type 0 where
+pub record PerformsPlanAtMostOnce (cx : ContextRecord) (rustup : Name) (old new : HostView) : Type 0 where
   pub mid : List Call
-  pub asked : MayAskStable rustup old mid
-  pub needed : ¬ NeedsAnswer cx.args → mid ≡ old
-  pub runs : ((new ≡ mid) × ListGrowsWithin cx.args.print_command_list had has []) ⊎ PerformsBehind cx rustup had has old mid new
+  pub asked : MayAskStable rustup old.calls mid
+  pub needed : ¬ NeedsAnswer cx.args → mid ≡ old.calls
+  pub runs : ((new.calls ≡ mid) × ListGrowsWithin cx.args.print_command_list old.out new.out []) ⊎ PerformsBehind cx rustup mid old new
 
 -- after the answers nothing was called or printed; or a context was made of them, and its plan was
 -- performed at most once
-abbrev pub AfterAnswers : Args → Answers → Name → Option (List ℕ) → Option (List ℕ) → List Call → List Call → Type 0
-AfterAnswers args answers rustup had has old new = ((new ≡ old) × (has ≡ had)) ⊎ ((cx : ContextRecord) × IsContextFrom args answers cx × PerformsPlanAtMostOnce cx rustup had has old new)
+abbrev pub AfterAnswers : Args → Answers → Name → HostView → HostView → Type 0
+AfterAnswers args answers rustup old new =
+    ((new.calls ≡ old.calls) × (new.out ≡ old.out)) ⊎ ((cx : ContextRecord) × IsContextFrom args answers cx × PerformsPlanAtMostOnce cx rustup old new)
 
 -- the questions of these arguments were asked in order, up to one that ended them, and then a plan
 -- was performed at most once
-pub record MakesOnce (tells : Type 0) (args : Args) (env : Env) (held : Contents) (before : ℕ) (had has : Option (List ℕ)) (old new : List Call) : Type 0 where
+pub record MakesOnce (tells : Type 0) (args : Args) (env : Env) (old : World) (new : HostView) : Type 0 where
   pub answers : Answers
   pub now : ℕ
   pub mid : List Call
-  pub asked : AreAnswers tells args env held before now old mid answers
-  pub behind : AfterAnswers args answers (string_bytes env.rustup) had has mid new
+  pub asked : AreAnswers tells args env old.files.held old.files.failed now old.host.calls mid answers
+  pub behind : AfterAnswers args answers (string_bytes env.rustup) (host_at mid old.host) new
 
 -- what a caller is asked where cargo is to list its commands
 abbrev pub listing_asked : Name → Asked
@@ -112,25 +113,25 @@ listing_asked cargo = asked_of false (plain_command cargo [] (codes "--list" ∷
 
 -- what a command line asks for was tried once: a history was performed, a text was printed, or
 -- cargo was called for its commands
-abbrev pub TriesOnce : Type 0 → Parsed → Env → Contents → ℕ → Option (List ℕ) → Option (List ℕ) → List Call → List Call → Type 0
-TriesOnce tells (parsed.Args args) env held before had has old new = MakesOnce tells args env held before had has old new
-TriesOnce tells (parsed.Print text) env held before had has old new = new ≡ old
-TriesOnce tells parsed.List env held before had has old new = MayAdd (listing_asked (string_bytes env.cargo)) old new × (has ≡ had)
+abbrev pub TriesOnce : Type 0 → Parsed → Env → World → HostView → Type 0
+TriesOnce tells (parsed.Args args) env old new = MakesOnce tells args env old new
+TriesOnce tells (parsed.Print text) env old new = new.calls ≡ old.host.calls
+TriesOnce tells parsed.List env old new = MayAdd (listing_asked (string_bytes env.cargo)) old.host.calls new.calls × (new.out ≡ old.host.out)
 
 -- rustup was asked where an argument needs it, the command line was parsed, and what it asks for
 -- was tried once
-pub record TriesRead (tells : Type 0) (words : List Name) (env : Env) (held : Contents) (before : ℕ) (had has : Option (List ℕ)) (old mid new : List Call) : Type 0 where
+pub record TriesRead (tells : Type 0) (words : List Name) (env : Env) (mid : List Call) (old : World) (new : HostView) : Type 0 where
   pub rustup : Rustup
   pub answer : Parsed
   pub notes : List Note
-  pub told : AsksRustup (wants_rustup words) (string_bytes env.rustup) rustup old mid
+  pub told : AsksRustup (wants_rustup words) (string_bytes env.rustup) rustup old.host.calls mid
   pub read : IsAnswer (around_of env rustup) (ComesTo (around_of env rustup) words) answer notes
-  pub tried : TriesOnce tells answer env held before had has mid new
+  pub tried : TriesOnce tells answer env (world_at mid old) new
 
 -- rustup was asked for its version at most, where an argument needs it; then nothing was called or
 -- printed, or what the command line asks for was tried once
-pub record MadeOnce (tells : Type 0) (words : List Name) (env : Env) (held : Contents) (before : ℕ) (had has : Option (List ℕ)) (old new : List Call) : Type 0 where
+pub record MadeOnce (tells : Type 0) (words : List Name) (env : Env) (old : World) (new : HostView) : Type 0 where
   pub mid : List Call
-  pub asked : MayAdd (rustup_asked (string_bytes env.rustup)) old mid
-  pub needed : wants_rustup words ≡ false → mid ≡ old
-  pub behind : ((new ≡ mid) × (has ≡ had)) ⊎ TriesRead tells words env held before had has old mid new
+  pub asked : MayAdd (rustup_asked (string_bytes env.rustup)) old.host.calls mid
+  pub needed : wants_rustup words ≡ false → mid ≡ old.host.calls
+  pub behind : ((new.calls ≡ mid) × (new.out ≡ old.host.out)) ⊎ TriesRead tells words env mid old new

@@ -1,10 +1,19 @@
 -- What a call over files with a journal sees.
-use Rattle.std.specs.Prelude.{ℕ, List}
+use Rattle.std.specs.Prelude.{[], ℕ, List}
 use Rattle.hack_files.specs.Files.{Contents}
 use Rattle.hack_journal.specs.LockfilesApart.{apart}
 use Rattle.hack_journal.specs.SafeFiles.{without}
+use Rattle.hack_run.specs.Worlds.{FilesView, HostView, World}
 
 -- what the paths hold: lockfiles what `lockfiles` holds, all others what `files` holds, and the
 -- journal nothing
 abbrev pub contents_seen : List ℕ → Contents → Contents → Contents
 contents_seen journal files lockfiles = apart (without journal files) lockfiles
+
+-- these as files, of which so many calls failed; the order of changes across the two isn't known
+abbrev pub files_seen : List ℕ → Contents → Contents → ℕ → FilesView
+files_seen journal files lockfiles failed = record { held = contents_seen journal files lockfiles; trace = []; failed = failed }
+
+-- the same with a host
+abbrev pub world_seen : List ℕ → Contents → Contents → ℕ → HostView → World
+world_seen journal files lockfiles failed host = record { files = files_seen journal files lockfiles failed; host = host }

@@ -6,3 +6,5 @@ pub mod TemporaryEdits
 pub mod ScheduleCalls
 pub mod Warnings
 pub mod Success
+pub mod Worlds
+pub mod Readings

@@ -20,6 +20,7 @@ use Rattle.hack_base.specs.Notes.{Note}
 use Rattle.hack_versions.specs.declared.version.Version.{Version}
 use Rattle.hack_run.specs.Headline.{IsHandedOut}
 use Rattle.hack_run.specs.Warnings.{Warned}
+use Rattle.hack_run.specs.Worlds.{HostView}
 
 -- the calls are those of the steps, one after the other, each of which passed
 abbrev pub PassesAll : PlanView → List Step → List Call → Type 0
@@ -28,32 +29,32 @@ PassesAll plan (step ∷ steps) calls =
     (first rest : List Call) × (calls ≡ first ++ rest) × Exactly plan step first Passed × PassesAll plan steps rest
 
 -- the calls of the whole schedule of a plan and a piece, each step of which passed, are made
-pub record RunsAll (plan : PlanView) (piece : Option Partition) (old new : List Call) : Type 0 where
+pub record RunsAll (plan : PlanView) (piece : Option Partition) (old new : HostView) : Type 0 where
   pub schedule : List Step
   pub scheduled : IsSchedule piece plan schedule
-  pub ran : MakesCalls (PassesAll plan schedule) old new
+  pub ran : MakesCalls (PassesAll plan schedule) old.calls new.calls
 
 -- the same for its toolchains and lockfiles alone, since a list makes no other calls; and the
 -- output grows by just the lines of the schedule
-pub record SendsAll (before now : Option (List ℕ)) (plan : PlanView) (piece : Option Partition) (old new : List Call) : Type 0 where
+pub record SendsAll (plan : PlanView) (piece : Option Partition) (old new : HostView) : Type 0 where
   pub schedule : List Step
   pub scheduled : IsSchedule piece plan schedule
-  pub sent : MakesCalls (PassesAll plan (filter is_sent_step schedule)) old new
-  pub written : Appends before now (flat_map (step_lines plan) schedule)
+  pub sent : MakesCalls (PassesAll plan (filter is_sent_step schedule)) old.calls new.calls
+  pub written : Appends old.out new.out (flat_map (step_lines plan) schedule)
 
--- `SendsAll` where commands are listed, with what the output held and holds; else `RunsAll`
-abbrev pub RunsOrLists : Bool → Option (List ℕ) → Option (List ℕ) → PlanView → Option Partition → List Call → List Call → Type 0
-RunsOrLists true before now plan piece old new = SendsAll before now plan piece old new
-RunsOrLists false before now plan piece old new = RunsAll plan piece old new
+-- `SendsAll` where commands are listed, else `RunsAll`
+abbrev pub RunsOrLists : Bool → PlanView → Option Partition → HostView → HostView → Type 0
+RunsOrLists true plan piece old new = SendsAll plan piece old new
+RunsOrLists false plan piece old new = RunsAll plan piece old new
 
 -- `Done` holds of a context's plan, made with this answer on stable's version, and a warning is
 -- noted just where one was before, or where a notice of the plan counts as one
-pub record DoesPlan (Done : PlanView → Option Partition → List Call → List Call → Type 0) (cx : ContextRecord) (stable : Result (Option Version) (String Global)) (rustup : Name) (old new : List Call) (before warn : Bool) : Type 0 where
+pub record DoesPlan (Done : PlanView → Option Partition → HostView → HostView → Type 0) (cx : ContextRecord) (stable : Result (Option Version) (String Global)) (rustup : Name) (old new : HostView) : Type 0 where
   pub plan : PlanView
   pub notes : List Note
   pub planned : IsPlanOf cx.args.subcommand stable cx rustup plan notes
   pub done : Done plan cx.args.partition old new
-  pub warned : Warned notes before warn
+  pub warned : Warned notes old.term.warn new.term.warn
 
 -- a context's list was handed out to its end, and its steps that aren't listed to a runner,
 -- whatever came of them; where lines are written whole or not at all, the output grew by just those

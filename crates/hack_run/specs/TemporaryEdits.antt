@@ -1,14 +1,16 @@
 -- Calls whose edits don't stay.
-use Rattle.std.specs.Prelude.{◌≡◌, ℕ, false, List}
+use Rattle.std.specs.Prelude.{◌≡◌, false, List}
 use Rattle.hack_base.specs.Names.{Name}
-use Rattle.hack_files.specs.Files.{Contents, GrowsBy, KeepsAll}
+use Rattle.hack_files.specs.Files.{GrowsBy, KeepsAll}
 use Rattle.hack_base.specs.Notes.{Note}
+use Rattle.hack_load.specs.FilesAfterLoading.{LeavesFew}
 use Rattle.hack_versions.specs.declared.rustup.Rustup.{Rustup}
 use Rattle.hack_words.specs.ParseAnswers.{AnswersCommandLine as IsAnswer, around_of}
 use Rattle.hack_words.specs.CommandLine.{ComesTo}
 use Rattle.hack_words.specs.declared.cli.env.Env.{Env}
 use Rattle.hack_words.specs.declared.cli.parse.Parsed.{Parsed}
 use Rattle.hack_words.specs.declared.cli.parse.Parsed.TheVariants as parsed
+use Rattle.hack_run.specs.Worlds.{FilesView}
 
 -- what the command line asks for isn't an edit that stays
 abbrev pub ComesBack : Parsed → Type 0
@@ -21,6 +23,10 @@ abbrev pub RestoresEdits : Env → List Name → Type 0
 RestoresEdits env words = (rustup : Rustup) (answer : Parsed) (notes : List Note)
     → IsAnswer (around_of env rustup) (ComesTo (around_of env rustup) words) answer notes → ComesBack answer
 
+-- each path holds what it held, except for at most as many paths as calls of the files failed
+abbrev pub BringsBack : FilesView → FilesView → Type 0
+BringsBack old new = LeavesFew (Unit {0}) old.held new.held old.failed new.failed
+
 -- no call of the files failed, and, where edits don't stay, each path holds what it held
-abbrev pub IsClean : Type 0 → Type 0 → Contents → Contents → ℕ → ℕ → Type 0
-IsClean returns tells old new before now = GrowsBy 0 before now × (returns → tells → KeepsAll old new)
+abbrev pub IsClean : Type 0 → Type 0 → FilesView → FilesView → Type 0
+IsClean returns tells old new = GrowsBy 0 old.failed new.failed × (returns → tells → KeepsAll old.held new.held)

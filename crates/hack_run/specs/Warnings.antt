@@ -1,4 +1,4 @@
--- The warnings that notices note, and what is seen of a call.
+-- The warnings that notices note, and what is printed in part.
 use Rattle.std.specs.Prelude.{ℕ, ◌≡◌, ◌||◌, Bool, true, false, List, Option}
 use Rattle.std.specs.List.{list_any}
 use Rattle.std.specs.Io.KnownBytes.{Appends, append_known}
@@ -29,18 +29,6 @@ after_notes term notes = record term { warn = have_warning notes || term.warn }
 -- a warning is noted just where one was before, or some of the notes counts as one
 abbrev pub Warned : List Note → Bool → Bool → Type 0
 Warned notes warned warn = warn ≡ (have_warning notes || warned)
-
--- what is seen of a call: whether a warning was noted before it and after it, and what its output
--- held before and holds after, where that is known
-pub record Seen : Type 0 where
-  pub warned : Bool
-  pub warn : Bool
-  pub before : Option (List ℕ)
-  pub now : Option (List ℕ)
-
--- what is seen of a terminal and an output, where a warning was noted before or wasn't
-abbrev pub seen_of : Bool → Term → Option (List ℕ) → Option (List ℕ) → Seen
-seen_of warned term before now = record { warned = warned; warn = term.warn; before = before; now = now }
 
 -- an output grew by a front of a text: what it has, and some rest, is what it had, and the text
 abbrev pub GrowsWithin : Option (List ℕ) → Option (List ℕ) → List ℕ → Type 0

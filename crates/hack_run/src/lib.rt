@@ -3,11 +3,13 @@
 
 mod ask;
 pub mod drive;
+mod execute;
 mod fault;
 mod gathered;
+pub mod host;
 pub mod journaled;
-mod list;
+mod print_list;
+pub mod reading;
 pub mod run;
 mod stages;
-mod start;
 mod tell;

@@ -1,20 +1,22 @@
 //! A whole call of `cargo hack`: does what its command line asks for, and reports on the way.
 
 ghost use Rattle.std.specs.Prelude.{◌≡◌, ◌↔◌, ◌⊎◌, ◌≤◌, IsErr, IsTrue, OnOk, false, true};
-ghost use Rattle.std.specs.Prelude.{map, string_bytes};
+ghost use Rattle.std.specs.Prelude.{IfSome, map, string_bytes};
 ghost use Rattle.std.specs.Io.KnownBytes.{Appends};
 ghost use Rattle.hack_base.specs.Names.{names_of};
 ghost use Rattle.hack_base.specs.Notes.{note_of};
-ghost use Rattle.hack_load.specs.FilesAfterLoading.{LeavesFew};
 ghost use Rattle.hack_process.specs.Calls.{MayAdd};
 ghost use Rattle.hack_run.specs.CallTrace.{MadeOnce, TriesOnce, listing_asked};
 ghost use Rattle.hack_run.specs.Questions.{rustup_asked};
-ghost use Rattle.hack_run.specs.TemporaryEdits.{ComesBack, IsClean, RestoresEdits};
-ghost use Rattle.hack_run.specs.Warnings.{seen_of};
-ghost use Rattle.hack_run.specs.Success.{AreRefused, IsDone, ListsCommands, Obeys, warned_by};
+ghost use Rattle.hack_run.specs.Readings.{IsEarlyReading};
+ghost use Rattle.hack_run.specs.TemporaryEdits.{BringsBack, ComesBack, IsClean, RestoresEdits};
+ghost use Rattle.hack_run.specs.Success.{AreRefused, IsDone, ListsCommands, Obeys, Refuses};
+ghost use Rattle.hack_run.specs.Success.{world_told};
+ghost use Rattle.hack_run.specs.Worlds.{IsSameHost, files_of, host_of, world_of};
 
-use crate::ask::rustup_for;
 use crate::fault::RunFault;
+use crate::host::Host;
+use crate::reading::{Reading, reading_of};
 use crate::stages::perform;
 use crate::tell::{tell_all, tell_end};
 use hack_base::notice::Notice;
@@ -26,20 +28,20 @@ use std::alloc::Global;
 use std::io::Write;
 
 /// Performs a call with these arguments, the first of which is `hack`, and returns its exit status.
-/// Output goes to `out`; messages go to `err`, the line of an error last. Under `--color auto` the
-/// colouring is the one that `term` has.
+/// `reading` is what they are read into, where that is known already. Messages go to the host's
+/// `err`, the line of an error last. Under `--color auto` the colouring is the one that its terminal
+/// has.
 pub fn run<F: Files, C: Caller, O: Write, E: Write>(
-    alloc: Global,
     words: &[String],
-    env: &Env,
-    term: &mut Term,
+    reading: Option<Reading>,
     files: &mut F,
-    runner: &mut C,
-    out: &mut O,
-    err: &mut E,
+    host: &mut Host<'_, C, O, E>,
 ) -> u8
-    ensures one { (result ≡ 1)
-        ↔ (IsTrue term.new.error ⊎ (IsTrue term.new.warn × IsTrue env.now.deny_warnings)) }
+    // What is read already is what these arguments are read into before anything is asked.
+    requires { IfSome reading (IsEarlyReading host.old.env.now (names_of words.now)) }
+    ensures host { IsSameHost host.old host.new }
+    ensures one { (result ≡ 1) ↔ (IsTrue host.new.term.now.error
+        ⊎ (IsTrue host.new.term.now.warn × IsTrue host.old.env.now.deny_warnings)) }
     ensures at_most_one { result ≤ 1 }
 
     // What each single call of the files keeps (`F.stays`) is kept by all of them together.
@@ -47,132 +49,116 @@ pub fn run<F: Files, C: Caller, O: Write, E: Write>(
 
     // A command line that is refused whatever rustup answers is reported as an error, and then
     // nothing was called, or just rustup for its version.
-    ensures refused { AreRefused env.now (names_of words.now) → (term.new.error ≡ true)
-        × (C.tells → MayAdd (rustup_asked (string_bytes env.now.rustup))
-        (C.calls runner.old) (C.calls runner.new)) }
+    ensures refused { AreRefused host.old.env.now (names_of words.now)
+        → Refuses C.tells host.old.env.now
+        (host_of C.Caller O.Write host.old) (host_of C.Caller O.Write host.new) }
 
     // Where no error was reported, what the command line asks for was done: the calls end with
     // those of the whole schedule of the plan, which follows from what this call asked and read. A
     // list wrote just the lines of that schedule. A warning is noted just where one was before, or
     // where a notice on the command line, on what was loaded or on the plan counts as one. Under
     // `--remove-dev-deps` each manifest that is edited holds its edit, and all else what it held.
-    ensures done { term.new.error ≡ false → C.tells → IsDone F.tells (names_of words.now)
-        env.now (F.bytes_at files.old) (F.bytes_at files.new) (F.failed files.old)
-        (seen_of term.old.warn term.new (O.contents out.old) (O.contents out.new))
-        (C.calls runner.old) (C.calls runner.new) }
+    ensures done { host.new.term.now.error ≡ false → C.tells
+        → IsDone F.tells (names_of words.now) host.old.env.now
+        (world_of F.Files C.Caller O.Write files.old host.old)
+        (world_of F.Files C.Caller O.Write files.new host.new) }
 
     // Whatever comes of the call: after its questions the steps of one history of the plan made
     // just their calls, or no step made one; and a list printed nothing but the lines of the steps
     // that passed, in order, or the beginning of these lines.
-    ensures made { C.tells → MadeOnce F.tells (names_of words.now) env.now
-        (F.bytes_at files.old) (F.failed files.old) (O.contents out.old) (O.contents out.new)
-        (C.calls runner.old) (C.calls runner.new) }
+    ensures made { C.tells → MadeOnce F.tells (names_of words.now) host.old.env.now
+        (world_of F.Files C.Caller O.Write files.old host.old)
+        (host_of C.Caller O.Write host.new) }
 
     // The files are restored: unless the command line asks for edits that stay, each path holds
     // what it held, except for at most as many paths as calls of the files failed.
-    ensures back { RestoresEdits env.now (names_of words.now) → F.tells → LeavesFew (Unit {0})
-        (F.bytes_at files.old) (F.bytes_at files.new) (F.failed files.old) (F.failed files.new) }
+    ensures back { RestoresEdits host.old.env.now (names_of words.now) → F.tells
+        → BringsBack (files_of F.Files files.old) (files_of F.Files files.new) }
 
     // A call of the files that failed is reported as an error: where none was reported, none
     // failed, and each path holds what it held, unless the command line asks for edits that stay.
-    ensures clean { term.new.error ≡ false
-        → IsClean (RestoresEdits env.now (names_of words.now)) F.tells
-        (F.bytes_at files.old) (F.bytes_at files.new)
-        (F.failed files.old) (F.failed files.new) }
+    ensures clean { host.new.term.now.error ≡ false
+        → IsClean (RestoresEdits host.old.env.now (names_of words.now)) F.tells
+        (files_of F.Files files.old) (files_of F.Files files.new) }
 {
-    let came = read(alloc, words, env, term, files, runner, out, err);
-    tell_end(alloc, came, term, err);
-    term.status(env.deny_warnings)
+    let env = host.env;
+    let came = read(words, reading, files, host);
+    tell_end(host.alloc, came, host.term, host.err);
+    host.term.status(env.deny_warnings)
 }
 
-/// Parses the command line, and does what it asks for.
+/// Reads the command line, unless it is read already, and does what it asks for.
 fn read<F: Files, C: Caller, O: Write, E: Write>(
-    alloc: Global,
     words: &[String],
-    env: &Env,
-    term: &mut Term,
+    reading: Option<Reading>,
     files: &mut F,
-    runner: &mut C,
-    out: &mut O,
-    err: &mut E,
+    host: &mut Host<'_, C, O, E>,
 ) -> Result<(), RunFault>
+    requires { IfSome reading (IsEarlyReading host.old.env.now (names_of words.now)) }
+    ensures host { IsSameHost host.old host.new }
     ensures stays { F.stays files.old files.new }
-    ensures refused { AreRefused env.now (names_of words.now) → IsErr result
-        × (C.tells → MayAdd (rustup_asked (string_bytes env.now.rustup))
-        (C.calls runner.old) (C.calls runner.new)) }
-    ensures done { OnOk result (term.new.error ≡ false → C.tells → IsDone F.tells
-        (names_of words.now) env.now (F.bytes_at files.old) (F.bytes_at files.new)
-        (F.failed files.old)
-        (seen_of term.old.warn term.new (O.contents out.old) (O.contents out.new))
-        (C.calls runner.old) (C.calls runner.new)) }
-    ensures made { C.tells → MadeOnce F.tells (names_of words.now) env.now
-        (F.bytes_at files.old) (F.failed files.old) (O.contents out.old) (O.contents out.new)
-        (C.calls runner.old) (C.calls runner.new) }
-    ensures back { RestoresEdits env.now (names_of words.now) → F.tells → LeavesFew (Unit {0})
-        (F.bytes_at files.old) (F.bytes_at files.new) (F.failed files.old) (F.failed files.new) }
-    ensures clean { OnOk result (term.new.error ≡ false
-        → IsClean (RestoresEdits env.now (names_of words.now)) F.tells
-        (F.bytes_at files.old) (F.bytes_at files.new)
-        (F.failed files.old) (F.failed files.new)) }
+    ensures refused { AreRefused host.old.env.now (names_of words.now) → IsErr result
+        × (C.tells → MayAdd (rustup_asked (string_bytes host.old.env.now.rustup))
+        (C.calls host.old.caller.now) (C.calls host.new.caller.now)) }
+    ensures done { OnOk result (host.new.term.now.error ≡ false → C.tells
+        → IsDone F.tells (names_of words.now) host.old.env.now
+        (world_of F.Files C.Caller O.Write files.old host.old)
+        (world_of F.Files C.Caller O.Write files.new host.new)) }
+    ensures made { C.tells → MadeOnce F.tells (names_of words.now) host.old.env.now
+        (world_of F.Files C.Caller O.Write files.old host.old)
+        (host_of C.Caller O.Write host.new) }
+    ensures back { RestoresEdits host.old.env.now (names_of words.now) → F.tells
+        → BringsBack (files_of F.Files files.old) (files_of F.Files files.new) }
+    ensures clean { OnOk result (host.new.term.now.error ≡ false
+        → IsClean (RestoresEdits host.old.env.now (names_of words.now)) F.tells
+        (files_of F.Files files.old) (files_of F.Files files.new)) }
 {
-    let rustup = rustup_for(alloc, words, env, term.verbose, runner)?;
-    match Args::parse(alloc, words, env, rustup) {
-        Ok(answer) => {
-            let (parsed, notices) = answer;
-            obey(
-                alloc,
-                parsed,
-                notices.as_slice(),
-                env,
-                term,
-                files,
-                runner,
-                out,
-                err,
-            )
-        }
-        Err(fault) => Err(RunFault::Words(fault)),
+    let env = host.env;
+    match reading_of(
+        host.alloc,
+        words,
+        reading,
+        env,
+        host.term.verbose,
+        host.caller,
+    )? {
+        Reading::Accepted(parsed, notices) => obey(parsed, notices.as_slice(), files, host),
+        Reading::Refused(fault) => Err(RunFault::Words(fault)),
     }
 }
 
 /// Does what a parsed command line asks for. The notices are those of parsing it.
 fn obey<F: Files, C: Caller, O: Write, E: Write>(
-    alloc: Global,
     parsed: Parsed,
     notices: &[Notice],
-    env: &Env,
-    term: &mut Term,
     files: &mut F,
-    runner: &mut C,
-    out: &mut O,
-    err: &mut E,
+    host: &mut Host<'_, C, O, E>,
 ) -> Result<(), RunFault>
+    ensures host { IsSameHost host.old host.new }
     ensures stays { F.stays files.old files.new }
-    ensures done { OnOk result (term.new.error ≡ false → C.tells
-        → Obeys F.tells parsed env.now (F.bytes_at files.old) (F.bytes_at files.new)
-        (F.failed files.old)
-        (seen_of (warned_by parsed (map note_of notices.now) term.old.warn) term.new
-        (O.contents out.old) (O.contents out.new))
-        (C.calls runner.old) (C.calls runner.new)) }
-    ensures made { C.tells → TriesOnce F.tells parsed env.now (F.bytes_at files.old)
-        (F.failed files.old) (O.contents out.old) (O.contents out.new)
-        (C.calls runner.old) (C.calls runner.new) }
-    ensures back { ComesBack parsed → F.tells → LeavesFew (Unit {0})
-        (F.bytes_at files.old) (F.bytes_at files.new) (F.failed files.old) (F.failed files.new) }
-    ensures clean { OnOk result (term.new.error ≡ false → IsClean (ComesBack parsed) F.tells
-        (F.bytes_at files.old) (F.bytes_at files.new)
-        (F.failed files.old) (F.failed files.new)) }
+    ensures done { OnOk result (host.new.term.now.error ≡ false → C.tells
+        → Obeys F.tells parsed host.old.env.now (world_told parsed (map note_of notices.now)
+        (world_of F.Files C.Caller O.Write files.old host.old))
+        (world_of F.Files C.Caller O.Write files.new host.new)) }
+    ensures made { C.tells → TriesOnce F.tells parsed host.old.env.now
+        (world_of F.Files C.Caller O.Write files.old host.old)
+        (host_of C.Caller O.Write host.new) }
+    ensures back { ComesBack parsed → F.tells
+        → BringsBack (files_of F.Files files.old) (files_of F.Files files.new) }
+    ensures clean { OnOk result (host.new.term.now.error ≡ false
+        → IsClean (ComesBack parsed) F.tells
+        (files_of F.Files files.old) (files_of F.Files files.new)) }
 {
     match parsed {
         Parsed::Args(args) => {
-            dress(term, &args);
-            tell_all(notices, term, err);
-            perform(alloc, args, env, term, files, runner, out, err)
+            dress(host.term, &args);
+            tell_all(notices, host.term, host.err);
+            perform(args, files, host)
         }
-        Parsed::Print(text) => print(text.as_str(), out),
+        Parsed::Print(text) => print(text.as_str(), host.out),
         Parsed::List => {
-            tell_all(notices, term, err);
-            list_commands(alloc, env, runner)
+            tell_all(notices, host.term, host.err);
+            list_commands(host.alloc, host.env, host.caller)
         }
     }
 }
@@ -200,15 +186,15 @@ fn print<O: Write>(text: &str, out: &mut O) -> Result<(), RunFault>
 }
 
 /// Has cargo list its commands.
-fn list_commands<C: Caller>(alloc: Global, env: &Env, runner: &mut C) -> Result<(), RunFault>
+fn list_commands<C: Caller>(alloc: Global, env: &Env, caller: &mut C) -> Result<(), RunFault>
     ensures done { OnOk result (C.tells → ListsCommands (string_bytes env.now.cargo)
-        (C.calls runner.old) (C.calls runner.new)) }
+        (C.calls caller.old) (C.calls caller.new)) }
     ensures made { C.tells → MayAdd (listing_asked (string_bytes env.now.cargo))
-        (C.calls runner.old) (C.calls runner.new) }
+        (C.calls caller.old) (C.calls caller.new) }
 {
     let mut command = ProcessBuilder::new(alloc, env.cargo.as_str())?;
     command.arg("--list")?;
-    match command.run(alloc, runner, env.current_dir.as_str()) {
+    match command.run(alloc, caller, env.current_dir.as_str()) {
         Ok(()) => Ok(()),
         Err(ProcessFault::Memory) => Err(RunFault::Memory),
         Err(fault) => Err(RunFault::Process(fault)),

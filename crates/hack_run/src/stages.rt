@@ -7,21 +7,22 @@ ghost use Rattle.hack_files.specs.Restore.{AreSafe, registered_files};
 ghost use Rattle.hack_load.specs.Answers.{IsLoaded};
 ghost use Rattle.hack_load.specs.ContextOf.{IsContextFrom, warnings_of};
 ghost use Rattle.hack_load.specs.ContextView.{context_view};
-ghost use Rattle.hack_load.specs.FilesAfterLoading.{LeavesFew};
 ghost use Rattle.hack_load.specs.CargoQuestions.{told_version};
 ghost use Rattle.hack_prepare.specs.PreparedView.{HoldTextsIn, IsPreparedIn, notes_in};
 ghost use Rattle.hack_prepare.specs.EditSteps.{Grows};
 ghost use Rattle.hack_run.specs.CallTrace.{AfterAnswers, MakesOnce, PerformsAtMostOne};
-ghost use Rattle.hack_run.specs.TemporaryEdits.{IsClean};
+ghost use Rattle.hack_run.specs.TemporaryEdits.{BringsBack, IsClean};
 ghost use Rattle.hack_run.specs.Questions.{IsAnswered};
 ghost use Rattle.hack_run.specs.ScheduleCalls.{RunsOrLists, DoesPlan};
-ghost use Rattle.hack_run.specs.Warnings.{after_notes, seen_of};
+ghost use Rattle.hack_run.specs.Warnings.{after_notes};
 ghost use Rattle.hack_run.specs.Success.{PerformsSchedule, AsksThenPerforms};
+ghost use Rattle.hack_run.specs.Worlds.{IsSameHost, files_of, host_of, world_of};
 
 use crate::ask::stable_for;
+use crate::execute::execute;
 use crate::fault::RunFault;
-use crate::list::list;
-use crate::start::start;
+use crate::host::Host;
+use crate::print_list::print_list;
 use crate::tell::tell_all;
 use hack_files::fs::Files;
 use hack_files::restore::Manager;
@@ -30,100 +31,79 @@ use hack_prepare::manifest::{finish, prepare};
 use hack_process::process::Caller;
 use hack_term::term::Term;
 use hack_versions::version::Version;
-use hack_words::cli::{Args, Env};
+use hack_words::cli::Args;
 use std::alloc::Global;
 use std::io::Write;
 
 /// Performs a call with these arguments. Whatever comes of it, edited files are restored at the
 /// end, unless the arguments ask for edits that stay.
 pub(crate) fn perform<F: Files, C: Caller, O: Write, E: Write>(
-    alloc: Global,
     args: Args,
-    env: &Env,
-    term: &mut Term,
     files: &mut F,
-    caller: &mut C,
-    out: &mut O,
-    err: &mut E,
+    host: &mut Host<'_, C, O, E>,
 ) -> Result<(), RunFault>
+    ensures host { IsSameHost host.old host.new }
     ensures stays { F.stays files.old files.new }
-    ensures done { OnOk result (term.new.error ≡ false → C.tells
-        → AsksThenPerforms F.tells args env.now (F.bytes_at files.old) (F.bytes_at files.new)
-        (F.failed files.old)
-        (seen_of term.old.warn term.new (O.contents out.old) (O.contents out.new))
-        (C.calls caller.old) (C.calls caller.new)) }
-    ensures made { C.tells → MakesOnce F.tells args env.now (F.bytes_at files.old)
-        (F.failed files.old) (O.contents out.old) (O.contents out.new)
-        (C.calls caller.old) (C.calls caller.new) }
-    ensures back { args.remove_dev_deps ≡ false → F.tells → LeavesFew (Unit {0})
-        (F.bytes_at files.old) (F.bytes_at files.new) (F.failed files.old) (F.failed files.new) }
-    ensures clean { OnOk result (term.new.error ≡ false
-        → IsClean (args.remove_dev_deps ≡ false) F.tells (F.bytes_at files.old)
-        (F.bytes_at files.new) (F.failed files.old) (F.failed files.new)) }
+    ensures done { OnOk result (host.new.term.now.error ≡ false → C.tells
+        → AsksThenPerforms F.tells args host.old.env.now
+        (world_of F.Files C.Caller O.Write files.old host.old)
+        (world_of F.Files C.Caller O.Write files.new host.new)) }
+    ensures made { C.tells → MakesOnce F.tells args host.old.env.now
+        (world_of F.Files C.Caller O.Write files.old host.old)
+        (host_of C.Caller O.Write host.new) }
+    ensures back { args.remove_dev_deps ≡ false → F.tells
+        → BringsBack (files_of F.Files files.old) (files_of F.Files files.new) }
+    ensures clean { OnOk result (host.new.term.now.error ≡ false
+        → IsClean (args.remove_dev_deps ≡ false) F.tells
+        (files_of F.Files files.old) (files_of F.Files files.new)) }
 {
-    let mut manager = Manager::new(alloc, !args.remove_dev_deps);
-    let answers = Answers::ask(alloc, &args, env, caller, files, &mut manager);
-    let came = follow(
-        alloc,
-        args,
-        answers,
-        env,
-        term,
+    let mut manager = Manager::new(host.alloc, !args.remove_dev_deps);
+    let answers = Answers::ask(
+        host.alloc,
+        &args,
+        host.env,
+        host.caller,
         files,
         &mut manager,
-        caller,
-        out,
-        err,
     );
-    finish(manager, files, term, err);
+    let came = follow(args, answers, files, &mut manager, host);
+    finish(manager, files, host.term, host.err);
     came
 }
 
 /// Performs a call, given the answers to its questions.
 fn follow<F: Files, C: Caller, O: Write, E: Write>(
-    alloc: Global,
     args: Args,
     answers: Answers,
-    env: &Env,
-    term: &mut Term,
     files: &mut F,
     manager: &mut Manager,
-    caller: &mut C,
-    out: &mut O,
-    err: &mut E,
+    host: &mut Host<'_, C, O, E>,
 ) -> Result<(), RunFault>
+    ensures host { IsSameHost host.old host.new }
     ensures stays { F.stays files.old files.new }
-    ensures done { OnOk result (term.new.error ≡ false → C.tells
-        → PerformsSchedule
-        (F.tells × IfOk answers.loaded (IsLoaded F.tells (F.bytes_at files.old) env.now)) args answers (string_bytes env.now.rustup)
-        (F.bytes_at files.old) (F.bytes_at files.new)
-        (seen_of term.old.warn term.new (O.contents out.old) (O.contents out.new))
-        (C.calls caller.old) (C.calls caller.new)) }
-    ensures made { C.tells → AfterAnswers args answers (string_bytes env.now.rustup)
-        (O.contents out.old) (O.contents out.new) (C.calls caller.old) (C.calls caller.new) }
+    ensures done { OnOk result (host.new.term.now.error ≡ false → C.tells
+        → PerformsSchedule (F.tells
+        × IfOk answers.loaded (IsLoaded F.tells (F.bytes_at files.old) host.old.env.now))
+        args answers (string_bytes host.old.env.now.rustup)
+        (world_of F.Files C.Caller O.Write files.old host.old)
+        (world_of F.Files C.Caller O.Write files.new host.new)) }
+    ensures made { C.tells → AfterAnswers args answers (string_bytes host.old.env.now.rustup)
+        (host_of C.Caller O.Write host.old) (host_of C.Caller O.Write host.new) }
     ensures unkept { manager.old.needs_restore ≡ false
         → registered_files manager.new ≡ registered_files manager.old }
     ensures grows { Grows (F.failed files.old) (F.failed files.new) }
     ensures counted { OnOk result (IsOk answers.loaded
         × GrowsBy 0 (F.failed files.old) (F.failed files.new)) }
-    ensures safe { F.tells → IfOk answers.loaded (IsLoaded F.tells (F.bytes_at files.old) env.now)
+    ensures safe { F.tells
+        → IfOk answers.loaded (IsLoaded F.tells (F.bytes_at files.old) host.old.env.now)
         → manager.old.needs_restore ≡ true
         → AreSafe (registered_files manager.old) (F.bytes_at files.old) (F.bytes_at files.old)
         → AreSafe (registered_files manager.new) (F.bytes_at files.old) (F.bytes_at files.new) }
 {
-    let cx = context(alloc, args, answers, term, err)?;
-    edit(alloc, &cx, term, files, manager, err)?;
-    let stable = stable_for(alloc, cx.args(), env, term, caller)?;
-    run_plan(
-        alloc,
-        &cx,
-        env.rustup.as_str(),
-        stable,
-        term,
-        caller,
-        out,
-        err,
-    )
+    let cx = context(host.alloc, args, answers, host.term, host.err)?;
+    edit(host.alloc, &cx, host.term, files, manager, host.err)?;
+    let stable = stable_for(host.alloc, cx.args(), host.env, host.term, host.caller)?;
+    run_plan(&cx, stable, host)
 }
 
 /// Makes the context of what is loaded, and prints its notices.
@@ -183,27 +163,22 @@ fn edit<F: Files, E: Write>(
 
 /// Lists the plan or performs it.
 fn run_plan<C: Caller, O: Write, E: Write>(
-    alloc: Global,
     cx: &Context,
-    rustup: &str,
     stable: Result<Option<Version>, String>,
-    term: &mut Term,
-    caller: &mut C,
-    out: &mut O,
-    err: &mut E,
+    host: &mut Host<'_, C, O, E>,
 ) -> Result<(), RunFault>
     requires { IsAnswered (context_view cx.now).args stable }
-    ensures done { OnOk result (term.new.error ≡ false → C.tells
-        → DoesPlan (RunsOrLists (context_view cx.now).args.print_command_list
-        (O.contents out.old) (O.contents out.new)) (context_view cx.now)
-        stable rustup.now (C.calls caller.old) (C.calls caller.new)
-        term.old.warn term.new.warn) }
+    ensures host { IsSameHost host.old host.new }
+    ensures done { OnOk result (host.new.term.now.error ≡ false → C.tells
+        → DoesPlan (RunsOrLists (context_view cx.now).args.print_command_list) (context_view cx.now)
+        stable (string_bytes host.old.env.now.rustup)
+        (host_of C.Caller O.Write host.old) (host_of C.Caller O.Write host.new)) }
     ensures made { C.tells → PerformsAtMostOne (context_view cx.now).args.print_command_list
-        (context_view cx.now) stable rustup.now (O.contents out.old) (O.contents out.new)
-        (C.calls caller.old) (C.calls caller.new) }
+        (context_view cx.now) stable (string_bytes host.old.env.now.rustup)
+        (host_of C.Caller O.Write host.old) (host_of C.Caller O.Write host.new) }
 {
     if cx.args().print_command_list {
-        return list(alloc, cx, rustup, stable, term, caller, out, err);
+        return print_list(cx, stable, host);
     }
-    start(alloc, cx, rustup, stable, term, caller, out, err)
+    execute(cx, stable, host)
 }

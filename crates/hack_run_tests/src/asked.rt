@@ -15,6 +15,7 @@ use crate::steps::steps;
 use crate::toolchains::toolchain;
 use crate::world::world_of;
 use hack_holds::{Ask, Wrong, hold};
+use hack_run::host::Host;
 use hack_run::run::run;
 use std::alloc::{AllocError, Global};
 
@@ -53,16 +54,15 @@ fn answered(alloc: Global, kind: &str, world: &str, words: &str) -> Result<Strin
 /// A whole call: the sections, and its status.
 fn called(alloc: Global, world: &str, words: &str, sections: &str) -> Result<String, AllocError> {
     let mut scene = scene_of(alloc, world, words)?;
-    let status = run(
+    let mut host = Host::new(
         alloc,
-        scene.words.as_slice(),
         &scene.env,
         &mut scene.term,
-        &mut scene.files,
         &mut scene.caller,
         &mut scene.out,
         &mut scene.err,
     );
+    let status = run(scene.words.as_slice(), None, &mut scene.files, &mut host);
     let mut text = String::new(alloc);
     push_sections(&mut text, alloc, &scene, sections)?;
     format!(in alloc; "{text}status {status}")

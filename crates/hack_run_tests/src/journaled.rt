@@ -8,6 +8,7 @@ use crate::world::files_of;
 use crate::worlds::{ROOT, VIRTUAL};
 use hack_files::fs::{MemoryFiles, Step};
 use hack_holds::Wrong;
+use hack_run::host::Host;
 use hack_run::journaled::run_journaled;
 use std::alloc::{AllocError, Global};
 
@@ -27,17 +28,21 @@ pub fn journaled(alloc: Global, world: &str, words: &str) -> Result<String, Allo
     let files = files_of(alloc, world)?;
     let lockfiles = files_of(alloc, world)?;
     let journal = String::from_str(alloc, "/w/journal")?;
-    let (status, files, lockfiles, failed): (u8, MemoryFiles, MemoryFiles, u64) = run_journaled(
+    let mut host = Host::new(
         alloc,
-        scene.words.as_slice(),
         &scene.env,
         &mut scene.term,
-        files,
-        lockfiles,
-        journal,
         &mut scene.caller,
         &mut scene.out,
         &mut scene.err,
+    );
+    let (status, files, lockfiles, failed): (u8, MemoryFiles, MemoryFiles, u64) = run_journaled(
+        scene.words.as_slice(),
+        None,
+        files,
+        lockfiles,
+        journal,
+        &mut host,
     );
     let mut text = format!(in alloc; "status {status}, {failed} failed")?;
     push_paths(&mut text, files.steps(), scene.first)?;

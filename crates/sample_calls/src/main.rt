@@ -8,7 +8,7 @@
 use cargo_hack::cli::Env;
 use cargo_hack::fs::{Files, MemoryFiles};
 use cargo_hack::process::{End, FakeCaller};
-use cargo_hack::run::run;
+use cargo_hack::run::{Host, run};
 use cargo_hack::term::{Coloring, Term};
 use std::alloc::{AllocError, Global};
 use std::{env, io};
@@ -67,18 +67,13 @@ fn words_of(alloc: Global, line: &str) -> Result<Vec<String>, AllocError> {
 fn call(alloc: Global, words: &[String], input: &str) -> Result<String, AllocError> {
     let (told, files) = workspace(alloc, input)?;
     let mut files = files;
+    let env = Env::new(alloc, &[], String::from_str(alloc, "/w")?)?;
+    let mut term = Term::new(Coloring::Never, false);
+    let mut caller = caller(alloc, told.as_str())?;
     let mut out = Vec::new(alloc);
     let mut err = Vec::new(alloc);
-    let status = run(
-        alloc,
-        words,
-        &Env::new(alloc, &[], String::from_str(alloc, "/w")?)?,
-        &mut Term::new(Coloring::Never, false),
-        &mut files,
-        &mut caller(alloc, told.as_str())?,
-        &mut out,
-        &mut err,
-    );
+    let mut host = Host::new(alloc, &env, &mut term, &mut caller, &mut out, &mut err);
+    let status = run(words, None, &mut files, &mut host);
     let listed = String::from_utf8_lossy(alloc, &out)?;
     let notes = String::from_utf8_lossy(alloc, &err)?;
     let line = words.join(alloc, " ")?;

@@ -8,5 +8,5 @@ returns-in-None-clause-goes g c =
     unedited (g.K.Locks.shown c.release.new.self) c.in-None.is c.release.ensures
     (record { refused = ran.refused; done = ran.done; made = ran.made; back = ran.back; clean = ran.clean; lockfiles = refl; locks = refl })
 
-pub returns-in-Back-clause-goes : goal.returns-in-Back-clause-goes
-returns-in-Back-clause-goes g c = journaled c.in-Back.is (c.journaled.ensures.goes (g.K.Locks.shown c.args.locks.now))
+pub returns-clause-goes : goal.returns-clause-goes
+returns-clause-goes g c = journaled c.in-Back.is (c.journaled.ensures.goes (g.K.Locks.shown c.args.locks.now))

@@ -1,6 +1,6 @@
 use Rattle.std.proofs.Common.{ap, refl, string_bytes}
 use Rattle.hack_term.specs.declared.term.Term.{Term}
-use Rattle.hack_recovery.specs.CallCourses.{World}
+use Rattle.hack_recovery.specs.CallCourses.{Scene, scene_of}
 use Rattle.hack_recovery.specs.CallCourses.CallLeadsTo.{turned_away, under_its_lock, without_journal}
 use Rattle.hack_recovery.proofs.perform.perform.Goals as goal
 
@@ -8,14 +8,7 @@ pub returns-in-Ok-Plain-clause-goes : goal.returns-in-Ok-Plain-clause-goes
 returns-in-Ok-Plain-clause-goes g c =
     let begun = c.in-Ok.begun in
     let ran = c.run-status.ensures in
-    let at : World = record {
-      files = record { held = g.F.Files.bytes_at c.begin.new.files; trace = g.F.Files.trace c.begin.new.files; failed = g.F.Files.failed c.begin.new.files };
-      lockfiles = g.L.Files.bytes_at c.args.lockfiles;
-      locks = g.K.Locks.shown c.admit.new.locks;
-      calls = g.C.Caller.calls c.args.caller.now;
-      out = g.O.Write.contents c.args.out.now;
-      term = c.args.term.now;
-    } in
+    let at : Scene = scene_of g.F.Files g.L.Files g.C.Caller g.O.Write c.begin.new.files c.args.lockfiles (g.K.Locks.shown c.admit.new.locks) c.args.host.now in
     without_journal begun.edits (string_bytes begun.folder) (string_bytes begun.journal) at
     (record {
       there = begun.is_there;
@@ -29,14 +22,7 @@ returns-in-Ok-Plain-clause-goes g c =
 pub returns-in-Ok-Guarded-clause-goes : goal.returns-in-Ok-Guarded-clause-goes
 returns-in-Ok-Guarded-clause-goes g c =
     let begun = c.in-Ok.begun in
-    let at : World = record {
-      files = record { held = g.F.Files.bytes_at c.begin.new.files; trace = g.F.Files.trace c.begin.new.files; failed = g.F.Files.failed c.begin.new.files };
-      lockfiles = g.L.Files.bytes_at c.args.lockfiles;
-      locks = g.K.Locks.shown c.admit.new.locks;
-      calls = g.C.Caller.calls c.args.caller.now;
-      out = g.O.Write.contents c.args.out.now;
-      term = c.args.term.now;
-    } in
+    let at : Scene = scene_of g.F.Files g.L.Files g.C.Caller g.O.Write c.begin.new.files c.args.lockfiles (g.K.Locks.shown c.admit.new.locks) c.args.host.now in
     under_its_lock begun.edits (string_bytes begun.folder) (string_bytes begun.journal) at
     (record {
       there = begun.is_there;

@@ -1,8 +1,9 @@
 use Rattle.hack_base.specs.Names.{names_of}
 use Rattle.hack_run.specs.TemporaryEdits.{IsClean, RestoresEdits}
-use Rattle.hack_run.specs.Warnings.{seen_of}
 use Rattle.hack_run.specs.Success.{IsDone}
+use Rattle.hack_run.specs.Worlds.{files_of, host_of, world_of}
 use Rattle.hack_term.specs.declared.term.Term.{Term}
+use Rattle.hack_run.proofs.MadeLemmas.{made_told}
 use Rattle.hack_run.proofs.WholeLemmas.{comes, told_fault}
 use Rattle.hack_run.proofs.run.run.Goals as goal
 
@@ -11,11 +12,16 @@ returns-clause-refused g c = λ refused. let h = c.read-came.ensures.refused ref
 
 pub returns-clause-done : goal.returns-clause-done
 returns-clause-done g c =
-    comes (λ (k : Term). g.C.Caller.tells → IsDone g.F.Files.tells (names_of c.args.words.now) c.args.env.now (g.F.Files.bytes_at c.args.files.now) (g.F.Files.bytes_at c.read-came.new.files) (g.F.Files.failed c.args.files.now)
-    (seen_of c.args.term.now.warn k (g.O.Write.contents c.args.out.now) (g.O.Write.contents c.read-came.new.out)) (g.C.Caller.calls c.args.runner.now) (g.C.Caller.calls c.read-came.new.runner))
-    c.read-came.result c.read-came.new.term c.tell_end.new.term c.read-came.ensures.done c.tell_end.ensures.ok c.tell_end.ensures.err
+    comes (λ (k : Term). g.C.Caller.tells → IsDone g.F.Files.tells (names_of c.args.words.now) c.args.host.now.env.now (world_of g.F.Files g.C.Caller g.O.Write c.args.files.now c.args.host.now)
+    (record { files = files_of g.F.Files c.read-came.new.files; host = record (host_of g.C.Caller g.O.Write c.read-came.new.host) { term = k } }))
+    c.read-came.result c.read-came.new.host.term.now c.tell_end.new.term c.read-came.ensures.done c.tell_end.ensures.ok c.tell_end.ensures.err
+
+pub returns-clause-made : goal.returns-clause-made
+returns-clause-made g c = λ t.
+    made_told g.F.Files.tells (names_of c.args.words.now) c.args.host.now.env.now (world_of g.F.Files g.C.Caller g.O.Write c.args.files.now c.args.host.now) (host_of g.C.Caller g.O.Write c.read-came.new.host)
+    c.tell_end.new.term (c.read-came.ensures.made t)
 
 pub returns-clause-clean : goal.returns-clause-clean
 returns-clause-clean g c =
-    comes (λ (k : Term). IsClean (RestoresEdits c.args.env.now (names_of c.args.words.now)) g.F.Files.tells (g.F.Files.bytes_at c.args.files.now) (g.F.Files.bytes_at c.read-came.new.files) (g.F.Files.failed c.args.files.now) (g.F.Files.failed c.read-came.new.files))
-    c.read-came.result c.read-came.new.term c.tell_end.new.term c.read-came.ensures.clean c.tell_end.ensures.ok c.tell_end.ensures.err
+    comes (λ (k : Term). IsClean (RestoresEdits c.args.host.now.env.now (names_of c.args.words.now)) g.F.Files.tells (files_of g.F.Files c.args.files.now) (files_of g.F.Files c.read-came.new.files))
+    c.read-came.result c.read-came.new.host.term.now c.tell_end.new.term c.read-came.ensures.clean c.tell_end.ensures.ok c.tell_end.ensures.err

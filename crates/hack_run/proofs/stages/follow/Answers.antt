@@ -8,7 +8,7 @@ use Rattle.hack_run.proofs.BackLemmas.{counted_ok}
 use Rattle.hack_run.proofs.MadeLemmas.{goes_on, shows_nothing}
 use Rattle.hack_load.specs.ContextOf.{warnings_of}
 use Rattle.hack_load.specs.CargoQuestions.{told_version}
-use Rattle.hack_run.specs.Warnings.{seen_of}
+use Rattle.hack_run.specs.Worlds.{host_of, world_of}
 use Rattle.hack_run.proofs.ToldLemmas.{warned_first}
 use Rattle.hack_run.proofs.WholeLemmas.{follows}
 use Rattle.hack_run.proofs.stages.follow.Goals as goal
@@ -16,26 +16,26 @@ use Rattle.hack_run.proofs.stages.follow.Goals as goal
 pub returns-clause-done : goal.returns-clause-done
 returns-clause-done g c =
     let held = g.F.Files.bytes_at c.args.files.now in
+    let env = c.args.host.now.env.now in
     let cx = context_view c.in_ok-cx.cx in
-    follows g.C.Caller.tells (g.F.Files.tells × IfOk c.args.answers.loaded (IsLoaded g.F.Files.tells held c.args.env.now)) (c.run_plan.new.term.error ≡ false) c.run_plan.result c.args.args
-    c.args.answers (string_bytes c.args.env.now.rustup) held (g.F.Files.bytes_at c.edit.new.files) (seen_of c.args.term.now.warn c.run_plan.new.term (g.O.Write.contents c.args.out.now) (g.O.Write.contents c.run_plan.new.out))
-    (g.C.Caller.calls c.args.caller.now) (g.C.Caller.calls c.stable_for.new.caller) (g.C.Caller.calls c.run_plan.new.caller) cx c.in_ok-stable.stable
-    c.edit.new.term.warn
-    (warned_first c.args.term.now c.context.new.term c.edit.new.term (warnings_of (told_version c.args.answers.cargo_version)) cx c.in_ok-cx.ensures.told c.in_ok-edit.ensures.told)
-    (λ u. c.in_ok-edit.ensures.prepared u.0 (loaded-holds g.F.Files.tells held c.args.env.now c.args.args c.args.answers cx u.0 u.1 c.in_ok-cx.ensures.ok))
-    c.in_ok-cx.ensures.ok c.in_ok-stable.ensures.asked (λ off. c.in_ok-stable.ensures.unasked (subst (λ (a : Args). ¬ NeedsAnswer a) (sym c.args-2.ensures) off)) (rw c.as_str.ensures.value at c.run_plan.ensures.done)
+    follows g.C.Caller.tells (g.F.Files.tells × IfOk c.args.answers.loaded (IsLoaded g.F.Files.tells held env)) (c.run_plan.new.host.term.now.error ≡ false) c.run_plan.result c.args.args
+    c.args.answers (string_bytes env.rustup) (world_of g.F.Files g.C.Caller g.O.Write c.args.files.now c.args.host.now) (world_of g.F.Files g.C.Caller g.O.Write c.edit.new.files c.run_plan.new.host)
+    (g.C.Caller.calls c.stable_for.new.caller) c.edit.new.term cx c.in_ok-stable.stable
+    (warned_first c.args.host.now.term.now c.context.new.term c.edit.new.term (warnings_of (told_version c.args.answers.cargo_version)) cx c.in_ok-cx.ensures.told c.in_ok-edit.ensures.told)
+    (λ u. c.in_ok-edit.ensures.prepared u.0 (loaded-holds g.F.Files.tells held env c.args.args c.args.answers cx u.0 u.1 c.in_ok-cx.ensures.ok))
+    c.in_ok-cx.ensures.ok c.in_ok-stable.ensures.asked (λ off. c.in_ok-stable.ensures.unasked (subst (λ (a : Args). ¬ NeedsAnswer a) (sym c.args-2.ensures) off)) c.run_plan.ensures.done
 
 pub returns-in_err-edit-clause-safe : goal.returns-in_err-edit-clause-safe
 returns-in_err-edit-clause-safe g c = λ t read.
-    c.edit.ensures.safe t (loaded-holds g.F.Files.tells (g.F.Files.bytes_at c.args.files.now) c.args.env.now c.args.args c.args.answers (context_view c.in_ok-cx.cx) t read c.in_ok-cx.ensures.ok)
+    c.edit.ensures.safe t (loaded-holds g.F.Files.tells (g.F.Files.bytes_at c.args.files.now) c.args.host.now.env.now c.args.args c.args.answers (context_view c.in_ok-cx.cx) t read c.in_ok-cx.ensures.ok)
 
 pub returns-in_err-stable-clause-safe : goal.returns-in_err-stable-clause-safe
 returns-in_err-stable-clause-safe g c = λ t read.
-    c.edit.ensures.safe t (loaded-holds g.F.Files.tells (g.F.Files.bytes_at c.args.files.now) c.args.env.now c.args.args c.args.answers (context_view c.in_ok-cx.cx) t read c.in_ok-cx.ensures.ok)
+    c.edit.ensures.safe t (loaded-holds g.F.Files.tells (g.F.Files.bytes_at c.args.files.now) c.args.host.now.env.now c.args.args c.args.answers (context_view c.in_ok-cx.cx) t read c.in_ok-cx.ensures.ok)
 
 pub returns-clause-safe : goal.returns-clause-safe
 returns-clause-safe g c = λ t read.
-    c.edit.ensures.safe t (loaded-holds g.F.Files.tells (g.F.Files.bytes_at c.args.files.now) c.args.env.now c.args.args c.args.answers (context_view c.in_ok-cx.cx) t read c.in_ok-cx.ensures.ok)
+    c.edit.ensures.safe t (loaded-holds g.F.Files.tells (g.F.Files.bytes_at c.args.files.now) c.args.host.now.env.now c.args.args c.args.answers (context_view c.in_ok-cx.cx) t read c.in_ok-cx.ensures.ok)
 
 pub returns-clause-counted : goal.returns-clause-counted
 returns-clause-counted g c = counted_ok c.run_plan.result c.args.answers.loaded _ (g.F.Files.failed c.args.files.now) (g.F.Files.failed c.edit.new.files) c.in_ok-cx.ensures.ok.1 c.in_ok-edit.ensures.counted
@@ -50,7 +50,7 @@ returns-in_err-stable-clause-made g c = λ t.
         mid = g.C.Caller.calls c.stable_for.new.caller;
         asked = c.stable_for.ensures.made t;
         needed = λ off. ap g.C.Caller.calls (c.stable_for.ensures.unneeded (subst (λ (a : Args). ¬ NeedsAnswer a) (sym c.args-2.ensures) off));
-        runs = inl (refl, shows_nothing cx.args.print_command_list (g.O.Write.contents c.args.out.now));
+        runs = inl (refl, shows_nothing cx.args.print_command_list (g.O.Write.contents c.args.host.now.out.now));
       },
     )
 
@@ -59,10 +59,10 @@ returns-clause-made g c = λ t.
     inr (
       context_view c.in_ok-cx.cx,
       c.in_ok-cx.ensures.ok,
-      goes_on (context_view c.in_ok-cx.cx) c.in_ok-stable.stable (string_bytes c.args.env.now.rustup) (g.O.Write.contents c.args.out.now) (g.O.Write.contents c.run_plan.new.out)
-          (g.C.Caller.calls c.args.caller.now) (g.C.Caller.calls c.stable_for.new.caller) (g.C.Caller.calls c.run_plan.new.caller) (c.stable_for.ensures.made t)
+      goes_on (context_view c.in_ok-cx.cx) c.in_ok-stable.stable (string_bytes c.args.host.now.env.now.rustup) (host_of g.C.Caller g.O.Write c.args.host.now) (host_of g.C.Caller g.O.Write c.run_plan.new.host)
+          (g.C.Caller.calls c.stable_for.new.caller) c.edit.new.term (c.stable_for.ensures.made t)
           (λ off. ap g.C.Caller.calls (c.stable_for.ensures.unneeded (subst (λ (a : Args). ¬ NeedsAnswer a) (sym c.args-2.ensures) off)))
-          (c.in_ok-stable.ensures.asked t) (rw c.as_str.ensures.value at (c.run_plan.ensures.made t)),
+          (c.in_ok-stable.ensures.asked t) (c.run_plan.ensures.made t),
     )
 
 pub returns-in_err-cx-clause-stays : goal.returns-in_err-cx-clause-stays

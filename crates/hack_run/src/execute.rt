@@ -1,51 +1,47 @@
 //! The runs of a plan, and the report of those that failed.
 
-ghost use Rattle.std.specs.Prelude.{◌≡◌, None, OnOk, false};
+ghost use Rattle.std.specs.Prelude.{◌≡◌, None, OnOk, false, string_bytes};
 ghost use Rattle.hack_load.specs.ContextView.{context_view};
 ghost use Rattle.hack_run.specs.CallTrace.{PerformsAtMostOne};
 ghost use Rattle.hack_run.specs.Questions.{IsAnswered};
 ghost use Rattle.hack_run.specs.ScheduleCalls.{DoesPlan, RunsAll};
+ghost use Rattle.hack_run.specs.Worlds.{IsSameHost, host_of};
 
 use crate::drive::drive_context;
 use crate::fault::RunFault;
+use crate::host::Host;
 use hack_load::context::Context;
 use hack_planner::fault::PlanFault;
 use hack_process::process::{Caller, ProcessFault};
 use hack_session::session::{Handed, History, Outcome, Session, Starter, Step};
 use hack_session::suspect_notes::suspect_notes;
-use hack_term::term::Term;
+use hack_term::term::{LogGroup, Term};
 use hack_versions::version::Version;
 use hack_words::cli::Args;
 use std::alloc::{AllocError, Global};
 use std::io::Write;
 
 /// Performs the chosen piece of a context's plan, and reports the runs that failed.
-pub(crate) fn start<C: Caller, O: Write, E: Write>(
-    alloc: Global,
+pub(crate) fn execute<C: Caller, O: Write, E: Write>(
     cx: &Context,
-    rustup: &str,
     stable: Result<Option<Version>, String>,
-    term: &mut Term,
-    caller: &mut C,
-    out: &mut O,
-    err: &mut E,
+    host: &mut Host<'_, C, O, E>,
 ) -> Result<(), RunFault>
     requires { IsAnswered (context_view cx.now).args stable }
-    ensures done { OnOk result (term.new.error ≡ false → C.tells
-        → DoesPlan RunsAll (context_view cx.now) stable rustup.now
-        (C.calls caller.old) (C.calls caller.new)
-        term.old.warn term.new.warn) }
-    ensures made { C.tells → PerformsAtMostOne false (context_view cx.now) stable rustup.now
-        (O.contents out.old) (O.contents out.new) (C.calls caller.old) (C.calls caller.new) }
+    ensures host { IsSameHost host.old host.new }
+    ensures done { OnOk result (host.new.term.now.error ≡ false → C.tells
+        → DoesPlan RunsAll (context_view cx.now) stable (string_bytes host.old.env.now.rustup)
+        (host_of C.Caller O.Write host.old) (host_of C.Caller O.Write host.new)) }
+    ensures made { C.tells → PerformsAtMostOne false (context_view cx.now) stable
+        (string_bytes host.old.env.now.rustup)
+        (host_of C.Caller O.Write host.old) (host_of C.Caller O.Write host.new) }
 {
     let mut fault = None;
-    let session = match drive(
-        alloc, cx, rustup, stable, &mut fault, term, caller, out, err,
-    ) {
+    let session = match hand_to_starter(cx, stable, &mut fault, host) {
         Ok(session) => session,
         Err(fault) => return Err(RunFault::Plan(fault)),
     };
-    let reported = report_all(alloc, cx.args(), &session, term, err);
+    let reported = report_all(host.alloc, cx.args(), &session, host.term, host.err);
     // Why the session stopped counts for more than a report that memory cut short.
     match fault {
         Some(fault) => Err(RunFault::Process(fault)),
@@ -53,61 +49,43 @@ pub(crate) fn start<C: Caller, O: Write, E: Write>(
     }
 }
 
-/// Returns a starter that performs runs as the arguments say. The error that stops it goes to
-/// `fault`.
-fn starter<'a, C: Caller, O: Write, E: Write>(
-    alloc: Global,
-    args: &Args,
-    fault: &'a mut Option<ProcessFault>,
-    term: &'a mut Term,
-    caller: &'a mut C,
-    out: &'a mut O,
-    err: &'a mut E,
-) -> Starter<'a, C, O, E>
-    ensures caller { (result.caller.ghost_name ≡ caller.entry.ghost_name)
-        × (result.caller.now ≡ caller.entry.now) }
-    ensures term { (result.term.ghost_name ≡ term.entry.ghost_name)
-        × (result.term.now ≡ term.entry.now) }
-    ensures fault { (result.fault.ghost_name ≡ fault.entry.ghost_name)
-        × (result.fault.now ≡ fault.entry.now) }
-    ensures args { (result.keep_going ≡ args.now.keep_going)
-        × (result.log_group ≡ args.now.log_group) }
-{
-    Starter::new(
-        alloc,
-        caller,
-        term,
-        out,
-        err,
-        args.log_group,
-        args.keep_going,
-        fault,
-    )
-}
-
 /// Hands the plan to a starter. The error that stopped it goes to `fault`, unless it was reported.
-fn drive<C: Caller, O: Write, E: Write>(
-    alloc: Global,
+fn hand_to_starter<C: Caller, O: Write, E: Write>(
     cx: &Context,
-    rustup: &str,
     stable: Result<Option<Version>, String>,
     fault: &mut Option<ProcessFault>,
-    term: &mut Term,
-    caller: &mut C,
-    out: &mut O,
-    err: &mut E,
+    host: &mut Host<'_, C, O, E>,
 ) -> Result<Session, PlanFault>
     requires { IsAnswered (context_view cx.now).args stable }
-    ensures done { OnOk result (fault.new ≡ None → term.new.error ≡ false → C.tells
-        → DoesPlan RunsAll (context_view cx.now) stable rustup.now
-        (C.calls caller.old) (C.calls caller.new)
-        term.old.warn term.new.warn) }
-    ensures made { C.tells → PerformsAtMostOne false (context_view cx.now) stable rustup.now
-        (O.contents out.old) (O.contents out.new) (C.calls caller.old) (C.calls caller.new) }
+    ensures host { IsSameHost host.old host.new }
+    ensures done { OnOk result (fault.new ≡ None → host.new.term.now.error ≡ false → C.tells
+        → DoesPlan RunsAll (context_view cx.now) stable (string_bytes host.old.env.now.rustup)
+        (host_of C.Caller O.Write host.old) (host_of C.Caller O.Write host.new)) }
+    ensures made { C.tells → PerformsAtMostOne false (context_view cx.now) stable
+        (string_bytes host.old.env.now.rustup)
+        (host_of C.Caller O.Write host.old) (host_of C.Caller O.Write host.new) }
 {
-    let mut starter = starter(alloc, cx.args(), fault, term, caller, out, err);
-    let session = drive_context(alloc, cx, rustup, stable, &mut starter)?;
+    let rustup = host.env.rustup.as_str();
+    let (log_group, keep_going) = manner(cx.args());
+    let mut starter = Starter::new(
+        host.alloc,
+        host.caller,
+        host.term,
+        host.out,
+        host.err,
+        log_group,
+        keep_going,
+        fault,
+    );
+    let session = drive_context(host.alloc, cx, rustup, stable, &mut starter)?;
     Ok(session)
+}
+
+/// How a starter prints, and whether it goes on after a failed run.
+fn manner(args: &Args) -> (LogGroup, bool)
+    ensures { result ≡ (args.now.log_group, args.now.keep_going) }
+{
+    (args.log_group, args.keep_going)
 }
 
 /// Reports the runs that failed, and what only these have.

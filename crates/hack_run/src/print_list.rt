@@ -1,20 +1,21 @@
 //! The command list of a plan.
 
-ghost use Rattle.std.specs.Prelude.{◌≡◌, None, Ok, OnOk, false, true};
-ghost use Rattle.std.specs.Io.KnownBytes.{append_known};
+ghost use Rattle.std.specs.Prelude.{◌≡◌, None, Ok, OnOk, false, string_bytes, true};
 ghost use Rattle.hack_load.specs.ContextView.{context_view};
 ghost use Rattle.hack_run.specs.CallTrace.{HandsOverAtMostOne, PerformsAtMostOne};
 ghost use Rattle.hack_run.specs.Questions.{IsAnswered};
 ghost use Rattle.hack_run.specs.ScheduleCalls.{DoesPlan, ListsOver, SendsAll};
+ghost use Rattle.hack_run.specs.Worlds.{IsSameHost, host_of, host_writing};
 
 use crate::drive::{Teller, drive_context};
 use crate::fault::RunFault;
 use crate::gathered::{gather_on, room, write_last};
+use crate::host::Host;
 use hack_load::context::Context;
 use hack_planner::fault::PlanFault;
 use hack_process::process::{Caller, ProcessFault};
 use hack_session::session::{Lines, Lister, Starter};
-use hack_term::term::{LogGroup, Term};
+use hack_term::term::LogGroup;
 use hack_versions::version::Version;
 use std::alloc::Global;
 use std::io;
@@ -35,79 +36,61 @@ struct Listed {
 
 /// Writes the commands of the chosen piece of a context's plan. Toolchains are still installed, and
 /// lockfiles still made.
-pub(crate) fn list<C: Caller, O: Write, E: Write>(
-    alloc: Global,
+pub(crate) fn print_list<C: Caller, O: Write, E: Write>(
     cx: &Context,
-    rustup: &str,
     stable: Result<Option<Version>, String>,
-    term: &mut Term,
-    caller: &mut C,
-    out: &mut O,
-    err: &mut E,
+    host: &mut Host<'_, C, O, E>,
 ) -> Result<(), RunFault>
     requires { IsAnswered (context_view cx.now).args stable }
-    ensures done { OnOk result (term.new.error ≡ false → C.tells
-        → DoesPlan (SendsAll (O.contents out.old) (O.contents out.new)) (context_view cx.now)
-        stable rustup.now (C.calls caller.old) (C.calls caller.new)
-        term.old.warn term.new.warn) }
-    ensures made { C.tells → PerformsAtMostOne true (context_view cx.now) stable rustup.now
-        (O.contents out.old) (O.contents out.new) (C.calls caller.old) (C.calls caller.new) }
+    ensures host { IsSameHost host.old host.new }
+    ensures done { OnOk result (host.new.term.now.error ≡ false → C.tells
+        → DoesPlan SendsAll (context_view cx.now) stable (string_bytes host.old.env.now.rustup)
+        (host_of C.Caller O.Write host.old) (host_of C.Caller O.Write host.new)) }
+    ensures made { C.tells → PerformsAtMostOne true (context_view cx.now) stable
+        (string_bytes host.old.env.now.rustup)
+        (host_of C.Caller O.Write host.old) (host_of C.Caller O.Write host.new) }
 {
-    let mut gathered = room(alloc)?;
-    let came = hand_to_lister(
-        alloc,
-        cx,
-        rustup,
-        stable,
-        term,
-        caller,
-        out,
-        &mut gathered,
-        err,
-    );
-    let flushed = write_last(out, &mut gathered);
+    let mut gathered = room(host.alloc)?;
+    let came = hand_to_lister(cx, stable, &mut gathered, host);
+    let flushed = write_last(host.out, &mut gathered);
     end_of_list(came, flushed)
 }
 
-/// Hands the plan to a lister whose lines go to the writer.
+/// Hands the plan to a lister whose lines are gathered for the host's output.
 fn hand_to_lister<C: Caller, O: Write, E: Write>(
-    alloc: Global,
     cx: &Context,
-    rustup: &str,
     stable: Result<Option<Version>, String>,
-    term: &mut Term,
-    caller: &mut C,
-    out: &mut O,
     gathered: &mut Vec<u8>,
-    err: &mut E,
+    host: &mut Host<'_, C, O, E>,
 ) -> Listed
     requires { IsAnswered (context_view cx.now).args stable }
+    ensures host { IsSameHost host.old host.new }
     ensures done { result.refused ≡ Ok false → result.fault ≡ None → result.failed ≡ 0
-        → term.new.error ≡ false → C.tells
-        → DoesPlan (SendsAll (append_known (O.contents out.old) gathered.old.items)
-        (append_known (O.contents out.new) gathered.new.items)) (context_view cx.now)
-        stable rustup.now (C.calls caller.old) (C.calls caller.new)
-        term.old.warn term.new.warn }
-    ensures made { C.tells → PerformsAtMostOne true (context_view cx.now) stable rustup.now
-        (append_known (O.contents out.old) gathered.old.items)
-        (append_known (O.contents out.new) gathered.new.items)
-        (C.calls caller.old) (C.calls caller.new) }
+        → host.new.term.now.error ≡ false → C.tells
+        → DoesPlan SendsAll (context_view cx.now) stable (string_bytes host.old.env.now.rustup)
+        (host_writing gathered.old.items (host_of C.Caller O.Write host.old))
+        (host_writing gathered.new.items (host_of C.Caller O.Write host.new)) }
+    ensures made { C.tells → PerformsAtMostOne true (context_view cx.now) stable
+        (string_bytes host.old.env.now.rustup)
+        (host_writing gathered.old.items (host_of C.Caller O.Write host.old))
+        (host_writing gathered.new.items (host_of C.Caller O.Write host.new)) }
 {
+    let rustup = host.env.rustup.as_str();
     let mut nothing = io::sink();
     let mut fault = None;
     let mut starter = Starter::new(
-        alloc,
-        caller,
-        term,
+        host.alloc,
+        host.caller,
+        host.term,
         &mut nothing,
-        err,
+        host.err,
         LogGroup::None,
         cx.args().keep_going,
         &mut fault,
     );
-    let mut line = String::new(alloc);
-    let mut lines = gather_on(out, gathered, &mut line);
-    let refused = list_over(alloc, cx, rustup, stable, &mut lines, &mut starter);
+    let mut line = String::new(host.alloc);
+    let mut lines = gather_on(host.out, gathered, &mut line);
+    let refused = list_over(host.alloc, cx, rustup, stable, &mut lines, &mut starter);
     Listed {
         refused,
         fault,

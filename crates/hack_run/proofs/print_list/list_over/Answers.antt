@@ -5,7 +5,7 @@ use Rattle.std.specs.Io.KnownBytes.{Appends, Keeps}
 use Rattle.std.proofs.KnownBytes.{Keeps-refl}
 use Rattle.hack_session.specs.ListLines.{is_sent, lines_listed, lines_written, page_of}
 use Rattle.hack_run.proofs.RunLemmas.{all_written, none_refused, passed_written}
-use Rattle.hack_run.proofs.list.list_over.Goals as goal
+use Rattle.hack_run.proofs.print_list.list_over.Goals as goal
 
 pub returns-clause-done : goal.returns-clause-done
 returns-clause-done g c = λ ok before after.

@@ -1,0 +1,50 @@
+use Rattle.std.proofs.Common.{◌∙◌, ap, string_bytes, sym}
+use Rattle.std.specs.Io.KnownBytes.{append_known}
+use Rattle.hack_load.specs.ContextView.{context_view}
+use Rattle.hack_session.proofs.Headline.{whole}
+use Rattle.hack_run.specs.Worlds.{HostView}
+use Rattle.hack_run.proofs.RunLemmas.{handed_makes, sends_all}
+use Rattle.hack_run.proofs.ToldLemmas.{warned_run}
+use Rattle.hack_run.proofs.print_list.hand_to_lister.Goals as goal
+
+pub returns-clause-done : goal.returns-clause-done
+returns-clause-done g c = λ ok none short quiet t.
+    let cx = context_view c.args.cx.now in
+    let calls = g.C.Caller.calls in
+    let contents = g.O.Write.contents in
+    let list = c.list_over-refused.ensures.done ok c.gather_on-lines.ensures.failed short in
+    let l = list.over in
+    let last = c.list_over-refused.new.runner in
+    let lines = c.list_over-refused.new.out in
+    let stays = c.list_over-refused.ensures.stays in
+    let before : HostView = record {
+      calls = calls c.args.host.now.caller.now;
+      out = append_known (contents c.gather_on-lines.result.out.now) c.gather_on-lines.result.gathered.now.items;
+      term = c.args.host.now.term.now;
+    } in
+    let after : HostView = record { calls = calls last.caller.now; out = append_known (contents lines.out.now) lines.gathered.now.items; term = last.term.now } in
+    let fault_is = c.fault-2-1.given.1 (sym c.new-starter.ensures.fault.0 ∙ l.told.2 ∙ l.ran.2) in
+    let gathered_is = c.gathered-1.given.1 (sym c.gather_on-lines.ensures.gathered.0 ∙ stays.1) in
+    rw (gathered_is, sym c.gather_on-lines.ensures.out.1, sym c.gather_on-lines.ensures.gathered.1)
+    (record {
+      plan = l.course.plan;
+      notes = l.notes;
+      planned = rw c.as_str-rustup.ensures.value at l.planned;
+      done = sends_all l.course.plan cx.args.partition l.course.schedule l.course.handed before after (calls l.mid.caller.now) l.mid.refused last.refused last.term.now last.fault.now
+          (ap calls (l.told.3 ∙ c.new-starter.ensures.caller.1)) l.handed.schedule (whole l.course l.handed.history l.handed.complete) (l.ran.3 t) l.ran.5 list.listed list.written (sym fault_is ∙ none) quiet;
+      warned = warned_run c.args.host.now.term.now c.new-starter.result.term.now l.mid.term.now last.term.now l.notes c.new-starter.ensures.term.1 l.told.6 l.ran.6;
+    })
+
+pub returns-clause-made : goal.returns-clause-made
+returns-clause-made g c = λ t.
+    let calls = g.C.Caller.calls in
+    let contents = g.O.Write.contents in
+    let lines = c.list_over-refused.new.out in
+    let stays = c.list_over-refused.ensures.stays in
+    let had = append_known (contents c.gather_on-lines.result.out.now) c.gather_on-lines.result.gathered.now.items in
+    let has = append_known (contents lines.out.now) lines.gathered.now.items in
+    let last = c.list_over-refused.new.runner in
+    let gathered_is = c.gathered-1.given.1 (sym c.gather_on-lines.ensures.gathered.0 ∙ stays.1) in
+    rw (gathered_is, sym c.gather_on-lines.ensures.out.1, sym c.gather_on-lines.ensures.gathered.1, sym c.new-starter.ensures.caller.1, sym c.as_str-rustup.ensures.value)
+    (handed_makes (Unit {0}) had has _ _ (context_view c.args.cx.now) c.args.stable c.as_str-rustup.result.now _ last c.list_over-refused.ensures.made tt (λ s. calls s.caller.now) (λ s. s.refused) c.args.host.now.term.now last.term.now
+    (λ notes x y told. ap calls told.3) (λ plan steps x y ran. ran.3 t))

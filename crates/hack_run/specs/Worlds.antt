@@ -1,0 +1,55 @@
+-- What a call reaches, as plain data.
+use Rattle.std.specs.Prelude.{◌≡◌, ℕ, List, Option}
+use Rattle.std.specs.Io.KnownBytes.{append_known}
+use Rattle.std.specs.declared.io.traits.Write.{Ghosts as Writing}
+use Rattle.hack_files.specs.Files.{Change, Contents}
+use Rattle.hack_files.specs.declared.fs.Files.{Ghosts as Filing}
+use Rattle.hack_process.specs.Calls.{Call}
+use Rattle.hack_process.specs.declared.caller.Caller.{Ghosts as Calling}
+use Rattle.hack_term.specs.declared.term.Term.{Term}
+use Rattle.hack_run.specs.declared.host.Host.{Host}
+
+-- files: what their paths hold, the changes so far, and how many of their calls failed
+pub record FilesView : Type 0 where
+  pub held : Contents
+  pub trace : List Change
+  pub failed : ℕ
+
+-- a host: the programs called so far, what was printed, where that is known, and the terminal
+pub record HostView : Type 0 where
+  pub calls : List Call
+  pub out : Option (List ℕ)
+  pub term : Term
+
+-- all that a call sees and changes
+pub record World : Type 0 where
+  pub files : FilesView
+  pub host : HostView
+
+abbrev pub files_of : {F : Type 0} → Filing F → F → FilesView
+files_of f files = record { held = f.bytes_at files; trace = f.trace files; failed = f.failed files }
+
+abbrev pub host_of : {C O E : Type 0} → Calling C → Writing O → Host C O E → HostView
+host_of c o host = record { calls = c.calls host.caller.now; out = o.contents host.out.now; term = host.term.now }
+
+abbrev pub world_of : {F C O E : Type 0} → Filing F → Calling C → Writing O → F → Host C O E → World
+world_of f c o files host = record { files = files_of f files; host = host_of c o host }
+
+-- a host, or a world, at which these programs were called so far
+abbrev pub host_at : List Call → HostView → HostView
+host_at calls host = record host { calls = calls }
+
+abbrev pub world_at : List Call → World → World
+world_at calls world = record world { host = host_at calls world.host }
+
+-- a host that has yet to write these bytes
+abbrev pub host_writing : List ℕ → HostView → HostView
+host_writing bytes host = record host { out = append_known host.out bytes }
+
+-- a host is handed on: each of its references is still the same, and so is its environment
+pub record IsSameHost {C O E : Type 0} (old new : Host C O E) : Type 0 where
+  pub env : new.env ≡ old.env
+  pub term : new.term.ghost_name ≡ old.term.ghost_name
+  pub caller : new.caller.ghost_name ≡ old.caller.ghost_name
+  pub out : new.out.ghost_name ≡ old.out.ghost_name
+  pub err : new.err.ghost_name ≡ old.err.ghost_name
