@@ -1,11 +1,9 @@
 -- One text of several, and what a function finds in a list.
-use Rattle.std.proofs.Common.{◌≡◌, ℕ, ◌+◌, ◌<◌, List, [], ◌∷◌, ◌++◌, length, take, drop, get_or, map, refl, ap, sym, ◌∙◌, append_assoc, append-nil, suc, zero, Option, Some, None, codes}
-use Rattle.std.specs.List.{flat_map, filter_map, join_with_byte, slice_get, slice_index_or}
+use Rattle.std.proofs.Common.{◌≡◌, ℕ, ◌+◌, ◌<◌, List, [], ◌∷◌, ◌++◌, length, take, drop, get_or, map, ap, sym, ◌∙◌, suc, zero, Option, Some}
+use Rattle.std.specs.List.{filter_map, slice_get}
 use Rattle.std.specs.Option.{unwrap_or}
-use Rattle.std.proofs.lemmas.List.{take_more, flat_map_more}
+use Rattle.std.proofs.lemmas.List.{take_more}
 use Rattle.std.proofs.lemmas.List.Elements.{filter_map-append}
-use Rattle.hack_process.specs.CommandTexts.{with_names}
-use Rattle.hack_plan.specs.Commands.{candidate_names_at}
 
 -- one text of several
 pub one-at : {X Y : Type 0} (f : X → Y) (xs : List X) (i : ℕ) (x : X) → slice_get xs i ≡ Some x → take 1 (drop i (map f xs)) ≡ f x ∷ []

@@ -1,5 +1,5 @@
 -- Versions with their preparations, one after another.
-use Rattle.std.proofs.Common.{◌≡◌, arith, ℕ, ◌+◌, ◌<◌, List, [], ◌∷◌, ◌++◌, length, take, get_or, map, refl, ap, sym, subst, suc, zero, ◌∙◌, Option, Some, None, Bool, IsTrue, true, ◌↔◌}
+use Rattle.std.proofs.Common.{◌≡◌, arith, ℕ, ◌+◌, ◌<◌, List, [], ◌∷◌, ◌++◌, length, take, get_or, map, refl, ap, sym, subst, suc, zero, ◌∙◌, Some, Bool, IsTrue, true, ◌↔◌}
 use Rattle.std.specs.List.{filter_map, slice_get, cons_option}
 use Rattle.std.specs.Option.{unwrap_or}
 use Rattle.std.proofs.lemmas.List.{take_more, map-append, length-map, length-take-le}
@@ -7,7 +7,7 @@ use Rattle.hack_versions.specs.declared.version.Version.{Version}
 use Rattle.hack_plan.specs.declared.places.Span.{Span}
 use Rattle.hack_plan.specs.Spans.{version_at}
 use Rattle.hack_plan.specs.declared.parts.PlanVersion.{PlanVersion}
-use Rattle.hack_plan.specs.Prepared.{span_of, version_number_of, preparations_of, HasPreparations, Remakes, AreFlags, ArePrepared}
+use Rattle.hack_plan.specs.Prepared.{span_of, version_number_of, preparations_of, HasPreparations, AreFlags, ArePrepared}
 
 -- each version so far has its preparations
 abbrev pub AreReady : Bool → Bool → List Version → List PlanVersion → Type 0

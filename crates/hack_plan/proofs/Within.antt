@@ -1,5 +1,5 @@
 -- The runs in a plan are runs of its packages.
-use Rattle.std.proofs.Common.{◌≡◌, arith, ℕ, ◌<◌, List, [], ◌∷◌, length, map, sym, subst, suc, zero, Option, Some, None, Bool, true, false, IsSomeAnd, slice_index}
+use Rattle.std.proofs.Common.{◌≡◌, arith, ℕ, ◌<◌, List, [], ◌∷◌, length, map, sym, subst, suc, zero, Option, Bool, true, false, IsSomeAnd, slice_index}
 use Rattle.std.specs.List.{slice_get}
 use Rattle.hack_versions.specs.declared.version.Version.{Version}
 use Rattle.hack_plan.specs.declared.places.PlanEntry.{PlanEntry}

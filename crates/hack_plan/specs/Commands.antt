@@ -1,5 +1,5 @@
 -- The commands of a plan.
-use Rattle.std.specs.Prelude.{ℕ, Bool, true, false, List, [], ◌∷◌, ◌++◌, Option, Some, None, map, take, drop, length, codes, decimal, slice_get, nat_lt, ◌&&◌, if◌then◌else◌}
+use Rattle.std.specs.Prelude.{ℕ, Bool, false, List, [], ◌∷◌, ◌++◌, Option, Some, None, take, drop, length, codes, decimal, slice_get, nat_lt, ◌&&◌, if◌then◌else◌}
 use Rattle.std.specs.List.{flat_map, slice_index_or}
 use Rattle.hack_base.specs.Names.{Name}
 use Rattle.hack_versions.specs.declared.version.Version.{Version}

@@ -1,5 +1,5 @@
 -- What holds for each plan.
-use Rattle.std.specs.Prelude.{ℕ, ◌≡◌, ◌<◌, List, [], ◌∷◌, map, length, Option, Some, None, All, IsSomeAnd, slice_get}
+use Rattle.std.specs.Prelude.{ℕ, ◌<◌, List, map, length, Option, Some, None, All, IsSomeAnd, slice_get}
 use Rattle.hack_versions.specs.declared.version.Version.{Version}
 use Rattle.hack_plan.specs.Spans.{AreSpans}
 use Rattle.hack_plan.specs.declared.places.PlanEntry.{PlanEntry}

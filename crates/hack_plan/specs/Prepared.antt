@@ -1,5 +1,5 @@
 -- What is done before the runs of each version.
-use Rattle.std.specs.Prelude.{ℕ, ◌≡◌, ◌<◌, ◌++◌, ◌↔◌, List, [], ◌∷◌, length, Bool, true, false, not, Option, Some, None, IsTrue, filter_map, slice_get}
+use Rattle.std.specs.Prelude.{ℕ, ◌≡◌, ◌++◌, ◌↔◌, List, [], ◌∷◌, Bool, true, false, Option, Some, None, IsTrue, filter_map, slice_get}
 use Rattle.hack_versions.specs.declared.version.Version.{Version}
 use Rattle.hack_versions.specs.Lockfiles.{NeedsLockfile}
 use Rattle.hack_plan.specs.declared.places.Span.{Span}

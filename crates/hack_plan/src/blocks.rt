@@ -157,7 +157,8 @@ impl Blocks {
 
     /// One place in each slot.
     fn add_single(&mut self, version: Option<Version>, slots: usize) -> Result<(), PlacesFault>
-        ensures ok { OnOk result (AddsEntries (InVersion true version slots [] []) self.old self.new) }
+        ensures ok { OnOk result (AddsEntries (InVersion true version slots [] []) self.old
+            self.new) }
         ensures err { IfErr result (λ e. (e ≡ PlacesFault.Memory)
             ⊎ ((e ≡ PlacesFault.TooManyRuns) × Overfills (InVersion true version slots [] [])
             self.old)) }

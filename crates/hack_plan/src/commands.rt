@@ -236,8 +236,8 @@ pub(crate) fn push_manifest<'a>(
     path: Option<&'a str>,
 ) -> Result<(), AllocError>
     ensures { OnOk result (names_behind words.new.items
-        ≡ names_behind words.old.items ++ manifest_words (option_map
-        (λ path. path.now) path.entry)) }
+        ≡ names_behind words.old.items
+        ++ manifest_words (option_map (λ path. path.now) path.entry)) }
 {
     match path {
         Some(path) => push_pair(words, "--manifest-path", path),

@@ -4,6 +4,7 @@
 #![tactic(auto)]
 
 mod blocks;
+mod call;
 mod commands;
 mod line;
 pub mod parts;

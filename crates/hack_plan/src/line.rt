@@ -19,12 +19,13 @@ ghost use Rattle.hack_plan.specs.Lines.{command_in, folder_behind, listed_text, 
 ghost use Rattle.hack_plan.specs.Lines.{before_name, joined_names, shown_manifest, shown_target};
 ghost use Rattle.hack_plan.specs.Lines.{takes_option};
 
+use crate::call::Call;
 use crate::commands::{
     names_of, push_all, push_manifest, push_names, push_run, push_targets, run_word, text_in,
 };
-use crate::parts::{CommandParts, PlanPackage};
+use crate::parts::PlanPackage;
 use crate::runs::Run;
-use hack_base::paths::{stem, under};
+use hack_base::paths::under;
 use hack_features::Feature;
 use hack_process::process::{ProcessBuilder, Spaced, Trailing};
 use hack_versions::version::Version;
@@ -34,7 +35,7 @@ use std::fmt;
 /// A run. It is shown as the line of its command in a list of commands.
 #[derive(Drop)]
 pub struct RunLine<'a> {
-    words: &'a CommandParts,
+    call: &'a Call,
     version: Option<Version>,
     slot: usize,
     manifest_path: Option<&'a str>,
@@ -50,19 +51,20 @@ impl<'a> RunLine<'a> {
     /// The run for all packages.
     pub(crate) fn whole(
         alloc: Global,
-        words: &'a CommandParts,
+        call: &'a Call,
         version: Option<Version>,
         slot: usize,
     ) -> RunLine<'a>
-        ensures words { result.words.now ≡ words.now }
-        ensures command { command_in result ≡ whole_command (call_view words.now) version slot }
+        ensures call { result.call.now ≡ call.now }
+        ensures command { command_in result
+            ≡ whole_command (call_view call.now.words) version slot }
     {
         RunLine {
-            words,
+            call,
             version,
             slot,
             manifest_path: None,
-            features: words.features.as_slice(),
+            features: call.words.features.as_slice(),
             candidates: &[],
             run: Run::Plain,
             positions: Vec::new(alloc),
@@ -72,20 +74,20 @@ impl<'a> RunLine<'a> {
     /// A package's run; where it is the run of a set, `positions` are those of the set's
     /// candidates.
     pub(crate) fn of_package(
-        words: &'a CommandParts,
+        call: &'a Call,
         version: Option<Version>,
         slot: usize,
         member: &'a PlanPackage,
         run: Run,
         positions: Vec<usize>,
     ) -> RunLine<'a>
-        ensures words { result.words.now ≡ words.now }
+        ensures call { result.call.now ≡ call.now }
         ensures command { command_in result
-            ≡ run_command (call_view words.now) version slot (plan_package_view member.now)
+            ≡ run_command (call_view call.now.words) version slot (plan_package_view member.now)
             (run_of run positions.items) }
     {
         RunLine {
-            words,
+            call,
             version,
             slot,
             manifest_path: text_in(&member.manifest_path),
@@ -102,7 +104,8 @@ impl<'a> RunLine<'a> {
     {
         let own = self.own_words(alloc)?;
         let names = self.names(alloc)?;
-        self.words
+        self.call
+            .words
             .command(alloc, self.version, own.as_slice(), names.as_slice())
     }
 
@@ -110,7 +113,7 @@ impl<'a> RunLine<'a> {
     fn own_words(&self, alloc: Global) -> Result<Vec<&'a str>, AllocError>
         ensures { IfOk result (λ own. names_behind own.items ≡ own_in self.now) }
     {
-        let targets = self.words.targets_in(self.version, self.slot);
+        let targets = self.call.words.targets_in(self.version, self.slot);
         let mut own = Vec::with_capacity(alloc, 2 * targets.len() + 3)?;
         push_targets(&mut own, targets)?;
         push_manifest(&mut own, self.manifest_path)?;
@@ -145,8 +148,8 @@ impl fmt::Display for RunLine<'_> {
     ghost output = { λ line. Some (listed_text line) };
 
     fn fmt<W: fmt::Write>(&self, f: &mut fmt::Formatter<W>) -> fmt::Result {
-        let words = self.words;
-        let program = stem(words.program_of(self.version));
+        let words = &self.call.words;
+        let program = self.call.shown_program(self.version);
         let leading = Leading(self.version);
         let passed = Spaced(words.passed.as_slice());
         let own = Own {
@@ -183,8 +186,8 @@ impl fmt::Display for Leading {
     }
 }
 
-/// The arguments of a run's own. The path of `--manifest-path` is shown relative to the folder where
-/// it is inside.
+/// The arguments of a run's own. The path of `--manifest-path` is shown relative to the folder
+/// where it is inside.
 #[derive(Drop)]
 struct Own<'b> {
     targets: &'b [String],

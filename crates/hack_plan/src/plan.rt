@@ -14,6 +14,7 @@ ghost use Rattle.hack_plan.specs.Commands.{name_in, ranked_command, slot_target}
 ghost use Rattle.hack_plan.specs.Lines.{command_in, listed_text};
 ghost use Rattle.hack_plan.specs.Plans.{counts_in};
 
+use crate::call::Call;
 pub use crate::commands::toolchain;
 pub use crate::line::RunLine;
 use crate::parts::{CommandParts, PlanPackage, PlanVersion};
@@ -28,7 +29,7 @@ use std::marker::Model;
 /// What is run, in order.
 #[derive(Drop)]
 pub struct Plan {
-    words: CommandParts,
+    call: Call,
     packages: Vec<PlanPackage>,
     versions: Vec<PlanVersion>,
     places: Places,
@@ -45,13 +46,14 @@ impl Model for Plan {
     ghost Value = { PlanView };
 
     ghost view = { λ p. record {
-      call = call_view p.words;
+      call = call_view p.call.words;
       packages = map plan_package_view p.packages.items;
       versions = p.versions.items;
       entries = p.places.entries;
     } };
 
-    ghost invariant = { λ p. AreRunsOfPackages (map plan_package_view p.packages.items) p.places.entries
+    ghost invariant = { λ p. AreRunsOfPackages (map plan_package_view p.packages.items)
+        p.places.entries
         × AreTiled 0 (map span_of p.versions.items) (length p.places.entries) };
 }
 
@@ -129,7 +131,7 @@ impl Plan {
     {
         let entry = self.entry(place);
         match self.package_of(entry) {
-            None => Ok(RunLine::whole(alloc, &self.words, entry.version, entry.slot)),
+            None => Ok(RunLine::whole(alloc, &self.call, entry.version, entry.slot)),
             Some(member) => self.of_package(alloc, entry, member),
         }
     }
@@ -164,7 +166,8 @@ impl Plan {
         member: &'a PlanPackage,
     ) -> Result<RunLine<'a>, AllocError>
         requires { entry.rank < length (plan_package_view member.now).runs }
-        ensures dir { IfOk result (λ line. (call_view line.words.now).dir ≡ self.now.call.dir) }
+        ensures dir { IfOk result (λ line. (call_view line.call.now.words).dir
+            ≡ self.now.call.dir) }
         ensures command { IfOk result (λ line. command_in line
             ≡ ranked_command self.now.call entry.version entry.slot (Some
             (plan_package_view member.now))
@@ -173,7 +176,7 @@ impl Plan {
         let mut positions = Vec::with_capacity(alloc, member.candidates.len())?;
         let run = member.runs.run(entry.rank, &mut positions)?;
         Ok(RunLine::of_package(
-            &self.words,
+            &self.call,
             entry.version,
             entry.slot,
             member,
@@ -186,7 +189,7 @@ impl Plan {
     pub fn cleaning(&self, alloc: Global) -> Result<ProcessBuilder<'_>, AllocError>
         ensures { IfOk result (λ command. command_of command ≡ clean_command self.now.call None) }
     {
-        self.words.cleaning(alloc, None)
+        self.call.words.cleaning(alloc, None)
     }
 
     /// The command that removes the artifacts of a place's package before its run, or all artifacts
@@ -202,7 +205,7 @@ impl Plan {
             ≡ clean_command self.now.call (chosen_package_at self.now.packages q.package))) }
     {
         let entry = self.places.run(place);
-        self.words.cleaning(alloc, self.package_of(entry))
+        self.call.words.cleaning(alloc, self.package_of(entry))
     }
 
     /// The command that regenerates the lockfile with the cargo of a version.
@@ -214,21 +217,21 @@ impl Plan {
         ensures { IfOk result (λ command. command_of command
             ≡ lockfile_command self.now.call version) }
     {
-        self.words.lockfile(alloc, version)
+        self.call.words.lockfile(alloc, version)
     }
 
     /// The program to run as rustup.
     pub fn rustup(&self) -> &str
         ensures { result.now ≡ self.now.call.rustup }
     {
-        self.words.rustup.as_str()
+        self.call.words.rustup.as_str()
     }
 
     /// The targets, in the order of their bytes.
     pub fn targets(&self) -> &[String]
         ensures { map string_bytes result.now ≡ self.now.call.targets }
     {
-        self.words.targets.as_slice()
+        self.call.words.targets.as_slice()
     }
 
     /// The target of a slot that has one of its own.
@@ -236,21 +239,21 @@ impl Plan {
         ensures { option_map (λ target. target.now) result
             ≡ slot_target self.now.call version slot }
     {
-        self.words.slot_target(version, slot)
+        self.call.words.slot_target(version, slot)
     }
 
     /// The current folder; messages show paths relative to it.
     pub fn dir(&self) -> &str
         ensures { result.now ≡ self.now.call.dir }
     {
-        self.words.dir.as_str()
+        self.call.words.dir.as_str()
     }
 
     /// Whether a package's artifacts are removed before each of its runs.
     pub fn cleans_per_run(&self) -> bool
         ensures { result ≡ self.now.call.clean_per_run }
     {
-        self.words.clean_per_run
+        self.call.words.clean_per_run
     }
 }
 
@@ -271,7 +274,7 @@ impl Plan {
         ensures entries { result.entries ≡ [] }
     {
         Plan {
-            words,
+            call: Call::without_lines(words),
             packages: Vec::new(alloc),
             versions: Vec::new(alloc),
             places: Places::empty(alloc),
@@ -311,8 +314,9 @@ impl Plan {
             words.locked,
             words.clean_per_version,
         )?;
+        let call = Call::new(alloc, words)?;
         Ok(Plan {
-            words,
+            call,
             packages,
             versions,
             places,

@@ -44,7 +44,8 @@ pub(crate) fn perform<C: Caller, O: Sink, E: Sink>(
     ensures shown { Prints (λ shown. EndsOrIsCut
         (λ outcome. Displays (manner_of screen.old.log_group screen.old.term.now)
         plan.now step outcome shown)
-        (IsSomeFront (parts_of (manner_of screen.old.log_group screen.old.term.now) plan.now step) shown)
+        (IsSomeFront (parts_of (manner_of screen.old.log_group screen.old.term.now) plan.now step)
+        shown)
         result)
         (streams O.contents O.failed E.contents E.failed screen.old.out.now screen.old.err.now)
         (streams O.contents O.failed E.contents E.failed screen.new.out.now screen.new.err.now) }

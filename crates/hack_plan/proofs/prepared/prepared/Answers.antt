@@ -1,6 +1,6 @@
-use Rattle.std.proofs.Common.{◌∙◌, ◌++◌, ◌∷◌, [], ap, map, sym, subst}
-use Rattle.std.specs.List.{filter_map, slice_get}
-use Rattle.std.proofs.lemmas.List.{take_all, take_more, map-append, length-map, length-take-le}
+use Rattle.std.proofs.Common.{◌∙◌, ap, map, sym, subst}
+use Rattle.std.specs.List.{filter_map}
+use Rattle.std.proofs.lemmas.List.{take_all}
 use Rattle.hack_plan.specs.Spans.{version_at}
 use Rattle.hack_plan.specs.Prepared.{span_of, preparations_of}
 use Rattle.hack_plan.proofs.Ready.{AreReady, ready-more, prepared-end, spans-more, as-many}
