@@ -4,7 +4,7 @@ use Rattle.hack_process.specs.CommandTexts.{text_of}
 use Rattle.hack_process.specs.Commands.{command_of}
 use Rattle.hack_versions.specs.ToolTexts.{answer_fault_text}
 use Rattle.hack_load.specs.CargoQuestions.{unknown_version}
-use Rattle.hack_load.proofs.told.warning_of.Goals as goal
+use Rattle.hack_load.proofs.cargo_version.warning_of.Goals as goal
 
 pub returns : goal.returns
 returns c =

@@ -3,7 +3,7 @@ use Rattle.std.proofs.lemmas.Result.{IfOk-weaker}
 use Rattle.hack_process.specs.Commands.{command_of}
 use Rattle.hack_load.specs.CargoQuestions.{self_command}
 use Rattle.hack_load.proofs.AskLemmas.{self-failed}
-use Rattle.hack_load.proofs.told.CargoVersion.ask.Goals as goal
+use Rattle.hack_load.proofs.cargo_version.CargoVersion.ask.Goals as goal
 
 pub returns-clause-ok : goal.returns-clause-ok
 returns-clause-ok g c =
