@@ -1,7 +1,8 @@
 //! What a command line asks of manifests.
 
-ghost use Rattle.std.specs.Prelude.{◌≡◌, IfOk, IfSome, false};
+ghost use Rattle.std.specs.Prelude.{◌≡◌, ◌≢◌, IfOk, IfSome, false};
 ghost use Rattle.hack_base.specs.Names.{names_of, optional_text};
+ghost use Rattle.hack_rules.specs.declared.fault.CliFault.TheVariants.{Memory};
 ghost use Rattle.hack_words.specs.Start.{wants_rustup as rustup_wanted};
 ghost use Rattle.hack_run.specs.Readings.{IsEarlyReading};
 ghost use Rattle.hack_run.specs.TemporaryEdits.{RestoresEdits};
@@ -82,13 +83,25 @@ impl Asked {
                     reading: early(words, Reading::Accepted(parsed, notices)),
                 })
             }
-            Reading::Refused(CliFault::Memory) => Err(AllocError),
-            Reading::Refused(fault) => Ok(Asked {
-                edits: Edits::None,
-                manifest_path: None,
-                reading: early(words, Reading::Refused(fault)),
-            }),
+            Reading::Refused(fault) => {
+                let fault = lasting(fault)?;
+                Ok(Asked {
+                    edits: Edits::None,
+                    manifest_path: None,
+                    reading: early(words, Reading::Refused(fault)),
+                })
+            }
         }
+    }
+}
+
+/// The error of a command line, unless it is that memory was refused.
+fn lasting(fault: CliFault) -> Result<CliFault, AllocError>
+    ensures { IfOk result (λ same. (same ≡ fault) × (fault ≢ Memory)) }
+{
+    match fault {
+        CliFault::Memory => Err(AllocError),
+        fault => Ok(fault),
     }
 }
 
