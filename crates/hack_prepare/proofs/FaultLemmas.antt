@@ -73,7 +73,7 @@ member-fault w ms m e among alone x =
 
 -- a private member at the root is one of the members' errors
 pub root-fault : (w : Wanted) (ms : List MemberManifest) (m : MemberManifest) → Contains ms m → is_removed w m ≡ true → is_root w m ≡ true → IsPathFaultOr Nowhere (IsAlonePath w ms) Nowhere (IsMembersFault w ms) PrivateRoot
-root-fault w ms m among go root = inr (inr (inl (refl, record { member = m; among = among; is_removed = go; at_root = root })))
+root-fault w ms m among go root = inr (inr (inl (refl, record { member = m; among = among; removed = go; at_root = root })))
 
 -- ---- the root
 

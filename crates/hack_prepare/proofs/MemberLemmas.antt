@@ -82,8 +82,8 @@ told-same w ms m old before is e =
 -- a private member at the root
 pub never-more : (w : Wanted) (ms : List MemberManifest) (m : MemberManifest) → (is_removed w m ≡ true → is_root w m ≡ false) → ¬ HasPrivateRoot w ms → ¬ HasPrivateRoot w (ms ++ m ∷ [])
 never-more w ms m apart before h = elim (Contains-push_cases ms m h.member h.among) [
-  | inl earlier ↦ before (record { member = h.member; among = earlier; is_removed = h.goes; at_root = h.at_root })
-  | inr same ↦ true≢false (sym (subst (λ x. is_root w x ≡ true) (sym same) h.at_root) ∙ apart (subst (λ x. is_removed w x ≡ true) (sym same) h.goes))
+  | inl earlier ↦ before (record { member = h.member; among = earlier; removed = h.removed; at_root = h.at_root })
+  | inr same ↦ true≢false (sym (subst (λ x. is_root w x ≡ true) (sym same) h.at_root) ∙ apart (subst (λ x. is_removed w x ≡ true) (sym same) h.removed))
 ]
 
 pub never-none : (w : Wanted) → ¬ HasPrivateRoot w []

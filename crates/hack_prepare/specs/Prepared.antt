@@ -117,5 +117,5 @@ pub record IsPartlyPrepared (w : Wanted) (ms : List MemberManifest) (failed : Na
 pub record HasPrivateRoot (w : Wanted) (ms : List MemberManifest) : Type 0 where
   pub member : MemberManifest
   pub among : Contains ms member
-  pub is_removed : is_removed w member ≡ true
+  pub removed : is_removed w member ≡ true
   pub at_root : is_root w member ≡ true
