@@ -1,5 +1,5 @@
 -- The ways of a call, step by step.
-use Rattle.std.proofs.Common.{◌≡◌, ◌∙◌, ap, refl, sym, true, false, Bool, ℕ}
+use Rattle.std.proofs.Common.{◌≡◌, ap, refl, true, false, Bool, ℕ}
 use Rattle.std.specs.Prelude.{IfOk, Ok, Err, Result}
 use Rattle.hack_base.specs.Names.{Name}
 use Rattle.hack_journal.specs.declared.recover.RecoverFault.{RecoverFault}

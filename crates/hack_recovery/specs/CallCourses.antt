@@ -21,7 +21,6 @@ use Rattle.hack_recovery.specs.declared.admit.Way.TheVariants.{Plain, Guarded}
 use Rattle.hack_recovery.specs.declared.asked.Edits.{Edits}
 use Rattle.hack_recovery.specs.declared.asked.Edits.TheVariants as edits
 use Rattle.hack_recovery.specs.declared.fault.CallFault.{CallFault}
-use Rattle.hack_recovery.specs.declared.fault.CallFault.TheVariants.{Busy, Unlocked}
 use Rattle.hack_recovery.specs.AskedEdits.{AsksFor}
 use Rattle.hack_recovery.specs.LockEvents.{LocksView, after_release}
 use Rattle.hack_recovery.specs.Folders.{journal_of, start_at, workspace_from}

@@ -1,5 +1,5 @@
 -- Where the workspace of a call is, and its journal.
-use Rattle.std.specs.Prelude.{◌≡◌, ℕ, zero, suc, List, [], ◌∷◌, Option, Some, None, codes, is_some, length, option_map, unwrap_or, string_bytes, if◌then◌else◌}
+use Rattle.std.specs.Prelude.{ℕ, zero, suc, List, [], ◌∷◌, Option, Some, None, codes, is_some, length, option_map, unwrap_or, string_bytes, if◌then◌else◌}
 use Rattle.std.specs.Option.{option_or}
 use Rattle.std.specs.Str.{is_utf8}
 use Rattle.toml.specs.Data.{Data, string, Members, get_member}

@@ -13,7 +13,6 @@ use Rattle.hack_term.specs.declared.term.Term.{Term}
 use Rattle.hack_run.specs.CallTrace.{AfterAnswers, PerformsPlanAtMostOnce, MadeOnce, MakesOnce, MayAskStable, PerformsAtMostOne, PerformsBehind, ListGrowsWithin, TriesOnce, TriesRead}
 use Rattle.hack_run.specs.Questions.{AsksStable, NeedsAnswer}
 use Rattle.hack_run.specs.Worlds.{HostView, World, host_at, world_at}
-use Rattle.hack_load.specs.ContextOf.{IsContextFrom}
 use Rattle.hack_load.specs.declared.answers.Answers.{Answers}
 use Rattle.hack_words.specs.declared.cli.args.Args.{Args}
 use Rattle.hack_words.specs.declared.cli.env.Env.{Env}

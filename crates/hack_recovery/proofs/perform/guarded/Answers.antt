@@ -1,4 +1,4 @@
-use Rattle.std.proofs.Common.{ap, false, refl, Ok}
+use Rattle.std.proofs.Common.{ap, refl}
 use Rattle.hack_term.specs.declared.term.Term.{Term}
 use Rattle.hack_run.specs.Worlds.{files_of}
 use Rattle.hack_recovery.specs.CallCourses.LockedCallLeadsTo.{cut_short, ended, went_on}

@@ -1,4 +1,4 @@
-use Rattle.std.proofs.Common.{◌∙◌, ap, string_bytes, sym}
+use Rattle.std.proofs.Common.{◌∙◌, ap, sym}
 use Rattle.std.specs.Io.KnownBytes.{append_known}
 use Rattle.hack_load.specs.ContextView.{context_view}
 use Rattle.hack_session.proofs.Headline.{whole}
