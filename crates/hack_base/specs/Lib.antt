@@ -5,3 +5,4 @@ pub mod Lists
 pub mod PathTexts
 pub mod Notes
 pub mod Writes
+pub mod Internal

@@ -5,7 +5,7 @@ use crate::asks::{halves, on};
 use hack_holds::Wrong;
 use hack_lexopt::LexFault;
 use hack_rules::fault::CliFault;
-use hack_uses::CutFault;
+use hack_rules::uses::CutFault;
 use hack_versions::rustup::VersionTextFault;
 use hack_versions::version::VersionFault;
 use std::alloc::{AllocError, Global};

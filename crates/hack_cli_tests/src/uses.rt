@@ -9,7 +9,7 @@ use hack_holds::Wrong;
 use hack_lexopt::Arg;
 use hack_options::Opt;
 use hack_rules::named::{names, normals};
-use hack_uses::{Cuts, OwnedFlag, Use, WorkspaceBehavior, all_uses};
+use hack_rules::uses::{Cuts, OwnedFlag, Use, WorkspaceBehavior, all_uses};
 use std::alloc::{AllocError, Global};
 
 pub fn behavior(alloc: Global, text: &str) -> Result<String, AllocError> {

@@ -7,7 +7,8 @@ use Rattle.hack_manifest.specs.LineRuns.{IsLines, IsRun, IsFirstRun, HasNoRun, I
 use Rattle.hack_manifest.proofs.OnceLemmas.{own-once}
 use Rattle.hack_edits.specs.KeyPaths.{is_dev, path_name_at, dev_key, target_key}
 use Rattle.hack_edits.specs.DevDeps.{some_dev, HasNoDevPiece}
-use Rattle.hack_edits.specs.LeftPieces.{EndsInFeed, KeepsKey, AreRecut}
+use Rattle.hack_edits.specs.LeftPieces.{EndsInFeed, KeepsKey}
+use Rattle.hack_edits.specs.Internal.{AreRecut}
 use Rattle.std.specs.Prelude.{◌&&◌, ◌||◌, MatchBool}
 use Rattle.std.specs.Str.{bytes_eq}
 use Rattle.std.specs.Cmp.Lexicographic.{pointwise}

@@ -11,7 +11,7 @@ use Rattle.toml.specs.Data.{table, member}
 use Rattle.toml.proofs.Views.{Entry}
 use Rattle.hack_edits.specs.Tables.{remove_member, with_member}
 use Rattle.hack_edits.specs.DevTree.{is_empty_table}
-use Rattle.hack_edits.specs.TreeEquality.{same, same_items}
+use Rattle.hack_edits.specs.InternalTreeEquality.{same, same_items}
 use Rattle.toml.specs.View.{view, items_view, members_view, table_view}
 use Rattle.toml.specs.declared.value.Value.{Value}
 

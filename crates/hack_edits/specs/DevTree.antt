@@ -5,7 +5,7 @@ use Rattle.hack_base.specs.Names.{Name}
 use Rattle.hack_manifest.specs.Manifest.{features_key}
 use Rattle.hack_edits.specs.KeyPaths.{dev_key, target_key}
 use Rattle.hack_edits.specs.Lookup.{has_dev, item_goes}
-use Rattle.hack_edits.specs.TreeEquality.{same_members}
+use Rattle.hack_edits.specs.InternalTreeEquality.{same_members}
 use Rattle.hack_edits.specs.Tables.{remove_member, with_member}
 
 -- ---- the features

@@ -4,7 +4,7 @@ use Rattle.toml.specs.Data.{Members}
 use Rattle.toml.specs.Parse.{parse_document}
 use Rattle.hack_base.specs.Names.{Name}
 use Rattle.hack_edits.specs.Arrays.{IsArray}
-use Rattle.hack_edits.specs.TreeEquality.{same_members}
+use Rattle.hack_edits.specs.InternalTreeEquality.{same_members}
 
 -- a text with `\` before each `"` and `\`
 abbrev pub escaped_text : List ℕ → List ℕ

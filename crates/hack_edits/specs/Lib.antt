@@ -1,6 +1,6 @@
 pub mod KeyPaths
 pub mod Tables
-pub mod TreeEquality
+pub mod InternalTreeEquality
 pub mod Arrays
 pub mod Lookup
 pub mod DevTree
@@ -11,3 +11,4 @@ pub mod LeftPieces
 pub mod Exclude
 pub mod WorkspaceTree
 pub mod PrivateCrates
+pub mod Internal

@@ -5,7 +5,7 @@ use Rattle.hack_base.specs.Names.{Name}
 use Rattle.hack_edits.specs.Exclude.{adds}
 use Rattle.hack_edits.specs.KeyPaths.{workspace_key, members_key, exclude_key}
 use Rattle.hack_edits.specs.Members.{members_left, some_led, array_items_at, excluded_folders}
-use Rattle.hack_edits.specs.TreeEquality.{same_members}
+use Rattle.hack_edits.specs.InternalTreeEquality.{same_members}
 use Rattle.hack_edits.specs.Tables.{remove_member, with_member}
 
 -- members are removed

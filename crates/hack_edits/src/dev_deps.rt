@@ -13,7 +13,7 @@ ghost use Rattle.hack_edits.specs.DevDeps.{holds_inline, AreLeft, kept_text};
 ghost use Rattle.hack_edits.specs.DevDeps.{has_dev_work, HasNoDevPiece, IsEdit, IsWithoutDev};
 ghost use Rattle.hack_edits.specs.DevDeps.{HasNoDev, HasInlineTarget, IsMisread};
 ghost use Rattle.hack_edits.specs.DevTree.{reads_as_left};
-ghost use Rattle.hack_edits.specs.LeftPieces.{AreRecut, AppendsWhatIsLeft};
+ghost use Rattle.hack_edits.specs.Internal.{AreRecut, AppendsWhatIsLeft};
 
 use crate::arrays::without_elements;
 use crate::dev_tree::reads_as;

@@ -2,7 +2,7 @@
 
 ghost use Rattle.std.specs.Prelude.{◌≡◌};
 ghost use Rattle.toml.specs.View.{view, array_view, table_view};
-ghost use Rattle.hack_edits.specs.TreeEquality.{same, same_items, same_members};
+ghost use Rattle.hack_edits.specs.InternalTreeEquality.{same, same_items, same_members};
 
 use toml::value::Array;
 use toml::{Table, Value};

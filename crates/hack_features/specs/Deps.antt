@@ -1,5 +1,5 @@
 -- What each key of a feature map enables, and the keys that serve an at-least-one group, as tables of texts.
-use Rattle.std.specs.Prelude.{◌≡◌, ◌≢◌, List, [], ◌∷◌, ◌++◌, Option, IfSome, IsSome, Bool, IsTrue, Contains, ◌↔◌, ◌⊎◌}
+use Rattle.std.specs.Prelude.{◌≢◌, List, [], ◌∷◌, ◌++◌, Option, IfSome, IsSome, Bool, IsTrue, ◌↔◌}
 use Rattle.std.specs.BTreeSet.{BTreeSet, contains_by}
 use Rattle.std.specs.BTreeMap.{BTreeMap, get_by}
 use Rattle.std.specs.Cmp.Lexicographic.{slice_cmp}
@@ -32,12 +32,6 @@ pub record AreDepsOf (m : FeatureMap) (deps : BTreeMap (Bor Name) NameSet) : Typ
 -- the set has exactly the keys that enable a name of the group
 abbrev pub AreServers : FeatureMap → List Name → NameSet → Type 0
 AreServers m group s = (x : Name) → IsTrue (has_name s x) ↔ EnablesOneOf m group x
-
--- a name of the group is x or in the set
-pub record IsServedBy (group : List Name) (x : Name) (s : NameSet) : Type 0 where
-  pub name : Name
-  pub member : Contains group name
-  pub has : (name ≡ x) ⊎ IsTrue (has_name s name)
 
 -- no key enables a name of the group
 abbrev pub IsDropped : FeatureMap → List Name → Type 0

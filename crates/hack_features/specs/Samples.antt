@@ -1,11 +1,9 @@
 -- What a sample of a package's sets shows. A pattern is a list of candidates, each on or off.
-use Rattle.std.specs.Prelude.{◌≡◌, ◌≤◌, ◌+◌, ℕ, List, [], ◌∷◌, Bool, cond, map, IsTrue, All, Contains, length, ◌↔◌}
-use Rattle.std.specs.List.{list_any}
+use Rattle.std.specs.Prelude.{◌≡◌, ◌≤◌, ◌+◌, ℕ, List, [], ◌∷◌, Bool, cond, IsTrue, All, Contains, length, ◌↔◌}
 use Rattle.hack_samples.specs.declared.sets.Setting.{Setting}
 use Rattle.hack_features.specs.declared.rules.Rules.{Rules}
 use Rattle.hack_features.specs.Sets.{IsSelection, IsBefore, Pairwise}
 use Rattle.hack_features.specs.Rules.{Choice, names_at, IsEnabledBy, IsListed}
-use Rattle.hack_features.specs.Tables.{leads}
 use Rattle.hack_features.specs.View.{choice_of, size_of, may_of, whole_of}
 
 -- the candidate is on in the set: the set enables each of its names
@@ -41,18 +39,6 @@ positions_from k (b ∷ s) = cond b (k ∷ positions_from (k + 1) s) (positions_
 -- the places of the flags that are true
 abbrev pub positions_of : List Bool → List ℕ
 positions_of s = positions_from 0 s
-
--- one of the names leads to y
-abbrev pub one_leads : List (List Bool) → ℕ → List ℕ → Bool
-one_leads marks y names = list_any (λ x. leads marks x y) names
-
--- the candidates that have a name that leads to y
-abbrev pub providers_of : List (List Bool) → List (List ℕ) → ℕ → List ℕ
-providers_of marks candidates y = positions_of (map (one_leads marks y) candidates)
-
--- for each name of each candidate the candidates that have a name that leads to it
-abbrev pub all_providers : List (List Bool) → List (List ℕ) → List (List (List ℕ))
-all_providers marks candidates = map (map (providers_of marks candidates)) candidates
 
 -- the rules are the same, but for the number of questions that they were asked
 pub record IsSame (earlier later : Rules) : Type 0 where

@@ -1,12 +1,11 @@
 -- Rows that say of each candidate whether it is on: in a set, or where all features of the package are.
-use Rattle.std.specs.Prelude.{◌≡◌, ◌<◌, ℕ, List, Bool, Some, false, IsTrue, All, Contains, length, ◌↔◌, slice_get}
-use Rattle.std.specs.List.{slice_index_or, list_all}
+use Rattle.std.specs.Prelude.{◌≡◌, ◌<◌, ℕ, List, Bool, Some, false, IsTrue, All, length, ◌↔◌, slice_get}
+use Rattle.std.specs.List.{slice_index_or}
 use Rattle.hack_base.specs.Names.{Name}
 use Rattle.hack_samples.specs.declared.sets.Setting.{Setting}
 use Rattle.hack_features.specs.FeatureMap.{FeatureMap, IsKey, Enables}
 use Rattle.hack_features.specs.Rules.{Choice, names_at}
-use Rattle.hack_features.specs.Samples.{IsOn, one_leads}
-use Rattle.hack_features.specs.Tables.{bit}
+use Rattle.hack_features.specs.Samples.{IsOn}
 
 -- some key of the map enables y; a key enables itself
 pub record IsEnabledByKey (m : FeatureMap) (y : Name) : Type 0 where
@@ -42,11 +41,3 @@ AllShow c pattern = All (λ setting. IsOnWithAll c setting.candidate ↔ IsTrue 
 -- the row shows the pattern: at each of its candidates it has what the pattern says
 abbrev pub RowHasPattern : List Bool → List Setting → Type 0
 RowHasPattern row pattern = All (λ setting. slice_get row setting.candidate ≡ Some setting.on) pattern
-
--- for each of the names, by place, one of these places leads to it
-abbrev pub leads_to_each : List (List Bool) → List ℕ → List ℕ → Bool
-leads_to_each marks from names = list_all (λ y. one_leads marks y from) names
-
--- the list has exactly those of the first n places that are keys
-abbrev pub AreKeyPlaces : List Bool → ℕ → List ℕ → Type 0
-AreKeyPlaces keys n places = (x : ℕ) → Contains places x ↔ ((x < n) × IsTrue (bit keys x))

@@ -4,7 +4,7 @@ use Rattle.hack_features.specs.declared.rules.Rules.{Rules}
 use Rattle.hack_samples.specs.Sets.{rows_of}
 use Rattle.hack_features.specs.Rules.{Choice}
 pub use Rattle.hack_features.specs.ChoiceView.{choice, choice_in}
-use Rattle.hack_features.specs.Tables.{keeps_depth, is_lean, is_exclusive, is_required, AreTables}
+use Rattle.hack_features.specs.Tables.{keeps_depth, is_lean, is_exclusive, is_required}
 
 -- the choice that the rules were made for
 abbrev pub choice_of : Rules → Choice
@@ -17,10 +17,6 @@ size_of r = length r.given.features.now
 -- how many questions the rules were asked
 abbrev pub questions_asked : Rules → ℕ
 questions_asked r = r.asked
-
--- the tables of the rules say what the rules of the choice say
-abbrev pub AreTablesOf : Choice → Rules → Type 0
-AreTablesOf c r = AreTables c (rows_of r.tables.spares.items) (rows_of r.tables.hits.items) (rows_of r.tables.serves.items)
 
 -- whether a set is permitted, as the tables answer it
 abbrev pub may_of : Rules → List ℕ → Bool

@@ -21,9 +21,9 @@ pub(crate) struct Links<'a> {
 }
 
 impl<'a> Links<'a> {
-    ghost use Rattle.hack_features.specs.NamesView.{table, IsInStep};
-    ghost use Rattle.hack_features.specs.LinksView.{table_of, AreLinks, IsLinking};
-    ghost use Rattle.hack_features.specs.Places.{IsGrown};
+    ghost use Rattle.hack_features.specs.InternalNamesView.{table, IsInStep};
+    ghost use Rattle.hack_features.specs.InternalLinksView.{table_of, AreLinks, IsLinking};
+    ghost use Rattle.hack_features.specs.Internal.{IsGrown};
 
     /// Makes the row of the next name. Names that its values lead to are added to the table.
     fn add_row(

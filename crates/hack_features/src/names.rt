@@ -4,8 +4,9 @@
 ghost use Rattle.std.specs.Prelude.{◌≡◌, ◌<◌, length, IfOk, OnOk, MatchOption, Contains};
 ghost use Rattle.hack_base.specs.Names.{Name, names_of};
 ghost use Rattle.hack_features.specs.FeatureMap.{feature_map, values_at, IsKey};
-ghost use Rattle.hack_features.specs.Search.{Adds, IsTarget};
-ghost use Rattle.hack_features.specs.Places.{name_at, targets_of, AreAt, IsMore};
+ghost use Rattle.hack_features.specs.Internal.{Adds, IsTarget};
+ghost use Rattle.hack_features.specs.Places.{name_at, AreAt};
+ghost use Rattle.hack_features.specs.Internal.{targets_of, IsMore};
 
 use crate::reach::Edges;
 use std::alloc::{AllocError, Global};
@@ -20,7 +21,7 @@ pub(crate) struct Names<'a> {
 
 impl<'a> Names<'a> {
     ghost use Rattle.std.specs.Prelude.{[], ◌∷◌, ◌++◌};
-    ghost use Rattle.hack_features.specs.NamesView.{table, IsInStep};
+    ghost use Rattle.hack_features.specs.InternalNamesView.{table, IsInStep};
 
     /// An empty table.
     pub(crate) fn new(alloc: Global) -> Names<'a>

@@ -4,8 +4,9 @@ ghost use Rattle.std.specs.Prelude.{IfOk, OnOk};
 ghost use Rattle.hack_features.specs.FeatureMap.{feature_map};
 ghost use Rattle.hack_features.specs.Feature.{groups_of, candidates_of};
 ghost use Rattle.hack_samples.specs.Sets.{rows_of};
-ghost use Rattle.hack_features.specs.Places.{AreAllAt, IsMore};
-ghost use Rattle.hack_features.specs.NamesView.{table, IsInStep};
+ghost use Rattle.hack_features.specs.Places.{AreAllAt};
+ghost use Rattle.hack_features.specs.Internal.{IsMore};
+ghost use Rattle.hack_features.specs.InternalNamesView.{table, IsInStep};
 
 use crate::feature::Feature;
 use crate::names::Names;

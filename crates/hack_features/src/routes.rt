@@ -40,8 +40,9 @@ pub(crate) struct Routes<'a> {
 impl<'a> Routes<'a> {
     ghost use Rattle.std.specs.Prelude.{◌↔◌};
     ghost use Rattle.hack_features.specs.FeatureMap.{IsKey};
-    ghost use Rattle.hack_features.specs.NamesView.{table, IsInStep};
-    ghost use Rattle.hack_features.specs.RoutesView.{routed_names, AreRoutesOf};
+    ghost use Rattle.hack_features.specs.InternalNamesView.{table, IsInStep};
+    ghost use Rattle.hack_features.specs.RoutesView.{routed_names};
+    ghost use Rattle.hack_features.specs.Internal.{AreRoutesOf};
 
     /// What names lead to: the names of the table, which has to have the keys of the map, and all
     /// names that chains of edges lead to from them.

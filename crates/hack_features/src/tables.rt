@@ -12,8 +12,9 @@ ghost use Rattle.hack_features.specs.Rules.{unlifted_groups};
 ghost use Rattle.hack_features.specs.Places.{leads};
 ghost use Rattle.hack_features.specs.PlacedView.{IsPlaced};
 ghost use Rattle.hack_features.specs.Tables.{bit, count_at, cell, is_lean, is_exclusive};
-ghost use Rattle.hack_features.specs.Tables.{is_required, spares_test, serves_test, Counts};
-ghost use Rattle.hack_features.specs.Tables.{Matched, CountsHits, RowsServe};
+ghost use Rattle.hack_features.specs.Tables.{is_required};
+ghost use Rattle.hack_features.specs.Internal.{spares_test, serves_test, Counts};
+ghost use Rattle.hack_features.specs.Internal.{Matched, CountsHits, RowsServe};
 ghost use Rattle.hack_features.specs.declared.reach.Edges.TheVariants.{Enabling};
 
 use crate::feature::Feature;

@@ -11,7 +11,8 @@ use Rattle.hack_files.specs.declared.fs.FsFault.{FsFault}
 use Rattle.hack_files.specs.declared.fs.FsFault.TheVariants as fs
 use Rattle.hack_journal.specs.Journal.{Edit, journal_text, HaveTextPaths}
 use Rattle.hack_journal.specs.SafeFiles.{gives, SomeEntryHasBytes, KeepFirst, IsSafe, IsSafeBy, StaysSafe, AreBack, first_entry_of, without}
-use Rattle.hack_journal.specs.Recovery.{HasEntry, AgreesOnHeld, AreOfCall, AreTold, backs, Differ, Restored, IsNoJournal, IsWhy, IsWhyUnread, IsWhyNotTold, NamesNoJournal, IsJournalRefusal, NamesPath, FailsAt, IsJournalOrItsEntry}
+use Rattle.hack_journal.specs.Recovery.{HasEntry, AgreesOnHeld, AreOfCall, AreTold, Differ, Restored, IsNoJournal, IsWhy, IsJournalRefusal, NamesPath, IsJournalOrItsEntry}
+use Rattle.hack_journal.specs.Internal.{backs, IsWhyUnread, IsWhyNotTold, NamesNoJournal, FailsAt}
 use Rattle.hack_journal.specs.Recovery.Differ.{in_none, in_one}
 use Rattle.hack_journal.specs.declared.recover.RecoverFault.{RecoverFault}
 use Rattle.hack_journal.specs.declared.recover.RecoverFault.TheVariants.{Memory, NotJournal, Changed, Files}

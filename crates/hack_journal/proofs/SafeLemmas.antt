@@ -6,7 +6,8 @@ use Rattle.std.proofs.lemmas.Slice.Eq.{bytes_eq-Decides}
 use Rattle.std.proofs.lemmas.Bool.{cases_Bool}
 use Rattle.hack_files.specs.Files.{Change, Contents, after_change, after, Makes, MakesOrNot, puts}
 use Rattle.hack_journal.specs.Journal.{Edit, journal_text}
-use Rattle.hack_journal.specs.SafeFiles.{gives, SomeEntryHasBytes, first_entry_of, KeepFirst, IsJournalOf, HoldFirstOrTold, IsSafe, IsJournaled, StaysSafe, Stays, Hidden, IsHeld, changes_besides, without}
+use Rattle.hack_journal.specs.SafeFiles.{gives, SomeEntryHasBytes, first_entry_of, KeepFirst, IsJournalOf, HoldFirstOrTold, IsSafe, IsJournaled, StaysSafe, Stays, changes_besides, without}
+use Rattle.hack_journal.specs.Internal.{Hidden, IsHeld}
 use Rattle.hack_journal.specs.SafeLaws.{makes_append, holds_left, safe_of, fronts_one, stays_none, stays_more}
 use Rattle.hack_journal.proofs.ChangeLemmas.{makes_here, makes_others, bytes_differ, changed_other}
 

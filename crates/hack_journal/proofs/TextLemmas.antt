@@ -7,7 +7,8 @@ use Rattle.std.proofs.lemmas.Bool.{cases_Bool}
 use Rattle.std.proofs.lemmas.Bool.Decides.{eqb_tells}
 use Rattle.std.proofs.lemmas.Str.{IsUtf8-string_bytes}
 use Rattle.hack_journal.specs.declared.journal.Entry.{Entry}
-use Rattle.hack_journal.specs.Journal.{edits_of, Edit, lines, content_text, edit_text, edits_text, BeginsWithoutSpace, HaveTextPaths}
+use Rattle.hack_journal.specs.Journal.{edits_of, Edit, lines, content_text, edit_text, edits_text, HaveTextPaths}
+use Rattle.hack_journal.specs.Internal.{BeginsWithoutSpace}
 
 -- how a text that goes on with lines begins
 pub data Begins (byte : ℕ) (left more rest : List ℕ) : Type 0 where

@@ -1,5 +1,5 @@
 -- The text of a journal.
-use Rattle.std.specs.Prelude.{◌≡◌, ◌≢◌, ◌++◌, [], ◌∷◌, ℕ, List, Option, Some, None, Result, Ok, Err, cond, codes, map, nat_eq, string_bytes}
+use Rattle.std.specs.Prelude.{◌≡◌, ◌++◌, [], ◌∷◌, ℕ, List, Option, Some, None, Result, Ok, Err, cond, codes, map, nat_eq, string_bytes}
 use Rattle.std.specs.Str.{IsUtf8}
 use Rattle.std.specs.Option.{option_map}
 use Rattle.hack_journal.specs.declared.journal.Entry.{Entry}
@@ -48,11 +48,6 @@ edits_text (e ∷ es) = edit_text e ++ edits_text es
 -- the text of a journal
 abbrev pub journal_text : List Edit → List ℕ
 journal_text es = codes "edited files\n" ++ edits_text es
-
--- the text does not begin with a space
-abbrev pub BeginsWithoutSpace : List ℕ → Type 0
-BeginsWithoutSpace [] = Unit {0}
-BeginsWithoutSpace (b ∷ bs) = b ≢ 32
 
 -- memory was refused
 abbrev pub IsMemory : JournalFault → Type 0

@@ -3,3 +3,4 @@ pub mod SafeFiles
 pub mod SafeLaws
 pub mod Recovery
 pub mod LockfilesApart
+pub mod Internal

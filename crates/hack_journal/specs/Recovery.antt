@@ -1,11 +1,11 @@
 -- What an interrupted call had edited is put back.
 use Rattle.std.specs.Prelude.{◌≡◌, ◌≢◌, ◌⊎◌, ◌+◌, [], ◌∷◌, ℕ, List, Option, Some, None, Result, Ok, Err, string_bytes}
 use Rattle.std.specs.Str.{IsUtf8}
-use Rattle.hack_files.specs.Files.{Change, Contents, GrowsBy, KeepsAll, KeepsOthers}
+use Rattle.hack_files.specs.Files.{Contents, GrowsBy, KeepsAll, KeepsOthers}
 use Rattle.hack_files.specs.declared.fs.FsFault.{FsFault}
 use Rattle.hack_files.specs.declared.fs.FsFault.TheVariants as fs
 use Rattle.hack_journal.specs.Journal.{Edit, journal_text}
-use Rattle.hack_journal.specs.SafeFiles.{SomeEntryHasBytes, AreBack, first_entry_of, gives, without}
+use Rattle.hack_journal.specs.SafeFiles.{SomeEntryHasBytes, AreBack, first_entry_of, without}
 use Rattle.hack_journal.specs.declared.recover.RecoverFault.{RecoverFault}
 use Rattle.hack_journal.specs.declared.recover.RecoverFault.TheVariants.{Memory, NotJournal, Changed, Files}
 
@@ -31,11 +31,6 @@ AreOfCall journal all (e ∷ es) = IsOfCall journal all e × AreOfCall journal a
 -- the path of each entry holds what it held at first, or what was written there
 abbrev pub AreTold : List Edit → List Edit → Contents → Type 0
 AreTold all es now = (path : List ℕ) → HasEntry es path → SomeEntryHasBytes all path (now path)
-
--- what entries keep is put back, the first one first
-abbrev pub backs : List Edit → List Change
-backs [] = []
-backs (e ∷ es) = gives e.path e.held ∷ backs es
 
 -- k paths hold something else than before
 pub data Differ : ℕ → Contents → Contents → Type 0 where
@@ -75,13 +70,6 @@ NamesPath P (fs.Write p) = P (string_bytes p)
 NamesPath P (fs.NotText p) = ⊥
 NamesPath P fs.Memory = ⊥
 
--- a file at a path of which P holds can't be read or written, or memory was refused
-abbrev pub FailsAt : (List ℕ → Type 0) → RecoverFault → Type 0
-FailsAt P Memory = Unit {0}
-FailsAt P (NotJournal j) = ⊥
-FailsAt P (Changed p j) = ⊥
-FailsAt P (Files f) = NamesPath P f
-
 -- the journal's path, or one of which the journal has an entry
 abbrev pub IsJournalOrItsEntry : List ℕ → Type 0 → Contents → List ℕ → Type 0
 IsJournalOrItsEntry journal tells old path =
@@ -93,28 +81,6 @@ IsWhy journal tells old Memory = Unit {0}
 IsWhy journal tells old (NotJournal j) = (string_bytes j ≡ journal) × (tells → IsNoJournal journal old)
 IsWhy journal tells old (Changed p j) = (string_bytes j ≡ journal) × (tells → HasChanged journal (string_bytes p) old)
 IsWhy journal tells old (Files f) = NamesPath (IsJournalOrItsEntry journal tells old) f
-
--- the error says that this path holds no journal; or memory was refused
-abbrev pub NamesNoJournal : List ℕ → RecoverFault → Type 0
-NamesNoJournal journal Memory = Unit {0}
-NamesNoJournal journal (NotJournal j) = string_bytes j ≡ journal
-NamesNoJournal journal (Changed p j) = ⊥
-NamesNoJournal journal (Files f) = ⊥
-
--- why the journal can't be read
-abbrev pub IsWhyUnread : List ℕ → Type 0 → Contents → RecoverFault → Type 0
-IsWhyUnread journal tells old Memory = Unit {0}
-IsWhyUnread journal tells old (NotJournal j) = (string_bytes j ≡ journal) × (tells → IsNoJournal journal old)
-IsWhyUnread journal tells old (Changed p j) = ⊥
-IsWhyUnread journal tells old (Files f) = NamesPath (λ p. p ≡ journal) f
-
--- why checking what the paths of these entries hold fails
-abbrev pub IsWhyNotTold : List ℕ → Type 0 → List Edit → List Edit → Contents → RecoverFault → Type 0
-IsWhyNotTold journal tells all es old Memory = Unit {0}
-IsWhyNotTold journal tells all es old (NotJournal j) = ⊥
-IsWhyNotTold journal tells all es old (Changed p j) =
-    (string_bytes j ≡ journal) × HasEntry es (string_bytes p) × (tells → ¬ SomeEntryHasBytes all (string_bytes p) (old (string_bytes p)))
-IsWhyNotTold journal tells all es old (Files f) = NamesPath (HasEntry es) f
 
 -- the journal is refused: the error is neither that of a file nor `Memory`
 abbrev pub IsJournalRefusal : RecoverFault → Type 0

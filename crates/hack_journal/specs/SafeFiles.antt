@@ -24,12 +24,6 @@ abbrev pub first_entry_of : List Edit → List ℕ → Option Edit
 first_entry_of [] path = None
 first_entry_of (e ∷ es) path = cond (bytes_eq e.path path) (Some e) (first_entry_of es path)
 
--- these bytes are what the path held at first: what its first entry says, or, without one, what the
--- path holds now
-abbrev pub IsHeld : Option Edit → Option (List ℕ) → Option (List ℕ) → Type 0
-IsHeld None now held = now ≡ held
-IsHeld (Some e) now held = e.held ≡ held
-
 -- each entry's path holds what it held at first
 abbrev pub AreBack : List Edit → Contents → Type 0
 AreBack [] now = Unit {0}
@@ -91,9 +85,3 @@ changes_besides journal (c ∷ cs) = cond (bytes_eq c.path journal) (changes_bes
 -- what the paths hold, as if the journal were not there
 abbrev pub without : List ℕ → Contents → Contents
 without journal m q = cond (bytes_eq journal q) None (m q)
-
--- changes of the journal alone were made
-pub record Hidden (journal : List ℕ) (old_trace new_trace : List Change) (old new : Contents) : Type 0 where
-  pub added : List Change
-  pub makes : Makes added old_trace new_trace old new
-  pub journals : changes_besides journal added ≡ []

@@ -10,7 +10,8 @@ ghost use Rattle.std.specs.Str.{IsUtf8};
 ghost use Rattle.hack_journal.specs.Journal.{Edit, edit_of, edits_of, HaveTextPaths};
 ghost use Rattle.hack_journal.specs.Journal.{lines, content_text, edit_text, edits_text};
 ghost use Rattle.hack_journal.specs.Journal.{journal_text};
-ghost use Rattle.hack_journal.specs.Journal.{BeginsWithoutSpace, ReadsValue};
+ghost use Rattle.hack_journal.specs.Journal.{ReadsValue};
+ghost use Rattle.hack_journal.specs.Internal.{BeginsWithoutSpace};
 
 use std::alloc::{AllocError, AllocFailed, Global};
 use thiserror::Error;

@@ -10,8 +10,10 @@ ghost use Rattle.std.specs.Option.{option_map};
 ghost use Rattle.hack_files.specs.Files.{Contents, CountsFailedCall, GrowsBy, KeepsOthers, KeepsAll};
 ghost use Rattle.hack_files.specs.Files.{Makes, MakesOrNot, puts};
 ghost use Rattle.hack_journal.specs.Journal.{edit_of, edits_of, journal_text};
-ghost use Rattle.hack_journal.specs.SafeFiles.{SomeEntryHasBytes, first_entry_of, IsHeld, AreBack, gives};
-ghost use Rattle.hack_journal.specs.SafeFiles.{IsJournaled, Stays, Hidden, changes_besides, without};
+ghost use Rattle.hack_journal.specs.SafeFiles.{SomeEntryHasBytes, first_entry_of, AreBack, gives};
+ghost use Rattle.hack_journal.specs.Internal.{IsHeld};
+ghost use Rattle.hack_journal.specs.SafeFiles.{IsJournaled, Stays, changes_besides, without};
+ghost use Rattle.hack_journal.specs.Internal.{Hidden};
 
 use crate::contents::{are_back, look, put};
 use crate::entries::{copy, first, tells};

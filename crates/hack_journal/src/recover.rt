@@ -7,10 +7,14 @@ ghost use Rattle.hack_files.specs.Files.{GrowsBy, after, after_change};
 ghost use Rattle.hack_journal.specs.Journal.{Edit, edit_of, edits_of, journal_text, HaveTextPaths};
 ghost use Rattle.hack_journal.specs.SafeFiles.{IsSafe, IsSafeBy, StaysSafe, KeepFirst, SomeEntryHasBytes};
 ghost use Rattle.hack_journal.specs.SafeFiles.{gives, without};
-ghost use Rattle.hack_journal.specs.Recovery.{AreOfCall, AreTold, backs, Differ, IsRestored};
-ghost use Rattle.hack_journal.specs.Recovery.{IsWhy, IsWhyUnread, IsWhyNotTold};
-ghost use Rattle.hack_journal.specs.Recovery.{IsJournalRefusal, NamesNoJournal, CountsRecoverFault, IsFailureCounted};
-ghost use Rattle.hack_journal.specs.Recovery.{FailsAt, HasEntry};
+ghost use Rattle.hack_journal.specs.Recovery.{AreOfCall, AreTold, Differ, IsRestored};
+ghost use Rattle.hack_journal.specs.Internal.{backs};
+ghost use Rattle.hack_journal.specs.Recovery.{IsWhy};
+ghost use Rattle.hack_journal.specs.Internal.{IsWhyUnread, IsWhyNotTold};
+ghost use Rattle.hack_journal.specs.Recovery.{IsJournalRefusal, CountsRecoverFault, IsFailureCounted};
+ghost use Rattle.hack_journal.specs.Internal.{NamesNoJournal};
+ghost use Rattle.hack_journal.specs.Recovery.{HasEntry};
+ghost use Rattle.hack_journal.specs.Internal.{FailsAt};
 
 use crate::contents::{look, put};
 use crate::entries::{are_of_call, same, tells};

@@ -63,12 +63,6 @@ IsNext left_in (next.Cut arg) = next_cut left_in ≡ Ok (Some (cut_in arg))
 IsNext left_in next.End = next_cut left_in ≡ Ok None
 IsNext left_in (next.Refused option value) = (next_cut left_in ≡ Err UnexpectedValue) × (left_in.option ≡ Some (flag_cut option)) × (unexpected_of left_in.untaken ≡ Some value.now)
 
--- the letter of an item, where it is one of a chain
-abbrev pub letter_in : Cut → Option ℕ
-letter_in (LongCut name) = None
-letter_in (ShortCut letter) = Some letter
-letter_in (ValueCut word) = None
-
 -- what remains once the returned reference is no longer used
 abbrev pub LeavesToRead : MutBor Parser → LeftArguments → Fml
 LeavesToRead p l = Rests the_row p (λ new. left_in new ≡ l)

@@ -8,7 +8,8 @@ ghost use Rattle.std.specs.Str.{IsCharBoundary};
 ghost use Rattle.hack_lexopt.specs.Cuts.{ShortCut, cut_of, untaken_of, first_letter, after_letter};
 ghost use Rattle.hack_lexopt.specs.Cuts.{attached_value, unexpected_of};
 ghost use Rattle.hack_lexopt.specs.Cuts.{is_plain_word as plain, is_long, is_equals};
-ghost use Rattle.hack_lexopt.specs.Parsers.{cut_in, flag_cut, letter_in, option_at};
+ghost use Rattle.hack_lexopt.specs.Parsers.{cut_in, flag_cut, option_at};
+ghost use Rattle.hack_lexopt.specs.Internal.{letter_in};
 ghost use Rattle.hack_lexopt.specs.Parsers.{untaken_at, untaken_rest};
 
 use crate::arg::{Arg, Flag};

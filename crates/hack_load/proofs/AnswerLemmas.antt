@@ -10,13 +10,13 @@ use Rattle.hack_metadata.specs.FilesAfterAsking.{Whole}
 use Rattle.hack_metadata.specs.Requests.{Question}
 use Rattle.hack_metadata.specs.RecordViews.{place_at}
 use Rattle.hack_metadata.specs.MetadataView.{metadata_view}
-use Rattle.hack_metadata.specs.declared.ask_fault.AskFault.{AskFault}
+use Rattle.hack_metadata.specs.declared.ask.fault.AskFault.{AskFault}
 use Rattle.hack_metadata.specs.declared.metadata.Metadata.{Metadata}
 use Rattle.hack_manifest.specs.declared.manifest.Manifest.{Manifest}
 use Rattle.hack_words.specs.declared.cli.args.Args.{Args}
 use Rattle.hack_words.specs.declared.cli.env.Env.{Env}
 use Rattle.hack_load.specs.Answers.{LoadsFromMetadata, IsLoaded}
-use Rattle.hack_load.specs.FilesAfterLoading.{ReadsOnly}
+use Rattle.hack_load.specs.Internal.{ReadsOnly}
 use Rattle.hack_load.specs.CargoQuestions.{AreOfMembers, IsOfMember}
 use Rattle.hack_load.specs.declared.fault.ContextFault.{ContextFault}
 use Rattle.hack_load.specs.declared.loaded.Loaded.{Loaded}

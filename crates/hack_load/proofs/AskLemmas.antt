@@ -9,7 +9,8 @@ use Rattle.hack_process.specs.declared.fault.ProcessFault.{ProcessFault}
 use Rattle.hack_process.specs.declared.fault.ProcessFault.TheVariants as process
 use Rattle.hack_words.specs.declared.cli.args.Args.{Args}
 use Rattle.hack_words.specs.declared.cli.env.Env.{Env}
-use Rattle.hack_load.specs.CargoQuestions.{FailsLocate, FailsSelf, IsOfProcess, IsSelf, self_command}
+use Rattle.hack_load.specs.CargoQuestions.{FailsLocate, FailsSelf, IsSelf, self_command}
+use Rattle.hack_load.specs.Internal.{IsOfProcess}
 use Rattle.hack_load.specs.declared.fault.ContextFault.{ContextFault}
 use Rattle.hack_load.specs.declared.fault.ContextFault.TheVariants as faults
 

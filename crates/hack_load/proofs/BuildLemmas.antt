@@ -7,9 +7,9 @@ use Rattle.std.proofs.lemmas.List.{drop_all, get_or-map, get_or_default}
 use Rattle.hack_features.specs.FeatureMap.{feature_map}
 use Rattle.hack_metadata.specs.Records.{MetadataRecord}
 use Rattle.hack_metadata.specs.RecordViews.{place_at}
-use Rattle.hack_metadata.specs.declared.fault.MetadataFault.{MetadataFault}
-use Rattle.hack_metadata.specs.declared.fault.MetadataFault.TheVariants as faults
-use Rattle.hack_metadata.specs.declared.resolve.PackageId.{PackageId}
+use Rattle.hack_metadata.specs.declared.metadata.fault.MetadataFault.{MetadataFault}
+use Rattle.hack_metadata.specs.declared.metadata.fault.MetadataFault.TheVariants as faults
+use Rattle.hack_metadata.specs.declared.metadata.resolve.PackageId.{PackageId}
 use Rattle.hack_manifest.specs.declared.manifest.Manifest.{Manifest}
 use Rattle.hack_load.specs.Candidates.{MissesNode}
 use Rattle.hack_load.specs.ContextOf.{AreFeatures, IsNodeFault}

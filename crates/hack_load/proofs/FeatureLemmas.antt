@@ -21,11 +21,12 @@ use Rattle.hack_features.specs.declared.feature.Feature.TheVariants.{Normal, Gro
 use Rattle.hack_metadata.specs.Optional.{feature_of, optional_in}
 use Rattle.hack_metadata.specs.Records.{DependencyRecord}
 use Rattle.hack_metadata.specs.RecordViews.{dependency_view, kind_view, node_dep_view, package_view}
-use Rattle.hack_metadata.specs.declared.package.Dependency.{Dependency}
-use Rattle.hack_metadata.specs.declared.package.Package.{Package}
-use Rattle.hack_metadata.specs.declared.resolve.NodeDep.{NodeDep}
+use Rattle.hack_metadata.specs.declared.metadata.package.Dependency.{Dependency}
+use Rattle.hack_metadata.specs.declared.metadata.package.Package.{Package}
+use Rattle.hack_metadata.specs.declared.metadata.resolve.NodeDep.{NodeDep}
 use Rattle.hack_load.specs.Candidates.{Path as Way, firsts, names_dep, is_implicit, is_normal, optional_names, paths_to, paths_in, node_paths}
-use Rattle.hack_load.specs.Features.{AreNormals, ArePaths, AddsPaths, IsRising, texts_of}
+use Rattle.hack_load.specs.Features.{AreNormals, ArePaths, IsRising, texts_of}
+use Rattle.hack_load.specs.Internal.{AddsPaths}
 
 -- ---- one for each
 

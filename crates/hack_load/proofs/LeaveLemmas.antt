@@ -6,9 +6,10 @@ use Rattle.hack_files.specs.Faults.{IsOfText}
 use Rattle.hack_files.specs.declared.fs.FsFault.{FsFault}
 use Rattle.hack_files.specs.declared.fs.FsFault.TheVariants as fs
 use Rattle.hack_metadata.specs.FilesAfterAsking.{Whole, Spoilt, LeftBy}
-use Rattle.hack_metadata.specs.declared.ask_fault.AskFault.{AskFault}
-use Rattle.hack_metadata.specs.declared.ask_fault.AskFault.TheVariants as ask
-use Rattle.hack_load.specs.FilesAfterLoading.{LeavesFew, MayFail, ReadsOnly}
+use Rattle.hack_metadata.specs.declared.ask.fault.AskFault.{AskFault}
+use Rattle.hack_metadata.specs.declared.ask.fault.AskFault.TheVariants as ask
+use Rattle.hack_load.specs.FilesAfterLoading.{LeavesFew}
+use Rattle.hack_load.specs.Internal.{MayFail, ReadsOnly}
 
 -- nothing is done yet
 pub nothing : (tells : Type 0) (a : Contents) (x : ℕ) → Whole tells a a x x

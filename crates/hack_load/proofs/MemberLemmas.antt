@@ -11,13 +11,14 @@ use Rattle.hack_files.specs.declared.fs.FsFault.{FsFault}
 use Rattle.hack_files.specs.declared.fs.FsFault.TheVariants as fs
 use Rattle.hack_metadata.specs.Records.{PackageRecord, MetadataRecord}
 use Rattle.hack_metadata.specs.RecordViews.{package_view, place_at}
-use Rattle.hack_metadata.specs.declared.package.Package.{Package}
-use Rattle.hack_metadata.specs.declared.resolve.PackageId.{PackageId}
+use Rattle.hack_metadata.specs.declared.metadata.package.Package.{Package}
+use Rattle.hack_metadata.specs.declared.metadata.resolve.PackageId.{PackageId}
 use Rattle.hack_manifest.specs.ManifestResults.{IsManifest, IsRefusal}
 use Rattle.hack_manifest.specs.declared.manifest.Manifest.{Manifest}
 use Rattle.hack_manifest.specs.declared.manifest.ManifestFault.{ManifestFault}
 use Rattle.hack_manifest.specs.declared.manifest.ManifestFault.TheVariants as manifest
-use Rattle.hack_load.specs.CargoQuestions.{IsMemberFault, IsCallFaultOfFile, IsOfManifest, IsOfMember, IsPackageFault}
+use Rattle.hack_load.specs.CargoQuestions.{IsMemberFault, IsOfMember, IsPackageFault}
+use Rattle.hack_load.specs.Internal.{IsCallFaultOfFile, IsOfManifest}
 use Rattle.hack_load.specs.declared.fault.ContextFault.{ContextFault}
 use Rattle.hack_load.specs.declared.fault.ContextFault.TheVariants as faults
 use Rattle.hack_load.proofs.FeatureLemmas.{each-join}

@@ -7,8 +7,8 @@ use Rattle.hack_process.specs.Commands.{asked_of}
 use Rattle.hack_metadata.specs.QuestionCalls.{QuestionEndsWith}
 use Rattle.hack_metadata.specs.Requests.{question}
 use Rattle.hack_metadata.specs.MetadataView.{metadata_view}
-use Rattle.hack_metadata.specs.declared.ask_fault.AskFault.{AskFault}
-use Rattle.hack_metadata.specs.declared.ask_fault.AskFault.TheVariants as ask
+use Rattle.hack_metadata.specs.declared.ask.fault.AskFault.{AskFault}
+use Rattle.hack_metadata.specs.declared.ask.fault.AskFault.TheVariants as ask
 use Rattle.hack_metadata.specs.declared.metadata.Metadata.{Metadata}
 use Rattle.hack_manifest.specs.declared.manifest.Manifest.{Manifest}
 use Rattle.hack_words.specs.declared.cli.args.Args.{Args}

@@ -121,19 +121,6 @@ IsPackageFault tells held m id before now faults.Root = ⊥
 abbrev pub IsMemberFault : Type 0 → Contents → MetadataRecord → ℕ → ℕ → ContextFault → Type 0
 IsMemberFault tells held m before now e = (e ≡ faults.Memory) ⊎ ((id : ℕ) × Contains m.workspace_members id × IsPackageFault tells held m id before now e)
 
--- an error of a file as an error of the call
-abbrev pub IsCallFaultOfFile : FsFault → ContextFault → Type 0
-IsCallFaultOfFile fs.Memory e = e ≡ faults.Memory
-IsCallFaultOfFile (fs.Read path) e = e ≡ faults.Files (fs.Read path)
-IsCallFaultOfFile (fs.Write path) e = e ≡ faults.Files (fs.Write path)
-IsCallFaultOfFile (fs.NotText path) e = e ≡ faults.Files (fs.NotText path)
-
--- an error of a manifest as an error of the call
-abbrev pub IsOfManifest : ManifestFault → ContextFault → Type 0
-IsOfManifest manifest.Memory e = e ≡ faults.Memory
-IsOfManifest (manifest.Toml path) e = e ≡ faults.Manifest (manifest.Toml path)
-IsOfManifest (manifest.Field name path) e = e ≡ faults.Manifest (manifest.Field name path)
-
 -- ---- the current manifest
 
 -- the command that asks cargo for the current manifest
@@ -155,14 +142,6 @@ FailsLocate tells c dir old new faults.OldCargo = ⊥
 FailsLocate tells c dir old new (faults.Metadata e) = ⊥
 FailsLocate tells c dir old new (faults.NotJson text) = ⊥
 FailsLocate tells c dir old new faults.Root = ⊥
-
--- an error of the command as an error of the call
-abbrev pub IsOfProcess : ProcessFault → ContextFault → Type 0
-IsOfProcess process.Memory e = e ≡ faults.Memory
-IsOfProcess process.EmptyProgram e = e ≡ faults.Process process.EmptyProgram
-IsOfProcess (process.NeverExecuted text) e = e ≡ faults.Process (process.NeverExecuted text)
-IsOfProcess (process.Failed failure) e = e ≡ faults.Process (process.Failed failure)
-IsOfProcess (process.NotText text) e = e ≡ faults.Process (process.NotText text)
 
 -- the answer of cargo, with the command as it is shown
 pub record IsLocated (args : Args) (env : Env) (old new : List Call) (l : Located) : Type 0 where

@@ -7,8 +7,8 @@ use Rattle.hack_base.specs.declared.notice.NoticeKind.TheVariants.{Warn}
 use Rattle.hack_metadata.specs.Fields.{object_in_text}
 use Rattle.hack_metadata.specs.Records.{MetadataRecord}
 use Rattle.hack_metadata.specs.MetadataView.{metadata_view}
-use Rattle.hack_metadata.specs.declared.fault.MetadataFault.{MetadataFault}
-use Rattle.hack_metadata.specs.declared.fault.MetadataFault.TheVariants as metadata
+use Rattle.hack_metadata.specs.declared.metadata.fault.MetadataFault.{MetadataFault}
+use Rattle.hack_metadata.specs.declared.metadata.fault.MetadataFault.TheVariants as metadata
 use Rattle.hack_manifest.specs.declared.manifest.Manifest.{Manifest}
 use Rattle.hack_words.specs.declared.cli.args.Args.{Args}
 use Rattle.hack_load.specs.Contexts.{ContextRecord}
@@ -52,12 +52,6 @@ IsContextFrom args a cx = (l : Loaded) × (a.loaded ≡ Ok l) × IsContextOf arg
 -- the node of some member is asked for and missing, and the error names that
 abbrev pub IsNodeFault : MetadataRecord → Bool → MetadataFault → Type 0
 IsNodeFault m asked e = (e ≢ metadata.Memory) × ((id : ℕ) × Contains m.workspace_members id × IsNodeRefusal m id asked e)
-
--- an error of the candidates as an error of the call
-abbrev pub IsOfNode : MetadataFault → ContextFault → Type 0
-IsOfNode metadata.Memory e = e ≡ faults.Memory
-IsOfNode (metadata.Field name) e = e ≡ faults.Metadata (metadata.Field name)
-IsOfNode metadata.Json e = e ≡ faults.Metadata metadata.Json
 
 -- cargo doesn't report which dependencies are normal ones, and this is asked
 abbrev pub IsTooOld : Bool → ℕ → Type 0

@@ -5,7 +5,7 @@ use Rattle.hack_words.specs.declared.cli.args.Args.{Args}
 use Rattle.hack_metadata.specs.RecordViews.{place_at}
 use Rattle.hack_metadata.specs.MetadataView.{metadata_view}
 use Rattle.hack_metadata.specs.declared.metadata.Metadata.{Metadata}
-use Rattle.hack_metadata.specs.declared.resolve.PackageId.{PackageId}
+use Rattle.hack_metadata.specs.declared.metadata.resolve.PackageId.{PackageId}
 use Rattle.hack_manifest.specs.declared.manifest.Manifest.{Manifest}
 use Rattle.hack_load.specs.Contexts.{ContextRecord}
 use Rattle.hack_load.specs.declared.context.Context.{Context}

@@ -11,8 +11,8 @@ use Rattle.hack_features.specs.Feature.{IsNormal, IsPath, name_of}
 use Rattle.hack_features.specs.declared.feature.Feature.{Feature}
 use Rattle.hack_metadata.specs.Records.{MetadataRecord}
 use Rattle.hack_load.specs.Candidates.{Path, MissesNode, dependencies_at, optional_names, paths_at}
-use Rattle.hack_metadata.specs.declared.fault.MetadataFault.{MetadataFault}
-use Rattle.hack_metadata.specs.declared.fault.MetadataFault.TheVariants as faults
+use Rattle.hack_metadata.specs.declared.metadata.fault.MetadataFault.{MetadataFault}
+use Rattle.hack_metadata.specs.declared.metadata.fault.MetadataFault.TheVariants as faults
 use Rattle.hack_load.specs.declared.features.Features.{Features}
 
 -- one feature of the package for each name, in order
@@ -22,10 +22,6 @@ AreNormals names fs = AllZip IsNormal names fs
 -- one feature of a dependency for each path, in order
 abbrev pub ArePaths : List Path → List Feature → Type 0
 ArePaths paths fs = AllZip (λ path f. IsPath path.0 path.1 f) paths fs
-
--- features were added after others, one for each path, in order
-abbrev pub AddsPaths : List Path → List Feature → List Feature → Type 0
-AddsPaths paths old new = (before : List Path) → ArePaths before old → ArePaths (before ++ paths) new
 
 -- the names of features
 abbrev pub texts_of : List Feature → List Name

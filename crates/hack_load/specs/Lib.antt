@@ -10,3 +10,4 @@ pub mod CargoQuestions
 pub mod Located
 pub mod Names
 pub mod RootFaults
+pub mod Internal

@@ -13,18 +13,6 @@ pub record LacksRoot (text : List ℕ) : Type 0 where
   pub object : object_in_text text ≡ Some members
   pub root : root_at members ≡ None
 
--- the error shows the command, unless memory was refused
-abbrev pub IsNotJson : Name → ContextFault → Type 0
-IsNotJson command faults.Memory = Unit {0}
-IsNotJson command (faults.NotJson shown) = string_bytes shown ≡ command
-IsNotJson command (faults.Asked e) = ⊥
-IsNotJson command (faults.Files e) = ⊥
-IsNotJson command (faults.Manifest e) = ⊥
-IsNotJson command (faults.Process e) = ⊥
-IsNotJson command faults.OldCargo = ⊥
-IsNotJson command (faults.Metadata e) = ⊥
-IsNotJson command faults.Root = ⊥
-
 -- the answer is no JSON object, and the error shows the command; or it has no `root`; or `Memory`
 abbrev pub IsRootRefusal : Name → List ℕ → ContextFault → Type 0
 IsRootRefusal command text faults.Memory = Unit {0}

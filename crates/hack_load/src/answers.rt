@@ -5,7 +5,8 @@ ghost use Rattle.std.specs.Prelude.{◌≡◌, Err, IfOk, OnOk, option_copied};
 ghost use Rattle.hack_files.specs.Restore.{registered_files};
 ghost use Rattle.hack_load.specs.Answers.{AreAnswers, LoadsFromMetadata, IsAskFault, IsLoaded};
 ghost use Rattle.hack_load.specs.Answers.{LoadsTo};
-ghost use Rattle.hack_load.specs.FilesAfterLoading.{LeavesFew, ReadsOnly};
+ghost use Rattle.hack_load.specs.FilesAfterLoading.{LeavesFew};
+ghost use Rattle.hack_load.specs.Internal.{ReadsOnly};
 ghost use Rattle.hack_metadata.specs.FilesAfterAsking.{Whole};
 
 use crate::cargo_version::{CargoVersion, minor_of};

@@ -15,7 +15,8 @@ ghost use Rattle.hack_load.specs.Contexts.{features_at, is_private_at, rust_vers
 ghost use Rattle.hack_load.specs.Contexts.{denies, verbose_name, manifest_rust_version};
 ghost use Rattle.hack_load.specs.ContextOf.{AreFeatures, IsContextCause, IsContextFrom};
 ghost use Rattle.hack_load.specs.ContextOf.{IsContextOf};
-ghost use Rattle.hack_load.specs.ContextOf.{IsLoadCause, IsNodeFault, IsOfNode, IsTooOld};
+ghost use Rattle.hack_load.specs.ContextOf.{IsLoadCause, IsNodeFault, IsTooOld};
+ghost use Rattle.hack_load.specs.Internal.{IsOfNode};
 ghost use Rattle.hack_load.specs.ContextOf.{warnings_of};
 ghost use Rattle.hack_load.specs.Candidates.{MissesNode};
 ghost use Rattle.hack_load.specs.Features.{IsNodeRefusal};

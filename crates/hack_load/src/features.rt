@@ -13,7 +13,8 @@ ghost use Rattle.hack_load.specs.Candidates.{optional_names, is_normal, dependen
 ghost use Rattle.hack_load.specs.Candidates.{name_among_dependencies};
 ghost use Rattle.hack_load.specs.Candidates.{paths_to, paths_in};
 ghost use Rattle.hack_load.specs.Candidates.{node_paths, deps_paths, dependencies_at, paths_at};
-ghost use Rattle.hack_load.specs.Features.{AreNormals, ArePaths, AddsPaths};
+ghost use Rattle.hack_load.specs.Features.{AreNormals, ArePaths};
+ghost use Rattle.hack_load.specs.Internal.{AddsPaths};
 ghost use Rattle.hack_load.specs.Features.{AreCandidates, IsNodeRefusal};
 ghost use Rattle.hack_load.specs.Features.{IsRising};
 ghost use Rattle.hack_load.specs.Features.{texts_of, candidate_names_in};

@@ -5,10 +5,10 @@ ghost use Rattle.std.specs.Prelude.{slice_get};
 ghost use Rattle.hack_files.specs.Files.{GrowsBy, KeepsAll};
 ghost use Rattle.hack_metadata.specs.RecordViews.{package_view, place_at};
 ghost use Rattle.hack_metadata.specs.MetadataView.{metadata_view};
-ghost use Rattle.hack_load.specs.FilesAfterLoading.{ReadsOnly};
+ghost use Rattle.hack_load.specs.Internal.{ReadsOnly};
 ghost use Rattle.hack_load.specs.CargoQuestions.{AreOfMembers, IsMemberFault, IsOfMember};
 ghost use Rattle.hack_load.specs.CargoQuestions.{IsPackageFault};
-ghost use Rattle.hack_load.specs.CargoQuestions.{IsCallFaultOfFile, IsOfManifest};
+ghost use Rattle.hack_load.specs.Internal.{IsCallFaultOfFile, IsOfManifest};
 
 use crate::fault::ContextFault;
 use hack_files::fs::{Files, FsFault, read_to_string};

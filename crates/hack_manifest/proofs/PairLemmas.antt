@@ -17,7 +17,7 @@ use Rattle.toml.proofs.Turns.{keyval_ok, lines_end, lines_more, document_some, i
 use Rattle.hack_base.specs.Names.{Name}
 use Rattle.hack_manifest.specs.LineRuns.{has_keys, stands}
 use Rattle.hack_manifest.specs.Paths.{chain, chain_of_data, chain_at}
-use Rattle.hack_manifest.specs.Keys.{rest_of_read, IsBehindItems, is_over}
+use Rattle.hack_manifest.specs.Internal.{rest_of_read, IsBehindItems, is_over}
 
 -- nodes in which a path leads to data
 abbrev pub LeadsTo : Nodes → List Name → Name → Data → Type 0

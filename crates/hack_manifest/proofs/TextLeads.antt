@@ -15,8 +15,8 @@ use Rattle.toml_parser.specs.Numbers.{word_len, word_value, unquoted}
 use Rattle.toml_parser.specs.declared.scalar.Scalar.{Scalar}
 use Rattle.hack_manifest.specs.declared.places.Place.{Place}
 use Rattle.hack_manifest.specs.declared.places.Place.TheVariants.{Plain, Comment, Opened, Text, Escaped, Lost}
-use Rattle.hack_manifest.specs.Keys.{rest_of_read}
-use Rattle.hack_manifest.specs.Places.{plain_step, step, behind}
+use Rattle.hack_manifest.specs.Internal.{rest_of_read, behind}
+use Rattle.hack_manifest.specs.Places.{plain_step, step}
 
 -- scanning the text from p ends in the same state as scanning the rest from q, or in the state Lost
 abbrev pub Leads : Place → List ℕ → Place → List ℕ → Type 0

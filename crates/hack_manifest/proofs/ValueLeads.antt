@@ -12,8 +12,7 @@ use Rattle.toml.proofs.Turns.{val_atom}
 use Rattle.toml.specs.Tables.{Nodes, no_nodes, close, put}
 use Rattle.toml.specs.Parse.{read_map, after_byte, scalar_data, val, atom, items, members, after_element, key_equals, keyval}
 use Rattle.hack_manifest.specs.declared.places.Place.TheVariants.{Plain}
-use Rattle.hack_manifest.specs.Keys.{rest_of_read}
-use Rattle.hack_manifest.specs.Places.{behind}
+use Rattle.hack_manifest.specs.Internal.{rest_of_read, behind}
 use Rattle.hack_manifest.proofs.TextLeads.{Leads, lost, leads-then, is_calm, ws-stays, calm-drop, close-drop, is_stuck, blank-stays, rest-same, quoted-leads, unquoted-leads, key-leads}
 
 -- two readings in succession

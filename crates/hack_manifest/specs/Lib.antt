@@ -6,3 +6,4 @@ pub mod Paths
 pub mod PieceView
 pub mod Manifest
 pub mod ManifestResults
+pub mod Internal

@@ -4,9 +4,6 @@ use Rattle.std.specs.Prelude.{◌≡◌, codes, ℕ, Bool, true, false, not, ◌
 use Rattle.std.specs.List.{list_any}
 use Rattle.std.specs.Option.{ok_or}
 use Rattle.std.specs.Str.{bytes_eq}
-use Rattle.std.specs.Ordering.{nat_cmp}
-use Rattle.std.specs.Cmp.Lexicographic.{slice_cmp}
-use Rattle.std.specs.declared.cmp.Ordering.{Ordering}
 use Rattle.toml.specs.Data.{Data, string, boolean, array, Items, no_items, item, Members, no_members, member, get_member, as_table, as_array}
 use Rattle.toml.specs.Parse.{parse_document}
 use Rattle.toml.specs.Text.{has_items}
@@ -26,10 +23,6 @@ rust_version_key = codes "rust-version"
 
 abbrev pub features_key : Name
 features_key = codes "features"
-
--- the order of names
-abbrev pub by_bytes : Name → Name → Ordering
-by_bytes = slice_cmp nat_cmp
 
 -- what is read, or the name of the field that can't be read
 abbrev pub FieldReading : Type 0 → Type 0

@@ -1,6 +1,6 @@
 -- A scanner's state after the bytes of a text: how many brackets are open, and whether it is in a
 -- comment or a string.
-use Rattle.std.specs.Prelude.{ℕ, ◌+◌, ◌-◌, ◌==◌, ◌&&◌, ◌||◌, nat_lt, Bool, true, false, if◌then◌else◌, List, [], ◌∷◌}
+use Rattle.std.specs.Prelude.{ℕ, ◌+◌, ◌-◌, ◌==◌, ◌&&◌, ◌||◌, nat_lt, Bool, true, false, if◌then◌else◌}
 use Rattle.hack_manifest.specs.declared.places.Place.{Place}
 use Rattle.hack_manifest.specs.declared.places.Place.TheVariants.{Start, Remark, Plain, Comment, Opened, Text, Escaped, Lost}
 
@@ -46,11 +46,6 @@ step (Opened quote depth) c = if c == quote then Lost else text_step quote depth
 step (Text quote depth) c = if c == quote then Plain depth else text_step quote depth c
 step (Escaped quote depth) c = Text quote depth
 step Lost c = Lost
-
--- the state after these bytes
-abbrev pub behind : Place → List ℕ → Place
-behind place [] = place
-behind place (c ∷ cs) = behind (step place c) cs
 
 -- a document may end in this state
 abbrev pub may_stand : Place → Bool

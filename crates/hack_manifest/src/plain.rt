@@ -7,7 +7,8 @@ ghost use Rattle.toml.specs.Parse.{key_equals, atom, val, after_element};
 ghost use Rattle.toml_parser.specs.Lexical.{is_bare, split_while};
 ghost use Rattle.toml_parser.specs.Strings.{is_plain, starts_string};
 ghost use Rattle.hack_manifest.specs.LineRuns.{stands};
-ghost use Rattle.hack_manifest.specs.Keys.{rest_of_read, IsBehindItems, IsBareName, is_over};
+ghost use Rattle.hack_manifest.specs.Keys.{IsBareName};
+ghost use Rattle.hack_manifest.specs.Internal.{rest_of_read, IsBehindItems, is_over};
 
 use crate::path::skip_mark;
 use std::alloc::Global;

@@ -3,7 +3,7 @@
 ghost use Rattle.std.specs.Prelude.{◌≡◌, ◌↔◌, ◌≤◌, false, IsTrue, IfOk, IfSome, IfNone, length};
 ghost use Rattle.std.specs.Prelude.{take};
 ghost use Rattle.hack_manifest.specs.LineRuns.{stands, IsLines, IsRun, IsFirstRun, HasNoRun};
-ghost use Rattle.hack_manifest.specs.Places.{behind};
+ghost use Rattle.hack_manifest.specs.Internal.{behind};
 ghost use Rattle.hack_manifest.specs.declared.places.Place.TheVariants.{Start};
 
 use crate::places::{Place, may_stand, step};

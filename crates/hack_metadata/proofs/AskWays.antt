@@ -26,11 +26,12 @@ use Rattle.hack_metadata.specs.Fields.{Field, object_in_text}
 use Rattle.hack_metadata.specs.FileFaults.{IsUnread, IsUnwritten}
 use Rattle.hack_metadata.specs.MetadataReading.{read_metadata}
 use Rattle.hack_metadata.specs.Requests.{Question, by_stable, command_line, first_command}
-use Rattle.hack_metadata.specs.FilesAfterAsking.{FailsOver, IsFileFault, IsNoFileFault, IsAskFaultOfFile, KeepsOneMore, LeftBy, LeavesFiles, PutsHeld, Spoilt, Whole}
+use Rattle.hack_metadata.specs.FilesAfterAsking.{LeftBy, LeavesFiles, Spoilt, Whole}
+use Rattle.hack_metadata.specs.Internal.{FailsOver, IsFileFault, IsNoFileFault, IsAskFaultOfFile, KeepsOneMore, PutsHeld}
 use Rattle.hack_metadata.specs.MetadataView.{metadata_view}
 use Rattle.hack_metadata.specs.declared.metadata.Metadata.{Metadata}
-use Rattle.hack_metadata.specs.declared.ask_fault.AskFault.{AskFault}
-use Rattle.hack_metadata.specs.declared.ask_fault.AskFault.TheVariants as fault
+use Rattle.hack_metadata.specs.declared.ask.fault.AskFault.{AskFault}
+use Rattle.hack_metadata.specs.declared.ask.fault.AskFault.TheVariants as fault
 use Rattle.hack_metadata.proofs.AskLemmas.{fault-read}
 
 -- ---- why a question ends

@@ -15,9 +15,10 @@ use Rattle.std.proofs.Math.Seq.{drop-cons}
 use Rattle.hack_base.specs.Names.{Name}
 use Rattle.hack_base.proofs.Steps.{seen-next}
 use Rattle.hack_metadata.specs.MetadataReading.{later, place_from, place_of, ids_of, distinct}
-use Rattle.hack_metadata.specs.RecordViews.{package_view, place_at, place_in}
-use Rattle.hack_metadata.specs.declared.package.Package.{Package}
-use Rattle.hack_metadata.specs.declared.resolve.PackageId.{PackageId}
+use Rattle.hack_metadata.specs.RecordViews.{package_view, place_at}
+use Rattle.hack_metadata.specs.Internal.{place_in}
+use Rattle.hack_metadata.specs.declared.metadata.package.Package.{Package}
+use Rattle.hack_metadata.specs.declared.metadata.resolve.PackageId.{PackageId}
 
 -- ---- the last package with an id
 

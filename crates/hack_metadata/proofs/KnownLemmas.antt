@@ -11,13 +11,14 @@ use Rattle.serde_json.specs.Data.{Data, Items, no_items, item, Members}
 use Rattle.serde_json.specs.Find.{as_str}
 use Rattle.hack_base.specs.Names.{Name}
 use Rattle.hack_metadata.specs.Fields.{Field, ◌>>=◌, or_name, string_in, array_in, nullable_in, element_of, read_all}
-use Rattle.hack_metadata.specs.KnownIds.{Bounds, is_known_node, are_known}
+use Rattle.hack_metadata.specs.KnownIds.{is_known_node, are_known}
+use Rattle.hack_metadata.specs.Internal.{Bounds}
 use Rattle.hack_metadata.specs.MetadataReading.{later, place_from, place_of, distinct, read_member, workspace_members_in, kinds_in, read_node_dep, deps_in, read_node, with_nodes, read_resolve, resolve_in}
 use Rattle.hack_metadata.specs.MetadataReading.{ids_of}
 use Rattle.hack_metadata.specs.Records.{PackageRecord, NodeDepRecord, NodeRecord, Nodes}
 use Rattle.hack_metadata.specs.RecordViews.{package_view, place_at}
-use Rattle.hack_metadata.specs.declared.package.Package.{Package}
-use Rattle.hack_metadata.specs.declared.resolve.PackageId.{PackageId}
+use Rattle.hack_metadata.specs.declared.metadata.package.Package.{Package}
+use Rattle.hack_metadata.specs.declared.metadata.resolve.PackageId.{PackageId}
 
 -- two readings, one after the other, succeeded, the second with the value of the first
 pub record Behind {A B : Type 0} (r : Field A) (g : A → Field B) (y : B) : Type 0 where

@@ -7,7 +7,7 @@ use Rattle.std.proofs.lemmas.Bool.{cases_Bool}
 use Rattle.std.proofs.lemmas.List.{append_cancel_left}
 use Rattle.hack_base.specs.Names.{Name}
 use Rattle.hack_metadata.specs.PackageSpecs.{BeginsWith, is_byte, unless_empty, Url, IsUrl, Identity, AreUrls, IsPlace, AsksVersion, of_name, of_fragment, alone, Matches, named, placed, name_at, versioned, HasBadId, HasBadVersion, has_byte, behind_first_byte, separates, begins_with_digit, trimmed_end}
-use Rattle.hack_metadata.specs.SpecAnswers.{MatchAnswer, fits, parts_at_separator, behind_name, with_version, alone_in, in_fragment, of_fragments, is_same_place, of_urls, IsUrlOrNone, IsBehind}
+use Rattle.hack_metadata.specs.InternalSpecAnswers.{MatchAnswer, fits, parts_at_separator, behind_name, with_version, alone_in, in_fragment, of_fragments, is_same_place, of_urls, IsUrlOrNone, IsBehind}
 use Rattle.hack_metadata.specs.declared.cargo.SpecFault.TheVariants.{BadId, BadVersion}
 use Rattle.hack_metadata.proofs.TextLemmas.{scheme-same}
 use Rattle.hack_metadata.proofs.MatchLemmas.{Comes, by_version, yes, no, no_id, comes-true, comes-bad_id, comes-bad_version, fits-tested, short-tested, place-holds, place-tested}

@@ -4,7 +4,7 @@ use Rattle.std.specs.Str.{bytes_eq}
 use Rattle.std.specs.Cmp.Lexicographic.{bytes_decides}
 use Rattle.hack_base.specs.Names.{Name}
 use Rattle.hack_metadata.specs.PackageSpecs.{AgreesIfGiven, VersionText, version_parts_of, IsFull, Agrees, Fits, Url, Identity, AsksVersion, Matches, versioned, HasBadId, HasBadVersion}
-use Rattle.hack_metadata.specs.SpecAnswers.{MatchAnswer, agrees_if_given, agrees, fits, is_same_place}
+use Rattle.hack_metadata.specs.InternalSpecAnswers.{MatchAnswer, agrees_if_given, agrees, fits, is_same_place}
 use Rattle.hack_metadata.specs.declared.cargo.SpecFault.TheVariants.{BadId, BadVersion}
 
 -- ---- tests and what they mean

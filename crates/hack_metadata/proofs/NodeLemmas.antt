@@ -13,8 +13,8 @@ use Rattle.hack_metadata.specs.Records.{NodeRecord, Nodes, node_at}
 use Rattle.hack_metadata.specs.RecordViews.{node_view, nodes_view}
 use Rattle.hack_metadata.proofs.IdLemmas.{cmp-eq}
 use Rattle.hack_metadata.specs.contracts.resolve.PackageIdOrd.TheImpl as ord
-use Rattle.hack_metadata.specs.declared.resolve.Node.{Node}
-use Rattle.hack_metadata.specs.declared.resolve.PackageId.{PackageId}
+use Rattle.hack_metadata.specs.declared.metadata.resolve.Node.{Node}
+use Rattle.hack_metadata.specs.declared.metadata.resolve.PackageId.{PackageId}
 
 -- ids are ordered by their places
 pub order-at : (a b : PackageId) → ord.cmp-value.it a b ≡ nat_cmp a.index b.index

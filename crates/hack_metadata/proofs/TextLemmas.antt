@@ -9,7 +9,7 @@ use Rattle.std.proofs.lemmas.Str.Pattern.{split_text_parts, strip_prefix_char}
 use Rattle.std.proofs.lemmas.List.{append_cancel_left, take_at, drop_at, length-take-le}
 use Rattle.hack_base.specs.Names.{Name}
 use Rattle.hack_metadata.specs.PackageSpecs.{is_byte}
-use Rattle.hack_metadata.specs.SpecAnswers.{IsNoUrl, IsSchemeCut, IsBehind, behind_byte, cut_by, parts_at_separator, earlier}
+use Rattle.hack_metadata.specs.InternalSpecAnswers.{IsNoUrl, IsSchemeCut, IsBehind, behind_byte, cut_by, parts_at_separator, earlier}
 
 le_or_lt : (m n : ℕ) → (m ≤ n) ⊎ (n < m)
 le_or_lt m n = grind arith

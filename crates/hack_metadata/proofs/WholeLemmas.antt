@@ -2,12 +2,13 @@
 use Rattle.std.proofs.Common.{◌≡◌, ℕ, List, Option, Result, Ok, codes, refl, sym, ap, subst, ◌∙◌}
 use Rattle.serde_json.specs.Data.{Items, Members}
 use Rattle.hack_base.specs.Names.{Name}
-use Rattle.hack_metadata.specs.Fields.{◌>>=◌, array_in, read_all, KeepsOtherFields}
+use Rattle.hack_metadata.specs.Fields.{◌>>=◌, array_in, read_all}
+use Rattle.hack_metadata.specs.Internal.{KeepsOtherFields}
 use Rattle.hack_metadata.specs.FieldResults.{ReturnsField}
 use Rattle.hack_metadata.specs.MetadataReading.{read_package, read_behind, read_metadata, place_of, ids_of}
 use Rattle.hack_metadata.specs.Records.{PackageRecord}
 use Rattle.hack_metadata.specs.MetadataView.{metadata_view}
-use Rattle.hack_metadata.specs.declared.fault.MetadataFault.{MetadataFault}
+use Rattle.hack_metadata.specs.declared.metadata.fault.MetadataFault.{MetadataFault}
 use Rattle.hack_metadata.specs.declared.metadata.Metadata.{Metadata}
 
 module _ (minor : ℕ) (old new : Members) where

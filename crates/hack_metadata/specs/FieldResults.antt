@@ -1,8 +1,8 @@
 -- What a function that reads data returns.
 use Rattle.std.specs.Prelude.{◌≡◌, Result, Ok, Err}
 use Rattle.hack_metadata.specs.Fields.{Field}
-use Rattle.hack_metadata.specs.declared.fault.MetadataFault.{MetadataFault}
-use Rattle.hack_metadata.specs.declared.fault.MetadataFault.TheVariants as faults
+use Rattle.hack_metadata.specs.declared.metadata.fault.MetadataFault.{MetadataFault}
+use Rattle.hack_metadata.specs.declared.metadata.fault.MetadataFault.TheVariants as faults
 
 -- the error names the field that reading stops at, unless memory was refused
 abbrev pub FailsAtField : {Y : Type 0} → MetadataFault → Field Y → Type 0

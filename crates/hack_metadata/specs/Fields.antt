@@ -1,6 +1,5 @@
 -- What a field of a JSON object holds, or its name, where it is missing or has the wrong type.
-use Rattle.std.specs.Prelude.{◌≡◌, Bool, false, List, [], ◌∷◌, Option, Some, None, Result, Ok, Err, option_map, option_and_then}
-use Rattle.std.specs.Str.{bytes_eq}
+use Rattle.std.specs.Prelude.{Bool, List, [], ◌∷◌, Option, Some, None, Result, Ok, Err, option_map, option_and_then}
 use Rattle.serde_json.specs.Data.{Data, null, boolean, number, string, array, object, Items, no_items, item, Members}
 use Rattle.serde_json.specs.Find.{get_member, as_str, as_bool, as_array, as_object}
 use Rattle.serde_json.specs.Read.{read as read_text}
@@ -67,10 +66,6 @@ element_of list d = or_name list (as_object d)
 abbrev pub read_all : {A : Type 0} → (Data → Field A) → Items → Field (List A)
 read_all f no_items = Ok []
 read_all f (item d ds) = f d >>= λ x. read_all f ds >>= λ xs. Ok (x ∷ xs)
-
--- every other field is as it was
-pub record KeepsOtherFields (key : Name) (old new : Members) : Type 0 where
-  pub others : (q : Name) → bytes_eq key q ≡ false → get_member q new ≡ get_member q old
 
 -- the JSON object that a text is
 abbrev pub object_in_text : Name → Option Members

@@ -1,7 +1,6 @@
 -- Ids are places of packages.
-use Rattle.std.specs.Prelude.{◌≡◌, ℕ, Bool, true, ◌&&◌, List, Option, Some, nat_lt}
+use Rattle.std.specs.Prelude.{ℕ, Bool, ◌&&◌, List, nat_lt}
 use Rattle.std.specs.List.{list_all}
-use Rattle.hack_base.specs.Names.{Name}
 use Rattle.hack_metadata.specs.Records.{NodeRecord, Nodes}
 
 -- the packages that a node depends on are among the first n
@@ -11,7 +10,3 @@ is_known_node n node = list_all (λ d. nat_lt d.pkg n) node.deps
 -- members, nodes and what these depend on are among the first n packages
 abbrev pub are_known : ℕ → List ℕ → Nodes → Bool
 are_known n members nodes = list_all (λ m. nat_lt m n) members && list_all (λ e. nat_lt e.0 n && is_known_node n e.1) nodes
-
--- each place that an id may have is among the first n
-abbrev pub Bounds : (Name → Option ℕ) → ℕ → Type 0
-Bounds place n = (id : Name) (k : ℕ) → place id ≡ Some k → nat_lt k n ≡ true

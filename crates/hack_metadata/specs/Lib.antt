@@ -7,11 +7,12 @@ pub mod OptionalLeft
 pub mod PackageSpecs
 pub mod MetadataReading
 pub mod Records
-pub mod SpecAnswers
+pub mod InternalSpecAnswers
 pub mod SpecViews
 pub mod RecordViews
 pub mod MetadataView
-pub mod AskView
+pub mod InternalAskView
 pub mod QuestionCalls
 pub mod FilesAfterAsking
 pub mod Requests
+pub mod Internal

@@ -3,7 +3,7 @@ use Rattle.std.specs.Prelude.{List, map}
 use Rattle.hack_base.specs.Names.{Name}
 use Rattle.hack_metadata.specs.Optional.{optional_in}
 use Rattle.hack_metadata.specs.RecordViews.{dependency_view}
-use Rattle.hack_metadata.specs.declared.package.OptionalDeps.{OptionalDeps}
+use Rattle.hack_metadata.specs.declared.metadata.package.OptionalDeps.{OptionalDeps}
 
 -- the names that are still to come
 abbrev pub names_left : OptionalDeps → List Name

@@ -21,8 +21,8 @@ use Rattle.hack_metadata.specs.MetadataReading.{read_metadata}
 use Rattle.hack_metadata.specs.Requests.{Question, command_line, by_stable, version_command, first_command, lock_command}
 use Rattle.hack_metadata.specs.MetadataView.{metadata_view}
 use Rattle.hack_metadata.specs.declared.metadata.Metadata.{Metadata}
-use Rattle.hack_metadata.specs.declared.ask_fault.AskFault.{AskFault}
-use Rattle.hack_metadata.specs.declared.ask_fault.AskFault.TheVariants as fault
+use Rattle.hack_metadata.specs.declared.ask.fault.AskFault.{AskFault}
+use Rattle.hack_metadata.specs.declared.ask.fault.AskFault.TheVariants as fault
 
 -- just this command was called, and ended with status 0
 abbrev pub Runs : Command → List Call → List Call → Type 0

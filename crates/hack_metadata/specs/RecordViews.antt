@@ -1,18 +1,16 @@
 -- The records of the code as plain data.
-use Rattle.std.specs.Prelude.{ℕ, List, Option, map, option_map, string_bytes}
-use Rattle.std.specs.BTreeMap.{BTreeMap, get_by_text}
-use Rattle.std.specs.declared.string.String.{String}
-use Rattle.std.specs.declared.alloc.Global.{Global}
+use Rattle.std.specs.Prelude.{ℕ, map, string_bytes}
+use Rattle.std.specs.BTreeMap.{BTreeMap}
 use Rattle.std.specs.Hash.{HashWrites, usize}
-use Rattle.hack_base.specs.Names.{Name, optional_text}
+use Rattle.hack_base.specs.Names.{optional_text}
 use Rattle.hack_features.specs.FeatureMap.{feature_map}
 use Rattle.hack_metadata.specs.Records.{DependencyRecord, PackageRecord, KindRecord, NodeDepRecord, NodeRecord, Nodes}
-use Rattle.hack_metadata.specs.declared.package.Dependency.{Dependency}
-use Rattle.hack_metadata.specs.declared.package.Package.{Package}
-use Rattle.hack_metadata.specs.declared.resolve.PackageId.{PackageId}
-use Rattle.hack_metadata.specs.declared.resolve.DepKindInfo.{DepKindInfo}
-use Rattle.hack_metadata.specs.declared.resolve.NodeDep.{NodeDep}
-use Rattle.hack_metadata.specs.declared.resolve.Node.{Node}
+use Rattle.hack_metadata.specs.declared.metadata.package.Dependency.{Dependency}
+use Rattle.hack_metadata.specs.declared.metadata.package.Package.{Package}
+use Rattle.hack_metadata.specs.declared.metadata.resolve.PackageId.{PackageId}
+use Rattle.hack_metadata.specs.declared.metadata.resolve.DepKindInfo.{DepKindInfo}
+use Rattle.hack_metadata.specs.declared.metadata.resolve.NodeDep.{NodeDep}
+use Rattle.hack_metadata.specs.declared.metadata.resolve.Node.{Node}
 
 -- a dependency
 abbrev pub dependency_view : Dependency → DependencyRecord
@@ -25,10 +23,6 @@ package_view p = record { id = string_bytes p.id; name = string_bytes p.name; ve
 -- the place of a package that an id means
 abbrev pub place_at : PackageId → ℕ
 place_at id = id.index
-
--- the place of the package that a text means, by a map of ids
-abbrev pub place_in : BTreeMap (String Global) PackageId → Name → Option ℕ
-place_in ids id = option_map place_at (get_by_text ids id)
 
 -- a kind of dependency
 abbrev pub kind_view : DepKindInfo → KindRecord
@@ -45,10 +39,6 @@ node_view n = record { deps = map node_dep_view n.deps.items }
 -- the nodes, by place
 abbrev pub nodes_view : BTreeMap PackageId Node → Nodes
 nodes_view nodes = map (λ e. (e.0.index, node_view e.1)) nodes.entries
-
--- the ids of packages, in order
-abbrev pub ids_in : List Package → List Name
-ids_in packages = map (λ p. string_bytes p.id) packages
 
 -- what a hasher is given for a place
 abbrev pub place_bytes : ℕ → HashWrites

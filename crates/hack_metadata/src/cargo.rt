@@ -7,16 +7,17 @@ ghost use Rattle.std.specs.List.{before_first, after_first};
 ghost use Rattle.hack_metadata.specs.PackageSpecs.{behind_first_byte, is_byte, unless_empty};
 ghost use Rattle.hack_metadata.specs.PackageSpecs.{version_parts_of, begins_with_digit};
 ghost use Rattle.hack_metadata.specs.PackageSpecs.{Matches, HasBadId, HasBadVersion};
-ghost use Rattle.hack_metadata.specs.SpecAnswers.{agrees_if_given, agrees, fits};
-ghost use Rattle.hack_metadata.specs.SpecAnswers.{parts_at_separator};
-ghost use Rattle.hack_metadata.specs.SpecAnswers.{behind_name, in_fragment, of_fragments};
-ghost use Rattle.hack_metadata.specs.SpecAnswers.{is_same_place, alone_in};
-ghost use Rattle.hack_metadata.specs.SpecAnswers.{IsUrlOrNone, IsNoUrl, IsSchemeCut, IsBehind};
-ghost use Rattle.hack_metadata.specs.SpecAnswers.{behind_separator, behind_byte, of_urls};
-ghost use Rattle.hack_metadata.specs.SpecAnswers.{cut_by, earlier};
-ghost use Rattle.hack_metadata.specs.SpecViews.{pair_view, version_view, url_view, identity_of};
+ghost use Rattle.hack_metadata.specs.InternalSpecAnswers.{agrees_if_given, agrees, fits};
+ghost use Rattle.hack_metadata.specs.InternalSpecAnswers.{parts_at_separator};
+ghost use Rattle.hack_metadata.specs.InternalSpecAnswers.{behind_name, in_fragment, of_fragments};
+ghost use Rattle.hack_metadata.specs.InternalSpecAnswers.{is_same_place, alone_in};
+ghost use Rattle.hack_metadata.specs.InternalSpecAnswers.{IsUrlOrNone, IsNoUrl, IsSchemeCut, IsBehind};
+ghost use Rattle.hack_metadata.specs.InternalSpecAnswers.{behind_separator, behind_byte, of_urls};
+ghost use Rattle.hack_metadata.specs.InternalSpecAnswers.{cut_by, earlier};
+ghost use Rattle.hack_metadata.specs.SpecViews.{identity_of};
+ghost use Rattle.hack_metadata.specs.Internal.{pair_view, version_view, url_view};
 
-use crate::package::Package;
+use crate::metadata::package::Package;
 use thiserror::Error;
 
 /// Why it can't be decided whether a specification matches a package.

@@ -1,14 +1,7 @@
-//! What cargo reports of a workspace: the data of `cargo metadata`, and package ID specifications.
+//! What cargo reports of a workspace: its records (`metadata`), how it is asked for them (`ask`), and
+//! the package ID specifications that name its packages (`cargo`).
 #![tactic(auto)]
 
-mod answers;
 mod ask;
-mod ask_fault;
 pub mod cargo;
-mod commands;
-mod fault;
-mod lockfile;
 pub mod metadata;
-mod object;
-mod package;
-mod resolve;

@@ -11,7 +11,7 @@ use Rattle.hack_versions.specs.declared.version.Version.{Version}
 use Rattle.hack_plan.specs.declared.places.PlanEntry.{PlanEntry}
 use Rattle.hack_plan.specs.declared.blocks.Block.{Block}
 use Rattle.hack_plan.specs.Entries.{Lists, Overfills}
-use Rattle.hack_plan.specs.Parts.{InBlock}
+use Rattle.hack_plan.specs.Internal.{InBlock}
 use Rattle.hack_plan.specs.Blocks.{entry_at, entries_in, entries_of, block_run_count, AreSums}
 
 pub length-entries_in : (b : Block) → length (entries_in b) ≡ b.runs

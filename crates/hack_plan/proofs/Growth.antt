@@ -6,7 +6,8 @@ use Rattle.std.proofs.lemmas.List.Elements.{Contains-append_left, Contains-push,
 use Rattle.hack_versions.specs.declared.version.Version.{Version}
 use Rattle.hack_plan.specs.declared.places.PlanEntry.{PlanEntry}
 use Rattle.hack_plan.specs.Entries.{AddsEntries, Overfills, Before, IsLower}
-use Rattle.hack_plan.specs.Parts.{InBlock, InSlot, InVersion}
+use Rattle.hack_plan.specs.Parts.{InVersion}
+use Rattle.hack_plan.specs.Internal.{InBlock, InSlot}
 use Rattle.hack_plan.proofs.Joins.{Adds-then, Overfills-then}
 
 -- each member of a prefix is below the next element

@@ -7,7 +7,8 @@ use Rattle.hack_versions.specs.declared.version.Version.{Version}
 use Rattle.hack_plan.specs.declared.places.Span.{Span}
 use Rattle.hack_plan.specs.Spans.{version_at}
 use Rattle.hack_plan.specs.declared.parts.PlanVersion.{PlanVersion}
-use Rattle.hack_plan.specs.Prepared.{span_of, version_number_of, preparations_of, HasPreparations, AreFlags, ArePrepared}
+use Rattle.hack_plan.specs.Prepared.{span_of, version_number_of, preparations_of, HasPreparations, ArePrepared}
+use Rattle.hack_plan.specs.Internal.{AreFlags}
 
 -- each version so far has its preparations
 abbrev pub AreReady : Bool → Bool → List Version → List PlanVersion → Type 0

@@ -13,7 +13,8 @@ use Rattle.hack_plan.specs.declared.places.Span.{Span}
 use Rattle.hack_plan.specs.declared.versions.PlanInput.{PlanInput}
 use Rattle.hack_plan.specs.Entries.{AddsEntries, IsOlder}
 use Rattle.hack_plan.specs.Parts.{InVersion}
-use Rattle.hack_plan.specs.Spans.{Laid, IsSpan, AreSpans, AreTiled, AppendsPlaces, version_in, version_at}
+use Rattle.hack_plan.specs.Spans.{Laid, IsSpan, AreSpans, AreTiled, version_in, version_at}
+use Rattle.hack_plan.specs.Internal.{AppendsPlaces}
 use Rattle.hack_plan.proofs.Groups.{InGroups, earlier}
 
 abbrev IsOlderEntry : Option Version → PlanEntry → Type 0

@@ -12,3 +12,4 @@ pub mod Commands
 pub mod Plans
 pub mod Prepared
 pub mod Lines
+pub mod Internal

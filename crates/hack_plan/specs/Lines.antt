@@ -1,6 +1,6 @@
 -- The line of a run, and what its parts show.
-use Rattle.std.specs.Prelude.{ℕ, Bool, true, false, List, [], ◌∷◌, ◌++◌, ◌-◌, Option, Some, None, codes, length, map, option_map, slice_get, string_bytes, if◌then◌else◌}
-use Rattle.std.specs.List.{flat_map, join_with_byte}
+use Rattle.std.specs.Prelude.{ℕ, Bool, false, List, [], ◌∷◌, ◌++◌, ◌-◌, Option, Some, None, codes, length, map, option_map, slice_get, string_bytes, if◌then◌else◌}
+use Rattle.std.specs.List.{flat_map}
 use Rattle.hack_base.specs.Names.{Name}
 use Rattle.hack_base.specs.PathTexts.{under_of}
 use Rattle.hack_features.specs.Feature.{groups_of}
@@ -47,18 +47,3 @@ takes_option targets = is_option (slice_get targets (length targets - 1))
 -- the folder to which a path after these targets is shown relative
 abbrev pub folder_behind : List (List ℕ) → List ℕ → List ℕ
 folder_behind targets dir = if takes_option targets then [] else dir
-
--- what comes before a name, which is the first or not
-abbrev pub before_name : Bool → List ℕ
-before_name true = codes " --features "
-before_name false = codes ","
-
--- names of a joined list, from its first one on or further ones
-abbrev pub joined_names : Bool → List (List ℕ) → List ℕ
-joined_names is_first [] = []
-joined_names is_first (name ∷ names) = before_name is_first ++ join_with_byte 44 (name ∷ names)
-
--- the next name is still the first
-abbrev pub is_still_first : Bool → List (List ℕ) → Bool
-is_still_first is_first [] = is_first
-is_still_first is_first (name ∷ names) = false

@@ -3,17 +3,9 @@ use Rattle.std.specs.Prelude.{Option, None, Some, Bool, true, false, ℕ, ◌≡
 use Rattle.hack_versions.specs.declared.version.Version.{Version}
 use Rattle.hack_plan.specs.declared.places.PlanEntry.{PlanEntry}
 
--- one version, slot and package, and a rank below the number of runs
-abbrev pub InBlock : Option Version → ℕ → Option ℕ → ℕ → PlanEntry → Type 0
-InBlock version slot place runs q = (q.version ≡ version) × (q.slot ≡ slot) × (q.package ≡ place) × (q.rank < runs)
-
 -- one of the packages, and a rank below the number of its runs
 abbrev pub OfPackage : List ℕ → List ℕ → PlanEntry → Type 0
 OfPackage packages runs q = (p : ℕ) × (q.package ≡ Some p) × Contains packages p × (q.rank < slice_index runs p)
-
--- one version and slot, and any of the packages
-abbrev pub InSlot : Option Version → ℕ → List ℕ → List ℕ → PlanEntry → Type 0
-InSlot version slot packages runs q = (q.version ≡ version) × (q.slot ≡ slot) × OfPackage packages runs q
 
 -- the one run for all packages, or a run of any of them
 abbrev pub InWhole : Bool → List ℕ → List ℕ → PlanEntry → Type 0

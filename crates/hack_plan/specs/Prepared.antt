@@ -30,10 +30,6 @@ preparations_of (Some v) place remakes cleans = Toolchain place ∷ where_asked 
 abbrev pub Remakes : Bool → List Version → ℕ → Type 0
 Remakes locked versions place = (locked ≡ false) × NeedsLockfile versions place
 
--- the flags that are set are those of the versions before which the lockfile is regenerated
-abbrev pub AreFlags : Bool → List Version → List Bool → Type 0
-AreFlags locked versions flags = (place : ℕ) → (slice_get flags place ≡ Some true) ↔ Remakes locked versions place
-
 -- the version at an index has its preparations
 pub record HasPreparations (locked cleans : Bool) (versions : List Version) (place : ℕ) (v : PlanVersion) : Type 0 where
   pub remakes : Bool

@@ -34,10 +34,6 @@ abbrev pub versions_of : Option VersionRange → List VersionGroup → List (Opt
 versions_of None groups = None ∷ []
 versions_of (Some range) groups = map version_in groups
 
--- the version's places are appended to the plan so far
-abbrev pub AppendsPlaces : Option Version → Laid → Laid → Type 0
-AppendsPlaces version old new = new.spans ≡ old.spans ++ record { version = version; first = length old.entries; end = length new.entries } ∷ []
-
 -- the version of a span
 abbrev pub version_at : Span → Option Version
 version_at s = s.version

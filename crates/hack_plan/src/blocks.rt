@@ -4,7 +4,8 @@
 ghost use Rattle.std.specs.Prelude.{ℕ, true, false, ◌≡◌, ◌<◌, ◌≤◌, ◌+◌, ◌^◌, ◌⊎◌, [], length, All};
 ghost use Rattle.std.specs.Prelude.{AllPairs, OnOk, OnErr, IfOk, IfErr, slice_get, slice_index};
 ghost use Rattle.hack_plan.specs.Entries.{AddsEntries, Overfills};
-ghost use Rattle.hack_plan.specs.Parts.{InBlock, InSlot, InVersion};
+ghost use Rattle.hack_plan.specs.Parts.{InVersion};
+ghost use Rattle.hack_plan.specs.Internal.{InBlock, InSlot};
 
 use crate::places::{PlacesFault, PlanEntry};
 use hack_versions::version::Version;

@@ -16,7 +16,8 @@ ghost use Rattle.hack_plan.specs.Commands.{rustup_run_words, manifest_words, can
 ghost use Rattle.hack_plan.specs.Commands.{run_command};
 ghost use Rattle.hack_plan.specs.Commands.{run_names, run_words, target_pair, whole_command};
 ghost use Rattle.hack_plan.specs.Lines.{command_in, folder_behind, listed_text, names_in, own_in};
-ghost use Rattle.hack_plan.specs.Lines.{before_name, joined_names, shown_manifest, shown_target};
+ghost use Rattle.hack_plan.specs.Lines.{shown_manifest, shown_target};
+ghost use Rattle.hack_plan.specs.Internal.{before_name, joined_names};
 ghost use Rattle.hack_plan.specs.Lines.{takes_option};
 
 use crate::call::Call;

@@ -132,7 +132,8 @@ impl Places {
 }
 
 impl Places {
-    ghost use Rattle.hack_plan.specs.Spans.{AreSpans, AppendsPlaces, versions_of};
+    ghost use Rattle.hack_plan.specs.Spans.{AreSpans, versions_of};
+    ghost use Rattle.hack_plan.specs.Internal.{AppendsPlaces};
 
     /// No place.
     pub fn empty(alloc: Global) -> Places

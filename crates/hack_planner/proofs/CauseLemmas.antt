@@ -14,8 +14,9 @@ use Rattle.hack_base.specs.Notes.{Note, note_of}
 use Rattle.hack_base.specs.declared.notice.Notice.{Notice}
 use Rattle.hack_versions.specs.declared.version.Version.{Version}
 use Rattle.hack_planner.specs.Calls.{ArePlanned, IsInputOf}
-use Rattle.hack_planner.specs.CallPlan.{IsCause, SaysRangeRefused, run_counts}
-use Rattle.hack_planner.specs.FaultConversions.{of_places}
+use Rattle.hack_planner.specs.CallPlan.{IsCause, run_counts}
+use Rattle.hack_planner.specs.Internal.{SaysRangeRefused}
+use Rattle.hack_planner.specs.InternalFaultConversions.{of_places}
 use Rattle.hack_planner.specs.declared.fault.PlanFault.{PlanFault}
 use Rattle.hack_planner.specs.declared.fault.PlanFault.TheVariants as fault
 

@@ -10,7 +10,7 @@ use Rattle.hack_base.proofs.Members.{Contains-cons_cases, Contains-head, Contain
 use Rattle.hack_load.specs.Contexts.{ContextRecord, package_at, is_private_at, rust_version_at}
 use Rattle.hack_metadata.specs.Records.{PackageRecord}
 use Rattle.hack_metadata.specs.RecordViews.{place_at}
-use Rattle.hack_metadata.specs.declared.resolve.PackageId.{PackageId}
+use Rattle.hack_metadata.specs.declared.metadata.resolve.PackageId.{PackageId}
 use Rattle.hack_planner.specs.ContextMembers.{member_at, AreChosen}
 use Rattle.hack_planner.specs.Members.{Member, Choosing, taken, left, ends, SelectsMembers, IsMatched, IsAbout, members_without_names, first_called}
 use Rattle.hack_base.specs.Notes.{Note}

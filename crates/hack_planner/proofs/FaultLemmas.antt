@@ -11,9 +11,9 @@ use Rattle.hack_versions.specs.declared.rustup.RangeFault.TheVariants as range
 use Rattle.hack_versions.specs.declared.version.Version.{Version}
 use Rattle.hack_versions.specs.declared.version.VersionFault.{VersionFault}
 use Rattle.hack_versions.specs.declared.version.VersionFault.TheVariants as version
-use Rattle.hack_planner.specs.Calls.{HasBadOwn, IsOwnFault}
-use Rattle.hack_planner.specs.CallPlan.{SaysPackagesUnknown, SaysRangeRefused}
-use Rattle.hack_planner.specs.FaultConversions.{of_packages, of_version, of_range}
+use Rattle.hack_planner.specs.Calls.{HasBadOwn}
+use Rattle.hack_planner.specs.Internal.{IsOwnFault, SaysPackagesUnknown, SaysRangeRefused}
+use Rattle.hack_planner.specs.InternalFaultConversions.{of_packages, of_version, of_range}
 use Rattle.hack_planner.specs.declared.fault.PlanFault.TheVariants as fault
 
 pub version-turned : (cx : ContextRecord) (ids : List ℕ) (e : VersionFault) → (e ≡ version.Memory) ⊎ HasBadOwn cx ids e → (of_version e ≡ fault.Memory) ⊎ IsOwnFault cx ids (of_version e)

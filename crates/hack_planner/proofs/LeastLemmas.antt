@@ -8,7 +8,8 @@ use Rattle.hack_plan.specs.declared.runs.RunOptions.{RunOptions}
 use Rattle.hack_plan.specs.Runs.{PackageRun, Plain, AllFeatures, NoDefaultFeatures, Set, allows_two, in_turn, is_plain, keeps_all, run_if, runs_from, with_last_first}
 use Rattle.hack_planner.specs.Candidates.{Wishes, Known, candidates}
 use Rattle.hack_planner.specs.Kinds.{ArePowersets, AreSets, RunsBy, AreSetRuns, asks, package_choice, options_of}
-use Rattle.hack_planner.specs.LeastRuns.{ListsAtLeast, HasRunsAtLeast}
+use Rattle.hack_planner.specs.LeastRuns.{HasRunsAtLeast}
+use Rattle.hack_planner.specs.Internal.{ListsAtLeast}
 use Rattle.hack_planner.proofs.KindLemmas.{covering-plain, covering-runs, first-true, or-true}
 
 pub length-turned : (b : Bool) (sets : List (List ℕ)) → length (with_last_first b sets) ≡ length sets

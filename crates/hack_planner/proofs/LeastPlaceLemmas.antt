@@ -10,7 +10,7 @@ use Rattle.hack_load.specs.GivenFeatures.{passed_for}
 use Rattle.hack_load.specs.declared.features.Features.{Features}
 use Rattle.hack_metadata.specs.Records.{PackageRecord}
 use Rattle.hack_metadata.specs.RecordViews.{place_at}
-use Rattle.hack_metadata.specs.declared.resolve.PackageId.{PackageId}
+use Rattle.hack_metadata.specs.declared.metadata.resolve.PackageId.{PackageId}
 use Rattle.hack_planner.specs.Candidates.{candidates, candidate_notes}
 use Rattle.hack_planner.specs.CandidatesView.{wishes}
 use Rattle.hack_planner.specs.ContextMembers.{AreChosen, known_as}
@@ -25,9 +25,9 @@ use Rattle.hack_plan.specs.declared.versions.PlanInput.{PlanInput}
 use Rattle.hack_plan.specs.View.{PackageView}
 use Rattle.hack_versions.specs.declared.version.Version.{Version}
 use Rattle.hack_planner.specs.Calls.{IsInputOf, begins, given_path}
-use Rattle.hack_planner.specs.LeastPlaces.{HasAtLeast, HaveAtLeast}
+use Rattle.hack_planner.specs.InternalLeastPlaces.{HasAtLeast, HaveAtLeast}
 use Rattle.hack_planner.specs.CallPlan.{IsCause, run_counts}
-use Rattle.hack_planner.specs.FaultConversions.{of_places}
+use Rattle.hack_planner.specs.InternalFaultConversions.{of_places}
 use Rattle.hack_planner.specs.declared.fault.PlanFault.TheVariants as fault
 use Rattle.hack_planner.proofs.ChosenLemmas.{planned-more}
 

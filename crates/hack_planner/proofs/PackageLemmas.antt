@@ -8,7 +8,7 @@ use Rattle.hack_base.specs.Notes.{Note, note_of}
 use Rattle.hack_planner.specs.declared.fault.PackagesFault.{PackagesFault}
 use Rattle.hack_planner.specs.declared.fault.PackagesFault.TheVariants.{Memory, Unmatched}
 use Rattle.hack_planner.specs.Members.{Member, Choosing, AllMatch, names_some}
-use Rattle.hack_planner.specs.ListingView.{IsNamedFault}
+use Rattle.hack_planner.specs.InternalListingView.{IsNamedFault}
 use Rattle.hack_planner.specs.PackagesView.{IsListFault}
 
 -- a call that names no packages has no such error

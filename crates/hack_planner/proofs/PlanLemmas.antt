@@ -23,7 +23,7 @@ use Rattle.hack_plan.specs.View.{PackageView, PlanView}
 use Rattle.hack_versions.specs.declared.group.PackageVersion.{PackageVersion}
 use Rattle.hack_versions.specs.declared.version.Version.{Version}
 use Rattle.hack_base.specs.Notes.{Note}
-use Rattle.hack_uses.specs.declared.behavior.WorkspaceBehavior.TheVariants.{Cargo}
+use Rattle.hack_rules.specs.declared.uses.behavior.WorkspaceBehavior.TheVariants.{Cargo}
 use Rattle.hack_planner.specs.Calls.{AreMembers, starts, grows, ArePlanned, begins, adds, IsPlanned}
 use Rattle.hack_planner.specs.CallPlan.{IsPlan, run_counts}
 use Rattle.hack_planner.specs.CoveredSets.{AreCovered, HoldsCover, choice_at}

@@ -13,7 +13,7 @@ use Rattle.hack_load.specs.Contexts.{ContextRecord}
 use Rattle.hack_load.specs.declared.features.Features.{Features}
 use Rattle.hack_metadata.specs.Records.{PackageRecord}
 use Rattle.hack_metadata.specs.RecordViews.{place_at}
-use Rattle.hack_metadata.specs.declared.resolve.PackageId.{PackageId}
+use Rattle.hack_metadata.specs.declared.metadata.resolve.PackageId.{PackageId}
 use Rattle.hack_planner.specs.Candidates.{Wishes, Known, candidates}
 use Rattle.hack_planner.specs.CandidatesView.{wishes}
 use Rattle.hack_planner.specs.ContextMembers.{AreChosen, known_as}
@@ -28,8 +28,8 @@ use Rattle.hack_plan.specs.declared.places.PlanEntry.{PlanEntry}
 use Rattle.hack_plan.specs.View.{PackageView, PlanView}
 use Rattle.hack_base.specs.Notes.{Note}
 use Rattle.hack_versions.specs.declared.version.Version.{Version}
-use Rattle.hack_uses.specs.declared.behavior.WorkspaceBehavior.TheVariants.{Cargo}
-use Rattle.hack_planner.specs.Calls.{SaysNoSample, HasRunsFault}
+use Rattle.hack_rules.specs.declared.uses.behavior.WorkspaceBehavior.TheVariants.{Cargo}
+use Rattle.hack_planner.specs.Internal.{SaysNoSample, HasRunsFault}
 use Rattle.hack_planner.specs.CoveredSets.{choice_at}
 use Rattle.hack_planner.specs.CallPlan.{IsCause, IsPlan, run_counts}
 use Rattle.hack_planner.specs.Powersets.{run_sets_of}

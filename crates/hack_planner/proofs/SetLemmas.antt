@@ -21,7 +21,7 @@ use Rattle.hack_features.proofs.MemberLemmas.{member_iff}
 use Rattle.hack_features.proofs.Permitted.{Passes, listing_filter, listing_same, permitted_below, permitted_listing, whole_iff}
 use Rattle.hack_features.proofs.RuleLemmas.{covers_of, listing_of, tables_of}
 use Rattle.hack_features.proofs.SampleLemmas.{selected}
-use Rattle.hack_planner.specs.LeastRuns.{ListsAtLeast}
+use Rattle.hack_planner.specs.Internal.{ListsAtLeast}
 
 -- ---- lists of different sets
 

@@ -148,23 +148,3 @@ IsSureCauseBy (Err text) cx e = e ≡ fault.Stable text
 abbrev pub IsSureCauseOf : Option (String Global) → Result (Option Version) (String Global) → ContextRecord → PlanFault → Type 0
 IsSureCauseOf None stable cx e = ⊥
 IsSureCauseOf (Some subcommand) stable cx e = IsSureCauseBy stable cx e
-
--- the error says that the packages aren't known
-abbrev pub SaysPackagesUnknown : ContextRecord → PlanFault → Type 0
-SaysPackagesUnknown cx fault.Memory = ⊥
-SaysPackagesUnknown cx (fault.Stable text) = ⊥
-SaysPackagesUnknown cx (fault.Packages e) = IsChoiceFault cx e
-SaysPackagesUnknown cx (fault.Version e) = ⊥
-SaysPackagesUnknown cx (fault.Range e) = ⊥
-SaysPackagesUnknown cx (fault.TooManyQuestions name) = ⊥
-SaysPackagesUnknown cx fault.TooManyRuns = ⊥
-
--- the error says that the range is refused
-abbrev pub SaysRangeRefused : PlanInput → Option Version → PlanFault → Type 0
-SaysRangeRefused s latest fault.Memory = ⊥
-SaysRangeRefused s latest (fault.Stable text) = ⊥
-SaysRangeRefused s latest (fault.Packages e) = ⊥
-SaysRangeRefused s latest (fault.Version e) = ⊥
-SaysRangeRefused s latest (fault.Range e) = IsVersionsFault s.range s latest e
-SaysRangeRefused s latest (fault.TooManyQuestions name) = ⊥
-SaysRangeRefused s latest fault.TooManyRuns = ⊥

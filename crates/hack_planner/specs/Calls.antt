@@ -14,7 +14,7 @@ use Rattle.hack_versions.specs.declared.group.PackageVersion.{PackageVersion}
 use Rattle.hack_versions.specs.declared.group.VersionGroup.{VersionGroup}
 use Rattle.hack_base.specs.Notes.{Note}
 use Rattle.hack_versions.specs.VersionTexts.{IsVersionText, IsVersionFault}
-use Rattle.hack_uses.specs.declared.behavior.WorkspaceBehavior.TheVariants.{Cargo}
+use Rattle.hack_rules.specs.declared.uses.behavior.WorkspaceBehavior.TheVariants.{Cargo}
 use Rattle.hack_planner.specs.Candidates.{candidates, candidate_notes}
 use Rattle.hack_planner.specs.CandidatesView.{wishes}
 use Rattle.hack_planner.specs.ContextMembers.{known_as}
@@ -22,8 +22,6 @@ use Rattle.hack_planner.specs.Kinds.{AreRuns, AreCovering, AreRunSettings, IsUns
 use Rattle.hack_plan.specs.Runs.{Plain}
 use Rattle.hack_plan.specs.Inputs.{slots_of}
 use Rattle.hack_plan.specs.declared.versions.PlanInput.{PlanInput}
-use Rattle.hack_planner.specs.declared.fault.PlanFault.{PlanFault}
-use Rattle.hack_planner.specs.declared.fault.PlanFault.TheVariants as fault
 use Rattle.hack_plan.specs.View.{CallView, PackageView}
 
 -- the path of a package's manifest as a command is given it; none where commands get none
@@ -95,16 +93,6 @@ pub record IsInputOf (cx : ContextRecord) (ids : List ℕ) (s : PlanInput) : Typ
 abbrev pub HasBadOwn : ContextRecord → List ℕ → VersionFault → Type 0
 HasBadOwn cx ids e = (id : ℕ) × Contains ids id × IsBadOwn cx.args.version_range (rust_version_at cx id) e
 
--- the error says that
-abbrev pub IsOwnFault : ContextRecord → List ℕ → PlanFault → Type 0
-IsOwnFault cx ids fault.Memory = ⊥
-IsOwnFault cx ids (fault.Stable text) = ⊥
-IsOwnFault cx ids (fault.Packages e) = ⊥
-IsOwnFault cx ids (fault.Version e) = HasBadOwn cx ids e
-IsOwnFault cx ids (fault.Range e) = ⊥
-IsOwnFault cx ids (fault.TooManyQuestions name) = ⊥
-IsOwnFault cx ids fault.TooManyRuns = ⊥
-
 -- a package of this name and these features has no sample
 pub record HasNoSampleAt (cx : ContextRecord) (id : ℕ) (name : Name) : Type 0 where
   pub pkg : PackageRecord
@@ -117,20 +105,6 @@ pub record HasNoSampleAt (cx : ContextRecord) (id : ℕ) (name : Name) : Type 0 
 -- one of the packages, of this name, has no sample
 abbrev pub HasNoSample : ContextRecord → List ℕ → Name → Type 0
 HasNoSample cx ids name = (id : ℕ) × Contains ids id × HasNoSampleAt cx id name
-
--- the error says that this package has no sample
-abbrev pub SaysNoSample : ContextRecord → ℕ → PlanFault → Type 0
-SaysNoSample cx id fault.Memory = ⊥
-SaysNoSample cx id (fault.Stable text) = ⊥
-SaysNoSample cx id (fault.Packages e) = ⊥
-SaysNoSample cx id (fault.Version e) = ⊥
-SaysNoSample cx id (fault.Range e) = ⊥
-SaysNoSample cx id (fault.TooManyQuestions name) = HasNoSampleAt cx id (string_bytes name)
-SaysNoSample cx id fault.TooManyRuns = ⊥
-
--- the error says that one of these packages has no sample
-abbrev pub HasRunsFault : ContextRecord → List ℕ → PlanFault → Type 0
-HasRunsFault cx ids e = (id : ℕ) × Contains ids id × SaysNoSample cx id e
 
 -- a chosen package in the plan: its texts, the features of `--features` that it gets, and its runs
 pub record IsPlanned (cx : ContextRecord) (single : Bool) (id : ℕ) (k : PackageView) (notes : List Note) : Type 0 where

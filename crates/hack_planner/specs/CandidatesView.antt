@@ -7,7 +7,7 @@ use Rattle.hack_features.specs.Feature.{group_of, groups_of}
 use Rattle.hack_features.specs.FeatureMap.{feature_map}
 use Rattle.hack_features.specs.declared.feature.Feature.{Feature}
 use Rattle.hack_load.specs.declared.features.Features.{Features}
-use Rattle.hack_metadata.specs.declared.package.Package.{Package}
+use Rattle.hack_metadata.specs.declared.metadata.package.Package.{Package}
 use Rattle.hack_words.specs.declared.cli.args.Args.{Args}
 use Rattle.hack_planner.specs.Candidates.{Lift, Wishes, Known}
 

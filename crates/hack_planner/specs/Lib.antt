@@ -1,7 +1,7 @@
 pub mod Texts
 pub mod Members
 pub mod MembersView
-pub mod ListingView
+pub mod InternalListingView
 pub mod PackagesView
 pub mod Candidates
 pub mod CandidatesView
@@ -11,8 +11,9 @@ pub mod LeastRuns
 pub mod ContextMembers
 pub mod Calls
 pub mod CoveredSets
-pub mod LeastPlaces
+pub mod InternalLeastPlaces
 pub mod CallPlan
 pub mod Powersets
 pub mod Samples
-pub mod FaultConversions
+pub mod InternalFaultConversions
+pub mod Internal

@@ -9,7 +9,8 @@ ghost use Rattle.hack_metadata.specs.RecordViews.{place_at};
 ghost use Rattle.hack_load.specs.ContextView.{context_view};
 ghost use Rattle.hack_base.specs.Notes.{note_of};
 ghost use Rattle.hack_plan.specs.View.{plan_package_view};
-ghost use Rattle.hack_planner.specs.Calls.{IsPlanned, ArePlanned, SaysNoSample, HasRunsFault};
+ghost use Rattle.hack_planner.specs.Calls.{IsPlanned, ArePlanned};
+ghost use Rattle.hack_planner.specs.Internal.{SaysNoSample, HasRunsFault};
 
 use crate::determine::determine_kind;
 use crate::fault::PlanFault;

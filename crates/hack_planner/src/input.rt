@@ -4,9 +4,10 @@ ghost use Rattle.std.specs.Prelude.{◌≡◌, ◌⊎◌, ◌↔◌, All, Contai
 ghost use Rattle.hack_metadata.specs.RecordViews.{place_at};
 ghost use Rattle.hack_load.specs.ContextView.{context_view};
 ghost use Rattle.hack_load.specs.Contexts.{rust_version_at};
-ghost use Rattle.hack_uses.specs.declared.behavior.WorkspaceBehavior.TheVariants.{Cargo};
+ghost use Rattle.hack_rules.specs.declared.uses.behavior.WorkspaceBehavior.TheVariants.{Cargo};
 ghost use Rattle.hack_planner.specs.Calls.{IsOwn, IsBadOwn, IsMember, AreMembers, IsInputOf};
-ghost use Rattle.hack_planner.specs.Calls.{HasBadOwn, IsOwnFault};
+ghost use Rattle.hack_planner.specs.Calls.{HasBadOwn};
+ghost use Rattle.hack_planner.specs.Internal.{IsOwnFault};
 
 use crate::fault::{PlanFault, of_version};
 use hack_load::context::Context;

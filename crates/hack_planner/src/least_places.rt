@@ -10,7 +10,7 @@ ghost use Rattle.hack_metadata.specs.RecordViews.{place_at};
 ghost use Rattle.hack_planner.specs.ContextMembers.{AreChosen};
 ghost use Rattle.hack_plan.specs.Inputs.{AreVersions};
 ghost use Rattle.hack_planner.specs.Calls.{IsInputOf};
-ghost use Rattle.hack_planner.specs.LeastPlaces.{HasAtLeast, HaveAtLeast};
+ghost use Rattle.hack_planner.specs.InternalLeastPlaces.{HasAtLeast, HaveAtLeast};
 ghost use Rattle.hack_planner.specs.CallPlan.{IsCause};
 
 use crate::determine::least_count;

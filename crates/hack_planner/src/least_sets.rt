@@ -8,7 +8,7 @@ ghost use Rattle.std.specs.Prelude.{IfOk, IsTrue, replicate};
 ghost use Rattle.hack_samples.specs.Sets.{has, IsInside};
 ghost use Rattle.hack_features.specs.Samples.{positions_of, IsSame};
 ghost use Rattle.hack_features.specs.View.{choice_of, size_of, may_of, whole_of};
-ghost use Rattle.hack_planner.specs.LeastRuns.{ListsAtLeast};
+ghost use Rattle.hack_planner.specs.Internal.{ListsAtLeast};
 
 use hack_features::{Questions, Rules};
 use hack_samples::Allowed;

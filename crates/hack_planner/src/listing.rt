@@ -9,7 +9,7 @@ ghost use Rattle.hack_planner.specs.Members.{MatchesSome, AllMatch, SelectsMembe
 ghost use Rattle.hack_planner.specs.Members.{is_called as has_called, warning_note, info_note};
 ghost use Rattle.hack_planner.specs.Members.{first_called as first_of};
 ghost use Rattle.hack_planner.specs.MembersView.{member_view};
-ghost use Rattle.hack_planner.specs.ListingView.{IsMatchedAs, IsNamedFault, kept_place};
+ghost use Rattle.hack_planner.specs.InternalListingView.{IsMatchedAs, IsNamedFault, kept_place};
 
 use crate::fault::PackagesFault;
 use crate::member::{Member, is_called, is_matched, matches_some};

@@ -7,14 +7,15 @@ ghost use Rattle.hack_load.specs.ContextView.{context_view};
 ghost use Rattle.hack_planner.specs.ContextMembers.{AreChosen, IsChoiceFault};
 ghost use Rattle.hack_base.specs.Notes.{note_of};
 ghost use Rattle.hack_versions.specs.RangeSteps.{NeedsStable};
-ghost use Rattle.hack_uses.specs.declared.behavior.WorkspaceBehavior.TheVariants.{Cargo};
+ghost use Rattle.hack_rules.specs.declared.uses.behavior.WorkspaceBehavior.TheVariants.{Cargo};
 ghost use Rattle.hack_plan.specs.Inputs.{AreVersions, AreNotices, IsVersionsFault};
 ghost use Rattle.hack_plan.specs.View.{call_view};
 ghost use Rattle.hack_planner.specs.Calls.{IsInputOf, HasBadOwn, call_of};
 ghost use Rattle.hack_planner.specs.CoveredSets.{AreCovered};
 ghost use Rattle.hack_planner.specs.CallPlan.{IsPlan, IsCause, IsPlanOf, IsCauseOf};
-ghost use Rattle.hack_planner.specs.CallPlan.{SaysPackagesUnknown};
-ghost use Rattle.hack_planner.specs.CallPlan.{SaysRangeRefused, IsSureCause, IsSureCauseOf};
+ghost use Rattle.hack_planner.specs.Internal.{SaysPackagesUnknown};
+ghost use Rattle.hack_planner.specs.CallPlan.{IsSureCause, IsSureCauseOf};
+ghost use Rattle.hack_planner.specs.Internal.{SaysRangeRefused};
 ghost use Rattle.hack_planner.specs.Powersets.{HavePowersets};
 ghost use Rattle.hack_planner.specs.Samples.{HaveSamples, ArePatternsHeld};
 

@@ -16,7 +16,8 @@ use Rattle.hack_powerset_list.specs.Faults.{is_memory_kind, told_as}
 use Rattle.hack_powerset_list.specs.Words.{Asks}
 use Rattle.hack_powerset_list.specs.Input.{IsMapText, keys_of}
 use Rattle.hack_powerset_list.specs.Lines.{run_lines}
-use Rattle.hack_powerset_list.specs.ListRuns.{chosen_from, options_from, AreListRuns}
+use Rattle.hack_powerset_list.specs.ListRuns.{options_from}
+use Rattle.hack_powerset_list.specs.Internal.{chosen_from, AreListRuns}
 use Rattle.hack_powerset_list.specs.CommandList.{choice_for, options_for, IsCommandList, IsInput, IsListFor, WritesFront, RefusesList}
 
 -- if no group is lifted, all groups stay

@@ -14,7 +14,8 @@ use Rattle.hack_features.proofs.RuleLemmas.{tables_of, listing_of}
 use Rattle.hack_features.proofs.Walked.{walk_listing}
 use Rattle.hack_plan.specs.Runs.{runs_from}
 use Rattle.hack_powerset_list.specs.declared.wishes.Wishes.{Wishes}
-use Rattle.hack_powerset_list.specs.ListRuns.{AreListRuns, chosen_from, options_from}
+use Rattle.hack_powerset_list.specs.ListRuns.{options_from}
+use Rattle.hack_powerset_list.specs.Internal.{AreListRuns, chosen_from}
 use Rattle.hack_powerset_list.specs.Walks.{listed_in}
 
 pub walk_sets : (r : Rules) → IsListing (size_of r) (λ s. (may_of r s ≡ true) × (is_whole (whole_of r) s ≡ true)) (listed_in r)

@@ -8,7 +8,8 @@ ghost use Rattle.hack_features.specs.Feature.{name_of};
 ghost use Rattle.hack_process.specs.CommandTexts.{listed_of};
 ghost use Rattle.hack_process.specs.Commands.{command_of};
 ghost use Rattle.hack_base.specs.Writes.{AppendsFront};
-ghost use Rattle.hack_powerset_list.specs.LineWords.{bare_command, PrintsText, TurnsPage};
+ghost use Rattle.hack_powerset_list.specs.LineWords.{PrintsText};
+ghost use Rattle.hack_powerset_list.specs.Internal.{bare_command, TurnsPage};
 ghost use Rattle.hack_powerset_list.specs.Streams.{CountsUnlessMemory};
 
 use hack_base::writes::{Sink, write_front};

@@ -6,7 +6,7 @@ ghost use Rattle.hack_features.specs.Feature.{candidates_of, groups_of};
 ghost use Rattle.hack_features.specs.FeatureMap.{feature_map};
 ghost use Rattle.hack_features.specs.View.{choice_of, size_of};
 ghost use Rattle.hack_powerset_list.specs.CommandList.{WritesList, RefusesList};
-ghost use Rattle.hack_powerset_list.specs.ListRuns.{chosen_from};
+ghost use Rattle.hack_powerset_list.specs.Internal.{chosen_from};
 ghost use Rattle.hack_powerset_list.specs.Streams.{IsCounted};
 
 use crate::fault::ListFault;

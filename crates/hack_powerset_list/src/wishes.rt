@@ -7,7 +7,7 @@ ghost use Rattle.hack_features.specs.Feature.{groups_of as names_in_groups};
 ghost use Rattle.hack_powerset_list.specs.Words.{none_written, with_value, with_words, Asks};
 ghost use Rattle.hack_powerset_list.specs.Words.{RefusesWords, IsDepth, IsNoDepth, AreGroups};
 ghost use Rattle.hack_powerset_list.specs.Words.{LacksSeparator};
-ghost use Rattle.hack_powerset_list.specs.WishesView.{shown_text, written_in};
+ghost use Rattle.hack_powerset_list.specs.InternalWishesView.{shown_text, written_in};
 
 use crate::fault::ListFault;
 use hack_features::Feature;

@@ -2,9 +2,9 @@
 use Rattle.std.proofs.Common.{inl, inr, List}
 use Rattle.hack_files.specs.Files.{Contents}
 use Rattle.hack_files.specs.declared.restore.Manager.{Manager}
-use Rattle.hack_prepare.specs.Paths.{IsAlonePath, IsTouched, Only, OnlyIf}
+use Rattle.hack_prepare.specs.Paths.{IsTouched}
+use Rattle.hack_prepare.specs.Internal.{IsAlonePath, Only, OnlyIf, AnyStart, IsStep}
 use Rattle.hack_prepare.specs.Prepared.{HoldTexts, MemberManifest, Wanted, edits_root}
-use Rattle.hack_prepare.specs.EditSteps.{AnyStart, IsStep}
 use Rattle.hack_prepare.proofs.FaultLemmas.{alone-edited, root-edited}
 use Rattle.hack_prepare.proofs.StepLemmas.{step_given, step_then}
 

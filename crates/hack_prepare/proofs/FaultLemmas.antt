@@ -10,12 +10,12 @@ use Rattle.hack_files.specs.Faults.{HoldsNoText, IsOfRead, IsOfText, IsOfWrite}
 use Rattle.hack_files.specs.Files.{Contents, KeepsOthers}
 use Rattle.hack_files.specs.declared.fs.FsFault.{FsFault}
 use Rattle.hack_files.specs.declared.fs.FsFault.TheVariants as fs
-use Rattle.hack_prepare.specs.Faults.{AtFileWrite, AtWrite, IsDevFault, IsEditsFault, IsPathFaultOr, IsPathFault, IsHeldFault, IsMembersFault, IsOfFile, IsRootFault, IsRootTextFault, IsUnmade, NoFault}
-use Rattle.hack_prepare.specs.Paths.{IsAlonePath, IsEdited, IsLookedAt, IsReadRoot, IsTextless, Nowhere, Only, OnlyIf}
+use Rattle.hack_prepare.specs.Faults.{AtFileWrite, AtWrite, IsDevFault, IsEditsFault, IsPathFaultOr, IsPathFault, IsMembersFault, IsRootFault, IsRootTextFault, IsUnmade}
+use Rattle.hack_prepare.specs.Internal.{IsHeldFault, IsOfFile, NoFault, IsAlonePath, Nowhere, Only, OnlyIf, ArePartlyTurned, AreTurned, KeepsApart, KeepsBut}
+use Rattle.hack_prepare.specs.Paths.{IsEdited, IsLookedAt, IsReadRoot, IsTextless}
 use Rattle.hack_prepare.specs.Prepared.{HoldTexts, IsPartlyPrepared, MemberManifest, Wanted, edits_root, is_removed, gone_manifests, has_some, is_alone, is_alone_at, is_root}
 use Rattle.hack_load.specs.Contexts.{ContextRecord}
 use Rattle.hack_prepare.specs.PreparedView.{IsPrepareFault, edits_in, member_manifests_in, wanted_in}
-use Rattle.hack_prepare.specs.EditSteps.{ArePartlyTurned, AreTurned, KeepsApart, KeepsBut}
 use Rattle.hack_prepare.proofs.MemberLemmas.{alone-path, partly-fails}
 use Rattle.hack_prepare.proofs.RootLemmas.{drops-found, drops-missed, edits-is, root-apart, root-found, partly-root, root-missed, root-read, text-found, text-missed, text_in}
 use Rattle.hack_prepare.specs.declared.fault.PrepareFault.TheVariants.{Memory, PrivateRoot, Files, Toml, InlineTarget, WorkspaceForm, PathText, ReadBack}

@@ -12,13 +12,12 @@ use Rattle.std.proofs.lemmas.Slice.Eq.{bytes_eq-Decides}
 use Rattle.hack_base.specs.Names.{Name}
 use Rattle.hack_base.proofs.Steps.{filter_map-found, seen-next}
 use Rattle.hack_metadata.specs.RecordViews.{place_at}
-use Rattle.hack_metadata.specs.declared.resolve.PackageId.{PackageId}
+use Rattle.hack_metadata.specs.declared.metadata.resolve.PackageId.{PackageId}
 use Rattle.hack_edits.specs.DevDeps.{IsWithoutDev}
 use Rattle.hack_files.specs.Files.{Contents, GrowsBy, KeepsOthers}
 use Rattle.hack_base.specs.Notes.{Note}
-use Rattle.hack_prepare.specs.Paths.{IsAlonePath, Only}
+use Rattle.hack_prepare.specs.Internal.{IsAlonePath, Only, ArePartlyTurned, AreTurned, HoldsText, IsStep, IsTurned, IsTurnedOrNot, KeepsApart}
 use Rattle.hack_prepare.specs.Prepared.{HasPrivateRoot, HoldTexts, MemberManifest, Wanted, is_removed, gone_manifests, drops_at_root, is_alone, is_alone_at, is_left, is_root}
-use Rattle.hack_prepare.specs.EditSteps.{ArePartlyTurned, AreTurned, HoldsText, IsStep, IsTurned, IsTurnedOrNot, KeepsApart}
 use Rattle.hack_files.specs.declared.restore.Manager.{Manager}
 use Rattle.hack_prepare.proofs.CountLemmas.{none_failed, none_then}
 use Rattle.hack_prepare.proofs.StepLemmas.{step_given, step_none, step_then}

@@ -9,9 +9,9 @@ use Rattle.hack_base.specs.Names.{Name}
 use Rattle.hack_files.specs.Files.{Contents, GrowsBy, KeepsAll, KeepsOthers}
 use Rattle.hack_edits.specs.DevDeps.{IsWithoutDev}
 use Rattle.hack_base.specs.Names.{names_behind}
-use Rattle.hack_prepare.specs.Paths.{Only}
+use Rattle.hack_prepare.specs.Internal.{Only, ArePartlyTurned, AreTurned, IsTurnedOrNot, KeepsApart, KeepsBut, MakesRoot, MakesRootOrNot}
 use Rattle.hack_prepare.specs.Prepared.{HoldTexts, IsPartlyPrepared, IsPrepared, IsRootEdit, KeepsUnedited, MemberManifest, TurnsOrStays, Wanted, drops_at_root, edits_root, gone_manifests, has_root, has_some, is_alone, is_alone_at, is_root}
-use Rattle.hack_prepare.specs.EditSteps.{ArePartlyTurned, AreTurned, IsRootText, IsTurnedOrNot, KeepsApart, KeepsBut, MakesRoot, MakesRootOrNot}
+use Rattle.hack_prepare.specs.EditSteps.{IsRootText}
 use Rattle.hack_prepare.specs.EditNotes.{edit_notes, root_notes}
 use Rattle.hack_prepare.proofs.CountLemmas.{none_then}
 use Rattle.hack_prepare.proofs.MemberLemmas.{or_left, or_right}

@@ -10,8 +10,8 @@ use Rattle.hack_files.specs.Files.{Contents, KeepsAll, KeepsOthers}
 use Rattle.hack_files.specs.Restore.{AreSafe, Kept, is_kept, kept_too, registered_files}
 use Rattle.hack_files.specs.declared.restore.Manager.{Manager}
 use Rattle.hack_files.proofs.SafeLemmas.{kept_now, safe_kept, safe_same, safe_written}
-use Rattle.hack_prepare.specs.Paths.{Only}
-use Rattle.hack_prepare.specs.EditSteps.{AddsKeptFiles, AnyStart, HeldUnkept, IsStep, KeepsHeld, none, one}
+use Rattle.hack_prepare.specs.Internal.{Only, AnyStart, HeldUnkept, IsStep}
+use Rattle.hack_prepare.specs.EditSteps.{AddsKeptFiles, KeepsHeld, none, one}
 
 -- no more is kept, and each path that isn't holds what it held at the start
 pub keeps_none : (old new : List Kept) (start now : Contents) → new ≡ old → ((q : Name) → is_kept old q ≡ false → now q ≡ start q) → KeepsHeld old new start now

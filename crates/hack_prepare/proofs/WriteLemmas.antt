@@ -11,8 +11,8 @@ use Rattle.hack_edits.specs.DevDeps.{IsWithoutDev}
 use Rattle.hack_edits.specs.Members.{in_order}
 use Rattle.hack_edits.specs.PrivateCrates.{IsWithoutPrivate}
 use Rattle.hack_prepare.specs.Prepared.{IsRootEdit, MemberManifest, Wanted, drops_at_root, edits_root, gone_manifests, has_some, is_alone, is_left, is_root}
-use Rattle.hack_prepare.specs.EditSteps.{KeepsApart}
-use Rattle.hack_prepare.specs.Writes.{AreDevWrites, AreRootWrites, AreWrites, BeginDevWrites, BeginWrites, IsAtMostOne, IsDevWrite, IsOne, IsOneIf, IsRootWrite, MakesSome, MayWriteRoot, ReadsRoot, WritesRoot}
+use Rattle.hack_prepare.specs.Internal.{KeepsApart, IsAtMostOne, MayWriteRoot}
+use Rattle.hack_prepare.specs.Writes.{AreDevWrites, AreRootWrites, AreWrites, BeginDevWrites, BeginWrites, IsDevWrite, IsOne, IsOneIf, IsRootWrite, MakesSome, ReadsRoot, WritesRoot}
 use Rattle.hack_prepare.proofs.RootLemmas.{alone-free, drops-found, drops-missed, edits-is, root-found, root-missed, text_in}
 
 pub made-ok : {T E : Type 0} (whole : Type 0) (A B : Type 0) (r : Result T E) → (A → B) → OnOk r (whole → A) → OnOk r (whole → B)

@@ -1,5 +1,5 @@
 -- Why manifests aren't edited.
-use Rattle.std.specs.Prelude.{◌≡◌, ◌⊎◌, Bool, true, false, MatchBool, Some, None, List, Contains, string_bytes}
+use Rattle.std.specs.Prelude.{◌≡◌, ◌⊎◌, Bool, true, MatchBool, None, List, Contains, string_bytes}
 use Rattle.toml.specs.Parse.{parse_document}
 use Rattle.hack_base.specs.Names.{Name}
 use Rattle.hack_files.specs.declared.fs.FsFault.{FsFault}
@@ -8,24 +8,11 @@ use Rattle.hack_files.specs.Files.{Contents}
 use Rattle.hack_edits.specs.DevDeps.{HasInlineTarget, IsMisread, IsWithoutDev}
 use Rattle.hack_edits.specs.Members.{in_order}
 use Rattle.hack_edits.specs.PrivateCrates.{HasBadForm, HasWork, some_path_control}
-use Rattle.hack_edits.specs.declared.fault.ManifestFault.{ManifestFault}
-use Rattle.hack_edits.specs.declared.fault.ManifestFault.TheVariants as edit
 use Rattle.hack_prepare.specs.Paths.{IsEdited, IsLookedAt, IsReadRoot, IsTextless}
-use Rattle.hack_prepare.specs.Prepared.{HasPrivateRoot, MemberManifest, Wanted, drops_at_root, edits_root, gone_manifests, has_some, is_alone}
+use Rattle.hack_prepare.specs.Prepared.{HasPrivateRoot, MemberManifest, Wanted, drops_at_root, edits_root, gone_manifests, is_alone}
 use Rattle.hack_prepare.specs.EditSteps.{IsRootText}
 use Rattle.hack_prepare.specs.declared.fault.PrepareFault.{PrepareFault}
 use Rattle.hack_prepare.specs.declared.fault.PrepareFault.TheVariants.{Memory, PrivateRoot, Files, Toml, InlineTarget, WorkspaceForm, PathText, ReadBack}
-
--- an error of the manifest at this path; or memory ran out
-abbrev pub IsEditFault : Name → ManifestFault → PrepareFault → Type 0
-IsEditFault path fault Memory = Unit {0}
-IsEditFault path fault PrivateRoot = ⊥
-IsEditFault path fault (Files e) = ⊥
-IsEditFault path fault (Toml p) = (string_bytes p ≡ path) × (fault ≡ edit.Toml)
-IsEditFault path fault (InlineTarget p) = (string_bytes p ≡ path) × (fault ≡ edit.InlineTarget)
-IsEditFault path fault (WorkspaceForm p) = (string_bytes p ≡ path) × (fault ≡ edit.WorkspaceForm)
-IsEditFault path fault (PathText p) = (string_bytes p ≡ path) × (fault ≡ edit.PathText)
-IsEditFault path fault (ReadBack p) = (string_bytes p ≡ path) × (fault ≡ edit.ReadBack)
 
 -- why development dependencies can't be removed from this manifest's text; or memory ran out
 abbrev pub IsDevFault : Name → Name → PrepareFault → Type 0
@@ -48,13 +35,6 @@ IsPrivateFault path folder ps text (InlineTarget p) = ⊥
 IsPrivateFault path folder ps text (WorkspaceForm p) = (string_bytes p ≡ path) × HasBadForm folder ps text
 IsPrivateFault path folder ps text (PathText p) = (string_bytes p ≡ path) × HasWork folder ps text × (some_path_control ps ≡ true)
 IsPrivateFault path folder ps text (ReadBack p) = (string_bytes p ≡ path) × HasWork folder ps text
-
--- an error of a file
-abbrev pub IsOfFile : FsFault → PrepareFault → Type 0
-IsOfFile fs.Memory e = e ≡ Memory
-IsOfFile (fs.Read path) e = e ≡ Files (fs.Read path)
-IsOfFile (fs.Write path) e = e ≡ Files (fs.Write path)
-IsOfFile (fs.NotText path) e = e ≡ Files (fs.NotText path)
 
 -- ---- why nothing more is edited
 
@@ -86,10 +66,6 @@ AtWrite P (ReadBack p) = Unit {0}
 abbrev pub IsPathFaultOr : (Name → Type 0) → (Name → Type 0) → (Name → Type 0) → (PrepareFault → Type 0) → PrepareFault → Type 0
 IsPathFaultOr reads writes textless P e = (e ≡ Memory) ⊎ (((f : FsFault) × (e ≡ Files f) × IsPathFault reads writes textless f) ⊎ P e)
 
--- no error
-abbrev pub NoFault : PrepareFault → Type 0
-NoFault e = ⊥
-
 -- a member's manifest that is to be edited by itself can't be
 pub record IsMemberEditFault (w : Wanted) (ms : List MemberManifest) (e : PrepareFault) : Type 0 where
   pub member : MemberManifest
@@ -106,10 +82,6 @@ abbrev pub IsRootTextFault : Wanted → Bool → List Name → Name → PrepareF
 IsRootTextFault w drops_dev private text e =
     ((drops_dev ≡ true) × IsDevFault w.root text e)
     ⊎ ((between : Name) × MatchBool drops_dev (IsWithoutDev text between) (between ≡ text) × IsPrivateFault w.root w.folder (in_order private) between e)
-
--- members can't be removed from the text that is held
-abbrev pub IsHeldFault : Wanted → List Name → Type 0 → Contents → PrepareFault → Type 0
-IsHeldFault w private tells held e = (has_some private ≡ true) × (text : Name) × (tells → held w.root ≡ Some text) × IsRootTextFault w false private text e
 
 -- the same for the text that a member has read, or that is held
 pub record IsRootFault (w : Wanted) (ms : List MemberManifest) (tells : Type 0) (held : Contents) (e : PrepareFault) : Type 0 where

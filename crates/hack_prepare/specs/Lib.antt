@@ -6,3 +6,4 @@ pub mod PreparedView
 pub mod EditSteps
 pub mod EditNotes
 pub mod Writes
+pub mod Internal

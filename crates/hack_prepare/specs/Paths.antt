@@ -1,26 +1,9 @@
 -- Paths that are read, written and kept.
-use Rattle.std.specs.Prelude.{◌≡◌, ◌⊎◌, Bool, true, false, List}
-use Rattle.std.specs.List.{list_any}
+use Rattle.std.specs.Prelude.{◌≡◌, ◌⊎◌, true, false, List}
 use Rattle.hack_base.specs.Names.{Name}
 use Rattle.hack_files.specs.Faults.{HoldsNoText}
 use Rattle.hack_files.specs.Files.{Contents}
-use Rattle.hack_prepare.specs.Prepared.{MemberManifest, Wanted, edits_root, has_root, is_alone_at, is_edited}
-
--- no path
-abbrev pub Nowhere : Name → Type 0
-Nowhere p = ⊥
-
--- this path
-abbrev pub Only : Name → Name → Type 0
-Only path p = p ≡ path
-
--- this path, if it is asked for
-abbrev pub OnlyIf : Bool → Name → Name → Type 0
-OnlyIf asked path p = (asked ≡ true) × (p ≡ path)
-
--- some member's manifest that is edited by itself is at this path
-abbrev pub IsAlonePath : Wanted → List MemberManifest → Name → Type 0
-IsAlonePath w ms p = list_any (is_alone_at w p) ms ≡ true
+use Rattle.hack_prepare.specs.Prepared.{MemberManifest, Wanted, edits_root, has_root, is_edited}
 
 -- a path that is edited
 abbrev pub IsEdited : Wanted → List MemberManifest → Name → Type 0

@@ -1,5 +1,5 @@
 -- The edits that a call asks for in manifests, from what is loaded for it.
-use Rattle.std.specs.Prelude.{◌≡◌, ◌⊎◌, ◌||◌, ℕ, Bool, true, List, Option, codes, map, option_and_then, option_map, string_bytes}
+use Rattle.std.specs.Prelude.{◌≡◌, ◌⊎◌, ◌||◌, ℕ, Bool, true, List, Option, codes, option_and_then, option_map, string_bytes}
 use Rattle.std.specs.List.{filter_map}
 use Rattle.hack_base.specs.PathTexts.{join_of}
 use Rattle.hack_load.specs.Contexts.{ContextRecord, is_private_at, manifest_at, package_at}
@@ -19,10 +19,6 @@ use Rattle.hack_prepare.specs.declared.wanted.Wanted.{Wanted as TheWanted}
 -- a member as clauses see it
 abbrev pub member_manifest_view : TheMember → MemberManifest
 member_manifest_view m = record { path = m.path.now; text = m.text.now; is_private = m.is_private }
-
--- members in their order
-abbrev pub members_view : List TheMember → List MemberManifest
-members_view ms = map member_manifest_view ms
 
 -- the edits that are asked for, as clauses see them
 abbrev pub wanted_view : TheWanted → Wanted

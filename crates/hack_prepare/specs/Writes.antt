@@ -18,10 +18,6 @@ IsOne P made = (c : Change) × P c × (made ≡ c ∷ [])
 abbrev pub IsOneIf : Bool → (Change → Type 0) → List Change → Type 0
 IsOneIf asked P made = MatchBool asked (IsOne P made) (made ≡ [])
 
--- none, or just one, and it is such a one
-abbrev pub IsAtMostOne : (Change → Type 0) → List Change → Type 0
-IsAtMostOne P made = (made ≡ []) ⊎ IsOne P made
-
 -- the write of a member's text without development dependencies
 pub record IsDevWrite (m : MemberManifest) (c : Change) : Type 0 where
   pub turned : Name
@@ -55,10 +51,6 @@ WritesRoot tells w ms held = IsRootWrite w (drops_at_root w ms) (gone_manifests 
 -- its one write where it is edited, and none where not
 abbrev pub AreRootWrites : Type 0 → Wanted → List MemberManifest → Contents → List Change → Type 0
 AreRootWrites tells w ms held = IsOneIf (edits_root w ms) (WritesRoot tells w ms held)
-
--- the same, or none
-abbrev pub MayWriteRoot : Type 0 → Wanted → List MemberManifest → Contents → List Change → Type 0
-MayWriteRoot tells w ms held made = (made ≡ []) ⊎ AreRootWrites tells w ms held made
 
 -- just one write for each manifest that is edited: those of members by themselves, in order, and then that in the folder of
 -- the workspace

@@ -1,7 +1,7 @@
 //! Why manifests couldn't be edited.
 
 ghost use Rattle.std.specs.Prelude.{◌≡◌};
-ghost use Rattle.hack_prepare.specs.Faults.{IsEditFault, IsOfFile};
+ghost use Rattle.hack_prepare.specs.Internal.{IsEditFault, IsOfFile};
 
 use hack_edits::manifest::ManifestFault;
 use hack_files::fs::FsFault;

@@ -4,9 +4,10 @@ ghost use Rattle.std.specs.Prelude.{◌≡◌, [], OnOk, IfErr, IfSome, true};
 ghost use Rattle.hack_files.specs.Files.{KeepsAll, Makes};
 ghost use Rattle.hack_files.specs.Restore.{is_kept, registered_files};
 ghost use Rattle.hack_prepare.specs.FailureCounts.{CountsCalls};
-ghost use Rattle.hack_prepare.specs.Faults.{IsPathFaultOr, NoFault};
-ghost use Rattle.hack_prepare.specs.Paths.{Nowhere, Only};
-ghost use Rattle.hack_prepare.specs.EditSteps.{AnyStart, IsStep};
+ghost use Rattle.hack_prepare.specs.Faults.{IsPathFaultOr};
+ghost use Rattle.hack_prepare.specs.Internal.{NoFault};
+ghost use Rattle.hack_prepare.specs.Internal.{Nowhere, Only};
+ghost use Rattle.hack_prepare.specs.Internal.{AnyStart, IsStep};
 
 use crate::fault::{PrepareFault, of_file};
 use hack_files::fs::{Files, exists, read};

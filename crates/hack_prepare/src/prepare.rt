@@ -17,9 +17,11 @@ ghost use Rattle.hack_prepare.specs.PreparedView.{HasPrivateRootIn, HoldTextsIn}
 ghost use Rattle.hack_prepare.specs.PreparedView.{IsPartlyPreparedIn, IsPrepareFault};
 ghost use Rattle.hack_prepare.specs.PreparedView.{IsPreparedIn, IsTouchedIn, KeepsUneditedIn};
 ghost use Rattle.hack_prepare.specs.PreparedView.{AreWritesIn, BeginWritesIn};
-ghost use Rattle.hack_prepare.specs.PreparedView.{edits_in, members_view, notes_in};
+ghost use Rattle.hack_prepare.specs.PreparedView.{edits_in, notes_in};
+ghost use Rattle.hack_prepare.specs.Internal.{members_view};
 ghost use Rattle.hack_prepare.specs.PreparedView.{wanted_in, wanted_view};
-ghost use Rattle.hack_prepare.specs.EditSteps.{Grows, IsStep, KeepsHeld, KeepsOnly};
+ghost use Rattle.hack_prepare.specs.EditSteps.{Grows, KeepsHeld, KeepsOnly};
+ghost use Rattle.hack_prepare.specs.Internal.{IsStep};
 ghost use Rattle.hack_prepare.specs.EditNotes.{notes};
 ghost use Rattle.hack_prepare.specs.Writes.{AreWrites, BeginWrites, MakesSome};
 

@@ -3,9 +3,10 @@
 ghost use Rattle.std.specs.Prelude.{◌≡◌, ◌⊎◌, ◌∷◌, [], IfErr, OnOk, OnErr, Some};
 ghost use Rattle.hack_files.specs.Files.{GrowsBy, KeepsOthers, Makes, MakesOrNot, puts};
 ghost use Rattle.hack_prepare.specs.FailureCounts.{CountsCalls};
-ghost use Rattle.hack_prepare.specs.Faults.{IsPathFaultOr, NoFault};
-ghost use Rattle.hack_prepare.specs.Paths.{Nowhere, Only};
-ghost use Rattle.hack_prepare.specs.EditSteps.{HeldUnkept, IsStep};
+ghost use Rattle.hack_prepare.specs.Faults.{IsPathFaultOr};
+ghost use Rattle.hack_prepare.specs.Internal.{NoFault};
+ghost use Rattle.hack_prepare.specs.Internal.{Nowhere, Only};
+ghost use Rattle.hack_prepare.specs.Internal.{HeldUnkept, IsStep};
 
 use crate::fault::{PrepareFault, of_file};
 use hack_files::fs::{Files, write};

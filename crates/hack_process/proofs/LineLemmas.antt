@@ -4,7 +4,8 @@ use Rattle.std.specs.List.{starts_with}
 use Rattle.std.specs.Str.Pattern.{FindsTextPrefix, StripsPrefix}
 use Rattle.std.proofs.lemmas.List.{at_drop_more, at_drop_all}
 use Rattle.std.proofs.lemmas.Str.Pattern.{starts_text}
-use Rattle.hack_process.specs.CargoTexts.{behind_prefix, first_behind}
+use Rattle.hack_process.specs.CargoTexts.{first_behind}
+use Rattle.hack_process.specs.Internal.{behind_prefix}
 
 chosen : (b : Bool) (x : List ℕ) → b ≡ true → cond b (Some x) None ≡ Some x
 chosen b x e = rw e refl

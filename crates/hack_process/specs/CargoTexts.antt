@@ -4,10 +4,6 @@ use Rattle.std.specs.List.{starts_with}
 use Rattle.std.specs.Str.Lines.{lines}
 use Rattle.hack_base.specs.Cuts.{front_of}
 
--- what follows a name at the beginning of a line
-abbrev pub behind_prefix : List ℕ → List ℕ → Option (List ℕ)
-behind_prefix name line = if starts_with nat_eq line name then Some (drop (length name) line) else None
-
 -- what follows a name in the first of these lines that begins with it
 abbrev pub first_behind : List ℕ → List (List ℕ) → Option (List ℕ)
 first_behind name [] = None

@@ -13,11 +13,6 @@ pub record Command : Type 0 where
   pub features : Option (List ℕ)
   pub trailing : List (List ℕ)
 
--- features with one more name
-abbrev pub with_name : Option (List ℕ) → List ℕ → List ℕ
-with_name None name = name
-with_name (Some list) name = list ++ codes "," ++ name
-
 -- features with more names, all joined by `,`
 abbrev pub with_names : Option (List ℕ) → List (List ℕ) → Option (List ℕ)
 with_names list [] = list

@@ -2,7 +2,8 @@ pub mod Calls
 pub mod CargoTexts
 pub mod CommandTexts
 pub mod Commands
-pub mod Ends
+pub mod InternalEnds
 pub mod Fake
 pub mod Faults
 pub mod OwnWords
+pub mod Internal

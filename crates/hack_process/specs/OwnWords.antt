@@ -1,5 +1,5 @@
 -- A builder's own arguments, one by one.
-use Rattle.std.specs.Prelude.{ℕ, Bool, true, false, ◌&&◌, not, List, [], ◌∷◌, codes, if◌then◌else◌}
+use Rattle.std.specs.Prelude.{ℕ, Bool, true, false, ◌&&◌, not, List, [], if◌then◌else◌}
 use Rattle.hack_process.specs.CommandTexts.{spaced_word, each_spaced, is_manifest_path, shown_path}
 
 -- an argument is `--manifest-path` itself, and not the value of one before it
@@ -10,7 +10,3 @@ awaits_path is_path word = not is_path && is_manifest_path word
 abbrev pub shown_own : Bool → Bool → List ℕ → List ℕ → List ℕ
 shown_own true full dir word = each_spaced (shown_path full dir word)
 shown_own false full dir word = if is_manifest_path word then [] else spaced_word word
-
--- `--manifest-path`, where its value is still to come
-abbrev pub pending_option : Bool → List (List ℕ)
-pending_option awaits = if awaits then codes "--manifest-path" ∷ [] else []

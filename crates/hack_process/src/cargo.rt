@@ -4,7 +4,8 @@ ghost use Rattle.std.specs.Prelude.{◌≡◌, ◌⊎◌, IfOk, IfErr, option_co
 ghost use Rattle.std.specs.Str.Lines.{lines};
 ghost use Rattle.hack_base.specs.Cuts.{front_of};
 ghost use Rattle.hack_versions.specs.ToolTexts.{TellsRelease, IsAnswerFault};
-ghost use Rattle.hack_process.specs.CargoTexts.{behind_prefix, first_behind, host_of, release_part};
+ghost use Rattle.hack_process.specs.CargoTexts.{first_behind, host_of, release_part};
+ghost use Rattle.hack_process.specs.Internal.{behind_prefix};
 
 use hack_versions::rustup::{VersionTextFault, told_release};
 use hack_versions::version::Version;

@@ -4,7 +4,7 @@ ghost use Rattle.std.specs.Prelude.{◌≡◌, [], IfOk, false};
 ghost use Rattle.std.specs.Process.{exit_code, exit_signal};
 ghost use Rattle.hack_process.specs.Calls.{WroteNothing, answer_of};
 ghost use Rattle.hack_base.specs.Names.{names_of};
-ghost use Rattle.hack_process.specs.Ends.{IsEndOf, Orders};
+ghost use Rattle.hack_process.specs.InternalEnds.{IsEndOf, Orders};
 
 use crate::caller::{Called, Caller, End};
 use std::alloc::{AllocError, Global};

@@ -4,7 +4,8 @@ ghost use Rattle.std.specs.Prelude.{◌≡◌, ◌++◌, ◌∷◌, ◌<◌, ◌
 ghost use Rattle.std.specs.Prelude.{slice_index, string_bytes};
 ghost use Rattle.std.specs.Bool.{OnTrue, OnFalse};
 ghost use Rattle.hack_base.specs.Names.{optional_text};
-ghost use Rattle.hack_process.specs.CommandTexts.{with_name, feature_words, marked_words};
+ghost use Rattle.hack_process.specs.CommandTexts.{feature_words, marked_words};
+ghost use Rattle.hack_process.specs.Internal.{with_name};
 ghost use Rattle.hack_process.specs.Faults.{ends_line, without_line_ends};
 
 use std::alloc::{AllocError, Global};

@@ -5,11 +5,11 @@ use Rattle.hack_base.specs.Names.{Name}
 use Rattle.hack_rules.specs.Rules.{Verdict, Accepted, Lists, Refused}
 use Rattle.hack_rules.specs.Verdicts.{verdict_of}
 use Rattle.hack_run.specs.TemporaryEdits.{RestoresEdits}
-use Rattle.hack_uses.proofs.One.{ends-one}
-use Rattle.hack_uses.specs.UseReading.{End, Fails, IsLast, Met, Prints, Reading}
+use Rattle.hack_rules.proofs.One.{ends-one}
+use Rattle.hack_rules.specs.UseReading.{End, Fails, IsLast, Met, Prints, Reading}
 use Rattle.hack_options.specs.declared.opt.Opt.TheVariants as opt
-use Rattle.hack_uses.specs.Uses.{Use, is_given}
-use Rattle.hack_uses.specs.declared.behavior.WorkspaceBehavior.{WorkspaceBehavior}
+use Rattle.hack_rules.specs.Uses.{Use, is_given}
+use Rattle.hack_rules.specs.declared.uses.behavior.WorkspaceBehavior.{WorkspaceBehavior}
 use Rattle.hack_words.specs.ParseAnswers.{around_of}
 use Rattle.hack_words.specs.CommandLine.{Around, ComesFrom, ComesTo, Faulty, IsEnd, Listing, CommandLineOutcome, Parsed}
 use Rattle.hack_words.specs.Start.{Cuts, Refuses, Start, start_of}

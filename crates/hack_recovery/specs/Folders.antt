@@ -1,5 +1,5 @@
 -- Where the workspace of a call is, and its journal.
-use Rattle.std.specs.Prelude.{ℕ, zero, suc, List, [], ◌∷◌, Option, Some, None, codes, is_some, length, option_map, unwrap_or, string_bytes, if◌then◌else◌}
+use Rattle.std.specs.Prelude.{ℕ, zero, suc, List, [], ◌∷◌, Option, Some, None, codes, is_some, length, option_map, unwrap_or, if◌then◌else◌}
 use Rattle.std.specs.Option.{option_or}
 use Rattle.std.specs.Str.{is_utf8}
 use Rattle.toml.specs.Data.{Data, string, Members, get_member}
@@ -8,8 +8,6 @@ use Rattle.hack_base.specs.Names.{Name}
 use Rattle.hack_base.specs.PathTexts.{join_of, normal_of, parent_of}
 use Rattle.hack_files.specs.Files.{Contents}
 use Rattle.hack_manifest.specs.Manifest.{table_at}
-use Rattle.hack_recovery.specs.declared.workspace.Said.{Said}
-use Rattle.hack_recovery.specs.declared.workspace.Said.TheVariants as said
 
 -- ---- what a manifest says
 
@@ -98,12 +96,3 @@ start_at (Some path) dir = parent_of (normal_of (join_of dir path))
 -- the path of the journal in the workspace's folder
 abbrev pub journal_of : Name → Name
 journal_of folder = join_of folder (codes ".cargo-hack-journal")
-
--- ---- as the code has it
-
--- what a folder's manifest says, where it has one
-abbrev pub saying_in : Said → Option Saying
-saying_in said.Absent = None
-saying_in said.Here = Some Here
-saying_in (said.At path) = Some (At (string_bytes path))
-saying_in said.Unsaid = Some Nothing

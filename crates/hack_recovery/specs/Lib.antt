@@ -6,3 +6,4 @@ pub mod LockEvents
 pub mod MemoryLocks
 pub mod Admission
 pub mod CallCourses
+pub mod Internal

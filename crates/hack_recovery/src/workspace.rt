@@ -6,7 +6,8 @@ ghost use Rattle.hack_base.specs.PathTexts.{join_of, normal_of};
 ghost use Rattle.hack_files.specs.Files.{KeepsAll, Makes};
 ghost use Rattle.toml.specs.Data.{get_member};
 ghost use Rattle.toml.specs.View.{table_view};
-ghost use Rattle.hack_recovery.specs.Folders.{field_says, manifest_in, saying_in, start_at};
+ghost use Rattle.hack_recovery.specs.Folders.{field_says, manifest_in, start_at};
+ghost use Rattle.hack_recovery.specs.Internal.{saying_in};
 ghost use Rattle.hack_recovery.specs.Folders.{text_in_bytes, text_says, tree_says, workspace_from};
 ghost use Rattle.hack_recovery.specs.FileLooks.{Finds};
 

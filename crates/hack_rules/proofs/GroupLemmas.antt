@@ -10,7 +10,8 @@ use Rattle.hack_features.specs.declared.feature.Feature.TheVariants.{Normal, Gro
 use Rattle.hack_features.specs.Feature.{IsGroup, IsNormal, group_of}
 use Rattle.hack_base.specs.Names.{names_of}
 use Rattle.hack_base.specs.Lists.{group_names}
-use Rattle.hack_rules.specs.CliGroups.{AreGroupsOf, AreNormalsOf, AreLifts, AreReadAs, lift_in}
+use Rattle.hack_rules.specs.CliGroups.{AreGroupsOf, AreNormalsOf, AreLifts}
+use Rattle.hack_rules.specs.Internal.{AreReadAs, lift_in}
 use Rattle.hack_rules.specs.CliLists.{Lift, first_failing, is_lift, lift_of, same_names}
 
 pub AreGroupsOf-more : (texts : List (List ℕ)) (features : List Feature) (text : List ℕ) (feature : Feature) → AreGroupsOf texts features → IsGroup (group_names text) feature → AreGroupsOf (texts ++ text ∷ []) (features ++ feature ∷ [])

@@ -1,2 +1,4 @@
+pub mod Shrinks
+pub mod One
 pub mod GroupLemmas
 pub mod TargetLemmas

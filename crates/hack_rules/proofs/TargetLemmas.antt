@@ -11,7 +11,8 @@ use Rattle.std.specs.declared.cmp.Ordering.TheVariants.{Less, Equal, Greater}
 use Rattle.std.proofs.lemmas.Map.Text.{is_eq-slice_cmp}
 use Rattle.std.proofs.lemmas.Map.Views.{Contains-from_any, list_any-from_Contains}
 use Rattle.std.proofs.lemmas.Slice.Eq.{bytes_eq-Decides}
-use Rattle.hack_rules.specs.CliTargets.{AreRising, HaveSameTexts, put_all}
+use Rattle.hack_rules.specs.CliTargets.{AreRising, HaveSameTexts}
+use Rattle.hack_rules.specs.Internal.{put_all}
 
 abbrev has : List ℕ → List (List ℕ) → Bool
 has text texts = list_any (bytes_eq text) texts

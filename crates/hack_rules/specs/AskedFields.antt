@@ -4,11 +4,11 @@ use Rattle.std.specs.Prelude.{Option, Some, None, Result, Ok, Err, option_map, o
 use Rattle.std.specs.Prelude.{codes, nat_lt, bytes_eq}
 use Rattle.std.specs.List.{list_any, repeat}
 use Rattle.hack_options.specs.declared.opt.Opt.TheVariants as opt
-use Rattle.hack_uses.specs.declared.behavior.WorkspaceBehavior.{WorkspaceBehavior}
-use Rattle.hack_uses.specs.Faults.{LongFlag, ShortFlag}
-use Rattle.hack_uses.specs.PassedWords.{leading_of, count_of}
-use Rattle.hack_uses.specs.Uses.{Use, Known, Unknown, Word, is_given}
-use Rattle.hack_uses.specs.Values.{value_given}
+use Rattle.hack_rules.specs.declared.uses.behavior.WorkspaceBehavior.{WorkspaceBehavior}
+use Rattle.hack_rules.specs.Faults.{LongFlag, ShortFlag}
+use Rattle.hack_rules.specs.PassedWords.{leading_of, count_of}
+use Rattle.hack_rules.specs.Uses.{Use, Known, Unknown, Word, is_given}
+use Rattle.hack_rules.specs.Values.{value_given}
 use Rattle.hack_base.specs.Numbers.{number_of}
 use Rattle.hack_versions.specs.Readings.{BadRange, ReadRange, range_of}
 use Rattle.hack_versions.specs.declared.version.VersionRange.{VersionRange}

@@ -2,9 +2,9 @@
 use Rattle.std.specs.Prelude.{ℕ, ◌≡◌, List, Option, Some, None, Result, Ok, Err, MatchOption}
 use Rattle.std.specs.Prelude.{string_bytes, option_map}
 use Rattle.hack_options.specs.declared.opt.Opt.{Opt}
-use Rattle.hack_uses.specs.Faults.{argument_fault_of as cut_fault_of, ArgumentFault as WrongCut}
-use Rattle.hack_uses.specs.declared.fault.CutFault.{CutFault}
-use Rattle.hack_uses.specs.declared.fault.CutFault.TheVariants as cut
+use Rattle.hack_rules.specs.Faults.{argument_fault_of as cut_fault_of, ArgumentFault as WrongCut}
+use Rattle.hack_rules.specs.declared.uses.fault.CutFault.{CutFault}
+use Rattle.hack_rules.specs.declared.uses.fault.CutFault.TheVariants as cut
 use Rattle.hack_versions.specs.Readings.{BadRange, bad_range_of}
 use Rattle.hack_versions.specs.declared.version.VersionFault.{VersionFault}
 use Rattle.hack_versions.specs.declared.version.VersionFault.TheVariants as version

@@ -1,8 +1,8 @@
 -- The features that texts of options name.
-use Rattle.std.specs.Prelude.{◌≡◌, ℕ, List, [], ◌∷◌, Some, String, map, string_bytes}
+use Rattle.std.specs.Prelude.{◌≡◌, ℕ, List, [], ◌∷◌, String, string_bytes}
 use Rattle.hack_features.specs.declared.feature.Feature.{Feature}
-use Rattle.hack_features.specs.Feature.{IsGroup, IsNormal, group_of}
-use Rattle.hack_rules.specs.CliLists.{Lift, lift_of}
+use Rattle.hack_features.specs.Feature.{IsGroup, IsNormal}
+use Rattle.hack_rules.specs.CliLists.{Lift}
 use Rattle.hack_base.specs.Lists.{group_names}
 
 -- one group for each text, with the names in it
@@ -25,11 +25,3 @@ AreLifts [] [] = Unit {0}
 AreLifts [] (pair ∷ pairs) = ⊥
 AreLifts (lift ∷ lifts) [] = ⊥
 AreLifts (lift ∷ lifts) (pair ∷ pairs) = (string_bytes pair.0 ≡ lift.owner) × IsGroup lift.group pair.1 × AreLifts lifts pairs
-
--- the package and the group of a lift
-abbrev pub lift_in : {Y : Type 0} → String Y × Feature → Lift
-lift_in pair = record { owner = string_bytes pair.0; group = group_of pair.1 }
-
--- these are the lifts that the texts are read as, one for each
-abbrev pub AreReadAs : {Y Z : Type 0} → List (String Y) → List (String Z × Feature) → Type 0
-AreReadAs texts pairs = map (λ text. lift_of (string_bytes text)) texts ≡ map (λ pair. Some (lift_in pair)) pairs

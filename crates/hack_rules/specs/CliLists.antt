@@ -3,8 +3,8 @@ use Rattle.std.specs.Prelude.{ℕ, List, [], ◌∷◌, ◌&&◌, Bool, true, fa
 use Rattle.std.specs.List.{flat_map, filter_map, list_any}
 use Rattle.hack_options.specs.declared.opt.Opt.{Opt}
 use Rattle.hack_options.specs.declared.opt.Opt.TheVariants as opt
-use Rattle.hack_uses.specs.Uses.{Use, is_given}
-use Rattle.hack_uses.specs.Values.{value_given, values_given}
+use Rattle.hack_rules.specs.Uses.{Use, is_given}
+use Rattle.hack_rules.specs.Values.{value_given, values_given}
 use Rattle.hack_base.specs.Cuts.{front_of, rest_of}
 use Rattle.hack_rules.specs.CliFaults.{Fault, LiftForm, LiftGroup}
 use Rattle.hack_base.specs.Lists.{is_list, group_names, list_names, without_quotes}

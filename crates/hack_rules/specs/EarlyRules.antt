@@ -3,11 +3,11 @@ use Rattle.std.specs.Prelude.{ℕ, ◌&&◌, ◌||◌, not, List, [], ◌∷◌,
 use Rattle.std.specs.List.{list_any, starts_with}
 use Rattle.hack_options.specs.declared.opt.Opt.{Opt}
 use Rattle.hack_options.specs.declared.opt.Opt.TheVariants as opt
-use Rattle.hack_uses.specs.declared.behavior.WorkspaceBehavior.{WorkspaceBehavior}
-use Rattle.hack_uses.specs.Behavior.{is_cargo}
-use Rattle.hack_uses.specs.PassedWords.{leading_of}
-use Rattle.hack_uses.specs.Uses.{Use, is_given, subcommand_of}
-use Rattle.hack_uses.specs.Values.{value_given, values_given}
+use Rattle.hack_rules.specs.declared.uses.behavior.WorkspaceBehavior.{WorkspaceBehavior}
+use Rattle.hack_rules.specs.Behavior.{is_cargo}
+use Rattle.hack_rules.specs.PassedWords.{leading_of}
+use Rattle.hack_rules.specs.Uses.{Use, is_given, subcommand_of}
+use Rattle.hack_rules.specs.Values.{value_given, values_given}
 use Rattle.hack_rules.specs.declared.fault.Beside.TheVariants as beside
 use Rattle.hack_rules.specs.CliFaults.{Fault, Color, TermColor, Single, BesideSubcommand, Install, Clash, ClashWord, Excluded}
 use Rattle.hack_rules.specs.CliLists.{first_fault_of}

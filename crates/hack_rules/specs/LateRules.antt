@@ -2,8 +2,8 @@
 use Rattle.std.specs.Prelude.{ℕ, ◌&&◌, ◌||◌, List, [], ◌∷◌, Bool, Option, Some, None, nat_lt}
 use Rattle.hack_options.specs.declared.opt.Opt.{Opt}
 use Rattle.hack_options.specs.declared.opt.Opt.TheVariants as opt
-use Rattle.hack_uses.specs.Uses.{Use, is_given}
-use Rattle.hack_uses.specs.Values.{value_given}
+use Rattle.hack_rules.specs.Uses.{Use, is_given}
+use Rattle.hack_rules.specs.Values.{value_given}
 use Rattle.hack_rules.specs.declared.fault.Beside.TheVariants as beside
 use Rattle.hack_rules.specs.CliFaults.{Fault, OldRustup}
 use Rattle.hack_rules.specs.CliLists.{lift_form, lift_group, first_fault_of}

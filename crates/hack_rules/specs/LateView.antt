@@ -1,6 +1,6 @@
 -- What the later rules read.
 use Rattle.std.specs.Prelude.{◌≡◌, Bool, List, IfSome, option_map}
-use Rattle.hack_uses.specs.Uses.{Use}
+use Rattle.hack_rules.specs.Uses.{Use}
 use Rattle.hack_rules.specs.AskedFields.{range_asked, is_old_asked, step_asked, log_group_asked, piece_asked, kind_asked, strength_asked}
 use Rattle.hack_rules.specs.CliGroups.{AreLifts}
 use Rattle.hack_rules.specs.CliLists.{lifts_given}

@@ -1,3 +1,9 @@
+pub mod Behavior
+pub mod Faults
+pub mod Uses
+pub mod UseReading
+pub mod Values
+pub mod PassedWords
 pub mod AskedFields
 pub mod CliFaults
 pub mod CliGroups
@@ -12,3 +18,4 @@ pub mod EarlyRules
 pub mod MissingSubcommand
 pub mod LateRules
 pub mod Verdicts
+pub mod Internal

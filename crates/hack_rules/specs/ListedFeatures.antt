@@ -1,7 +1,7 @@
 -- The lists of features that the rules need.
 use Rattle.std.specs.Prelude.{ℕ, List, Option}
 use Rattle.hack_options.specs.declared.opt.Opt.TheVariants as opt
-use Rattle.hack_uses.specs.Uses.{Use}
+use Rattle.hack_rules.specs.Uses.{Use}
 use Rattle.hack_rules.specs.CliLists.{names_given, groups_given, optional_given}
 
 -- the names in the lists of some options, and in each of their groups

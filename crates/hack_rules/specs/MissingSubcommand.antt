@@ -1,9 +1,9 @@
 -- The rule on a missing subcommand.
 use Rattle.std.specs.Prelude.{ℕ, List, Bool, false, Option, Some, None, codes, if◌then◌else◌}
 use Rattle.hack_options.specs.declared.opt.Opt.TheVariants as opt
-use Rattle.hack_uses.specs.declared.behavior.WorkspaceBehavior.{WorkspaceBehavior}
-use Rattle.hack_uses.specs.PassedWords.{leading_of}
-use Rattle.hack_uses.specs.Uses.{Use, is_given}
+use Rattle.hack_rules.specs.declared.uses.behavior.WorkspaceBehavior.{WorkspaceBehavior}
+use Rattle.hack_rules.specs.PassedWords.{leading_of}
+use Rattle.hack_rules.specs.Uses.{Use, is_given}
 use Rattle.hack_rules.specs.CliFaults.{Fault, NoSubcommand}
 use Rattle.std.specs.Prelude.{◌≡◌, true, Result, Ok, Err, MatchOption}
 use Rattle.hack_rules.specs.declared.fault.CliFault.{CliFault}

@@ -3,7 +3,7 @@
 use Rattle.std.specs.Prelude.{ℕ, ◌&&◌, not, List, [], ◌∷◌, Bool, Option, Some, None, length, nat_lt, bytes_eq, option_and_then, if◌then◌else◌}
 use Rattle.std.specs.List.{list_any}
 use Rattle.hack_options.specs.declared.opt.Opt.{Opt}
-use Rattle.hack_uses.specs.Uses.{Use, is_given}
+use Rattle.hack_rules.specs.Uses.{Use, is_given}
 use Rattle.hack_rules.specs.declared.fault.Beside.{Beside}
 use Rattle.hack_rules.specs.CliFaults.{Fault, Needs, Clash}
 

@@ -1,7 +1,7 @@
 -- The verdict of all rules on uses of options.
 use Rattle.std.specs.Prelude.{ℕ, List, Option}
-use Rattle.hack_uses.specs.declared.behavior.WorkspaceBehavior.{WorkspaceBehavior}
-use Rattle.hack_uses.specs.Uses.{Use, subcommand_of}
+use Rattle.hack_rules.specs.declared.uses.behavior.WorkspaceBehavior.{WorkspaceBehavior}
+use Rattle.hack_rules.specs.Uses.{Use, subcommand_of}
 use Rattle.hack_rules.specs.ListedFeatures.{listed_by}
 use Rattle.hack_rules.specs.Rules.{Verdict, Accepted, first_of, refused_by, verdict_or}
 use Rattle.hack_rules.specs.EarlyRules.{rules_before}

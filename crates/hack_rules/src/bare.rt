@@ -2,15 +2,15 @@
 
 ghost use Rattle.std.specs.Prelude.{◌≡◌};
 ghost use Rattle.hack_base.specs.Names.{names_of};
-ghost use Rattle.hack_uses.specs.declared.behavior.WorkspaceBehavior.{WorkspaceBehavior};
-ghost use Rattle.hack_uses.specs.PassedWords.{leading_of};
-ghost use Rattle.hack_uses.specs.Uses.{views, subcommand_of};
+ghost use Rattle.hack_rules.specs.declared.uses.behavior.WorkspaceBehavior.{WorkspaceBehavior};
+ghost use Rattle.hack_rules.specs.PassedWords.{leading_of};
+ghost use Rattle.hack_rules.specs.Uses.{views, subcommand_of};
 ghost use Rattle.hack_rules.specs.MissingSubcommand.{ReturnsBareVerdict, bare_verdict};
 
 use crate::checks::has;
 use crate::fault::CliFault;
+use crate::uses::{Use, given, subcommand};
 use hack_options::Opt;
-use hack_uses::{Use, given, subcommand};
 
 /// Whether cargo's list is asked for, where there is no subcommand.
 pub fn lists_commands(passed: &[String], uses: &[Use]) -> Result<bool, CliFault>

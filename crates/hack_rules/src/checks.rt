@@ -2,14 +2,14 @@
 
 ghost use Rattle.std.specs.Prelude.{◌≡◌};
 ghost use Rattle.hack_base.specs.Names.{names_of};
-ghost use Rattle.hack_uses.specs.Uses.{views};
+ghost use Rattle.hack_rules.specs.Uses.{views};
 ghost use Rattle.hack_rules.specs.CliFaults.{Checks};
 ghost use Rattle.hack_rules.specs.Rules.{needs as needs_rule, clash as clash_rule};
 ghost use Rattle.hack_rules.specs.Rules.{is_nonempty, is_among};
 
 use crate::fault::{Beside, CliFault};
+use crate::uses::{Use, given};
 use hack_options::Opt;
-use hack_uses::{Use, given};
 
 /// Refuses an option that is given without any of those that it needs.
 pub fn needs(there: bool, option: Opt, beside: Beside, others: bool) -> Result<(), CliFault>

@@ -4,9 +4,9 @@
 ghost use Rattle.std.specs.Prelude.{◌≡◌, IfOk, option_map};
 ghost use Rattle.hack_features.specs.Feature.{groups_of};
 ghost use Rattle.hack_base.specs.Names.{names_of, optional_text_ref};
-ghost use Rattle.hack_uses.specs.PassedWords.{leading_of};
-ghost use Rattle.hack_uses.specs.Uses.{views, is_given, subcommand_of};
-ghost use Rattle.hack_uses.specs.Values.{value_given};
+ghost use Rattle.hack_rules.specs.PassedWords.{leading_of};
+ghost use Rattle.hack_rules.specs.Uses.{views, is_given, subcommand_of};
+ghost use Rattle.hack_rules.specs.Values.{value_given};
 ghost use Rattle.hack_rules.specs.AskedFields.{coloring_asked, depth_asked};
 ghost use Rattle.hack_rules.specs.CliFaults.{Checks};
 ghost use Rattle.hack_rules.specs.CliValues.{depth_fault};
@@ -25,12 +25,12 @@ ghost use Rattle.hack_rules.specs.EarlyRules.{together_rules, rules_before, is_e
 use crate::checks::{clash, has, has_some, needs};
 use crate::fault::{Beside, CliFault};
 use crate::listed::Lists;
+use crate::uses::{Use, WorkspaceBehavior, given, subcommand, value};
 use crate::values;
 use hack_base::lists::has_separator;
 use hack_features::Feature;
 use hack_options::Opt;
 use hack_term::term::Coloring;
-use hack_uses::{Use, WorkspaceBehavior, given, subcommand, value};
 use std::alloc::Global;
 
 fn group_has(groups: &[Feature], name: &str) -> bool

@@ -5,10 +5,10 @@ ghost use Rattle.hack_rules.specs.CliFaults.{told_of_cut, told_of_range, told_of
 ghost use Rattle.hack_rules.specs.CliFaults.{told_of_partition};
 ghost use Rattle.hack_rules.specs.declared.fault.CliFault.TheVariants.{Memory};
 
+use crate::uses::CutFault;
 use hack_options::Opt;
 use hack_term::partition::PartitionFault;
 use hack_term::term::LogGroupFault;
-use hack_uses::CutFault;
 use hack_versions::version::VersionFault;
 use std::alloc::{AllocError, AllocFailed};
 use std::fmt;

@@ -3,8 +3,8 @@
 
 ghost use Rattle.std.specs.Prelude.{◌≡◌, IfOk, IfSome, option_map, option_and_then};
 ghost use Rattle.std.specs.List.{list_any};
-ghost use Rattle.hack_uses.specs.Uses.{view, views};
-ghost use Rattle.hack_uses.specs.Values.{value_given};
+ghost use Rattle.hack_rules.specs.Uses.{view, views};
+ghost use Rattle.hack_rules.specs.Values.{value_given};
 ghost use Rattle.hack_rules.specs.AskedFields.{read_range, range_asked, is_old_asked, step_asked};
 ghost use Rattle.hack_rules.specs.AskedFields.{is_message_format as message_format, log_group_asked};
 ghost use Rattle.hack_rules.specs.AskedFields.{piece_asked, kind_asked, strength_asked};
@@ -22,12 +22,12 @@ ghost use Rattle.hack_rules.specs.LateRules.{lift_rules, strength_rules, rules_a
 use crate::checks::{clash, needs};
 use crate::fault::{Beside, CliFault};
 use crate::listed::Lists;
+use crate::uses::{OwnedFlag, Use, given, value};
 use crate::{named, values};
 use hack_features::Feature;
 use hack_options::Opt;
 use hack_term::partition::{Partition, PartitionKind};
 use hack_term::term::LogGroup;
-use hack_uses::{OwnedFlag, Use, given, value};
 use hack_versions::version::VersionRange;
 use std::alloc::Global;
 

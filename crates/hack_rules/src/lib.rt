@@ -1,6 +1,7 @@
 //! The rules on the options of a call of `cargo hack`, in three groups: those before the rule on a
 //! missing subcommand (`early`), that rule (`bare`), and those after it (`late`); and what they
-//! read of the uses of options. Callers use all of this through `hack_words::cli`.
+//! read of the uses of options, which `uses` cuts out of the command line. Callers use all of this
+//! through `hack_words::cli`.
 #![tactic(auto)]
 
 pub mod bare;
@@ -10,4 +11,5 @@ pub mod fault;
 pub mod late;
 pub mod listed;
 pub mod named;
+pub mod uses;
 mod values;

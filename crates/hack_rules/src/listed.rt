@@ -1,13 +1,13 @@
 //! The lists of features that a call names.
 
 ghost use Rattle.std.specs.Prelude.{◌≡◌, IfOk};
-ghost use Rattle.hack_uses.specs.Uses.{views};
-ghost use Rattle.hack_uses.specs.Values.{values_given};
+ghost use Rattle.hack_rules.specs.Uses.{views};
+ghost use Rattle.hack_rules.specs.Values.{values_given};
 
 use crate::named;
+use crate::uses::Use;
 use hack_features::Feature;
 use hack_options::Opt;
-use hack_uses::Use;
 use std::alloc::{AllocError, Global};
 
 /// The lists of features that a call names, as its arguments give them.

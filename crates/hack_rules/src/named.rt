@@ -4,22 +4,24 @@ ghost use Rattle.std.specs.Prelude.{◌≡◌, [], IfOk, Some, map, string_bytes
 ghost use Rattle.std.specs.List.{filter_map, list_any};
 ghost use Rattle.std.specs.Option.{option_map};
 ghost use Rattle.hack_base.specs.Names.{names_of, optional_text_ref};
-ghost use Rattle.hack_uses.specs.Uses.{views};
-ghost use Rattle.hack_uses.specs.Values.{values_given};
+ghost use Rattle.hack_rules.specs.Uses.{views};
+ghost use Rattle.hack_rules.specs.Values.{values_given};
 ghost use Rattle.hack_rules.specs.CliFaults.{Checks, LiftForm, LiftGroup};
 ghost use Rattle.hack_rules.specs.CliLists.{names_given, names_or_none, optional_given, lift_of};
 ghost use Rattle.hack_rules.specs.CliLists.{lifts_given, is_lift, lifts_one_of, same_names};
 ghost use Rattle.hack_rules.specs.CliLists.{first_failing, first_fault_of, lift_form, lift_group};
-ghost use Rattle.hack_rules.specs.CliTargets.{AreRising, HaveSameTexts, put_all};
+ghost use Rattle.hack_rules.specs.CliTargets.{AreRising, HaveSameTexts};
+ghost use Rattle.hack_rules.specs.Internal.{put_all};
 ghost use Rattle.hack_features.specs.Feature.{IsGroup, group_of};
 ghost use Rattle.hack_base.specs.Lists.{group_names};
-ghost use Rattle.hack_rules.specs.CliGroups.{AreGroupsOf, AreNormalsOf, AreLifts, AreReadAs};
+ghost use Rattle.hack_rules.specs.CliGroups.{AreGroupsOf, AreNormalsOf, AreLifts};
+ghost use Rattle.hack_rules.specs.Internal.{AreReadAs};
 
 use crate::fault::CliFault;
+use crate::uses::{Use, given, value, values};
 use hack_base::lists::{has_separator, split_group, split_names, unquoted};
 use hack_features::Feature;
 use hack_options::Opt;
-use hack_uses::{Use, given, value, values};
 use std::alloc::{AllocError, Global};
 use std::collections::BTreeSet;
 

@@ -18,7 +18,8 @@ use Rattle.hack_session.specs.declared.step.Outcome.{Outcome}
 use Rattle.hack_session.specs.declared.step.Outcome.TheVariants.{Passed}
 use Rattle.hack_versions.specs.declared.rustup.Rustup.{Rustup}
 use Rattle.hack_versions.specs.declared.rustup.Rustup.TheVariants as known
-use Rattle.hack_run.specs.Questions.{AsksInVain, AsksRustup, AsksStable, InstallsStable, IsLatest, IsUnknown, ReadsStable, TellsMinor, TellsStable, rustup_command, stable_command}
+use Rattle.hack_run.specs.Questions.{AsksInVain, AsksRustup, AsksStable, InstallsStable, IsUnknown, ReadsStable, TellsMinor, TellsStable, rustup_command, stable_command}
+use Rattle.hack_run.specs.Internal.{IsLatest}
 
 -- a command that failed may have been called
 fault_may : (tells : Type 0) (asked : Asked) (shown : Name) (old new : List Call) (e : ProcessFault) → IsReadFault tells asked shown old new e → tells → MayAdd asked old new

@@ -10,7 +10,8 @@ use Rattle.hack_session.specs.declared.step.Outcome.{Outcome}
 use Rattle.hack_session.specs.declared.step.Outcome.TheVariants.{Failed}
 use Rattle.hack_versions.specs.declared.version.Version.{Version}
 use Rattle.hack_term.specs.declared.term.Term.{Term}
-use Rattle.hack_run.specs.CallTrace.{AfterAnswers, PerformsPlanAtMostOnce, MadeOnce, MakesOnce, MayAskStable, PerformsAtMostOne, PerformsBehind, ListGrowsWithin, TriesOnce, TriesRead}
+use Rattle.hack_run.specs.CallTrace.{AfterAnswers, PerformsPlanAtMostOnce, MadeOnce, MakesOnce, MayAskStable, PerformsBehind, ListGrowsWithin, TriesOnce, TriesRead}
+use Rattle.hack_run.specs.Internal.{PerformsAtMostOne}
 use Rattle.hack_run.specs.Questions.{AsksStable, NeedsAnswer}
 use Rattle.hack_run.specs.Worlds.{HostView, World, host_at, world_at}
 use Rattle.hack_load.specs.declared.answers.Answers.{Answers}

@@ -12,7 +12,8 @@ use Rattle.hack_term.specs.declared.term.Term.{Term}
 use Rattle.hack_term.specs.declared.partition.Partition.{Partition}
 use Rattle.hack_plan.specs.View.{PlanView}
 use Rattle.hack_session.specs.Histories.{HasPassed, passed_step}
-use Rattle.hack_session.specs.ListLines.{IsListedStep, ListsStep, ListsAll, Page, has_failed, is_sent, is_sent_step, lines_listed, lines_written, step_lines}
+use Rattle.hack_session.specs.ListLines.{ListsStep, ListsAll, Page, has_failed, is_sent, is_sent_step, lines_written, step_lines}
+use Rattle.hack_session.specs.Internal.{IsListedStep, lines_listed}
 use Rattle.hack_session.specs.StepCalls.{Exactly, HasPerformed, HasTold, MakesCalls, Performs, PerformsAll}
 use Rattle.hack_session.specs.Schedules.{IsSchedule}
 use Rattle.hack_session.specs.declared.step.Handed.{Handed}
@@ -25,10 +26,10 @@ use Rattle.hack_base.specs.Names.{Name}
 use Rattle.hack_load.specs.Contexts.{ContextRecord}
 use Rattle.hack_versions.specs.declared.version.Version.{Version}
 use Rattle.hack_base.specs.Notes.{Note}
-use Rattle.hack_run.specs.CallTrace.{HandsOverAtMostOne, PerformsAtMostOne}
-use Rattle.hack_run.specs.ScheduleCalls.{DoesPlan, PassesAll, RunsAll, SendsAll}
+use Rattle.hack_run.specs.Internal.{HandsOverAtMostOne, PerformsAtMostOne, DoesPlan, host_writing}
+use Rattle.hack_run.specs.ScheduleCalls.{PassesAll, RunsAll, SendsAll}
 use Rattle.hack_run.specs.Warnings.{GrowsWithin, Warned}
-use Rattle.hack_run.specs.Worlds.{HostView, host_writing}
+use Rattle.hack_run.specs.Worlds.{HostView}
 use Rattle.hack_run.proofs.GatherLemmas.{known-none}
 
 -- a step that passed wasn't cut short

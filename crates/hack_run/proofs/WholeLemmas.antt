@@ -25,7 +25,8 @@ use Rattle.hack_words.specs.declared.cli.args.Args.{Args}
 use Rattle.hack_words.specs.declared.cli.env.Env.{Env}
 use Rattle.hack_term.specs.declared.term.Term.{Term}
 use Rattle.hack_versions.specs.declared.version.Version.{Version}
-use Rattle.hack_run.specs.ScheduleCalls.{RunsOrLists, DoesPlan}
+use Rattle.hack_run.specs.ScheduleCalls.{RunsOrLists}
+use Rattle.hack_run.specs.Internal.{DoesPlan}
 use Rattle.hack_run.specs.Questions.{AsksRustup, AsksStable, NeedsAnswer}
 use Rattle.hack_run.specs.Warnings.{Warned, after_notes, have_warning}
 use Rattle.hack_run.specs.Success.{PerformsSchedule, IsDone, ListsCommands, Obeys, AsksThenPerforms, warned_by, world_told}

@@ -1,7 +1,6 @@
 -- The programs that a call called, whatever came of it.
 use Rattle.std.specs.Prelude.{ℕ, ◌≡◌, ◌⊎◌, ◌∷◌, [], Bool, List, Option, Result, codes, false, filter, string_bytes, true}
 use Rattle.std.specs.List.{flat_map}
-use Rattle.std.specs.Io.KnownBytes.{Keeps}
 use Rattle.std.proofs.Common.{Global, String}
 use Rattle.hack_base.specs.Names.{Name}
 use Rattle.hack_load.specs.Answers.{AreAnswers}
@@ -11,7 +10,6 @@ use Rattle.hack_load.specs.declared.answers.Answers.{Answers}
 use Rattle.hack_process.specs.Calls.{Asked, Call, MayAdd}
 use Rattle.hack_process.specs.Commands.{asked_of}
 use Rattle.hack_plan.specs.Commands.{plain_command}
-use Rattle.hack_plan.specs.View.{PlanView}
 use Rattle.hack_session.specs.Histories.{Course}
 use Rattle.hack_session.specs.ListLines.{is_sent, lines_written}
 use Rattle.hack_session.specs.StepCalls.{BreaksInstall, Installs, MakesCalls, PerformsAll}
@@ -30,7 +28,6 @@ use Rattle.hack_words.specs.declared.cli.parse.Parsed.{Parsed}
 use Rattle.hack_words.specs.declared.cli.parse.Parsed.TheVariants as parsed
 use Rattle.hack_run.specs.Headline.{IsHandedOut}
 use Rattle.hack_run.specs.Questions.{AsksRustup, AsksStable, InstallsStable, NeedsAnswer, rustup_asked, stable_command}
-use Rattle.hack_run.specs.ScheduleCalls.{HandsOver}
 use Rattle.hack_run.specs.Warnings.{GrowsWithin}
 use Rattle.hack_run.specs.Worlds.{HostView, World, host_at, world_at}
 
@@ -53,15 +50,6 @@ pub record PerformsOne (listing : Bool) (cx : ContextRecord) (stable : Result (O
   pub handed : IsHandedOut cx stable rustup course
   pub calls : MakesCalls (λ made. PerformsAll course.plan (steps_performed listing course.handed) made cut) old.calls new.calls
   pub wrote : ListGrowsWithin listing old.out new.out (flat_map (lines_written course.plan) course.handed)
-
--- one history was performed, or nothing was called and nothing listed
-abbrev pub PerformsAtMostOne : Bool → ContextRecord → Result (Option Version) (String Global) → Name → HostView → HostView → Type 0
-PerformsAtMostOne listing cx stable rustup old new = ((new.calls ≡ old.calls) × ListGrowsWithin listing old.out new.out []) ⊎ PerformsOne listing cx stable rustup old new
-
--- a list was handed out to its end; or nothing was, and the runner printed notices at most
-abbrev pub HandsOverAtMostOne : {R : Type 0} → Type 0 → Option (List ℕ) → Option (List ℕ) → (List Note → R → R → Type 0) → (PlanView → List Handed → R → R → Type 0) → ContextRecord → Result (Option Version) (String Global) → Name → R → R → Type 0
-HandsOverAtMostOne whole had has Told Ran cx stable rustup old new =
-    (((new ≡ old) ⊎ ((notes : List Note) × Told notes old new)) × Keeps had has) ⊎ HandsOver whole had has Told Ran cx stable rustup old new
 
 -- installing the toolchain `stable` failed: it was tried, and added where that failed, up to the
 -- command that failed or for which memory was refused

@@ -4,7 +4,7 @@ use Rattle.std.proofs.Common.{Global, String}
 use Rattle.hack_planner.specs.CallPlan.{IsPlanOf}
 use Rattle.hack_planner.specs.Powersets.{HavePowersets}
 use Rattle.hack_planner.specs.Samples.{HaveSamples, ArePatternsHeld}
-use Rattle.hack_uses.specs.declared.behavior.WorkspaceBehavior.TheVariants.{Cargo}
+use Rattle.hack_rules.specs.declared.uses.behavior.WorkspaceBehavior.TheVariants.{Cargo}
 use Rattle.hack_base.specs.Names.{Name}
 use Rattle.hack_load.specs.Contexts.{ContextRecord}
 use Rattle.hack_session.specs.Handouts.{HandsOut}

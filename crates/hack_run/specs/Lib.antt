@@ -8,3 +8,4 @@ pub mod Warnings
 pub mod Success
 pub mod Worlds
 pub mod Readings
+pub mod Internal

@@ -1,5 +1,5 @@
 -- What rustup is asked before there is a plan.
-use Rattle.std.specs.Prelude.{◌≡◌, ◌⊎◌, ◌∷◌, ◌^◌, ◌-◌, [], Bool, List, Option, Some, None, Result, Ok, Err, IfOk, IfSome, IsSome, IsSomeAnd, codes, false, true}
+use Rattle.std.specs.Prelude.{◌≡◌, ◌⊎◌, ◌∷◌, ◌-◌, [], Bool, List, Option, Some, None, Result, Ok, Err, IfOk, IfSome, IsSome, IsSomeAnd, codes, false, true}
 use Rattle.std.specs.Str.{IsUtf8}
 use Rattle.std.proofs.Common.{Global, String}
 use Rattle.hack_base.specs.Names.{Name}
@@ -77,12 +77,6 @@ pub record TellsStable (rustup : Name) (v : Version) (old new : List Call) : Typ
   pub mid : List Call
   pub installed : InstallsStable rustup old mid
   pub read : ReadsStable rustup v mid new
-
--- where there is no error, there is a version, and it has the property
-abbrev pub IsLatest : (Version → Type 0) → Result (Option Version) (String Global) → Type 0
-IsLatest P (Ok None) = ⊥
-IsLatest P (Ok (Some v)) = P v
-IsLatest P (Err text) = Unit {0}
 
 -- there is a subcommand, and an end of the range is stable's version
 abbrev pub NeedsAnswer : Args → Type 0

@@ -1,15 +1,12 @@
 -- What command lines are read into.
-use Rattle.std.specs.Prelude.{◌≡◌, List, false, map, string_bytes}
+use Rattle.std.specs.Prelude.{◌≡◌, List, false, map}
 use Rattle.hack_base.specs.Names.{Name}
 use Rattle.hack_base.specs.Notes.{note_of}
-use Rattle.hack_process.specs.Calls.{Call}
-use Rattle.hack_versions.specs.declared.rustup.Rustup.{Rustup}
 use Rattle.hack_versions.specs.declared.rustup.Rustup.TheVariants.{Unasked}
 use Rattle.hack_words.specs.CommandLine.{Around, ComesTo}
 use Rattle.hack_words.specs.ParseAnswers.{AnswersCommandLine, BreakNoRule, Refuses, around_of}
 use Rattle.hack_words.specs.Start.{wants_rustup}
 use Rattle.hack_words.specs.declared.cli.env.Env.{Env}
-use Rattle.hack_run.specs.Questions.{AsksRustup}
 use Rattle.hack_run.specs.declared.reading.Reading.{Reading}
 use Rattle.hack_run.specs.declared.reading.Reading.TheVariants.{Accepted, Refused}
 
@@ -21,9 +18,3 @@ IsReading around words (Refused fault) = Refuses (ComesTo around words) fault
 -- what they are read into before anything is asked: no word needs rustup's version
 abbrev pub IsEarlyReading : Env → List Name → Reading → Type 0
 IsEarlyReading env words reading = (wants_rustup words ≡ false) × IsReading (around_of env Unasked) words reading
-
--- rustup was asked where a word needs it, and with what is then known the words are read into this
-pub record ReadsAfterRustup (tells : Type 0) (words : List Name) (env : Env) (old new : List Call) (reading : Reading) : Type 0 where
-  pub rustup : Rustup
-  pub asked : tells → AsksRustup (wants_rustup words) (string_bytes env.rustup) rustup old new
-  pub read : IsReading (around_of env rustup) words reading

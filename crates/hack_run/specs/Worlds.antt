@@ -1,6 +1,5 @@
 -- What a call reaches, as plain data.
 use Rattle.std.specs.Prelude.{◌≡◌, ℕ, List, Option}
-use Rattle.std.specs.Io.KnownBytes.{append_known}
 use Rattle.std.specs.declared.io.traits.Write.{Ghosts as Writing}
 use Rattle.hack_files.specs.Files.{Change, Contents}
 use Rattle.hack_files.specs.declared.fs.Files.{Ghosts as Filing}
@@ -41,10 +40,6 @@ host_at calls host = record host { calls = calls }
 
 abbrev pub world_at : List Call → World → World
 world_at calls world = record world { host = host_at calls world.host }
-
--- a host that has yet to write these bytes
-abbrev pub host_writing : List ℕ → HostView → HostView
-host_writing bytes host = record host { out = append_known host.out bytes }
 
 -- a host is handed on: each of its references is still the same, and so is its environment
 pub record IsSameHost {C O E : Type 0} (old new : Host C O E) : Type 0 where

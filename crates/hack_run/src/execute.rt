@@ -2,9 +2,10 @@
 
 ghost use Rattle.std.specs.Prelude.{◌≡◌, None, OnOk, false, string_bytes};
 ghost use Rattle.hack_load.specs.ContextView.{context_view};
-ghost use Rattle.hack_run.specs.CallTrace.{PerformsAtMostOne};
+ghost use Rattle.hack_run.specs.Internal.{PerformsAtMostOne};
 ghost use Rattle.hack_run.specs.Questions.{IsAnswered};
-ghost use Rattle.hack_run.specs.ScheduleCalls.{DoesPlan, RunsAll};
+ghost use Rattle.hack_run.specs.ScheduleCalls.{RunsAll};
+ghost use Rattle.hack_run.specs.Internal.{DoesPlan};
 ghost use Rattle.hack_run.specs.Worlds.{IsSameHost, host_of};
 
 use crate::drive::drive_context;

@@ -2,10 +2,12 @@
 
 ghost use Rattle.std.specs.Prelude.{◌≡◌, None, Ok, OnOk, false, string_bytes, true};
 ghost use Rattle.hack_load.specs.ContextView.{context_view};
-ghost use Rattle.hack_run.specs.CallTrace.{HandsOverAtMostOne, PerformsAtMostOne};
+ghost use Rattle.hack_run.specs.Internal.{HandsOverAtMostOne, PerformsAtMostOne};
 ghost use Rattle.hack_run.specs.Questions.{IsAnswered};
-ghost use Rattle.hack_run.specs.ScheduleCalls.{DoesPlan, ListsOver, SendsAll};
-ghost use Rattle.hack_run.specs.Worlds.{IsSameHost, host_of, host_writing};
+ghost use Rattle.hack_run.specs.ScheduleCalls.{SendsAll};
+ghost use Rattle.hack_run.specs.Internal.{DoesPlan, ListsOver};
+ghost use Rattle.hack_run.specs.Worlds.{IsSameHost, host_of};
+ghost use Rattle.hack_run.specs.Internal.{host_writing};
 
 use crate::drive::{Teller, drive_context};
 use crate::fault::RunFault;

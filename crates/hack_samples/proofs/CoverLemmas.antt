@@ -5,7 +5,7 @@ use Rattle.std.proofs.lemmas.List.Elements.{All-cons, All-head, All-tail, All-ni
 use Rattle.std.proofs.lemmas.Bool.{cases_lt}
 use Rattle.hack_samples.specs.Sets.{has_each, is_on}
 use Rattle.hack_samples.specs.Samples.{Shows, SomeShows, ShowEachPattern}
-use Rattle.hack_samples.specs.DescendingPatterns.{IsPossible, Descends, CoversBelow, AreKept}
+use Rattle.hack_samples.specs.InternalDescendingPatterns.{IsPossible, Descends, CoversBelow, AreKept}
 use Rattle.hack_samples.specs.declared.sets.Setting.{Setting}
 use Rattle.hack_samples.proofs.SetLemmas.{told}
 use Rattle.hack_samples.proofs.ShowLemmas.{all-left}

@@ -2,7 +2,8 @@
 use Rattle.std.proofs.Common.{◌≡◌, ℕ, ◌+◌, ◌<◌, ◌≤◌, List, [], ◌∷◌, ◌++◌, length, get_or, set, take, refl, sym, ◌∙◌, ap, subst, Bool, true, false, inl, inr, ◌↔◌, append_assoc}
 use Rattle.std.specs.Prelude.{◌||◌, ◌&&◌}
 use Rattle.std.proofs.lemmas.List.Folds.{list_any-append, list_any_more, list_all-append, list_all_at}
-use Rattle.hack_samples.specs.Sets.{has, has_one_of, has_each, IsClear}
+use Rattle.hack_samples.specs.Sets.{has, has_one_of, has_each}
+use Rattle.hack_samples.specs.Internal.{IsClear}
 use Rattle.hack_samples.proofs.SetLemmas.{or-false, or-both, has-past, has-set_same, has-set_cases, has-set_kept}
 
 -- one more position is banned

@@ -8,7 +8,8 @@ use Rattle.std.proofs.lemmas.List.{take-append-drop, get_or_default}
 use Rattle.std.proofs.lemmas.List.Edits.{length-insert, get_or-insert_below, get_or-insert_at, get_or-insert_above}
 use Rattle.std.proofs.lemmas.List.Elements.{Contains-append_left, Contains-append_right, Contains-append_cases, Contains-push, Contains-push_cases, Contains-get_or}
 use Rattle.hack_samples.specs.Sets.{has, rows_of}
-use Rattle.hack_samples.specs.Order.{IsMaskBefore, BelongsAt}
+use Rattle.hack_samples.specs.Order.{IsMaskBefore}
+use Rattle.hack_samples.specs.Internal.{BelongsAt}
 use Rattle.hack_samples.proofs.SetLemmas.{not_both}
 
 pub three : (a b : ℕ) → (a < b) ⊎ ((a ≡ b) ⊎ (b < a))

@@ -3,7 +3,7 @@ use Rattle.std.proofs.Common.{◌≡◌, ℕ, List, [], ◌∷◌, ◌++◌, len
 use Rattle.std.proofs.lemmas.List.Elements.{All-contains, Contains-push_cases, Contains-get_or}
 use Rattle.hack_samples.specs.Samples.{Shows, SomeShows, IsListedMask, IsMaskSample}
 use Rattle.hack_samples.specs.Order.{IsMaskBefore}
-use Rattle.hack_samples.specs.DescendingPatterns.{AreKept}
+use Rattle.hack_samples.specs.InternalDescendingPatterns.{AreKept}
 use Rattle.hack_samples.specs.declared.sets.Setting.{Setting}
 
 -- after one more set that doesn't show the pattern, still none shows it

@@ -5,7 +5,8 @@ use Rattle.std.proofs.lemmas.List.{get_or_past, get_or-set_same, get_or-set_othe
 use Rattle.std.proofs.lemmas.List.Folds.{list_any_at}
 use Rattle.std.proofs.lemmas.Bool.{both_ways, ltb-true, lt-ltb}
 use Rattle.std.proofs.lemmas.Bool.Decides.{eqb_tells}
-use Rattle.hack_samples.specs.Sets.{has, has_one_of, has_each, may_join, IsInside, IsClear, IsSuited}
+use Rattle.hack_samples.specs.Sets.{has, has_one_of, has_each, IsInside}
+use Rattle.hack_samples.specs.Internal.{may_join, IsClear, IsSuited}
 
 -- a truth value is one of two
 pub told : (b : Bool) → (b ≡ true) ⊎ (b ≡ false)

@@ -5,8 +5,9 @@ use mathlib.Core.Bool.{beq}
 use Rattle.std.proofs.lemmas.List.{take_more, get_or-map}
 use Rattle.std.proofs.lemmas.List.Folds.{list_all_at}
 use Rattle.std.proofs.lemmas.List.Elements.{All-push, All-cons, All-head, All-tail, All-contains, Contains-push, Contains-append_left, Contains-get_or}
-use Rattle.hack_samples.specs.Sets.{has_one_of, has_each, is_on, rows_of, IsClear, Meets}
-use Rattle.hack_samples.specs.Samples.{Shows, NoneShows}
+use Rattle.hack_samples.specs.Sets.{has_one_of, has_each, is_on, rows_of}
+use Rattle.hack_samples.specs.Internal.{IsClear, Meets, NoneShows}
+use Rattle.hack_samples.specs.Samples.{Shows}
 use Rattle.hack_samples.specs.declared.sets.Setting.{Setting}
 use Rattle.hack_samples.proofs.SetLemmas.{told, not_both, and-true, and-both}
 use Rattle.hack_samples.proofs.DemandLemmas.{each-push}

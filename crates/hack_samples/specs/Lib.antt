@@ -2,4 +2,5 @@ pub mod Sets
 pub mod Samples
 pub mod Questions
 pub mod Order
-pub mod DescendingPatterns
+pub mod InternalDescendingPatterns
+pub mod Internal

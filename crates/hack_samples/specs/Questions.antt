@@ -7,7 +7,3 @@ use Rattle.hack_samples.specs.declared.fault.SampleFault.TheVariants.{Memory, To
 abbrev pub IsTired : ℕ → ℕ → SampleFault → Type 0
 IsTired end count Memory = Unit {0}
 IsTired end count TooManyQuestions = end ≤ count
-
--- the count after is at most the greater of the end and the count before
-abbrev pub StaysWithin : ℕ → ℕ → ℕ → Type 0
-StaysWithin end before behind = (k : ℕ) → end ≤ k → before ≤ k → behind ≤ k

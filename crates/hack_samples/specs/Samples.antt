@@ -1,6 +1,6 @@
 -- What a sample of sets covers.
 use Rattle.std.specs.Prelude.{◌≡◌, ◌≤◌, ℕ, List, Bool, true, All, AllPairs, Contains, length}
-use Rattle.hack_samples.specs.Sets.{is_on, has_each, Meets}
+use Rattle.hack_samples.specs.Sets.{is_on, has_each}
 use Rattle.hack_samples.specs.Order.{IsMaskBefore}
 use Rattle.hack_samples.specs.declared.sets.Setting.{Setting}
 
@@ -29,7 +29,3 @@ ShowEachPattern may n required providers t sets =
 pub record IsMaskSample (may : List Bool → Bool) (n : ℕ) (required : List (List ℕ)) (sets : List (List Bool)) : Type 0 where
   pub listed : All (IsListedMask may n required) sets
   pub ordered : AllPairs IsMaskBefore sets
-
--- no set that meets the groups, without a banned position, shows the pattern
-abbrev pub NoneShows : (List Bool → Bool) → ℕ → List (List ℕ) → List Bool → List (List (List ℕ)) → List Setting → Type 0
-NoneShows may n groups banned providers pattern = (s : List Bool) → Meets may n groups banned s → Shows providers pattern s → ⊥

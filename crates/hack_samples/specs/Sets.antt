@@ -1,5 +1,5 @@
 -- A set of positions, as a list that says of each position whether it is a member.
-use Rattle.std.specs.Prelude.{◌≡◌, ◌&&◌, ℕ, List, [], Bool, true, false, not, nat_lt, Vec, map, length, slice_set}
+use Rattle.std.specs.Prelude.{◌≡◌, ℕ, List, [], Bool, true, false, Vec, map, length}
 use Rattle.std.specs.List.{slice_index_or, list_any, list_all}
 
 -- whether p is a member of the set
@@ -23,10 +23,6 @@ pub record IsInside (s t : List Bool) : Type 0 where
   pub same : length s ≡ length t
   pub members : (p : ℕ) → has s p ≡ true → has t p ≡ true
 
--- no banned position is a member of the set
-abbrev pub IsClear : List Bool → List Bool → Type 0
-IsClear banned s = (p : ℕ) → has banned p ≡ true → has s p ≡ false
-
 -- the lists in a list of vectors
 abbrev pub rows_of : {X Z : Type 0} → List (Vec X Z) → List (List X)
 rows_of lists = map (λ list. list.items) lists
@@ -34,22 +30,3 @@ rows_of lists = map (λ list. list.items) lists
 -- the lists of lists in a list of vectors of vectors
 abbrev pub tables_of : {X Z Y : Type 0} → List (Vec (Vec X Z) Y) → List (List (List X))
 tables_of tables = map (λ table. rows_of table.items) tables
-
--- the set is over n positions, allowed, and has no banned member
-pub record IsSuited (may : List Bool → Bool) (n : ℕ) (banned s : List Bool) : Type 0 where
-  pub size : length s ≡ n
-  pub allowed : may s ≡ true
-  pub clear : IsClear banned s
-
--- whether a position is new to the set, not banned, and the set is allowed with it
-abbrev pub may_join : (List Bool → Bool) → List Bool → List Bool → ℕ → Bool
-may_join may banned s p = not (has banned p) && not (has s p) && nat_lt p (length s) && may (slice_set s p true)
-
--- the set is suited, and has a member of each group
-pub record Meets (may : List Bool → Bool) (n : ℕ) (groups : List (List ℕ)) (banned s : List Bool) : Type 0 where
-  pub suited : IsSuited may n banned s
-  pub met : has_each s groups ≡ true
-
--- no set that has all members of the base meets the groups
-abbrev pub NoneMeets : (List Bool → Bool) → ℕ → List (List ℕ) → List Bool → List Bool → Type 0
-NoneMeets may n groups banned base = (s : List Bool) → IsInside base s → Meets may n groups banned s → ⊥

@@ -3,7 +3,8 @@
 ghost use Rattle.std.specs.Prelude.{◌≡◌, ◌<◌, ◌≤◌, ◌+◌, ◌-◌, ◌^◌, ℕ, List, Bool, true, false};
 ghost use Rattle.std.specs.Prelude.{length, min, replicate, slice_set, IfOk, IfErr, IsTrue};
 ghost use Rattle.hack_samples.specs.Sets.{has, IsInside};
-ghost use Rattle.hack_samples.specs.Questions.{IsTired, StaysWithin};
+ghost use Rattle.hack_samples.specs.Questions.{IsTired};
+ghost use Rattle.hack_samples.specs.Internal.{StaysWithin};
 
 use crate::fault::SampleFault;
 

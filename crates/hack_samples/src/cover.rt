@@ -5,8 +5,9 @@ ghost use Rattle.std.specs.Prelude.{true, false, length, min, IsTrue, IfOk, IfEr
 ghost use Rattle.std.specs.Prelude.{Contains, ◌⊎◌};
 ghost use Rattle.hack_samples.specs.Sets.{rows_of, tables_of};
 ghost use Rattle.hack_samples.specs.Samples.{IsListedMask, IsMaskSample, Shows, SomeShows, ShowEachPattern};
-ghost use Rattle.hack_samples.specs.DescendingPatterns.{CoversBelow, IsPossible, AreKept};
-ghost use Rattle.hack_samples.specs.Questions.{IsTired, StaysWithin};
+ghost use Rattle.hack_samples.specs.InternalDescendingPatterns.{CoversBelow, IsPossible, AreKept};
+ghost use Rattle.hack_samples.specs.Questions.{IsTired};
+ghost use Rattle.hack_samples.specs.Internal.{StaysWithin};
 
 use crate::allowed::Allowed;
 use crate::demands::Wanted;

@@ -5,9 +5,12 @@
 
 ghost use Rattle.std.specs.Prelude.{◌≡◌, ◌<◌, ℕ, List, Bool, true, false, length, slice_set};
 ghost use Rattle.std.specs.Prelude.{IsTrue, IfOk, IfErr, OnOk};
-ghost use Rattle.hack_samples.specs.Sets.{has_each, may_join, rows_of};
-ghost use Rattle.hack_samples.specs.Sets.{IsClear, IsInside, IsSuited};
-ghost use Rattle.hack_samples.specs.Questions.{IsTired, StaysWithin};
+ghost use Rattle.hack_samples.specs.Sets.{has_each, rows_of};
+ghost use Rattle.hack_samples.specs.Internal.{may_join};
+ghost use Rattle.hack_samples.specs.Sets.{IsInside};
+ghost use Rattle.hack_samples.specs.Internal.{IsClear, IsSuited};
+ghost use Rattle.hack_samples.specs.Questions.{IsTired};
+ghost use Rattle.hack_samples.specs.Internal.{StaysWithin};
 
 use crate::allowed::{Allowed, ask};
 use crate::demands::{Wanted, ban};

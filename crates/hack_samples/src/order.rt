@@ -5,8 +5,9 @@ ghost use Rattle.std.specs.Prelude.{◌≡◌, ℕ, List, Bool, length, OnOk, Ma
 ghost use Rattle.std.specs.Prelude.{All, AllPairs, Contains};
 ghost use Rattle.std.specs.Ordering.{MatchOrdering};
 ghost use Rattle.hack_samples.specs.Sets.{rows_of};
-ghost use Rattle.hack_samples.specs.Order.{IsMaskBefore, BelongsAt};
-ghost use Rattle.hack_samples.specs.DescendingPatterns.{AreKept};
+ghost use Rattle.hack_samples.specs.Order.{IsMaskBefore};
+ghost use Rattle.hack_samples.specs.Internal.{BelongsAt};
+ghost use Rattle.hack_samples.specs.InternalDescendingPatterns.{AreKept};
 
 use crate::sets::has;
 use std::alloc::AllocError;

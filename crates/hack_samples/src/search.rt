@@ -6,10 +6,13 @@
 
 ghost use Rattle.std.specs.Prelude.{◌≡◌, ◌<◌, ℕ, List, Bool, true, false, length, slice_set};
 ghost use Rattle.std.specs.Prelude.{IsTrue, IfOk, IfErr, IfSome, IfNone, MatchOption};
-ghost use Rattle.hack_samples.specs.Sets.{IsClear, IsInside, IsSuited, Meets, NoneMeets};
+ghost use Rattle.hack_samples.specs.Sets.{IsInside};
+ghost use Rattle.hack_samples.specs.Internal.{IsClear, IsSuited, Meets, NoneMeets};
 ghost use Rattle.hack_samples.specs.Sets.{has_each, is_on, rows_of, tables_of};
-ghost use Rattle.hack_samples.specs.Samples.{IsListedMask, Shows, NoneShows};
-ghost use Rattle.hack_samples.specs.Questions.{IsTired, StaysWithin};
+ghost use Rattle.hack_samples.specs.Samples.{IsListedMask, Shows};
+ghost use Rattle.hack_samples.specs.Internal.{NoneShows};
+ghost use Rattle.hack_samples.specs.Questions.{IsTired};
+ghost use Rattle.hack_samples.specs.Internal.{StaysWithin};
 
 use crate::allowed::Allowed;
 use crate::demands::{Wanted, ban, copies, joined};

@@ -6,7 +6,8 @@ use Rattle.hack_process.specs.CommandTexts.{text_of}
 use Rattle.hack_plan.specs.View.{PlanView}
 use Rattle.hack_plan.specs.Commands.{command_of_entry, name_in, chosen_package_at}
 use Rattle.hack_session.specs.declared.report.Failure.{Failure}
-use Rattle.hack_session.specs.Reports.{FailedRun, failure_view, is_of, run_at, told_text}
+use Rattle.hack_session.specs.Reports.{FailedRun, is_of, run_at, told_text}
+use Rattle.hack_session.specs.Internal.{failure_view}
 
 pub texts_as : (q : List ℕ) (fs : List Failure) → map told_text (filter (is_of q) (map failure_view fs)) ≡ map (λ f. string_bytes f.text) (filter (λ f. bytes_eq q (string_bytes f.name)) fs)
 texts_as q [] = refl

@@ -18,7 +18,8 @@ use Rattle.hack_session.specs.declared.step.Outcome.TheVariants.{Passed, Failed}
 use Rattle.hack_session.specs.declared.step.Handed.{Handed}
 use Rattle.hack_session.specs.Histories.{HasPassed}
 use Rattle.hack_session.specs.Toolchains.{addition_of, toolchain_name, trial_of}
-use Rattle.hack_session.specs.StepCalls.{Succeeds, Fails, CallsUpToFailure, MayCall, Breaks, Installs, BreaksInstall, InstallsAt, BreaksInstallAt, EndsOrIsCut, MakesCalls, is_memory, run_commands, own_asked, cleaning_asked, Exactly, IsCutShort, Performs, PerformsAll, HasPerformed, CountGrowsBy}
+use Rattle.hack_session.specs.StepCalls.{Succeeds, Fails, CallsUpToFailure, MayCall, Breaks, Installs, BreaksInstall, InstallsAt, BreaksInstallAt, EndsOrIsCut, MakesCalls, run_commands, own_asked, cleaning_asked, Exactly, IsCutShort, Performs, PerformsAll, HasPerformed, CountGrowsBy}
+use Rattle.hack_session.specs.InternalStepCalls.{is_memory}
 use Rattle.hack_session.proofs.CallLemmas.{One}
 
 -- the calls of commands in order, by what they returned

@@ -23,9 +23,11 @@ use Rattle.hack_session.specs.Toolchains.{addition_of, toolchain_name}
 use Rattle.hack_session.specs.declared.step.Outcome.{Outcome}
 use Rattle.hack_session.specs.declared.step.Outcome.TheVariants.{Passed, Failed}
 use Rattle.hack_session.specs.declared.step.Handed.{Handed}
-use Rattle.hack_session.specs.StepCalls.{EndsOrIsCut, CountGrowsBy, is_memory, number_at}
-use Rattle.hack_session.specs.StepOutput.{Shown, on_err, both_shown, all_shown, Manner, space_before, end_line, end_shown, opening_shown, group_shown, cleaning_shown, run_cleaning_shown, status_shown, addition_shown, addition_parts, run_parts, skip_parts, parts_of, IsWhole, IsSomeFront, IsFront, Displays, is_run, IsErrorLine, TellsError, memory_shown, ShowsStep, ShowsAll, Streams, Prints, HasShown}
-use Rattle.hack_session.specs.JoinedOutput.{then-nothing, prints_as, prints_then, prints_none}
+use Rattle.hack_session.specs.StepCalls.{EndsOrIsCut, CountGrowsBy, number_at}
+use Rattle.hack_session.specs.InternalStepCalls.{is_memory}
+use Rattle.hack_session.specs.StepOutput.{Shown, on_err, both_shown, all_shown, Manner, space_before, end_line, group_shown, cleaning_shown, run_cleaning_shown, status_shown, addition_shown, addition_parts, run_parts, skip_parts, parts_of, IsWhole, IsSomeFront, IsFront, Displays, is_run, IsErrorLine, TellsError, memory_shown, ShowsStep, ShowsAll, Streams, Prints, HasShown}
+use Rattle.hack_session.specs.Internal.{end_shown, opening_shown, then-nothing, prints_as}
+use Rattle.hack_session.specs.JoinedOutput.{prints_then, prints_none}
 use Rattle.hack_session.proofs.RunLemmas.{comes_fault, comes_map, not_cut, cut_of}
 
 -- ---- lists of parts

@@ -1,5 +1,5 @@
 -- What steps print, one after the other: what the laws of runners need.
-use Rattle.std.proofs.Common.{◌≡◌, ◌+◌, ℕ, Bool, List, [], ◌∷◌, ◌++◌, refl, sym, ◌∙◌, ap, subst, append_assoc, append-nil, arith}
+use Rattle.std.proofs.Common.{◌≡◌, ◌+◌, ℕ, Bool, List, [], ◌∷◌, ◌++◌, refl, sym, ◌∙◌, ap, subst, append_assoc, arith}
 use Rattle.hack_base.proofs.WriteLemmas.{writes-none, writes-then}
 use Rattle.hack_term.specs.declared.log_group.LogGroup.{LogGroup}
 use Rattle.hack_term.specs.declared.term.Term.{Term}
@@ -8,17 +8,11 @@ use Rattle.hack_session.specs.declared.step.Handed.{Handed}
 use Rattle.hack_session.specs.JoinedCalls.{grows_more}
 use Rattle.hack_session.specs.StepOutput.{Shown, on_err, both_shown, Manner, manner_of, ShowsAll, Streams, Prints, HasShown}
 
-pub then-nothing : (a : Shown) → both_shown a (on_err []) ≡ a
-then-nothing a = ap (λ (l : List ℕ). record { out = l; err = a.err ++ [] }) (append-nil a.out) ∙ ap (λ (l : List ℕ). record { out = a.out; err = l }) (append-nil a.err)
-
 pub both-assoc : (a b c : Shown) → both_shown (both_shown a b) c ≡ both_shown a (both_shown b c)
 both-assoc a b c = ap (λ (l : List ℕ). record { out = l; err = (a.err ++ b.err) ++ c.err }) (append_assoc a.out b.out c.out) ∙ ap (λ (l : List ℕ). record { out = a.out ++ (b.out ++ c.out); err = l }) (append_assoc a.err b.err c.err)
 
 pub prints_none : (P : Shown → Type 0) (a : Streams) → P (on_err []) → Prints P a a
 prints_none P a p = record { shown = on_err []; such = p; out_written = writes-none a.out a.out_failed; err_written = writes-none a.err a.err_failed }
-
-pub prints_as : (P Q : Shown → Type 0) (a b : Streams) → ((s : Shown) → P s → Q s) → Prints P a b → Prints Q a b
-prints_as P Q a b f p = record { shown = p.shown; such = f p.shown p.such; out_written = p.out_written; err_written = p.err_written }
 
 pub prints_then : (P Q R : Shown → Type 0) (a b c : Streams) → ((s t : Shown) → P s → Q t → R (both_shown s t)) → Prints P a b → Prints Q b c → Prints R a c
 prints_then P Q R a b c f p q = record {

@@ -13,3 +13,5 @@ pub mod JoinedLists
 pub mod Reports
 pub mod Suspects
 pub mod SuspectNotes
+pub mod Internal
+pub mod InternalStepCalls

@@ -11,8 +11,6 @@ use Rattle.hack_session.specs.declared.step.Step.TheVariants.{Prepare, Skip, Run
 use Rattle.hack_session.specs.declared.step.Outcome.{Outcome}
 use Rattle.hack_session.specs.declared.step.Outcome.TheVariants.{Passed, Failed}
 use Rattle.hack_session.specs.declared.step.Handed.{Handed}
-use Rattle.hack_session.specs.declared.lines.LineFault.{LineFault}
-use Rattle.hack_session.specs.declared.lines.LineFault.TheVariants.{Unwritten, Memory}
 use Rattle.hack_session.specs.StepCalls.{CountGrowsBy}
 
 -- a command's line in a list
@@ -39,10 +37,6 @@ step_lines plan (Prepare (Clean v)) = line_of plan.call.dir (clean_command plan.
 step_lines plan (Skip place) = []
 step_lines plan (Run place) = run_lines_at plan (slice_get plan.entries place)
 
--- what a step that was handed out lists
-abbrev pub lines_listed : PlanView → Handed → List ℕ
-lines_listed plan h = step_lines plan h.step
-
 -- a step that isn't listed, but performed: a toolchain or a lockfile
 abbrev pub is_sent_step : Step → Bool
 is_sent_step (Prepare (Toolchain v)) = true
@@ -60,24 +54,10 @@ abbrev pub has_failed : Outcome → Bool
 has_failed Passed = false
 has_failed Failed = true
 
--- a step of the list that failed
-abbrev pub is_unlisted : Handed → Bool
-is_unlisted h = if is_sent_step h.step then false else has_failed h.outcome
-
--- a step of the list that didn't fail
-abbrev pub IsListedStep : Handed → Type 0
-IsListedStep h = is_unlisted h ≡ false
-
 -- a line that can't be written counts as one failure
 abbrev pub CountsFailedLine : {T E : Type 0} → ℕ → ℕ → Result T E → Type 0
 CountsFailedLine before now (Ok done) = CountGrowsBy 0 before now
 CountsFailedLine before now (Err fault) = CountGrowsBy 1 before now
-
--- only a line that can't be written counts as a failure, and not that memory is refused
-abbrev pub CountsLines : {T : Type 0} → ℕ → ℕ → Result T LineFault → Type 0
-CountsLines before now (Ok done) = CountGrowsBy 0 before now
-CountsLines before now (Err Unwritten) = CountGrowsBy 1 before now
-CountsLines before now (Err Memory) = CountGrowsBy 0 before now
 
 -- what a list's writer holds, where that is known; how many lines it failed to write; and how many
 -- steps were cut short because memory was refused

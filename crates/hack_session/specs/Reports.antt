@@ -14,7 +14,6 @@ use Rattle.hack_session.specs.declared.step.Step.TheVariants.{Prepare, Skip, Run
 use Rattle.hack_session.specs.declared.step.Outcome.{Outcome}
 use Rattle.hack_session.specs.declared.step.Outcome.TheVariants.{Passed, Failed}
 use Rattle.hack_session.specs.declared.step.Handed.{Handed}
-use Rattle.hack_session.specs.declared.report.Failure.{Failure}
 use Rattle.hack_session.specs.declared.report.KeepGoing.{KeepGoing}
 use Rattle.hack_session.specs.Histories.{Course}
 
@@ -50,10 +49,6 @@ is_of name run = bytes_eq name run.name
 -- the text of a failed run
 abbrev pub told_text : FailedRun → List ℕ
 told_text run = run.text
-
--- a failure as plain data
-abbrev pub failure_view : Failure → FailedRun
-failure_view f = record { name = string_bytes f.name; text = string_bytes f.text }
 
 -- the texts under a name, in order
 abbrev pub texts_under : List ℕ → BTreeMap (String Global) (Vec (String Global) Global) → List (List ℕ)

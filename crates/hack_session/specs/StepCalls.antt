@@ -1,5 +1,5 @@
 -- What a step asks of a caller.
-use Rattle.std.specs.Prelude.{◌≡◌, ◌≢◌, ◌⊎◌, ◌+◌, ◌-◌, ◌^◌, ◌<◌, min, ℕ, Bool, true, false, List, [], ◌∷◌, ◌++◌, Result, Ok, Err, Option, Some, None, slice_get, IsSome, if◌then◌else◌}
+use Rattle.std.specs.Prelude.{◌≡◌, ◌≢◌, ◌⊎◌, ◌+◌, ◌-◌, ◌^◌, ◌<◌, min, ℕ, true, false, List, [], ◌∷◌, ◌++◌, Result, Ok, Err, Option, Some, None, slice_get, IsSome, if◌then◌else◌}
 use Rattle.hack_process.specs.declared.fault.ProcessFault.{ProcessFault}
 use Rattle.hack_process.specs.declared.fault.ProcessFault.TheVariants.{Memory, EmptyProgram, NeverExecuted, NotText}
 use Rattle.hack_process.specs.declared.fault.ProcessFault.TheVariants.{Failed as ByFailure}
@@ -131,14 +131,6 @@ IsCutShort plan (Prepare (Lockfile v)) calls = Breaks (lockfile_commands plan (n
 IsCutShort plan (Prepare (Clean v)) calls = Breaks (asked_of false (clean_command plan.call None) ∷ []) calls
 IsCutShort plan (Skip place) calls = calls ≡ []
 IsCutShort plan (Run place) calls = Breaks (run_commands plan (slice_get plan.entries place)) calls
-
--- memory was refused
-abbrev pub is_memory : ProcessFault → Bool
-is_memory Memory = true
-is_memory EmptyProgram = false
-is_memory (NeverExecuted text) = false
-is_memory (NotText text) = false
-is_memory (ByFailure failure) = false
 
 -- by what commands returned: they ended with an outcome, or memory was refused
 abbrev pub EndsOrIsCut : {T : Type 0} → (Outcome → Type 0) → Type 0 → Result T ProcessFault → Type 0

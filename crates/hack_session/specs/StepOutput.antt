@@ -64,14 +64,6 @@ abbrev pub end_line : LogGroup → List ℕ
 end_line Ungrouped = []
 end_line GithubActions = closing_line
 
--- the line that opens a group, or a line with its text
-abbrev pub opening_shown : Manner → List ℕ → Shown
-opening_shown m text = record { out = opening_line m.group text; err = message_line m.group m.coloring text }
-
--- the end of a group
-abbrev pub end_shown : Manner → Shown
-end_shown m = record { out = end_line m.group; err = [] }
-
 -- a group from its text to its end, or just a line with the text
 abbrev pub group_shown : Manner → List ℕ → Shown
 group_shown m text = record { out = opening_line m.group text ++ end_line m.group; err = message_line m.group m.coloring text }

@@ -1,5 +1,5 @@
 -- Which small patterns explain the failed runs of a plan.
-use Rattle.std.specs.Prelude.{ℕ, ◌≡◌, ◌≢◌, ◌<◌, ◌≤◌, ◌*◌, ◌++◌, ◌↔◌, ◌⊎◌, List, [], ◌∷◌, Bool, true, false, Option, Some, None, All, AllPairs, Contains, length, map, option_map, slice_get}
+use Rattle.std.specs.Prelude.{ℕ, ◌≡◌, ◌≢◌, ◌<◌, ◌≤◌, ◌*◌, ◌++◌, ◌↔◌, List, [], ◌∷◌, Bool, true, false, Option, Some, None, All, AllPairs, Contains, length, map, option_map, slice_get}
 use Rattle.std.specs.List.{slice_index_or}
 use Rattle.hack_plan.specs.declared.places.PlanEntry.{PlanEntry}
 use Rattle.hack_plan.specs.View.{PackageView, PlanView}
@@ -111,10 +111,6 @@ pub record FailsBefore (plan : PlanView) (handed : List Handed) (one other : Par
   pub split : handed ≡ before ++ after
   pub failed : HasFailedRun plan before one
   pub not : HasFailedRun plan before other → ⊥
-
--- the parts are the old ones, or these and one more that is none of them
-abbrev pub AddsOnce : List Part → List Part → Type 0
-AddsOnce old new = (new ≡ old) ⊎ ((part : Part) × (new ≡ old ++ part ∷ []) × (Contains old part → ⊥))
 
 -- just the parts with failed runs are explained, each once, in the order of their first failures
 pub record AreExplained (t : Course) (strength : ℕ) (all : List ExplainedView) : Type 0 where

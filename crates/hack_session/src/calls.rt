@@ -3,7 +3,7 @@
 ghost use Rattle.std.specs.Prelude.{◌≡◌, ◌∷◌, [], true, false};
 ghost use Rattle.hack_process.specs.Commands.{asked_of, command_of};
 ghost use Rattle.hack_session.specs.StepCalls.{Breaks, EndsOrIsCut, CallsUpToFailure, MakesCalls};
-ghost use Rattle.hack_session.specs.StepCalls.{is_memory as is_want};
+ghost use Rattle.hack_session.specs.InternalStepCalls.{is_memory as is_want};
 ghost use Rattle.hack_session.specs.StepOutput.{Prints, group_shown, manner_of, streams};
 
 use crate::screen::Screen;

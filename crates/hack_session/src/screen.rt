@@ -4,9 +4,11 @@ ghost use Rattle.std.specs.Prelude.{◌≡◌, ◌↔◌, [], IfOk, IsSome, Matc
 ghost use Rattle.std.specs.Prelude.{string_bytes};
 ghost use Rattle.hack_process.specs.CommandTexts.{text_of};
 ghost use Rattle.hack_process.specs.Commands.{command_of};
-ghost use Rattle.hack_session.specs.StepOutput.{Prints, cleaning_shown, end_shown, manner_of};
+ghost use Rattle.hack_session.specs.StepOutput.{Prints, cleaning_shown, manner_of};
+ghost use Rattle.hack_session.specs.Internal.{end_shown};
 ghost use Rattle.hack_session.specs.StepOutput.{on_err};
-ghost use Rattle.hack_session.specs.StepOutput.{opening_shown, space_before, streams};
+ghost use Rattle.hack_session.specs.StepOutput.{space_before, streams};
+ghost use Rattle.hack_session.specs.Internal.{opening_shown};
 ghost use Rattle.hack_session.specs.Statuses.{on_text, running_text, status_text};
 
 use hack_base::writes::{Sink, write_front};

@@ -1,3 +1,4 @@
 pub mod Calls
 pub mod Stands
 pub mod Words
+pub mod Internal

@@ -47,13 +47,6 @@ Stands tool dir words old new output status = MatchOption (printed_by tool words
 abbrev pub IsIn : List ℕ → List ℕ → Type 0
 IsIn dir path = (name : List ℕ) × (path ≡ file_in dir name)
 
--- a file can't be read, which was counted, or memory ran out
-abbrev pub IsFailedRead : List ℕ → ℕ → ℕ → FsFault → Type 0
-IsFailedRead path before now (Read p) = (string_bytes p ≡ path) × GrowsBy 1 before now
-IsFailedRead path before now (Write p) = ⊥
-IsFailedRead path before now (NotText p) = ⊥
-IsFailedRead path before now Memory = Unit {0}
-
 -- a file of the folder can't be read or written, which was counted, or memory ran out
 abbrev pub IsDeviceFault : List ℕ → ℕ → ℕ → FsFault → Type 0
 IsDeviceFault dir before now (Read path) = IsIn dir (string_bytes path) × GrowsBy 1 before now

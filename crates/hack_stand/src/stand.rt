@@ -8,7 +8,8 @@ ghost use Rattle.std.specs.Prelude.{option_copied};
 ghost use Rattle.hack_files.specs.Files.{GrowsBy, KeepsAll, KeepsOthers};
 ghost use Rattle.hack_stand.specs.Words.{ends_with_word, has_line, has_word, is_lone_word, arguments_line};
 ghost use Rattle.hack_stand.specs.Words.{printed_by};
-ghost use Rattle.hack_stand.specs.Stands.{IsDeviceFault, IsFailedRead, IsStandFault, Notes};
+ghost use Rattle.hack_stand.specs.Stands.{IsDeviceFault, IsStandFault, Notes};
+ghost use Rattle.hack_stand.specs.Internal.{IsFailedRead};
 ghost use Rattle.hack_stand.specs.Stands.{PrintsFile, Stands, file_in, held_or_none, noted_status};
 
 use hack_files::fs;

@@ -4,7 +4,7 @@ use Rattle.std.specs.Prelude.{slice_get, Some, None}
 use Rattle.std.proofs.lemmas.Bool.{cases_lt}
 use Rattle.std.proofs.lemmas.Option.{none-some, get_or_from_slice_get, slice_get-get_or, slice_get_within}
 use Rattle.hack_suspects.specs.Suspects.{choices}
-use Rattle.hack_suspects.specs.Walks.{CountsChoices}
+use Rattle.hack_suspects.specs.InternalWalks.{CountsChoices}
 
 pub choices-none : (n : ℕ) → choices n 0 ≡ 1
 choices-none zero = refl

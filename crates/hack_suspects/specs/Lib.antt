@@ -1,3 +1,3 @@
 pub mod Suspects
 pub mod Faults
-pub mod Walks
+pub mod InternalWalks

@@ -2,7 +2,7 @@
 
 ghost use Rattle.std.specs.Prelude.{◌≡◌, ◌+◌, ◌-◌, ◌^◌, ℕ, suc, length, min, IfOk};
 ghost use Rattle.hack_suspects.specs.Suspects.{choices};
-ghost use Rattle.hack_suspects.specs.Walks.{CountsChoices};
+ghost use Rattle.hack_suspects.specs.InternalWalks.{CountsChoices};
 
 use std::alloc::{AllocError, Global};
 

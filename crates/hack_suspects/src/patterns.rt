@@ -5,7 +5,7 @@ ghost use Rattle.std.specs.Prelude.{MatchBool, MatchOption, AllPairs, Contains, 
 ghost use Rattle.std.specs.Ordering.{MatchOrdering};
 ghost use Rattle.hack_samples.specs.Sets.{rows_of};
 ghost use Rattle.hack_suspects.specs.Suspects.{RowShows, Precedes, DiffersBefore, IsPatternBefore};
-ghost use Rattle.hack_suspects.specs.Walks.{PatternsAreKept, PatternFits};
+ghost use Rattle.hack_suspects.specs.InternalWalks.{PatternsAreKept, PatternFits};
 
 use hack_samples::Setting;
 use std::alloc::AllocError;

@@ -7,8 +7,8 @@ ghost use Rattle.std.specs.Prelude.{Contains, length, remove, IfOk, IfErr, OnOk,
 ghost use Rattle.hack_samples.specs.Sets.{rows_of};
 ghost use Rattle.hack_suspects.specs.Suspects.{outcomes_of, choices, RowShows, IsShown, Rises};
 ghost use Rattle.hack_suspects.specs.Suspects.{IsSuspect, AreSuspects, IsRefused};
-ghost use Rattle.hack_suspects.specs.Walks.{IsFailedRow, AreSomeSuspects, FindsFrom};
-ghost use Rattle.hack_suspects.specs.Walks.{PatternsAreKept};
+ghost use Rattle.hack_suspects.specs.InternalWalks.{IsFailedRow, AreSomeSuspects, FindsFrom};
+ghost use Rattle.hack_suspects.specs.InternalWalks.{PatternsAreKept};
 
 use crate::choices::choices;
 use crate::patterns::{put, row_shows};

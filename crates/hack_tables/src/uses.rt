@@ -6,7 +6,7 @@ use hack_features::Feature;
 use hack_lexopt::{Next, Parser};
 use hack_options::{Opt, Usage, long};
 use hack_rules::named::{groups, lifts, names, optional_names, targets};
-use hack_uses::{
+use hack_rules::uses::{
     Cuts, Print, Use, WorkspaceBehavior, all_uses, count, given, leading, subcommand, value, values,
 };
 use std::alloc::{AllocError, Global};

@@ -1,20 +1,21 @@
 -- What a command line leads to once its uses of options are judged.
 use Rattle.std.proofs.Common.{◌≡◌, ℕ, List, Option, Some, None, Err, IfSome, MatchOption, ap, refl, sym, subst, ◌∙◌}
-use Rattle.hack_uses.specs.declared.behavior.WorkspaceBehavior.{WorkspaceBehavior}
-use Rattle.hack_uses.specs.Faults.{ArgumentFault as WrongCut, argument_fault_of as cut_fault_of}
-use Rattle.hack_uses.specs.declared.fault.CutFault.{CutFault}
-use Rattle.hack_uses.specs.declared.fault.CutFault.TheVariants as cut
-use Rattle.hack_uses.specs.UseReading.{ReadsUsesThen, Reading, Met, End, Prints, Fails, IsLast}
-use Rattle.hack_uses.specs.Uses.{Use}
-use Rattle.hack_uses.specs.declared.cut.Print.{Print as Question}
+use Rattle.hack_rules.specs.declared.uses.behavior.WorkspaceBehavior.{WorkspaceBehavior}
+use Rattle.hack_rules.specs.Faults.{ArgumentFault as WrongCut, argument_fault_of as cut_fault_of}
+use Rattle.hack_rules.specs.declared.uses.fault.CutFault.{CutFault}
+use Rattle.hack_rules.specs.declared.uses.fault.CutFault.TheVariants as cut
+use Rattle.hack_rules.specs.UseReading.{ReadsUsesThen, Reading, Met, End, Prints, Fails, IsLast}
+use Rattle.hack_rules.specs.Uses.{Use}
+use Rattle.hack_rules.specs.declared.uses.cut.Print.{Print as Question}
 use Rattle.hack_base.specs.Notes.{Note}
-use Rattle.hack_words.specs.ParseAnswers.{AnswersCommandLine, Refuses, IsJudged, IsPrinted, GivesCuts, BreakNoRule}
+use Rattle.hack_words.specs.ParseAnswers.{AnswersCommandLine, Refuses, BreakNoRule}
+use Rattle.hack_words.specs.Internal.{IsJudged, IsPrinted, GivesCuts}
 use Rattle.hack_words.specs.CommandLine.{Around, CommandLineOutcome, IsEnd, ComesFrom, ComesTo, Faulty, outcome_of}
 use Rattle.hack_rules.specs.CliFaults.{Fault, Cut, fault_of, told_of_cut}
 use Rattle.hack_rules.specs.declared.fault.CliFault.{CliFault}
 use Rattle.hack_rules.specs.declared.fault.CliFault.TheVariants as fault
 use Rattle.hack_words.specs.Start.{Start, Refuses as Begun, Cuts, start_of}
-use Rattle.hack_uses.proofs.One.{ends-one}
+use Rattle.hack_rules.proofs.One.{ends-one}
 use Rattle.hack_rules.specs.Rules.{Verdict, Refused, refused_by, verdict_or}
 use Rattle.hack_words.specs.declared.cli.parse.Parsed.{Parsed}
 use Rattle.hack_words.specs.declared.cli.parse.Parsed.TheVariants as code

@@ -2,11 +2,10 @@
 use Rattle.std.specs.Prelude.{ℕ, ◌≡◌, List, Bool, Option, IfSome, option_map}
 use Rattle.hack_base.specs.Names.{names_of, optional_text}
 use Rattle.hack_options.specs.declared.opt.Opt.TheVariants as opt
-use Rattle.hack_uses.specs.declared.behavior.WorkspaceBehavior.{WorkspaceBehavior}
-use Rattle.hack_uses.specs.Uses.{Use, is_given, subcommand_of}
-use Rattle.hack_uses.specs.Values.{value_given, values_given}
+use Rattle.hack_rules.specs.declared.uses.behavior.WorkspaceBehavior.{WorkspaceBehavior}
+use Rattle.hack_rules.specs.Uses.{Use, is_given, subcommand_of}
+use Rattle.hack_rules.specs.Values.{value_given, values_given}
 use Rattle.hack_words.specs.declared.cli.args.Args.{Args}
-use Rattle.hack_words.specs.declared.cli.args.Read.{Read}
 use Rattle.hack_rules.specs.AskedFields.{coloring_asked, depth_asked, strength_asked, range_asked, step_asked, log_group_asked, piece_asked, kind_asked, leading_asked, excluded_asked, excludes_no_default, excludes_all, ignores_private}
 use Rattle.hack_rules.specs.CliGroups.{AreGroupsOf, AreNormalsOf, AreLifts}
 use Rattle.hack_rules.specs.CliLists.{names_given, optional_given, lifts_given}
@@ -54,19 +53,6 @@ pub record HasFeatures (us : List Use) (args : Args) : Type 0 where
   pub group_features : AreGroupsOf (values_given opt.GroupFeatures us) args.group_features.items
   pub mutually_exclusive_features : AreGroupsOf (values_given opt.MutuallyExclusiveFeatures us) args.mutually_exclusive_features.items
   pub at_least_one_of : AreGroupsOf (values_given opt.AtLeastOneOf us) args.at_least_one_of.items
-
--- what the rules read is carried over unchanged
-pub record Carries (read : Read) (args : Args) : Type 0 where
-  pub trailing_args : args.trailing_args ≡ read.call.trailing
-  pub workspace_behavior : args.workspace_behavior ≡ read.call.behavior
-  pub coloring : args.coloring ≡ read.early.coloring
-  pub depth : args.depth ≡ read.early.depth
-  pub version_range : args.version_range ≡ read.late.versions.range
-  pub version_step : args.version_step ≡ read.late.versions.step
-  pub log_group : args.log_group ≡ read.late.log_group
-  pub partition : args.partition ≡ read.late.partition
-  pub allow_together : args.allow_together ≡ read.late.lifts
-  pub strength : args.strength ≡ read.late.strength
 
 -- the values, read from the options and the environment
 pub record HasValues (term_color : Option (List ℕ)) (github_actions : Bool) (behavior : WorkspaceBehavior) (trailing : List (List ℕ)) (us : List Use) (args : Args) : Type 0 where

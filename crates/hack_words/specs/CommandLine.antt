@@ -2,11 +2,11 @@
 -- arguments.
 use Rattle.std.specs.Prelude.{ℕ, ◌≡◌, ◌++◌, ◌&&◌, ◌||◌, List, [], ◌∷◌, Bool, true, false, Option, Some, None, codes, if◌then◌else◌}
 use Rattle.hack_options.specs.declared.opt.Opt.TheVariants as opt
-use Rattle.hack_uses.specs.declared.behavior.WorkspaceBehavior.{WorkspaceBehavior}
-use Rattle.hack_uses.specs.declared.cut.Print.{Print}
-use Rattle.hack_uses.specs.UseReading.{Reading, Met, End, Prints as Questions, Fails, ReadsUsesThen}
-use Rattle.hack_uses.specs.Uses.{Use, is_given}
-use Rattle.hack_uses.specs.Values.{value_given}
+use Rattle.hack_rules.specs.declared.uses.behavior.WorkspaceBehavior.{WorkspaceBehavior}
+use Rattle.hack_rules.specs.declared.uses.cut.Print.{Print}
+use Rattle.hack_rules.specs.UseReading.{Reading, Met, End, Prints as Questions, Fails, ReadsUsesThen}
+use Rattle.hack_rules.specs.Uses.{Use, is_given}
+use Rattle.hack_rules.specs.Values.{value_given}
 use Rattle.hack_base.specs.Notes.{Note, note_if}
 use Rattle.hack_versions.specs.Readings.{Sides, at_dots}
 use Rattle.hack_base.specs.declared.notice.NoticeKind.{NoticeKind}

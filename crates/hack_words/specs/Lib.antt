@@ -5,3 +5,4 @@ pub mod EnvView
 pub mod RustupView
 pub mod Start
 pub mod StartView
+pub mod Internal

@@ -2,9 +2,9 @@
 use Rattle.std.specs.Prelude.{ℕ, List, [], ◌∷◌, not, ◌||◌, Bool, None, codes, length, nat_lt, nat_eq, bytes_eq, if◌then◌else◌}
 use Rattle.std.specs.List.{filter, list_any, starts_with}
 use Rattle.hack_options.specs.declared.opt.Opt.TheVariants as opt
-use Rattle.hack_uses.specs.declared.behavior.WorkspaceBehavior.{WorkspaceBehavior}
-use Rattle.hack_uses.specs.declared.behavior.WorkspaceBehavior.TheVariants.{Cargo, Default}
-use Rattle.hack_uses.specs.Faults.{LongFlag, Repeat}
+use Rattle.hack_rules.specs.declared.uses.behavior.WorkspaceBehavior.{WorkspaceBehavior}
+use Rattle.hack_rules.specs.declared.uses.behavior.WorkspaceBehavior.TheVariants.{Cargo, Default}
+use Rattle.hack_rules.specs.Faults.{LongFlag, Repeat}
 use Rattle.hack_rules.specs.CliFaults.{Fault, NoWord, NotHack, Cut}
 
 -- the arguments before the first --

@@ -12,7 +12,7 @@ pub use env::Env;
 pub use hack_features::Feature;
 pub use hack_options::{Help, Opt};
 pub use hack_rules::fault::{Beside, CliFault};
-pub use hack_uses::{CutFault, OwnedFlag, WorkspaceBehavior};
+pub use hack_rules::uses::{CutFault, OwnedFlag, WorkspaceBehavior};
 pub use laws::outcome_is_one;
 pub use parse::Parsed;
 pub use start::wants_rustup;

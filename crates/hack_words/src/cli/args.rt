@@ -4,9 +4,9 @@ ghost use Rattle.std.specs.Prelude.{◌≡◌, ◌++◌, IfErr, IfOk, OnOk, code
 ghost use Rattle.std.specs.List.{repeat};
 ghost use Rattle.hack_base.specs.Names.{names_of, optional_text_ref, optional_text};
 ghost use Rattle.hack_base.specs.Notes.{note_of};
-ghost use Rattle.hack_uses.specs.PassedWords.{leading_of};
-ghost use Rattle.hack_uses.specs.Uses.{views};
-ghost use Rattle.hack_uses.specs.Values.{values_given};
+ghost use Rattle.hack_rules.specs.PassedWords.{leading_of};
+ghost use Rattle.hack_rules.specs.Uses.{views};
+ghost use Rattle.hack_rules.specs.Values.{values_given};
 ghost use Rattle.hack_rules.specs.AskedFields.{verbose_words, excludes_no_default, excludes_all};
 ghost use Rattle.hack_rules.specs.AskedFields.{ignores_private as private_ignored};
 ghost use Rattle.hack_rules.specs.ListsView.{listed_view};
@@ -26,9 +26,9 @@ use hack_rules::fault::CliFault;
 use hack_rules::late::Late;
 use hack_rules::listed::Lists;
 use hack_rules::named;
+use hack_rules::uses::{Use, WorkspaceBehavior, count, given, subcommand, value, values};
 use hack_term::partition::Partition;
 use hack_term::term::{Coloring, LogGroup};
-use hack_uses::{Use, WorkspaceBehavior, count, given, subcommand, value, values};
 use hack_versions::rustup::Rustup;
 use hack_versions::version::VersionRange;
 use std::alloc::{AllocError, Global};
@@ -193,7 +193,8 @@ pub struct Read {
 }
 
 impl Args {
-    ghost use Rattle.hack_words.specs.ArgsView.{HasFlags, HasTexts, HasFeatures, Carries};
+    ghost use Rattle.hack_words.specs.ArgsView.{HasFlags, HasTexts, HasFeatures};
+    ghost use Rattle.hack_words.specs.Internal.{Carries};
     ghost use Rattle.hack_rules.specs.CliGroups.{AreGroupsOf};
     ghost use Rattle.hack_rules.specs.ListedFeatures.{listed_by};
 

@@ -3,12 +3,14 @@
 ghost use Rattle.std.specs.Prelude.{List, ◌≡◌, IfOk, IfErr, MatchOption, OnOk, map};
 ghost use Rattle.std.specs.Prelude.{string_bytes};
 ghost use Rattle.hack_base.specs.Names.{names_of};
-ghost use Rattle.hack_uses.specs.PassedWords.{leading_of};
-ghost use Rattle.hack_uses.specs.Uses.{views};
+ghost use Rattle.hack_rules.specs.PassedWords.{leading_of};
+ghost use Rattle.hack_rules.specs.Uses.{views};
 ghost use Rattle.hack_base.specs.Notes.{note_of, AddsNotes};
-ghost use Rattle.hack_words.specs.ParseAnswers.{Judges, IsJudged, IsText, IsPrinted};
+ghost use Rattle.hack_words.specs.ParseAnswers.{IsText};
+ghost use Rattle.hack_words.specs.Internal.{Judges, IsJudged, IsPrinted};
 ghost use Rattle.hack_words.specs.ParseAnswers.{AnswersCommandLine};
-ghost use Rattle.hack_words.specs.ParseAnswers.{Refuses, GivesCuts, around_in};
+ghost use Rattle.hack_words.specs.ParseAnswers.{Refuses};
+ghost use Rattle.hack_words.specs.Internal.{GivesCuts, around_in};
 ghost use Rattle.hack_rules.specs.AskedFields.{is_old_asked};
 ghost use Rattle.hack_words.specs.CommandLine.{ComesFrom, ComesTo, Faulty, outcome_of};
 ghost use Rattle.hack_words.specs.CommandLine.{later_notes, in_vain};
@@ -30,7 +32,7 @@ use hack_rules::early::{self, Early};
 use hack_rules::fault::CliFault;
 use hack_rules::late::{self, Late, is_ranged};
 use hack_rules::listed::Lists;
-use hack_uses::{Cuts, Print, Use, WorkspaceBehavior, all_uses, given, leading, value};
+use hack_rules::uses::{Cuts, Print, Use, WorkspaceBehavior, all_uses, given, leading, value};
 use hack_versions::rustup::Rustup;
 use std::alloc::{AllocError, Global};
 

@@ -6,12 +6,13 @@ ghost use Rattle.hack_words.specs.Start.{front_words, trailing_words, is_behavio
 ghost use Rattle.hack_words.specs.Start.{is_range_option as range_option};
 ghost use Rattle.hack_words.specs.Start.{has_range as range_with_value};
 ghost use Rattle.hack_words.specs.Start.{wants_rustup as rustup_wanted};
-ghost use Rattle.hack_words.specs.StartView.{ReturnsStart, TakesOut};
+ghost use Rattle.hack_words.specs.StartView.{ReturnsStart};
+ghost use Rattle.hack_words.specs.Internal.{TakesOut};
 
 use hack_base::copies::copies;
 use hack_options::Opt;
 use hack_rules::fault::CliFault;
-use hack_uses::{CutFault, OwnedFlag, WorkspaceBehavior};
+use hack_rules::uses::{CutFault, OwnedFlag, WorkspaceBehavior};
 use std::alloc::{AllocError, Global};
 
 /// The arguments before the first `--`, and those after it.

@@ -3,7 +3,7 @@ use Rattle.std.proofs.lemmas.Bool.{false≢true}
 use Rattle.toml.specs.View.{table_view}
 use Rattle.hack_manifest.specs.PieceView.{piece_view}
 use Rattle.hack_edits.specs.DevDeps.{IsLeft, AreLeft}
-use Rattle.hack_edits.specs.LeftPieces.{IsRecut, AreRecut, AppendsWhatIsLeft}
+use Rattle.hack_edits.specs.Internal.{IsRecut, AreRecut, AppendsWhatIsLeft}
 use Rattle.hack_edits.proofs.LeftLemmas.{parts-more, cuts_arrays-more, cuts_arrays-here}
 use Rattle.hack_edits.proofs.dev_deps.join_pieces.Goals.{then-known, else-known}
 use Rattle.hack_edits.proofs.dev_deps.join_pieces.Goals as goal

@@ -1,7 +1,7 @@
 use Rattle.std.proofs.Common.{◌≡◌, List, ◌++◌, ℕ, map, drop, string_bytes, true, false}
 use Rattle.toml.specs.View.{table_view}
 use Rattle.hack_edits.specs.DevDeps.{AreLeft, cuts_arrays}
-use Rattle.hack_edits.specs.LeftPieces.{AreRecut}
+use Rattle.hack_edits.specs.Internal.{AreRecut}
 use Rattle.hack_manifest.specs.PieceView.{piece_view}
 use Rattle.hack_edits.proofs.dev_deps.join_pieces.Given as goal
 

@@ -5,7 +5,7 @@ use Rattle.toml.specs.Parse.{parse_document}
 use Rattle.hack_manifest.specs.PieceView.{pieces_view}
 use Rattle.hack_edits.specs.DevDeps.{AreLeft, cuts_arrays}
 use Rattle.hack_edits.specs.DevTree.{reads_as_left}
-use Rattle.hack_edits.specs.LeftPieces.{AreRecut}
+use Rattle.hack_edits.specs.Internal.{AreRecut}
 use Rattle.hack_edits.proofs.LeftLemmas.{left-whole}
 use Rattle.hack_edits.proofs.RecutLemmas.{no_dev-left}
 use Rattle.hack_edits.proofs.dev_deps.without_dev_pieces.Goals as goal

@@ -1,6 +1,6 @@
 use Rattle.std.proofs.Common.{◌≡◌, length, drop}
 use Rattle.toml.specs.View.{items_view, members_view}
-use Rattle.hack_edits.specs.TreeEquality.{same_items, same_members}
+use Rattle.hack_edits.specs.InternalTreeEquality.{same_items, same_members}
 use Rattle.hack_edits.proofs.same.+same.Given as goal
 
 -- what is left is the same exactly where all is

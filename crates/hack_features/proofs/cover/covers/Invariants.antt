@@ -1,7 +1,7 @@
 use Rattle.std.proofs.Common.{◌≡◌, take, true}
 use Rattle.std.specs.List.{list_all}
 use Rattle.hack_samples.specs.Sets.{rows_of}
-use Rattle.hack_features.specs.Cover.{set_enables_test}
+use Rattle.hack_features.specs.InternalCover.{set_enables_test}
 use Rattle.hack_features.proofs.cover.covers.Given as goal
 
 abbrev pub invariant-loop-y : goal.invariant-loop-y

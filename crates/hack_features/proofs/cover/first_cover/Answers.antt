@@ -1,6 +1,6 @@
 use Rattle.std.proofs.Common.{◌≡◌, ◌<◌, ◌+◌, ◌-◌, [], List, ℕ, Bool, cond, sym, ap, subst, length, get_or, arith}
 use Rattle.std.specs.List.{remove}
-use Rattle.hack_features.specs.Cover.{covers_test}
+use Rattle.hack_features.specs.InternalCover.{covers_test}
 use Rattle.hack_samples.specs.Sets.{rows_of}
 use Rattle.hack_features.specs.RoutesView.{routed_names}
 use Rattle.hack_features.proofs.CoverLemmas.{Greedy, greedy_start, greedy_turn, greedy_end, kept_room}

@@ -1,6 +1,6 @@
 use Rattle.std.proofs.Common.{◌≡◌, take, false}
 use Rattle.hack_samples.specs.Sets.{rows_of}
-use Rattle.hack_features.specs.Cover.{set_enables_test}
+use Rattle.hack_features.specs.InternalCover.{set_enables_test}
 use Rattle.hack_features.proofs.cover.set_enables.Given as goal
 
 abbrev pub invariant-loop-p : goal.invariant-loop-p

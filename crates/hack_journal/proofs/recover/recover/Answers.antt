@@ -2,7 +2,8 @@ use Rattle.std.proofs.Common.{◌≡◌, ◌∙◌, ◌⊎◌, ap, sym, subst, [
 use Rattle.std.proofs.lemmas.Result.{err_from_is_err_and, on_ok_weaker, IfErr-weaker}
 use Rattle.hack_files.specs.Files.{Contents}
 use Rattle.hack_journal.specs.Journal.{Edit, edits_of}
-use Rattle.hack_journal.specs.Recovery.{FailsAt, HasEntry}
+use Rattle.hack_journal.specs.Recovery.{HasEntry}
+use Rattle.hack_journal.specs.Internal.{FailsAt}
 use Rattle.hack_journal.specs.SafeFiles.{IsSafeBy}
 use Rattle.hack_journal.specs.SafeLaws.{stay_append, stay_none, makes_append}
 use Rattle.hack_journal.proofs.FinishLemmas.{all_same}

@@ -2,7 +2,7 @@ use Rattle.std.proofs.Common.{◌∙◌, ap, sym, subst, List, map, OnOk}
 use Rattle.std.specs.List.{list_any}
 use Rattle.hack_metadata.specs.RecordViews.{dependency_view, kind_view}
 use Rattle.hack_load.specs.Candidates.{Path, is_normal}
-use Rattle.hack_load.specs.Features.{AddsPaths}
+use Rattle.hack_load.specs.Internal.{AddsPaths}
 use Rattle.hack_load.proofs.FeatureLemmas.{adds-none, node-known, node-unknown}
 use Rattle.hack_load.proofs.features.add_node_paths.Goals as goal
 

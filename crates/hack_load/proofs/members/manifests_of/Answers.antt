@@ -3,7 +3,7 @@ use Rattle.std.proofs.lemmas.Result.{err_from_is_err_and}
 use Rattle.hack_metadata.proofs.KnownLemmas.{member-below}
 use Rattle.hack_metadata.specs.RecordViews.{nodes_view}
 use Rattle.hack_metadata.specs.MetadataView.{metadata_view}
-use Rattle.hack_metadata.specs.declared.resolve.PackageId.{PackageId}
+use Rattle.hack_metadata.specs.declared.metadata.resolve.PackageId.{PackageId}
 use Rattle.hack_load.specs.CargoQuestions.{IsOfMember, IsPackageFault}
 use Rattle.hack_load.proofs.LeaveLemmas.{may-more, whole-more}
 use Rattle.hack_load.proofs.MemberLemmas.{each-more, fault-earlier, id-contained, of-earlier}

@@ -3,7 +3,7 @@ use Rattle.std.proofs.lemmas.Grind.{common_steps}
 use Rattle.std.proofs.lemmas.Bool.Decides.{nat_tests}
 use Rattle.toml_parser.specs.Lexical.{first, skip_blank}
 use Rattle.toml.specs.Parse.{val, atom, after_element}
-use Rattle.hack_manifest.specs.Keys.{rest_of_read}
+use Rattle.hack_manifest.specs.Internal.{rest_of_read}
 use Rattle.hack_manifest.proofs.PairLemmas.{passed-start, passed-more, passed-end, passed-atom}
 use Rattle.hack_manifest.proofs.plain.behind_items.Goals as goal
 

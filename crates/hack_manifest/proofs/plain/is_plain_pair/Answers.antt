@@ -1,7 +1,7 @@
 use Rattle.std.proofs.Common.{◌≡◌, Some, sym, ◌∙◌}
 use Rattle.toml_parser.specs.Lexical.{skip_blank}
 use Rattle.toml.specs.Parse.{skip_bom, key_equals, val}
-use Rattle.hack_manifest.specs.Keys.{rest_of_read}
+use Rattle.hack_manifest.specs.Internal.{rest_of_read}
 use Rattle.hack_manifest.proofs.PairLemmas.{plain-stands}
 use Rattle.hack_manifest.proofs.plain.is_plain_pair.Goals as goal
 

@@ -1,7 +1,7 @@
 use Rattle.std.proofs.Common.{◌∙◌, ap, option_map}
 use Rattle.hack_metadata.specs.PackageSpecs.{is_byte}
-use Rattle.hack_metadata.specs.SpecAnswers.{cut_by, earlier}
-use Rattle.hack_metadata.specs.SpecViews.{pair_view}
+use Rattle.hack_metadata.specs.InternalSpecAnswers.{cut_by, earlier}
+use Rattle.hack_metadata.specs.Internal.{pair_view}
 use Rattle.hack_metadata.proofs.TextLemmas.{parted-earlier}
 use Rattle.hack_metadata.proofs.cargo.cut_at_separator.Goals as goal
 

@@ -1,6 +1,7 @@
 use Rattle.std.proofs.Common.{option_map}
 use Rattle.std.proofs.lemmas.Str.Ascii.{trim_ascii_end_is}
-use Rattle.hack_metadata.specs.SpecViews.{url_view, identity_of}
+use Rattle.hack_metadata.specs.SpecViews.{identity_of}
+use Rattle.hack_metadata.specs.Internal.{url_view}
 use Rattle.hack_metadata.proofs.MatchCases.{name-settles, url-settles}
 use Rattle.hack_metadata.proofs.cargo.match_pkg_spec.Goals as goal
 

@@ -2,7 +2,8 @@ use Rattle.std.proofs.Common.{◌≡◌, ◌++◌, map, Ok}
 use Rattle.serde_json.specs.View.{items_view}
 use Rattle.hack_metadata.specs.Fields.{◌>>=◌, read_all}
 use Rattle.hack_metadata.specs.MetadataReading.{read_member}
-use Rattle.hack_metadata.specs.RecordViews.{place_at, place_in}
+use Rattle.hack_metadata.specs.RecordViews.{place_at}
+use Rattle.hack_metadata.specs.Internal.{place_in}
 use Rattle.hack_metadata.proofs.metadata.members_from.Given as goal
 
 -- what was read, and then what is read of the rest, is what is read of the whole list

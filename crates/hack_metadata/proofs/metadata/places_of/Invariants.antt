@@ -1,6 +1,6 @@
 use Rattle.std.proofs.Common.{◌≡◌, take}
 use Rattle.hack_metadata.specs.MetadataReading.{place_of}
-use Rattle.hack_metadata.specs.RecordViews.{place_in}
+use Rattle.hack_metadata.specs.Internal.{place_in}
 use Rattle.hack_metadata.proofs.IdLemmas.{ids_in}
 use Rattle.hack_metadata.proofs.metadata.places_of.Given as goal
 

@@ -1,7 +1,7 @@
 use Rattle.std.proofs.Common.{◌≡◌, ◌+◌, ◌++◌, ◌∷◌, [], ◌∙◌, ap, map, refl, string_bytes, sym, take}
 use Rattle.std.proofs.lemmas.Grind.{put_two}
 use Rattle.std.proofs.lemmas.List.{take_more, map-append}
-use Rattle.hack_plan.specs.Lines.{before_name, is_still_first, joined_names}
+use Rattle.hack_plan.specs.Internal.{before_name, is_still_first, joined_names}
 use Rattle.hack_plan.proofs.Shown.{first-append, joined-append}
 use Rattle.hack_plan.proofs.line.put_names.Goals as goal
 

@@ -1,6 +1,6 @@
 use Rattle.std.proofs.Common.{◌≡◌, map, string_bytes, take}
 use Rattle.std.specs.Fmt.{HasWritten, IsPlainFormatter}
-use Rattle.hack_plan.specs.Lines.{is_still_first, joined_names}
+use Rattle.hack_plan.specs.Internal.{is_still_first, joined_names}
 use Rattle.hack_plan.proofs.line.put_names.Given as goal
 
 -- the names so far are written

@@ -2,7 +2,7 @@ use Rattle.std.proofs.Common.{◌≡◌, ◌∙◌, ◌⊎◌, IfOk, IfErr, List
 use Rattle.std.specs.Prelude.{option_copied}
 use Rattle.hack_base.specs.Names.{Name}
 use Rattle.hack_load.specs.ContextView.{context_view}
-use Rattle.hack_metadata.specs.declared.resolve.PackageId.{PackageId}
+use Rattle.hack_metadata.specs.declared.metadata.resolve.PackageId.{PackageId}
 use Rattle.hack_base.specs.Notes.{note_of}
 use Rattle.hack_words.specs.declared.cli.args.Args.{Args}
 use Rattle.hack_planner.specs.declared.fault.PackagesFault.{PackagesFault}

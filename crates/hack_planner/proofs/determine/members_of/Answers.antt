@@ -2,7 +2,7 @@ use Rattle.std.proofs.Common.{◌≤◌, ◌∙◌, [], ◌∷◌, get_or, List,
 use Rattle.std.specs.List.{filter_map}
 use Rattle.std.proofs.lemmas.List.{get_or_default, map-append}
 use Rattle.hack_load.specs.ContextView.{context_view}
-use Rattle.hack_metadata.specs.declared.resolve.PackageId.{PackageId}
+use Rattle.hack_metadata.specs.declared.metadata.resolve.PackageId.{PackageId}
 use Rattle.hack_metadata.specs.RecordViews.{place_at}
 use Rattle.hack_planner.specs.MembersView.{member_view}
 use Rattle.hack_planner.specs.ContextMembers.{member_at}

@@ -3,7 +3,7 @@ use Rattle.std.proofs.lemmas.List.{take_all}
 use Rattle.hack_base.proofs.Members.{Contains-nil}
 use Rattle.hack_load.specs.ContextView.{context_view}
 use Rattle.hack_metadata.specs.RecordViews.{place_at}
-use Rattle.hack_metadata.specs.declared.resolve.PackageId.{PackageId}
+use Rattle.hack_metadata.specs.declared.metadata.resolve.PackageId.{PackageId}
 use Rattle.hack_versions.specs.declared.version.VersionFault.TheVariants as version
 use Rattle.hack_planner.specs.Calls.{AreMembers, starts, HasBadOwn}
 use Rattle.hack_planner.proofs.ChosenLemmas.{members-more, none-bad-more, bad-at}

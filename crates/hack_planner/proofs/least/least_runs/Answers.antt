@@ -6,7 +6,7 @@ use Rattle.hack_features.proofs.CandidateLemmas.{length-candidates_of}
 use Rattle.hack_planner.specs.Candidates.{Wishes, Known, candidates, lifted_for}
 use Rattle.hack_planner.specs.CandidatesView.{wishes, known_of_package}
 use Rattle.hack_planner.specs.Kinds as kinds
-use Rattle.hack_planner.specs.LeastRuns.{ListsAtLeast}
+use Rattle.hack_planner.specs.Internal.{ListsAtLeast}
 use Rattle.hack_planner.proofs.LeastLemmas.{runs-at_least}
 use Rattle.hack_planner.proofs.least.least_runs.Goals as goal
 

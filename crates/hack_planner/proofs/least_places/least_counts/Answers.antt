@@ -2,8 +2,8 @@ use Rattle.std.proofs.Common.{[], List, map, sym, subst}
 use Rattle.std.proofs.lemmas.List.{take_all}
 use Rattle.hack_load.specs.ContextView.{context_view}
 use Rattle.hack_metadata.specs.RecordViews.{place_at}
-use Rattle.hack_metadata.specs.declared.resolve.PackageId.{PackageId}
-use Rattle.hack_planner.specs.LeastPlaces.{HaveAtLeast}
+use Rattle.hack_metadata.specs.declared.metadata.resolve.PackageId.{PackageId}
+use Rattle.hack_planner.specs.InternalLeastPlaces.{HaveAtLeast}
 use Rattle.hack_planner.proofs.LeastPlaceLemmas.{none-at_least, more-at_least}
 use Rattle.hack_planner.proofs.least_places.least_counts.Goals as goal
 

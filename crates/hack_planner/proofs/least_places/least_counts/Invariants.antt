@@ -1,7 +1,7 @@
 use Rattle.std.proofs.Common.{Bool, map, take}
 use Rattle.hack_load.specs.ContextView.{context_view}
 use Rattle.hack_metadata.specs.RecordViews.{place_at}
-use Rattle.hack_planner.specs.LeastPlaces.{HaveAtLeast}
+use Rattle.hack_planner.specs.InternalLeastPlaces.{HaveAtLeast}
 use Rattle.hack_planner.proofs.least_places.least_counts.Given as goal
 
 -- the packages so far

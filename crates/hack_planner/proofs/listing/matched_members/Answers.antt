@@ -3,7 +3,7 @@ use Rattle.std.proofs.lemmas.List.{map-append}
 use Rattle.hack_base.specs.Names.{names_of}
 use Rattle.hack_planner.specs.Members.{Member, SelectsMembers, ends}
 use Rattle.hack_planner.specs.MembersView.{member_view}
-use Rattle.hack_planner.specs.ListingView.{IsMatchedAs}
+use Rattle.hack_planner.specs.InternalListingView.{IsMatchedAs}
 use Rattle.hack_planner.proofs.Growth.{collects-taken, collects-left}
 use Rattle.hack_planner.proofs.listing.matched_members.Goals as goal
 

@@ -2,7 +2,7 @@ use Rattle.std.proofs.Common.{take, map}
 use Rattle.hack_base.specs.Names.{names_of}
 use Rattle.hack_planner.specs.Members.{SelectsMembers}
 use Rattle.hack_planner.specs.MembersView.{member_view}
-use Rattle.hack_planner.specs.ListingView.{IsMatchedAs}
+use Rattle.hack_planner.specs.InternalListingView.{IsMatchedAs}
 use Rattle.hack_planner.proofs.listing.matched_members.Given as goal
 
 -- kept has those of the members so far that are picked

@@ -3,7 +3,7 @@ use Rattle.std.proofs.lemmas.List.{length-map}
 use Rattle.std.proofs.lemmas.Result.{err_from_is_err_and}
 use Rattle.hack_load.specs.ContextView.{context_view}
 use Rattle.hack_metadata.specs.RecordViews.{place_at}
-use Rattle.hack_metadata.specs.declared.resolve.PackageId.{PackageId}
+use Rattle.hack_metadata.specs.declared.metadata.resolve.PackageId.{PackageId}
 use Rattle.hack_planner.specs.ContextMembers.{AreChosen}
 use Rattle.hack_plan.specs.Entries.{ArePlaces, HasTooMany}
 use Rattle.hack_plan.specs.Plans.{counts_in}
@@ -11,7 +11,8 @@ use Rattle.hack_plan.specs.Prepared.{ArePrepared}
 use Rattle.hack_plan.specs.View.{CallView, plan_package_view}
 use Rattle.hack_base.specs.Notes.{note_of}
 use Rattle.hack_versions.specs.declared.version.VersionFault.{VersionFault}
-use Rattle.hack_planner.specs.Calls.{IsInputOf, ArePlanned, HasBadOwn, HasRunsFault, left_out_notes}
+use Rattle.hack_planner.specs.Calls.{IsInputOf, ArePlanned, HasBadOwn, left_out_notes}
+use Rattle.hack_planner.specs.Internal.{HasRunsFault}
 use Rattle.hack_planner.specs.CallPlan.{IsCause, run_counts}
 use Rattle.hack_planner.proofs.CauseLemmas.{range-cause, places-cause, counts-same, all-told}
 use Rattle.hack_planner.proofs.NeverLemmas.{no-cause}

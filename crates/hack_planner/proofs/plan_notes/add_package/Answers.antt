@@ -1,7 +1,7 @@
 use Rattle.std.proofs.Common.{◌∙◌, ◌++◌, ap, sym, subst, map, Contains}
 use Rattle.std.proofs.lemmas.List.{map-append}
 use Rattle.hack_load.specs.ContextView.{context_view}
-use Rattle.hack_metadata.specs.declared.resolve.PackageId.{PackageId}
+use Rattle.hack_metadata.specs.declared.metadata.resolve.PackageId.{PackageId}
 use Rattle.hack_base.specs.Notes.{note_of}
 use Rattle.hack_planner.proofs.NoteLemmas.{told-of, none-told}
 use Rattle.hack_planner.proofs.plan_notes.add_package.Goals as goal

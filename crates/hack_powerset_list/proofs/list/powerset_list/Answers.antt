@@ -10,7 +10,8 @@ use Rattle.hack_features.specs.View.{choice_of, size_of}
 use Rattle.hack_plan.specs.Runs.{runs_from}
 use Rattle.hack_powerset_list.specs.Input.{IsMapText, IsNoMapText}
 use Rattle.hack_powerset_list.specs.Lines.{run_lines}
-use Rattle.hack_powerset_list.specs.ListRuns.{AreListRuns, chosen_from, options_from}
+use Rattle.hack_powerset_list.specs.ListRuns.{options_from}
+use Rattle.hack_powerset_list.specs.Internal.{AreListRuns, chosen_from}
 use Rattle.hack_powerset_list.specs.Walks.{listed_in}
 use Rattle.hack_powerset_list.proofs.WalkListing.{walk_runs}
 use Rattle.hack_powerset_list.specs.CommandList.{WritesFront}

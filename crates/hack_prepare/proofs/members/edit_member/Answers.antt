@@ -1,6 +1,5 @@
-use Rattle.hack_prepare.specs.Paths.{Only}
+use Rattle.hack_prepare.specs.Internal.{Only, HeldUnkept, HoldsText}
 use Rattle.hack_prepare.specs.PreparedView.{member_manifest_view}
-use Rattle.hack_prepare.specs.EditSteps.{HeldUnkept, HoldsText}
 use Rattle.hack_prepare.proofs.StepLemmas.{step_given}
 use Rattle.std.proofs.Common.{string_bytes}
 use Rattle.hack_prepare.proofs.WriteLemmas.{dev-made, dev-or-not}

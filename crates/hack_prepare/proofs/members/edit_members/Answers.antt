@@ -5,7 +5,8 @@ use Rattle.hack_prepare.proofs.FaultLemmas.{member-fault, member-spared, root-fa
 use Rattle.hack_base.proofs.Steps.{seen-next, seen_here}
 use Rattle.hack_base.specs.Names.{names_behind}
 use Rattle.hack_base.specs.Notes.{note_of}
-use Rattle.hack_prepare.specs.PreparedView.{member_manifest_view, members_view, wanted_view}
+use Rattle.hack_prepare.specs.PreparedView.{member_manifest_view, wanted_view}
+use Rattle.hack_prepare.specs.Internal.{members_view}
 use Rattle.hack_prepare.specs.declared.wanted.Member.{Member}
 use Rattle.hack_files.specs.Files.{GrowsBy}
 use Rattle.hack_prepare.proofs.CountLemmas.{fault_then, none_then}

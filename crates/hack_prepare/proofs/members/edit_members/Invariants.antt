@@ -1,7 +1,8 @@
 use Rattle.std.proofs.Common.{map, take}
 use Rattle.hack_base.specs.Names.{names_behind}
 use Rattle.hack_base.specs.Notes.{note_of}
-use Rattle.hack_prepare.specs.PreparedView.{members_view, wanted_view}
+use Rattle.hack_prepare.specs.PreparedView.{wanted_view}
+use Rattle.hack_prepare.specs.Internal.{members_view}
 use Rattle.hack_prepare.specs.Writes.{AreDevWrites, MakesSome}
 use Rattle.hack_prepare.proofs.MemberLemmas.{Visited}
 use Rattle.hack_prepare.proofs.members.edit_members.Given as goal

@@ -3,14 +3,14 @@ use Rattle.std.proofs.lemmas.Result.{err_from_is_err_and}
 use Rattle.hack_files.specs.Files.{GrowsBy}
 use Rattle.hack_files.specs.Restore.{is_kept, registered_files}
 use Rattle.hack_base.specs.Names.{names_behind}
-use Rattle.hack_prepare.specs.PreparedView.{members_view, wanted_view}
+use Rattle.hack_prepare.specs.PreparedView.{wanted_view}
+use Rattle.hack_prepare.specs.Internal.{members_view, ArePartlyTurned}
 use Rattle.hack_prepare.proofs.CountLemmas.{fault_then, none_then}
 use Rattle.hack_prepare.proofs.FaultLemmas.{at-any, at-wider, root-spared, lock-among, members-among, root-among}
 use Rattle.hack_prepare.proofs.EditLemmas.{members-step, root-step, lock-step}
 use Rattle.hack_prepare.proofs.RootLemmas.{partly-all, partly-members, partly-root, prepared, unedited, unedited-apart}
 use Rattle.std.proofs.Common.{inl, inr}
 use Rattle.hack_prepare.specs.Prepared.{HoldTexts, IsPartlyPrepared}
-use Rattle.hack_prepare.specs.EditSteps.{ArePartlyTurned}
 use Rattle.hack_prepare.specs.Writes.{AreWrites, BeginDevWrites, BeginWrites}
 use Rattle.hack_prepare.proofs.WriteLemmas.{all-made, made-still, root-begun, some-made}
 use Rattle.hack_prepare.proofs.prepare.edit.Goals as goal

@@ -7,8 +7,8 @@ use Rattle.hack_base.specs.Notes.{note_of}
 use Rattle.hack_prepare.specs.Faults.{AtWrite, IsEditsFault}
 use Rattle.hack_prepare.specs.Paths.{IsTouched}
 use Rattle.hack_prepare.specs.Prepared.{HoldTexts, IsPartlyPrepared, KeepsUnedited, MemberManifest, Wanted, edits}
-use Rattle.hack_prepare.specs.PreparedView.{member_manifest_view, member_manifests_in, members_view, wanted_in}
-use Rattle.hack_prepare.specs.EditSteps.{IsStep}
+use Rattle.hack_prepare.specs.PreparedView.{member_manifest_view, member_manifests_in, wanted_in}
+use Rattle.hack_prepare.specs.Internal.{members_view, IsStep}
 use Rattle.hack_prepare.specs.EditNotes.{notes}
 use Rattle.hack_prepare.proofs.CountLemmas.{calls_grow}
 use Rattle.hack_prepare.proofs.FaultLemmas.{asked-fault}

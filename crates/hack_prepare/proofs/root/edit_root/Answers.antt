@@ -3,10 +3,9 @@ use Rattle.std.specs.Prelude.{◌||◌, Bool, false}
 use Rattle.hack_files.specs.Files.{GrowsBy}
 use Rattle.hack_base.specs.Names.{names_behind}
 use Rattle.hack_base.specs.Notes.{Note, note_of}
-use Rattle.hack_prepare.specs.Paths.{OnlyIf}
+use Rattle.hack_prepare.specs.Internal.{OnlyIf, members_view, AnyStart, HeldUnkept, KeepsBut}
 use Rattle.hack_prepare.specs.Prepared.{HoldTexts, edits_root, has_some}
-use Rattle.hack_prepare.specs.PreparedView.{members_view, wanted_view}
-use Rattle.hack_prepare.specs.EditSteps.{AnyStart, HeldUnkept, KeepsBut}
+use Rattle.hack_prepare.specs.PreparedView.{wanted_view}
 use Rattle.hack_prepare.proofs.FaultLemmas.{found-fault, missed-fault}
 use Rattle.hack_prepare.proofs.RootLemmas.{drops-found, drops-missed, edited-found, edited-missed, edits-is, notes-are, partly-found, partly-missed, root-found, root-held, root-missed}
 use Rattle.hack_prepare.proofs.StepLemmas.{step_given}

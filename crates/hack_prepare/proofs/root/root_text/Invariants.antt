@@ -1,7 +1,8 @@
 use Rattle.std.proofs.Common.{◌≡◌, drop}
 use Rattle.std.specs.List.{find}
 use Rattle.hack_prepare.specs.Prepared.{is_root}
-use Rattle.hack_prepare.specs.PreparedView.{members_view, wanted_view}
+use Rattle.hack_prepare.specs.PreparedView.{wanted_view}
+use Rattle.hack_prepare.specs.Internal.{members_view}
 use Rattle.hack_prepare.proofs.root.root_text.Given as goal
 
 -- the member found among those left is that of all

@@ -2,10 +2,11 @@ use Rattle.std.proofs.Common.{◌≤◌, ◌∙◌, [], ◌∷◌, get_or, List,
 use Rattle.std.specs.List.{filter_map}
 use Rattle.std.proofs.lemmas.List.{get_or_default, length-map, map-append, take_all}
 use Rattle.hack_load.specs.ContextView.{context_view}
-use Rattle.hack_metadata.specs.declared.resolve.PackageId.{PackageId}
+use Rattle.hack_metadata.specs.declared.metadata.resolve.PackageId.{PackageId}
 use Rattle.hack_metadata.specs.RecordViews.{place_at}
 use Rattle.hack_base.proofs.Steps.{seen_here}
-use Rattle.hack_prepare.specs.PreparedView.{member_manifest_at, member_manifest_view, members_view}
+use Rattle.hack_prepare.specs.PreparedView.{member_manifest_at, member_manifest_view}
+use Rattle.hack_prepare.specs.Internal.{members_view}
 use Rattle.hack_prepare.proofs.MemberLemmas.{found-more}
 use Rattle.hack_prepare.proofs.wanted.members_of.Goals as goal
 

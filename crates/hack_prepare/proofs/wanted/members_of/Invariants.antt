@@ -2,7 +2,8 @@ use Rattle.std.proofs.Common.{◌≡◌, take, map}
 use Rattle.std.specs.List.{filter_map}
 use Rattle.hack_load.specs.ContextView.{context_view}
 use Rattle.hack_metadata.specs.RecordViews.{place_at}
-use Rattle.hack_prepare.specs.PreparedView.{member_manifest_at, members_view}
+use Rattle.hack_prepare.specs.PreparedView.{member_manifest_at}
+use Rattle.hack_prepare.specs.Internal.{members_view}
 use Rattle.hack_prepare.proofs.wanted.members_of.Given as goal
 
 -- the members so far

@@ -1,6 +1,6 @@
 use Rattle.std.proofs.Common.{take}
 use Rattle.hack_base.specs.Names.{names_of}
-use Rattle.hack_process.specs.Ends.{Orders}
+use Rattle.hack_process.specs.InternalEnds.{Orders}
 use Rattle.hack_process.proofs.child.command.Given as goal
 
 abbrev pub invariant-loop-word : goal.invariant-loop-word

@@ -1,5 +1,5 @@
 use Rattle.std.proofs.Common.{◌≡◌, drop}
-use Rattle.hack_uses.specs.Uses.{views}
+use Rattle.hack_rules.specs.Uses.{views}
 use Rattle.hack_rules.specs.EarlyRules.{single_rule}
 use Rattle.hack_rules.proofs.early.lists_two.Given as goal
 

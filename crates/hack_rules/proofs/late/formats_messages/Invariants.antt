@@ -1,6 +1,6 @@
 use Rattle.std.proofs.Common.{◌≡◌, drop}
 use Rattle.std.specs.List.{list_any}
-use Rattle.hack_uses.specs.Uses.{views}
+use Rattle.hack_rules.specs.Uses.{views}
 use Rattle.hack_rules.specs.AskedFields.{is_message_format}
 use Rattle.hack_rules.proofs.late.formats_messages.Given as goal
 

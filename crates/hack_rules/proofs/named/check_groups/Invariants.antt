@@ -2,7 +2,7 @@ use Rattle.std.proofs.Common.{◌≡◌, map, string_bytes}
 use Rattle.std.specs.Iterator.Adapters.{zip_first, zip_second}
 use Rattle.std.specs.Slice.Iter.{iter_rest}
 use Rattle.hack_features.specs.Feature.{group_of}
-use Rattle.hack_rules.specs.CliGroups.{AreReadAs}
+use Rattle.hack_rules.specs.Internal.{AreReadAs}
 use Rattle.hack_rules.specs.CliLists.{first_failing, lifts_one_of}
 use Rattle.hack_rules.proofs.named.check_groups.Given as goal
 

@@ -1,6 +1,6 @@
 use Rattle.std.proofs.Common.{◌≡◌, take, map, string_bytes}
-use Rattle.hack_uses.specs.Uses.{views}
-use Rattle.hack_uses.specs.Values.{values_given}
+use Rattle.hack_rules.specs.Uses.{views}
+use Rattle.hack_rules.specs.Values.{values_given}
 use Rattle.hack_rules.specs.CliGroups.{AreGroupsOf}
 use Rattle.hack_rules.proofs.named.groups.Given as goal
 

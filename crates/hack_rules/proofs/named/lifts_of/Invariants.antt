@@ -1,6 +1,7 @@
 use Rattle.std.proofs.Common.{◌≡◌, take, drop, map, string_bytes}
 use Rattle.std.specs.List.{filter_map}
-use Rattle.hack_rules.specs.CliGroups.{AreLifts, AreReadAs}
+use Rattle.hack_rules.specs.CliGroups.{AreLifts}
+use Rattle.hack_rules.specs.Internal.{AreReadAs}
 use Rattle.hack_rules.specs.CliLists.{first_failing, is_lift, lift_of}
 use Rattle.hack_rules.proofs.named.lifts_of.Given as goal
 

@@ -1,6 +1,6 @@
 use Rattle.std.proofs.Common.{◌≡◌, ◌++◌, drop, map, string_bytes}
 use Rattle.std.specs.List.{flat_map}
-use Rattle.hack_uses.specs.Uses.{views}
+use Rattle.hack_rules.specs.Uses.{views}
 use Rattle.hack_rules.specs.CliLists.{names_given}
 use Rattle.hack_base.specs.Lists.{list_names}
 use Rattle.hack_rules.proofs.named.names.Given as goal

@@ -1,6 +1,6 @@
 use Rattle.std.proofs.Common.{◌≡◌, []}
 use Rattle.std.specs.Vec.Iter.{into_iter_items}
-use Rattle.hack_rules.specs.CliTargets.{put_all}
+use Rattle.hack_rules.specs.Internal.{put_all}
 use Rattle.hack_rules.proofs.named.set_of.Given as goal
 
 abbrev pub invariant-loop-text : goal.invariant-loop-text

@@ -3,7 +3,8 @@ use Rattle.std.specs.Prelude.{filter}
 use Rattle.std.specs.List.{flat_map}
 use Rattle.std.specs.Io.KnownBytes.{Appends, Keeps}
 use Rattle.std.proofs.KnownBytes.{Keeps-refl}
-use Rattle.hack_session.specs.ListLines.{is_sent, lines_listed, lines_written, page_of}
+use Rattle.hack_session.specs.ListLines.{is_sent, lines_written, page_of}
+use Rattle.hack_session.specs.Internal.{lines_listed}
 use Rattle.hack_run.proofs.RunLemmas.{all_written, none_refused, passed_written}
 use Rattle.hack_run.proofs.print_list.list_over.Goals as goal
 

@@ -1,7 +1,7 @@
 use Rattle.std.proofs.Common.{◌≡◌, ◌∙◌, ◌<◌, ◌-◌, ◌++◌, ◌∷◌, [], subst, List, Bool, ℕ, true, arith}
 use Rattle.hack_samples.specs.Sets.{rows_of, tables_of}
 use Rattle.hack_samples.specs.Samples.{IsMaskSample}
-use Rattle.hack_samples.specs.DescendingPatterns.{CoversBelow, AreKept}
+use Rattle.hack_samples.specs.InternalDescendingPatterns.{CoversBelow, AreKept}
 use Rattle.hack_samples.specs.declared.sets.Setting.{Setting}
 use Rattle.hack_samples.proofs.SetLemmas.{both_turned}
 use Rattle.hack_samples.proofs.SampleLemmas.{some-kept}

@@ -1,8 +1,8 @@
 use Rattle.std.proofs.Common.{◌≡◌, ◌<◌, ◌-◌, ◌++◌, ◌∷◌, []}
 use Rattle.hack_samples.specs.Sets.{rows_of, tables_of}
 use Rattle.hack_samples.specs.Samples.{IsMaskSample, SomeShows}
-use Rattle.hack_samples.specs.DescendingPatterns.{CoversBelow, AreKept}
-use Rattle.hack_samples.specs.Questions.{StaysWithin}
+use Rattle.hack_samples.specs.InternalDescendingPatterns.{CoversBelow, AreKept}
+use Rattle.hack_samples.specs.Internal.{StaysWithin}
 use Rattle.hack_samples.specs.declared.sets.Setting.{Setting}
 use Rattle.hack_samples.proofs.cover.+cover.Given as goal
 

@@ -2,7 +2,7 @@ use Rattle.std.proofs.Common.{◌∙◌, [], sym, subst, List, Bool, ℕ, length
 use Rattle.std.proofs.lemmas.List.{length-map}
 use Rattle.hack_samples.specs.Sets.{rows_of, tables_of}
 use Rattle.hack_samples.specs.Samples.{IsMaskSample}
-use Rattle.hack_samples.specs.DescendingPatterns.{CoversBelow}
+use Rattle.hack_samples.specs.InternalDescendingPatterns.{CoversBelow}
 use Rattle.hack_samples.proofs.SetLemmas.{both_turned}
 use Rattle.hack_samples.proofs.CoverLemmas.{covers-whole}
 use Rattle.hack_samples.proofs.cover.sample_by.Goals as goal

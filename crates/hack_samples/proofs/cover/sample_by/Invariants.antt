@@ -1,7 +1,7 @@
 use Rattle.std.proofs.Common.{◌≡◌}
 use Rattle.hack_samples.specs.Sets.{rows_of}
 use Rattle.hack_samples.specs.Samples.{IsMaskSample}
-use Rattle.hack_samples.specs.Questions.{StaysWithin}
+use Rattle.hack_samples.specs.Internal.{StaysWithin}
 use Rattle.hack_samples.proofs.cover.sample_by.Given as goal
 
 abbrev pub invariant-loop-row : goal.invariant-loop-row

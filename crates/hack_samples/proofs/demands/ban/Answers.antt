@@ -1,6 +1,7 @@
 use Rattle.std.proofs.Common.{◌≡◌, ◌↔◌, ◌<◌, ◌∙◌, sym, ap, subst, List, Bool, ℕ, length, get_or, set, refl, true, false, arith}
 use Rattle.std.proofs.lemmas.List.{length-set}
-use Rattle.hack_samples.specs.Sets.{has, IsClear}
+use Rattle.hack_samples.specs.Sets.{has}
+use Rattle.hack_samples.specs.Internal.{IsClear}
 use Rattle.hack_samples.proofs.DemandLemmas.{ban-step, clear-past, clear-more}
 use Rattle.hack_samples.proofs.demands.ban.Goals as goal
 use Rattle.hack_samples.proofs.demands.ban.Goals.{then-position-len, else-position-len}

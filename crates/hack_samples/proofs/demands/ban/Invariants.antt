@@ -1,5 +1,6 @@
 use Rattle.std.proofs.Common.{◌≡◌, ◌↔◌, take, false, length, List, Bool}
-use Rattle.hack_samples.specs.Sets.{has_one_of, IsClear}
+use Rattle.hack_samples.specs.Sets.{has_one_of}
+use Rattle.hack_samples.specs.Internal.{IsClear}
 use Rattle.hack_samples.proofs.demands.ban.Given as goal
 
 abbrev pub invariant-loop-position : goal.invariant-loop-position

@@ -1,5 +1,6 @@
 use Rattle.std.proofs.Common.{◌≡◌, ◌∙◌, sym, ap, subst, ℕ, List, Bool, get_or, set, true}
-use Rattle.hack_samples.specs.Sets.{may_join, IsInside, IsSuited}
+use Rattle.hack_samples.specs.Sets.{IsInside}
+use Rattle.hack_samples.specs.Internal.{may_join, IsSuited}
 use Rattle.hack_samples.proofs.SetLemmas.{Joins, join-true, suited-join, suited-turned, inside-self, inside-more}
 use Rattle.hack_samples.proofs.greedy.add_one_of.Goals as goal
 

@@ -1,5 +1,5 @@
 use Rattle.std.proofs.Common.{◌≡◌}
-use Rattle.hack_samples.specs.Questions.{StaysWithin}
+use Rattle.hack_samples.specs.Internal.{StaysWithin}
 use Rattle.hack_samples.proofs.greedy.add_one_of.Given as goal
 
 abbrev pub invariant-loop-position : goal.invariant-loop-position

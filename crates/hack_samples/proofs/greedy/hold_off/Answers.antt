@@ -1,7 +1,8 @@
 use Rattle.std.proofs.Common.{◌≡◌, ◌<◌, ◌∙◌, sym, ap, subst, ℕ, length, arith, false, rules}
 use Rattle.std.proofs.lemmas.List.{length-map}
 use Rattle.std.proofs.lemmas.List.Folds.{list_all_at}
-use Rattle.hack_samples.specs.Sets.{has_one_of, rows_of, IsClear}
+use Rattle.hack_samples.specs.Sets.{has_one_of, rows_of}
+use Rattle.hack_samples.specs.Internal.{IsClear}
 use Rattle.hack_samples.proofs.ShowLemmas.{row-at}
 use Rattle.hack_samples.proofs.greedy.hold_off.Goals as goal
 

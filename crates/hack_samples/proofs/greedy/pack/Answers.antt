@@ -1,5 +1,6 @@
 use Rattle.std.proofs.Common.{◌∙◌, sym, subst, List, Bool, ℕ}
-use Rattle.hack_samples.specs.Sets.{IsInside, IsSuited}
+use Rattle.hack_samples.specs.Sets.{IsInside}
+use Rattle.hack_samples.specs.Internal.{IsSuited}
 use Rattle.hack_samples.proofs.SetLemmas.{suited-turned}
 use Rattle.hack_samples.proofs.greedy.pack.Goals as goal
 use Rattle.hack_samples.proofs.greedy.pack.Goals.{then-next-best, else-next-best}

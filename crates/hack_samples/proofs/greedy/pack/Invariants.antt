@@ -1,6 +1,6 @@
 use Rattle.std.proofs.Common.{◌≡◌}
-use Rattle.hack_samples.specs.Sets.{IsInside, IsSuited}
-use Rattle.hack_samples.specs.Questions.{StaysWithin}
+use Rattle.hack_samples.specs.Sets.{IsInside}
+use Rattle.hack_samples.specs.Internal.{IsSuited, StaysWithin}
 use Rattle.hack_samples.proofs.greedy.pack.Given as goal
 
 abbrev pub invariant-loop : goal.invariant-loop

@@ -1,6 +1,6 @@
 use Rattle.std.proofs.Common.{◌≡◌, length, List, Bool}
-use Rattle.hack_samples.specs.Sets.{IsClear, IsInside, IsSuited}
-use Rattle.hack_samples.specs.Questions.{StaysWithin}
+use Rattle.hack_samples.specs.Sets.{IsInside}
+use Rattle.hack_samples.specs.Internal.{IsClear, IsSuited, StaysWithin}
 use Rattle.hack_samples.proofs.greedy.pack_once.Given as goal
 
 abbrev pub invariant-loop-candidate : goal.invariant-loop-candidate

@@ -1,7 +1,8 @@
 use Rattle.std.proofs.Common.{◌≡◌, ◌∙◌, sym, ap, subst, ℕ, List, Bool, AllPairs, Contains}
 use Rattle.std.specs.List.{insert}
 use Rattle.hack_samples.specs.Sets.{rows_of}
-use Rattle.hack_samples.specs.Order.{IsMaskBefore, BelongsAt}
+use Rattle.hack_samples.specs.Order.{IsMaskBefore}
+use Rattle.hack_samples.specs.Internal.{BelongsAt}
 use Rattle.hack_samples.proofs.OrderLemmas.{pairs-insert, kept-insert, only-insert, rows-insert}
 use Rattle.hack_samples.proofs.order.put.Goals as goal
 

@@ -2,8 +2,9 @@ use Rattle.std.proofs.Common.{◌≡◌, ◌<◌, ◌+◌, ◌++◌, ◌∙◌, 
 use Rattle.std.specs.Prelude.{◌&&◌}
 use Rattle.std.proofs.lemmas.List.{take_all, map_more, length-map}
 use Rattle.std.proofs.lemmas.List.Elements.{All-nil}
-use Rattle.hack_samples.specs.Sets.{has_one_of, has_each, is_on, rows_of, tables_of, IsClear, Meets}
-use Rattle.hack_samples.specs.Samples.{Shows, NoneShows}
+use Rattle.hack_samples.specs.Sets.{has_one_of, has_each, is_on, rows_of, tables_of}
+use Rattle.hack_samples.specs.Internal.{IsClear, Meets, NoneShows}
+use Rattle.hack_samples.specs.Samples.{Shows}
 use Rattle.hack_samples.specs.declared.sets.Setting.{Setting}
 use Rattle.hack_samples.proofs.SetLemmas.{inside-empty, both_turned}
 use Rattle.hack_samples.proofs.MeetLemmas.{turned, some-turned, none-passed, none-here, no-items}

@@ -1,7 +1,7 @@
 use Rattle.std.proofs.Common.{◌≡◌, length, take, true, List, Bool}
-use Rattle.hack_samples.specs.Sets.{has_each, Meets, rows_of, tables_of}
+use Rattle.hack_samples.specs.Sets.{has_each, rows_of, tables_of}
+use Rattle.hack_samples.specs.Internal.{Meets, StaysWithin}
 use Rattle.hack_samples.specs.Samples.{Shows}
-use Rattle.hack_samples.specs.Questions.{StaysWithin}
 use Rattle.hack_samples.proofs.search.+find.Given as goal
 
 abbrev pub decreases-find : goal.decreases-find

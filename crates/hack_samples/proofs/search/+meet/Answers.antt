@@ -1,6 +1,7 @@
 use Rattle.std.proofs.Common.{◌≡◌, ◌<◌, ◌≤◌, ◌∙◌, ◌∷◌, sym, ap, subst, List, Bool, ℕ, length, get_or, set, take, true, false, arith, rules, MatchOption}
 use Rattle.std.proofs.lemmas.List.{take_all}
-use Rattle.hack_samples.specs.Sets.{has, has_one_of, rows_of, may_join, IsInside, IsSuited, Meets, NoneMeets}
+use Rattle.hack_samples.specs.Sets.{has, has_one_of, rows_of, IsInside}
+use Rattle.hack_samples.specs.Internal.{may_join, IsSuited, Meets, NoneMeets}
 use Rattle.hack_samples.proofs.SetLemmas.{not_both, none-at, has_one_of-inside, inside-then, inside-more, suited-join, suited-turned, both_turned, Joins, join-true, join-false}
 use Rattle.hack_samples.proofs.MeetLemmas.{passed, some-passed, none-passed, some-inside, meets-here, meets-tail, meets-cons, meets-head, tried, tried-more}
 use Rattle.hack_samples.proofs.search.+meet.Goals as goal

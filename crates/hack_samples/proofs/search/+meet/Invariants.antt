@@ -1,6 +1,6 @@
 use Rattle.std.proofs.Common.{◌≡◌, length, take, false, List, Bool}
-use Rattle.hack_samples.specs.Sets.{has_one_of, IsInside, Meets, rows_of}
-use Rattle.hack_samples.specs.Questions.{StaysWithin}
+use Rattle.hack_samples.specs.Sets.{has_one_of, IsInside, rows_of}
+use Rattle.hack_samples.specs.Internal.{Meets, StaysWithin}
 use Rattle.hack_samples.proofs.search.+meet.Given as goal
 
 abbrev pub decreases-meet : goal.decreases-meet

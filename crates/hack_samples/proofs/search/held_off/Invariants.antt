@@ -1,5 +1,6 @@
 use Rattle.std.proofs.Common.{◌≡◌, length, take, List, Bool}
-use Rattle.hack_samples.specs.Sets.{IsClear, IsInside, tables_of}
+use Rattle.hack_samples.specs.Sets.{IsInside, tables_of}
+use Rattle.hack_samples.specs.Internal.{IsClear}
 use Rattle.hack_samples.specs.Samples.{Shows}
 use Rattle.hack_samples.proofs.search.held_off.Given as goal
 

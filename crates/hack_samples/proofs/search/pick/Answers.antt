@@ -1,6 +1,7 @@
 use Rattle.std.proofs.Common.{◌∙◌, sym, ap, subst, List, Bool, ℕ, MatchOption}
-use Rattle.hack_samples.specs.Sets.{has_each, rows_of, tables_of, IsInside, Meets}
-use Rattle.hack_samples.specs.Samples.{Shows, NoneShows}
+use Rattle.hack_samples.specs.Sets.{has_each, rows_of, tables_of, IsInside}
+use Rattle.hack_samples.specs.Internal.{Meets, NoneShows}
+use Rattle.hack_samples.specs.Samples.{Shows}
 use Rattle.hack_samples.proofs.SetLemmas.{has_each-inside}
 use Rattle.hack_samples.proofs.search.pick.Goals as goal
 

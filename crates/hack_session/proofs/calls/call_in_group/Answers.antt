@@ -2,7 +2,8 @@ use Rattle.std.proofs.Common.{◌≡◌, ap, sym, subst}
 use Rattle.std.specs.Prelude.{◌↔◌, IsSome}
 use Rattle.hack_term.specs.declared.log_group.LogGroup.{LogGroup}
 use Rattle.hack_term.specs.declared.log_group.LogGroup.TheVariants.{GithubActions}
-use Rattle.hack_session.specs.StepOutput.{Manner, end_shown, manner_of}
+use Rattle.hack_session.specs.StepOutput.{Manner, manner_of}
+use Rattle.hack_session.specs.Internal.{end_shown}
 use Rattle.hack_session.proofs.ShownLemmas.{in_manner, prints_group}
 use Rattle.hack_session.proofs.calls.call_in_group.Goals as goal
 

@@ -1,6 +1,7 @@
 use Rattle.std.proofs.Common.{◌≡◌, ◌++◌, map}
 use Rattle.std.specs.List.{filter_map}
-use Rattle.hack_session.specs.Reports.{failure_of, failure_view}
+use Rattle.hack_session.specs.Reports.{failure_of}
+use Rattle.hack_session.specs.Internal.{failure_view}
 use Rattle.hack_session.proofs.report.failures.Given as goal
 
 abbrev pub invariant-loop-one : goal.invariant-loop-one

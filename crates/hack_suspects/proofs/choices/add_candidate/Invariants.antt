@@ -1,6 +1,6 @@
 use Rattle.std.proofs.Common.{◌≡◌, ◌<◌, ◌≤◌, ◌-◌, ◌^◌, min, ℕ, suc, length, get_or}
 use Rattle.hack_suspects.specs.Suspects.{choices}
-use Rattle.hack_suspects.specs.Walks.{CountsChoices}
+use Rattle.hack_suspects.specs.InternalWalks.{CountsChoices}
 use Rattle.hack_suspects.proofs.choices.add_candidate.Given as goal
 
 abbrev pub invariant-loop-place : goal.invariant-loop-place

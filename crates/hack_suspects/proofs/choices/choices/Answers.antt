@@ -1,5 +1,5 @@
 use Rattle.std.proofs.Common.{◌≡◌, ◌∙◌, ap, arith, rules, min, ℕ, List, length, sym, subst}
-use Rattle.hack_suspects.specs.Walks.{CountsChoices}
+use Rattle.hack_suspects.specs.InternalWalks.{CountsChoices}
 use Rattle.hack_suspects.proofs.ChoiceLemmas.{choices-last, choices-one}
 use Rattle.hack_suspects.proofs.choices.choices.Goals as goal
 use Rattle.hack_suspects.proofs.choices.choices.Goals.{in-Some, in-None}

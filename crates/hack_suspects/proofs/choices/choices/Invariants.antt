@@ -1,5 +1,5 @@
 use Rattle.std.proofs.Common.{◌≡◌, length}
-use Rattle.hack_suspects.specs.Walks.{CountsChoices}
+use Rattle.hack_suspects.specs.InternalWalks.{CountsChoices}
 use Rattle.hack_suspects.proofs.choices.choices.Given as goal
 
 abbrev pub invariant-loop-candidate : goal.invariant-loop-candidate

@@ -2,7 +2,7 @@ use Rattle.std.proofs.Common.{◌≡◌, ◌∙◌, sym, ap, subst, ℕ, List, A
 use Rattle.std.specs.List.{insert}
 use Rattle.hack_samples.specs.Sets.{rows_of}
 use Rattle.hack_suspects.specs.Suspects.{IsPatternBefore}
-use Rattle.hack_suspects.specs.Walks.{PatternFits}
+use Rattle.hack_suspects.specs.InternalWalks.{PatternFits}
 use Rattle.hack_samples.specs.declared.sets.Setting.{Setting}
 use Rattle.hack_samples.proofs.OrderLemmas.{pairs-insert, kept-insert, only-insert, rows-insert}
 use Rattle.hack_suspects.proofs.patterns.put.Goals as goal

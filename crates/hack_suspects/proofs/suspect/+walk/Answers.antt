@@ -7,7 +7,7 @@ use Rattle.std.proofs.lemmas.Result.{on_ok_weaker}
 use Rattle.std.proofs.lemmas.List.Elements.{All-push}
 use Rattle.hack_samples.specs.Sets.{rows_of}
 use Rattle.hack_suspects.specs.Suspects.{RunOutcome, IsShown, RowShows, Rises, outcomes_of}
-use Rattle.hack_suspects.specs.Walks.{FindsFrom, PatternsAreKept}
+use Rattle.hack_suspects.specs.InternalWalks.{FindsFrom, PatternsAreKept}
 use Rattle.hack_samples.specs.declared.sets.Setting.{Setting}
 use Rattle.hack_suspects.proofs.PatternLemmas.{rises-more, rises-wider}
 use Rattle.hack_suspects.proofs.SuspectLemmas.{finds-here, finds-all, finds-step, finds-kept}

@@ -2,7 +2,7 @@ use Rattle.std.proofs.Common.{◌≡◌, ◌≤◌, ◌<◌, ◌+◌, ◌-◌, �
 use Rattle.std.specs.Prelude.{slice_get}
 use Rattle.hack_samples.specs.Sets.{rows_of}
 use Rattle.hack_suspects.specs.Suspects.{IsShown, outcomes_of}
-use Rattle.hack_suspects.specs.Walks.{AreSomeSuspects, PatternsAreKept, FindsFrom}
+use Rattle.hack_suspects.specs.InternalWalks.{AreSomeSuspects, PatternsAreKept, FindsFrom}
 use Rattle.hack_samples.specs.declared.sets.Setting.{Setting}
 use Rattle.hack_suspects.proofs.suspect.+walk.Given as goal
 

@@ -2,7 +2,7 @@ use Rattle.std.proofs.Common.{◌≡◌, ◌+◌, sym, subst, ℕ, List, [], tak
 use Rattle.std.proofs.lemmas.List.{take_all}
 use Rattle.hack_samples.specs.Sets.{rows_of}
 use Rattle.hack_suspects.specs.Suspects.{RunOutcome, RowShows, IsSuspect, outcomes_of}
-use Rattle.hack_suspects.specs.Walks.{AreSomeSuspects, FindsFrom, PatternsAreKept}
+use Rattle.hack_suspects.specs.InternalWalks.{AreSomeSuspects, FindsFrom, PatternsAreKept}
 use Rattle.hack_samples.specs.declared.sets.Setting.{Setting}
 use Rattle.hack_samples.proofs.SetLemmas.{not_both}
 use Rattle.hack_suspects.proofs.SuspectLemmas.{run-among, runs-more, suspects-all, suspects-more}

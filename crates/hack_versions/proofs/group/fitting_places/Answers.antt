@@ -1,7 +1,7 @@
 use Rattle.std.proofs.Common.{◌≡◌, ◌<◌, ◌++◌, ◌∷◌, [], length, slice_get, arith, refl, sym, ap, ◌∙◌, subst, rules, Some, true, false}
 use Rattle.std.proofs.lemmas.Option.{slice_get-get_or}
 use Rattle.hack_versions.specs.VersionUses.{own_of}
-use Rattle.hack_versions.specs.Grouping.{FitsBy, FitsAt}
+use Rattle.hack_versions.specs.InternalGrouping.{FitsBy, FitsAt}
 use Rattle.hack_versions.proofs.GroupLemmas.{below-skip, below-keep}
 use Rattle.hack_versions.proofs.FastLemmas.{fits-not, fits-within, places-of}
 use Rattle.hack_versions.proofs.group.fitting_places.Goals as goal

@@ -1,4 +1,4 @@
-use Rattle.hack_versions.specs.Grouping.{FitsAt}
+use Rattle.hack_versions.specs.InternalGrouping.{FitsAt}
 use Rattle.hack_versions.proofs.GroupLemmas.{IsBelow}
 use Rattle.hack_versions.proofs.group.fitting_places.Given as goal
 

@@ -1,10 +1,11 @@
 use Rattle.std.proofs.Common.{◌≡◌, ◌++◌, ◌∷◌, [], ◌<◌, ◌∙◌, length, length-append, sym, ap, subst, arith, ℕ, List}
 use Rattle.std.proofs.lemmas.List.{get_or_default, map-append, length-map}
 use Rattle.hack_features.specs.FeatureMap.{feature_map}
-use Rattle.hack_features.specs.Places.{AreRows, name_at}
+use Rattle.hack_features.specs.Places.{name_at}
+use Rattle.hack_features.specs.Internal.{AreRows}
 use Rattle.hack_samples.specs.Sets.{rows_of}
-use Rattle.hack_features.specs.NamesView.{table}
-use Rattle.hack_features.specs.LinksView.{table_of}
+use Rattle.hack_features.specs.InternalNamesView.{table}
+use Rattle.hack_features.specs.InternalLinksView.{table_of}
 use Rattle.hack_base.proofs.NameLemmas.{shown-at, length-shown}
 use Rattle.hack_base.proofs.Steps.{row_items}
 use Rattle.hack_features.proofs.LinkLemmas.{rows-next, key_at, grown-targets}

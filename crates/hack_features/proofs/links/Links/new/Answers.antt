@@ -1,9 +1,9 @@
 use Rattle.std.proofs.Common.{◌++◌, ◌<◌, ◌≤◌, [], length, sym, ap, subst, arith}
 use Rattle.hack_features.specs.FeatureMap.{feature_map}
 use Rattle.hack_samples.specs.Sets.{rows_of}
-use Rattle.hack_features.specs.Places.{AreRows}
-use Rattle.hack_features.specs.NamesView.{table}
-use Rattle.hack_features.specs.LinksView.{table_of}
+use Rattle.hack_features.specs.Internal.{AreRows}
+use Rattle.hack_features.specs.InternalNamesView.{table}
+use Rattle.hack_features.specs.InternalLinksView.{table_of}
 use Rattle.hack_base.proofs.NameLemmas.{length-shown}
 use Rattle.hack_features.proofs.ReachLemmas.{all_targets}
 use Rattle.hack_features.proofs.LinkLemmas.{rows-none, grown-none, grown-then, grown-bound}

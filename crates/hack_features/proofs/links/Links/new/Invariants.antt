@@ -1,8 +1,8 @@
 use Rattle.std.proofs.Common.{◌++◌, ◌-◌, length}
 use Rattle.hack_features.specs.FeatureMap.{feature_map}
-use Rattle.hack_features.specs.Places.{IsGrown}
-use Rattle.hack_features.specs.NamesView.{table}
-use Rattle.hack_features.specs.LinksView.{IsLinking, table_of}
+use Rattle.hack_features.specs.Internal.{IsGrown}
+use Rattle.hack_features.specs.InternalNamesView.{table}
+use Rattle.hack_features.specs.InternalLinksView.{IsLinking, table_of}
 use Rattle.hack_features.proofs.ReachLemmas.{all_targets}
 use Rattle.hack_features.proofs.links.Links.new.Given as goal
 

@@ -4,7 +4,7 @@ use Rattle.std.proofs.lemmas.Map.Iter.{rest_more}
 use Rattle.std.proofs.lemmas.List.Elements.{Contains-append_left}
 use Rattle.hack_base.specs.Names.{Name, names_of}
 use Rattle.hack_features.specs.FeatureMap.{feature_map, IsKey}
-use Rattle.hack_features.specs.NamesView.{table}
+use Rattle.hack_features.specs.InternalNamesView.{table}
 use Rattle.hack_base.proofs.Members.{Contains-cons_cases, Contains-nil}
 use Rattle.hack_features.proofs.DepsLemmas.{is_key-entries}
 use Rattle.hack_features.proofs.names.Names.add_keys.Goals as goal

@@ -1,7 +1,7 @@
 use Rattle.std.proofs.Common.{◌⊎◌, Contains}
 use Rattle.hack_base.specs.Names.{Name, names_of}
 use Rattle.hack_features.specs.FeatureMap.{feature_map, IsKey}
-use Rattle.hack_features.specs.NamesView.{table, IsInStep}
+use Rattle.hack_features.specs.InternalNamesView.{table, IsInStep}
 use Rattle.hack_features.proofs.names.Names.add_keys.Given as goal
 
 abbrev pub invariant-loop-key : goal.invariant-loop-key

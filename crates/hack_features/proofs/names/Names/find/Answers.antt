@@ -1,4 +1,4 @@
-use Rattle.hack_features.specs.NamesView.{table}
+use Rattle.hack_features.specs.InternalNamesView.{table}
 use Rattle.hack_features.proofs.PlaceLemmas.{place-found, place-missing}
 use Rattle.hack_features.proofs.names.Names.find.Goals as goal
 

@@ -1,6 +1,6 @@
 use Rattle.std.proofs.Common.{◌≡◌, sym, subst}
-use Rattle.hack_features.specs.Search.{Adds}
-use Rattle.hack_features.specs.NamesView.{table}
+use Rattle.hack_features.specs.Internal.{Adds}
+use Rattle.hack_features.specs.InternalNamesView.{table}
 use Rattle.hack_features.proofs.ReachLemmas.{adds-one, adds-there}
 use Rattle.hack_features.proofs.PlaceLemmas.{placed-there}
 use Rattle.hack_features.proofs.names.Names.place_of.Goals as goal

@@ -1,7 +1,7 @@
 use Rattle.std.proofs.Common.{◌+◌, ◌++◌, ◌∷◌, [], ◌∙◌, take, sym, ap, subst}
 use Rattle.hack_base.specs.Names.{names_of}
 use Rattle.hack_features.specs.Places.{AreAt}
-use Rattle.hack_features.specs.NamesView.{table}
+use Rattle.hack_features.specs.InternalNamesView.{table}
 use Rattle.hack_base.proofs.NameLemmas.{names-more}
 use Rattle.hack_features.proofs.PlaceLemmas.{at-front, at-push, at-nothing, more-none, more-then}
 use Rattle.hack_features.proofs.names.Names.places_of.Goals as goal

@@ -1,7 +1,8 @@
 use Rattle.std.proofs.Common.{take}
 use Rattle.hack_base.specs.Names.{names_of}
-use Rattle.hack_features.specs.Places.{AreAt, IsMore}
-use Rattle.hack_features.specs.NamesView.{table, IsInStep}
+use Rattle.hack_features.specs.Places.{AreAt}
+use Rattle.hack_features.specs.Internal.{IsMore}
+use Rattle.hack_features.specs.InternalNamesView.{table, IsInStep}
 use Rattle.hack_features.proofs.names.Names.places_of.Given as goal
 
 abbrev pub invariant-loop-text : goal.invariant-loop-text

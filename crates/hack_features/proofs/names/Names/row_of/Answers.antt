@@ -1,8 +1,8 @@
 use Rattle.std.proofs.Common.{◌∙◌, [], sym, ap, subst}
 use Rattle.hack_base.specs.Names.{names_of}
-use Rattle.hack_features.specs.Search.{Adds, IsTarget}
-use Rattle.hack_features.specs.Places.{AreAt, targets_of}
-use Rattle.hack_features.specs.NamesView.{table}
+use Rattle.hack_features.specs.Internal.{Adds, IsTarget, targets_of}
+use Rattle.hack_features.specs.Places.{AreAt}
+use Rattle.hack_features.specs.InternalNamesView.{table}
 use Rattle.hack_features.proofs.ReachLemmas.{values_at-Some, values_at-None, adds-no_targets}
 use Rattle.hack_features.proofs.PlaceLemmas.{at-nothing}
 use Rattle.hack_features.proofs.names.Names.row_of.Goals as goal

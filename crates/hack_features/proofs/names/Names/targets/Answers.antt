@@ -1,8 +1,8 @@
 use Rattle.std.proofs.Common.{◌≡◌, ◌++◌, ◌∷◌, [], take, ◌+◌, ◌∙◌, sym, ap, subst}
 use Rattle.hack_base.specs.Names.{names_of}
-use Rattle.hack_features.specs.Search.{Adds, IsTarget}
-use Rattle.hack_features.specs.Places.{AreAt, targets_of}
-use Rattle.hack_features.specs.NamesView.{table, IsInStep}
+use Rattle.hack_features.specs.Internal.{Adds, IsTarget, targets_of}
+use Rattle.hack_features.specs.Places.{AreAt}
+use Rattle.hack_features.specs.InternalNamesView.{table, IsInStep}
 use Rattle.hack_base.proofs.NameLemmas.{names-more}
 use Rattle.hack_features.proofs.ReachLemmas.{adds-target, adds-no_target}
 use Rattle.hack_features.proofs.PlaceLemmas.{at-front, at-push, targets-found, targets-missed}

@@ -2,10 +2,11 @@ use Rattle.std.proofs.Common.{◌≡◌, ◌<◌, ◌∙◌, ◌↔◌, ℕ, Lis
 use Rattle.std.proofs.lemmas.List.{length-map}
 use Rattle.std.proofs.lemmas.List.Elements.{Contains-append_left}
 use Rattle.hack_features.specs.FeatureMap.{feature_map, Chain}
-use Rattle.hack_features.specs.Places.{Leads, leads}
+use Rattle.hack_features.specs.Places.{leads}
+use Rattle.hack_features.specs.Internal.{Leads}
 use Rattle.hack_samples.specs.Sets.{rows_of}
-use Rattle.hack_features.specs.NamesView.{table}
-use Rattle.hack_features.specs.LinksView.{table_of}
+use Rattle.hack_features.specs.InternalNamesView.{table}
+use Rattle.hack_features.specs.InternalLinksView.{table_of}
 use Rattle.hack_base.proofs.Steps.{row_items}
 use Rattle.hack_features.proofs.LinkLemmas.{rows_inside, routes_from}
 use Rattle.hack_features.proofs.routes.Routes.new.Goals as goal

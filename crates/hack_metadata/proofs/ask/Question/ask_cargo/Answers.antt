@@ -1,7 +1,7 @@
 use Rattle.std.proofs.Common.{◌≡◌, inl, inr, refl, subst, map, string_bytes, rules}
 use Rattle.std.proofs.lemmas.Result.{err_from_is_err_and}
 use Rattle.hack_process.specs.Commands.{command_of}
-use Rattle.hack_metadata.specs.AskView.{question_of}
+use Rattle.hack_metadata.specs.InternalAskView.{question_of}
 use Rattle.hack_metadata.specs.QuestionCalls.{ReadsOutput, to_cargo}
 use Rattle.hack_metadata.specs.Requests.{command_line}
 use Rattle.hack_metadata.proofs.AskWays.{asked-counts, command-stops}

@@ -3,7 +3,7 @@ use Rattle.std.specs.Prelude.{MatchOption}
 use Rattle.std.proofs.lemmas.Result.{err_from_is_err_and, IfErr-weaker}
 use Rattle.hack_process.specs.CommandTexts.{text_of}
 use Rattle.hack_process.specs.Commands.{command_of}
-use Rattle.hack_metadata.specs.AskView.{question_of}
+use Rattle.hack_metadata.specs.InternalAskView.{question_of}
 use Rattle.hack_metadata.specs.QuestionCalls.{ReadsOutput, FailsToRead, IsLockfile, first, locked, answers, tells_newer}
 use Rattle.hack_metadata.specs.MetadataReading.{read_metadata}
 use Rattle.hack_metadata.specs.Requests.{by_stable}

@@ -1,6 +1,6 @@
 use Rattle.std.proofs.Common.{inl, inr, refl, string_bytes}
 use Rattle.hack_process.specs.Commands.{command_of}
-use Rattle.hack_metadata.specs.AskView.{question_of}
+use Rattle.hack_metadata.specs.InternalAskView.{question_of}
 use Rattle.hack_metadata.specs.Requests.{first_command}
 use Rattle.hack_metadata.proofs.AskWays.{asked-counts}
 use Rattle.hack_metadata.proofs.ask.Question.fall_back.Goals as goal

@@ -4,7 +4,7 @@ use Rattle.std.proofs.lemmas.Result.{err_from_is_err_and, on_ok_weaker, IfErr-we
 use Rattle.hack_process.specs.CommandTexts.{text_of}
 use Rattle.hack_process.specs.Commands.{asked_of, command_of}
 use Rattle.std.specs.Prelude.{true}
-use Rattle.hack_metadata.specs.AskView.{question_of}
+use Rattle.hack_metadata.specs.InternalAskView.{question_of}
 use Rattle.hack_metadata.specs.QuestionCalls.{Runs, first, is_there, is_made}
 use Rattle.hack_metadata.specs.Requests.{lock_command}
 use Rattle.hack_metadata.proofs.AskWays.{command-stops, run-fails, there-stops}

@@ -1,7 +1,8 @@
 use Rattle.std.proofs.Common.{map, ap, ◌∙◌}
 use Rattle.serde_json.specs.View.{items_view, members_view}
 use Rattle.hack_metadata.specs.MetadataReading.{place_of, ids_of}
-use Rattle.hack_metadata.specs.RecordViews.{package_view, place_in}
+use Rattle.hack_metadata.specs.RecordViews.{package_view}
+use Rattle.hack_metadata.specs.Internal.{place_in}
 use Rattle.hack_metadata.proofs.KnownLemmas.{packages-bounds}
 use Rattle.hack_metadata.proofs.WholeLemmas.{whole-behind}
 use Rattle.hack_metadata.proofs.metadata.Metadata.from_obj.Goals as goal

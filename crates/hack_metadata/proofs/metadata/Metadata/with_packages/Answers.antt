@@ -1,6 +1,7 @@
 use Rattle.std.proofs.Common.{length, map}
 use Rattle.serde_json.specs.View.{members_view}
-use Rattle.hack_metadata.specs.RecordViews.{place_in, place_at, nodes_view}
+use Rattle.hack_metadata.specs.RecordViews.{place_at, nodes_view}
+use Rattle.hack_metadata.specs.Internal.{place_in}
 use Rattle.hack_metadata.proofs.KnownLemmas.{all-known}
 use Rattle.hack_metadata.proofs.metadata.Metadata.with_packages.Goals as goal
 

@@ -1,6 +1,6 @@
 use Rattle.std.proofs.Common.{take}
 use Rattle.hack_plan.specs.Entries.{AddsEntries}
-use Rattle.hack_plan.specs.Parts.{InSlot}
+use Rattle.hack_plan.specs.Internal.{InSlot}
 use Rattle.hack_plan.proofs.blocks.Blocks.add_slot.Given as goal
 
 abbrev pub invariant-loop-member : goal.invariant-loop-member

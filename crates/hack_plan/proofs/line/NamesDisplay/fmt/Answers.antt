@@ -2,7 +2,7 @@ use Rattle.std.proofs.Common.{◌≡◌, ◌+◌, ◌++◌, ◌∙◌, ap, map, 
 use Rattle.std.proofs.lemmas.Grind.{put_two}
 use Rattle.hack_features.specs.Feature.{groups_of}
 use Rattle.hack_plan.specs.Commands.{candidate_names_at}
-use Rattle.hack_plan.specs.Lines.{is_still_first, joined_names}
+use Rattle.hack_plan.specs.Internal.{is_still_first, joined_names}
 use Rattle.hack_plan.proofs.Shown.{first-append, joined-append, names-more, still-first}
 use Rattle.hack_plan.proofs.line.NamesDisplay.fmt.Goals as goal
 

@@ -2,7 +2,7 @@ use Rattle.std.proofs.Common.{◌≡◌, ◌++◌, map, string_bytes, take, true
 use Rattle.std.specs.Fmt.{HasWritten, IsPlainFormatter}
 use Rattle.hack_features.specs.Feature.{groups_of}
 use Rattle.hack_plan.specs.Commands.{candidate_names_at}
-use Rattle.hack_plan.specs.Lines.{is_still_first, joined_names}
+use Rattle.hack_plan.specs.Internal.{is_still_first, joined_names}
 use Rattle.hack_plan.proofs.line.NamesDisplay.fmt.Given as goal
 
 -- the names so far are written

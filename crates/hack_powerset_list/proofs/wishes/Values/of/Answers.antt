@@ -1,6 +1,6 @@
 use Rattle.std.proofs.Common.{◌≡◌, ◌∙◌, arith, ap, sym, subst, string_bytes, Bool, MatchBool, Option, Some, None}
 use Rattle.hack_powerset_list.specs.Words.{Written, with_value}
-use Rattle.hack_powerset_list.specs.WishesView.{written_in}
+use Rattle.hack_powerset_list.specs.InternalWishesView.{written_in}
 use Rattle.hack_powerset_list.proofs.WishLemmas.{words-more}
 use Rattle.hack_powerset_list.proofs.wishes.Values.of.Goals as goal
 

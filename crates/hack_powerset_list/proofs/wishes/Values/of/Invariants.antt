@@ -1,7 +1,7 @@
 use Rattle.std.proofs.Common.{◌≡◌, length}
 use Rattle.hack_base.specs.Names.{names_of}
 use Rattle.hack_powerset_list.specs.Words.{none_written, with_words}
-use Rattle.hack_powerset_list.specs.WishesView.{written_in}
+use Rattle.hack_powerset_list.specs.InternalWishesView.{written_in}
 use Rattle.hack_powerset_list.proofs.wishes.Values.of.Given as goal
 
 -- the arguments say what the values so far and the arguments that are left say

@@ -4,7 +4,7 @@ use Rattle.hack_base.specs.Names.{Name, names_behind}
 use Rattle.hack_features.specs.declared.feature.Feature.{Feature}
 use Rattle.hack_features.specs.Feature.{groups_of as names_in_groups}
 use Rattle.hack_powerset_list.specs.Words.{AreGroups, LacksSeparator}
-use Rattle.hack_powerset_list.specs.WishesView.{written_in}
+use Rattle.hack_powerset_list.specs.InternalWishesView.{written_in}
 use Rattle.hack_powerset_list.proofs.wishes.Wishes.of.Goals as goal
 
 -- what groups were found, or why none were

@@ -1,7 +1,8 @@
 use Rattle.std.proofs.Common.{◌++◌, ◌∙◌, refl, sym, ap, append_assoc, string_bytes, true}
 use Rattle.std.proofs.lemmas.Grind.{put_two}
 use Rattle.hack_process.specs.CommandTexts.{each_spaced}
-use Rattle.hack_process.specs.OwnWords.{shown_own, pending_option}
+use Rattle.hack_process.specs.OwnWords.{shown_own}
+use Rattle.hack_process.specs.Internal.{pending_option}
 use Rattle.hack_process.proofs.CommandLemmas.{shown-more, shown-end}
 use Rattle.hack_process.proofs.process.OwnWordsDisplay.fmt.Goals as goal
 

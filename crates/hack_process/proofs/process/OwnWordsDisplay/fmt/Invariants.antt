@@ -1,7 +1,7 @@
 use Rattle.std.proofs.Common.{◌≡◌, ◌++◌, ℕ, List, string_bytes, map, drop}
 use Rattle.std.specs.Fmt.{HasWritten, IsPlainFormatter}
 use Rattle.hack_process.specs.CommandTexts.{each_spaced, shown_words}
-use Rattle.hack_process.specs.OwnWords.{pending_option}
+use Rattle.hack_process.specs.Internal.{pending_option}
 use Rattle.hack_process.proofs.process.OwnWordsDisplay.fmt.Given as goal
 
 -- what is written, followed by what the arguments that are left show, is the whole text

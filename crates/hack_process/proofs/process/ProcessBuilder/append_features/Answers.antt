@@ -1,5 +1,5 @@
 use Rattle.std.proofs.Common.{◌∙◌, sym, ap, Some, string_bytes, option_map}
-use Rattle.hack_process.specs.CommandTexts.{with_name}
+use Rattle.hack_process.specs.Internal.{with_name}
 use Rattle.hack_process.proofs.CommandLemmas.{appended-more}
 use Rattle.hack_process.proofs.process.ProcessBuilder.append_features.Goals as goal
 

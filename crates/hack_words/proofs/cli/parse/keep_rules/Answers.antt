@@ -1,6 +1,6 @@
 use Rattle.std.proofs.Common.{◌≡◌, None, rules}
 use Rattle.std.proofs.lemmas.Result.{err_from_is_err_and}
-use Rattle.hack_uses.specs.Uses.{views, subcommand_of}
+use Rattle.hack_rules.specs.Uses.{views, subcommand_of}
 use Rattle.hack_rules.specs.CliFaults.{fault_of}
 use Rattle.hack_rules.specs.declared.fault.CliFault.TheVariants as fault
 use Rattle.hack_rules.specs.ListedFeatures.{listed_by}
@@ -8,7 +8,7 @@ use Rattle.hack_rules.specs.Rules.{Accepted, first_of, refused_by}
 use Rattle.hack_rules.specs.EarlyRules.{rules_before}
 use Rattle.hack_rules.specs.MissingSubcommand.{bare_verdict}
 use Rattle.hack_rules.specs.LateRules.{rules_after}
-use Rattle.hack_words.specs.ParseAnswers.{around_in}
+use Rattle.hack_words.specs.Internal.{around_in}
 use Rattle.hack_words.proofs.AnswerLemmas.{bare-refused}
 use Rattle.hack_words.proofs.cli.parse.keep_rules.Goals as goal
 

@@ -1,10 +1,11 @@
 use Rattle.std.proofs.Common.{◌≡◌, Ok, List, MatchOption, ap, sym, subst, map, string_bytes}
 use Rattle.std.proofs.lemmas.Result.{err_from_is_err_and, IfOk-weaker, IfErr-weaker}
-use Rattle.hack_uses.specs.UseReading.{ReadsUsesThen, End}
-use Rattle.hack_uses.specs.Uses.{Use, views}
-use Rattle.hack_uses.specs.declared.cut.Cuts.{Cuts}
+use Rattle.hack_rules.specs.UseReading.{ReadsUsesThen, End}
+use Rattle.hack_rules.specs.Uses.{Use, views}
+use Rattle.hack_rules.specs.declared.uses.cut.Cuts.{Cuts}
 use Rattle.hack_base.specs.Notes.{note_of}
-use Rattle.hack_words.specs.ParseAnswers.{AnswersCommandLine, IsJudged, Refuses, GivesCuts, around_in}
+use Rattle.hack_words.specs.ParseAnswers.{AnswersCommandLine, Refuses}
+use Rattle.hack_words.specs.Internal.{IsJudged, GivesCuts, around_in}
 use Rattle.hack_words.specs.CommandLine.{ComesFrom, Faulty, outcome_of}
 use Rattle.hack_rules.specs.CliFaults.{fault_of}
 use Rattle.hack_rules.specs.declared.fault.CliFault.TheVariants as fault

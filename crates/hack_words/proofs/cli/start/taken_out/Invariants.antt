@@ -1,6 +1,6 @@
 use Rattle.std.proofs.Common.{◌≡◌, ◌+◌, ◌++◌, drop, cond}
 use Rattle.hack_base.specs.Names.{names_of}
-use Rattle.hack_uses.specs.Behavior.{is_cargo}
+use Rattle.hack_rules.specs.Behavior.{is_cargo}
 use Rattle.hack_words.specs.Start.{behaviors, cut_words}
 use Rattle.hack_words.proofs.cli.start.taken_out.Given as goal
 

@@ -1,0 +1,12 @@
+use Rattle.std.proofs.Common.{◌≡◌, ◌++◌, map, Ok}
+use Rattle.serde_json.specs.View.{items_view}
+use Rattle.hack_metadata.specs.Fields.{◌>>=◌, read_all}
+use Rattle.hack_metadata.specs.MetadataReading.{read_node_dep}
+use Rattle.hack_metadata.specs.RecordViews.{node_dep_view}
+use Rattle.hack_metadata.specs.Internal.{place_in}
+use Rattle.hack_metadata.proofs.metadata.resolve.NodeDep.all_from.Given as goal
+
+-- what was read, and then what is read of the rest, is what is read of the whole list
+abbrev pub invariant-loop-value : goal.invariant-loop-value
+invariant-loop-value l =
+    (read_all (read_node_dep (place_in l.fn.ids) l.fn.cargo_version) (items_view l.value-iterator.rest.items) >>= λ more. Ok (map node_dep_view l.found.items ++ more)) ≡ read_all (read_node_dep (place_in l.fn.ids) l.fn.cargo_version) (items_view l.fn.list.items)

@@ -1,0 +1,105 @@
+-- What only private functions of the crate promise each other.
+use Rattle.std.specs.Prelude.{◌≡◌, false, ◌⊎◌, ◌++◌, ◌∷◌, [], ℕ, List, Some, Result, Ok, Err, true, Option, nat_lt, map, MatchOption, option_map, string_bytes, option_copied}
+use Rattle.std.specs.Str.{bytes_eq}
+use Rattle.serde_json.specs.Data.{Members}
+use Rattle.serde_json.specs.Find.{get_member}
+use Rattle.hack_base.specs.Names.{Name}
+use Rattle.hack_files.specs.Files.{Change, Contents, GrowsBy, KeepsOthers, puts}
+use Rattle.hack_files.specs.Restore.{Kept}
+use Rattle.hack_files.specs.declared.fs.FsFault.{FsFault}
+use Rattle.hack_files.specs.declared.fs.FsFault.TheVariants as fs
+use Rattle.hack_metadata.specs.FileFaults.{IsUnread, IsUnwritten}
+use Rattle.hack_metadata.specs.declared.ask.fault.AskFault.{AskFault}
+use Rattle.hack_metadata.specs.declared.ask.fault.AskFault.TheVariants as fault
+use Rattle.hack_metadata.specs.FilesAfterAsking.{Spoilt}
+use Rattle.std.specs.Borrow.{Bor}
+use Rattle.hack_metadata.specs.RecordViews.{dependency_view, place_at}
+use Rattle.hack_metadata.specs.declared.metadata.package.Dependency.{Dependency}
+use Rattle.hack_metadata.specs.Optional.{optional_in}
+use Rattle.std.specs.BTreeMap.{BTreeMap, get_by_text}
+use Rattle.std.specs.declared.string.String.{String}
+use Rattle.std.specs.declared.alloc.Global.{Global}
+use Rattle.hack_metadata.specs.declared.metadata.package.Package.{Package}
+use Rattle.hack_metadata.specs.declared.metadata.resolve.PackageId.{PackageId}
+use Rattle.hack_metadata.specs.PackageSpecs.{VersionText, Url}
+use Rattle.hack_metadata.specs.declared.cargo.VersionParts.{VersionParts}
+use Rattle.hack_metadata.specs.declared.cargo.UrlParts.{UrlParts}
+
+-- every other field is as it was
+pub record KeepsOtherFields (key : Name) (old new : Members) : Type 0 where
+  pub others : (q : Name) → bytes_eq key q ≡ false → get_member q new ≡ get_member q old
+
+-- memory was refused, or the files failed by an error of which P holds
+abbrev pub IsFileFault : (FsFault → Type 0) → AskFault → Type 0
+IsFileFault P fault.Memory = Unit {0}
+IsFileFault P (fault.Files f) = P f
+IsFileFault P fault.NoHost = ⊥
+IsFileFault P (fault.Process p) = ⊥
+IsFileFault P (fault.Output text) = ⊥
+IsFileFault P (fault.Field name) = ⊥
+
+-- the error is not one of the files
+abbrev pub IsNoFileFault : AskFault → Type 0
+IsNoFileFault fault.Memory = Unit {0}
+IsNoFileFault fault.NoHost = Unit {0}
+IsNoFileFault (fault.Process p) = Unit {0}
+IsNoFileFault (fault.Files f) = ⊥
+IsNoFileFault (fault.Output text) = Unit {0}
+IsNoFileFault (fault.Field name) = Unit {0}
+
+-- `still`, and the path can't be read; or `done`, and it can't be written, or memory was refused
+abbrev pub FailsOver : Name → Type 0 → Type 0 → AskFault → Type 0
+FailsOver path still done fault.Memory = done
+FailsOver path still done (fault.Files f) = (still × IsUnread path f) ⊎ (done × IsUnwritten path f)
+FailsOver path still done fault.NoHost = ⊥
+FailsOver path still done (fault.Process p) = ⊥
+FailsOver path still done (fault.Output text) = ⊥
+FailsOver path still done (fault.Field name) = ⊥
+
+-- one more path is kept, with what it holds
+abbrev pub KeepsOneMore : Name → Type 0 → Contents → List Kept → List Kept → Type 0
+KeepsOneMore path tells held old new = (bytes : List ℕ) × (new ≡ old ++ record { path = path; bytes = bytes } ∷ []) × (tells → held path ≡ Some bytes)
+
+-- a file is written back, or else its path may hold something else
+abbrev pub RestoresFile : {X : Type 0} → Kept → Type 0 → Contents → Contents → ℕ → ℕ → Result X AskFault → Type 0
+RestoresFile file tells old new before now (Ok x) = GrowsBy 0 before now × (tells → KeepsOthers file.path old new × (new file.path ≡ Some file.bytes))
+RestoresFile file tells old new before now (Err e) = IsFileFault (IsUnwritten file.path) e × Spoilt file.path tells old new before now
+
+-- an error of a file as an error of the question
+abbrev pub IsAskFaultOfFile : FsFault → AskFault → Type 0
+IsAskFaultOfFile fs.Memory e = e ≡ fault.Memory
+IsAskFaultOfFile (fs.Read path) e = e ≡ fault.Files (fs.Read path)
+IsAskFaultOfFile (fs.Write path) e = e ≡ fault.Files (fs.Write path)
+IsAskFaultOfFile (fs.NotText path) e = e ≡ fault.Files (fs.NotText path)
+
+-- a write of the path, of which P holds, has what it held, where the files say what they hold
+abbrev pub PutsHeld : Type 0 → Contents → Name → (Change → Type 0) → Type 0
+PutsHeld tells held path P = (bytes : List ℕ) × (tells → held path ≡ Some bytes) × P (puts path bytes)
+
+-- each place that an id may have is among the first n
+abbrev pub Bounds : (Name → Option ℕ) → ℕ → Type 0
+Bounds place n = (id : Name) (k : ℕ) → place id ≡ Some k → nat_lt k n ≡ true
+
+-- the first of the features, and the dependencies after it; or there is none
+abbrev pub TakesOptional : List Dependency → Option (Bor Name) → List Dependency → Type 0
+TakesOptional ds first left = MatchOption first ((optional_in (map dependency_view ds) ≡ []) × (left ≡ [])) (λ name. optional_in (map dependency_view ds) ≡ name.now ∷ optional_in (map dependency_view left))
+
+-- the place of the package that a text means, by a map of ids
+abbrev pub place_in : BTreeMap (String Global) PackageId → Name → Option ℕ
+place_in ids id = option_map place_at (get_by_text ids id)
+
+-- the ids of packages, in order
+abbrev pub ids_in : List Package → List Name
+ids_in packages = map (λ p. string_bytes p.id) packages
+
+-- two parts of a text
+abbrev pub pair_view : Bor Name × Bor Name → Name × Name
+pair_view parts = (parts.0.now, parts.1.now)
+
+-- the parts of a version
+abbrev pub version_view : VersionParts → VersionText
+version_view v = record { major = v.major.now; minor = option_copied v.minor; patch = option_copied v.patch; pre = option_copied v.pre; build = option_copied v.build }
+
+-- the parts of a URL
+abbrev pub url_view : UrlParts → Url
+url_view u = record { protocol = u.protocol.now; path = u.path.now; query = option_copied u.query; fragment = option_copied u.fragment }

@@ -1,0 +1,63 @@
+-- What only private functions of the crate promise each other.
+use Rattle.std.specs.Prelude.{Option, ℕ, List, Contains, string_bytes, ◌≤◌, length}
+use Rattle.hack_load.specs.Contexts.{ContextRecord}
+use Rattle.hack_planner.specs.ContextMembers.{IsChoiceFault}
+use Rattle.hack_versions.specs.declared.version.Version.{Version}
+use Rattle.hack_plan.specs.Inputs.{IsVersionsFault}
+use Rattle.hack_plan.specs.declared.versions.PlanInput.{PlanInput}
+use Rattle.hack_planner.specs.declared.fault.PlanFault.{PlanFault}
+use Rattle.hack_planner.specs.declared.fault.PlanFault.TheVariants as fault
+use Rattle.hack_planner.specs.Calls.{HasBadOwn, HasNoSampleAt}
+use Rattle.hack_features.specs.Sets.{IsListing}
+use Rattle.hack_features.specs.Rules.{Choice, IsListed, AreCovers}
+
+-- the error says that the packages aren't known
+abbrev pub SaysPackagesUnknown : ContextRecord → PlanFault → Type 0
+SaysPackagesUnknown cx fault.Memory = ⊥
+SaysPackagesUnknown cx (fault.Stable text) = ⊥
+SaysPackagesUnknown cx (fault.Packages e) = IsChoiceFault cx e
+SaysPackagesUnknown cx (fault.Version e) = ⊥
+SaysPackagesUnknown cx (fault.Range e) = ⊥
+SaysPackagesUnknown cx (fault.TooManyQuestions name) = ⊥
+SaysPackagesUnknown cx fault.TooManyRuns = ⊥
+
+-- the error says that the range is refused
+abbrev pub SaysRangeRefused : PlanInput → Option Version → PlanFault → Type 0
+SaysRangeRefused s latest fault.Memory = ⊥
+SaysRangeRefused s latest (fault.Stable text) = ⊥
+SaysRangeRefused s latest (fault.Packages e) = ⊥
+SaysRangeRefused s latest (fault.Version e) = ⊥
+SaysRangeRefused s latest (fault.Range e) = IsVersionsFault s.range s latest e
+SaysRangeRefused s latest (fault.TooManyQuestions name) = ⊥
+SaysRangeRefused s latest fault.TooManyRuns = ⊥
+
+-- the error says that
+abbrev pub IsOwnFault : ContextRecord → List ℕ → PlanFault → Type 0
+IsOwnFault cx ids fault.Memory = ⊥
+IsOwnFault cx ids (fault.Stable text) = ⊥
+IsOwnFault cx ids (fault.Packages e) = ⊥
+IsOwnFault cx ids (fault.Version e) = HasBadOwn cx ids e
+IsOwnFault cx ids (fault.Range e) = ⊥
+IsOwnFault cx ids (fault.TooManyQuestions name) = ⊥
+IsOwnFault cx ids fault.TooManyRuns = ⊥
+
+-- the error says that this package has no sample
+abbrev pub SaysNoSample : ContextRecord → ℕ → PlanFault → Type 0
+SaysNoSample cx id fault.Memory = ⊥
+SaysNoSample cx id (fault.Stable text) = ⊥
+SaysNoSample cx id (fault.Packages e) = ⊥
+SaysNoSample cx id (fault.Version e) = ⊥
+SaysNoSample cx id (fault.Range e) = ⊥
+SaysNoSample cx id (fault.TooManyQuestions name) = HasNoSampleAt cx id (string_bytes name)
+SaysNoSample cx id fault.TooManyRuns = ⊥
+
+-- the error says that one of these packages has no sample
+abbrev pub HasRunsFault : ContextRecord → List ℕ → PlanFault → Type 0
+HasRunsFault cx ids e = (id : ℕ) × Contains ids id × SaysNoSample cx id e
+
+-- the listed sets are at least so many, and each set that has to be covered is covered by one of them
+pub record ListsAtLeast (c : Choice) (n least : ℕ) : Type 0 where
+  pub sets : List (List ℕ)
+  pub listing : IsListing n (IsListed c) sets
+  pub covers : AreCovers c n sets
+  pub enough : least ≤ length sets

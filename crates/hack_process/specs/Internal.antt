@@ -1,0 +1,16 @@
+-- What only private functions of the crate promise each other.
+use Rattle.std.specs.Prelude.{ℕ, List, Option, Some, None, length, drop, nat_eq, if◌then◌else◌, ◌++◌, codes, Bool, [], ◌∷◌}
+use Rattle.std.specs.List.{starts_with}
+
+-- what follows a name at the beginning of a line
+abbrev pub behind_prefix : List ℕ → List ℕ → Option (List ℕ)
+behind_prefix name line = if starts_with nat_eq line name then Some (drop (length name) line) else None
+
+-- features with one more name
+abbrev pub with_name : Option (List ℕ) → List ℕ → List ℕ
+with_name None name = name
+with_name (Some list) name = list ++ codes "," ++ name
+
+-- `--manifest-path`, where its value is still to come
+abbrev pub pending_option : Bool → List (List ℕ)
+pending_option awaits = if awaits then codes "--manifest-path" ∷ [] else []

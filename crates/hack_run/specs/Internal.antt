@@ -1,0 +1,81 @@
+-- What only private functions of the crate promise each other.
+use Rattle.std.specs.Prelude.{ℕ, ◌≡◌, ◌⊎◌, [], Bool, List, Option, Result, Some, None, Ok, Err, string_bytes, All, filter}
+use Rattle.std.specs.Io.KnownBytes.{Keeps, Appends, append_known}
+use Rattle.std.proofs.Common.{Global, String}
+use Rattle.hack_base.specs.Names.{Name}
+use Rattle.hack_load.specs.Contexts.{ContextRecord}
+use Rattle.hack_plan.specs.View.{PlanView}
+use Rattle.hack_session.specs.declared.step.Handed.{Handed}
+use Rattle.hack_base.specs.Notes.{Note}
+use Rattle.hack_versions.specs.declared.version.Version.{Version}
+use Rattle.hack_run.specs.Worlds.{HostView}
+use Rattle.hack_run.specs.CallTrace.{ListGrowsWithin, PerformsOne}
+use Rattle.hack_process.specs.Calls.{Call}
+use Rattle.hack_versions.specs.declared.rustup.Rustup.{Rustup}
+use Rattle.hack_words.specs.ParseAnswers.{around_of}
+use Rattle.hack_words.specs.Start.{wants_rustup}
+use Rattle.hack_words.specs.declared.cli.env.Env.{Env}
+use Rattle.hack_run.specs.Questions.{AsksRustup}
+use Rattle.hack_run.specs.declared.reading.Reading.{Reading}
+use Rattle.hack_run.specs.Readings.{IsReading}
+use Rattle.std.specs.List.{flat_map}
+use Rattle.hack_planner.specs.CallPlan.{IsPlanOf}
+use Rattle.hack_term.specs.declared.partition.Partition.{Partition}
+use Rattle.hack_session.specs.Histories.{Course}
+use Rattle.hack_session.specs.ListLines.{is_sent, lines_written}
+use Rattle.hack_session.specs.Internal.{IsListedStep, lines_listed}
+use Rattle.hack_run.specs.Headline.{IsHandedOut}
+use Rattle.hack_run.specs.Warnings.{Warned}
+
+-- one history was performed, or nothing was called and nothing listed
+abbrev pub PerformsAtMostOne : Bool → ContextRecord → Result (Option Version) (String Global) → Name → HostView → HostView → Type 0
+PerformsAtMostOne listing cx stable rustup old new = ((new.calls ≡ old.calls) × ListGrowsWithin listing old.out new.out []) ⊎ PerformsOne listing cx stable rustup old new
+
+-- a context's list was handed out to its end, and its steps that aren't listed to a runner,
+-- whatever came of them; where lines are written whole or not at all, the output grew by just those
+-- of the steps that passed
+pub record HandsOver {R : Type 0} (whole : Type 0) (had has : Option (List ℕ)) (Told : List Note → R → R → Type 0) (Ran : PlanView → List Handed → R → R → Type 0) (cx : ContextRecord) (stable : Result (Option Version) (String Global)) (rustup : Name) (old new : R) : Type 0 where
+  pub course : Course
+  pub handed : IsHandedOut cx stable rustup course
+  pub notes : List Note
+  pub planned : IsPlanOf cx.args.subcommand stable cx rustup course.plan notes
+  pub mid : R
+  pub told : Told notes old mid
+  pub ran : Ran course.plan (filter is_sent course.handed) mid new
+  pub wrote : whole → Appends had has (flat_map (lines_written course.plan) course.handed)
+
+-- a list was handed out to its end; or nothing was, and the runner printed notices at most
+abbrev pub HandsOverAtMostOne : {R : Type 0} → Type 0 → Option (List ℕ) → Option (List ℕ) → (List Note → R → R → Type 0) → (PlanView → List Handed → R → R → Type 0) → ContextRecord → Result (Option Version) (String Global) → Name → R → R → Type 0
+HandsOverAtMostOne whole had has Told Ran cx stable rustup old new =
+    (((new ≡ old) ⊎ ((notes : List Note) × Told notes old new)) × Keeps had has) ⊎ HandsOver whole had has Told Ran cx stable rustup old new
+
+-- where there is no error, there is a version, and it has the property
+abbrev pub IsLatest : (Version → Type 0) → Result (Option Version) (String Global) → Type 0
+IsLatest P (Ok None) = ⊥
+IsLatest P (Ok (Some v)) = P v
+IsLatest P (Err text) = Unit {0}
+
+-- rustup was asked where a word needs it, and with what is then known the words are read into this
+pub record ReadsAfterRustup (tells : Type 0) (words : List Name) (env : Env) (old new : List Call) (reading : Reading) : Type 0 where
+  pub rustup : Rustup
+  pub asked : tells → AsksRustup (wants_rustup words) (string_bytes env.rustup) rustup old new
+  pub read : IsReading (around_of env rustup) words reading
+
+-- `Done` holds of a context's plan, made with this answer on stable's version, and a warning is
+-- noted just where one was before, or where a notice of the plan counts as one
+pub record DoesPlan (Done : PlanView → Option Partition → HostView → HostView → Type 0) (cx : ContextRecord) (stable : Result (Option Version) (String Global)) (rustup : Name) (old new : HostView) : Type 0 where
+  pub plan : PlanView
+  pub notes : List Note
+  pub planned : IsPlanOf cx.args.subcommand stable cx rustup plan notes
+  pub done : Done plan cx.args.partition old new
+  pub warned : Warned notes old.term.warn new.term.warn
+
+-- a list was handed out to its end, no listed step failed, and the lines of all are written
+pub record ListsOver {R : Type 0} (whole : Type 0) (before now : Option (List ℕ)) (Told : List Note → R → R → Type 0) (Ran : PlanView → List Handed → R → R → Type 0) (cx : ContextRecord) (stable : Result (Option Version) (String Global)) (rustup : Name) (old new : R) : Type 0 where
+  pub over : HandsOver whole before now Told Ran cx stable rustup old new
+  pub listed : All IsListedStep over.course.handed
+  pub written : Appends before now (flat_map (lines_listed over.course.plan) over.course.handed)
+
+-- a host that has yet to write these bytes
+abbrev pub host_writing : List ℕ → HostView → HostView
+host_writing bytes host = record host { out = append_known host.out bytes }

@@ -1,7 +1,0 @@
-use Rattle.std.proofs.Common.{◌≡◌, ◌++◌, drop, map, string_bytes}
-use Rattle.hack_uses.specs.Uses.{views}
-use Rattle.hack_uses.specs.Values.{values_given}
-use Rattle.hack_uses.proofs.seen.values.Given as goal
-
-abbrev pub invariant-loop-one : goal.invariant-loop-one
-invariant-loop-one l = map string_bytes l.values.items ++ values_given l.option (views (drop l.one-index l.uses)) ≡ values_given l.option (views l.uses)

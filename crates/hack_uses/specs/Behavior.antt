@@ -1,9 +1,0 @@
--- Who handles a workspace.
-use Rattle.std.specs.Prelude.{Bool, true, false}
-use Rattle.hack_uses.specs.declared.behavior.WorkspaceBehavior.{WorkspaceBehavior}
-use Rattle.hack_uses.specs.declared.behavior.WorkspaceBehavior.TheVariants.{Cargo, Default}
-
--- Cargo handles it
-abbrev pub is_cargo : WorkspaceBehavior → Bool
-is_cargo Cargo = true
-is_cargo Default = false
