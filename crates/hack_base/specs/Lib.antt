@@ -1,6 +1,8 @@
 pub mod Names
 pub mod Cuts
 pub mod Numbers
+pub mod FieldReadings
+pub mod Counters
 pub mod Lists
 pub mod PathTexts
 pub mod Notes

@@ -1,6 +1,6 @@
-//! Copies of texts.
+//! Copies of texts, and texts that are lent.
 
-ghost use Rattle.std.specs.Prelude.{◌≡◌, ◌++◌, IfOk, OnOk, map};
+ghost use Rattle.std.specs.Prelude.{◌≡◌, ◌++◌, IfOk, OnOk, map, option_map};
 ghost use Rattle.hack_base.specs.Names.{names_of, optional_text, optional_text_ref};
 
 use std::alloc::{AllocError, Global};
@@ -35,5 +35,15 @@ pub fn copy_of(text: Option<&String>) -> Result<Option<String>, AllocError>
     match text {
         Some(text) => Ok(Some(text.clone()?)),
         None => Ok(None),
+    }
+}
+
+/// The text, if there is one, lent.
+pub fn text_in(text: &Option<String>) -> Option<&str>
+    ensures { option_map (λ text. text.now) result ≡ optional_text text.now }
+{
+    match text {
+        Some(text) => Some(text.as_str()),
+        None => None,
     }
 }

@@ -16,7 +16,8 @@ use Rattle.hack_features.specs.Places.{name_at, AreAt, AreAllAt, ArePlaced}
 use Rattle.hack_features.specs.Rules.{Choice, names_at, names_in, IsEnabledBy}
 use Rattle.hack_features.specs.Internal.{one_leads, leads, leads_to_each, AreKeyPlaces}
 use Rattle.hack_features.specs.Tables.{bit}
-use Rattle.hack_features.specs.Settings.{IsEnabledByKey, SaysOfEach, AreSettings, AreSettingsOfAll, IsOfCandidates, RowHasPattern}
+use Rattle.hack_features.specs.Settings.{IsEnabledByKey, SaysOfEach, AreSettings, AreSettingsOfAll, IsOfCandidates}
+use Rattle.hack_samples.specs.Samples.{RowShows}
 use Rattle.hack_features.specs.View.{choice_of}
 use Rattle.hack_samples.specs.Sets.{rows_of}
 use Rattle.hack_features.specs.RoutesView.{routed_names as names_by_place}
@@ -148,7 +149,7 @@ module _ (c : Choice) (P : ℕ → Type 0) (row : List Bool) (h : SaysOfEach c P
         λ q. slice_get-get_or row p false (omega (arith, lt, h.count)) ∙ ap Some (both_told b x.on (λ t. q.0 (iff.0 t)) (λ t. iff.1 (q.1 t))),
       )
 
-  pub shows_iff : (pattern : List Setting) → IsOfCandidates c pattern → RowHasPattern row pattern ↔ All (λ x. P x.candidate ↔ IsTrue x.on) pattern
+  pub shows_iff : (pattern : List Setting) → IsOfCandidates c pattern → RowShows row pattern ↔ All (λ x. P x.candidate ↔ IsTrue x.on) pattern
   shows_iff pattern of = (
     λ a k d lt. (one_shown (get_or pattern k d) (of k d lt)).0 (a k d lt),
     λ a k d lt. (one_shown (get_or pattern k d) (of k d lt)).1 (a k d lt),

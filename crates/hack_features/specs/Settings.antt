@@ -1,5 +1,5 @@
 -- Rows that say of each candidate whether it is on: in a set, or where all features of the package are.
-use Rattle.std.specs.Prelude.{◌≡◌, ◌<◌, ℕ, List, Bool, Some, false, IsTrue, All, length, ◌↔◌, slice_get}
+use Rattle.std.specs.Prelude.{◌≡◌, ◌<◌, ℕ, List, Bool, false, IsTrue, All, length, ◌↔◌}
 use Rattle.std.specs.List.{slice_index_or}
 use Rattle.hack_base.specs.Names.{Name}
 use Rattle.hack_samples.specs.declared.sets.Setting.{Setting}
@@ -37,7 +37,3 @@ IsOfCandidates c pattern = All (λ setting. setting.candidate < length c.candida
 -- all features show the pattern: each of its candidates is on with them exactly where the pattern says so
 abbrev pub AllShow : Choice → List Setting → Type 0
 AllShow c pattern = All (λ setting. IsOnWithAll c setting.candidate ↔ IsTrue setting.on) pattern
-
--- the row shows the pattern: at each of its candidates it has what the pattern says
-abbrev pub RowHasPattern : List Bool → List Setting → Type 0
-RowHasPattern row pattern = All (λ setting. slice_get row setting.candidate ≡ Some setting.on) pattern

@@ -42,7 +42,8 @@ impl<'a> Rules<'a> {
     ghost use Rattle.std.specs.Prelude.{◌↔◌, ◌++◌, ◌∷◌, min};
     ghost use Rattle.hack_features.specs.Sets.{IsWithin};
     ghost use Rattle.hack_features.specs.Internal.{AreLimits, IsFree};
-    ghost use Rattle.hack_features.specs.View.{choice_of, size_of, questions_asked, may_of, whole_of};
+    ghost use Rattle.hack_features.specs.View.{choice_of, size_of, questions_asked, may_of};
+    ghost use Rattle.hack_features.specs.View.{whole_of};
     ghost use Rattle.hack_features.specs.Samples.{positions_of};
 
     /// Makes the rules for the candidates `features` of a package with the feature map `map`. A set
@@ -139,7 +140,8 @@ impl<'a> Rules<'a> {
     /// redundant. It is counted as a question.
     fn permits(&mut self, positions: &[usize], next: usize) -> bool
         ensures answer { result ≡ may_of self.old (positions.now ++ next ∷ []) }
-        ensures counted { questions_asked self.new ≡ min (questions_asked self.old + 1) (2 ^ 128 - 1) }
+        ensures counted { questions_asked self.new
+            ≡ min (questions_asked self.old + 1) (2 ^ 128 - 1) }
         ensures same_choice { choice_of self.new ≡ choice_of self.old }
         ensures same_size { size_of self.new ≡ size_of self.old }
         ensures same_may { may_of self.new ≡ may_of self.old }
@@ -160,7 +162,8 @@ impl<'a> Rules<'a> {
     pub(crate) fn permits_in(&mut self, set: &[bool], position: usize) -> bool
         requires { may_of self.old (positions_of set.now) ≡ true }
         ensures answer { result ≡ may_of self.old (positions_of set.now ++ position ∷ []) }
-        ensures counted { questions_asked self.new ≡ min (questions_asked self.old + 1) (2 ^ 128 - 1) }
+        ensures counted { questions_asked self.new
+            ≡ min (questions_asked self.old + 1) (2 ^ 128 - 1) }
         ensures same_choice { choice_of self.new ≡ choice_of self.old }
         ensures same_size { size_of self.new ≡ size_of self.old }
         ensures same_may { may_of self.new ≡ may_of self.old }
@@ -204,7 +207,8 @@ impl<'a> Rules<'a> {
         ensures answer { result ≡ may_of self.old (least ∷ positions.now) }
         ensures permitted { IsTrue result
             ↔ IsPermitted (choice_of self.old) (least ∷ positions.now) }
-        ensures counted { questions_asked self.new ≡ min (questions_asked self.old + 1) (2 ^ 128 - 1) }
+        ensures counted { questions_asked self.new
+            ≡ min (questions_asked self.old + 1) (2 ^ 128 - 1) }
         ensures same_choice { choice_of self.new ≡ choice_of self.old }
         ensures same_size { size_of self.new ≡ size_of self.old }
         ensures same_may { may_of self.new ≡ may_of self.old }
@@ -264,7 +268,8 @@ fn is_wanted(depth: Option<usize>, tables: &Tables, positions: &[usize]) -> bool
 impl Questions for Rules<'_> {
     ghost use Rattle.std.specs.Prelude.{◌≡◌, ◌<◌, ◌≤◌, ◌+◌, ◌-◌, ◌^◌, ◌++◌, ◌∷◌, ◌↔◌, min, ℕ};
     ghost use Rattle.std.specs.Prelude.{List};
-    ghost use Rattle.hack_features.specs.View.{choice_of, size_of, questions_asked, may_of, whole_of};
+    ghost use Rattle.hack_features.specs.View.{choice_of, size_of, questions_asked, may_of};
+    ghost use Rattle.hack_features.specs.View.{whole_of};
     ghost use Rattle.hack_features.specs.ClosureLaws.{may_of-empty, may_of-remove};
 
     ghost choice = { choice_of };
@@ -283,7 +288,8 @@ impl Questions for Rules<'_> {
         ensures answer { result ≡ may_of self.old (positions.now ++ next ∷ []) }
         ensures permitted { IsTrue result
             ↔ IsPermitted (choice_of self.old) (positions.now ++ next ∷ []) }
-        ensures counted { questions_asked self.new ≡ min (questions_asked self.old + 1) (2 ^ 128 - 1) }
+        ensures counted { questions_asked self.new
+            ≡ min (questions_asked self.old + 1) (2 ^ 128 - 1) }
         ensures same_choice { choice_of self.new ≡ choice_of self.old }
         ensures same_size { size_of self.new ≡ size_of self.old }
         ensures same_may { may_of self.new ≡ may_of self.old }

@@ -72,7 +72,8 @@ impl Rules<'_> {
     ghost use Rattle.std.specs.Prelude.{◌↔◌, List};
     ghost use Rattle.hack_samples.specs.declared.sets.Setting.{Setting};
     ghost use Rattle.hack_features.specs.Samples.{SetShows};
-    ghost use Rattle.hack_features.specs.Settings.{AreSettings, AreSettingsOfAll, RowHasPattern};
+    ghost use Rattle.hack_features.specs.Settings.{AreSettings, AreSettingsOfAll};
+    ghost use Rattle.hack_samples.specs.Samples.{RowShows};
     ghost use Rattle.hack_features.specs.Settings.{IsOfCandidates, AllShow};
     ghost use Rattle.hack_features.specs.View.{choice_of};
 
@@ -85,7 +86,7 @@ impl Rules<'_> {
         // So the set shows a pattern exactly where the row does.
         ensures shown { IfOk result (λ row. (pattern : List Setting)
             → IsOfCandidates (choice_of self.now) pattern
-            → RowHasPattern row.items pattern ↔ SetShows (choice_of self.now) pattern positions.now) }
+            → RowShows row.items pattern ↔ SetShows (choice_of self.now) pattern positions.now) }
     {
         let enabled = self.enabled();
         let from = member_places(alloc, enabled.candidates.as_slice(), positions)?;
@@ -102,7 +103,7 @@ impl Rules<'_> {
         // So all features show a pattern exactly where the row does.
         ensures shown { IfOk result (λ row. (pattern : List Setting)
             → IsOfCandidates (choice_of self.now) pattern
-            → RowHasPattern row.items pattern ↔ AllShow (choice_of self.now) pattern) }
+            → RowShows row.items pattern ↔ AllShow (choice_of self.now) pattern) }
     {
         let enabled = self.enabled();
         let from = key_places(alloc, &enabled.routes)?;

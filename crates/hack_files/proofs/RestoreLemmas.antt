@@ -3,7 +3,8 @@ use Rattle.std.proofs.Common.{◌≡◌, ◌≢◌, ◌⊎◌, inl, inr, ℕ, su
 use Rattle.std.specs.Prelude.{Contains, slice_index_or}
 use Rattle.std.proofs.lemmas.List.{get_or-map, take_more, take_all, length-map}
 use Rattle.hack_files.specs.declared.restore.Saved.{Saved}
-use Rattle.hack_files.specs.Files.{Change, Contents, KeepsOthers, GrowsBy, Makes, MakesOrNot}
+use Rattle.hack_files.specs.Files.{Change, Contents, KeepsOthers, Makes, MakesOrNot}
+use Rattle.hack_base.specs.Counters.{GrowsBy}
 use Rattle.hack_files.specs.Restore.{Kept, kept_file, paths, Brings, AreDistinct, Tried, none, written, failed, made_and_failed, write_of}
 use Rattle.hack_files.proofs.FilesLemmas.{makes_more}
 

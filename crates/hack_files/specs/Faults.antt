@@ -1,7 +1,7 @@
 -- What the errors of calls of files say.
 use Rattle.std.specs.Prelude.{◌≡◌, ◌⊎◌, ℕ, List, Option, Some, string_bytes}
 use Rattle.std.specs.Str.{IsUtf8}
-use Rattle.hack_files.specs.Files.{GrowsBy}
+use Rattle.hack_base.specs.Counters.{GrowsBy}
 use Rattle.hack_files.specs.declared.fs.FsFault.{FsFault}
 use Rattle.hack_files.specs.declared.fs.FsFault.TheVariants.{Read, Write, NotText, Memory}
 

@@ -1,5 +1,6 @@
 -- What files hold, and how a call changes it.
-use Rattle.std.specs.Prelude.{◌≡◌, ◌≢◌, ◌⊎◌, ◌+◌, ◌-◌, ◌^◌, ◌<◌, ◌++◌, [], ◌∷◌, ℕ, List, Option, Some, None, Result, Ok, Err, cond, min}
+use Rattle.hack_base.specs.Counters.{GrowsBy}
+use Rattle.std.specs.Prelude.{◌≡◌, ◌≢◌, ◌⊎◌, ◌+◌, ◌-◌, ◌++◌, [], ◌∷◌, ℕ, List, Option, Some, None, Result, Ok, Err, cond}
 use Rattle.std.specs.Str.{bytes_eq}
 
 -- what the paths hold: the bytes of each, and nothing where no file is
@@ -37,10 +38,6 @@ pub record Makes (cs old_trace new_trace : List Change) (old new : Contents) : T
 abbrev pub MakesOrNot : Change → List Change → List Change → Contents → Contents → Type 0
 MakesOrNot c old_trace new_trace old new =
     Makes [] old_trace new_trace old new ⊎ Makes (c ∷ []) old_trace new_trace old new
-
--- a count of 64 bits has gone up by k, but not above its greatest value
-abbrev pub GrowsBy : ℕ → ℕ → ℕ → Type 0
-GrowsBy k old new = old < 2 ^ 64 → new ≡ min (old + k) (2 ^ 64 - 1)
 
 -- a call that fails counts one more failure, and one that succeeds none
 abbrev pub CountsFailedCall : {T E : Type 0} → ℕ → ℕ → Result T E → Type 0

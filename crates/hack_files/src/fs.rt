@@ -3,7 +3,8 @@
 
 ghost use Rattle.std.specs.Prelude.{◌≡◌, ◌↔◌, [], ◌∷◌, List, ℕ, Some, None, string_bytes};
 ghost use Rattle.std.specs.Prelude.{IfOk, IfErr, OnOk, OnErr, IsTrue, IsSome};
-ghost use Rattle.hack_files.specs.Files.{Change, Contents, CountsFailedCall, GrowsBy};
+ghost use Rattle.hack_files.specs.Files.{Change, Contents, CountsFailedCall};
+ghost use Rattle.hack_base.specs.Counters.{GrowsBy};
 ghost use Rattle.hack_files.specs.Files.{KeepsOthers, KeepsAll, Makes, MakesOrNot, puts, removes};
 ghost use Rattle.hack_files.specs.Faults.{IsOfRead, IsOfText, IsOfWrite};
 

@@ -4,7 +4,8 @@
 ghost use Rattle.std.specs.Prelude.{◌≡◌, ◌<◌, ◌↔◌, ◌⊎◌, [], ◌∷◌, ◌++◌, List, Some, cond, true};
 ghost use Rattle.std.specs.Prelude.{OnOk, OnErr, IfErr, IsTrue};
 ghost use Rattle.std.specs.Bool.{OnTrue, OnFalse};
-ghost use Rattle.hack_files.specs.Files.{GrowsBy, CountsFailedCall, KeepsAll, KeepsOthers};
+ghost use Rattle.hack_files.specs.Files.{CountsFailedCall, KeepsAll, KeepsOthers};
+ghost use Rattle.hack_base.specs.Counters.{GrowsBy};
 ghost use Rattle.hack_files.specs.Files.{Makes, MakesOrNot, Change};
 ghost use Rattle.hack_files.specs.Faults.{IsOfWrite};
 ghost use Rattle.hack_files.specs.Restore.{Kept, kept_file, registered_files, is_kept, kept_too};

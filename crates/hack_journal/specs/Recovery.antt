@@ -1,7 +1,8 @@
 -- What an interrupted call had edited is put back.
 use Rattle.std.specs.Prelude.{◌≡◌, ◌≢◌, ◌⊎◌, ◌+◌, [], ◌∷◌, ℕ, List, Option, Some, None, Result, Ok, Err, string_bytes}
 use Rattle.std.specs.Str.{IsUtf8}
-use Rattle.hack_files.specs.Files.{Contents, GrowsBy, KeepsAll, KeepsOthers}
+use Rattle.hack_files.specs.Files.{Contents, KeepsAll, KeepsOthers}
+use Rattle.hack_base.specs.Counters.{GrowsBy}
 use Rattle.hack_files.specs.declared.fs.FsFault.{FsFault}
 use Rattle.hack_files.specs.declared.fs.FsFault.TheVariants as fs
 use Rattle.hack_journal.specs.Journal.{Edit, journal_text}

@@ -2,7 +2,8 @@
 
 ghost use Rattle.std.specs.Prelude.{◌≡◌, ◌↔◌, [], ◌∷◌, IfOk, OnOk, OnErr, IsTrue};
 ghost use Rattle.std.specs.Option.{option_map};
-ghost use Rattle.hack_files.specs.Files.{CountsFailedCall, KeepsOthers, KeepsAll, Makes, MakesOrNot};
+ghost use Rattle.hack_files.specs.Files.{CountsFailedCall, KeepsOthers, KeepsAll, Makes};
+ghost use Rattle.hack_files.specs.Files.{MakesOrNot};
 ghost use Rattle.hack_journal.specs.Journal.{edit_of, edits_of};
 ghost use Rattle.hack_journal.specs.SafeFiles.{AreBack, gives};
 

@@ -43,7 +43,8 @@ fn fits(entry: &Entry, path: &str, bytes: Option<&[u8]>) -> bool
 /// Returns whether an entry of the path has these bytes: the path held them, or they were written.
 pub fn tells(entries: &[Entry], path: &str, bytes: Option<&[u8]>) -> bool
     ensures { IsTrue result ↔
-        SomeEntryHasBytes (edits_of entries.now) path.now (option_map (λ bytes. bytes.now) bytes.entry) }
+        SomeEntryHasBytes (edits_of entries.now) path.now
+        (option_map (λ bytes. bytes.now) bytes.entry) }
 {
     match entries {
         [] => false,
@@ -72,7 +73,8 @@ pub fn first<'a>(entries: &'a [Entry], path: &str) -> Option<&'a Entry>
 // held at first.
 fn agrees(first: Option<&Entry>, entry: &Entry) -> bool
     ensures { IsTrue result ↔
-        AgreesOnHeld (option_map (λ entry. edit_of entry.now) first.entry) (edit_of entry.now).held }
+        AgreesOnHeld (option_map (λ entry. edit_of entry.now) first.entry)
+        (edit_of entry.now).held }
 {
     match first {
         Some(first) => same(first.held.as_deref(), entry.held.as_deref()),

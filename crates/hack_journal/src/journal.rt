@@ -116,7 +116,8 @@ pub fn spell(alloc: Global, entries: &[Entry]) -> Result<Vec<u8>, AllocError>
 // Returns the bytes of lines, and what follows the line feed that ends them.
 fn lines_of(alloc: Global, text: &[u8]) -> Result<(Vec<u8>, &[u8]), JournalFault>
     ensures shorter { IfOk result (λ x. length x.1.now < length text.now) }
-    ensures only { (bytes rest : List ℕ) → BeginsWithoutSpace rest → text.now ≡ lines bytes ++ rest →
+    ensures only { (bytes rest : List ℕ) → BeginsWithoutSpace rest → text.now
+        ≡ lines bytes ++ rest →
         ReadsValue {Y = List ℕ × List ℕ} (λ x. (x.0.items, x.1.now)) result (bytes, rest) }
 {
     let mut bytes = Vec::new(alloc);

@@ -7,7 +7,8 @@
 ghost use Rattle.std.specs.Prelude.{◌≡◌, ◌≢◌, ◌++◌, ◌⊎◌, [], ◌∷◌, List, ℕ, None, Some, false};
 ghost use Rattle.std.specs.Prelude.{IfOk, OnOk, OnErr, IsTrue, IsSome, ◌↔◌, string_bytes};
 ghost use Rattle.std.specs.Option.{option_map};
-ghost use Rattle.hack_files.specs.Files.{Contents, CountsFailedCall, GrowsBy, KeepsOthers, KeepsAll};
+ghost use Rattle.hack_files.specs.Files.{Contents, CountsFailedCall, KeepsOthers, KeepsAll};
+ghost use Rattle.hack_base.specs.Counters.{GrowsBy};
 ghost use Rattle.hack_files.specs.Files.{Makes, MakesOrNot, puts};
 ghost use Rattle.hack_journal.specs.Journal.{edit_of, edits_of, journal_text};
 ghost use Rattle.hack_journal.specs.SafeFiles.{SomeEntryHasBytes, first_entry_of, AreBack, gives};
@@ -254,7 +255,8 @@ impl<F: Files> Journaled<F> {
     fn close(&mut self) -> Result<bool, FileFault>
         ensures handed { F.stays self.old.files self.new.files }
         ensures journal { self.new.journal ≡ self.old.journal }
-        ensures below { CountsFailedCall (F.failed self.old.files) (F.failed self.new.files) result }
+        ensures below { CountsFailedCall (F.failed self.old.files)
+            (F.failed self.new.files) result }
         ensures failures { self.new.failures ≡ self.old.failures }
         ensures others { F.tells → KeepsOthers (string_bytes self.old.journal)
             (F.bytes_at self.old.files) (F.bytes_at self.new.files) }
@@ -291,7 +293,8 @@ impl<F: Files> Journaled<F> {
         ensures counted { CountsFailedCall self.old.failures self.new.failures result }
 
         // It fails only where a call of the files below failed.
-        ensures below { CountsFailedCall (F.failed self.old.files) (F.failed self.new.files) result }
+        ensures below { CountsFailedCall (F.failed self.old.files)
+            (F.failed self.new.files) result }
         ensures others { F.tells → KeepsOthers (string_bytes self.old.journal)
             (F.bytes_at self.old.files) (F.bytes_at self.new.files) }
         ensures stays { F.tells → F.whole → Stays (string_bytes self.old.journal)

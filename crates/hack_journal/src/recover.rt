@@ -3,15 +3,18 @@
 ghost use Rattle.std.specs.Prelude.{◌≡◌, ◌≢◌, ◌↔◌, ◌⊎◌, ◌≤◌, [], ◌∷◌, List, ℕ, Some, None, Vec};
 ghost use Rattle.std.specs.Prelude.{IfOk, IfErr, OnOk, false, length};
 ghost use Rattle.hack_files.specs.Files.{Contents, KeepsOthers, KeepsAll, Makes, MakesOrNot};
-ghost use Rattle.hack_files.specs.Files.{GrowsBy, after, after_change};
+ghost use Rattle.hack_files.specs.Files.{after, after_change};
+ghost use Rattle.hack_base.specs.Counters.{GrowsBy};
 ghost use Rattle.hack_journal.specs.Journal.{Edit, edit_of, edits_of, journal_text, HaveTextPaths};
-ghost use Rattle.hack_journal.specs.SafeFiles.{IsSafe, IsSafeBy, StaysSafe, KeepFirst, SomeEntryHasBytes};
+ghost use Rattle.hack_journal.specs.SafeFiles.{IsSafe, IsSafeBy, StaysSafe, KeepFirst};
+ghost use Rattle.hack_journal.specs.SafeFiles.{SomeEntryHasBytes};
 ghost use Rattle.hack_journal.specs.SafeFiles.{gives, without};
 ghost use Rattle.hack_journal.specs.Recovery.{AreOfCall, AreTold, Differ, IsRestored};
 ghost use Rattle.hack_journal.specs.Internal.{backs};
 ghost use Rattle.hack_journal.specs.Recovery.{IsWhy};
 ghost use Rattle.hack_journal.specs.Internal.{IsWhyUnread, IsWhyNotTold};
-ghost use Rattle.hack_journal.specs.Recovery.{IsJournalRefusal, CountsRecoverFault, IsFailureCounted};
+ghost use Rattle.hack_journal.specs.Recovery.{IsJournalRefusal, CountsRecoverFault};
+ghost use Rattle.hack_journal.specs.Recovery.{IsFailureCounted};
 ghost use Rattle.hack_journal.specs.Internal.{NamesNoJournal};
 ghost use Rattle.hack_journal.specs.Recovery.{HasEntry};
 ghost use Rattle.hack_journal.specs.Internal.{FailsAt};
@@ -143,7 +146,8 @@ fn check<F: Files>(
     entry: &Entry,
 ) -> Result<(), RecoverFault>
     ensures failures { IsFailureCounted (F.failed files.old) (F.failed files.new) result }
-    ensures told { OnOk result (F.tells → SomeEntryHasBytes (edits_of all.now) (edit_of entry.now).path
+    ensures told { OnOk result (F.tells → SomeEntryHasBytes (edits_of all.now)
+        (edit_of entry.now).path
         (F.bytes_at files.old (edit_of entry.now).path)) }
     ensures why { IfErr result (IsWhyNotTold journal.now F.tells (edits_of all.now)
         (edit_of entry.now ∷ []) (F.bytes_at files.old)) }

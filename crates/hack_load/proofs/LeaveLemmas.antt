@@ -1,7 +1,8 @@
 -- What the files hold after several calls.
 use Rattle.std.proofs.Common.{inl, inr, ℕ, [], ◌∷◌, Result, Ok, Err, refl, sym, ◌∙◌, arith}
 use Rattle.hack_base.specs.Names.{Name}
-use Rattle.hack_files.specs.Files.{Contents, GrowsBy, KeepsAll}
+use Rattle.hack_files.specs.Files.{Contents, KeepsAll}
+use Rattle.hack_base.specs.Counters.{GrowsBy}
 use Rattle.hack_files.specs.Faults.{IsOfText}
 use Rattle.hack_files.specs.declared.fs.FsFault.{FsFault}
 use Rattle.hack_files.specs.declared.fs.FsFault.TheVariants as fs

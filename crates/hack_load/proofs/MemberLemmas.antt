@@ -5,7 +5,8 @@ use Rattle.std.proofs.lemmas.List.{get_or-map, length-map, map-append, take_more
 use Rattle.std.proofs.lemmas.Option.{slice_get-map}
 use Rattle.std.specs.List.{AllZip}
 use Rattle.hack_base.specs.Names.{Name}
-use Rattle.hack_files.specs.Files.{Contents, GrowsBy, KeepsAll}
+use Rattle.hack_files.specs.Files.{Contents, KeepsAll}
+use Rattle.hack_base.specs.Counters.{GrowsBy}
 use Rattle.hack_files.specs.Faults.{IsOfText}
 use Rattle.hack_files.specs.declared.fs.FsFault.{FsFault}
 use Rattle.hack_files.specs.declared.fs.FsFault.TheVariants as fs

@@ -14,7 +14,8 @@ use Rattle.hack_metadata.specs.declared.metadata.fault.MetadataFault.TheVariants
 use Rattle.hack_features.specs.declared.feature.Feature.{Feature}
 use Rattle.hack_load.specs.Candidates.{Path}
 use Rattle.hack_load.specs.Features.{ArePaths}
-use Rattle.hack_files.specs.Files.{Contents, GrowsBy, KeepsAll}
+use Rattle.hack_files.specs.Files.{Contents, KeepsAll}
+use Rattle.hack_base.specs.Counters.{GrowsBy}
 use Rattle.hack_metadata.specs.FilesAfterAsking.{Whole}
 use Rattle.hack_base.specs.Names.{Name}
 

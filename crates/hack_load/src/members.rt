@@ -2,7 +2,8 @@
 
 ghost use Rattle.std.specs.Prelude.{◌≡◌, ◌<◌, ◌⊎◌, IfOk, IfErr, Some, Contains, length, map};
 ghost use Rattle.std.specs.Prelude.{slice_get};
-ghost use Rattle.hack_files.specs.Files.{GrowsBy, KeepsAll};
+ghost use Rattle.hack_files.specs.Files.{KeepsAll};
+ghost use Rattle.hack_base.specs.Counters.{GrowsBy};
 ghost use Rattle.hack_metadata.specs.RecordViews.{package_view, place_at};
 ghost use Rattle.hack_metadata.specs.MetadataView.{metadata_view};
 ghost use Rattle.hack_load.specs.Internal.{ReadsOnly};

@@ -8,7 +8,8 @@ use Rattle.hack_base.specs.Names.{Name}
 use Rattle.hack_manifest.specs.LineRuns.{IsFirstRun, IsCutInto}
 use Rattle.hack_manifest.specs.PieceFronts.{IsFirstFrontTo}
 use Rattle.hack_manifest.specs.Paths.{View, AreCut, IsOwnKey, at_front, no_front, IsPathOfPiece, HavePaths, next_header, is_header, chain_at, joined_pieces}
-use Rattle.hack_manifest.specs.Manifest.{FieldReading, Facts, IsReadAs, read_manifest}
+use Rattle.hack_manifest.specs.Manifest.{Facts, IsReadAs, read_manifest}
+use Rattle.hack_base.specs.FieldReadings.{FieldReading}
 
 joined-text : (ps : List View) (tail text : List ℕ) → IsCutInto (map (λ p. p.text) ps) tail text → text ≡ joined_pieces ps ++ tail
 joined-text [] tail text h = sym h.0

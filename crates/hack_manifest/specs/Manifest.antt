@@ -1,12 +1,13 @@
 -- What a manifest says about its package and its features, or the name of the first field that
 -- can't be read.
-use Rattle.std.specs.Prelude.{◌≡◌, codes, ℕ, Bool, true, false, not, ◌&&◌, nat_lt, if◌then◌else◌, List, [], ◌∷◌, Option, Some, None, Result, Ok, Err, option_map, option_and_then}
+use Rattle.std.specs.Prelude.{◌≡◌, codes, ℕ, Bool, true, false, not, ◌&&◌, nat_lt, if◌then◌else◌, List, [], ◌∷◌, Option, Some, None, Ok, Err, option_map, option_and_then}
 use Rattle.std.specs.List.{list_any}
 use Rattle.std.specs.Option.{ok_or}
 use Rattle.std.specs.Str.{bytes_eq}
 use Rattle.toml.specs.Data.{Data, string, boolean, array, Items, no_items, item, Members, no_members, member, get_member, as_table, as_array}
 use Rattle.toml.specs.Parse.{parse_document}
 use Rattle.toml.specs.Text.{has_items}
+use Rattle.hack_base.specs.FieldReadings.{FieldReading, ◌>>=◌}
 use Rattle.hack_base.specs.Names.{Name}
 use Rattle.hack_features.specs.FeatureMap.{FeatureMap}
 use Rattle.hack_manifest.specs.Paths.{View, is_header, AreCut}
@@ -23,16 +24,6 @@ rust_version_key = codes "rust-version"
 
 abbrev pub features_key : Name
 features_key = codes "features"
-
--- what is read, or the name of the field that can't be read
-abbrev pub FieldReading : Type 0 → Type 0
-FieldReading A = Result A Name
-
-infixl 10 ◌>>=◌
--- the second part is read only where the first one could be: so the first error counts
-abbrev pub ◌>>=◌ : {A B : Type 0} → FieldReading A → (A → FieldReading B) → FieldReading B
-(Ok x) >>= f = f x
-(Err name) >>= f = Err name
 
 -- the path is just this one name
 abbrev pub is_just : Name → List Name → Bool

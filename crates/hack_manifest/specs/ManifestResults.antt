@@ -4,7 +4,8 @@ use Rattle.std.specs.declared.alloc.Global.{Global}
 use Rattle.toml.specs.Parse.{parse_document}
 use Rattle.hack_base.specs.Names.{Name, optional_text}
 use Rattle.hack_features.specs.FeatureMap.{feature_map}
-use Rattle.hack_manifest.specs.Manifest.{FieldReading, PackageFacts, Facts, IsReadAs}
+use Rattle.hack_manifest.specs.Manifest.{PackageFacts, Facts, IsReadAs}
+use Rattle.hack_base.specs.FieldReadings.{FieldReading}
 use Rattle.hack_manifest.specs.declared.fault.ReadFault.{ReadFault}
 use Rattle.hack_manifest.specs.declared.fault.ReadFault.TheVariants as parts
 use Rattle.hack_manifest.specs.declared.package.Package.{Package}

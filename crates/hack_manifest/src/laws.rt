@@ -1,7 +1,8 @@
 //! Laws: functions that do nothing, each of which has a law over definitions as its contract.
 
 ghost use Rattle.std.specs.Prelude.{◌≡◌, ◌++◌, List, ℕ};
-ghost use Rattle.hack_manifest.specs.Manifest.{FieldReading, Facts, IsReadAs};
+ghost use Rattle.hack_manifest.specs.Manifest.{Facts, IsReadAs};
+ghost use Rattle.hack_base.specs.FieldReadings.{FieldReading};
 ghost use Rattle.hack_manifest.specs.Paths.{AreCut, View, joined_pieces};
 
 /// A manifest's text is read in only one way.

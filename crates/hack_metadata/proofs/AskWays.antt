@@ -9,7 +9,8 @@ use Rattle.std.proofs.lemmas.List.{append-nil}
 use Rattle.serde_json.specs.Data.{Members}
 use Rattle.hack_base.specs.Names.{Name}
 use Rattle.hack_files.specs.Faults.{IsOfRead, IsOfWrite}
-use Rattle.hack_files.specs.Files.{Change, Contents, GrowsBy, KeepsOthers, Makes, MakesOrNot, puts}
+use Rattle.hack_files.specs.Files.{Change, Contents, KeepsOthers, Makes, MakesOrNot, puts}
+use Rattle.hack_base.specs.Counters.{GrowsBy}
 use Rattle.hack_files.specs.Restore.{Kept, write_of}
 use Rattle.hack_files.specs.declared.fs.FsFault.{FsFault}
 use Rattle.hack_files.specs.declared.fs.FsFault.TheVariants as fs
@@ -20,9 +21,9 @@ use Rattle.hack_process.specs.Commands.{asked_of}
 use Rattle.hack_process.specs.Faults.{IsFault, IsReadFault}
 use Rattle.hack_process.specs.declared.fault.ProcessFault.{ProcessFault}
 use Rattle.hack_process.specs.declared.fault.ProcessFault.TheVariants as p
-use Rattle.hack_metadata.specs.QuestionCalls.{Stage, first, locked, newer, taken, to_cargo, versioned, LeadsToStage, answers, tells_older, first_counts, asks_again}
-use Rattle.hack_metadata.specs.QuestionCalls.{AsksCargo, UsesAnswer, EndsSo, FailsToRead, FailsFirst, FallsBack, IsAnswer, IsLockfile, IsNeeded, IsNextCommand, IsTextFault, Lacks, PutsBack, StopsQuestion, TellsAs, FailsAs, WroteWhereKnown}
-use Rattle.hack_metadata.specs.Fields.{Field, object_in_text}
+use Rattle.hack_metadata.specs.QuestionCalls.{Stage, first, locked, newer, taken, to_cargo, versioned, LeadsToStage, answers, tells_older, first_counts, asks_again, AsksCargo, UsesAnswer, EndsSo, FailsToRead, FailsFirst, FallsBack, IsAnswer, IsLockfile, IsNeeded, IsNextCommand, IsTextFault, Lacks, PutsBack, StopsQuestion, TellsAs, FailsAs, WroteWhereKnown}
+use Rattle.hack_metadata.specs.Fields.{object_in_text}
+use Rattle.hack_base.specs.FieldReadings.{FieldReading}
 use Rattle.hack_metadata.specs.FileFaults.{IsUnread, IsUnwritten}
 use Rattle.hack_metadata.specs.MetadataReading.{read_metadata}
 use Rattle.hack_metadata.specs.Requests.{Question, by_stable, command_line, first_command}
@@ -37,7 +38,7 @@ use Rattle.hack_metadata.proofs.AskLemmas.{fault-read}
 -- ---- why a question ends
 
 -- a text that isn't read as it should be ends the question
-pub text-stops : {A : Type 0} (q : Question) (now : List Call) (stage : Stage) (c : Command) (text : Name) (f : Members → Field A) (e : AskFault)
+pub text-stops : {A : Type 0} (q : Question) (now : List Call) (stage : Stage) (c : Command) (text : Name) (f : Members → FieldReading A) (e : AskFault)
     → IsAnswer q stage c text → ((name : Name) (ms : Members) → object_in_text text ≡ Some ms → f ms ≡ Err name → Lacks stage name)
     → IsTextFault f text (text_of q.verbose q.dir c) e → StopsQuestion q stage now now e
 text-stops q now stage c text f fault.Memory is lacks h = inl refl
@@ -193,7 +194,7 @@ whole-leaves path tells a b x y (Ok v) spares h = h
 whole-leaves path tells a b x y (Err e) spares h = whole-left path tells a b x y e spares h
 
 -- an error of reading a text is not one of the files
-pub text-spares : {A : Type 0} (f : Members → Field A) (text shown : Name) (e : AskFault) → IsTextFault f text shown e → IsNoFileFault e
+pub text-spares : {A : Type 0} (f : Members → FieldReading A) (text shown : Name) (e : AskFault) → IsTextFault f text shown e → IsNoFileFault e
 text-spares f text shown fault.Memory h = tt
 text-spares f text shown fault.NoHost h = tt
 text-spares f text shown (fault.Process e) h = tt

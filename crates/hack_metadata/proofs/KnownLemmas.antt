@@ -10,23 +10,23 @@ use Rattle.std.proofs.lemmas.Bool.Decides.{nat_tests}
 use Rattle.serde_json.specs.Data.{Data, Items, no_items, item, Members}
 use Rattle.serde_json.specs.Find.{as_str}
 use Rattle.hack_base.specs.Names.{Name}
-use Rattle.hack_metadata.specs.Fields.{Field, ◌>>=◌, or_name, string_in, array_in, nullable_in, element_of, read_all}
+use Rattle.hack_metadata.specs.Fields.{or_name, string_in, array_in, nullable_in, element_of, read_all}
+use Rattle.hack_base.specs.FieldReadings.{◌>>=◌, FieldReading}
 use Rattle.hack_metadata.specs.KnownIds.{is_known_node, are_known}
 use Rattle.hack_metadata.specs.Internal.{Bounds}
-use Rattle.hack_metadata.specs.MetadataReading.{later, place_from, place_of, distinct, read_member, workspace_members_in, kinds_in, read_node_dep, deps_in, read_node, with_nodes, read_resolve, resolve_in}
-use Rattle.hack_metadata.specs.MetadataReading.{ids_of}
+use Rattle.hack_metadata.specs.MetadataReading.{later, place_from, place_of, distinct, read_member, workspace_members_in, kinds_in, read_node_dep, deps_in, read_node, with_nodes, read_resolve, resolve_in, ids_of}
 use Rattle.hack_metadata.specs.Records.{PackageRecord, NodeDepRecord, NodeRecord, Nodes}
 use Rattle.hack_metadata.specs.RecordViews.{package_view, place_at}
 use Rattle.hack_metadata.specs.declared.metadata.package.Package.{Package}
 use Rattle.hack_metadata.specs.declared.metadata.resolve.PackageId.{PackageId}
 
 -- two readings, one after the other, succeeded, the second with the value of the first
-pub record Behind {A B : Type 0} (r : Field A) (g : A → Field B) (y : B) : Type 0 where
+pub record Behind {A B : Type 0} (r : FieldReading A) (g : A → FieldReading B) (y : B) : Type 0 where
   pub value : A
   pub read : r ≡ Ok value
   pub then : g value ≡ Ok y
 
-behind : {A B : Type 0} (r : Field A) (g : A → Field B) (y : B) → (r >>= g) ≡ Ok y → Behind r g y
+behind : {A B : Type 0} (r : FieldReading A) (g : A → FieldReading B) (y : B) → (r >>= g) ≡ Ok y → Behind r g y
 behind (Ok x) g y e = record { value = x; read = refl; then = e }
 behind (Err name) g y e = absurd (cc)
 
@@ -46,7 +46,7 @@ and-second true b e = e
 and-second false b e = absurd (cc)
 
 -- what holds of each item that is read holds of all
-all-read : {A : Type 0} (f : Data → Field A) (p : A → Bool) → ((d : Data) (x : A) → f d ≡ Ok x → p x ≡ true) → (ds : Items) (xs : List A) → read_all f ds ≡ Ok xs → list_all p xs ≡ true
+all-read : {A : Type 0} (f : Data → FieldReading A) (p : A → Bool) → ((d : Data) (x : A) → f d ≡ Ok x → p x ≡ true) → (ds : Items) (xs : List A) → read_all f ds ≡ Ok xs → list_all p xs ≡ true
 all-read f p h no_items xs e = ap (list_all p) (let q : xs ≡ [] = cc in q)
 all-read f p h (item d ds) xs e =
     let first = behind (f d) _ xs e in
@@ -104,7 +104,7 @@ module _ (place : Name → Option ℕ) (n : ℕ) (bounds : Bounds place n) where
         let same : pkg.value ≡ r.pkg = (let q : Ok (record { pkg = pkg.value; dep_kinds = kinds.value }) ≡ Ok r = kinds.then in cc) in
         subst (λ k. nat_lt k n ≡ true) same (bounds id.value pkg.value (named-some (codes "pkg") (place id.value) pkg.value pkg.read))
 
-    deps-go : (b : Bool) (ms : Members) (deps : List NodeDepRecord) → let read : Field (List NodeDepRecord) = cond b (array_in (codes "deps") ms >>= read_all (read_node_dep place minor)) (Ok []) in read ≡ Ok deps → list_all (λ d. nat_lt d.pkg n) deps ≡ true
+    deps-go : (b : Bool) (ms : Members) (deps : List NodeDepRecord) → let read : FieldReading (List NodeDepRecord) = cond b (array_in (codes "deps") ms >>= read_all (read_node_dep place minor)) (Ok []) in read ≡ Ok deps → list_all (λ d. nat_lt d.pkg n) deps ≡ true
     deps-go true ms deps e =
         let list = behind (array_in (codes "deps") ms) _ deps e in
         all-read (read_node_dep place minor) (λ d. nat_lt d.pkg n) dep-known list.value deps list.then

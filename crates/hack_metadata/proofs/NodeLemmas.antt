@@ -7,7 +7,8 @@ use Rattle.std.specs.Ordering.{is_eq}
 use Rattle.std.specs.BTreeMap.{insert_entry}
 use Rattle.std.specs.Ordering.{match_ordering}
 use Rattle.serde_json.specs.Data.{Data, Items, item}
-use Rattle.hack_metadata.specs.Fields.{Field, ◌>>=◌, read_all}
+use Rattle.hack_metadata.specs.Fields.{read_all}
+use Rattle.hack_base.specs.FieldReadings.{◌>>=◌, FieldReading}
 use Rattle.hack_metadata.specs.MetadataReading.{with_nodes}
 use Rattle.hack_metadata.specs.Records.{NodeRecord, Nodes, node_at}
 use Rattle.hack_metadata.specs.RecordViews.{node_view, nodes_view}
@@ -37,12 +38,12 @@ pub nodes-insert : (m n : BTreeMap PackageId Node) (id : PackageId) (node : Node
 nodes-insert m n id node e = ap seen e ∙ seen-insert m.entries id node
 
 -- the node that is read first is inserted first
-put_first : (m n : Nodes) (at : ℕ) (node : NodeRecord) (read : Field (List (ℕ × NodeRecord))) → n ≡ insert_entry nat_cmp m at node → (read >>= λ more. Ok (with_nodes n more)) ≡ ((read >>= λ more. Ok ((at, node) ∷ more)) >>= λ more. Ok (with_nodes m more))
+put_first : (m n : Nodes) (at : ℕ) (node : NodeRecord) (read : FieldReading (List (ℕ × NodeRecord))) → n ≡ insert_entry nat_cmp m at node → (read >>= λ more. Ok (with_nodes n more)) ≡ ((read >>= λ more. Ok ((at, node) ∷ more)) >>= λ more. Ok (with_nodes m more))
 put_first m n at node (Ok more) e = ap (λ nodes. Ok (with_nodes nodes more)) e
 put_first m n at node (Err name) e = refl
 
 -- one pass of the loop over nodes
-pub nodes-turn : (f : Data → Field (ℕ × NodeRecord)) (d : Data) (left rest : Items) (m n : Nodes) (at : ℕ) (node : NodeRecord) (whole : Field Nodes)
+pub nodes-turn : (f : Data → FieldReading (ℕ × NodeRecord)) (d : Data) (left rest : Items) (m n : Nodes) (at : ℕ) (node : NodeRecord) (whole : FieldReading Nodes)
     → left ≡ item d rest → f d ≡ Ok (at, node) → n ≡ insert_entry nat_cmp m at node
     → (read_all f left >>= λ more. Ok (with_nodes m more)) ≡ whole → (read_all f rest >>= λ more. Ok (with_nodes n more)) ≡ whole
 nodes-turn f d left rest m n at node whole first reads put before =

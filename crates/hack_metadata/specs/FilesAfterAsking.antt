@@ -1,7 +1,8 @@
 -- What the files hold after a question to cargo.
 use Rattle.std.specs.Prelude.{◌⊎◌, ℕ, Result, Ok, Err}
 use Rattle.hack_base.specs.Names.{Name}
-use Rattle.hack_files.specs.Files.{Contents, GrowsBy, KeepsAll, KeepsOthers}
+use Rattle.hack_files.specs.Files.{Contents, KeepsAll, KeepsOthers}
+use Rattle.hack_base.specs.Counters.{GrowsBy}
 use Rattle.hack_metadata.specs.declared.ask.fault.AskFault.{AskFault}
 use Rattle.hack_metadata.specs.declared.ask.fault.AskFault.TheVariants as fault
 

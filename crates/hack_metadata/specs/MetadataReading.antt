@@ -9,13 +9,14 @@ use Rattle.serde_json.specs.Data.{Data, Items, no_items, item, Members, no_membe
 use Rattle.serde_json.specs.Find.{as_str, as_array}
 use Rattle.hack_base.specs.Names.{Name}
 use Rattle.hack_features.specs.FeatureMap.{FeatureMap}
-use Rattle.hack_metadata.specs.Fields.{Field, ◌>>=◌, or_name, string_in, bool_in, array_in, object_in, nullable_in, optional_text_in, element_of, read_all}
+use Rattle.hack_metadata.specs.Fields.{or_name, string_in, bool_in, array_in, object_in, nullable_in, optional_text_in, element_of, read_all}
+use Rattle.hack_base.specs.FieldReadings.{◌>>=◌, FieldReading}
 use Rattle.hack_metadata.specs.Records.{DependencyRecord, PackageRecord, KindRecord, NodeDepRecord, NodeRecord, Nodes, MetadataRecord}
 
 -- ---- packages
 
 -- an element of `dependencies`
-abbrev pub read_dependency : Data → Field DependencyRecord
+abbrev pub read_dependency : Data → FieldReading DependencyRecord
 read_dependency d =
     element_of (codes "dependencies") d >>= λ ms.
     string_in (codes "name") ms >>= λ name.
@@ -34,7 +35,7 @@ features_of no_members = Some []
 features_of (member name d ms) = option_and_then (λ values. option_map (λ features. (name, values) ∷ features) (features_of ms)) (option_and_then texts_of_items (as_array d))
 
 -- `features`, an object of arrays of texts
-abbrev pub features_in : Members → Field FeatureMap
+abbrev pub features_in : Members → FieldReading FeatureMap
 features_in ms = object_in (codes "features") ms >>= λ features. or_name (codes "features") (features_of features)
 
 -- there is an item
@@ -43,20 +44,20 @@ has_items no_items = false
 has_items (item d ds) = true
 
 -- whether a package may be published, by what `publish` holds: null, or a list with a registry
-abbrev pub may_publish : Option Data → Field Bool
+abbrev pub may_publish : Option Data → FieldReading Bool
 may_publish None = Ok true
 may_publish (Some d) = or_name (codes "publish") (option_map has_items (as_array d))
 
 -- `publish`, from cargo 1.39 on
-abbrev pub publish_in : ℕ → Members → Field Bool
+abbrev pub publish_in : ℕ → Members → FieldReading Bool
 publish_in minor ms = if nat_le 39 minor then (nullable_in (codes "publish") ms >>= may_publish) else Ok true
 
 -- `rust_version`, from cargo 1.58 on
-abbrev pub rust_version_in : ℕ → Members → Field (Option Name)
+abbrev pub rust_version_in : ℕ → Members → FieldReading (Option Name)
 rust_version_in minor ms = if nat_le 58 minor then optional_text_in (codes "rust_version") ms else Ok None
 
 -- an element of `packages`
-abbrev pub read_package : ℕ → Data → Field PackageRecord
+abbrev pub read_package : ℕ → Data → FieldReading PackageRecord
 read_package minor d =
     element_of (codes "packages") d >>= λ ms.
     string_in (codes "id") ms >>= λ id.
@@ -93,17 +94,17 @@ distinct (x ∷ xs) = x ∷ filter (λ y. not (y == x)) (distinct xs)
 -- `place` says which package an id means
 module _ (place : Name → Option ℕ) where
   -- an element of `workspace_members`: the id of a package
-  abbrev pub read_member : Data → Field ℕ
+  abbrev pub read_member : Data → FieldReading ℕ
   read_member d = or_name (codes "workspace_members") (option_and_then place (as_str d))
 
   -- `workspace_members`
-  abbrev pub workspace_members_in : Members → Field (List ℕ)
+  abbrev pub workspace_members_in : Members → FieldReading (List ℕ)
   workspace_members_in ms = (array_in (codes "workspace_members") ms >>= read_all read_member) >>= λ members. Ok (distinct members)
 
 -- ---- the graph of dependencies
 
 -- an element of `dep_kinds`
-abbrev pub read_kind : Data → Field KindRecord
+abbrev pub read_kind : Data → FieldReading KindRecord
 read_kind d =
     element_of (codes "dep_kinds") d >>= λ ms.
     optional_text_in (codes "kind") ms >>= λ kind.
@@ -111,7 +112,7 @@ read_kind d =
     Ok (record { kind = kind; target = target })
 
 -- `dep_kinds`, from cargo 1.41 on
-abbrev pub kinds_in : ℕ → Members → Field (List KindRecord)
+abbrev pub kinds_in : ℕ → Members → FieldReading (List KindRecord)
 kinds_in minor ms = if nat_le 41 minor then (array_in (codes "dep_kinds") ms >>= read_all read_kind) else Ok []
 
 -- the nodes, put in one after another: of two nodes of one package the last counts
@@ -121,7 +122,7 @@ with_nodes nodes (n ∷ more) = with_nodes (insert_entry nat_cmp nodes n.0 n.1) 
 
 module _ (place : Name → Option ℕ) (minor : ℕ) where
   -- an element of `deps`
-  abbrev pub read_node_dep : Data → Field NodeDepRecord
+  abbrev pub read_node_dep : Data → FieldReading NodeDepRecord
   read_node_dep d =
       element_of (codes "deps") d >>= λ ms.
       string_in (codes "pkg") ms >>= λ id.
@@ -130,11 +131,11 @@ module _ (place : Name → Option ℕ) (minor : ℕ) where
       Ok (record { pkg = pkg; dep_kinds = kinds })
 
   -- `deps`, from cargo 1.30 on
-  abbrev pub deps_in : Members → Field (List NodeDepRecord)
+  abbrev pub deps_in : Members → FieldReading (List NodeDepRecord)
   deps_in ms = if nat_le 30 minor then (array_in (codes "deps") ms >>= read_all read_node_dep) else Ok []
 
   -- an element of `nodes`: the place of its package, which is looked up last, and the node
-  abbrev pub read_node : Data → Field (ℕ × NodeRecord)
+  abbrev pub read_node : Data → FieldReading (ℕ × NodeRecord)
   read_node d =
       element_of (codes "nodes") d >>= λ ms.
       string_in (codes "id") ms >>= λ id.
@@ -143,11 +144,11 @@ module _ (place : Name → Option ℕ) (minor : ℕ) where
       Ok (at, record { deps = deps })
 
   -- `nodes`
-  abbrev pub read_nodes : Items → Field Nodes
+  abbrev pub read_nodes : Items → FieldReading Nodes
   read_nodes ds = read_all read_node ds >>= λ nodes. Ok (with_nodes [] nodes)
 
   -- what `resolve` holds: no nodes where it is null
-  abbrev pub read_resolve : Option Data → Field Nodes
+  abbrev pub read_resolve : Option Data → FieldReading Nodes
   read_resolve None = Ok []
   read_resolve (Some d) =
       element_of (codes "resolve") d >>= λ ms.
@@ -155,7 +156,7 @@ module _ (place : Name → Option ℕ) (minor : ℕ) where
       read_nodes nodes
 
   -- `resolve`
-  abbrev pub resolve_in : Members → Field Nodes
+  abbrev pub resolve_in : Members → FieldReading Nodes
   resolve_in ms = nullable_in (codes "resolve") ms >>= read_resolve
 
 -- ---- the whole
@@ -165,7 +166,7 @@ abbrev pub ids_of : List PackageRecord → List Name
 ids_of packages = map (λ p. p.id) packages
 
 -- what is read after the packages, where `place` says which one an id means
-abbrev pub read_behind : ℕ → List PackageRecord → (Name → Option ℕ) → Members → Field MetadataRecord
+abbrev pub read_behind : ℕ → List PackageRecord → (Name → Option ℕ) → Members → FieldReading MetadataRecord
 read_behind minor packages place ms =
     workspace_members_in place ms >>= λ members.
     resolve_in place minor ms >>= λ nodes.
@@ -173,7 +174,7 @@ read_behind minor packages place ms =
     Ok (record { cargo_version = minor; packages = packages; workspace_members = members; resolve = nodes; workspace_root = root })
 
 -- all that the object of `cargo metadata` says: an id means the last package that has it
-abbrev pub read_metadata : ℕ → Members → Field MetadataRecord
+abbrev pub read_metadata : ℕ → Members → FieldReading MetadataRecord
 read_metadata minor ms =
     (array_in (codes "packages") ms >>= read_all (read_package minor)) >>= λ packages.
     read_behind minor packages (place_of (ids_of packages)) ms

@@ -16,7 +16,8 @@ use Rattle.hack_process.specs.Commands.{asked_of}
 use Rattle.hack_process.specs.Faults.{GotAnswer, IsReadFault, without_line_ends}
 use Rattle.hack_base.specs.PathTexts.{join_of}
 use Rattle.hack_process.specs.declared.fault.ProcessFault.{ProcessFault}
-use Rattle.hack_metadata.specs.Fields.{Field, object_in_text, string_in}
+use Rattle.hack_metadata.specs.Fields.{object_in_text, string_in}
+use Rattle.hack_base.specs.FieldReadings.{FieldReading}
 use Rattle.hack_metadata.specs.MetadataReading.{read_metadata}
 use Rattle.hack_metadata.specs.Requests.{Question, command_line, by_stable, version_command, first_command, lock_command}
 use Rattle.hack_metadata.specs.MetadataView.{metadata_view}
@@ -45,11 +46,11 @@ abbrev pub TellsStableMinor : Name → ℕ → List Call → List Call → Type 
 TellsStableMinor rustup minor old new = ((text : Name) × ReadsOutput (version_command rustup) text old new × MinorOf text minor) ⊎ (FailsToRead (version_command rustup) old new × (minor ≡ 0))
 
 -- the answer is a JSON object, and f reads this from it
-abbrev pub TellsAs : {A : Type 0} → (Members → Field A) → Name → A → Type 0
+abbrev pub TellsAs : {A : Type 0} → (Members → FieldReading A) → Name → A → Type 0
 TellsAs f text a = (ms : Members) × (object_in_text text ≡ Some ms) × (f ms ≡ Ok a)
 
 -- the folder of the workspace
-abbrev pub root_of : Members → Field Name
+abbrev pub root_of : Members → FieldReading Name
 root_of ms = string_in (codes "workspace_root") ms
 
 -- the path is the lockfile of the workspace whose folder the answer names
@@ -207,7 +208,7 @@ abbrev pub WroteWhereKnown : Type 0 → Type 0 → List Change → List Change �
 WroteWhereKnown whole tells before now held later stage made = whole → Wrote tells held (λ cs. Makes cs before now held later) stage made
 
 -- why f can't be read from a text
-abbrev pub IsTextFault : {A : Type 0} → (Members → Field A) → Name → Name → AskFault → Type 0
+abbrev pub IsTextFault : {A : Type 0} → (Members → FieldReading A) → Name → Name → AskFault → Type 0
 IsTextFault f text shown fault.Memory = Unit {0}
 IsTextFault f text shown fault.NoHost = ⊥
 IsTextFault f text shown (fault.Process p) = ⊥

@@ -11,7 +11,8 @@ ghost use Rattle.hack_metadata.specs.InternalSpecAnswers.{agrees_if_given, agree
 ghost use Rattle.hack_metadata.specs.InternalSpecAnswers.{parts_at_separator};
 ghost use Rattle.hack_metadata.specs.InternalSpecAnswers.{behind_name, in_fragment, of_fragments};
 ghost use Rattle.hack_metadata.specs.InternalSpecAnswers.{is_same_place, alone_in};
-ghost use Rattle.hack_metadata.specs.InternalSpecAnswers.{IsUrlOrNone, IsNoUrl, IsSchemeCut, IsBehind};
+ghost use Rattle.hack_metadata.specs.InternalSpecAnswers.{IsUrlOrNone, IsNoUrl, IsSchemeCut};
+ghost use Rattle.hack_metadata.specs.InternalSpecAnswers.{IsBehind};
 ghost use Rattle.hack_metadata.specs.InternalSpecAnswers.{behind_separator, behind_byte, of_urls};
 ghost use Rattle.hack_metadata.specs.InternalSpecAnswers.{cut_by, earlier};
 ghost use Rattle.hack_metadata.specs.SpecViews.{identity_of};

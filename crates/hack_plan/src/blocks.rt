@@ -85,7 +85,8 @@ impl Blocks {
         member: Option<usize>,
         runs: usize,
     ) -> Result<(), PlacesFault>
-        ensures ok { OnOk result (AddsEntries (InBlock version slot member runs) self.old self.new) }
+        ensures ok { OnOk result (AddsEntries (InBlock version slot member runs)
+            self.old self.new) }
         ensures err { IfErr result (λ e. (e ≡ PlacesFault.Memory)
             ⊎ ((e ≡ PlacesFault.TooManyRuns) × Overfills (InBlock version slot member runs)
             self.old)) }

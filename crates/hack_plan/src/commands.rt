@@ -3,7 +3,7 @@
 ghost use Rattle.std.specs.Prelude.{◌≡◌, ◌++◌, ◌∷◌, [], Some, None, map, option_map, IfOk, OnOk};
 ghost use Rattle.std.specs.Prelude.{List, ℕ, take, drop, string_bytes, codes, slice_get};
 ghost use Rattle.std.specs.List.{cons_option, flat_map, slice_index_or};
-ghost use Rattle.hack_base.specs.Names.{names_behind, optional_text};
+ghost use Rattle.hack_base.specs.Names.{names_behind};
 ghost use Rattle.hack_features.specs.Feature.{groups_of};
 ghost use Rattle.hack_plan.specs.Runs.{run_of};
 ghost use Rattle.hack_process.specs.Commands.{command_of};
@@ -17,6 +17,7 @@ ghost use Rattle.hack_plan.specs.Commands.{slot_target};
 
 use crate::parts::{CommandParts, PlanPackage};
 use crate::runs::Run;
+use hack_base::copies::text_in;
 use hack_features::Feature;
 use hack_process::process::ProcessBuilder;
 use hack_versions::version::Version;
@@ -218,16 +219,6 @@ pub(crate) fn push_targets<'a>(
         push_pair(words, "--target", target.as_str())?;
     }
     Ok(())
-}
-
-/// The text, if there is one.
-pub(crate) fn text_in(text: &Option<String>) -> Option<&str>
-    ensures { option_map (λ text. text.now) result ≡ optional_text text.now }
-{
-    match text {
-        Some(text) => Some(text.as_str()),
-        None => None,
-    }
 }
 
 /// Adds a manifest's path after its option.

@@ -22,10 +22,11 @@ ghost use Rattle.hack_plan.specs.Lines.{takes_option};
 
 use crate::call::Call;
 use crate::commands::{
-    names_of, push_all, push_manifest, push_names, push_run, push_targets, run_word, text_in,
+    names_of, push_all, push_manifest, push_names, push_run, push_targets, run_word,
 };
 use crate::parts::PlanPackage;
 use crate::runs::Run;
+use hack_base::copies::text_in;
 use hack_base::paths::under;
 use hack_features::Feature;
 use hack_process::process::{ProcessBuilder, Spaced, Trailing};

@@ -1,5 +1,5 @@
-//! The plan of an input: its runs in order, kept as blocks with running sums, in which binary search
-//! finds a run.
+//! The plan of an input: its runs in order, kept as blocks with running sums, in which binary
+//! search finds a run.
 
 ghost use Rattle.std.specs.Prelude.{ℕ, ◌≡◌, ◌<◌, ◌≤◌, ◌^◌, ◌⊎◌, ◌↔◌, ◌++◌, ◌∷◌, [], Some, None};
 ghost use Rattle.std.specs.Prelude.{true, false, length, All, AllPairs, Contains, OnOk, OnErr};
@@ -92,7 +92,8 @@ impl Places {
     ) -> Result<Places, PlacesFault>
         requires versions { AreVersions input.now versions.now }
         requires counted { AreCounted input.now counts.now }
-        ensures ok { IfOk result (λ p. ArePlaces input.now counts.now versions.now.stable p.entries) }
+        ensures ok { IfOk result (λ p. ArePlaces input.now counts.now versions.now.stable
+            p.entries) }
         ensures spans { IfOk result (AreSpans (versions_of input.now.range
             versions.now.groups.items)) }
         ensures never { IfOk result (λ _. ¬ HasTooMany input.now counts.now versions.now.stable) }
@@ -158,7 +159,8 @@ impl Places {
         requires within { input.now.as_cargo ≡ false
             → All (λ p. p < length counts.now) packages.now }
         ensures ok { OnOk result (AddsEntries (InVersion input.now.as_cargo version
-            (slots_of input.now version) packages.now counts.now) self.old.entries self.new.entries) }
+            (slots_of input.now version) packages.now counts.now) self.old.entries
+            self.new.entries) }
         ensures next { OnOk result (AppendsPlaces version self.old self.new) }
         ensures err { IfErr result (λ e. (e ≡ PlacesFault.Memory)
             ⊎ ((e ≡ PlacesFault.TooManyRuns) × Overfills (InVersion input.now.as_cargo version
@@ -216,7 +218,8 @@ impl Places {
         requires some { input.now.range ≡ Some range }
         requires versions { GroupsBy (Some range) input.now versions.now }
         requires counted { AreCounted input.now counts.now }
-        ensures ok { IfOk result (λ p. ArePlaces input.now counts.now versions.now.stable p.entries) }
+        ensures ok { IfOk result (λ p. ArePlaces input.now counts.now versions.now.stable
+            p.entries) }
         ensures spans { IfOk result (AreSpans
             (versions_of (Some range) versions.now.groups.items)) }
         ensures err { IfErr result (λ e. (e ≡ PlacesFault.Memory)
@@ -243,7 +246,8 @@ impl Places {
     ) -> Result<Places, PlacesFault>
         requires versions { AreVersions input.now versions.now }
         requires counted { AreCounted input.now counts.now }
-        ensures ok { IfOk result (λ p. ArePlaces input.now counts.now versions.now.stable p.entries) }
+        ensures ok { IfOk result (λ p. ArePlaces input.now counts.now versions.now.stable
+            p.entries) }
         ensures spans { IfOk result (AreSpans (versions_of input.now.range
             versions.now.groups.items)) }
         ensures err { IfErr result (λ e. (e ≡ PlacesFault.Memory)

@@ -5,18 +5,13 @@ use Rattle.std.specs.Str.{bytes_eq}
 use Rattle.hack_base.specs.Names.{Name}
 use Rattle.hack_features.specs.FeatureMap.{FeatureMap}
 use Rattle.hack_base.specs.Notes.{Note}
-use Rattle.hack_rules.specs.CliLists.{same_names}
+use Rattle.hack_rules.specs.CliLists.{Lift, same_names}
 use Rattle.hack_planner.specs.Texts.{feature_text, dependency_text, group_text}
 use Rattle.hack_planner.specs.Members.{warning_note, info_note}
 
 -- the names of a feature: its own, or those of a group
 abbrev pub Names : Type 0
 Names = List Name
-
--- an exclusion group that is lifted for a package
-pub record Lift : Type 0 where
-  pub owner : Name
-  pub group : Names
 
 -- what a call asks for about features
 pub record Wishes : Type 0 where

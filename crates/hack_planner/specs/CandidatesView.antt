@@ -9,7 +9,8 @@ use Rattle.hack_features.specs.declared.feature.Feature.{Feature}
 use Rattle.hack_load.specs.declared.features.Features.{Features}
 use Rattle.hack_metadata.specs.declared.metadata.package.Package.{Package}
 use Rattle.hack_words.specs.declared.cli.args.Args.{Args}
-use Rattle.hack_planner.specs.Candidates.{Lift, Wishes, Known}
+use Rattle.hack_planner.specs.Candidates.{Wishes, Known}
+use Rattle.hack_rules.specs.CliLists.{Lift}
 
 -- a lift
 abbrev pub lift_view : String Global × Feature → Lift

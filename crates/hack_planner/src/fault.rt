@@ -1,7 +1,8 @@
 //! Why there is no plan, or why it isn't known which packages it is for.
 
 ghost use Rattle.std.specs.Prelude.{◌≡◌};
-ghost use Rattle.hack_planner.specs.InternalFaultConversions.{of_packages, of_version, of_range, of_places};
+ghost use Rattle.hack_planner.specs.InternalFaultConversions.{of_packages, of_version, of_range};
+ghost use Rattle.hack_planner.specs.InternalFaultConversions.{of_places};
 
 use hack_plan::places::PlacesFault;
 use hack_versions::rustup::RangeFault;

@@ -1,5 +1,5 @@
-//! The plan of a loaded call: which packages of the workspace it is for, which runs each of them has,
-//! and the plan with its notices.
+//! The plan of a loaded call: which packages of the workspace it is for, which runs each of them
+//! has, and the plan with its notices.
 #![tactic(auto)]
 
 mod candidates;

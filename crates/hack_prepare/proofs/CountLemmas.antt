@@ -2,7 +2,7 @@
 use Rattle.std.proofs.Common.{◌≡◌, inl, inr, ℕ, Result, Ok, Err, sym, subst, arith}
 use Rattle.hack_base.specs.Names.{Name}
 use Rattle.hack_files.specs.Faults.{IsOfRead, IsOfText, IsOfWrite}
-use Rattle.hack_files.specs.Files.{GrowsBy}
+use Rattle.hack_base.specs.Counters.{GrowsBy}
 use Rattle.hack_files.specs.declared.fs.FsFault.{FsFault}
 use Rattle.hack_files.specs.declared.fs.FsFault.TheVariants as fs
 use Rattle.hack_prepare.specs.FailureCounts.{CountsCalls, CountsFault, CountsFile}

@@ -14,7 +14,8 @@ use Rattle.hack_base.proofs.Steps.{filter_map-found, seen-next}
 use Rattle.hack_metadata.specs.RecordViews.{place_at}
 use Rattle.hack_metadata.specs.declared.metadata.resolve.PackageId.{PackageId}
 use Rattle.hack_edits.specs.DevDeps.{IsWithoutDev}
-use Rattle.hack_files.specs.Files.{Contents, GrowsBy, KeepsOthers}
+use Rattle.hack_files.specs.Files.{Contents, KeepsOthers}
+use Rattle.hack_base.specs.Counters.{GrowsBy}
 use Rattle.hack_base.specs.Notes.{Note}
 use Rattle.hack_prepare.specs.Internal.{IsAlonePath, Only, ArePartlyTurned, AreTurned, HoldsText, IsStep, IsTurned, IsTurnedOrNot, KeepsApart}
 use Rattle.hack_prepare.specs.Prepared.{HasPrivateRoot, HoldTexts, MemberManifest, Wanted, is_removed, gone_manifests, drops_at_root, is_alone, is_alone_at, is_left, is_root}

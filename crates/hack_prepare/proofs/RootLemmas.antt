@@ -5,10 +5,10 @@ use Rattle.std.specs.List.{find, list_any}
 use Rattle.std.specs.Str.{bytes_eq}
 use Rattle.std.proofs.lemmas.Bool.{cases_Bool, true≢false}
 use Rattle.std.proofs.lemmas.Slice.Eq.{bytes_eq-Decides}
-use Rattle.hack_base.specs.Names.{Name}
-use Rattle.hack_files.specs.Files.{Contents, GrowsBy, KeepsAll, KeepsOthers}
+use Rattle.hack_base.specs.Names.{Name, names_behind}
+use Rattle.hack_files.specs.Files.{Contents, KeepsAll, KeepsOthers}
+use Rattle.hack_base.specs.Counters.{GrowsBy}
 use Rattle.hack_edits.specs.DevDeps.{IsWithoutDev}
-use Rattle.hack_base.specs.Names.{names_behind}
 use Rattle.hack_prepare.specs.Internal.{Only, ArePartlyTurned, AreTurned, IsTurnedOrNot, KeepsApart, KeepsBut, MakesRoot, MakesRootOrNot}
 use Rattle.hack_prepare.specs.Prepared.{HoldTexts, IsPartlyPrepared, IsPrepared, IsRootEdit, KeepsUnedited, MemberManifest, TurnsOrStays, Wanted, drops_at_root, edits_root, gone_manifests, has_root, has_some, is_alone, is_alone_at, is_root}
 use Rattle.hack_prepare.specs.EditSteps.{IsRootText}

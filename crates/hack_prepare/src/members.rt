@@ -2,7 +2,8 @@
 
 ghost use Rattle.std.specs.Prelude.{◌≡◌, IfErr, IfOk, OnOk, OnErr};
 ghost use Rattle.std.specs.List.{flat_map};
-ghost use Rattle.hack_files.specs.Files.{GrowsBy, KeepsOthers};
+ghost use Rattle.hack_files.specs.Files.{KeepsOthers};
+ghost use Rattle.hack_base.specs.Counters.{GrowsBy};
 ghost use Rattle.hack_base.specs.Names.{names_behind};
 ghost use Rattle.hack_base.specs.Notes.{AddsNotes};
 ghost use Rattle.hack_prepare.specs.FailureCounts.{CountsCalls};

@@ -3,7 +3,8 @@
 ghost use Rattle.std.specs.Prelude.{◌≡◌, ◌<◌, ◌↔◌, ◌⊎◌, ◌||◌, IfErr, IfOk, IfSome, OnOk, IsTrue};
 ghost use Rattle.std.specs.Prelude.{OnErr};
 ghost use Rattle.std.specs.Prelude.{List, false, map, true};
-ghost use Rattle.hack_files.specs.Files.{Change, Contents, GrowsBy, Makes};
+ghost use Rattle.hack_files.specs.Files.{Change, Contents, Makes};
+ghost use Rattle.hack_base.specs.Counters.{GrowsBy};
 ghost use Rattle.hack_files.specs.Restore.{AreSafe, Brings, Tried, is_kept, registered_files};
 ghost use Rattle.hack_load.specs.ContextView.{context_view};
 ghost use Rattle.hack_base.specs.Names.{Name};

@@ -1,7 +1,8 @@
 //! A manifest that is edited: what it holds is kept, and then its edit is written.
 
 ghost use Rattle.std.specs.Prelude.{◌≡◌, ◌⊎◌, ◌∷◌, [], IfErr, OnOk, OnErr, Some};
-ghost use Rattle.hack_files.specs.Files.{GrowsBy, KeepsOthers, Makes, MakesOrNot, puts};
+ghost use Rattle.hack_files.specs.Files.{KeepsOthers, Makes, MakesOrNot, puts};
+ghost use Rattle.hack_base.specs.Counters.{GrowsBy};
 ghost use Rattle.hack_prepare.specs.FailureCounts.{CountsCalls};
 ghost use Rattle.hack_prepare.specs.Faults.{IsPathFaultOr};
 ghost use Rattle.hack_prepare.specs.Internal.{NoFault};

@@ -5,7 +5,7 @@ ghost use Rattle.std.specs.Prelude.{option_copied, option_map, string_bytes, tru
 ghost use Rattle.std.specs.Prelude.{MatchBool, Some};
 ghost use Rattle.std.specs.List.{find};
 ghost use Rattle.hack_base.specs.Names.{Name};
-ghost use Rattle.hack_files.specs.Files.{GrowsBy};
+ghost use Rattle.hack_base.specs.Counters.{GrowsBy};
 ghost use Rattle.hack_base.specs.Names.{names_behind};
 ghost use Rattle.hack_base.specs.Notes.{AddsNotes};
 ghost use Rattle.hack_edits.specs.DevDeps.{IsWithoutDev};

@@ -252,7 +252,8 @@ impl<'a> ProcessBuilder<'a> {
         dir: &str,
     ) -> Result<Called, ProcessFault>
         ensures success { IfOk result (λ called. IsSuccess called.end) }
-        ensures ok { IfOk result (λ called. C.tells → AddsCall (asked_of capture (command_of self.now))
+        ensures ok { IfOk result (λ called. C.tells
+            → AddsCall (asked_of capture (command_of self.now))
             (answer_of called) (C.calls caller.old) (C.calls caller.new)) }
         ensures named { OnOk result ((command_of self.now).program ≢ []) }
         ensures err { IfErr result (IsFault C.tells (asked_of capture (command_of self.now))

@@ -2,7 +2,8 @@
 use Rattle.std.proofs.Common.{◌≡◌, ◌+◌, ◌∙◌, [], ℕ, Bool, true, false, IsTrue, arith, refl, subst}
 use Rattle.std.specs.Prelude.{◌↔◌, IsSome, Option, Some, None, List}
 use Rattle.std.proofs.Math.Path.{fun_ext}
-use Rattle.hack_files.specs.Files.{Contents, GrowsBy, KeepsAll}
+use Rattle.hack_files.specs.Files.{Contents, KeepsAll}
+use Rattle.hack_base.specs.Counters.{GrowsBy}
 use Rattle.hack_journal.specs.SafeLaws.{makes_append}
 use Rattle.hack_recovery.specs.FileLooks.{Finds, Unchanged}
 use Rattle.hack_run.specs.Worlds.{FilesView}

@@ -2,7 +2,8 @@
 use Rattle.std.specs.Prelude.{◌≡◌, ◌↔◌, ◌⊎◌, ◌≤◌, ℕ, zero, suc, Bool, true, false, IsTrue, IsSome, List, None, Ok, Err, Option, Result, string_bytes}
 use Rattle.std.specs.declared.io.traits.Write.{Ghosts as Writing}
 use Rattle.hack_base.specs.Names.{Name}
-use Rattle.hack_files.specs.Files.{Contents, GrowsBy, KeepsAll, KeepsOthers}
+use Rattle.hack_files.specs.Files.{Contents, KeepsAll, KeepsOthers}
+use Rattle.hack_base.specs.Counters.{GrowsBy}
 use Rattle.hack_files.specs.declared.fs.Files.{Ghosts as Filing}
 use Rattle.hack_journal.specs.Recovery.{CountsRecoverFault, IsJournalRefusal, IsRestored, IsWhy}
 use Rattle.hack_journal.specs.SafeFiles.{IsSafe, StaysSafe}

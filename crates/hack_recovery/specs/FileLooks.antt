@@ -1,6 +1,7 @@
 -- Files that are only looked at.
 use Rattle.std.specs.Prelude.{◌≡◌, [], ℕ}
-use Rattle.hack_files.specs.Files.{GrowsBy, KeepsAll, Makes}
+use Rattle.hack_files.specs.Files.{KeepsAll, Makes}
+use Rattle.hack_base.specs.Counters.{GrowsBy}
 use Rattle.hack_run.specs.Worlds.{FilesView}
 
 -- nothing was changed

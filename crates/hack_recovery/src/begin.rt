@@ -1,7 +1,7 @@
 //! The beginning of a call: what it asks for, and where its journal lies.
 
-ghost use Rattle.std.specs.Prelude.{◌≡◌, [], IfOk, IfSome, option_map, string_bytes};
-ghost use Rattle.hack_base.specs.Names.{names_of, optional_text};
+ghost use Rattle.std.specs.Prelude.{◌≡◌, [], IfOk, IfSome, string_bytes};
+ghost use Rattle.hack_base.specs.Names.{names_of};
 ghost use Rattle.hack_files.specs.Files.{KeepsAll, Makes};
 ghost use Rattle.hack_recovery.specs.CallCourses.{FindsJournal};
 ghost use Rattle.hack_run.specs.Readings.{IsEarlyReading};
@@ -11,6 +11,7 @@ use crate::asked::{Asked, Edits};
 use crate::journal::journal_in;
 use crate::look;
 use crate::workspace::workspace;
+use hack_base::copies::text_in;
 use hack_files::fs::Files;
 use hack_run::reading::Reading;
 use hack_words::cli::Env;
@@ -53,7 +54,7 @@ pub(crate) fn begin<F: Files>(
         manifest_path,
         reading,
     } = Asked::of(alloc, words, env)?;
-    let named = named(&manifest_path);
+    let named = text_in(&manifest_path);
     let folder = workspace(alloc, named, env.current_dir.as_str(), files)?;
     let journal = journal_in(alloc, folder.as_str())?;
     let is_there = look::is_there(journal.as_str(), files)?;
@@ -64,14 +65,4 @@ pub(crate) fn begin<F: Files>(
         is_there,
         reading,
     })
-}
-
-/// The manifest that a command line names.
-fn named(path: &Option<String>) -> Option<&str>
-    ensures { option_map (λ text. text.now) result ≡ optional_text path.now }
-{
-    match path {
-        Some(path) => Some(path.as_str()),
-        None => None,
-    }
 }

@@ -16,7 +16,8 @@ use hack_options::Opt;
 pub fn lists_commands(passed: &[String], uses: &[Use]) -> Result<bool, CliFault>
     ensures { (behavior : WorkspaceBehavior)
         → names_of passed.now ≡ leading_of behavior (views uses.now)
-        → ReturnsBareVerdict result (bare_verdict behavior (subcommand_of (views uses.now)) (views uses.now)) }
+        → ReturnsBareVerdict result (bare_verdict behavior (subcommand_of (views uses.now))
+        (views uses.now)) }
 {
     if subcommand(uses).is_some() {
         return Ok(false);

@@ -14,7 +14,8 @@ ghost use Rattle.hack_rules.specs.ListsView.{listed_view};
 ghost use Rattle.hack_rules.specs.Rules.{needs as needs_rule, first_of, of_value};
 ghost use Rattle.hack_rules.specs.EarlyRules.{is_in_group, is_optional};
 ghost use Rattle.hack_rules.specs.EarlyRules.{color_rule, unknown_rule, each_rules, powerset_rules};
-ghost use Rattle.hack_rules.specs.EarlyRules.{single_rule, single_rules, subcommand_rule, cargo_rule};
+ghost use Rattle.hack_rules.specs.EarlyRules.{single_rule, single_rules, subcommand_rule};
+ghost use Rattle.hack_rules.specs.EarlyRules.{cargo_rule};
 ghost use Rattle.hack_rules.specs.EarlyRules.{is_target_flag as target_flag};
 ghost use Rattle.hack_rules.specs.EarlyRules.{is_target_name as target_name, first_target_word};
 ghost use Rattle.hack_rules.specs.EarlyRules.{target_rule, include_rules, pair_rules};
@@ -330,7 +331,8 @@ fn naming(lists: &Lists, name: &str) -> Option<Opt>
 
 /// Refuses an option that names a feature which is excluded.
 fn check_excluded(lists: &Lists) -> Result<(), CliFault>
-    ensures { Checks result (excluded_rule (listed_view lists.now) (listed_view lists.now).excludes) }
+    ensures { Checks result (excluded_rule (listed_view lists.now)
+        (listed_view lists.now).excludes) }
 {
     for name in lists.exclude_features.as_slice() {
         if let Some(option) = naming(lists, name.as_str()) {

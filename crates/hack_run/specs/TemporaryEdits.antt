@@ -1,7 +1,8 @@
 -- Calls whose edits don't stay.
 use Rattle.std.specs.Prelude.{◌≡◌, false, List}
 use Rattle.hack_base.specs.Names.{Name}
-use Rattle.hack_files.specs.Files.{GrowsBy, KeepsAll}
+use Rattle.hack_files.specs.Files.{KeepsAll}
+use Rattle.hack_base.specs.Counters.{GrowsBy}
 use Rattle.hack_base.specs.Notes.{Note}
 use Rattle.hack_load.specs.FilesAfterLoading.{LeavesFew}
 use Rattle.hack_versions.specs.declared.rustup.Rustup.{Rustup}

@@ -62,8 +62,8 @@ pub(crate) fn room(alloc: Global) -> Result<Vec<u8>, AllocError>
     Vec::with_capacity(alloc, ROOM)
 }
 
-/// Returns lines that are gathered in this buffer, none of which has failed. Each is put together in
-/// `line`.
+/// Returns lines that are gathered in this buffer, none of which has failed. Each is put together
+/// in `line`.
 pub(crate) fn gather_on<'a, O: Write>(
     out: &'a mut O,
     gathered: &'a mut Vec<u8>,

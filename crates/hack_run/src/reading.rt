@@ -40,8 +40,8 @@ impl Reading {
     }
 }
 
-/// What the arguments are read into, where that isn't known already: rustup is asked for its version
-/// first, where an argument needs it.
+/// What the arguments are read into, where that isn't known already: rustup is asked for its
+/// version first, where an argument needs it.
 pub(crate) fn reading_of<C: Caller>(
     alloc: Global,
     words: &[String],

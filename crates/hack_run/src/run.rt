@@ -29,8 +29,8 @@ use std::io::Write;
 
 /// Performs a call with these arguments, the first of which is `hack`, and returns its exit status.
 /// `reading` is what they are read into, where that is known already. Messages go to the host's
-/// `err`, the line of an error last. Under `--color auto` the colouring is the one that its terminal
-/// has.
+/// `err`, the line of an error last. Under `--color auto` the colouring is the one that its
+/// terminal has.
 pub fn run<F: Files, C: Caller, O: Write, E: Write>(
     words: &[String],
     reading: Option<Reading>,

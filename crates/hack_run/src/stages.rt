@@ -2,7 +2,7 @@
 //! and its runs or their list.
 
 ghost use Rattle.std.specs.Prelude.{◌≡◌, IfOk, IsOk, OnOk, false, string_bytes, true};
-ghost use Rattle.hack_files.specs.Files.{GrowsBy};
+ghost use Rattle.hack_base.specs.Counters.{GrowsBy};
 ghost use Rattle.hack_files.specs.Restore.{AreSafe, registered_files};
 ghost use Rattle.hack_load.specs.Answers.{IsLoaded};
 ghost use Rattle.hack_load.specs.ContextOf.{IsContextFrom, warnings_of};

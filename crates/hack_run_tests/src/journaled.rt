@@ -1,5 +1,5 @@
-//! Calls on files with a journal: `journal` with arguments answers the status, how many calls of the
-//! files failed, the paths that the call changed, and after a bar those of its lockfiles. A `-`
+//! Calls on files with a journal: `journal` with arguments answers the status, how many calls of
+//! the files failed, the paths that the call changed, and after a bar those of its lockfiles. A `-`
 //! precedes a path that was removed.
 
 use crate::asked::on;
@@ -79,8 +79,9 @@ fn journals_of_a_workspace(rt: HostRuntime) -> Result<(), Wrong> {
     )
 }
 
-// However a call ends, the manifest is back and the journal is gone: a run that fails, a plan that is
-// refused after the edit, a list that can't be written. Arguments that are refused change nothing.
+// However a call ends, the manifest is back and the journal is gone: a run that fails, a plan that
+// is refused after the edit, a list that can't be written. Arguments that are refused change
+// nothing.
 #[test]
 fn journaled_calls_that_fail(rt: HostRuntime) -> Result<(), Wrong> {
     on(

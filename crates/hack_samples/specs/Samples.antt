@@ -1,5 +1,5 @@
 -- What a sample of sets covers.
-use Rattle.std.specs.Prelude.{◌≡◌, ◌≤◌, ℕ, List, Bool, true, All, AllPairs, Contains, length}
+use Rattle.std.specs.Prelude.{◌≡◌, ◌≤◌, ℕ, List, Bool, true, All, AllPairs, Contains, length, Some, slice_get}
 use Rattle.hack_samples.specs.Sets.{is_on, has_each}
 use Rattle.hack_samples.specs.Order.{IsMaskBefore}
 use Rattle.hack_samples.specs.declared.sets.Setting.{Setting}
@@ -29,3 +29,7 @@ ShowEachPattern may n required providers t sets =
 pub record IsMaskSample (may : List Bool → Bool) (n : ℕ) (required : List (List ℕ)) (sets : List (List Bool)) : Type 0 where
   pub listed : All (IsListedMask may n required) sets
   pub ordered : AllPairs IsMaskBefore sets
+
+-- a row, which says of each candidate whether it is on, shows the pattern: it has what the pattern says
+abbrev pub RowShows : List Bool → List Setting → Type 0
+RowShows row pattern = All (λ setting. slice_get row setting.candidate ≡ Some setting.on) pattern

@@ -4,7 +4,8 @@ ghost use Rattle.std.specs.Prelude.{◌≡◌, ◌<◌, ◌≤◌, ◌+◌, ◌-
 ghost use Rattle.std.specs.Prelude.{true, false, length, min, IsTrue, IfOk, IfErr, OnOk, MatchBool};
 ghost use Rattle.std.specs.Prelude.{Contains, ◌⊎◌};
 ghost use Rattle.hack_samples.specs.Sets.{rows_of, tables_of};
-ghost use Rattle.hack_samples.specs.Samples.{IsListedMask, IsMaskSample, Shows, SomeShows, ShowEachPattern};
+ghost use Rattle.hack_samples.specs.Samples.{IsListedMask, IsMaskSample, Shows, SomeShows};
+ghost use Rattle.hack_samples.specs.Samples.{ShowEachPattern};
 ghost use Rattle.hack_samples.specs.InternalDescendingPatterns.{CoversBelow, IsPossible, AreKept};
 ghost use Rattle.hack_samples.specs.Questions.{IsTired};
 ghost use Rattle.hack_samples.specs.Internal.{StaysWithin};

@@ -18,7 +18,8 @@ use Rattle.hack_session.specs.declared.step.Outcome.TheVariants.{Passed, Failed}
 use Rattle.hack_session.specs.declared.step.Handed.{Handed}
 use Rattle.hack_session.specs.Histories.{HasPassed}
 use Rattle.hack_session.specs.Toolchains.{addition_of, toolchain_name, trial_of}
-use Rattle.hack_session.specs.StepCalls.{Succeeds, Fails, CallsUpToFailure, MayCall, Breaks, Installs, BreaksInstall, InstallsAt, BreaksInstallAt, EndsOrIsCut, MakesCalls, run_commands, own_asked, cleaning_asked, Exactly, IsCutShort, Performs, PerformsAll, HasPerformed, CountGrowsBy}
+use Rattle.hack_session.specs.StepCalls.{Succeeds, Fails, CallsUpToFailure, MayCall, Breaks, Installs, BreaksInstall, InstallsAt, BreaksInstallAt, EndsOrIsCut, MakesCalls, run_commands, own_asked, cleaning_asked, Exactly, IsCutShort, Performs, PerformsAll, HasPerformed}
+use Rattle.hack_base.specs.Counters.{GrowsBy}
 use Rattle.hack_session.specs.InternalStepCalls.{is_memory}
 use Rattle.hack_session.proofs.CallLemmas.{One}
 
@@ -182,7 +183,7 @@ cut_of T (NeverExecuted text) A C e h = absurd (cc)
 cut_of T (NotText text) A C e h = absurd (cc)
 cut_of T (ByFailure failure) A C e h = absurd (cc)
 
-pub step_cut : (T : Type 0) (fault : ProcessFault) (plan : PlanView) (step : Step) (a b : List Call) (n m : ℕ) → true ≡ is_memory fault → CountGrowsBy 1 n m → MakesCalls (Did {T = T} plan step (Err fault)) a b → HasPerformed plan (record { step = step; outcome = Failed } ∷ []) a b n m
+pub step_cut : (T : Type 0) (fault : ProcessFault) (plan : PlanView) (step : Step) (a b : List Call) (n m : ℕ) → true ≡ is_memory fault → GrowsBy 1 n m → MakesCalls (Did {T = T} plan step (Err fault)) a b → HasPerformed plan (record { step = step; outcome = Failed } ∷ []) a b n m
 step_cut T fault plan step a b n m e grows p = record {
   made = p.made;
   cut = 1;

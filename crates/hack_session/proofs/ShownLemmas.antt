@@ -23,7 +23,8 @@ use Rattle.hack_session.specs.Toolchains.{addition_of, toolchain_name}
 use Rattle.hack_session.specs.declared.step.Outcome.{Outcome}
 use Rattle.hack_session.specs.declared.step.Outcome.TheVariants.{Passed, Failed}
 use Rattle.hack_session.specs.declared.step.Handed.{Handed}
-use Rattle.hack_session.specs.StepCalls.{EndsOrIsCut, CountGrowsBy, number_at}
+use Rattle.hack_session.specs.StepCalls.{EndsOrIsCut, number_at}
+use Rattle.hack_base.specs.Counters.{GrowsBy}
 use Rattle.hack_session.specs.InternalStepCalls.{is_memory}
 use Rattle.hack_session.specs.StepOutput.{Shown, on_err, both_shown, all_shown, Manner, space_before, end_line, group_shown, cleaning_shown, run_cleaning_shown, status_shown, addition_shown, addition_parts, run_parts, skip_parts, parts_of, IsWhole, IsSomeFront, IsFront, Displays, is_run, IsErrorLine, TellsError, memory_shown, ShowsStep, ShowsAll, Streams, Prints, HasShown}
 use Rattle.hack_session.specs.Internal.{end_shown, opening_shown, then-nothing, prints_as}
@@ -344,7 +345,7 @@ shown_passed T done keep_going m plan step a b n p =
           (λ s d. one_shows keep_going m plan h s 0 (inl (s, on_err [], sym (then-nothing s), d, refl, refl))) p;
     }
 
-pub shown_cut : (T : Type 0) (fault : ProcessFault) (keep_going : Bool) (m : Manner) (plan : PlanView) (step : Step) (a b c : Streams) (n k : ℕ) → true ≡ is_memory fault → CountGrowsBy 1 n k
+pub shown_cut : (T : Type 0) (fault : ProcessFault) (keep_going : Bool) (m : Manner) (plan : PlanView) (step : Step) (a b c : Streams) (n k : ℕ) → true ≡ is_memory fault → GrowsBy 1 n k
     → Prints (Does {T = T} m plan step (Err fault)) a b → Prints (λ s. s ≡ memory_shown m) b c → HasShown keep_going m plan (record { step = step; outcome = Failed } ∷ []) a c n k
 shown_cut T fault keep_going m plan step a b c n k e grows p q =
     let h : Handed = record { step = step; outcome = Failed } in

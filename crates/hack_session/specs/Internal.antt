@@ -6,7 +6,7 @@ use Rattle.hack_plan.specs.View.{PlanView}
 use Rattle.hack_session.specs.declared.step.Handed.{Handed}
 use Rattle.hack_session.specs.declared.lines.LineFault.{LineFault}
 use Rattle.hack_session.specs.declared.lines.LineFault.TheVariants.{Unwritten, Memory}
-use Rattle.hack_session.specs.StepCalls.{CountGrowsBy}
+use Rattle.hack_base.specs.Counters.{GrowsBy}
 use Rattle.hack_session.specs.ListLines.{has_failed, is_sent_step, step_lines}
 use Rattle.hack_session.specs.declared.report.Failure.{Failure}
 use Rattle.hack_session.specs.Reports.{FailedRun}
@@ -33,9 +33,9 @@ IsListedStep h = is_unlisted h ≡ false
 
 -- only a line that can't be written counts as a failure, and not that memory is refused
 abbrev pub CountsLines : {T : Type 0} → ℕ → ℕ → Result T LineFault → Type 0
-CountsLines before now (Ok done) = CountGrowsBy 0 before now
-CountsLines before now (Err Unwritten) = CountGrowsBy 1 before now
-CountsLines before now (Err Memory) = CountGrowsBy 0 before now
+CountsLines before now (Ok done) = GrowsBy 0 before now
+CountsLines before now (Err Unwritten) = GrowsBy 1 before now
+CountsLines before now (Err Memory) = GrowsBy 0 before now
 
 -- a failure as plain data
 abbrev pub failure_view : Failure → FailedRun

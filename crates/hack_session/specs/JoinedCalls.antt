@@ -6,9 +6,10 @@ use Rattle.hack_process.specs.Calls.{Call}
 use Rattle.hack_plan.specs.View.{PlanView}
 use Rattle.hack_session.specs.declared.step.Handed.{Handed}
 use Rattle.hack_session.specs.Histories.{HasPassed}
-use Rattle.hack_session.specs.StepCalls.{PerformsAll, CountGrowsBy, HasPerformed}
+use Rattle.hack_session.specs.StepCalls.{PerformsAll, HasPerformed}
+use Rattle.hack_base.specs.Counters.{GrowsBy}
 
-pub grows_more : (k l a b c : ℕ) → CountGrowsBy k a b → CountGrowsBy l b c → CountGrowsBy (k + l) a c
+pub grows_more : (k l a b c : ℕ) → GrowsBy k a b → GrowsBy l b c → GrowsBy (k + l) a c
 grows_more k l a b c p q h = let e = p h in let f = q (omega (arith, e)) in omega (arith, e, f)
 
 pub performs-append : (plan : PlanView) (steps more : List Handed) (calls next : List Call) (cut later : ℕ) → PerformsAll plan steps calls cut → PerformsAll plan more next later → PerformsAll plan (steps ++ more) (calls ++ next) (cut + later)

@@ -11,7 +11,7 @@ use Rattle.hack_session.specs.declared.step.Step.TheVariants.{Prepare, Skip, Run
 use Rattle.hack_session.specs.declared.step.Outcome.{Outcome}
 use Rattle.hack_session.specs.declared.step.Outcome.TheVariants.{Passed, Failed}
 use Rattle.hack_session.specs.declared.step.Handed.{Handed}
-use Rattle.hack_session.specs.StepCalls.{CountGrowsBy}
+use Rattle.hack_base.specs.Counters.{GrowsBy}
 
 -- a command's line in a list
 abbrev pub line_of : List ℕ → Command → List ℕ
@@ -56,8 +56,8 @@ has_failed Failed = true
 
 -- a line that can't be written counts as one failure
 abbrev pub CountsFailedLine : {T E : Type 0} → ℕ → ℕ → Result T E → Type 0
-CountsFailedLine before now (Ok done) = CountGrowsBy 0 before now
-CountsFailedLine before now (Err fault) = CountGrowsBy 1 before now
+CountsFailedLine before now (Ok done) = GrowsBy 0 before now
+CountsFailedLine before now (Err fault) = GrowsBy 1 before now
 
 -- what a list's writer holds, where that is known; how many lines it failed to write; and how many
 -- steps were cut short because memory was refused
@@ -70,20 +70,20 @@ pub record Page : Type 0 where
 pub record WritesLines (lines : List ℕ) (outcome : Outcome) (old new : Page) : Type 0 where
   pub passes : outcome ≡ Passed
   pub written : Appends old.contents new.contents lines
-  pub counted : CountGrowsBy 0 old.failed new.failed
+  pub counted : GrowsBy 0 old.failed new.failed
   pub kept : new.refused ≡ old.refused
 
 -- a step failed, since a line couldn't be written, which is counted; where lines are written whole or not at all, nothing of it was written
 pub record Misses (whole : Type 0) (outcome : Outcome) (old new : Page) : Type 0 where
   pub fails : outcome ≡ Failed
-  pub counted : CountGrowsBy 1 old.failed new.failed
+  pub counted : GrowsBy 1 old.failed new.failed
   pub left : whole → Keeps old.contents new.contents
   pub kept : new.refused ≡ old.refused
 
 -- a step failed, since memory was refused, which is counted, and nothing was written
 pub record FailsForMemory (outcome : Outcome) (old new : Page) : Type 0 where
   pub fails : outcome ≡ Failed
-  pub counted : CountGrowsBy 1 old.refused new.refused
+  pub counted : GrowsBy 1 old.refused new.refused
   pub kept : (new.contents ≡ old.contents) × (new.failed ≡ old.failed)
 
 -- a step of the list: its lines were written, a write failed, or memory was refused; a step that is

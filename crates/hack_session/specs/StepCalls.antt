@@ -1,8 +1,8 @@
 -- What a step asks of a caller.
-use Rattle.std.specs.Prelude.{◌≡◌, ◌≢◌, ◌⊎◌, ◌+◌, ◌-◌, ◌^◌, ◌<◌, min, ℕ, true, false, List, [], ◌∷◌, ◌++◌, Result, Ok, Err, Option, Some, None, slice_get, IsSome, if◌then◌else◌}
+use Rattle.hack_base.specs.Counters.{GrowsBy}
+use Rattle.std.specs.Prelude.{◌≡◌, ◌≢◌, ◌⊎◌, ◌+◌, ◌-◌, ℕ, true, false, List, [], ◌∷◌, ◌++◌, Result, Ok, Err, Option, Some, None, slice_get, IsSome, if◌then◌else◌}
 use Rattle.hack_process.specs.declared.fault.ProcessFault.{ProcessFault}
-use Rattle.hack_process.specs.declared.fault.ProcessFault.TheVariants.{Memory, EmptyProgram, NeverExecuted, NotText}
-use Rattle.hack_process.specs.declared.fault.ProcessFault.TheVariants.{Failed as ByFailure}
+use Rattle.hack_process.specs.declared.fault.ProcessFault.TheVariants.{Memory, EmptyProgram, NeverExecuted, NotText, Failed as ByFailure}
 use Rattle.hack_process.specs.Calls.{Asked, Call, IsSuccess}
 use Rattle.hack_process.specs.Commands.{asked_of}
 use Rattle.hack_term.specs.declared.term.Term.{Term}
@@ -147,10 +147,6 @@ pub record MakesCalls (P : List Call → Type 0) (old new : List Call) : Type 0 
   pub grown : new ≡ old ++ made
   pub such : P made
 
--- a count of 64 bits has gone up by so much, and stays at its greatest value
-abbrev pub CountGrowsBy : ℕ → ℕ → ℕ → Type 0
-CountGrowsBy k old new = old < 2 ^ 64 → new ≡ min (old + k) (2 ^ 64 - 1)
-
 -- the calls of a step, and whether it was cut short: no, and they are just its own; or memory was
 -- refused in it, and it counts as one
 abbrev pub Performs : PlanView → Handed → List Call → ℕ → Type 0
@@ -171,7 +167,7 @@ pub record HasPerformed (plan : PlanView) (steps : List Handed) (old new : List 
   pub made : List Call
   pub cut : ℕ
   pub grown : new ≡ old ++ made
-  pub counted : CountGrowsBy cut before now
+  pub counted : GrowsBy cut before now
   pub performed : PerformsAll plan steps made cut
 
 -- a failure was reported: an error line was printed, or an error is kept for the last line

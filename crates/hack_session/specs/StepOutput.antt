@@ -15,7 +15,8 @@ use Rattle.hack_plan.specs.View.{PlanView}
 use Rattle.hack_plan.specs.Commands.{clean_command, chosen_package_at, toolchain_of}
 use Rattle.hack_session.specs.Toolchains.{addition_of}
 use Rattle.hack_session.specs.Statuses.{place_status, running_text}
-use Rattle.hack_session.specs.StepCalls.{CountGrowsBy, number_at}
+use Rattle.hack_session.specs.StepCalls.{number_at}
+use Rattle.hack_base.specs.Counters.{GrowsBy}
 use Rattle.hack_session.specs.declared.step.Step.{Step}
 use Rattle.hack_session.specs.declared.step.Step.TheVariants.{Prepare, Skip, Run}
 use Rattle.hack_session.specs.declared.step.Outcome.{Outcome}
@@ -194,5 +195,5 @@ pub record Prints (P : Shown → Type 0) (old new : Streams) : Type 0 where
 -- refused grew by those
 pub record HasShown (keep_going : Bool) (m : Manner) (plan : PlanView) (steps : List Handed) (old new : Streams) (before now : ℕ) : Type 0 where
   pub cut : ℕ
-  pub counted : CountGrowsBy cut before now
+  pub counted : GrowsBy cut before now
   pub printed : Prints (λ shown. ShowsAll keep_going m plan steps shown cut) old new

@@ -2,7 +2,8 @@
 use Rattle.std.specs.Prelude.{◌≡◌, ◌++◌, ℕ, List, [], Option, Some, MatchOption, codes}
 use Rattle.std.specs.Prelude.{string_bytes, unwrap_or, if◌then◌else◌}
 use Rattle.std.specs.Str.{IsUtf8}
-use Rattle.hack_files.specs.Files.{Contents, GrowsBy, KeepsAll, KeepsOthers}
+use Rattle.hack_files.specs.Files.{Contents, KeepsAll, KeepsOthers}
+use Rattle.hack_base.specs.Counters.{GrowsBy}
 use Rattle.hack_files.specs.declared.fs.FsFault.{FsFault}
 use Rattle.hack_files.specs.declared.fs.FsFault.TheVariants.{Read, Write, NotText, Memory}
 use Rattle.hack_stand.specs.declared.stand.Tool.{Tool}

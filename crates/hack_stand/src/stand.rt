@@ -5,8 +5,10 @@
 
 ghost use Rattle.std.specs.Prelude.{◌≡◌, ◌++◌, IfOk, IfErr, OnOk, Some, map, string_bytes, codes};
 ghost use Rattle.std.specs.Prelude.{option_copied};
-ghost use Rattle.hack_files.specs.Files.{GrowsBy, KeepsAll, KeepsOthers};
-ghost use Rattle.hack_stand.specs.Words.{ends_with_word, has_line, has_word, is_lone_word, arguments_line};
+ghost use Rattle.hack_files.specs.Files.{KeepsAll, KeepsOthers};
+ghost use Rattle.hack_base.specs.Counters.{GrowsBy};
+ghost use Rattle.hack_stand.specs.Words.{ends_with_word, has_line, has_word, is_lone_word};
+ghost use Rattle.hack_stand.specs.Words.{arguments_line};
 ghost use Rattle.hack_stand.specs.Words.{printed_by};
 ghost use Rattle.hack_stand.specs.Stands.{IsDeviceFault, IsStandFault, Notes};
 ghost use Rattle.hack_stand.specs.Internal.{IsFailedRead};
@@ -146,7 +148,8 @@ fn note<F: Files>(
 
 /// Arguments on one line.
 fn joined(alloc: Global, words: &[String]) -> Result<String, AllocError>
-    ensures { IfOk result (λ line. string_bytes line ≡ arguments_line (map string_bytes words.now)) }
+    ensures { IfOk result (λ line. string_bytes line
+        ≡ arguments_line (map string_bytes words.now)) }
 {
     words.join(alloc, " ")
 }

@@ -3,7 +3,8 @@ use Rattle.std.proofs.Common.{◌≡◌, ℕ, zero, suc, ◌+◌, ◌<◌, ◌�
 use Rattle.std.specs.Prelude.{slice_get, Option, Some, None}
 use Rattle.std.proofs.lemmas.List.Edits.{length-remove}
 use Rattle.std.proofs.lemmas.List.Elements.{All-nil, All-cons, All-head, All-tail, Contains-push, Contains-push_cases, Contains-append_cases, Contains-append_left, Contains-append_right}
-use Rattle.hack_suspects.specs.Suspects.{RunOutcome, RowShows, IsShown, IsSuspicious, Rises, IsPart}
+use Rattle.hack_suspects.specs.Suspects.{RunOutcome, IsShown, IsSuspicious, Rises, IsPart}
+use Rattle.hack_samples.specs.Samples.{RowShows}
 use Rattle.hack_suspects.specs.Faults.{FailBy, FaultsAreFound, HasSuspect}
 use Rattle.hack_samples.specs.declared.sets.Setting.{Setting}
 use Rattle.hack_samples.proofs.SetLemmas.{told, not_both}

@@ -3,7 +3,8 @@ use Rattle.std.proofs.Common.{◌≡◌, ℕ, zero, suc, ◌+◌, ◌<◌, ◌�
 use Rattle.std.specs.Prelude.{slice_get, Some, MatchBool}
 use Rattle.std.proofs.lemmas.List.{get_or_default}
 use Rattle.std.proofs.lemmas.List.Elements.{All-append, All-cons, All-head, All-tail, All-nil, All-contains, Contains-append_right, Contains-get_or}
-use Rattle.hack_suspects.specs.Suspects.{RowShows, Rises, IsPart, Precedes, DiffersBefore, IsPatternBefore}
+use Rattle.hack_suspects.specs.Suspects.{Rises, IsPart, Precedes, DiffersBefore, IsPatternBefore}
+use Rattle.hack_samples.specs.Samples.{RowShows}
 use Rattle.hack_suspects.specs.InternalWalks.{PatternFits}
 use Rattle.hack_samples.specs.declared.sets.Setting.{Setting}
 use Rattle.hack_samples.proofs.SetLemmas.{not_both}

@@ -5,7 +5,8 @@ use Rattle.std.proofs.lemmas.List.{append-nil, length-map, get_or-map, map_more}
 use Rattle.std.proofs.lemmas.List.Edits.{length-remove}
 use Rattle.std.proofs.lemmas.List.Elements.{All-contains, Contains-get_or, Contains-push, Contains-push_cases, Contains-append_left, Contains-append_right}
 use Rattle.std.proofs.lemmas.Option.{same_Some}
-use Rattle.hack_suspects.specs.Suspects.{RunOutcome, outcomes_of, RowShows, IsShown, IsSuspicious, Rises, IsPart, IsSuspect, IsPatternBefore, AreSuspects}
+use Rattle.hack_suspects.specs.Suspects.{RunOutcome, outcomes_of, IsShown, IsSuspicious, Rises, IsPart, IsSuspect, IsPatternBefore, AreSuspects}
+use Rattle.hack_samples.specs.Samples.{RowShows}
 use Rattle.hack_suspects.specs.InternalWalks.{IsFailedRow, AreSomeSuspects, FindsFrom, PatternsAreKept}
 use Rattle.hack_suspects.specs.declared.suspect.Outcome.{Outcome as Run}
 use Rattle.hack_samples.specs.declared.sets.Setting.{Setting}

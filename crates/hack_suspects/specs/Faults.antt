@@ -1,6 +1,7 @@
 -- Faults as patterns: a run fails if it shows one of them, and only then.
 use Rattle.std.specs.Prelude.{◌≡◌, ◌≤◌, ◌↔◌, ℕ, List, Bool, true, Contains, length}
-use Rattle.hack_suspects.specs.Suspects.{RunOutcome, RowShows, Rises, IsPart, IsSuspect}
+use Rattle.hack_suspects.specs.Suspects.{RunOutcome, Rises, IsPart, IsSuspect}
+use Rattle.hack_samples.specs.Samples.{RowShows}
 use Rattle.hack_samples.specs.declared.sets.Setting.{Setting}
 
 -- the row shows one of the faults

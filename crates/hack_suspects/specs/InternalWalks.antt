@@ -1,7 +1,8 @@
 -- What a walk over the patterns of a failed run's row has found.
 use Rattle.std.specs.Prelude.{◌≡◌, ◌<◌, ◌≤◌, ◌-◌, ◌^◌, ◌++◌, ℕ, suc, min, List, Bool, true, All, AllPairs, Contains, length}
 use Rattle.std.specs.List.{slice_index_or}
-use Rattle.hack_suspects.specs.Suspects.{RunOutcome, RowShows, Rises, IsSuspect, IsPatternBefore, choices}
+use Rattle.hack_suspects.specs.Suspects.{RunOutcome, Rises, IsSuspect, IsPatternBefore, choices}
+use Rattle.hack_samples.specs.Samples.{RowShows}
 use Rattle.hack_samples.specs.declared.sets.Setting.{Setting}
 
 -- the row is that of a failed run

@@ -1,5 +1,6 @@
 -- Which small patterns explain the failed runs.
-use Rattle.std.specs.Prelude.{◌≡◌, ◌<◌, ◌≤◌, ◌+◌, ◌⊎◌, ◌↔◌, ℕ, zero, suc, List, [], ◌∷◌, Bool, true, false, Some, All, AllPairs, Contains, length, map, slice_get}
+use Rattle.std.specs.Prelude.{◌≡◌, ◌<◌, ◌≤◌, ◌+◌, ◌⊎◌, ◌↔◌, ℕ, zero, suc, List, [], ◌∷◌, Bool, true, false, AllPairs, Contains, length, map}
+use Rattle.hack_samples.specs.Samples.{RowShows}
 use Rattle.hack_samples.specs.declared.sets.Setting.{Setting}
 use Rattle.hack_suspects.specs.declared.suspect.Outcome.{Outcome as Run}
 use Rattle.hack_suspects.specs.declared.suspect.SuspectFault.{SuspectFault}
@@ -13,10 +14,6 @@ pub record RunOutcome : Type 0 where
 -- the runs as plain data
 abbrev pub outcomes_of : List Run → List RunOutcome
 outcomes_of runs = map (λ run. record { on = run.on.items; failed = run.failed }) runs
-
--- the row shows the pattern: each of its candidates is on or off in it as the pattern says
-abbrev pub RowShows : List Bool → List Setting → Type 0
-RowShows row pattern = All (λ setting. slice_get row setting.candidate ≡ Some setting.on) pattern
 
 -- some run shows the pattern, and failed if `failed` is true, else passed
 pub record IsShown (failed : Bool) (outcomes : List RunOutcome) (pattern : List Setting) : Type 0 where

@@ -4,7 +4,8 @@ ghost use Rattle.std.specs.Prelude.{◌≡◌, ◌≢◌, ℕ, List, length, Som
 ghost use Rattle.std.specs.Prelude.{MatchBool, MatchOption, AllPairs, Contains, ◌⊎◌};
 ghost use Rattle.std.specs.Ordering.{MatchOrdering};
 ghost use Rattle.hack_samples.specs.Sets.{rows_of};
-ghost use Rattle.hack_suspects.specs.Suspects.{RowShows, Precedes, DiffersBefore, IsPatternBefore};
+ghost use Rattle.hack_suspects.specs.Suspects.{Precedes, DiffersBefore, IsPatternBefore};
+ghost use Rattle.hack_samples.specs.Samples.{RowShows};
 ghost use Rattle.hack_suspects.specs.InternalWalks.{PatternsAreKept, PatternFits};
 
 use hack_samples::Setting;

@@ -5,7 +5,8 @@ ghost use Rattle.std.specs.Prelude.{◌≡◌, ◌<◌, ◌≤◌, ◌+◌, ◌*
 ghost use Rattle.std.specs.Prelude.{false, min};
 ghost use Rattle.std.specs.Prelude.{Contains, length, remove, IfOk, IfErr, OnOk, MatchBool};
 ghost use Rattle.hack_samples.specs.Sets.{rows_of};
-ghost use Rattle.hack_suspects.specs.Suspects.{outcomes_of, choices, RowShows, IsShown, Rises};
+ghost use Rattle.hack_suspects.specs.Suspects.{outcomes_of, choices, IsShown, Rises};
+ghost use Rattle.hack_samples.specs.Samples.{RowShows};
 ghost use Rattle.hack_suspects.specs.Suspects.{IsSuspect, AreSuspects, IsRefused};
 ghost use Rattle.hack_suspects.specs.InternalWalks.{IsFailedRow, AreSomeSuspects, FindsFrom};
 ghost use Rattle.hack_suspects.specs.InternalWalks.{PatternsAreKept};

@@ -1,7 +1,8 @@
 //! Lines for the user, and what they mean for the exit status. A line is written to a given writer,
 //! and needs no memory. The result is Ok where the whole line was written, and else the error of
-//! the write, which a caller may ignore; then a prefix of the line was written. A writer that counts
-//! its failures shows that an error comes only with one: where it never fails, lines are written.
+//! the write, which a caller may ignore; then a prefix of the line was written. A writer that
+//! counts its failures shows that an error comes only with one: where it never fails, lines are
+//! written.
 
 ghost use Rattle.std.specs.Prelude.{◌≡◌, ◌↔◌, ◌≤◌, ◌⊎◌, IsTrue, IfSome, IfNone, OnOk, true, false};
 ghost use Rattle.std.specs.Prelude.{string_bytes};

@@ -49,7 +49,8 @@ pub(crate) enum Step {
 
 /// The next use after the uses so far, or what comes instead of one.
 fn read(alloc: Global, parser: &mut Parser, uses: &[Use]) -> Result<Step, CutFault>
-    ensures { ReturnsStep result (left_in parser.new) (read_of (views uses.now) (left_in parser.old)) }
+    ensures { ReturnsStep result (left_in parser.new)
+        (read_of (views uses.now) (left_in parser.old)) }
 {
     match parser.cut() {
         Next::Cut(Arg::Long(name)) => {

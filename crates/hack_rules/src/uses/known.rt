@@ -8,11 +8,14 @@ ghost use Rattle.hack_lexopt.specs.Cuts.{value_of, after_value, optional_of, aft
 ghost use Rattle.hack_rules.specs.UseReading.{known_option as known_reading};
 ghost use Rattle.hack_rules.specs.Internal.{ReturnsStep};
 ghost use Rattle.hack_rules.specs.UseReading.{unknown_option as unknown_reading};
-ghost use Rattle.hack_rules.specs.UseReading.{other_name as other_reading, option_with_value as value_reading};
+ghost use Rattle.hack_rules.specs.UseReading.{other_name as other_reading};
+ghost use Rattle.hack_rules.specs.UseReading.{option_with_value as value_reading};
 ghost use Rattle.hack_rules.specs.UseReading.{option_with_names as names_reading};
 ghost use Rattle.hack_rules.specs.UseReading.{with_names_or_none as optional_reading};
-ghost use Rattle.hack_rules.specs.UseReading.{by_kind as kind_reading, print_request as question_reading};
-ghost use Rattle.hack_rules.specs.UseReading.{is_lone_quote as quote, help_of, removed_of, similar_of};
+ghost use Rattle.hack_rules.specs.UseReading.{by_kind as kind_reading};
+ghost use Rattle.hack_rules.specs.UseReading.{print_request as question_reading};
+ghost use Rattle.hack_rules.specs.UseReading.{is_lone_quote as quote, help_of, removed_of};
+ghost use Rattle.hack_rules.specs.UseReading.{similar_of};
 ghost use Rattle.hack_options.specs.Table.{entry_of, meaning_of};
 ghost use Rattle.hack_rules.specs.Uses.{views, is_given, subcommand_of};
 

@@ -4,7 +4,7 @@ use Rattle.std.specs.List.{list_any}
 use Rattle.std.specs.Str.{bytes_eq}
 use Rattle.hack_features.specs.Feature.{group_of}
 use Rattle.hack_rules.specs.CliLists.{same_names}
-use Rattle.hack_planner.specs.Candidates.{Lift}
+use Rattle.hack_rules.specs.CliLists.{Lift}
 use Rattle.hack_planner.specs.CandidatesView.{wishes, lift_view}
 use Rattle.hack_planner.proofs.lifts.is_lifted.Given as goal
 

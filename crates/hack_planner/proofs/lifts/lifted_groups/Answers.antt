@@ -5,7 +5,7 @@ use Rattle.std.specs.Str.{bytes_eq}
 use Rattle.hack_features.specs.Feature.{group_of}
 use Rattle.hack_base.specs.Names.{Name}
 use Rattle.hack_rules.specs.CliLists.{same_names}
-use Rattle.hack_planner.specs.Candidates.{Lift}
+use Rattle.hack_rules.specs.CliLists.{Lift}
 use Rattle.hack_planner.specs.CandidatesView.{wishes}
 use Rattle.hack_planner.proofs.Growth.{map-next}
 use Rattle.hack_planner.proofs.lifts.lifted_groups.Goals as goal

@@ -8,7 +8,7 @@ use Rattle.hack_base.specs.Notes.{note_of}
 use Rattle.hack_prepare.specs.PreparedView.{member_manifest_view, wanted_view}
 use Rattle.hack_prepare.specs.Internal.{members_view}
 use Rattle.hack_prepare.specs.declared.wanted.Member.{Member}
-use Rattle.hack_files.specs.Files.{GrowsBy}
+use Rattle.hack_base.specs.Counters.{GrowsBy}
 use Rattle.hack_prepare.proofs.CountLemmas.{fault_then, none_then}
 use Rattle.hack_prepare.proofs.MemberLemmas.{alone-goes, others-fail, partly-fails, turned-fails, visited-alone, visited-fails, visited-goes, visited-left, visited-none}
 use Rattle.hack_prepare.proofs.members.edit_members.Goals.{then-goes+else-is_root+in_ok-push, else-goes+then-is_alone+in_ok-edit_member, else-goes+else-is_alone}

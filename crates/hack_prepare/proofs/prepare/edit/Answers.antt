@@ -1,6 +1,6 @@
 use Rattle.std.proofs.Common.{◌≡◌, ◌∙◌, true, IfSome, ap, sym, subst}
 use Rattle.std.proofs.lemmas.Result.{err_from_is_err_and}
-use Rattle.hack_files.specs.Files.{GrowsBy}
+use Rattle.hack_base.specs.Counters.{GrowsBy}
 use Rattle.hack_files.specs.Restore.{is_kept, registered_files}
 use Rattle.hack_base.specs.Names.{names_behind}
 use Rattle.hack_prepare.specs.PreparedView.{wanted_view}

@@ -1,6 +1,6 @@
 use Rattle.std.proofs.Common.{◌≡◌, ◌∙◌, inl, inr, false, true, IfErr, IfOk, List, ℕ, ap, sym, subst, map}
 use Rattle.std.specs.Prelude.{◌||◌}
-use Rattle.hack_files.specs.Files.{GrowsBy}
+use Rattle.hack_base.specs.Counters.{GrowsBy}
 use Rattle.hack_words.specs.declared.cli.args.Args.{Args}
 use Rattle.hack_load.specs.ContextView.{context_view}
 use Rattle.hack_base.specs.Notes.{note_of}

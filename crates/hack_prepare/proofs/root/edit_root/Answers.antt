@@ -1,6 +1,6 @@
 use Rattle.std.proofs.Common.{◌≡◌, ◌∙◌, ◌++◌, List, OnOk, sym, subst, map}
 use Rattle.std.specs.Prelude.{◌||◌, Bool, false}
-use Rattle.hack_files.specs.Files.{GrowsBy}
+use Rattle.hack_base.specs.Counters.{GrowsBy}
 use Rattle.hack_base.specs.Names.{names_behind}
 use Rattle.hack_base.specs.Notes.{Note, note_of}
 use Rattle.hack_prepare.specs.Internal.{OnlyIf, members_view, AnyStart, HeldUnkept, KeepsBut}

@@ -5,7 +5,7 @@ use Rattle.hack_recovery.proofs.begin.begin.Goals as goal
 
 pub returns-clause-begun : goal.returns-clause-begun
 returns-clause-begun g c =
-    let found = rw (c.named-named.ensures, c.as_str.ensures.value) at c.in_ok-folder.ensures.found in
+    let found = rw (c.text_in-named.ensures, c.as_str.ensures.value) at c.in_ok-folder.ensures.found in
     let seen = rw c.as_str-3.ensures.value at c.in_ok-is_there.ensures.found in
     record {
       path = optional_text c.in_ok-edits.field-0.manifest_path;

@@ -1,7 +1,7 @@
 use Rattle.std.proofs.Common.{◌≡◌, subst, ℕ, arith, false}
 use Rattle.std.specs.Prelude.{slice_get, Some}
 use Rattle.std.proofs.lemmas.List.{take_all}
-use Rattle.hack_suspects.specs.Suspects.{RowShows}
+use Rattle.hack_samples.specs.Samples.{RowShows}
 use Rattle.hack_samples.proofs.ShowLemmas.{all-more}
 use Rattle.hack_suspects.proofs.patterns.row_shows.Goals as goal
 

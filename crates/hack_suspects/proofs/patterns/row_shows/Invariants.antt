@@ -1,5 +1,5 @@
 use Rattle.std.proofs.Common.{take}
-use Rattle.hack_suspects.specs.Suspects.{RowShows}
+use Rattle.hack_samples.specs.Samples.{RowShows}
 use Rattle.hack_suspects.proofs.patterns.row_shows.Given as goal
 
 abbrev pub invariant-loop-setting : goal.invariant-loop-setting

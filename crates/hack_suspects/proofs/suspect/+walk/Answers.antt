@@ -6,7 +6,8 @@ use Rattle.std.proofs.lemmas.Option.{slice_get_within, slice_get_read}
 use Rattle.std.proofs.lemmas.Result.{on_ok_weaker}
 use Rattle.std.proofs.lemmas.List.Elements.{All-push}
 use Rattle.hack_samples.specs.Sets.{rows_of}
-use Rattle.hack_suspects.specs.Suspects.{RunOutcome, IsShown, RowShows, Rises, outcomes_of}
+use Rattle.hack_suspects.specs.Suspects.{RunOutcome, IsShown, Rises, outcomes_of}
+use Rattle.hack_samples.specs.Samples.{RowShows}
 use Rattle.hack_suspects.specs.InternalWalks.{FindsFrom, PatternsAreKept}
 use Rattle.hack_samples.specs.declared.sets.Setting.{Setting}
 use Rattle.hack_suspects.proofs.PatternLemmas.{rises-more, rises-wider}

@@ -1,7 +1,8 @@
 use Rattle.std.proofs.Common.{◌≡◌, ◌+◌, sym, subst, ℕ, List, [], take, true, Contains, arith}
 use Rattle.std.proofs.lemmas.List.{take_all}
 use Rattle.hack_samples.specs.Sets.{rows_of}
-use Rattle.hack_suspects.specs.Suspects.{RunOutcome, RowShows, IsSuspect, outcomes_of}
+use Rattle.hack_suspects.specs.Suspects.{RunOutcome, IsSuspect, outcomes_of}
+use Rattle.hack_samples.specs.Samples.{RowShows}
 use Rattle.hack_suspects.specs.InternalWalks.{AreSomeSuspects, FindsFrom, PatternsAreKept}
 use Rattle.hack_samples.specs.declared.sets.Setting.{Setting}
 use Rattle.hack_samples.proofs.SetLemmas.{not_both}

@@ -1,6 +1,7 @@
 use Rattle.std.proofs.Common.{◌≡◌, List, Contains, take, true}
 use Rattle.hack_samples.specs.Sets.{rows_of}
-use Rattle.hack_suspects.specs.Suspects.{RunOutcome, RowShows, IsSuspect, outcomes_of}
+use Rattle.hack_suspects.specs.Suspects.{RunOutcome, IsSuspect, outcomes_of}
+use Rattle.hack_samples.specs.Samples.{RowShows}
 use Rattle.hack_suspects.specs.InternalWalks.{AreSomeSuspects}
 use Rattle.hack_samples.specs.declared.sets.Setting.{Setting}
 use Rattle.hack_suspects.proofs.suspect.suspects.Given as goal

@@ -1,5 +1,5 @@
 use Rattle.std.proofs.Common.{◌≡◌, ◌≤◌, ◌<◌, ◌↔◌, ◌⊎◌, IsTrue, map}
-use Rattle.hack_files.specs.Files.{GrowsBy}
+use Rattle.hack_base.specs.Counters.{GrowsBy}
 use Rattle.hack_files.specs.Restore.{kept_file}
 use Rattle.hack_files.proofs.RestoreLemmas.{SoFar, TriedTo}
 use Rattle.hack_files.proofs.restore.Manager.restore_all.Given as goal

@@ -1,6 +1,7 @@
 use Rattle.std.proofs.Common.{◌≡◌, Ok}
 use Rattle.serde_json.specs.View.{items_view}
-use Rattle.hack_metadata.specs.Fields.{◌>>=◌, read_all}
+use Rattle.hack_metadata.specs.Fields.{read_all}
+use Rattle.hack_base.specs.FieldReadings.{◌>>=◌}
 use Rattle.hack_metadata.specs.MetadataReading.{read_node, read_nodes, with_nodes}
 use Rattle.hack_metadata.specs.RecordViews.{nodes_view}
 use Rattle.hack_metadata.specs.Internal.{place_in}

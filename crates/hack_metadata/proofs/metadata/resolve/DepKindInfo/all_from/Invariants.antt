@@ -1,6 +1,7 @@
 use Rattle.std.proofs.Common.{◌≡◌, ◌++◌, map, Ok}
 use Rattle.serde_json.specs.View.{items_view}
-use Rattle.hack_metadata.specs.Fields.{◌>>=◌, read_all}
+use Rattle.hack_metadata.specs.Fields.{read_all}
+use Rattle.hack_base.specs.FieldReadings.{◌>>=◌}
 use Rattle.hack_metadata.specs.MetadataReading.{read_kind}
 use Rattle.hack_metadata.specs.RecordViews.{kind_view}
 use Rattle.hack_metadata.proofs.metadata.resolve.DepKindInfo.all_from.Given as goal
